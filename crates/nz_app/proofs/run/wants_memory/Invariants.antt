@@ -1,0 +1,9 @@
+-- None of the replies so far is one.
+use Rattle.std.proofs.Common.{◌≡◌, false, take}
+use Rattle.std.specs.List.{list_any}
+use Rattle.nz_spec.specs.Run.{is_memory_error}
+use Rattle.nz_session.specs.Replies.{all_kept}
+use Rattle.nz_app.proofs.run.wants_memory.Given as goal
+
+abbrev pub invariant-loop-kept : goal.invariant-loop-kept
+invariant-loop-kept l = list_any is_memory_error (all_kept (take l.kept-index l.kept)) ≡ false

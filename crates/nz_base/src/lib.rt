@@ -1,0 +1,21 @@
+//! What the solver stands on: the sources that it reads and the sinks that it writes, want of memory and faults as
+//! errors, and the work list of a check.
+#![tactic(auto)]
+
+mod entries;
+mod errors;
+mod in_memory;
+mod outside;
+mod streams;
+#[cfg(test)]
+mod tests;
+mod text;
+mod work_list;
+
+pub use entries::{Entry, Lines, Literals, Noted};
+pub use errors::{Failed, Memory, Spent};
+pub use in_memory::{MemSink, MemSource, PlainSink, PlainSource};
+pub use outside::{Sink, Source, write_all};
+pub use streams::{Input, Output};
+pub use text::Text;
+pub use work_list::Work;

@@ -1,0 +1,100 @@
+//! The outside, as the solver sees it: bytes come from a source and go to a sink, and either may fail.
+ghost use Rattle.std.specs.Prelude.{◌≡◌, ℕ, ◌<◌, ◌≤◌, List, Option, OnOk, OnErr};
+ghost use Rattle.std.specs.Io.{ReadsAtMost, WritesAtMost};
+ghost use Rattle.std.specs.Io.KnownBytes.{Keeps, Appends};
+ghost use Rattle.nz_spec.specs.Outside.{HasRisen, TellsAlike, GivesFront, EndsAtZero, TakesFront, RefusesByFault, AddsFrontOf};
+
+use crate::errors::Failed;
+
+/// Where bytes are read from.
+pub trait Source {
+    /// The bytes that are left to read, where the source tells them.
+    ghost left: { Self → Option (List ℕ) };
+
+    /// How often the source has failed: 0 where it is made, and never less than before.
+    ghost faults: { Self → ℕ };
+
+    /// The last value of that count, at which it stays.
+    ghost last: { ℕ };
+
+    /// Reads into the front of `buf`, and answers how many bytes: 0 with room in `buf` is the end of input.
+    ///
+    /// What stands behind those bytes is left open.
+    ///
+    /// # Errors
+    ///
+    /// `Failed` where the source failed, which its count shows. Then no byte is lost.
+    fn read(&mut self, buf: &mut [u8]) -> Result<usize, Failed>
+        ensures bound { ReadsAtMost result buf.new }
+        ensures bytes { GivesFront (left self.old) (left self.new) result buf.new }
+        ensures end { EndsAtZero (left self.new) result buf.new }
+        ensures told { TellsAlike (left self.old) (left self.new) }
+        ensures later { faults self.old ≤ faults self.new }
+        ensures failed { OnErr result (HasRisen last (faults self.old) (faults self.new)) };
+
+    /// The count can rise at least once.
+    ghost last_positive: { 0 < last };
+}
+
+/// Where bytes are written.
+pub trait Sink {
+    /// The bytes that the sink holds, where it tells them.
+    ghost held: { Self → Option (List ℕ) };
+
+    /// How often the sink has failed: 0 where it is made, and never less than before.
+    ghost faults: { Self → ℕ };
+
+    /// The last value of that count, at which it stays.
+    ghost last: { ℕ };
+
+    /// Writes a front of `piece`, and answers how many bytes it took. To take none of a piece that isn't empty is a
+    /// fault.
+    ///
+    /// # Errors
+    ///
+    /// `Failed` where the sink failed, which its count shows. Then it took no byte.
+    fn write(&mut self, piece: &[u8]) -> Result<usize, Failed>
+        ensures bound { WritesAtMost result piece.now }
+        ensures bytes { TakesFront (held self.old) (held self.new) result piece.now }
+        ensures told { TellsAlike (held self.old) (held self.new) }
+        ensures later { faults self.old ≤ faults self.new }
+        ensures failed { OnErr result (HasRisen last (faults self.old) (faults self.new)) }
+        ensures refused { RefusesByFault last (faults self.old) (faults self.new) result piece.now };
+
+    /// Hands on what was written.
+    ///
+    /// # Errors
+    ///
+    /// `Failed` where the sink failed, which its count shows.
+    fn flush(&mut self) -> Result<(), Failed>
+        ensures bytes { Keeps (held self.old) (held self.new) }
+        ensures told { TellsAlike (held self.old) (held self.new) }
+        ensures later { faults self.old ≤ faults self.new }
+        ensures failed { OnErr result (HasRisen last (faults self.old) (faults self.new)) };
+
+    /// The count can rise at least once.
+    ghost last_positive: { 0 < last };
+}
+
+/// Writes these bytes to the sink, piece by piece, until it has taken all.
+///
+/// # Errors
+///
+/// `Failed` where the sink failed or took nothing, which its count shows. Then it may have taken a front of the bytes.
+pub fn write_all<K: Sink>(sink: &mut K, bytes: &[u8]) -> Result<(), Failed>
+    ensures ok { OnOk result (Appends (K.held sink.old) (K.held sink.new) bytes.now) }
+    ensures err { OnErr result (AddsFrontOf (K.held sink.old) (K.held sink.new) bytes.now) }
+    ensures told { TellsAlike (K.held sink.old) (K.held sink.new) }
+    ensures later { K.faults sink.old ≤ K.faults sink.new }
+    ensures failed { OnErr result (HasRisen K.last (K.faults sink.old) (K.faults sink.new)) }
+{
+    let mut at = 0;
+    'pieces: while at < bytes.len() {
+        let count = sink.write(&bytes[at..])?;
+        if count == 0 {
+            return Err(Failed);
+        }
+        at += count;
+    }
+    Ok(())
+}

@@ -1,0 +1,57 @@
+-- The first Wide operation of a list, and what a refused call names.
+use Rattle.std.proofs.Common.{◌≡◌, Bool, true, false, IsTrue, refl, sym, ap, ◌∙◌, true≢false, List, [], ◌∷◌, ◌++◌, Option, Some, None, Result, Ok, Err, IsErr, IfErr, if◌then◌else◌}
+use Rattle.nz_spec.specs.Fraction.{Fraction, Operator, Operation, is_wide, first_wide}
+use Rattle.nz_frac.specs.declared.frac.Wide.{Wide}
+use Rattle.nz_delta.specs.Operations.{alone}
+use Rattle.nz_delta.specs.Refused.{operation_of, refused}
+
+pub wide_at_err : {b : Bool} → (true ≡ true → IsTrue b) × (IsTrue b → true ≡ true) → b ≡ true
+wide_at_err h = h.0 refl
+
+pub not_wide_at_ok : {b : Bool} → (false ≡ true → IsTrue b) × (IsTrue b → false ≡ true) → b ≡ false
+not_wide_at_ok {b = true} h = absurd (true≢false (sym (h.1 refl)))
+not_wide_at_ok {b = false} h = refl
+
+pub refused_is : {T : Type 0} (r : Result T Wide) (y w : Wide) → r ≡ Err y → y ≡ w → refused r ≡ Some (operation_of w)
+refused_is {T} r y w e f =
+    ap (λ (x : Result T Wide). refused x) e ∙ ap (λ (x : Wide). let o : Option Operation = Some (operation_of x) in o) f
+
+pub first_none : first_wide [] ≡ None
+unfolding first_wide
+first_none = refl
+
+pub first_here : (o : Operation) (rest : List Operation) → is_wide o.operator o.left o.right ≡ true → first_wide (o ∷ rest) ≡ Some o
+unfolding first_wide
+first_here o rest e = ap (λ (b : Bool). if b then Some o else first_wide rest) e
+
+pub first_later : (o : Operation) (rest : List Operation) → is_wide o.operator o.left o.right ≡ false → first_wide (o ∷ rest) ≡ first_wide rest
+unfolding first_wide
+first_later o rest e = ap (λ (b : Bool). if b then Some o else first_wide rest) e
+
+-- a call of one operation names it exactly where it is Wide
+pub refused_alone : (r : Result Fraction Wide) (op : Operator) (p q : Fraction) (w : Wide) → operation_of w ≡ record { operator = op; left = p; right = q } → (IsErr r → IsTrue (is_wide op p q)) × (IsTrue (is_wide op p q) → IsErr r) → IfErr r (λ x. x ≡ w) → refused r ≡ first_wide (alone op p q)
+refused_alone (Ok x) op p q w e h k =
+    sym (first_later (record { operator = op; left = p; right = q }) [] (not_wide_at_ok h) ∙ first_none)
+refused_alone (Err y) op p q w e h k =
+    ap (λ (x : Wide). let o : Option Operation = Some (operation_of x) in o) k
+    ∙ ap (λ (o : Operation). let s : Option Operation = Some o in s) e
+    ∙ sym (first_here (record { operator = op; left = p; right = q }) [] (wide_at_err h))
+
+-- one list after another: the second is reached where the first has none
+pub first-append_none : (xs ys : List Operation) → first_wide xs ≡ None → first_wide (xs ++ ys) ≡ first_wide ys
+unfolding first_wide
+first-append_none [] ys e = refl
+first-append_none (x ∷ xs) ys e = by_test (is_wide x.operator x.left x.right) x xs ys e (first-append_none xs ys)
+  where
+    by_test : (b : Bool) (x : Operation) (xs ys : List Operation) → (if b then Some x else first_wide xs) ≡ None → (first_wide xs ≡ None → first_wide (xs ++ ys) ≡ first_wide ys) → (if b then Some x else first_wide (xs ++ ys)) ≡ first_wide ys
+    by_test true x xs ys e h = absurd (cc)
+    by_test false x xs ys e h = h e
+
+pub first-append_some : (xs ys : List Operation) (o : Operation) → first_wide xs ≡ Some o → first_wide (xs ++ ys) ≡ Some o
+unfolding first_wide
+first-append_some [] ys o e = absurd (cc)
+first-append_some (x ∷ xs) ys o e = by_test (is_wide x.operator x.left x.right) x xs ys o e (first-append_some xs ys o)
+  where
+    by_test : (b : Bool) (x : Operation) (xs ys : List Operation) (o : Operation) → (if b then Some x else first_wide xs) ≡ Some o → (first_wide xs ≡ Some o → first_wide (xs ++ ys) ≡ Some o) → (if b then Some x else first_wide (xs ++ ys)) ≡ Some o
+    by_test true x xs ys o e h = e
+    by_test false x xs ys o e h = h e

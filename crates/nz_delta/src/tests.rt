@@ -1,0 +1,109 @@
+//! Values worked out by hand, and the laws used without knowing the type.
+ghost use Rattle.std.specs.Prelude.{◌≡◌, IfSome, ◌<ℤ◌};
+ghost use Rattle.nz_spec.specs.Infinitesimal.{◌≤δ◌};
+ghost use Rattle.nz_delta.specs.DeltaSpace.{infinitesimal_of};
+
+use crate::{Delta, Scalar, choose_delta};
+use nz_frac::{Frac, Op, Wide};
+use std::cmp::Ordering;
+use std::test::Fail;
+
+const M: i128 = i128::MAX;
+
+/// How two numbers compare after the same number was added to both: as before, by the laws alone.
+fn compared_after_adding<S: Scalar>(x: S, y: S, z: S) -> Option<Ordering>
+    ensures { IfSome result (λ o. o ≡ S.order x y) }
+{
+    match x.add(z) {
+        Ok(left) => match y.add(z) {
+            Ok(right) => Some(left.cmp(&right)),
+            Err(_) => None,
+        },
+        Err(_) => None,
+    }
+}
+
+fn frac(num: i128, den: i128) -> Result<Frac, Fail> {
+    Ok(Frac::of(num, den).ok_or("no number")?)
+}
+
+fn delta(c: i128, k: i128) -> Result<Delta, Fail> {
+    Ok(Delta {
+        c: frac(c, 1)?,
+        k: frac(k, 1)?,
+    })
+}
+
+fn parts(x: Delta) -> ((i128, i128), (i128, i128)) {
+    ((x.c.num(), x.c.den()), (x.k.num(), x.k.den()))
+}
+
+#[test]
+fn adds_and_scales_part_by_part(rt: HostRuntime) -> Result<(), Fail> {
+    let (x, y) = (delta(1, -2)?, delta(3, 5)?);
+    assert_eq!(rt; x.add(y).ok().map(parts), Some(((4, 1), (3, 1))));
+    assert_eq!(rt; x.sub(y).ok().map(parts), Some(((-2, 1), (-7, 1))));
+    assert_eq!(rt;
+        y.scale(frac(-1, 2)?).ok().map(parts),
+        Some(((-3, 2), (-5, 2)))
+    );
+    let (one, two) = (frac(1, 1)?, frac(2, 1)?);
+    assert_eq!(rt; Scalar::scale(two, one).ok().map(|q| q.num()), Some(2));
+    Ok(())
+}
+
+#[test]
+fn orders_by_the_first_part_first(rt: HostRuntime) -> Result<(), Fail> {
+    assert_eq!(rt; Scalar::cmp(&delta(1, 9)?, &delta(2, -9)?), Ordering::Less);
+    assert_eq!(rt; Scalar::cmp(&delta(1, 0)?, &delta(1, 1)?), Ordering::Less);
+    assert_eq!(rt; Scalar::cmp(&delta(1, 1)?, &delta(1, 1)?), Ordering::Equal);
+    assert_eq!(rt;
+        compared_after_adding(delta(1, 0)?, delta(1, 1)?, delta(7, 7)?),
+        Some(Ordering::Less)
+    );
+    Ok(())
+}
+
+#[test]
+fn names_the_part_that_is_wide(rt: HostRuntime) -> Result<(), Fail> {
+    match delta(1, M)?.add(delta(1, 2)?) {
+        Err(Wide { op, a, b }) => {
+            assert!(rt; op == Op::Add);
+            assert_eq!(rt; (a.num(), b.num()), (M, 2));
+        }
+        Ok(_) => assert!(rt; false),
+    }
+    Ok(())
+}
+
+/// c + k*δ and d + l*δ, in order since c is below d.
+fn pair(c: i64, k: i64, d: i64, l: i64) -> (Delta, Delta)
+    requires { c <ℤ d }
+    ensures { infinitesimal_of result.0 ≤δ infinitesimal_of result.1 }
+{
+    let low = Delta {
+        c: Frac::whole(c),
+        k: Frac::whole(k),
+    };
+    let high = Delta {
+        c: Frac::whole(d),
+        k: Frac::whole(l),
+    };
+    (low, high)
+}
+
+#[test]
+fn chooses_the_least_limit(rt: HostRuntime) {
+    // 0 + 2δ <= 1 holds up to 1/2, 1 + 3δ <= 2 - δ up to 1/4, and 0 - δ <= 1 sets no limit.
+    let pairs = [pair(0, 2, 1, 0), pair(1, 3, 2, -1), pair(0, -1, 1, 0)];
+    let chosen = choose_delta(&pairs);
+    assert_eq!(rt; chosen.ok().map(|q| (q.num(), q.den())), Some((1, 4)));
+}
+
+#[test]
+fn chooses_at_most_one(rt: HostRuntime) {
+    // 0 + δ <= 5 holds up to 5.
+    let pairs = [pair(0, 1, 5, 0)];
+    let chosen = choose_delta(&pairs);
+    assert_eq!(rt; chosen.ok().map(|q| (q.num(), q.den())), Some((1, 1)));
+}

@@ -1,0 +1,118 @@
+-- From the parts of a `Frac` to its value and back: casts, signs, and what a number's denominator is.
+use Rattle.std.proofs.Common.{◌≡◌, ℕ, zero, suc, ◌*◌, ◌/◌, ◌<◌, ◌≤◌, Bool, true, false, ℤ, pos, negsuc, ◌-ℤ◌, neg_ℤ, unsigned_abs, int_lt, int_div, refl, arith, sym, ap, ap₂, ◌∙◌, to_z, of_z, le-ltb}
+use Rattle.std.proofs.lemmas.Int.{ints, to_z-of_z, to_z_pos, fits_signed_from_abs}
+use Rattle.std.specs.Int.{w128, ◌∣◌}
+use Rattle.std.proofs.Math.Nat.{div-mul_cancel}
+use Rattle.nz_spec.specs.Fraction.{Fraction, denominator, over, gcd, largest, neg_ℚ, reduce, IsNumber}
+use Rattle.nz_spec.proofs.FractionLaws.{denominator-over, reduce-lowest_is, IsLowest}
+use Rattle.nz_frac.specs.Parts.{AreParts, with_sign, value_of}
+
+-- ---- casts
+
+-- a number from -M to M goes to its bits and back
+pub cast-back : (n : ℤ) → unsigned_abs n ≤ largest → to_z w128 (of_z w128 n) ≡ n
+cast-back n h = to_z-of_z w128 n (fits_signed_from_abs w128 n (omega arith))
+
+pub cast_natural : (n : ℕ) → n ≤ largest → to_z w128 n ≡ pos n
+cast_natural n h = to_z_pos w128 n (omega arith)
+
+-- ---- signs
+
+pub unsigned_abs-neg : (n : ℤ) → unsigned_abs (neg_ℤ n) ≡ unsigned_abs n
+unsigned_abs-neg n = omega (arith, ints)
+
+pub unsigned_abs-with_sign : (b : Bool) (n : ℕ) → unsigned_abs (with_sign b n) ≡ n
+unsigned_abs-with_sign true n = unsigned_abs-neg (pos n)
+unsigned_abs-with_sign false n = refl
+
+pub with_sign-abs : (z : ℤ) → with_sign (int_lt z (pos 0)) (unsigned_abs z) ≡ z
+with_sign-abs (pos n) = ap (λ (b : Bool). with_sign b n) (le-ltb n 0 (omega arith))
+with_sign-abs (negsuc n) = refl
+
+pub with_sign-div : (z : ℤ) (g : ℕ) → with_sign (int_lt z (pos 0)) (unsigned_abs z / g) ≡ int_div z (pos g)
+with_sign-div (pos n) g = ap (λ (b : Bool). with_sign b (n / g)) (le-ltb n 0 (omega arith))
+with_sign-div (negsuc n) g = refl
+
+-- ---- the value of the parts
+
+pub over-value : (n : ℤ) (d : ℕ) → over n d ≡ value_of n d
+unfolding over
+over-value n d = refl
+
+pub den_is : (n : ℤ) (d : ℕ) (q : Fraction) → AreParts n d → value_of n d ≡ q → denominator q ≡ d
+den_is n d q parts v = ap denominator (sym v ∙ sym (over-value n d)) ∙ denominator-over n d parts.den_positive
+
+pub num_is : (n : ℤ) (d : ℕ) (q : Fraction) → value_of n d ≡ q → q.numerator ≡ n
+num_is n d q v = ap (λ (x : Fraction). x.numerator) (sym v)
+
+pub number-from_parts : (n : ℤ) (d : ℕ) (q : Fraction) → AreParts n d → value_of n d ≡ q → IsNumber q
+number-from_parts n d q parts v =
+    let e = num_is n d q v in
+    let f = den_is n d q parts v in
+    record {
+      lowest = ap₂ (λ (x : ℤ) (y : ℕ). gcd (unsigned_abs x) y) e f ∙ parts.lowest;
+      numerator_fits = rw e parts.num_fits;
+      denominator_fits = rw f parts.den_fits;
+    }
+
+pub lowest-from_parts : (n : ℤ) (d : ℕ) (q : Fraction) → AreParts n d → value_of n d ≡ q → IsLowest q
+lowest-from_parts n d q parts v = record { lowest = (number-from_parts n d q parts v).lowest }
+
+pub parts-from_number : (q : Fraction) → IsNumber q → AreParts q.numerator (denominator q)
+unfolding denominator
+parts-from_number q h = record {
+  lowest = h.lowest;
+  num_fits = h.numerator_fits;
+  den_positive = omega arith;
+  den_fits = h.denominator_fits;
+}
+
+-- ---- negation and the reciprocal
+
+pub neg-value : (n : ℤ) (d : ℕ) → value_of (neg_ℤ n) d ≡ neg_ℚ (value_of n d)
+unfolding neg_ℚ
+neg-value n d = refl
+
+pub negated : (n : ℤ) → unsigned_abs n ≤ largest → to_z w128 (of_z w128 (pos 0 -ℤ to_z w128 (of_z w128 n))) ≡ neg_ℤ n
+negated n h =
+    let e : pos 0 -ℤ to_z w128 (of_z w128 n) ≡ neg_ℤ n = ap (λ (z : ℤ). pos 0 -ℤ z) (cast-back n h) ∙ zero_minus n in
+    ap (λ (z : ℤ). to_z w128 (of_z w128 z)) e ∙ cast-back (neg_ℤ n) (rw (unsigned_abs-neg n) h)
+  where
+    zero_minus : (z : ℤ) → pos 0 -ℤ z ≡ neg_ℤ z
+    zero_minus z = omega (arith, ints)
+
+-- ---- what an operation answers
+
+-- the parts that the code builds are those of y; a field of 128 bits is read through its bits
+pub record Answers (y : Fraction) (n : ℤ) (d : ℕ) : Type 0 where
+  pub parts : AreParts (to_z w128 (of_z w128 n)) d
+  pub value : value_of (to_z w128 (of_z w128 n)) d ≡ y
+
+pub answers-from_over : (y : Fraction) (a : ℤ) (b : ℕ) (n : ℤ) (d : ℕ) → n ≡ a → d ≡ b → y ≡ over a b → 0 < b → IsLowest y → unsigned_abs a ≤ largest → b ≤ largest → Answers y n d
+answers-from_over y a b n d en ed ey p l fa fb =
+    let back : to_z w128 (of_z w128 n) ≡ a = ap (λ (z : ℤ). to_z w128 (of_z w128 z)) en ∙ cast-back a fa in
+    let lowest : gcd (unsigned_abs a) b ≡ 1 =
+    sym (ap (λ (x : Fraction). gcd (unsigned_abs x.numerator) (denominator x)) (ey ∙ over-value a b) ∙ ap (λ (m : ℕ). gcd (unsigned_abs a) m) (ap denominator (sym (over-value a b)) ∙ denominator-over a b p))
+    ∙ l.lowest
+    in
+    record {
+      parts = rw (back, ed) (record { lowest = lowest; num_fits = fa; den_positive = p; den_fits = fb });
+      value = ap₂ (λ (x : ℤ) (m : ℕ). value_of x m) back ed ∙ sym (ey ∙ over-value a b);
+    }
+
+pub div_pos : (n s : ℕ) → s ∣ n → 0 < n → 0 < n / s
+div_pos n s h p = positive (n / s) s n (div-mul_cancel s h) p
+  where
+    positive : (m s n : ℕ) → m * s ≡ n → 0 < n → 0 < m
+    positive zero s n e p = absurd (omega arith)
+    positive (suc m) s n e p = omega arith
+
+-- ---- the parts of the value in lowest terms, which are those that the code has
+
+pub num-reduce : {n : ℤ} {d : ℕ} {q : Fraction} → AreParts n d → value_of n d ≡ q → (reduce q).numerator ≡ n
+num-reduce {n} {d} {q} s v =
+    ap (λ (x : Fraction). x.numerator) (reduce-lowest_is q (lowest-from_parts n d q s v)) ∙ num_is n d q v
+
+pub den-reduce : {n : ℤ} {d : ℕ} {q : Fraction} → AreParts n d → value_of n d ≡ q → denominator (reduce q) ≡ d
+den-reduce {n} {d} {q} s v =
+    ap denominator (reduce-lowest_is q (lowest-from_parts n d q s v)) ∙ den_is n d q s v

@@ -1,0 +1,5 @@
+pub mod Divisors
+pub mod Multiples
+pub mod Products
+pub mod Ring
+pub mod Rounding

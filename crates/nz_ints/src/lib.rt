@@ -1,0 +1,2 @@
+//! Laws of integers that the crates above rest on.
+#![tactic(auto)]

@@ -1,0 +1,166 @@
+-- How a session reads on in a piece.
+use Rattle.std.proofs.Common.{◌≡◌, ℕ, ◌+◌, ◌^◌, ◌<◌, ◌≤◌, ◌⊎◌, inl, inr, IsNone, List, [], ◌∷◌, ◌++◌, length, take, drop, map, flat_map, Option, None, Some, Vec, false, refl, sym, ap, ◌∙◌, subst, append_assoc, append-nil, take-append-drop, arith}
+use Rattle.std.proofs.lemmas.List.{map-append, length-append, take_all}
+use Rattle.std.proofs.lemmas.Grind.{flat_map-append}
+use Rattle.std.specs.Io.KnownBytes.{Appends}
+use Rattle.std.specs.declared.alloc.Global.{Global}
+use Rattle.std.proofs.KnownBytes.{Appends-nil, Appends-trans}
+use Rattle.nz_spec.specs.Text.{Limits, Heard, Hears, script_limits, OneReading}
+use Rattle.nz_spec.specs.Kept.{AreToldAs}
+use Rattle.nz_spec.specs.Told.{IsTold, ReadingTellsFirst}
+use Rattle.nz_spec.specs.Script.{start}
+use Rattle.nz_spec.specs.Reply.{reply_text, error}
+use Rattle.nz_spec.specs.Transcript.{Kept, AreRight, EndsByExit, IsFrontOf, IsTranscript, texts_of}
+use Rattle.nz_sexpr.specs.declared.reader.Reader.{Reader}
+use Rattle.nz_sexpr.specs.declared.heard.Heard as code
+use Rattle.nz_sexpr.specs.View.{heard_view}
+use Rattle.nz_sexpr.specs.Matches.{told}
+use Rattle.nz_sexpr.specs.Fits.{Fits, owes}
+use Rattle.nz_session.specs.declared.desk.Desk.{Desk}
+use Rattle.nz_session.specs.declared.reply.Kept as kept
+use Rattle.nz_session.specs.declared.session.Session.{Session}
+use Rattle.nz_session.specs.Replies.{all_kept}
+use Rattle.nz_session.specs.Serve.{IsGoing, Serves, Writes, WritesCut, Answers, HasExited, IsFront, kept_by, things_of}
+use Rattle.nz_session.proofs.Fronts.{told_first, told_split}
+
+-- Of the piece a front was read, and this is the rest; what is complete in it was answered.
+pub record IsFeeding {E : Type 0} (levels : E → List (List ℕ)) (first now : Session E) (piece rest : List ℕ) (old new : Option (List ℕ)) (before after : ℕ) : Type 0 where
+  pub done : List ℕ
+  pub all : piece ≡ done ++ rest
+  pub reads : (limit : ℕ) (bytes : List ℕ) → Serves levels limit first bytes → length bytes + length piece < 2 ^ 64 → Fits script_limits now.reader (bytes ++ done) (things_of (kept_by now))
+  pub going : (limit : ℕ) (bytes : List ℕ) → Serves levels limit first bytes → IsGoing levels limit now.desk (kept_by now)
+  pub writes : Writes (kept_by first) (kept_by now) old new
+  pub later : before ≤ after
+
+pub writes_nothing : (ks : List Kept) (held : Option (List ℕ)) → Writes ks ks held held
+writes_nothing ks held = record { more = []; kept = sym (append-nil ks); written = Appends-nil held }
+
+texts-append : (ks : List Kept) (k : Kept) → texts_of (ks ++ k ∷ []) ≡ texts_of ks ++ reply_text k.reply
+texts-append ks k = flat_map-append (λ (j : Kept). reply_text j.reply) ks (k ∷ []) ∙ ap (λ l. texts_of ks ++ l) (append-nil (reply_text k.reply))
+
+pub writes_more : (old mid new : List Kept) (thing : Heard) (a b c : Option (List ℕ)) → Writes old mid a b → Answers thing mid new b c → Writes old new a c
+writes_more old mid new thing a b c w n =
+    record {
+      more = w.more ++ n.one ∷ [];
+      kept = n.kept ∙ ap (λ l. l ++ n.one ∷ []) w.kept ∙ append_assoc old w.more (n.one ∷ []);
+      written = subst (Appends a c) (sym (texts-append w.more n.one)) (Appends-trans a b c (texts_of w.more) (reply_text n.one.reply) w.written n.written);
+    }
+
+things-answered : (thing : Heard) (old new : List Kept) (b c : Option (List ℕ)) → Answers thing old new b c → things_of new ≡ things_of old ++ thing ∷ []
+things-answered thing old new b c n =
+    ap things_of n.kept ∙ map-append (λ (k : Kept). k.heard) old (n.one ∷ []) ∙ ap (λ h. things_of old ++ h ∷ []) n.heard
+
+-- what a reader promises of one call
+abbrev pub ReadsOn : Reader → Reader → List ℕ → ℕ → Option code.Heard → Type 0
+ReadsOn old new rest used h =
+    (limits : Limits) (bytes : List ℕ) (things : List Heard) → Fits limits old bytes things → length bytes + length rest < 2 ^ 64
+    → Fits limits new (bytes ++ take used rest) (things ++ told h)
+
+module _ {E : Type 0} (levels : E → List (List ℕ)) (first : Session E) (piece rest : List ℕ) (old held : Option (List ℕ)) (before after : ℕ)
+    (reader next : Reader) (desk : Desk E) (ks : Vec kept.Kept Global) (used : ℕ) (h : Option code.Heard)
+    (feeding : IsFeeding levels first (record { reader = reader; desk = desk; kept = ks }) piece rest old held before after) (reads_on : ReadsOn reader next rest used h) where
+  -- the reader has read the bytes used too, and told what it told
+  pub reads_more : (limit : ℕ) (bytes : List ℕ) → Serves levels limit first bytes → length bytes + length piece < 2 ^ 64
+      → Fits script_limits next (bytes ++ (feeding.done ++ take used rest)) (things_of (all_kept ks.items) ++ told h)
+  reads_more limit bytes serves fits =
+      let all : length piece ≡ length feeding.done + length rest = ap length feeding.all ∙ length-append feeding.done rest in
+      let longer : length (bytes ++ feeding.done) ≡ length bytes + length feeding.done = length-append bytes feeding.done in
+      subst (λ (l : List ℕ). Fits script_limits next l (things_of (all_kept ks.items) ++ told h)) (append_assoc bytes feeding.done (take used rest))
+      (reads_on script_limits (bytes ++ feeding.done) (things_of (all_kept ks.items)) (feeding.reads limit bytes serves fits) (omega (arith, all, longer)))
+
+  -- the piece is what was read and the rest
+  pub piece_more : piece ≡ (feeding.done ++ take used rest) ++ drop used rest
+  piece_more = feeding.all ∙ ap (λ l. feeding.done ++ l) (sym (take-append-drop used rest)) ∙ sym (append_assoc feeding.done (take used rest) (drop used rest))
+
+  -- at the end of the piece
+  pub fed_all : h ≡ None → used ≡ length rest → owes next ≡ false → (limit : ℕ) (bytes : List ℕ) → Serves levels limit first bytes → length bytes + length piece < 2 ^ 64
+      → Serves levels limit (record { reader = next; desk = desk; kept = ks }) (bytes ++ piece)
+  fed_all none all settled limit bytes serves fits =
+      let taken : take used rest ≡ rest = ap (λ n. take n rest) all ∙ take_all (length rest) rest (omega arith) in
+      let whole : feeding.done ++ take used rest ≡ piece = ap (λ l. feeding.done ++ l) taken ∙ sym feeding.all in
+      let nothing : things_of (all_kept ks.items) ++ told h ≡ things_of (all_kept ks.items) = ap (λ x. things_of (all_kept ks.items) ++ told x) none ∙ append-nil (things_of (all_kept ks.items)) in
+      let fit = subst (λ (l : List ℕ). Fits script_limits next (bytes ++ l) (things_of (all_kept ks.items) ++ told h)) whole (reads_more limit bytes serves fits) in
+      record { reads = subst (Fits script_limits next (bytes ++ piece)) nothing fit; settled = settled; going = feeding.going limit bytes serves }
+
+  -- what is kept of the things told is what is heard first in the whole piece
+  pub front_fed : OneReading → ReadingTellsFirst → (new : List Kept) (later : List Heard) → things_of (all_kept ks.items) ++ told h ≡ things_of new ++ later
+      → (limit : ℕ) (bytes : List ℕ) → Serves levels limit first bytes → length bytes + length piece < 2 ^ 64 → AreRight limit start new → IsFront limit (bytes ++ piece) new
+  front_fed one tells new later same limit bytes serves fits right =
+      let read = feeding.done ++ take used rest in
+      let fit = subst (Fits script_limits next (bytes ++ read)) same (reads_more limit bytes serves fits) in
+      let front = told_first one tells script_limits next (bytes ++ read) (drop used rest) (things_of new) later fit in
+      let whole : (bytes ++ read) ++ drop used rest ≡ bytes ++ piece = append_assoc bytes read (drop used rest) ∙ ap (λ l. bytes ++ l) (sym piece_more) in
+      (front.1, record { heard = front.0; hears = subst (λ (l : List ℕ). Hears script_limits l (front.0 ++ front.1)) whole front.2; told = front.3; right = right })
+
+  module _ (heard : code.Heard) (some : h ≡ Some heard) (desk' : Desk E) (ks' : Vec kept.Kept Global) (held' : Option (List ℕ)) (after' : ℕ)
+      (answers : Answers (heard_view heard) (all_kept ks.items) (all_kept ks'.items) held held') where
+    pub things_fed : things_of (all_kept ks.items) ++ told h ≡ things_of (all_kept ks'.items)
+    things_fed = ap (λ x. things_of (all_kept ks.items) ++ told x) some ∙ sym (things-answered (heard_view heard) (all_kept ks.items) (all_kept ks'.items) held held' answers)
+
+    -- the session goes on
+    pub feeding_more : ((limit : ℕ) → IsGoing levels limit desk (all_kept ks.items) → IsGoing levels limit desk' (all_kept ks'.items)) → after ≤ after'
+        → IsFeeding levels first (record { reader = next; desk = desk'; kept = ks' }) piece (drop used rest) old held' before after'
+    feeding_more going later =
+        record {
+          done = feeding.done ++ take used rest;
+          all = piece_more;
+          reads = λ limit bytes serves fits. subst (Fits script_limits next (bytes ++ (feeding.done ++ take used rest))) things_fed (reads_more limit bytes serves fits);
+          going = λ limit bytes serves. going limit (feeding.going limit bytes serves);
+          writes = writes_more (kept_by first) (all_kept ks.items) (all_kept ks'.items) (heard_view heard) old held held' feeding.writes answers;
+          later = let a = feeding.later in omega arith;
+        }
+
+    -- the session has exited
+    pub exited_fed : OneReading → ReadingTellsFirst
+        → ((limit : ℕ) → IsGoing levels limit desk (all_kept ks.items) → AreRight limit start (all_kept ks'.items) × EndsByExit start (all_kept ks'.items))
+        → (limit : ℕ) (bytes : List ℕ) → Serves levels limit first bytes → length bytes + length piece < 2 ^ 64 → HasExited limit (bytes ++ piece) (all_kept ks'.items)
+    exited_fed one tells exits limit bytes serves fits =
+        let ends = exits limit (feeding.going limit bytes serves) in
+        let front = front_fed one tells (all_kept ks'.items) [] (things_fed ∙ sym (append-nil (things_of (all_kept ks'.items)))) limit bytes serves fits ends.0 in
+        record { transcript = record { rest = front.0; front = front.1; whole = inr ends.1 }; ends = ends.1 }
+
+  -- the session was cut short
+  pub cut_fed : OneReading → ReadingTellsFirst → (limit : ℕ) (bytes : List ℕ) → Serves levels limit first bytes → length bytes + length piece < 2 ^ 64
+      → IsFront limit (bytes ++ piece) (all_kept ks.items)
+  cut_fed one tells limit bytes serves fits =
+      front_fed one tells (all_kept ks.items) (told h) refl limit bytes serves fits (feeding.going limit bytes serves).right
+
+pub feeding_start : {E : Type 0} (levels : E → List (List ℕ)) (session : Session E) (piece : List ℕ) (held : Option (List ℕ)) (faults : ℕ)
+    → IsFeeding levels session session piece piece held held faults faults
+feeding_start levels session piece held faults =
+    record {
+      done = [];
+      all = refl;
+      reads = λ limit bytes serves fits. subst (λ (l : List ℕ). Fits script_limits session.reader l (things_of (kept_by session))) (sym (append-nil bytes)) serves.reads;
+      going = λ limit bytes serves. serves.going;
+      writes = writes_nothing (kept_by session) held;
+      later = omega arith;
+    }
+
+pub none_is : (h : Option code.Heard) → h ≡ None → IsNone h
+none_is h e = subst IsNone (sym e) refl
+
+-- ---- The end of the text
+
+module _ (limit : ℕ) (bytes : List ℕ) (ks : List Kept) (h : Option code.Heard) (heard : code.Heard) (some : h ≡ Some heard) (whole : IsTold script_limits bytes (things_of ks ++ told h)) where
+  -- the last thing heard was answered
+  pub finished : (new : List Kept) (b c : Option (List ℕ)) → Answers (heard_view heard) ks new b c → AreRight limit start new → IsTranscript limit bytes new
+  finished new b c answers right =
+      let all : things_of ks ++ told h ≡ things_of new = ap (λ x. things_of ks ++ told x) some ∙ sym (things-answered (heard_view heard) ks new b c answers) in
+      record {
+        rest = [];
+        front =
+            record {
+              heard = whole.0;
+              hears = subst (Hears script_limits bytes) (sym (append-nil whole.0)) whole.1;
+              told = subst (λ (l : List Heard). AreToldAs l whole.0) all whole.2;
+              right = right;
+            };
+        whole = inl refl;
+      }
+
+  -- the last thing heard wasn't answered, for want of memory
+  pub finish_cut : AreRight limit start ks → IsFront limit bytes ks
+  finish_cut right =
+      let split = told_split (things_of ks) (told h) whole.0 whole.2 in
+      (split.1, record { heard = split.0; hears = subst (Hears script_limits bytes) split.2 whole.1; told = split.3; right = right })

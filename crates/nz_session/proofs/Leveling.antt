@@ -1,0 +1,71 @@
+-- Terms by level, and constants by their numbers.
+use Rattle.std.proofs.Common.{◌≡◌, ℕ, zero, suc, ◌+◌, ◌-◌, ◌<◌, ◌≤◌, Bool, true, false, List, [], ◌∷◌, ◌++◌, length, map, take, drop, set, get_or, Option, Some, All, slice_get, slice_index_or, refl, sym, ap, subst, ◌∙◌, arith, append_assoc, length-append, Vec, Global}
+use Rattle.std.specs.List.{list_all, AllByRecursion}
+use Rattle.std.proofs.lemmas.List.{get_or_append_left, get_or-append-add, map-set, set-get_or, length-map, get_or-map}
+use Rattle.nz_spec.specs.Term.{Constant, constant, Value, truth}
+use Rattle.nz_spec.specs.Table.{Node}
+use Rattle.nz_spec.specs.Decide.{asserted_numbers, with_number}
+use Rattle.nz_session.specs.Levels.{numbers_by_level, IsNumberOf, AreNumbersOf, paired}
+
+-- ---- Levels
+
+-- what holds of two lists together holds of each
+All-left : {X : Type 0} (P : X → Type 0) (xs ys : List X) → All P (xs ++ ys) → All P xs
+All-left P xs ys h = λ k d l. subst P (get_or_append_left xs ys d k l) (h k d (omega (arith, length-append xs ys)))
+
+All-right : {X : Type 0} (P : X → Type 0) (xs ys : List X) → All P (xs ++ ys) → All P ys
+All-right P xs ys h = λ k d l. subst P (get_or-append-add xs ys k d) (h (length xs + k) d (omega (arith, length-append xs ys)))
+
+-- what holds of all asserted numbers holds of those of a level
+pub all_at_level : (P : ℕ → Type 0) (levels : List (Vec ℕ Global)) (i : ℕ) (v : Vec ℕ Global) → i < length levels → v ≡ get_or levels i v → All P (asserted_numbers (numbers_by_level levels))
+    → All P v.items
+all_at_level P [] i v l e h = absurd (omega arith)
+all_at_level P (level ∷ levels) zero v l e h = subst (λ (x : Vec ℕ Global). All P x.items) (sym e) (All-left P level.items (asserted_numbers (numbers_by_level levels)) h)
+all_at_level P (level ∷ levels) (suc i) v l e h = all_at_level P levels i v (omega arith) e (All-right P level.items (asserted_numbers (numbers_by_level levels)) h)
+
+-- a number more goes to the end of the last level
+pub with_number-set : (levels : List (List ℕ)) (j i : ℕ) → length levels ≡ suc j → with_number levels i ≡ set levels j (get_or levels j [] ++ i ∷ [])
+with_number-set [] j i l = absurd (omega arith)
+with_number-set (level ∷ []) zero i l = refl
+with_number-set (level ∷ []) (suc j) i l = absurd (omega arith)
+with_number-set (level ∷ next ∷ more) zero i l = absurd (omega arith)
+with_number-set (level ∷ next ∷ more) (suc j) i l = ap (λ r. level ∷ r) (with_number-set (next ∷ more) j i (omega arith))
+
+-- the numbers by level where one level is another
+pub numbers_by_level-set : (levels : List (Vec ℕ Global)) (i : ℕ) (v : Vec ℕ Global) → numbers_by_level (set levels i v) ≡ set (numbers_by_level levels) i v.items
+numbers_by_level-set levels i v = map-set (λ (level : Vec ℕ Global). level.items) levels i v
+
+-- the numbers of one level, by its place
+level_at : (levels : List (Vec ℕ Global)) (j : ℕ) (level : Vec ℕ Global) → j < length levels → level ≡ get_or levels j level → get_or (numbers_by_level levels) j [] ≡ level.items
+level_at levels j level l e = get_or-map (λ (x : Vec ℕ Global). x.items) levels j level [] l ∙ ap (λ (x : Vec ℕ Global). x.items) (sym e)
+
+-- where the last level has one number more
+pub number_added : (levels : List (Vec ℕ Global)) (j i : ℕ) (level new : Vec ℕ Global) → length levels ≡ suc j → level ≡ get_or levels j level → new.items ≡ level.items ++ i ∷ []
+    → numbers_by_level (set levels j new) ≡ with_number (numbers_by_level levels) i
+number_added levels j i level new l e f =
+    let ls = numbers_by_level levels in
+    let size : length ls ≡ suc j = length-map levels (λ (x : Vec ℕ Global). x.items) ∙ l in
+    let last : new.items ≡ get_or ls j [] ++ i ∷ [] = f ∙ ap (λ xs. xs ++ i ∷ []) (sym (level_at levels j level (omega arith) e)) in
+    numbers_by_level-set levels j new ∙ ap (set ls j) last ∙ sym (with_number-set ls j i size)
+
+-- where a level keeps its numbers
+pub numbers_kept : (levels : List (Vec ℕ Global)) (j : ℕ) (level new : Vec ℕ Global) → length levels ≡ suc j → level ≡ get_or levels j level → new.items ≡ level.items
+    → numbers_by_level (set levels j new) ≡ numbers_by_level levels
+numbers_kept levels j level new l e f =
+    let ls = numbers_by_level levels in
+    numbers_by_level-set levels j new ∙ ap (set ls j) (f ∙ sym (level_at levels j level (omega arith) e)) ∙ set-get_or ls j []
+
+-- ---- Numbers of constants
+
+pub AreNumbersOf-push : (ns : List Node) (is : List ℕ) (cs : List Constant) (i : ℕ) (c : Constant) → AreNumbersOf ns is cs → IsNumberOf ns i c → AreNumbersOf ns (is ++ i ∷ []) (cs ++ c ∷ [])
+AreNumbersOf-push ns [] [] i c h n = (n, tt)
+AreNumbersOf-push ns [] (d ∷ cs) i c h n = absurd h
+AreNumbersOf-push ns (j ∷ is) [] i c h n = absurd h
+AreNumbersOf-push ns (j ∷ is) (d ∷ cs) i c h n = (h.0, AreNumbersOf-push ns is cs i c h.1 n)
+
+-- there are as many
+pub length-AreNumbersOf : (ns : List Node) (is : List ℕ) (cs : List Constant) → AreNumbersOf ns is cs → length is ≡ length cs
+length-AreNumbersOf ns [] [] h = refl
+length-AreNumbersOf ns [] (d ∷ cs) h = absurd h
+length-AreNumbersOf ns (j ∷ is) [] h = absurd h
+length-AreNumbersOf ns (j ∷ is) (d ∷ cs) h = ap suc (length-AreNumbersOf ns is cs h.1)

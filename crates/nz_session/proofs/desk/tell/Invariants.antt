@@ -1,0 +1,14 @@
+-- The engine was told as many assertions as are counted.
+use Rattle.std.proofs.Common.{◌≡◌, ◌≤◌, ◌-◌, [], ◌∷◌, length, take, Some}
+use Rattle.nz_session.proofs.desk.tell.Given as goal
+
+abbrev pub invariant-loop-count : goal.invariant-loop-count
+invariant-loop-count g l =
+    record {
+      levels : g.E.Decide.levels l.engine ≡ take l.count l.asserted ∷ [];
+      told : l.told ≡ Some l.count;
+      within : l.count ≤ length l.asserted;
+    }
+
+abbrev pub decreases-loop-count : goal.decreases-loop-count
+decreases-loop-count g l = length l.asserted - l.count

@@ -1,0 +1,36 @@
+use Rattle.std.proofs.Common.{inl, inr, refl, sym, subst, ◌++◌, List}
+use Rattle.std.proofs.lemmas.List.{take_rest}
+use Rattle.nz_session.specs.declared.reply.Kept as kept
+use Rattle.nz_session.specs.Replies.{all_kept}
+use Rattle.nz_session.specs.Serve.{IsFront}
+use Rattle.nz_session.proofs.Feeding.{feeding_start, feeding_more, exited_fed, cut_fed, fed_all, none_is}
+use Rattle.nz_session.proofs.session.Session.feed.Goals as goal
+
+pub heard-init : goal.heard-init
+heard-init g c = feeding_start g.E.Decide.levels c.args.self.now c.args.piece.now (g.K.Sink.held c.args.sink.now) (g.K.Sink.faults c.args.sink.now)
+
+pub returns-in-None-clause-going : goal.returns-in-None-clause-going
+returns-in-None-clause-going g c =
+    λ _. fed_all g.E.Decide.levels c.args.self.now c.args.piece.now c.heard.rest.now _ _ _ _ c.heard.self.reader c.feed-used.new.self c.heard.self.desk c.heard.self.kept
+    c.feed-used.result.0 c.feed-used.result.1 c.heard.invariant c.feed-used.ensures.heard c.in-None.is (c.feed-used.ensures.all_used (none_is _ c.in-None.is)) (c.feed-used.ensures.settled (none_is _ c.in-None.is))
+
+pub heard-preserved : goal.heard-preserved
+heard-preserved g c =
+    rw take_rest
+    (feeding_more g.E.Decide.levels c.args.self.now c.args.piece.now c.heard.rest.now _ _ _ _ c.heard.self.reader c.feed-used.new.self c.heard.self.desk c.heard.self.kept
+    c.feed-used.result.0 c.feed-used.result.1 c.heard.invariant c.feed-used.ensures.heard
+    c.in-Some.heard c.in-Some.is c.serve.new.desk c.serve.new.kept _ _ (c.in-Going.ensures.answered (inl refl)) (c.in-Going.ensures.going refl) c.serve.ensures.later)
+
+pub returns-in-Exited-clause-exited : goal.returns-in-Exited-clause-exited
+returns-in-Exited-clause-exited g c =
+    λ _. exited_fed g.E.Decide.levels c.args.self.now c.args.piece.now c.heard.rest.now _ _ _ _ c.heard.self.reader c.feed-used.new.self c.heard.self.desk c.heard.self.kept
+    c.feed-used.result.0 c.feed-used.result.1 c.heard.invariant c.feed-used.ensures.heard
+    c.in-Some.heard c.in-Some.is c.serve.new.desk c.serve.new.kept _ 0 (c.in-Exited.ensures.answered (inr refl))
+    c.one_reading.ensures.one c.reading_tells_first.ensures.first (c.in-Exited.ensures.exited refl)
+
+pub returns-in-Cut-clause-cut : goal.returns-in-Cut-clause-cut
+returns-in-Cut-clause-cut g c =
+    λ _ limit bytes serves fits.
+    subst (λ (l : List kept.Kept). IsFront limit (bytes ++ c.args.piece.now) (all_kept l)) (sym (c.in-Cut.ensures.cut refl))
+    (cut_fed g.E.Decide.levels c.args.self.now c.args.piece.now c.heard.rest.now _ _ _ _ c.heard.self.reader c.feed-used.new.self c.heard.self.desk c.heard.self.kept
+    c.feed-used.result.0 c.feed-used.result.1 c.heard.invariant c.feed-used.ensures.heard c.one_reading.ensures.one c.reading_tells_first.ensures.first limit bytes serves fits)

@@ -1,0 +1,28 @@
+use Rattle.std.proofs.Common.{sym, subst, List, ◌≡◌, ◌⊎◌, inl, inr, ℕ}
+use Rattle.nz_spec.specs.Text.{script_limits}
+use Rattle.nz_spec.specs.Script.{start}
+use Rattle.nz_spec.specs.Transcript.{AreRight}
+use Rattle.nz_session.specs.declared.reply.Kept as kept
+use Rattle.nz_session.specs.Replies.{all_kept}
+use Rattle.nz_session.specs.Serve.{IsFront, things_of}
+use Rattle.nz_session.proofs.Feeding.{finished, finish_cut}
+use Rattle.nz_session.proofs.session.Session.finish.Goals as goal
+
+pub returns-in-Some-clause-ended : goal.returns-in-Some-clause-ended
+returns-in-Some-clause-ended g c =
+    λ e limit bytes serves fits.
+    finished limit bytes (all_kept c.args.self.now.kept.items) c.finish.result c.in-Some.heard c.in-Some.is
+    (c.finish.ensures.heard script_limits bytes (things_of (all_kept c.args.self.now.kept.items)) serves.reads serves.settled fits)
+    (all_kept c.serve.new.kept.items) _ _ (c.serve.ensures.answered e)
+    ((elim e as (λ _. AreRight limit start (all_kept c.serve.new.kept.items)) [
+      | inl went ↦ (c.serve.ensures.going went limit serves.going).right
+      | inr left ↦ (c.serve.ensures.exited left limit serves.going).0
+    ]))
+
+pub returns-in-Some-clause-cut : goal.returns-in-Some-clause-cut
+returns-in-Some-clause-cut g c =
+    λ e limit bytes serves fits.
+    subst (λ (l : List kept.Kept). IsFront limit bytes (all_kept l)) (sym (c.serve.ensures.cut e))
+    (finish_cut limit bytes (all_kept c.args.self.now.kept.items) c.finish.result c.in-Some.heard c.in-Some.is
+    (c.finish.ensures.heard script_limits bytes (things_of (all_kept c.args.self.now.kept.items)) serves.reads serves.settled fits)
+    serves.going.right)

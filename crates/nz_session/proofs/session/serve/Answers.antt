@@ -1,0 +1,24 @@
+use Rattle.std.proofs.Common.{◌≡◌, List, [], ◌∷◌, ◌++◌, ℕ, sym, subst, rules, ◌∙◌}
+use Rattle.nz_spec.specs.Transcript.{Kept, AreRight, EndsByExit}
+use Rattle.nz_spec.specs.Script.{start}
+use Rattle.nz_session.specs.declared.reply.Kept as code
+use Rattle.nz_session.specs.Replies.{all_kept}
+use Rattle.nz_session.specs.Serve.{IsGoing}
+use Rattle.nz_session.proofs.Serving.{going_on, exits_on, kept_answer}
+use Rattle.nz_session.proofs.session.serve.Goals as goal
+
+pub returns-in-Ok-clause-exited : goal.returns-in-Ok-clause-exited
+returns-in-Ok-clause-exited g c =
+    λ _ limit going.
+    let items : c.push.new.self.items ≡ c.args.kept.now.items ++ kept_answer c.args.heard c.answer-reply.result ∷ [] = search rules in
+    let P : List code.Kept → Type 0 = λ l. AreRight limit start (all_kept l) × EndsByExit start (all_kept l) in
+    subst P (sym items)
+    (exits_on g.E.Decide.levels c.transcript_grows.ensures.grows limit _ _ c.args.kept.now.items c.args.heard c.answer-reply.result going (c.answer-reply.ensures.right limit _ going.holds) c.if-exits.true)
+
+pub returns-in-Ok-2-clause-going : goal.returns-in-Ok-2-clause-going
+returns-in-Ok-2-clause-going g c =
+    λ _ limit going.
+    let items : c.push.new.self.items ≡ c.args.kept.now.items ++ kept_answer c.args.heard c.answer-reply.result ∷ [] = search rules in
+    let P : List code.Kept → Type 0 = λ l. IsGoing g.E.Decide.levels limit c.answer-reply.new.self (all_kept l) in
+    subst P (sym items)
+    (going_on g.E.Decide.levels c.transcript_grows.ensures.grows limit _ _ c.args.kept.now.items c.args.heard c.answer-reply.result going (c.answer-reply.ensures.right limit _ going.holds) c.if-exits.false)

@@ -1,0 +1,19 @@
+use Rattle.std.proofs.Common.{◌≡◌, ◌-◌, ℕ, List, Bool, length}
+use Rattle.nz_spec.specs.Term.{Assignment}
+use Rattle.nz_session.specs.Notes.{noted_list}
+use Rattle.nz_session.specs.Search.{Precedes, whole_search, units_up_to}
+use Rattle.nz_session.specs.SearchNotes.{HasSearched}
+use Rattle.nz_session.specs.Levels.{numbers_by_level}
+use Rattle.nz_session.specs.Truths.{GivesTruths, MakesTrue}
+use Rattle.nz_session.proofs.trial.search.Given as goal
+
+-- each list of decisions before the stack makes some assertion false
+abbrev pub invariant-loop-stack : goal.invariant-loop-stack
+invariant-loop-stack l = record {
+  searched : HasSearched l.count l.stack.items (noted_list l.work);
+  limit : l.work.limit ≡ l.fn.work.limit;
+  refuted : (v : List Bool) → length v ≡ l.count → Precedes v l.stack.items → (a : Assignment) → GivesTruths l.terms v a → MakesTrue l.terms (numbers_by_level l.levels) a → ⊥;
+}
+
+abbrev pub decreases-loop-stack : goal.decreases-loop-stack
+decreases-loop-stack l = whole_search l.count - units_up_to l.count l.stack.items

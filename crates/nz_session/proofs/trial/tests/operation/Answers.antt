@@ -1,0 +1,23 @@
+use Rattle.std.proofs.Common.{◌≡◌, ◌<◌, length, Some}
+use Rattle.std.specs.Prelude.{slice_get}
+use Rattle.std.proofs.lemmas.Option.{slice_get_within}
+use Rattle.std.proofs.lemmas.Result.{IfOk-weaker}
+use Rattle.std.proofs.lemmas.List.Elements.{All-from_recursion}
+use Rattle.nz_term.specs.Nodes.{node_with}
+use Rattle.nz_session.proofs.Growth.{names_kept, longer}
+use Rattle.nz_session.proofs.trial.tests.operation.Goals as goal
+
+pub make-requires : goal.make-requires
+make-requires c = All-from_recursion (λ k. k < length c.args.terms.now) c.args.kids.now c.requires.known
+
+pub returns-clause-names : goal.returns-clause-names
+returns-clause-names c =
+    names_kept c.make.result c.args.terms.now c.make.new.self (node_with c.args.head c.args.kids.now) c.make.ensures.grown c.make.ensures.unchanged c.requires.operator
+
+pub returns-clause-longer : goal.returns-clause-longer
+returns-clause-longer c = longer c.make.result c.args.terms.now c.make.new.self (node_with c.args.head c.args.kids.now) c.make.ensures.grown c.make.ensures.unchanged
+
+pub returns-clause-within : goal.returns-clause-within
+returns-clause-within c =
+    IfOk-weaker c.make.result (λ id. slice_get c.make.new.self id ≡ Some (node_with c.args.head c.args.kids.now)) (λ id. id < length c.make.new.self)
+    (λ id at. slice_get_within c.make.new.self id _ at) c.make.ensures.node

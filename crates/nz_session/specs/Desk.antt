@@ -1,0 +1,24 @@
+-- What a desk holds, and what its answers are.
+use Rattle.std.specs.Prelude.{◌≡◌, ℕ, true, false, List}
+use Rattle.nz_spec.specs.Text.{What}
+use Rattle.nz_spec.specs.Script.{State}
+use Rattle.nz_spec.specs.Reply.{IsRight, IsExit, after}
+use Rattle.nz_session.specs.Live.{IsLive}
+use Rattle.nz_session.specs.Replies.{reply_of, cause_of}
+use Rattle.nz_session.specs.Told.{IsTold}
+use Rattle.nz_session.specs.declared.desk.Desk.{Desk}
+use Rattle.nz_session.specs.declared.desk.Answer.{Answer}
+
+-- The desk holds this live state, under this limit of units.
+pub record Holds {E : Type 0} (levels : E → List (List ℕ)) (limit : ℕ) (desk : Desk E) (s : State) : Type 0 where
+  pub live : IsLive desk.terms desk.live s
+  pub told : IsTold (levels desk.engine) desk.told desk.live.asserted
+  pub model : desk.model ≡ s.model
+  pub bounded : desk.limit ≡ limit
+
+-- The answer is right for what was heard, and the desk holds what it leaves.
+pub record IsAnswer {E : Type 0} (levels : E → List (List ℕ)) (limit : ℕ) (s : State) (what : What) (answer : Answer) (desk : Desk E) : Type 0 where
+  pub right : IsRight limit s what (reply_of answer.reply) (cause_of answer.cause)
+  pub holds : Holds levels limit desk (after s what (reply_of answer.reply))
+  pub exits : answer.exits ≡ true → IsExit s what (reply_of answer.reply)
+  pub stays : answer.exits ≡ false → IsExit s what (reply_of answer.reply) → ⊥

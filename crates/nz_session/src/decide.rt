@@ -1,0 +1,129 @@
+//! What decides checks: the trait that a search implements, and its answers.
+use nz_base::{Memory, Spent, Work};
+use nz_term::{Assign, TermId, Terms};
+use std::alloc::{AllocError, AllocFailed};
+
+/// A line of a work list that is no unit.
+#[derive(Debug, Drop)]
+pub enum Note {
+    /// The next atom is this Boolean term of the table.
+    Atom(TermId),
+}
+
+/// What a check found.
+#[derive(Debug, Drop)]
+pub enum Verdict {
+    /// Values of the constants, under which every asserted term is true.
+    Sat(Assign),
+    /// No values make every asserted term true.
+    Unsat,
+}
+
+/// Why a check ended with no answer.
+#[derive(Clone, Copy, Debug, PartialEq, Eq)]
+pub enum Stop {
+    /// Every unit of the work list is used, and one more was wanted.
+    Spent,
+    /// Memory was wanted and refused.
+    Memory,
+}
+
+/// A search that decides whether the asserted terms can all be true. They are asserted by levels.
+pub trait Decide: Drop {
+    ghost use Rattle.std.specs.Prelude.{◌≡◌, ℕ, ◌-◌, ◌*◌, ◌^◌, ◌<◌, ◌≤◌, List, [], ◌∷◌, ◌++◌, length, take, OnOk, OnErr, IfOk, IfErr};
+    ghost use Rattle.nz_spec.specs.Decide.{constants_in_table, HasDistinctNames, AreInTable, with_number, asserted_terms, AreModelOf, bindings_by, IsUnsatisfiable, AtomsAreNoted};
+    ghost use Rattle.nz_spec.specs.Work.{IsSpent};
+    ghost use Rattle.nz_session.specs.Notes.{noted_list};
+    ghost use Rattle.nz_session.specs.Verdicts.{IfSat, OnUnsat, OnSpent};
+
+    /// The numbers of the asserted terms by level, the oldest level first.
+    ghost levels: { Self → List (List ℕ) };
+
+    /// Begins a level, in which nothing is asserted yet.
+    ///
+    /// # Errors
+    ///
+    /// `Memory`. Then the levels are as before.
+    fn push(&mut self) -> Result<(), Memory>
+        ensures ok { OnOk result (levels self.new ≡ levels self.old ++ [] ∷ []) }
+        ensures err { OnErr result (levels self.new ≡ levels self.old) };
+
+    /// Takes the last levels off, so many of them. Takes no memory.
+    fn pop(&mut self, count: usize)
+        requires { count ≤ length (levels self.old) }
+        ensures rest { levels self.new ≡ take (length (levels self.old) - count) (levels self.old) };
+
+    /// Asserts the term of this number in the last level.
+    ///
+    /// # Errors
+    ///
+    /// `Memory`. Then the levels are as before.
+    fn add(&mut self, term: TermId) -> Result<(), Memory>
+        requires { 0 < length (levels self.old) }
+        ensures ok { OnOk result (levels self.new ≡ with_number (levels self.old) term) }
+        ensures err { OnErr result (levels self.new ≡ levels self.old) };
+
+    /// Decides whether some values of the constants of the table make every asserted term true. The steps go into the
+    /// work list, which is to have none yet.
+    ///
+    /// # Errors
+    ///
+    /// `Spent` where every unit of the work list is used, which a search through all assignments never needs. `Memory`.
+    fn check(&mut self, terms: &Terms, work: &mut Work<Note>) -> Result<Verdict, Stop>
+        requires known { AreInTable terms.now (levels self.old) }
+        requires names { HasDistinctNames terms.now }
+        requires no_steps { work.old.lines ≡ [] }
+        ensures sat { IfOk result (λ v. IfSat v (λ ps. AreModelOf (constants_in_table terms.now) (asserted_terms terms.now (levels self.old)) (bindings_by terms.now ps))) }
+        ensures unsat { IfOk result (λ v. OnUnsat v (IsUnsatisfiable (constants_in_table terms.now) (asserted_terms terms.now (levels self.old)))) }
+
+        // Where it is spent, there were fewer units than a search through all assignments takes.
+        ensures spent { IfErr result (λ s. OnSpent s (IsSpent (noted_list work.new))) }
+        ensures short { IfErr result (λ s. OnSpent s (work.old.limit < 3 * 2 ^ length (constants_in_table terms.now))) }
+        ensures limit { work.new.limit ≡ work.old.limit }
+        ensures noted { AtomsAreNoted 0 (noted_list work.new).lines }
+        ensures levels { levels self.new ≡ levels self.old };
+}
+
+impl From<Spent> for Stop {
+    ghost use Rattle.std.specs.Prelude.{◌≡◌};
+    ghost use Rattle.nz_session.specs.declared.decide.Stop.TheVariants as stop;
+
+    ghost from_gives = { λ _ s. s ≡ stop.Spent };
+
+    fn from(_error: Spent) -> Stop {
+        Stop::Spent
+    }
+}
+
+impl From<Memory> for Stop {
+    ghost use Rattle.std.specs.Prelude.{◌≡◌};
+    ghost use Rattle.nz_session.specs.declared.decide.Stop.TheVariants as stop;
+
+    ghost from_gives = { λ _ s. s ≡ stop.Memory };
+
+    fn from(_error: Memory) -> Stop {
+        Stop::Memory
+    }
+}
+
+impl From<AllocError> for Stop {
+    ghost use Rattle.std.specs.Prelude.{◌≡◌};
+    ghost use Rattle.nz_session.specs.declared.decide.Stop.TheVariants as stop;
+
+    ghost from_gives = { λ _ s. s ≡ stop.Memory };
+
+    fn from(_error: AllocError) -> Stop {
+        Stop::Memory
+    }
+}
+
+impl<T: Drop> From<AllocFailed<T>> for Stop {
+    ghost use Rattle.std.specs.Prelude.{◌≡◌};
+    ghost use Rattle.nz_session.specs.declared.decide.Stop.TheVariants as stop;
+
+    ghost from_gives = { λ _ s. s ≡ stop.Memory };
+
+    fn from(_error: AllocFailed<T>) -> Stop {
+        Stop::Memory
+    }
+}

@@ -1,0 +1,289 @@
+//! The desk: what a command acts on, and the answer to it.
+ghost use Rattle.std.specs.Prelude.{◌≡◌, ◌<◌, ◌*◌, ◌^◌, ℕ, [], ◌∷◌, ◌++◌, length, map, slice_get, All, IfOk, IfErr, OnOk, false};
+ghost use Rattle.nz_sexpr.specs.View.{view, what_view};
+ghost use Rattle.nz_spec.specs.Text.{whole};
+ghost use Rattle.nz_spec.specs.Decide.{constants_in_table, HasDistinctNames, AreModelOf, IsUnsatisfiable, bindings_at, bindings_by};
+ghost use Rattle.nz_spec.specs.Script.{State};
+ghost use Rattle.nz_spec.specs.Table.{term_in};
+ghost use Rattle.nz_spec.specs.Work.{IsSpent};
+ghost use Rattle.nz_session.specs.Notes.{noted_list};
+ghost use Rattle.nz_session.specs.Told.{IsTold};
+ghost use Rattle.nz_session.specs.Verdicts.{IfSat, OnUnsat, OnSpent};
+ghost use Rattle.nz_term.specs.Values.{value_of};
+
+use crate::decide::{Decide, Note, Stop, Verdict};
+use crate::elaboration::Refusal;
+use crate::live::{Act, Live};
+use crate::reply::{Binding, Bindings, Cause, INCOMPLETE_COMMAND, OUT_OF_MEMORY, Reply, SpentList};
+use nz_base::{Memory, Work};
+use nz_sexpr::{Tree, What};
+use nz_term::{Assign, Head, TermId, Terms, Value};
+use std::alloc::Global;
+
+/// What is said to a thing heard.
+#[derive(Debug, Drop)]
+pub struct Answer {
+    pub reply: Reply,
+    pub cause: Cause,
+    /// It was an accepted `exit`.
+    pub exits: bool,
+}
+
+/// What commands act on: the live state with its table of terms, the engine, and the model of the last answer.
+#[derive(Drop)]
+pub struct Desk<E: Decide> {
+    alloc: Global,
+    terms: Terms,
+    live: Live,
+    engine: E,
+    /// How many assertions the engine has been told, once it has a level for them.
+    told: Option<usize>,
+    work: Work<Note>,
+    limit: u64,
+    model: Option<Bindings>,
+}
+
+impl<E: Decide> Desk<E> {
+    ghost use Rattle.nz_spec.specs.Tree as script;
+    ghost use Rattle.nz_spec.specs.Script.{start, command_of, check_sat, get_model};
+    ghost use Rattle.nz_spec.specs.Reply.{AreModel};
+    ghost use Rattle.nz_session.specs.Desk.{Holds, IsAnswer};
+
+    /// The desk of the start, over an engine that was told nothing yet, with this limit of units for each check.
+    pub fn new(alloc: Global, engine: E, limit: u64) -> Result<Desk<E>, Memory>
+        requires { E.levels engine ≡ [] }
+        ensures start { IfOk result (λ desk. Holds E.levels limit desk start) }
+    {
+        Ok(Desk {
+            alloc,
+            terms: Terms::new(alloc)?,
+            live: Live::new(alloc),
+            engine,
+            told: None,
+            work: Work::new(alloc)?,
+            limit,
+            model: None,
+        })
+    }
+
+    /// The answer to a thing heard.
+    pub fn answer(&mut self, what: &What) -> Answer
+        requires { (limit : ℕ) × (s : State) × Holds E.levels limit self.old s }
+        ensures right { (limit : ℕ) (s : State) → Holds E.levels limit self.old s → IsAnswer E.levels limit s (what_view what.now) result self.new }
+    {
+        match what {
+            What::Tree(tree) => self.command(tree),
+            What::Bad(number) => said(Reply::Error(*number)),
+            What::Unclosed => said(Reply::Error(INCOMPLETE_COMMAND)),
+            What::Unread => said(Reply::Error(OUT_OF_MEMORY)),
+        }
+    }
+
+    /// The answer to a command.
+    fn command(&mut self, tree: &Tree) -> Answer
+        requires { (limit : ℕ) × (s : State) × Holds E.levels limit self.old s }
+        ensures right { (limit : ℕ) (s : State) → Holds E.levels limit self.old s → IsAnswer E.levels limit s (whole (view tree.now)) result self.new }
+    {
+        let has_model = self.model.is_some();
+        match self.live.command(&mut self.terms, tree, has_model) {
+            Err(Refusal::Unsupported) => said(Reply::Unsupported),
+            Err(Refusal::Memory) => said(Reply::Error(OUT_OF_MEMORY)),
+            Ok(Act::Changed) => {
+                self.model = None;
+                said(Reply::Quiet)
+            }
+            Ok(Act::Check) => self.check(),
+            Ok(Act::ShowModel) => self.show_model(),
+            Ok(Act::Leave) => Answer {
+                reply: Reply::Quiet,
+                cause: Cause::Plain,
+                exits: true,
+            },
+        }
+    }
+
+    /// The answer to `check-sat`.
+    fn check(&mut self) -> Answer
+        requires { (limit : ℕ) × (s : State) × Holds E.levels limit self.old s }
+        ensures right { (limit : ℕ) (s : State) (tree : script.Tree) → Holds E.levels limit self.old s → command_of s tree ≡ Some check_sat → IsAnswer E.levels limit s (whole tree) result self.new }
+    {
+        let decided = decide(
+            &mut self.engine,
+            &mut self.told,
+            self.live.asserted(),
+            &self.terms,
+            &mut self.work,
+            self.limit,
+        );
+        match decided {
+            Ok(Verdict::Sat(assign)) => self.found(&assign),
+            Ok(Verdict::Unsat) => {
+                self.model = None;
+                said(Reply::Unsat)
+            }
+            Err(Stop::Spent) => {
+                self.model = None;
+                Answer {
+                    reply: Reply::Unknown,
+                    cause: Cause::Spent(SpentList {
+                        limit: self.limit,
+                        work: self.work.take(),
+                    }),
+                    exits: false,
+                }
+            }
+            Err(Stop::Memory) => said(Reply::Error(OUT_OF_MEMORY)),
+        }
+    }
+
+    /// The answer where a model was found, which is kept for `get-model`.
+    fn found(&mut self, assign: &Assign) -> Answer
+        ensures right { (limit : ℕ) (s : State) (tree : script.Tree) → Holds E.levels limit self.old s → command_of s tree ≡ Some check_sat → AreModel s (bindings_by self.old.terms assign.now) → IsAnswer E.levels limit s (whole tree) result self.new }
+    {
+        match bindings_twice(self.alloc, &self.terms, assign) {
+            Ok((shown, kept)) => {
+                self.model = Some(kept);
+                said(Reply::Sat(shown))
+            }
+            Err(Memory) => said(Reply::Error(OUT_OF_MEMORY)),
+        }
+    }
+
+    /// The answer to `get-model` where the last answer has a model.
+    fn show_model(&self) -> Answer
+        ensures right { (limit : ℕ) (s : State) (tree : script.Tree) → Holds E.levels limit self.now s → command_of s tree ≡ Some get_model → IsAnswer E.levels limit s (whole tree) result self.now }
+    {
+        match &self.model {
+            None => said(Reply::Unsupported),
+            Some(model) => match model.copy(self.alloc) {
+                Ok(shown) => said(Reply::Model(shown)),
+                Err(Memory) => said(Reply::Error(OUT_OF_MEMORY)),
+            },
+        }
+    }
+
+    /// The table of terms. Takes no memory.
+    pub fn into_terms(self) -> Terms {
+        let Desk {
+            alloc: _,
+            terms,
+            live,
+            engine,
+            told: _,
+            work,
+            limit: _,
+            model,
+        } = self;
+        drop(live);
+        drop(engine);
+        drop(work);
+        drop(model);
+        terms
+    }
+}
+
+/// An answer by its reply alone.
+fn said(reply: Reply) -> Answer
+    ensures said { result ≡ record { reply = reply; cause = Cause.Plain; exits = false } }
+{
+    Answer {
+        reply,
+        cause: Cause::Plain,
+        exits: false,
+    }
+}
+
+/// Tells the engine the assertions that it hasn't been told, in its one level.
+fn tell<E: Decide>(
+    engine: &mut E,
+    told: &mut Option<usize>,
+    asserted: &[TermId],
+) -> Result<(), Memory>
+    requires told { IsTold (E.levels engine.old) told.old asserted.now }
+    ensures told { IsTold (E.levels engine.new) told.new asserted.now }
+    ensures all { OnOk result (E.levels engine.new ≡ asserted.now ∷ []) }
+{
+    let mut count = match *told {
+        Some(count) => count,
+        None => {
+            engine.push()?;
+            *told = Some(0);
+            0
+        }
+    };
+    while count < asserted.len() {
+        engine.add(asserted[count])?;
+        count += 1;
+        *told = Some(count);
+    }
+    Ok(())
+}
+
+/// Decides whether the asserted terms have a model, with a fresh work list of so many units.
+fn decide<E: Decide>(
+    engine: &mut E,
+    told: &mut Option<usize>,
+    asserted: &[TermId],
+    terms: &Terms,
+    work: &mut Work<Note>,
+    limit: u64,
+) -> Result<Verdict, Stop>
+    requires told { IsTold (E.levels engine.old) told.old asserted.now }
+    requires within { All (λ i. i < length terms.now) asserted.now }
+    requires names { HasDistinctNames terms.now }
+    ensures told { IsTold (E.levels engine.new) told.new asserted.now }
+    ensures sat { IfOk result (λ v. IfSat v (λ ps. AreModelOf (constants_in_table terms.now) (map (term_in terms.now) asserted.now) (bindings_by terms.now ps))) }
+    ensures unsat { IfOk result (λ v. OnUnsat v (IsUnsatisfiable (constants_in_table terms.now) (map (term_in terms.now) asserted.now))) }
+    ensures spent { IfErr result (λ s. OnSpent s (IsSpent (noted_list work.new))) }
+    ensures short { IfErr result (λ s. OnSpent s (limit < 3 * 2 ^ length (constants_in_table terms.now))) }
+    ensures limit { IfErr result (λ s. OnSpent s (work.new.limit ≡ limit)) }
+{
+    tell(engine, told, asserted)?;
+    work.reserve(limit)?;
+    engine.check(terms, work)
+}
+
+/// The bindings of an assignment, twice: to be shown, and to be kept.
+fn bindings_twice(
+    alloc: Global,
+    terms: &Terms,
+    assign: &Assign,
+) -> Result<(Bindings, Bindings), Memory>
+    ensures shown { IfOk result (λ p. p.0 ≡ bindings_by terms.now assign.now) }
+    ensures kept { IfOk result (λ p. p.1 ≡ bindings_by terms.now assign.now) }
+{
+    let shown = bindings_of(alloc, terms, assign)?;
+    let kept = shown.copy(alloc)?;
+    Ok((shown, kept))
+}
+
+/// The bindings of an assignment: each constant with its value.
+fn bindings_of(alloc: Global, terms: &Terms, assign: &Assign) -> Result<Bindings, Memory>
+    ensures bindings { IfOk result (λ bs. bs ≡ bindings_by terms.now assign.now) }
+{
+    let mut bindings = Bindings::new(alloc);
+    for index in 0..assign.len() {
+        let (id, value) = assign.get(index);
+        add_binding(&mut bindings, terms, id, value)?;
+    }
+    Ok(bindings)
+}
+
+/// Adds what the number of a constant and its value bind.
+fn add_binding(
+    bindings: &mut Bindings,
+    terms: &Terms,
+    id: TermId,
+    value: Value,
+) -> Result<(), Memory>
+    ensures grown { OnOk result (bindings.new ≡ bindings.old ++ bindings_at (slice_get terms.now id) (value_of value)) }
+{
+    if id >= terms.len() {
+        return Ok(());
+    }
+    let Head::Constant(constant) = terms.head(id) else {
+        return Ok(());
+    };
+    let constant = constant.clone()?;
+    bindings.push(Binding { constant, value })
+}

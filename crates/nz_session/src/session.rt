@@ -1,0 +1,194 @@
+//! The session: pieces of a script in, replies out, and all of it kept.
+ghost use Rattle.std.specs.Prelude.{◌≡◌, ◌≤◌, ◌<◌, ◌+◌, ◌^◌, ℕ, List, [], ◌∷◌, ◌++◌, length, IfOk, OnOk, OnErr, ◌⊎◌};
+ghost use Rattle.std.specs.Io.KnownBytes.{Appends, Keeps};
+ghost use Rattle.nz_sexpr.specs.View.{heard_view};
+ghost use Rattle.nz_spec.specs.Outside.{HasRisen};
+ghost use Rattle.nz_spec.specs.Reply.{error, reply_text};
+ghost use Rattle.nz_spec.specs.Script.{start, State};
+ghost use Rattle.nz_spec.specs.Transcript.{AreRight, EndsByExit, IsTranscript};
+ghost use Rattle.nz_session.specs.Desk.{Holds};
+ghost use Rattle.nz_session.specs.Replies.{all_kept, reply_of};
+ghost use Rattle.nz_session.specs.Serve.{Answers, IsGoing};
+
+use crate::decide::Decide;
+use crate::desk::{Answer, Desk};
+use crate::reply::{Journal, Kept, OUT_OF_MEMORY, Reply, write_reply};
+use crate::write::WriteFault;
+use nz_base::{Memory, Sink};
+use nz_sexpr::{Heard, Limits, Reader};
+use nz_spec::text::{one_reading, reading_tells_first};
+use nz_spec::transcript::transcript_grows;
+use nz_term::Terms;
+use std::alloc::Global;
+
+/// How deep the lists of a script may nest.
+const DEPTH_LIMIT: usize = 200;
+
+/// How many bytes a command may have.
+const BYTE_LIMIT: u64 = 1 << 20;
+
+/// How a session stands after it was fed.
+#[derive(Clone, Copy, Debug, PartialEq, Eq)]
+pub enum Fed {
+    /// It goes on.
+    Going,
+    /// An `exit` was accepted.
+    Exited,
+    /// The sink failed.
+    SinkFault,
+    /// There was no memory to keep a reply, and a last line says so.
+    Cut,
+}
+
+/// A session over an engine.
+#[derive(Drop)]
+pub struct Session<E: Decide> {
+    reader: Reader,
+    desk: Desk<E>,
+    kept: Vec<Kept>,
+}
+
+/// Writes the text of a reply, and flushes.
+fn show<K: Sink>(sink: &mut K, reply: &Reply) -> Result<(), WriteFault>
+    ensures whole { OnOk result (Appends (K.held sink.old) (K.held sink.new) (reply_text (reply_of reply.now))) }
+    ensures later { K.faults sink.old ≤ K.faults sink.new }
+    ensures fault { OnErr result (HasRisen K.last (K.faults sink.old) (K.faults sink.new)) }
+{
+    if let Err(fault) = write_reply(sink, reply) {
+        return Err(fault);
+    }
+    match sink.flush() {
+        Ok(()) => Ok(()),
+        Err(failed) => Err(WriteFault::from(failed)),
+    }
+}
+
+/// Says that there is no memory to keep a reply.
+fn cut<K: Sink>(sink: &mut K) -> Fed
+    ensures result { (result ≡ Fed.Cut) ⊎ (result ≡ Fed.SinkFault) }
+    ensures written { result ≡ Fed.Cut → Appends (K.held sink.old) (K.held sink.new) (reply_text (error 11)) }
+    ensures later { K.faults sink.old ≤ K.faults sink.new }
+    ensures fault { result ≡ Fed.SinkFault → HasRisen K.last (K.faults sink.old) (K.faults sink.new) }
+{
+    match show(sink, &Reply::Error(OUT_OF_MEMORY)) {
+        Ok(()) => Fed::Cut,
+        Err(WriteFault) => Fed::SinkFault,
+    }
+}
+
+/// Answers one thing heard: the reply is written and kept.
+fn serve<E: Decide, K: Sink>(
+    desk: &mut Desk<E>,
+    kept: &mut Vec<Kept>,
+    heard: Heard,
+    sink: &mut K,
+) -> Fed
+    requires { (limit : ℕ) × (s : State) × Holds E.levels limit desk.old s }
+    ensures going { result ≡ Fed.Going → (limit : ℕ) → IsGoing E.levels limit desk.old (all_kept kept.old.items) → IsGoing E.levels limit desk.new (all_kept kept.new.items) }
+    ensures exited { result ≡ Fed.Exited → (limit : ℕ) → IsGoing E.levels limit desk.old (all_kept kept.old.items) → AreRight limit start (all_kept kept.new.items) × EndsByExit start (all_kept kept.new.items) }
+    ensures answered { (result ≡ Fed.Going) ⊎ (result ≡ Fed.Exited) → Answers (heard_view heard) (all_kept kept.old.items) (all_kept kept.new.items) (K.held sink.old) (K.held sink.new) }
+    ensures cut { result ≡ Fed.Cut → kept.new.items ≡ kept.old.items }
+    ensures cut_written { result ≡ Fed.Cut → Appends (K.held sink.old) (K.held sink.new) (reply_text (error 11)) }
+    ensures later { K.faults sink.old ≤ K.faults sink.new }
+    ensures fault { result ≡ Fed.SinkFault → HasRisen K.last (K.faults sink.old) (K.faults sink.new) }
+{
+    if kept.reserve(1).is_err() {
+        return cut(sink);
+    }
+    let Answer {
+        reply,
+        cause,
+        exits,
+    } = desk.answer(&heard.what);
+    let shown = show(sink, &reply);
+    kept.push(Kept {
+        heard,
+        reply,
+        cause,
+    })
+    .unwrap();
+    transcript_grows();
+    match shown {
+        Err(WriteFault) => Fed::SinkFault,
+        Ok(()) if exits => Fed::Exited,
+        Ok(()) => Fed::Going,
+    }
+}
+
+impl<E: Decide> Session<E> {
+    ghost use Rattle.nz_session.specs.Journals.{journal_of};
+    ghost use Rattle.nz_session.specs.Serve.{HasExited, IsFront, Serves, Writes, WritesCut, kept_by};
+
+    /// A session at the beginning of a script, over an engine that was told nothing yet, with this limit of units for each
+    /// check.
+    pub fn new(alloc: Global, engine: E, limit: u64) -> Result<Session<E>, Memory>
+        requires { E.levels engine ≡ [] }
+        ensures serves { IfOk result (λ session. Serves E.levels limit session []) }
+        ensures nothing { IfOk result (λ session. kept_by session ≡ []) }
+    {
+        let limits = Limits {
+            depth: DEPTH_LIMIT,
+            bytes: BYTE_LIMIT,
+        };
+        Ok(Session {
+            reader: Reader::new(alloc, limits),
+            desk: Desk::new(alloc, engine, limit)?,
+            kept: Vec::new(alloc),
+        })
+    }
+
+    /// Feeds a piece of the script: every command that is complete by then is answered, and its reply written and flushed.
+    pub fn feed<K: Sink>(&mut self, piece: &[u8], sink: &mut K) -> Fed
+        requires { (limit : ℕ) × (bytes : List ℕ) × Serves E.levels limit self.old bytes × (length bytes + length piece.now < 2 ^ 64) }
+        ensures going { result ≡ Fed.Going → (limit : ℕ) (bytes : List ℕ) → Serves E.levels limit self.old bytes → length bytes + length piece.now < 2 ^ 64 → Serves E.levels limit self.new (bytes ++ piece.now) }
+        ensures exited { result ≡ Fed.Exited → (limit : ℕ) (bytes : List ℕ) → Serves E.levels limit self.old bytes → length bytes + length piece.now < 2 ^ 64 → HasExited limit (bytes ++ piece.now) (kept_by self.new) }
+        ensures cut { result ≡ Fed.Cut → (limit : ℕ) (bytes : List ℕ) → Serves E.levels limit self.old bytes → length bytes + length piece.now < 2 ^ 64 → IsFront limit (bytes ++ piece.now) (kept_by self.new) }
+        ensures written { (result ≡ Fed.Going) ⊎ (result ≡ Fed.Exited) → Writes (kept_by self.old) (kept_by self.new) (K.held sink.old) (K.held sink.new) }
+        ensures cut_written { result ≡ Fed.Cut → WritesCut (kept_by self.old) (kept_by self.new) (K.held sink.old) (K.held sink.new) }
+        ensures later { K.faults sink.old ≤ K.faults sink.new }
+        ensures fault { result ≡ Fed.SinkFault → HasRisen K.last (K.faults sink.old) (K.faults sink.new) }
+    {
+        one_reading();
+        reading_tells_first();
+        let mut rest = piece;
+        'heard: loop {
+            let (used, heard) = self.reader.feed(rest);
+            rest = &rest[used..];
+            let heard = match heard {
+                None => return Fed::Going,
+                Some(heard) => heard,
+            };
+            match serve(&mut self.desk, &mut self.kept, heard, sink) {
+                Fed::Going => {}
+                Fed::Exited => return Fed::Exited,
+                Fed::SinkFault => return Fed::SinkFault,
+                Fed::Cut => return Fed::Cut,
+            }
+        }
+    }
+
+    /// Ends the script: what was open is refused.
+    pub fn finish<K: Sink>(&mut self, sink: &mut K) -> Fed
+        requires { (limit : ℕ) × (bytes : List ℕ) × Serves E.levels limit self.old bytes × (length bytes < 2 ^ 64) }
+        ensures ended { (result ≡ Fed.Going) ⊎ (result ≡ Fed.Exited) → (limit : ℕ) (bytes : List ℕ) → Serves E.levels limit self.old bytes → length bytes < 2 ^ 64 → IsTranscript limit bytes (kept_by self.new) }
+        ensures cut { result ≡ Fed.Cut → (limit : ℕ) (bytes : List ℕ) → Serves E.levels limit self.old bytes → length bytes < 2 ^ 64 → IsFront limit bytes (kept_by self.new) }
+        ensures written { (result ≡ Fed.Going) ⊎ (result ≡ Fed.Exited) → Writes (kept_by self.old) (kept_by self.new) (K.held sink.old) (K.held sink.new) }
+        ensures cut_written { result ≡ Fed.Cut → WritesCut (kept_by self.old) (kept_by self.new) (K.held sink.old) (K.held sink.new) }
+        ensures later { K.faults sink.old ≤ K.faults sink.new }
+        ensures fault { result ≡ Fed.SinkFault → HasRisen K.last (K.faults sink.old) (K.faults sink.new) }
+    {
+        match self.reader.finish() {
+            None => Fed::Going,
+            Some(heard) => serve(&mut self.desk, &mut self.kept, heard, sink),
+        }
+    }
+
+    /// All that was kept, in order, and the table of its terms. Takes no memory.
+    pub fn into_kept(self) -> (Journal, Terms)
+        ensures kept { journal_of result.0 ≡ kept_by self }
+    {
+        let Session { reader, desk, kept } = self;
+        drop(reader);
+        (Journal::from_vec(kept), desk.into_terms())
+    }
+}

@@ -1,0 +1,121 @@
+-- A reader that is fed bytes: what was read and told goes on with them.
+use Rattle.std.proofs.Common.{◌≡◌, ℕ, ◌+◌, ◌<◌, ◌^◌, List, [], ◌∷◌, ◌++◌, length, Option, Some, None, IsNone, is_some, false, get_or, take, drop, refl, sym, ◌∙◌, ap, subst, arith, append_assoc, append-nil, ◌≤◌, length-append, length-take, length-drop, ◌-◌, inl, inr}
+use Rattle.std.proofs.lemmas.Bool.{cases_lt}
+use Rattle.std.proofs.lemmas.Grind.{common_steps}
+use Rattle.std.proofs.Math.Seq.{take-add}
+use Rattle.nz_spec.specs.Tree.{Tree}
+use Rattle.nz_spec.specs.Text.{Limits, Heard, ByteClass, word_byte, blank_byte, left_byte, right_byte, mark_byte, class_of, AllOfClass}
+use Rattle.nz_spec.specs.Kept.{AreToldAs}
+use Rattle.nz_spec.specs.Reading.{Reading, start, settled, settled_by, marked_by, opened_by, next, next_by, told_at, told_by, read_on, told_on}
+use Rattle.nz_sexpr.specs.Matches.{GoesOnBy, EndsWithin, told}
+use Rattle.nz_sexpr.specs.Fits.{Fits}
+use Rattle.nz_sexpr.specs.declared.reader.Reader.{Reader}
+use Rattle.nz_sexpr.specs.declared.heard.Heard as code
+
+pub read_on-append : (s : Reading) (xs ys : List ℕ) → read_on s (xs ++ ys) ≡ read_on (read_on s xs) ys
+read_on-append s [] ys = refl
+read_on-append s (x ∷ xs) ys = read_on-append (next x s) xs ys
+
+pub told_on-append : (limits : Limits) (s : Reading) (xs ys : List ℕ) → told_on limits s (xs ++ ys) ≡ told_on limits s xs ++ told_on limits (read_on s xs) ys
+told_on-append limits s [] ys = refl
+told_on-append limits s (x ∷ xs) ys =
+    ap (λ k. told_at limits x s ++ k) (told_on-append limits (next x s) xs ys)
+    ∙ sym (append_assoc (told_at limits x s) (told_on limits (next x s) xs) (told_on limits (read_on (next x s) xs) ys))
+
+-- nothing is told inside a word
+pub told_on-words : (limits : Limits) (s : Reading) (run : List ℕ) → AllOfClass word_byte run → told_on limits s run ≡ []
+told_on-words limits s [] h = refl
+told_on-words limits s (b ∷ run) h = ap (λ k. told_by k limits s ++ told_on limits (next b s) run) h.0 ∙ told_on-words limits (next b s) run h.1
+
+-- ---- Bytes are counted
+
+settled-at : (w : List ℕ) (ls : List (List Tree)) (s : Reading) → (settled_by w ls s).at ≡ s.at
+settled-at [] ls s = refl
+settled-at (b ∷ w) [] s = refl
+settled-at (b ∷ w) (l ∷ ls) s = refl
+
+opened-at : (ls : List (List Tree)) (s : Reading) → (opened_by ls s).at ≡ s.at + 1
+opened-at [] s = refl
+opened-at (l ∷ ls) s = refl
+
+marked-at : (ls : List (List Tree)) (s : Reading) → (marked_by ls s).at ≡ s.at + 1
+marked-at [] s = refl
+marked-at (l ∷ ls) s = refl
+
+next-at : (c : ByteClass) (b : ℕ) (s : Reading) → (next_by c b s).at ≡ s.at + 1
+next-at blank_byte b s = ap (λ k. k + 1) (settled-at s.word s.levels s)
+next-at left_byte b s = opened-at (settled s).levels (settled s) ∙ ap (λ k. k + 1) (settled-at s.word s.levels s)
+next-at right_byte b s = ap (λ k. k + 1) (settled-at s.word s.levels s)
+next-at mark_byte b s = marked-at (settled s).levels (settled s) ∙ ap (λ k. k + 1) (settled-at s.word s.levels s)
+next-at word_byte b s = refl
+
+read_on-at : (s : Reading) (xs : List ℕ) → (read_on s xs).at ≡ s.at + length xs
+read_on-at s [] = omega arith
+read_on-at s (x ∷ xs) = omega (arith, read_on-at (next x s) xs, next-at (class_of x) x s)
+
+pub bytes_read : (xs : List ℕ) → (read_on start xs).at ≡ length xs
+bytes_read xs = read_on-at start xs ∙ (omega arith)
+
+-- ---- What was told
+
+pub AreToldAs-append : (ts bs hs ks : List Heard) → AreToldAs ts hs → AreToldAs bs ks → AreToldAs (ts ++ bs) (hs ++ ks)
+AreToldAs-append [] bs [] ks h k = k
+AreToldAs-append [] bs (x ∷ hs) ks h k = absurd h
+AreToldAs-append (t ∷ ts) bs [] ks h k = absurd h
+AreToldAs-append (t ∷ ts) bs (x ∷ hs) ks h k = (h.0, AreToldAs-append ts bs hs ks h.1 k)
+
+pub told_none : (o : Option code.Heard) → is_some o ≡ false → told o ≡ []
+told_none None h = refl
+told_none (Some x) h = cc
+
+pub is_none_at : (o : Option code.Heard) → is_some o ≡ false → IsNone o
+is_none_at None h = refl
+is_none_at (Some x) h = cc
+
+-- where nothing is owed, what was told is all
+pub told_all : (things hs : List Heard) (o : Option code.Heard) → is_some o ≡ false → AreToldAs (things ++ told o) hs → AreToldAs things hs
+told_all things hs o none h = subst (λ k. AreToldAs k hs) (ap (λ k. things ++ k) (told_none o none) ∙ append-nil things) h
+
+-- things told of more bytes come after those told of the bytes before
+pub told_more : (limits : Limits) (bytes more : List ℕ) (things new : List Heard) → AreToldAs (things ++ []) (told_on limits start bytes) → AreToldAs new (told_on limits (read_on start bytes) more) → AreToldAs (things ++ new) (told_on limits start (bytes ++ more))
+told_more limits bytes more things new h k =
+    subst (AreToldAs (things ++ new)) (sym (told_on-append limits start bytes more))
+    (AreToldAs-append things new (told_on limits start bytes) (told_on limits (read_on start bytes) more) (subst (λ t. AreToldAs t (told_on limits start bytes)) (append-nil things) h) k)
+
+-- ---- Fronts of a piece
+
+pub take_one : (xs : List ℕ) → 0 < length xs → take 1 xs ≡ get_or xs 0 0 ∷ []
+take_one [] h = absurd (omega arith)
+take_one (x ∷ xs) h = refl
+
+-- the bytes used so far, and the next ones used
+pub front_more : (bytes piece : List ℕ) (m n : ℕ) → (bytes ++ take m piece) ++ take n (drop m piece) ≡ bytes ++ take (m + n) piece
+front_more bytes piece m n = append_assoc bytes (take m piece) (take n (drop m piece)) ∙ ap (λ k. bytes ++ k) (sym (take-add m n piece))
+
+-- the rest of a piece, as the code takes it
+rest_of : (piece : List ℕ) (m : ℕ) → take (length piece - m) (drop m piece) ≡ drop m piece
+rest_of piece m = grind (arith, common_steps)
+
+-- a step from there
+pub goes_on : (limits : Limits) (old new : Reader) (bytes piece : List ℕ) (things more : List Heard) (m n : ℕ) → m ≤ length piece → length bytes + length piece < 2 ^ 64 → Fits limits old (bytes ++ take m piece) things → ((bounds : Limits) (front : List ℕ) (before : List Heard) → Fits bounds old front before → length front + length (take (length piece - m) (drop m piece)) < 2 ^ 64 → Fits bounds new (front ++ take n (take (length piece - m) (drop m piece))) (before ++ more)) → Fits limits new (bytes ++ take (m + n) piece) (things ++ more)
+goes_on limits old new bytes piece things more m n within few h step =
+    let front : List ℕ = bytes ++ take m piece in
+    let rest : take (length piece - m) (drop m piece) ≡ drop m piece = rest_of piece m in
+    let few' : length front + length (take (length piece - m) (drop m piece)) < 2 ^ 64 = omega (arith, length-append bytes (take m piece), length-take m piece, length-drop m piece, ap length rest) in
+    subst (λ k. Fits limits new k (things ++ more)) (ap (λ k. front ++ take n k) rest ∙ front_more bytes piece m n) (step limits front things h few')
+
+-- a count goes on twice
+pub goes_on_by : (a m b n c : ℕ) → GoesOnBy a m b → GoesOnBy b n c → GoesOnBy a (m + n) c
+goes_on_by a m b n c h k = (
+  omega (arith, h.0, k.0),
+  λ e. let p : b ≡ a + m = h.1 (omega arith) in let q : c ≡ b + n = k.1 (omega arith) in omega arith,
+  λ e. elim (cases_lt (a + m) (2 ^ 64)) [
+    | inl l ↦ let p : b ≡ a + m = h.1 l in k.2 (omega arith)
+    | inr g ↦ let p : 2 ^ 64 - 1 ≤ b = h.2 g in omega (arith, k.0)
+  ],
+)
+
+-- what ends from a place on ends from an earlier one on
+pub ends_later : (o : Option code.Heard) (a b high : ℕ) → a ≤ b → EndsWithin b high o → EndsWithin a high o
+ends_later None a b high h e = tt
+ends_later (Some x) a b high h e = (omega (arith, e.0), e.1)

@@ -1,0 +1,5 @@
+pub mod Bytes
+pub mod Fits
+pub mod Matches
+pub mod Store
+pub mod View

@@ -1,0 +1,16 @@
+//! The reader of scripts: bytes in, in pieces of any size, and the things heard in them out, with their places.
+#![tactic(auto)]
+
+mod bytes;
+mod heard;
+mod reader;
+mod scan;
+mod store;
+#[cfg(test)]
+mod tests;
+mod tree;
+
+pub use bytes::is_simple_symbol;
+pub use heard::{Heard, Limits, What};
+pub use reader::Reader;
+pub use tree::{Token, Tree, TreeList};

@@ -1,0 +1,10 @@
+pub mod Examples
+pub mod FractionArithmetic
+pub mod FractionLaws
+pub mod FractionOrder
+pub mod InfinitesimalLaws
+pub mod Normal
+pub mod Readings
+pub mod Tables
+pub mod Tellings
+pub mod Transcripts

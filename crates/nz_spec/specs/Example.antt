@@ -1,0 +1,35 @@
+-- A worked example of the definitions: one script, what is heard in it, and its transcript.
+use Rattle.std.specs.Prelude.{ℕ, List, [], ◌∷◌, codes, true}
+use Rattle.nz_spec.specs.Tree.{symbol, Tree, leaf, node, Trees, no_trees, trees}
+use Rattle.nz_spec.specs.Text.{Heard, What, whole}
+use Rattle.nz_spec.specs.Term.{bool_sort, truth}
+use Rattle.nz_spec.specs.Script.{Binding}
+use Rattle.nz_spec.specs.Reply.{Reply, quiet, sat, model, Cause, plain}
+use Rattle.nz_spec.specs.Transcript.{Kept, IsTranscript, texts_of}
+
+abbrev pub example_script : List ℕ
+example_script = codes "(declare-const p Bool)(assert p)\n(check-sat) (get-model)(exit)"
+
+-- a list of symbols
+abbrev pub symbols : List (List ℕ) → Trees
+symbols [] = no_trees
+symbols (name ∷ names) = trees (leaf (symbol name)) (symbols names)
+
+abbrev pub p_is_true : List Binding
+p_is_true = record { constant = record { name = codes "p"; sort = bool_sort }; value = truth true } ∷ []
+
+abbrev pub example_kept : ℕ → ℕ → List (List ℕ) → Reply → Kept
+example_kept from to names reply = record { heard = record { from = from; to = to; what = whole (node (symbols names)) }; reply = reply; cause = plain }
+
+-- what a run of it keeps
+abbrev pub example_transcript : List Kept
+example_transcript =
+    example_kept 0 22 (codes "declare-const" ∷ codes "p" ∷ codes "Bool" ∷ []) quiet
+    ∷ example_kept 22 32 (codes "assert" ∷ codes "p" ∷ []) quiet
+    ∷ example_kept 33 44 (codes "check-sat" ∷ []) (sat p_is_true)
+    ∷ example_kept 45 56 (codes "get-model" ∷ []) (model p_is_true)
+    ∷ example_kept 56 62 (codes "exit" ∷ []) quiet
+    ∷ []
+
+abbrev pub example_output : List ℕ
+example_output = codes "sat\n(\n(define-fun p () Bool true)\n)\n"

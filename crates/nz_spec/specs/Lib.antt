@@ -1,0 +1,17 @@
+pub mod Decide
+pub mod Example
+pub mod Fraction
+pub mod Infinitesimal
+pub mod Kept
+pub mod Outside
+pub mod Reading
+pub mod Reply
+pub mod Run
+pub mod Script
+pub mod Table
+pub mod Term
+pub mod Text
+pub mod Told
+pub mod Transcript
+pub mod Tree
+pub mod Work

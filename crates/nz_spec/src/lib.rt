@@ -1,0 +1,10 @@
+//! The definitions that every contract of this repository cites, and the laws about them.
+//!
+//! A definition stands in `specs/`, over plain data. A law is the contract of a function with no body to run.
+#![tactic(auto)]
+
+pub mod example;
+pub mod table;
+pub mod term;
+pub mod text;
+pub mod transcript;

@@ -1,0 +1,4 @@
+pub mod Constants
+pub mod Heads
+pub mod Nodes
+pub mod Values

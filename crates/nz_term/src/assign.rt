@@ -1,0 +1,88 @@
+//! What a model gives: values of the constants of a table, by their numbers.
+ghost use Rattle.std.specs.Prelude.{◌≡◌, ◌<◌, ◌==◌, [], ◌∷◌, ◌++◌, length, Some, OnOk, OnErr, IsOkAnd, option_map, slice_get};
+ghost use Rattle.nz_spec.specs.Table.{listed_value};
+ghost use Rattle.nz_term.specs.Values.{value_of, pair_of};
+
+use crate::nodes::TermId;
+use nz_base::Memory;
+use std::alloc::Global;
+use std::marker::Model;
+
+/// A value.
+#[derive(Clone, Copy, Debug, PartialEq, Eq)]
+pub enum Value {
+    /// Of sort `Bool`.
+    Truth(bool),
+}
+
+/// Numbers of constants, each with its value, in order. A contract sees them as a list of pairs; by a table they give
+/// each constant of the list its value, and any other `false`.
+#[derive(Debug, Drop)]
+pub struct Assign {
+    pairs: Vec<(TermId, Value)>,
+}
+
+impl Model for Assign {
+    ghost use Rattle.std.specs.Prelude.{List, ℕ, map};
+    ghost use Rattle.nz_spec.specs.Term as spec;
+
+    ghost Value = { List (ℕ × spec.Value) };
+
+    ghost use Rattle.nz_term.specs.Values.{pair_of};
+
+    ghost view = { λ a. map pair_of a.pairs.items };
+}
+
+impl Assign {
+    /// No constants yet. Takes no memory.
+    pub fn new(alloc: Global) -> Result<Assign, Memory>
+        ensures empty { IsOkAnd result (λ a. a ≡ []) }
+    {
+        Ok(Assign {
+            pairs: Vec::new(alloc),
+        })
+    }
+
+    /// Puts a constant with its value at the end.
+    pub fn push(&mut self, id: TermId, value: Value) -> Result<(), Memory>
+        ensures grown { OnOk result (self.new ≡ self.old ++ pair_of (id, value) ∷ []) }
+        ensures unchanged { OnErr result (self.new ≡ self.old) }
+    {
+        self.pairs.push((id, value))?;
+        Ok(())
+    }
+
+    /// How many constants there are.
+    pub fn len(&self) -> usize
+        ensures len { result ≡ length self.now }
+    {
+        self.pairs.len()
+    }
+
+    /// Whether there is none.
+    pub fn is_empty(&self) -> bool
+        ensures empty { result ≡ (length self.now == 0) }
+    {
+        self.pairs.is_empty()
+    }
+
+    /// The constant at a place of the list, with its value.
+    pub fn get(&self, index: usize) -> (TermId, Value)
+        requires { index < length self.now }
+        ensures pair { slice_get self.now index ≡ Some (pair_of result) }
+    {
+        self.pairs[index]
+    }
+
+    /// The value of a constant: the first in the list with its number.
+    pub fn value(&self, id: TermId) -> Option<Value>
+        ensures value { option_map value_of result ≡ listed_value self.now id }
+    {
+        for (listed, value) in self.pairs.iter() {
+            if *listed == id {
+                return Some(*value);
+            }
+        }
+        None
+    }
+}

@@ -1,0 +1,17 @@
+//! Shared terms: a table in which equal terms have one number, and assignments to its constants.
+//!
+//! A term is named by its number, and the numbers of its arguments are below it. `cut` takes back the terms that a
+//! refused command made.
+#![tactic(auto)]
+
+mod assign;
+mod heads;
+mod nodes;
+mod terms;
+#[cfg(test)]
+mod tests;
+
+pub use assign::{Assign, Value};
+pub use heads::{Constant, Head, Sort};
+pub use nodes::{Ids, Node, TermId};
+pub use terms::Terms;

@@ -1,0 +1,118 @@
+//! The table of shared terms.
+ghost use Rattle.std.specs.Prelude.{◌≡◌, ℕ, ◌<◌, ◌==◌, ◌⊎◌, [], ◌∷◌, ◌++◌, length, take, All, Some, IfOk, OnOk, OnErr, IsOkAnd, option_map, slice_get};
+ghost use Rattle.nz_spec.specs.Term.{apply};
+ghost use Rattle.nz_spec.specs.Table.{IsTable, HasOneNumberEach, term_in, terms_at};
+ghost use Rattle.nz_term.specs.Heads.{head_of};
+ghost use Rattle.nz_term.specs.Nodes.{node_of, node_with};
+
+use crate::heads::Head;
+use crate::nodes::{Ids, Node, TermId};
+use indexmap::IndexSet;
+use nz_base::Memory;
+use std::alloc::Global;
+use std::marker::Model;
+
+/// A table of shared terms. A contract sees it as the list of its nodes, the oldest first.
+#[derive(Debug, Drop)]
+pub struct Terms {
+    nodes: IndexSet<Node>,
+}
+
+impl Model for Terms {
+    ghost use Rattle.std.specs.Prelude.{List, map};
+    ghost use Rattle.nz_spec.specs.Table.{Node, IsTable};
+
+    ghost Value = { List Node };
+
+    ghost use Rattle.nz_term.specs.Nodes.{node_of};
+
+    ghost view = { λ t. map node_of t.nodes.keys };
+
+    ghost invariant = { λ t. IsTable (map node_of t.nodes.keys) };
+}
+
+impl Terms {
+    /// An empty table. Takes no memory.
+    pub fn new(alloc: Global) -> Result<Terms, Memory>
+        ensures empty { IsOkAnd result (λ t. t ≡ []) }
+    {
+        Ok(Terms {
+            nodes: IndexSet::new(alloc),
+        })
+    }
+
+    /// The number of the term of this head over the terms of these numbers. A term that is there already has the number
+    /// that it had.
+    pub fn make(&mut self, head: Head, kids: &[TermId]) -> Result<TermId, Memory>
+        requires { All (λ k. k < length self.old) kids.now }
+        ensures node { IfOk result (λ id. slice_get self.new id ≡ Some (node_with head kids.now)) }
+        ensures term { IfOk result (λ id. term_in self.new id ≡ apply (head_of head) (terms_at (term_in self.old) kids.now)) }
+        ensures grown { OnOk result ((self.new ≡ self.old) ⊎ (self.new ≡ self.old ++ node_with head kids.now ∷ [])) }
+
+        // Equal terms have equal numbers, here and before.
+        ensures one_number { HasOneNumberEach self.new }
+        ensures table { IsTable self.new }
+        ensures unchanged { OnErr result (self.new ≡ self.old) }
+    {
+        let kids = Ids::from_slice(*self.nodes.allocator(), kids)?;
+        let (id, _) = self.nodes.insert_full(Node { head, kids })?;
+        Ok(id)
+    }
+
+    /// The node of a number.
+    pub fn node(&self, id: TermId) -> &Node
+        requires { id < length self.now }
+        ensures node { slice_get self.now id ≡ Some (node_of result.now) }
+        ensures term { term_in self.now id ≡ apply (head_of result.now.head) (terms_at (term_in self.now) result.now.kids) }
+        ensures before { All (λ k. k < id) result.now.kids }
+    {
+        &self.nodes.as_slice()[id]
+    }
+
+    /// The head of the term of a number.
+    pub fn head(&self, id: TermId) -> &Head
+        requires { id < length self.now }
+        ensures head { option_map (λ n. n.head) (slice_get self.now id) ≡ Some (head_of result.now) }
+    {
+        &self.node(id).head
+    }
+
+    /// The numbers of the arguments of the term of a number. Each is below it.
+    pub fn kids(&self, id: TermId) -> &[TermId]
+        requires { id < length self.now }
+        ensures kids { option_map (λ n. n.kids) (slice_get self.now id) ≡ Some result.now }
+        ensures before { All (λ k. k < id) result.now }
+    {
+        self.node(id).kids.as_slice()
+    }
+
+    /// How many terms there are. Their numbers are those below it.
+    pub fn len(&self) -> usize
+        ensures len { result ≡ length self.now }
+        ensures table { IsTable self.now }
+    {
+        self.nodes.len()
+    }
+
+    /// Whether there is no term.
+    pub fn is_empty(&self) -> bool
+        ensures empty { result ≡ (length self.now == 0) }
+    {
+        self.len() == 0
+    }
+
+    /// A mark, to which `cut` goes back.
+    pub fn mark(&self) -> usize
+        ensures mark { result ≡ length self.now }
+    {
+        self.len()
+    }
+
+    /// Leaves the terms that were there at the mark, and no other. Takes no memory.
+    pub fn cut(&mut self, mark: usize)
+        ensures front { self.new ≡ take mark self.old }
+        ensures table { IsTable self.new }
+    {
+        self.nodes.truncate(mark);
+    }
+}

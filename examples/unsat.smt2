@@ -1,0 +1,8 @@
+(declare-const rain Bool)
+(declare-const sun Bool)
+(assert (or rain sun))
+(assert (not rain))
+(check-sat)
+(get-model)
+(assert (not (and sun true)))
+(check-sat)
