@@ -3,7 +3,7 @@ use Rattle.std.proofs.lemmas.Result.{err_from_is_err_and}
 use Rattle.std.proofs.lemmas.Bool.{OnTrue_at, OnFalse_at}
 use Rattle.nz_spec.specs.Decide.{constants_in_table}
 use Rattle.nz_session.specs.Levels.{numbers_by_level, paired}
-use Rattle.nz_session.specs.Notes.{noted_list}
+use Rattle.nz_reply.specs.Notes.{noted_list}
 use Rattle.nz_session.specs.SearchNotes.{IsCutShort}
 use Rattle.nz_session.proofs.Leveling.{length-AreNumbersOf}
 use Rattle.nz_session.proofs.TableBindings.{model_found, none_found}
