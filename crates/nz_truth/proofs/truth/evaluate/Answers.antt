@@ -1,6 +1,5 @@
-use Rattle.std.proofs.Common.{◌≡◌, ℕ, ◌+◌, ◌<◌, false, length, map, take, set, arith, slice_index_or, sym, ap, subst, ◌∙◌, refl, append-nil, length-append, [], ◌∷◌, ◌++◌}
-use Rattle.nz_spec.specs.Term.{Assignment, Constant, constant}
-use Rattle.nz_spec.specs.Table.{Node}
+use Rattle.std.proofs.Common.{◌≡◌, ◌+◌, ◌<◌, false, length, take, arith, slice_index_or, ap, ◌∙◌, length-append, [], ◌∷◌, ◌++◌}
+use Rattle.nz_spec.specs.Term.{constant}
 use Rattle.nz_spec.specs.Decide.{constants_in_table, constants_of_head}
 use Rattle.nz_term.specs.Heads.{head_of}
 use Rattle.nz_term.specs.Nodes.{node_of}
