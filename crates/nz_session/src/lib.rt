@@ -8,6 +8,8 @@ mod live;
 mod names;
 mod reply;
 mod session;
+#[cfg(test)]
+mod tests;
 mod trial;
 mod truth;
 mod write;
