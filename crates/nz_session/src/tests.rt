@@ -116,7 +116,10 @@ fn a_session_answers_to_its_exit(rt: HostRuntime) -> Result<(), Fail> {
     let ended = run_script(rt.alloc(), Trial::new(rt.alloc()), script, &mut sink)?;
     assert_eq!(rt; ended.fed, Fed::Exited);
     assert_eq!(rt; ended.journal.as_slice().len(), 5);
-    assert_eq!(rt; sink.bytes(), b"sat\n(\n(define-fun p () Bool true)\n)\n".as_slice());
+    assert_eq!(rt;
+        sink.bytes(),
+        b"sat\n(\n(define-fun p () Bool true)\n)\n".as_slice()
+    );
     Ok(())
 }
 
@@ -127,7 +130,10 @@ fn a_session_ends_with_its_script(rt: HostRuntime) -> Result<(), Fail> {
     assert_eq!(rt; ended.fed, Fed::Going);
     assert_eq!(rt; ended.ended, Fed::Going);
     assert_eq!(rt; ended.journal.as_slice().len(), 1);
-    assert_eq!(rt; sink.bytes(), b"(error \"10 incomplete command\")\n".as_slice());
+    assert_eq!(rt;
+        sink.bytes(),
+        b"(error \"10 incomplete command\")\n".as_slice()
+    );
     Ok(())
 }
 
