@@ -1,12 +1,12 @@
 //! Each public call of the session and of the desk once on its happy path, and a check that finds no memory.
 ghost use Rattle.std.specs.Prelude.{◌≡◌, ◌∷◌, [], IfOk};
 
-use crate::decide::{Decide, Note, Stop, Verdict};
+use crate::decide::{Decide, Stop, Verdict};
 use crate::desk::{Answer, Desk};
-use crate::reply::{Journal, Reply};
 use crate::session::{Fed, Session};
 use crate::trial::Trial;
 use nz_base::{Memory, PlainSink, Work};
+use nz_reply::{Journal, Note, Reply};
 use nz_sexpr::What;
 use nz_term::{TermId, Terms};
 use std::alloc::Global;
