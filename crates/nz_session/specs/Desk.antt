@@ -1,6 +1,7 @@
 -- What a desk holds, and what its answers are.
 use Rattle.std.specs.Prelude.{◌≡◌, ℕ, true, false, List}
 use Rattle.nz_spec.specs.Text.{What}
+use Rattle.nz_spec.specs.Table.{Node}
 use Rattle.nz_spec.specs.Script.{State}
 use Rattle.nz_spec.specs.Reply.{IsRight, IsExit, after}
 use Rattle.nz_sort.specs.Live.{IsLive}
@@ -8,6 +9,10 @@ use Rattle.nz_reply.specs.Replies.{reply_of, cause_of}
 use Rattle.nz_session.specs.Told.{IsTold}
 use Rattle.nz_session.specs.declared.desk.Desk.{Desk}
 use Rattle.nz_session.specs.declared.desk.Answer.{Answer}
+
+-- the desk's table of terms
+abbrev pub table_of : {E : Type 0} → Desk E → List Node
+table_of desk = desk.terms
 
 -- The desk holds this live state, under this limit of units.
 pub record Holds {E : Type 0} (levels : E → List (List ℕ)) (limit : ℕ) (desk : Desk E) (s : State) : Type 0 where

@@ -6,7 +6,8 @@ use Rattle.nz_spec.specs.Script.{start}
 use Rattle.nz_spec.specs.Reply.{reply_text, error}
 use Rattle.nz_spec.specs.Transcript.{Kept, AreRight, GoesOn, EndsByExit, state_after, texts_of, IsFrontOf, IsTranscript}
 use Rattle.nz_sexpr.specs.Fits.{Fits, owes}
-use Rattle.nz_session.specs.Desk.{Holds}
+use Rattle.nz_spec.specs.Table.{Node}
+use Rattle.nz_session.specs.Desk.{Holds, table_of}
 use Rattle.nz_reply.specs.Replies.{all_kept}
 use Rattle.nz_session.specs.declared.desk.Desk.{Desk}
 use Rattle.nz_session.specs.declared.session.Session.{Session}
@@ -24,6 +25,10 @@ pub record IsGoing {E : Type 0} (levels : E → List (List ℕ)) (limit : ℕ) (
 -- what a session has kept
 abbrev pub kept_by : {E : Type 0} → Session E → List Kept
 kept_by session = all_kept session.kept.items
+
+-- the table of the terms that its journal names by their numbers
+abbrev pub table_by : {E : Type 0} → Session E → List Node
+table_by session = table_of session.desk
 
 -- The session has read these bytes, and answered what is complete in them.
 pub record Serves {E : Type 0} (levels : E → List (List ℕ)) (limit : ℕ) (session : Session E) (bytes : List ℕ) : Type 0 where

@@ -48,7 +48,7 @@ impl<E: Decide> Desk<E> {
     ghost use Rattle.nz_spec.specs.Tree as script;
     ghost use Rattle.nz_spec.specs.Script.{start, command_of, check_sat, get_model};
     ghost use Rattle.nz_spec.specs.Reply.{AreModel};
-    ghost use Rattle.nz_session.specs.Desk.{Holds, IsAnswer};
+    ghost use Rattle.nz_session.specs.Desk.{Holds, IsAnswer, table_of};
 
     /// The desk of the start, over an engine that was told nothing yet, with this limit of units for each check.
     pub fn new(alloc: Global, engine: E, limit: u64) -> Result<Desk<E>, Memory>
@@ -164,7 +164,9 @@ impl<E: Decide> Desk<E> {
     }
 
     /// The table of terms. Takes no memory.
-    pub fn into_terms(self) -> Terms {
+    pub fn into_terms(self) -> Terms
+        ensures terms { result ≡ table_of self }
+    {
         let Desk {
             alloc: _,
             terms,

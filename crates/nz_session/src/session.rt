@@ -116,7 +116,7 @@ fn serve<E: Decide, K: Sink>(
 
 impl<E: Decide> Session<E> {
     ghost use Rattle.nz_reply.specs.Journals.{journal_of};
-    ghost use Rattle.nz_session.specs.Serve.{HasExited, IsFront, Serves, Writes, WritesCut, kept_by};
+    ghost use Rattle.nz_session.specs.Serve.{HasExited, IsFront, Serves, Writes, WritesCut, kept_by, table_by};
 
     /// A session at the beginning of a script, over an engine that was told nothing yet, with this limit of units for each
     /// check.
@@ -185,6 +185,7 @@ impl<E: Decide> Session<E> {
     /// All that was kept, in order, and the table of its terms. Takes no memory.
     pub fn into_kept(self) -> (Journal, Terms)
         ensures kept { journal_of result.0 ≡ kept_by self }
+        ensures terms { result.1 ≡ table_by self }
     {
         let Session { reader, desk, kept } = self;
         drop(reader);
