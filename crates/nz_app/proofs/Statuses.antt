@@ -4,7 +4,6 @@ use Rattle.std.specs.List.{list_any}
 use Rattle.std.specs.declared.alloc.Global.{Global}
 use Rattle.std.proofs.lemmas.Slice.Eq.{bytes_eq-Decides}
 use Rattle.nz_spec.specs.Transcript.{Kept}
-use Rattle.nz_spec.specs.Run.{TakesSolve}
 use Rattle.nz_reply.specs.declared.reply.Kept as kept
 use Rattle.nz_reply.specs.Replies.{all_kept, kept_of}
 
