@@ -4,7 +4,6 @@ use Rattle.std.specs.List.{list_any}
 use Rattle.std.specs.declared.alloc.Global.{Global}
 use Rattle.std.proofs.lemmas.Slice.Eq.{bytes_eq-Decides}
 use Rattle.nz_spec.specs.Transcript.{Kept}
-use Rattle.nz_spec.specs.Run.{TakesSolve}
 use Rattle.nz_reply.specs.declared.reply.Kept as kept
 use Rattle.nz_reply.specs.Replies.{all_kept, kept_of}
 
@@ -17,14 +16,3 @@ pub any_at : (test : Kept → Bool) (ks : List kept.Kept) (i : ℕ) (k : kept.Ke
 any_at test [] i k h e t = absurd (omega arith)
 any_at test (j ∷ js) zero k h e t = ap (λ b. b || list_any test (all_kept js)) (ap (λ x. test (kept_of x)) (sym e) ∙ t)
 any_at test (j ∷ js) (suc i) k h e t = or_right (test (kept_of j)) (list_any test (all_kept js)) (any_at test js i k (omega arith) e t)
-
--- two words, of which the second is tested
-pub second_word : (ws : List (String Global)) (w : String Global) (b : Bool) → 2 ≤ length ws → length ws < 3 → w ≡ get_or ws 1 w → b ≡ bytes_eq (string_bytes w) (codes "solve")
-    → (IsTrue b → TakesSolve (map string_bytes ws)) × (TakesSolve (map string_bytes ws) → IsTrue b)
-second_word [] w b h k e t = absurd (omega arith)
-second_word (v ∷ []) w b h k e t = absurd (omega arith)
-second_word (v ∷ x ∷ y ∷ ys) w b h k e t = absurd (omega arith)
-second_word (v ∷ x ∷ []) w b h k e t =
-    let same : b ≡ bytes_eq (string_bytes x) (codes "solve") = t ∙ ap (λ s. bytes_eq (string_bytes s) (codes "solve")) e in
-    let decides = bytes_eq-Decides (string_bytes x) (codes "solve") in
-    (λ yes_b. decides.0 (sym same ∙ yes_b), λ is. same ∙ decides.1 is)

@@ -2,11 +2,11 @@
 use Rattle.std.proofs.Common.{◌≡◌, ◌⊎◌, inr, ℕ, ◌+◌, ◌*◌, ◌<◌, ◌≤◌, List, [], ◌++◌, length, Option, None, Some, true, false, sym, ap, ◌∙◌, subst, append_assoc, append-nil, arith}
 use Rattle.std.proofs.lemmas.List.{length-append}
 use Rattle.std.specs.Io.KnownBytes.{Appends, Consumes, IsAtEnd}
-use Rattle.std.proofs.KnownBytes.{Appends-trans, Consumes-trans}
+use Rattle.std.proofs.KnownBytes.{Appends-nil, Appends-trans, Consumes-nil, Consumes-trans}
 use Rattle.nz_spec.specs.Script.{start}
 use Rattle.nz_spec.specs.Reply.{reply_text, error}
 use Rattle.nz_spec.specs.Transcript.{Kept, EndsByExit, IsTranscript, texts_of}
-use Rattle.nz_spec.specs.Run.{IsRun, solve_limit}
+use Rattle.nz_spec.specs.Run.{IsRun, TookMany}
 use Rattle.nz_session.specs.declared.session.Session.{Session}
 use Rattle.nz_session.specs.Serve.{Serves, Writes, WritesCut, HasExited, IsFront, kept_by}
 use Rattle.nz_app.specs.Reading.{IsReading}
@@ -65,10 +65,10 @@ pub fed_cut : (limit : ℕ) (first left after held mid now : Option (List ℕ)) 
 fed_cut limit first left after held mid now read piece old new c d w n f =
     cut_run limit first after held now (read ++ piece) new (Consumes-trans first left after read piece c d) (written_cut old new held mid now w n) f
 
-pub reads_more : {E : Type 0} (levels : E → List (List ℕ)) (old new : Session E) (first left after held mid now : Option (List ℕ)) (count : ℕ) (piece : List ℕ)
-    → (reading : IsReading levels old first left held mid count) → Consumes left after piece → 0 < length piece → length piece ≤ 4096
-    → Serves levels solve_limit new (reading.read ++ piece) → Writes (kept_by old) (kept_by new) mid now → IsReading levels new first after held now (count + 1)
-reads_more levels old new first left after held mid now count piece reading c some few serves writes =
+pub reads_more : {E : Type 0} (levels : E → List (List ℕ)) (limit : ℕ) (old new : Session E) (first left after held mid now : Option (List ℕ)) (count : ℕ) (piece : List ℕ)
+    → (reading : IsReading levels limit old first left held mid count) → Consumes left after piece → 0 < length piece → length piece ≤ 4096
+    → Serves levels limit new (reading.read ++ piece) → Writes (kept_by old) (kept_by new) mid now → IsReading levels limit new first after held now (count + 1)
+reads_more levels limit old new first left after held mid now count piece reading c some few serves writes =
     let all : length (reading.read ++ piece) ≡ length reading.read + length piece = length-append reading.read piece in
     let long : count ≤ length reading.read = reading.long in
     let short : length reading.read ≤ 4096 * count = reading.short in
@@ -80,3 +80,22 @@ reads_more levels old new first left after held mid now count piece reading c so
       serves = serves;
       written = written_more (kept_by old) (kept_by new) held mid now reading.written writes;
     }
+
+-- so many reads took a byte each
+pub took_many : (first left : Option (List ℕ)) (read : List ℕ) (count least : ℕ) → Consumes first left read → count ≤ length read → least ≤ count → TookMany first left least
+took_many None left read count least c long enough = tt
+took_many (Some all) None read count least c long enough = absurd c
+took_many (Some all) (Some rest) read count least c long enough = omega (arith, ap length c, length-append read rest, long, enough)
+
+-- ---- The beginning
+
+-- a session that has read nothing
+pub begins : {E : Type 0} (levels : E → List (List ℕ)) (limit : ℕ) (session : Session E) (first held : Option (List ℕ)) → Serves levels limit session [] → kept_by session ≡ [] → IsReading levels limit session first first held held 0
+begins levels limit session first held serves nothing = record {
+  read = [];
+  taken = Consumes-nil first;
+  long = omega arith;
+  short = omega arith;
+  serves = serves;
+  written = subst (λ ks. Appends held held (texts_of ks)) (sym nothing) (Appends-nil held);
+}

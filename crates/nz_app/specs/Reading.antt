@@ -2,16 +2,15 @@
 use Rattle.std.specs.Prelude.{ℕ, ◌≤◌, ◌*◌, List, length, Option}
 use Rattle.std.specs.Io.KnownBytes.{Appends, Consumes}
 use Rattle.nz_spec.specs.Transcript.{texts_of}
-use Rattle.nz_spec.specs.Run.{solve_limit}
 use Rattle.nz_session.specs.declared.session.Session.{Session}
 use Rattle.nz_session.specs.Serve.{Serves, kept_by}
 
 -- So many reads were made, each of a byte or more; the session has answered what is complete in the bytes read, and its
 -- replies were written.
-pub record IsReading {E : Type 0} (levels : E → List (List ℕ)) (session : Session E) (first left held now : Option (List ℕ)) (count : ℕ) : Type 0 where
+pub record IsReading {E : Type 0} (levels : E → List (List ℕ)) (limit : ℕ) (session : Session E) (first left held now : Option (List ℕ)) (count : ℕ) : Type 0 where
   pub read : List ℕ
   pub taken : Consumes first left read
   pub long : count ≤ length read
   pub short : length read ≤ 4096 * count
-  pub serves : Serves levels solve_limit session read
+  pub serves : Serves levels limit session read
   pub written : Appends held now (texts_of (kept_by session))

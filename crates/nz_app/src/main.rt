@@ -4,6 +4,7 @@
 mod run;
 #[cfg(test)]
 mod tests;
+mod words;
 
 use nz_base::{Input, Output};
 pub use run::{Ended, run};
@@ -11,15 +12,15 @@ use std::process::ExitCode;
 use std::{env, io};
 
 fn main(rt: HostRuntime) -> io::Result<ExitCode> {
-    let mut words = Vec::new(rt.alloc());
-    for word in env::args(&rt)? {
-        words.push(word)?;
+    let mut arguments = Vec::new(rt.alloc());
+    for argument in env::args(&rt)? {
+        arguments.push(argument)?;
     }
     let mut input = Input::new(rt.stdin());
     let mut output = Output::new(rt.stdout());
-    let ended = run(rt.alloc(), words.as_slice(), &mut input, &mut output);
+    let ended = run(rt.alloc(), arguments.as_slice(), &mut input, &mut output);
     if ended.status == run::USAGE {
-        eprintln!(rt; "usage: nuz solve")?;
+        eprintln!(rt; "{}", words::USAGE_LINE)?;
     }
     Ok(ExitCode::from(ended.status))
 }

@@ -3,13 +3,15 @@ ghost use Rattle.std.specs.Prelude.{◌≡◌, ◌≤◌, ◌<◌, ◌+◌, ◌*
 ghost use Rattle.std.specs.Io.KnownBytes.{Keeps};
 ghost use Rattle.std.specs.List.{list_any};
 ghost use Rattle.nz_spec.specs.Outside.{HasRisen};
-ghost use Rattle.nz_spec.specs.Run.{IsRun, TakesSolve, TookMany, is_error, is_memory_error, solve_limit, status_of};
+ghost use Rattle.nz_spec.specs.Run.{IsRun, TookMany, is_error, is_memory_error, status_of};
 ghost use Rattle.nz_reply.specs.Journals.{journal_of};
 ghost use Rattle.nz_reply.specs.Replies.{all_kept, kept_of};
 ghost use Rattle.nz_session.specs.Serve.{Serves, kept_by};
 ghost use Rattle.nz_app.specs.Ending.{Ends, HasNotBegun};
 ghost use Rattle.nz_app.specs.Reading.{IsReading};
+ghost use Rattle.nz_app.specs.Words.{AreTaken, AreUnits};
 
+use crate::words::{Refused, units_of};
 use nz_base::{Memory, Sink, Source};
 use nz_reply::{Journal, Kept, OUT_OF_MEMORY, Reply};
 use nz_session::{Decide, Fed, Session, Trial};
@@ -42,9 +44,6 @@ const MOST_READS: u64 = 1 << 32;
 
 /// How many bytes a read may bring.
 const BUFFER: usize = 4096;
-
-/// The most units of work that a check may use.
-const UNITS: u64 = 200_000;
 
 /// What a run leaves.
 #[derive(Drop)]
@@ -80,16 +79,6 @@ enum Turn {
     WriteFault,
 }
 
-/// The words are the program's name and `solve`.
-fn takes_solve(words: &[String]) -> bool
-    ensures takes { IsTrue result ↔ TakesSolve (map string_bytes words.now) }
-{
-    match words {
-        [_, word] => word.as_bytes() == b"solve".as_slice(),
-        _ => false,
-    }
-}
-
 /// Reads once, and answers what is complete then.
 fn read_once<E: Decide, S: Source, K: Sink>(
     session: &mut Session<E>,
@@ -97,10 +86,10 @@ fn read_once<E: Decide, S: Source, K: Sink>(
     out: &mut K,
     buffer: &mut [u8; BUFFER],
 ) -> Turn
-    requires { (first : Option (List ℕ)) × (held : Option (List ℕ)) × (count : ℕ) × IsReading E.levels session.old first (S.left input.old) held (K.held out.old) count × (count < 2 ^ 32) }
-    ensures going { result ≡ Turn.Going → (first : Option (List ℕ)) (held : Option (List ℕ)) (count : ℕ) → count < 2 ^ 32 → IsReading E.levels session.old first (S.left input.old) held (K.held out.old) count → IsReading E.levels session.new first (S.left input.new) held (K.held out.new) (count + 1) }
-    ensures finished { result ≡ Turn.Finished → (first : Option (List ℕ)) (held : Option (List ℕ)) (count : ℕ) → count < 2 ^ 32 → IsReading E.levels session.old first (S.left input.old) held (K.held out.old) count → IsRun solve_limit false first (S.left input.new) held (K.held out.new) (kept_by session.new) }
-    ensures cut { result ≡ Turn.Cut → (first : Option (List ℕ)) (held : Option (List ℕ)) (count : ℕ) → count < 2 ^ 32 → IsReading E.levels session.old first (S.left input.old) held (K.held out.old) count → IsRun solve_limit true first (S.left input.new) held (K.held out.new) (kept_by session.new) }
+    requires { (limit : ℕ) × (first : Option (List ℕ)) × (held : Option (List ℕ)) × (count : ℕ) × IsReading E.levels limit session.old first (S.left input.old) held (K.held out.old) count × (count < 2 ^ 32) }
+    ensures going { result ≡ Turn.Going → (limit : ℕ) (first : Option (List ℕ)) (held : Option (List ℕ)) (count : ℕ) → count < 2 ^ 32 → IsReading E.levels limit session.old first (S.left input.old) held (K.held out.old) count → IsReading E.levels limit session.new first (S.left input.new) held (K.held out.new) (count + 1) }
+    ensures finished { result ≡ Turn.Finished → (limit : ℕ) (first : Option (List ℕ)) (held : Option (List ℕ)) (count : ℕ) → count < 2 ^ 32 → IsReading E.levels limit session.old first (S.left input.old) held (K.held out.old) count → IsRun limit false first (S.left input.new) held (K.held out.new) (kept_by session.new) }
+    ensures cut { result ≡ Turn.Cut → (limit : ℕ) (first : Option (List ℕ)) (held : Option (List ℕ)) (count : ℕ) → count < 2 ^ 32 → IsReading E.levels limit session.old first (S.left input.old) held (K.held out.old) count → IsRun limit true first (S.left input.new) held (K.held out.new) (kept_by session.new) }
     ensures read_fault { result ≡ Turn.ReadFault → HasRisen S.last (S.faults input.old) (S.faults input.new) }
     ensures write_fault { result ≡ Turn.WriteFault → HasRisen K.last (K.faults out.old) (K.faults out.new) }
     ensures input_later { S.faults input.old ≤ S.faults input.new }
@@ -128,9 +117,9 @@ fn read_once<E: Decide, S: Source, K: Sink>(
 
 /// Reads, and answers, to the end.
 fn serve<E: Decide, S: Source, K: Sink>(session: &mut Session<E>, input: &mut S, out: &mut K) -> End
-    requires start { IsReading E.levels session.old (S.left input.old) (S.left input.old) (K.held out.old) (K.held out.old) 0 }
-    ensures finished { result ≡ End.Finished → IsRun solve_limit false (S.left input.old) (S.left input.new) (K.held out.old) (K.held out.new) (kept_by session.new) }
-    ensures cut { result ≡ End.Cut → IsRun solve_limit true (S.left input.old) (S.left input.new) (K.held out.old) (K.held out.new) (kept_by session.new) }
+    requires start { (limit : ℕ) × IsReading E.levels limit session.old (S.left input.old) (S.left input.old) (K.held out.old) (K.held out.old) 0 }
+    ensures finished { result ≡ End.Finished → (limit : ℕ) → IsReading E.levels limit session.old (S.left input.old) (S.left input.old) (K.held out.old) (K.held out.old) 0 → IsRun limit false (S.left input.old) (S.left input.new) (K.held out.old) (K.held out.new) (kept_by session.new) }
+    ensures cut { result ≡ End.Cut → (limit : ℕ) → IsReading E.levels limit session.old (S.left input.old) (S.left input.old) (K.held out.old) (K.held out.old) 0 → IsRun limit true (S.left input.old) (S.left input.new) (K.held out.old) (K.held out.new) (kept_by session.new) }
     ensures read_fault { result ≡ End.ReadFault → HasRisen S.last (S.faults input.old) (S.faults input.new) }
     ensures write_fault { result ≡ End.WriteFault → HasRisen K.last (K.faults out.old) (K.faults out.new) }
     ensures reads { result ≡ End.Reads → TookMany (S.left input.old) (S.left input.new) (2 ^ 32) }
@@ -236,12 +225,13 @@ fn ended_at_once(alloc: Global, status: u8) -> Ended
 pub fn run<S: Source, K: Sink>(alloc: Global, words: &[String], input: &mut S, out: &mut K) -> Ended
     // The headline: where the run came to its end without a fault, each reply is right, in order.
     ensures answered { result.status ≡ status_of result.cut (journal_of result.journal) →
-        IsRun solve_limit result.cut (S.left input.old) (S.left input.new) (K.held out.old) (K.held out.new) (journal_of result.journal) }
+        (limit : ℕ) × AreUnits (map string_bytes words.now) limit × IsRun limit result.cut (S.left input.old) (S.left input.new) (K.held out.old) (K.held out.new) (journal_of result.journal) }
 
     // Each status has its cause.
     ensures status { Ends result.status ⊎ (result.status ≡ status_of result.cut (journal_of result.journal)) }
     ensures memory { result.status ≡ MEMORY → HasNotBegun (S.left input.old) (S.left input.new) (K.held out.old) (K.held out.new) (journal_of result.journal) ⊎ (result.status ≡ status_of result.cut (journal_of result.journal)) }
-    ensures usage { (result.status ≡ USAGE) ↔ (TakesSolve (map string_bytes words.now) → ⊥) }
+    ensures usage { result.status ≡ USAGE → AreTaken (map string_bytes words.now) → ⊥ }
+    ensures taken { (result.status ≡ MEMORY → ⊥) → (result.status ≡ USAGE → ⊥) → AreTaken (map string_bytes words.now) }
     ensures untouched_input { result.status ≡ USAGE → Keeps (S.left input.old) (S.left input.new) }
     ensures untouched_output { result.status ≡ USAGE → Keeps (K.held out.old) (K.held out.new) }
     ensures read_fault { result.status ≡ READ_FAULT → HasRisen S.last (S.faults input.old) (S.faults input.new) }
@@ -250,10 +240,12 @@ pub fn run<S: Source, K: Sink>(alloc: Global, words: &[String], input: &mut S, o
     ensures input_later { S.faults input.old ≤ S.faults input.new }
     ensures output_later { K.faults out.old ≤ K.faults out.new }
 {
-    if !takes_solve(words) {
-        return ended_at_once(alloc, USAGE);
-    }
-    let mut session = match Session::new(alloc, Trial::new(alloc), UNITS) {
+    let units = match units_of(alloc, words) {
+        Ok(units) => units,
+        Err(Refused::Usage) => return ended_at_once(alloc, USAGE),
+        Err(Refused::Memory) => return ended_at_once(alloc, MEMORY),
+    };
+    let mut session = match Session::new(alloc, Trial::new(alloc), units) {
         Ok(session) => session,
         Err(Memory) => return ended_at_once(alloc, MEMORY),
     };

@@ -96,12 +96,31 @@ fn a_write_that_fails_ends_the_run(rt: HostRuntime) -> Result<(), Fail> {
     Ok(())
 }
 
+/// The status of a run by these words over an empty script.
+fn status_by(alloc: Global, words: &[&str]) -> Result<u8, Memory> {
+    let mut input = PlainSource::new(Vec::new(alloc), 43);
+    let mut out = PlainSink::new(alloc, ROOM)?;
+    Ok(run_words(alloc, words, &mut input, &mut out)?.status)
+}
+
 #[test]
 fn other_words_are_not_taken(rt: HostRuntime) -> Result<(), Fail> {
-    let mut input = PlainSource::new(SCRIPT.to_vec(rt.alloc())?, 43);
+    assert_eq!(rt; status_by(rt.alloc(), &["nuz"])?, USAGE);
+    assert_eq!(rt; status_by(rt.alloc(), &["nuz", "solve", "--work", "x"])?, USAGE);
+    assert_eq!(rt; status_by(rt.alloc(), &["nuz", "solve", "--work", "1000001"])?, USAGE);
+    assert_eq!(rt; status_by(rt.alloc(), &["nuz", "solve", "--help"])?, USAGE);
+    assert_eq!(rt; status_by(rt.alloc(), &["nuz", "solve", "--work=1000000"])?, DONE);
+    Ok(())
+}
+
+#[test]
+fn a_check_uses_no_more_units_than_the_words_allow(rt: HostRuntime) -> Result<(), Fail> {
+    let script = b"(declare-const p Bool)(assert p)(check-sat)";
+    let mut input = PlainSource::new(script.as_slice().to_vec(rt.alloc())?, 43);
     let mut out = PlainSink::new(rt.alloc(), ROOM)?;
-    let ended = run_words(rt.alloc(), &["nuz"], &mut input, &mut out)?;
-    assert_eq!(rt; ended.status, USAGE);
-    assert_eq!(rt; out.bytes(), b"".as_slice());
+    let words = ["nuz", "solve", "--work", "0"];
+    let ended = run_words(rt.alloc(), &words, &mut input, &mut out)?;
+    assert_eq!(rt; ended.status, DONE);
+    assert_eq!(rt; out.bytes(), b"unknown\n".as_slice());
     Ok(())
 }

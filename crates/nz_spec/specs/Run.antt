@@ -6,14 +6,7 @@ use Rattle.nz_spec.specs.Script.{start}
 use Rattle.nz_spec.specs.Reply.{Reply, quiet, sat, unsat, unknown, model, unsupported, error, reply_text}
 use Rattle.nz_spec.specs.Transcript.{Kept, EndsByExit, IsFrontOf, IsTranscript, texts_of}
 
--- The words are a program's name, whatever it is, and `solve`.
-abbrev pub TakesSolve : List (List ℕ) → Type 0
-TakesSolve [] = ⊥
-TakesSolve (name ∷ []) = ⊥
-TakesSolve (name ∷ word ∷ []) = word ≡ codes "solve"
-TakesSolve (name ∷ word ∷ more ∷ others) = ⊥
-
--- the most units of work that one check may use
+-- the most units of work that one check may use, where the command line doesn't say
 abbrev pub solve_limit : ℕ
 solve_limit = 200000
 

@@ -1,8 +1,14 @@
-use Rattle.std.proofs.Common.{refl}
+use Rattle.std.proofs.Common.{refl, arith, ◌^◌}
+use Rattle.nz_app.proofs.Turning.{took_many}
 use Rattle.nz_app.proofs.run.serve.Goals as goal
 
 pub returns-in-Finished-clause-finished : goal.returns-in-Finished-clause-finished
-returns-in-Finished-clause-finished g c = λ _. c.in-Finished.ensures.finished refl _ _ c.loop-read.read c.loop-read-test.true c.loop-read.invariant.reading
+returns-in-Finished-clause-finished g c = λ _ limit begun. c.in-Finished.ensures.finished refl limit _ _ c.loop-read.read c.loop-read-test.true (c.loop-read.invariant.reading limit begun)
 
 pub returns-in-Cut-clause-cut : goal.returns-in-Cut-clause-cut
-returns-in-Cut-clause-cut g c = λ _. c.in-Cut.ensures.cut refl _ _ c.loop-read.read c.loop-read-test.true c.loop-read.invariant.reading
+returns-in-Cut-clause-cut g c = λ _ limit begun. c.in-Cut.ensures.cut refl limit _ _ c.loop-read.read c.loop-read-test.true (c.loop-read.invariant.reading limit begun)
+
+pub returns-clause-reads : goal.returns-clause-reads
+returns-clause-reads g c =
+    λ _. (let reading = c.loop-read.invariant.reading c.requires.start.0 c.requires.start.1 in
+    took_many _ _ reading.read c.loop-read.read (2 ^ 32) reading.taken reading.long (let last = c.loop-read-test.false in omega arith))

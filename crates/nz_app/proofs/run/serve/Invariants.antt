@@ -1,12 +1,12 @@
 -- So many reads were made, and all is well.
-use Rattle.std.proofs.Common.{◌≤◌}
+use Rattle.std.proofs.Common.{◌≤◌, ℕ}
 use Rattle.nz_app.specs.Reading.{IsReading}
 use Rattle.nz_app.proofs.run.serve.Given as goal
 
 abbrev pub invariant-loop-read : goal.invariant-loop-read
 invariant-loop-read g l =
     record {
-      reading : IsReading g.E.Decide.levels l.session (g.S.Source.left l.fn.input) (g.S.Source.left l.input) (g.K.Sink.held l.fn.out) (g.K.Sink.held l.out) l.read;
+      reading : (limit : ℕ) → IsReading g.E.Decide.levels limit l.fn.session (g.S.Source.left l.fn.input) (g.S.Source.left l.fn.input) (g.K.Sink.held l.fn.out) (g.K.Sink.held l.fn.out) 0 → IsReading g.E.Decide.levels limit l.session (g.S.Source.left l.fn.input) (g.S.Source.left l.input) (g.K.Sink.held l.fn.out) (g.K.Sink.held l.out) l.read;
       input_later : g.S.Source.faults l.fn.input ≤ g.S.Source.faults l.input;
       output_later : g.K.Sink.faults l.fn.out ≤ g.K.Sink.faults l.out;
     }
