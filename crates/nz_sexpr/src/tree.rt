@@ -4,11 +4,18 @@ ghost use Rattle.std.specs.Prelude.{◌≡◌, [], ◌∷◌, ◌++◌, OnOk, On
 use nz_base::{Memory, Text};
 use std::alloc::Global;
 
-/// A word of a script.
+/// A token of a script. A symbol is told by its name and a string literal by its text, however they were spelled; the
+/// others are told by their bytes.
 #[derive(Debug, Drop)]
 pub enum Token {
-    /// A symbol, by its name.
     Symbol(Text),
+    Keyword(Text),
+    Numeral(Text),
+    Decimal(Text),
+    Hexadecimal(Text),
+    Binary(Text),
+    /// A string literal.
+    Literal(Text),
 }
 
 /// One token, or a list of trees between parentheses.
