@@ -355,3 +355,6 @@ kind_by w kind.Bad e = cc
 pub simple_kind : (w : List ℕ) → is_simple_symbol w ≡ true → kind_of_word w ≡ kind.Symbol
 simple_kind w h =
     kind_by w (kind_of_word w) (sym (word_told w) ∙ ap (λ t. picked w t (is_numeral w) (is_decimal w) (is_keyword w) (is_hexadecimal w) (is_binary w)) h)
+
+pub no_simple_symbol : (w : List ℕ) → (kind_of_word w ≡ kind.Symbol → ⊥) → is_simple_symbol w ≡ false
+no_simple_symbol w h = elim (is_simple_symbol w) as (λ s. is_simple_symbol w ≡ s → s ≡ false) [ true ↦ λ e. absurd (h (simple_kind w e)) | false ↦ λ e. refl ] refl

@@ -118,5 +118,5 @@ fn kind_if(holds: bool, kind: WordKind) -> WordKind
 pub fn is_simple_symbol(name: &[u8]) -> bool
     ensures simple { result ≡ text.is_simple_symbol name.now }
 {
-    WordKind::Empty.after_run(name) == WordKind::Symbol
+    matches!(WordKind::Empty.after_run(name), WordKind::Symbol)
 }

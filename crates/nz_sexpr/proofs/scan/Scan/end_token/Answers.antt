@@ -1,4 +1,4 @@
-use Rattle.std.proofs.Common.{◌≡◌, ◌∙◌, ◌<◌, ◌||◌, length, Option, IfSome, is_none, sym, ap, subst, arith, eqb-false}
+use Rattle.std.proofs.Common.{◌≡◌, ◌∙◌, ◌<◌, ◌||◌, length, Option, IfSome, is_none, sym, ap, subst, arith}
 use Rattle.nz_spec.specs.Reading.{taken}
 use Rattle.nz_sexpr.specs.Part.{part_of, filler_of, kind_of_part}
 use Rattle.nz_sexpr.specs.Matches.{Matches}
@@ -14,7 +14,7 @@ pub returns-clause-state : goal.returns-clause-state
 returns-clause-state c limits s m =
     let old : Scan = c.args.self.now in
     let store : Store = c.take_token.new.self.store in
-    let inside : 0 < length s.levels = let n = eqb-false old.depth 0 c.if-self-eq0.false in omega (arith, m.depth, n) in
+    let inside : 0 < length s.levels = omega (arith, m.depth, c.if-self-eq0.false) in
     let token : c.token-token.result ≡ kind_of_part (part_of s.part) = c.token-token.ensures ∙ ap kind_of_part m.part in
     let takes : TakesToken (kind_of_part (part_of s.part)) (kept_of old.store) (kept_of store) =
     subst (λ (o : Option TokenKind). TakesToken o (kept_of old.store) (kept_of store)) token c.take_token.ensures.kept in
