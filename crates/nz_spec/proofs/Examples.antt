@@ -1,10 +1,13 @@
--- The example is computed from the definitions.
-use Rattle.std.proofs.Common.{◌≡◌, ℕ, List, [], ◌∷◌, None, codes, refl, inl, map, rules}
+-- The examples are computed from the definitions: the script by its things, the short texts by reading them.
+use Rattle.std.proofs.Common.{◌≡◌, ℕ, List, [], ◌∷◌, None, codes, refl, subst, inl, map, rules}
 use Rattle.nz_spec.specs.Text.{Groups, no_groups, groups, single, gap, word, Thing, loose, command, Open}
-use Rattle.nz_spec.specs.Text.{AreLongest, script_pieces, script_limits, heard_from, text_of}
+use Rattle.nz_spec.specs.Text.{Hears, AreLongest, script_pieces, script_limits, heard_from, text_of}
 use Rattle.nz_spec.specs.Run.{solve_limit}
 use Rattle.nz_spec.specs.Script.{start}
 use Rattle.nz_spec.specs.Transcript.{Kept, IsTranscript, AreRight, texts_of}
+use Rattle.nz_spec.specs.Texts.{Sample, AreHeard, comment_samples, string_samples, quoted_samples, word_samples, group_samples}
+use Rattle.nz_spec.specs.Reading.{hear_on, start as reading_start}
+use Rattle.nz_spec.proofs.Readings.{hears}
 use Rattle.nz_spec.specs.Example.{example_script, example_transcript, example_output}
 
 -- words, with a space between neighbours
@@ -55,3 +58,27 @@ example_is_transcript =
           };
       whole = inl refl;
     }
+
+-- ---- Short texts
+
+all_heard : (ss : List Sample) → map (λ (s : Sample). hear_on script_limits reading_start s.text) ss ≡ map (λ (s : Sample). s.heard) ss → AreHeard ss
+all_heard [] e = tt
+all_heard (s ∷ ss) e =
+    let first : hear_on script_limits reading_start s.text ≡ s.heard = cc in
+    let others : map (λ (s : Sample). hear_on script_limits reading_start s.text) ss ≡ map (λ (s : Sample). s.heard) ss = cc in
+    (subst (Hears script_limits s.text) first (hears script_limits s.text), all_heard ss others)
+
+pub comments_heard : AreHeard comment_samples
+comments_heard = all_heard comment_samples refl
+
+pub strings_heard : AreHeard string_samples
+strings_heard = all_heard string_samples refl
+
+pub quoted_heard : AreHeard quoted_samples
+quoted_heard = all_heard quoted_samples refl
+
+pub words_heard : AreHeard word_samples
+words_heard = all_heard word_samples refl
+
+pub groups_heard : AreHeard group_samples
+groups_heard = all_heard group_samples refl
