@@ -3,7 +3,7 @@ use Rattle.std.proofs.Common.{◌≡◌, ℕ, ◌+◌, ◌-◌, ◌≤◌, ◌||
 use Rattle.std.proofs.lemmas.Bool.{eqb-true}
 use Rattle.std.proofs.lemmas.List.{append-nil}
 use Rattle.nz_spec.specs.Tree.{Token, Tree, leaf, node, Trees, no_trees, trees}
-use Rattle.nz_spec.specs.Text.{ByteClass, blank_byte, left_byte, right_byte, comment_byte, quote_byte, bar_byte, word_byte, class_of, is_line_end, is_quote, is_bar, AllOfClass, BeginsWord, HasNone, EndsOrBegins, Filler, gap, comment, word, string, quoted, Unfinished, open_string, open_quoted, Piece, closing, filler, unfinished, with_quotes_doubled, spelling_of, unfinished_spelling, text_of, StandsBefore, AreLongest, Group, single, nest, Groups, no_groups, groups, group_pieces, groups_pieces, Thing, loose, unmatched, command, Open, open_pieces, script_pieces, is_blank, token_of, tree_onto, trees_of, is_bad_filler, is_bad_group, are_bad_groups, group_depth, groups_depth, Limits, unclosed, Heard, thing_length, command_what, heard_thing, heard_open, heard_from, Hears, OneReading}
+use Rattle.nz_spec.specs.Text.{ByteClass, blank_byte, word_byte, class_of, is_line_end, is_quote, is_bar, AllOfClass, BeginsWord, HasNone, EndsOrBegins, Filler, gap, comment, word, string, quoted, Unfinished, open_string, open_quoted, Piece, closing, filler, unfinished, with_quotes_doubled, spelling_of, unfinished_spelling, text_of, StandsBefore, AreLongest, Group, single, nest, Groups, no_groups, groups, group_pieces, groups_pieces, Thing, loose, unmatched, command, Open, open_pieces, script_pieces, is_blank, token_of, tree_onto, trees_of, is_bad_filler, is_bad_group, are_bad_groups, group_depth, groups_depth, Limits, unclosed, Heard, thing_length, command_what, heard_thing, heard_open, heard_from, Hears, OneReading}
 use Rattle.nz_spec.specs.Reading.{trees_from, Part, no_part, in_comment, in_word, in_string, after_quote, in_quoted, Reading, start, trees_of_filler, refused, what_of, taken_by, told_token_by, begins_at, goes_on, next_outside, told_outside, next_in_word, told_in_word, hear_on}
 use Rattle.nz_spec.proofs.Pieces.{line_end-blank, things_in, open_in, script-spelled, script-longest}
 
@@ -53,20 +53,9 @@ abbrev hear_taken : Limits → Filler → ℕ → ℕ → List (List Tree) → B
 hear_taken limits x a f ls bad d rest = told_token_by ls (at_parts a f no_part ls bad d) ++ hear_on limits (taken_by x ls (at_parts a f no_part ls bad d)) rest
 
 word-ends_at : (limits : Limits) (w : List ℕ) (a f : ℕ) (ls : List (List Tree)) (bad : Bool) (d : ℕ) (k : ByteClass) (x : ℕ) (xs : List ℕ) → (k ≡ word_byte → ⊥) → told_in_word k limits w (at_parts a f (in_word w) ls bad d) ++ hear_on limits (next_in_word k w x (at_parts a f (in_word w) ls bad d)) xs ≡ told_token_by ls (at_parts a f no_part ls bad d) ++ (told_outside k limits (taken_by (word w) ls (at_parts a f no_part ls bad d)) ++ hear_on limits (next_outside k x (taken_by (word w) ls (at_parts a f no_part ls bad d))) xs)
-word-ends_at limits w a f [] bad d blank_byte x xs h = refl
-word-ends_at limits w a f [] bad d left_byte x xs h = refl
-word-ends_at limits w a f [] bad d right_byte x xs h = refl
-word-ends_at limits w a f [] bad d comment_byte x xs h = refl
-word-ends_at limits w a f [] bad d quote_byte x xs h = refl
-word-ends_at limits w a f [] bad d bar_byte x xs h = refl
-word-ends_at limits w a f [] bad d word_byte x xs h = absurd (h refl)
-word-ends_at limits w a f (l ∷ ls) bad d blank_byte x xs h = refl
-word-ends_at limits w a f (l ∷ ls) bad d left_byte x xs h = refl
-word-ends_at limits w a f (l ∷ ls) bad d right_byte x xs h = refl
-word-ends_at limits w a f (l ∷ ls) bad d comment_byte x xs h = refl
-word-ends_at limits w a f (l ∷ ls) bad d quote_byte x xs h = refl
-word-ends_at limits w a f (l ∷ ls) bad d bar_byte x xs h = refl
-word-ends_at limits w a f (l ∷ ls) bad d word_byte x xs h = absurd (h refl)
+word-ends_at limits w a f ls bad d word_byte x xs h = absurd (h refl)
+word-ends_at limits w a f [] bad d k x xs h = refl
+word-ends_at limits w a f (l ∷ ls) bad d k x xs h = refl
 
 -- a word ends where no word's byte follows
 word-ends : (limits : Limits) (w : List ℕ) (a f : ℕ) (ls : List (List Tree)) (bad : Bool) (d : ℕ) (rest : List ℕ) → (BeginsWord rest → ⊥) → hear_on limits (at_parts a f (in_word w) ls bad d) rest ≡ hear_taken limits (word w) a f ls bad d rest
@@ -76,43 +65,45 @@ word-ends limits w a f [] bad d (x ∷ xs) h = word-ends_at limits w a f [] bad 
 word-ends limits w a f (l ∷ ls) bad d (x ∷ xs) h = word-ends_at limits w a f (l ∷ ls) bad d (class_of x) x xs h
 
 -- one byte of a string literal's text, by whether it is a quote
-hear-letter : (limits : Limits) (b : ℕ) (v w : List ℕ) (a f : ℕ) (ls : List (List Tree)) (bad : Bool) (d : ℕ) (rest : List ℕ) (t : Bool) → is_quote b ≡ t → hear_on limits (at_parts a f (in_string v) ls bad d) ((if t then 34 ∷ 34 ∷ w else b ∷ w) ++ rest) ≡ hear_on limits (at_parts (a + length (if t then 34 ∷ 34 ∷ [] else b ∷ [])) f (in_string (v ++ b ∷ [])) ls bad d) (w ++ rest)
-hear-letter limits b v w a f ls bad d rest true h =
+hear-text_byte : (limits : Limits) (b : ℕ) (v w : List ℕ) (a f : ℕ) (ls : List (List Tree)) (bad : Bool) (d : ℕ) (rest : List ℕ) (t : Bool) → is_quote b ≡ t → hear_on limits (at_parts a f (in_string v) ls bad d) ((if t then 34 ∷ 34 ∷ w else b ∷ w) ++ rest) ≡ hear_on limits (at_parts (a + length (if t then 34 ∷ 34 ∷ [] else b ∷ [])) f (in_string (v ++ b ∷ [])) ls bad d) (w ++ rest)
+hear-text_byte limits b v w a f ls bad d rest true h =
     same_place limits f (in_string (v ++ 34 ∷ [])) ls bad d (w ++ rest) _ _ (omega arith)
     ∙ ap (λ k. hear_on limits (at_parts (a + 2) f (in_string (v ++ k ∷ [])) ls bad d) (w ++ rest)) (sym (eqb-true b 34 h))
-hear-letter limits b v w a f ls bad d rest false h =
+hear-text_byte limits b v w a f ls bad d rest false h =
     ap (λ (t : Bool). hear_on limits (goes_on (if t then after_quote v else in_string (v ++ b ∷ [])) (at_parts a f (in_string v) ls bad d)) (w ++ rest)) h
 
-letter-length : (b : ℕ) (w : List ℕ) (t : Bool) → length (if t then 34 ∷ 34 ∷ [] else b ∷ []) + length w ≡ length (if t then 34 ∷ 34 ∷ w else b ∷ w)
-letter-length b w true = omega arith
-letter-length b w false = omega arith
+text_byte-length : (b : ℕ) (w : List ℕ) (t : Bool) → length (if t then 34 ∷ 34 ∷ [] else b ∷ []) + length w ≡ length (if t then 34 ∷ 34 ∷ w else b ∷ w)
+text_byte-length b w true = omega arith
+text_byte-length b w false = omega arith
 
 hear-string : (limits : Limits) (w v : List ℕ) (a f : ℕ) (ls : List (List Tree)) (bad : Bool) (d : ℕ) (rest : List ℕ) → hear_on limits (at_parts a f (in_string v) ls bad d) (with_quotes_doubled w ++ rest) ≡ hear_on limits (at_parts (a + length (with_quotes_doubled w)) f (in_string (v ++ w)) ls bad d) rest
 hear-string limits [] v a f ls bad d rest = rw (add-zero, append-nil v) refl
 hear-string limits (b ∷ w) v a f ls bad d rest =
-    hear-letter limits b v (with_quotes_doubled w) a f ls bad d rest (is_quote b) refl
+    hear-text_byte limits b v (with_quotes_doubled w) a f ls bad d rest (is_quote b) refl
     ∙ hear-string limits w (v ++ b ∷ []) (a + length (if is_quote b then 34 ∷ 34 ∷ [] else b ∷ [])) f ls bad d rest
-    ∙ same_place limits f (in_string ((v ++ b ∷ []) ++ w)) ls bad d rest _ _ (omega (arith, letter-length b (with_quotes_doubled w) (is_quote b)))
+    ∙ same_place limits f (in_string ((v ++ b ∷ []) ++ w)) ls bad d rest _ _ (omega (arith, text_byte-length b (with_quotes_doubled w) (is_quote b)))
     ∙ ap (λ k. hear_on limits (at_parts (a + length (with_quotes_doubled (b ∷ w))) f (in_string k) ls bad d) rest) (append_assoc v (b ∷ []) w)
 
 -- a string literal ends where no quote follows its last quote
 string-ends : (limits : Limits) (w : List ℕ) (a f : ℕ) (ls : List (List Tree)) (bad : Bool) (d : ℕ) (rest : List ℕ) → StandsBefore (filler (string w)) rest → hear_on limits (at_parts a f (after_quote w) ls bad d) rest ≡ hear_taken limits (string w) a f ls bad d rest
 string-ends limits w a f [] bad d [] h = refl
 string-ends limits w a f (l ∷ ls) bad d [] h = refl
-string-ends limits w a f [] bad d (x ∷ xs) h = ap (λ (t : Bool). (if t then [] else refused f a ∷ told_outside (class_of x) limits (at_parts a f no_part [] bad d)) ++ hear_on limits (if t then goes_on (in_string (w ++ x ∷ [])) (at_parts a f (after_quote w) [] bad d) else next_outside (class_of x) x (at_parts a f no_part [] bad d)) xs) h
+string-ends limits w a f [] bad d (x ∷ xs) h =
+    let s : Reading = at_parts a f no_part [] bad d in
+    ap (λ (t : Bool). (if t then [] else refused f a ∷ told_outside (class_of x) limits s) ++ hear_on limits (if t then goes_on (in_string (w ++ x ∷ [])) s else next_outside (class_of x) x s) xs) h
 string-ends limits w a f (l ∷ ls) bad d (x ∷ xs) h =
     let s : Reading = taken_by (string w) (l ∷ ls) (at_parts a f no_part (l ∷ ls) bad d) in
-    ap (λ (t : Bool). (if t then [] else told_outside (class_of x) limits s) ++ hear_on limits (if t then goes_on (in_string (w ++ x ∷ [])) (at_parts a f (after_quote w) (l ∷ ls) bad d) else next_outside (class_of x) x s) xs) h
+    ap (λ (t : Bool). (if t then [] else told_outside (class_of x) limits s) ++ hear_on limits (if t then goes_on (in_string (w ++ x ∷ [])) (at_parts a f no_part (l ∷ ls) bad d) else next_outside (class_of x) x s) xs) h
 
 -- one byte of a quoted symbol's name
-hear-letter_of_name : (limits : Limits) (b : ℕ) (v w : List ℕ) (a f : ℕ) (ls : List (List Tree)) (bad : Bool) (d : ℕ) (rest : List ℕ) → is_bar b ≡ false → hear_on limits (at_parts a f (in_quoted v) ls bad d) (b ∷ w ++ rest) ≡ hear_on limits (at_parts (a + 1) f (in_quoted (v ++ b ∷ [])) ls bad d) (w ++ rest)
-hear-letter_of_name limits b v w a f ls bad d rest h =
+hear-name_byte : (limits : Limits) (b : ℕ) (v w : List ℕ) (a f : ℕ) (ls : List (List Tree)) (bad : Bool) (d : ℕ) (rest : List ℕ) → is_bar b ≡ false → hear_on limits (at_parts a f (in_quoted v) ls bad d) (b ∷ w ++ rest) ≡ hear_on limits (at_parts (a + 1) f (in_quoted (v ++ b ∷ [])) ls bad d) (w ++ rest)
+hear-name_byte limits b v w a f ls bad d rest h =
     ap (λ (t : Bool). (if t then told_token_by ls (at_parts (a + 1) f (in_quoted v) ls bad d) else []) ++ hear_on limits (if t then taken_by (quoted v) ls (at_parts (a + 1) f (in_quoted v) ls bad d) else goes_on (in_quoted (v ++ b ∷ [])) (at_parts a f (in_quoted v) ls bad d)) (w ++ rest)) h
 
 hear-quoted : (limits : Limits) (w v : List ℕ) (a f : ℕ) (ls : List (List Tree)) (bad : Bool) (d : ℕ) (rest : List ℕ) → HasNone is_bar w → hear_on limits (at_parts a f (in_quoted v) ls bad d) (w ++ rest) ≡ hear_on limits (at_parts (a + length w) f (in_quoted (v ++ w)) ls bad d) rest
 hear-quoted limits [] v a f ls bad d rest h = rw (add-zero, append-nil v) refl
 hear-quoted limits (b ∷ w) v a f ls bad d rest h =
-    hear-letter_of_name limits b v w a f ls bad d rest h.0
+    hear-name_byte limits b v w a f ls bad d rest h.0
     ∙ hear-quoted limits w (v ++ b ∷ []) (a + 1) f ls bad d rest h.1
     ∙ same_place limits f (in_quoted ((v ++ b ∷ []) ++ w)) ls bad d rest _ _ (omega arith)
     ∙ ap (λ k. hear_on limits (at_parts (a + suc (length w)) f (in_quoted k) ls bad d) rest) (append_assoc v (b ∷ []) w)
@@ -154,10 +145,7 @@ token-heard limits (quoted w) rest a f ls bad d t h =
 -- where the thing begins that was heard last
 abbrev from_after : Filler → ℕ → ℕ → ℕ
 from_after (gap b) a f = f
-from_after (comment w) a f = a
-from_after (word w) a f = a
-from_after (string w) a f = a
-from_after (quoted w) a f = a
+from_after x a f = a
 
 -- outside any command
 loose-heard : (limits : Limits) (x : Filler) (rest : List ℕ) (a f : ℕ) (bad : Bool) (d : ℕ) → StandsBefore (filler x) rest → hear_on limits (at_parts a f no_part [] bad d) (spelling_of x ++ rest) ≡ heard_thing limits a (loose x) ++ hear_on limits (at_parts (a + length (spelling_of x)) (from_after x a f) no_part [] bad d) rest

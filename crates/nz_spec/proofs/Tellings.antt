@@ -44,21 +44,13 @@ none_open front others rest x e h = (rest, sym (append-nil front) ∙ ap (λ m. 
 
 -- A byte that makes what is open longer: after a quote that may be the last of a literal it is a second quote.
 abbrev more_of : Part → List ℕ
-more_of no_part = 97 ∷ []
-more_of in_comment = 97 ∷ []
-more_of (in_word w) = 97 ∷ []
-more_of (in_string w) = 97 ∷ []
 more_of (after_quote w) = 34 ∷ []
-more_of (in_quoted w) = 97 ∷ []
+more_of p = 97 ∷ []
 
 -- a command that is open stays so with that byte
 longer_in : (limits : Limits) (l : List Tree) (ls : List (List Tree)) (s : Reading) → s.levels ≡ l ∷ ls → (p : Part) → s.part ≡ p → hear_on limits s (more_of p) ≡ record { from = s.from; to = s.at + 1; what = unclosed } ∷ []
-longer_in limits l ls s hl no_part hp = rw (hp, hl) refl
-longer_in limits l ls s hl in_comment hp = rw (hp, hl) refl
-longer_in limits l ls s hl (in_word w) hp = rw (hp, hl) refl
-longer_in limits l ls s hl (in_string w) hp = rw (hp, hl) refl
 longer_in limits l ls s hl (after_quote w) hp = rw (hp, hl) refl
-longer_in limits l ls s hl (in_quoted w) hp = rw (hp, hl) refl
+longer_in limits l ls s hl p hp = rw (hp, hl) refl
 
 open_longest : (limits : Limits) (p : Part) (ls : List (List Tree)) (s : Reading) (front others rest rest' : List Heard) → s.part ≡ p → s.levels ≡ ls → front ++ told_open s ≡ others ++ rest → front ++ hear_on limits s (more_of p) ≡ others ++ rest' → (r : List Heard) × (front ≡ others ++ r)
 open_longest limits no_part [] s front others rest rest' hp hl h k = none_open front others rest (told_open s) (rw (hl, hp) refl) h
