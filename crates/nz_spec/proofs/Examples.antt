@@ -1,11 +1,11 @@
 -- The examples are computed from the definitions: the script by its things, the short texts by reading them.
 use Rattle.std.proofs.Common.{◌≡◌, ℕ, List, [], ◌∷◌, None, codes, refl, subst, inl, map, rules}
 use Rattle.nz_spec.specs.Text.{Groups, no_groups, groups, single, gap, word, Thing, loose, command, Open}
-use Rattle.nz_spec.specs.Text.{Hears, AreLongest, script_pieces, script_limits, heard_from, text_of}
+use Rattle.nz_spec.specs.Text.{Limits, Hears, AreLongest, script_pieces, script_limits, heard_from, text_of}
 use Rattle.nz_spec.specs.Run.{solve_limit}
 use Rattle.nz_spec.specs.Script.{start}
 use Rattle.nz_spec.specs.Transcript.{Kept, IsTranscript, AreRight, texts_of}
-use Rattle.nz_spec.specs.Texts.{Sample, AreHeard, comment_samples, string_samples, quoted_samples, word_samples, group_samples}
+use Rattle.nz_spec.specs.Texts.{Sample, AreHeard, comment_samples, string_samples, quoted_samples, word_samples, group_samples, narrow_limits, limit_samples}
 use Rattle.nz_spec.specs.Reading.{hear_on, start as reading_start}
 use Rattle.nz_spec.proofs.Readings.{hears}
 use Rattle.nz_spec.specs.Example.{example_script, example_transcript, example_output}
@@ -61,24 +61,27 @@ example_is_transcript =
 
 -- ---- Short texts
 
-all_heard : (ss : List Sample) → map (λ (s : Sample). hear_on script_limits reading_start s.text) ss ≡ map (λ (s : Sample). s.heard) ss → AreHeard ss
-all_heard [] e = tt
-all_heard (s ∷ ss) e =
-    let first : hear_on script_limits reading_start s.text ≡ s.heard = cc in
-    let others : map (λ (s : Sample). hear_on script_limits reading_start s.text) ss ≡ map (λ (s : Sample). s.heard) ss = cc in
-    (subst (Hears script_limits s.text) first (hears script_limits s.text), all_heard ss others)
+all_heard : (limits : Limits) (ss : List Sample) → map (λ (s : Sample). hear_on limits reading_start s.text) ss ≡ map (λ (s : Sample). s.heard) ss → AreHeard limits ss
+all_heard limits [] e = tt
+all_heard limits (s ∷ ss) e =
+    let first : hear_on limits reading_start s.text ≡ s.heard = cc in
+    let others : map (λ (s : Sample). hear_on limits reading_start s.text) ss ≡ map (λ (s : Sample). s.heard) ss = cc in
+    (subst (Hears limits s.text) first (hears limits s.text), all_heard limits ss others)
 
-pub comments_heard : AreHeard comment_samples
-comments_heard = all_heard comment_samples refl
+pub comments_heard : AreHeard script_limits comment_samples
+comments_heard = all_heard script_limits comment_samples refl
 
-pub strings_heard : AreHeard string_samples
-strings_heard = all_heard string_samples refl
+pub strings_heard : AreHeard script_limits string_samples
+strings_heard = all_heard script_limits string_samples refl
 
-pub quoted_heard : AreHeard quoted_samples
-quoted_heard = all_heard quoted_samples refl
+pub quoted_heard : AreHeard script_limits quoted_samples
+quoted_heard = all_heard script_limits quoted_samples refl
 
-pub words_heard : AreHeard word_samples
-words_heard = all_heard word_samples refl
+pub words_heard : AreHeard script_limits word_samples
+words_heard = all_heard script_limits word_samples refl
 
-pub groups_heard : AreHeard group_samples
-groups_heard = all_heard group_samples refl
+pub groups_heard : AreHeard script_limits group_samples
+groups_heard = all_heard script_limits group_samples refl
+
+pub limits_heard : AreHeard narrow_limits limit_samples
+limits_heard = all_heard narrow_limits limit_samples refl

@@ -1,7 +1,7 @@
 -- Worked examples of the lexicon: short texts, and what is heard in each.
 use Rattle.std.specs.Prelude.{ℕ, ⊤, List, [], ◌∷◌, ◌++◌, codes}
 use Rattle.nz_spec.specs.Tree.{Token, symbol, keyword, numeral, decimal, hexadecimal, binary, literal, leaf, node, Trees, no_trees, trees}
-use Rattle.nz_spec.specs.Text.{Heard, What, whole, faulty, unclosed, Hears, script_limits}
+use Rattle.nz_spec.specs.Text.{Heard, What, whole, faulty, unclosed, Limits, Hears}
 
 -- a text, and what is heard in it
 pub record Sample : Type 0 where
@@ -70,7 +70,20 @@ group_samples =
     ∷ hears_as (codes "(a(1a)|b") (heard_as 0 8 unclosed ∷ [])
     ∷ []
 
+-- two lists deep, eight bytes a command
+abbrev pub narrow_limits : Limits
+narrow_limits = record { depth = 2; bytes = 8 }
+
+-- Under narrow limits: a bad token is told before a limit, and what never closes is told as that alone.
+abbrev pub limit_samples : List Sample
+limit_samples =
+    hears_as (codes "(a (b))(()())") (heard_as 0 7 (whole (node (trees (leaf (symbol (codes "a"))) (trees (node (leaves (symbol (codes "b") ∷ []))) no_trees)))) ∷ heard_as 7 13 (whole (node (trees (node no_trees) (trees (node no_trees) no_trees)))) ∷ [])
+    ∷ hears_as (codes "((()))(a ;bcd)\n)") (heard_as 0 6 (faulty 6) ∷ heard_as 6 16 (faulty 6) ∷ [])
+    ∷ hears_as (codes "(abcdef) (abcdefg)") (heard_as 0 8 (list_of (symbol (codes "abcdef") ∷ [])) ∷ heard_as 9 18 (faulty 6) ∷ [])
+    ∷ hears_as (codes "(((1a)))((()") (heard_as 0 8 (faulty 1) ∷ heard_as 8 12 unclosed ∷ [])
+    ∷ []
+
 -- In each of the texts just that is heard which stands with it.
-abbrev pub AreHeard : List Sample → Type 0
-AreHeard [] = ⊤
-AreHeard (s ∷ ss) = Hears script_limits s.text s.heard × AreHeard ss
+abbrev pub AreHeard : Limits → List Sample → Type 0
+AreHeard limits [] = ⊤
+AreHeard limits (s ∷ ss) = Hears limits s.text s.heard × AreHeard limits ss

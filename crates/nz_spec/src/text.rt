@@ -1,6 +1,6 @@
 //! Laws of texts.
-ghost use Rattle.nz_spec.specs.Text.{OneReading};
-ghost use Rattle.nz_spec.specs.Texts.{AreHeard, comment_samples, string_samples, quoted_samples, word_samples, group_samples};
+ghost use Rattle.nz_spec.specs.Text.{OneReading, script_limits};
+ghost use Rattle.nz_spec.specs.Texts.{AreHeard, comment_samples, string_samples, quoted_samples, word_samples, group_samples, narrow_limits, limit_samples};
 ghost use Rattle.nz_spec.specs.Told.{ReadingIsHeard, ReadingTellsFirst};
 
 /// Each text is heard in exactly one way.
@@ -20,9 +20,10 @@ pub fn reading_tells_first()
 
 /// What is heard in short texts that show each part of the lexicon.
 pub fn worked_texts()
-    ensures comments { AreHeard comment_samples }
-    ensures strings { AreHeard string_samples }
-    ensures quoted_symbols { AreHeard quoted_samples }
-    ensures words { AreHeard word_samples }
-    ensures groups { AreHeard group_samples }
+    ensures comments { AreHeard script_limits comment_samples }
+    ensures strings { AreHeard script_limits string_samples }
+    ensures quoted_symbols { AreHeard script_limits quoted_samples }
+    ensures words { AreHeard script_limits word_samples }
+    ensures groups { AreHeard script_limits group_samples }
+    ensures limited { AreHeard narrow_limits limit_samples }
 {}
