@@ -4,14 +4,15 @@ ghost use Rattle.std.specs.Io.KnownBytes.{Keeps};
 ghost use Rattle.std.specs.List.{list_any};
 ghost use Rattle.nz_spec.specs.Outside.{HasRisen};
 ghost use Rattle.nz_spec.specs.Run.{IsRun, TakesSolve, TookMany, is_error, is_memory_error, solve_limit, status_of};
-ghost use Rattle.nz_session.specs.Journals.{journal_of};
-ghost use Rattle.nz_session.specs.Replies.{all_kept, kept_of};
+ghost use Rattle.nz_reply.specs.Journals.{journal_of};
+ghost use Rattle.nz_reply.specs.Replies.{all_kept, kept_of};
 ghost use Rattle.nz_session.specs.Serve.{Serves, kept_by};
-ghost use Rattle.nz_app.specs.Ending.{Ends};
+ghost use Rattle.nz_app.specs.Ending.{Ends, HasNotBegun};
 ghost use Rattle.nz_app.specs.Reading.{IsReading};
 
 use nz_base::{Memory, Sink, Source};
-use nz_session::{Decide, Fed, Journal, Kept, OUT_OF_MEMORY, Reply, Session, Trial};
+use nz_reply::{Journal, Kept, OUT_OF_MEMORY, Reply};
+use nz_session::{Decide, Fed, Session, Trial};
 use nz_term::Terms;
 use std::alloc::Global;
 
@@ -239,6 +240,7 @@ pub fn run<S: Source, K: Sink>(alloc: Global, words: &[String], input: &mut S, o
 
     // Each status has its cause.
     ensures status { Ends result.status ⊎ (result.status ≡ status_of result.cut (journal_of result.journal)) }
+    ensures memory { result.status ≡ MEMORY → HasNotBegun (S.left input.old) (S.left input.new) (K.held out.old) (K.held out.new) (journal_of result.journal) ⊎ (result.status ≡ status_of result.cut (journal_of result.journal)) }
     ensures usage { (result.status ≡ USAGE) ↔ (TakesSolve (map string_bytes words.now) → ⊥) }
     ensures untouched_input { result.status ≡ USAGE → Keeps (S.left input.old) (S.left input.new) }
     ensures untouched_output { result.status ≡ USAGE → Keeps (K.held out.old) (K.held out.new) }

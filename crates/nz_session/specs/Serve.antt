@@ -1,13 +1,13 @@
 -- What a session has read, kept and answered.
-use Rattle.std.specs.Prelude.{◌≡◌, ℕ, ◌+◌, ◌^◌, ◌<◌, Bool, false, List, [], ◌∷◌, ◌++◌, length, map, Option, ◌⊎◌}
+use Rattle.std.specs.Prelude.{◌≡◌, ℕ, false, List, [], ◌∷◌, ◌++◌, map, Option}
 use Rattle.std.specs.Io.KnownBytes.{Appends}
 use Rattle.nz_spec.specs.Text.{Heard, script_limits}
-use Rattle.nz_spec.specs.Script.{State, start}
+use Rattle.nz_spec.specs.Script.{start}
 use Rattle.nz_spec.specs.Reply.{reply_text, error}
 use Rattle.nz_spec.specs.Transcript.{Kept, AreRight, GoesOn, EndsByExit, state_after, texts_of, IsFrontOf, IsTranscript}
 use Rattle.nz_sexpr.specs.Fits.{Fits, owes}
 use Rattle.nz_session.specs.Desk.{Holds}
-use Rattle.nz_session.specs.Replies.{all_kept}
+use Rattle.nz_reply.specs.Replies.{all_kept}
 use Rattle.nz_session.specs.declared.desk.Desk.{Desk}
 use Rattle.nz_session.specs.declared.session.Session.{Session}
 
