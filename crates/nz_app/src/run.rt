@@ -7,7 +7,7 @@ ghost use Rattle.nz_spec.specs.Run.{IsRun, TakesSolve, TookMany, is_error, is_me
 ghost use Rattle.nz_reply.specs.Journals.{journal_of};
 ghost use Rattle.nz_reply.specs.Replies.{all_kept, kept_of};
 ghost use Rattle.nz_session.specs.Serve.{Serves, kept_by};
-ghost use Rattle.nz_app.specs.Ending.{Ends};
+ghost use Rattle.nz_app.specs.Ending.{Ends, HasNotBegun};
 ghost use Rattle.nz_app.specs.Reading.{IsReading};
 
 use nz_base::{Memory, Sink, Source};
@@ -240,6 +240,7 @@ pub fn run<S: Source, K: Sink>(alloc: Global, words: &[String], input: &mut S, o
 
     // Each status has its cause.
     ensures status { Ends result.status ⊎ (result.status ≡ status_of result.cut (journal_of result.journal)) }
+    ensures memory { result.status ≡ MEMORY → HasNotBegun (S.left input.old) (S.left input.new) (K.held out.old) (K.held out.new) (journal_of result.journal) ⊎ (result.status ≡ status_of result.cut (journal_of result.journal)) }
     ensures usage { (result.status ≡ USAGE) ↔ (TakesSolve (map string_bytes words.now) → ⊥) }
     ensures untouched_input { result.status ≡ USAGE → Keeps (S.left input.old) (S.left input.new) }
     ensures untouched_output { result.status ≡ USAGE → Keeps (K.held out.old) (K.held out.new) }
