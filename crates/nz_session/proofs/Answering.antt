@@ -227,6 +227,8 @@ no_declaration s (trees (leaf (symbol name)) no_trees) e = cc
 no_declaration s (trees (leaf (symbol name)) (trees (node b) us)) e = cc
 no_declaration s (trees (leaf (symbol name)) (trees (leaf (symbol sort)) no_trees)) e = none_declared _ _ e
 no_declaration s (trees (leaf (symbol name)) (trees (leaf (symbol sort)) (trees u us))) e = cc
+no_declaration s (trees (leaf (symbol name)) (trees (leaf t) us)) e = cc
+no_declaration s (trees (leaf t) us) e = cc
 
 none_asserted : (o : Option Term) → option_map assert_term o ≡ Some get_model → ⊥
 none_asserted None e = cc
@@ -269,3 +271,4 @@ model_is_there s (leaf w) e = cc
 model_is_there s (node no_trees) e = cc
 model_is_there s (node (trees (node inner) ts)) e = cc
 model_is_there s (node (trees (leaf (symbol name)) ts)) e = model_named s name ts e
+model_is_there s (node (trees (leaf t) ts)) e = cc

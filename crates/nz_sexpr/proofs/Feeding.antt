@@ -1,12 +1,12 @@
 -- A reader that is fed bytes: what was read and told goes on with them.
-use Rattle.std.proofs.Common.{◌≡◌, ℕ, ◌+◌, ◌<◌, ◌^◌, List, [], ◌∷◌, ◌++◌, length, Option, Some, None, IsNone, is_some, false, get_or, take, drop, refl, sym, ◌∙◌, ap, subst, arith, append_assoc, append-nil, ◌≤◌, length-append, length-take, length-drop, ◌-◌, inl, inr}
+use Rattle.std.proofs.Common.{◌≡◌, ℕ, ◌+◌, ◌<◌, ◌^◌, List, [], ◌∷◌, ◌++◌, length, Option, Some, None, IsNone, is_some, true, false, if◌then◌else◌, get_or, take, drop, refl, sym, ◌∙◌, ap, subst, arith, append_assoc, append-nil, ◌≤◌, length-append, length-take, length-drop, ◌-◌, inl, inr}
 use Rattle.std.proofs.lemmas.Bool.{cases_lt}
 use Rattle.std.proofs.lemmas.Grind.{common_steps}
 use Rattle.std.proofs.Math.Seq.{take-add}
 use Rattle.nz_spec.specs.Tree.{Tree}
-use Rattle.nz_spec.specs.Text.{Limits, Heard, ByteClass, word_byte, blank_byte, left_byte, right_byte, mark_byte, class_of, AllOfClass}
+use Rattle.nz_spec.specs.Text.{Limits, Heard, ByteClass, word_byte, blank_byte, left_byte, right_byte, comment_byte, quote_byte, bar_byte, class_of, is_quote, is_bar, Filler, word, string, quoted}
 use Rattle.nz_spec.specs.Kept.{AreToldAs}
-use Rattle.nz_spec.specs.Reading.{Reading, start, settled, settled_by, marked_by, opened_by, next, next_by, told_at, told_by, read_on, told_on}
+use Rattle.nz_spec.specs.Reading.{Part, no_part, in_comment, in_word, in_string, after_quote, in_quoted, Reading, start, taken, taken_by, opened_by, passed, goes_on as part_goes_on, next, next_in, next_in_word, next_outside, told_at, read_on, told_on}
 use Rattle.nz_sexpr.specs.Matches.{GoesOnBy, EndsWithin, told}
 use Rattle.nz_sexpr.specs.Fits.{Fits}
 use Rattle.nz_sexpr.specs.declared.reader.Reader.{Reader}
@@ -22,36 +22,48 @@ told_on-append limits s (x ∷ xs) ys =
     ap (λ k. told_at limits x s ++ k) (told_on-append limits (next x s) xs ys)
     ∙ sym (append_assoc (told_at limits x s) (told_on limits (next x s) xs) (told_on limits (read_on (next x s) xs) ys))
 
--- nothing is told inside a word
-pub told_on-words : (limits : Limits) (s : Reading) (run : List ℕ) → AllOfClass word_byte run → told_on limits s run ≡ []
-told_on-words limits s [] h = refl
-told_on-words limits s (b ∷ run) h = ap (λ k. told_by k limits s ++ told_on limits (next b s) run) h.0 ∙ told_on-words limits (next b s) run h.1
-
 -- ---- Bytes are counted
 
-settled-at : (w : List ℕ) (ls : List (List Tree)) (s : Reading) → (settled_by w ls s).at ≡ s.at
-settled-at [] ls s = refl
-settled-at (b ∷ w) [] s = refl
-settled-at (b ∷ w) (l ∷ ls) s = refl
+taken-at : (f : Filler) (ls : List (List Tree)) (s : Reading) → (taken_by f ls s).at ≡ s.at
+taken-at f [] s = refl
+taken-at f (l ∷ ls) s = refl
 
 opened-at : (ls : List (List Tree)) (s : Reading) → (opened_by ls s).at ≡ s.at + 1
 opened-at [] s = refl
 opened-at (l ∷ ls) s = refl
 
-marked-at : (ls : List (List Tree)) (s : Reading) → (marked_by ls s).at ≡ s.at + 1
-marked-at [] s = refl
-marked-at (l ∷ ls) s = refl
+outside-at : (c : ByteClass) (b : ℕ) (s : Reading) → (next_outside c b s).at ≡ s.at + 1
+outside-at blank_byte b s = refl
+outside-at left_byte b s = opened-at s.levels s
+outside-at right_byte b s = refl
+outside-at comment_byte b s = refl
+outside-at quote_byte b s = refl
+outside-at bar_byte b s = refl
+outside-at word_byte b s = refl
 
-next-at : (c : ByteClass) (b : ℕ) (s : Reading) → (next_by c b s).at ≡ s.at + 1
-next-at blank_byte b s = ap (λ k. k + 1) (settled-at s.word s.levels s)
-next-at left_byte b s = opened-at (settled s).levels (settled s) ∙ ap (λ k. k + 1) (settled-at s.word s.levels s)
-next-at right_byte b s = ap (λ k. k + 1) (settled-at s.word s.levels s)
-next-at mark_byte b s = marked-at (settled s).levels (settled s) ∙ ap (λ k. k + 1) (settled-at s.word s.levels s)
-next-at word_byte b s = refl
+after-at : (c : ByteClass) (b : ℕ) (f : Filler) (s : Reading) → (next_outside c b (taken f s)).at ≡ s.at + 1
+after-at c b f s = outside-at c b (taken f s) ∙ ap (λ k. k + 1) (taken-at f s.levels s)
+
+word-at : (c : ByteClass) (w : List ℕ) (b : ℕ) (s : Reading) → (next_in_word c w b s).at ≡ s.at + 1
+word-at blank_byte w b s = after-at blank_byte b (word w) s
+word-at left_byte w b s = after-at left_byte b (word w) s
+word-at right_byte w b s = after-at right_byte b (word w) s
+word-at comment_byte w b s = after-at comment_byte b (word w) s
+word-at quote_byte w b s = after-at quote_byte b (word w) s
+word-at bar_byte w b s = after-at bar_byte b (word w) s
+word-at word_byte w b s = refl
+
+next-at : (p : Part) (b : ℕ) (s : Reading) → (next_in p b s).at ≡ s.at + 1
+next-at no_part b s = outside-at (class_of b) b s
+next-at in_comment b s = refl
+next-at (in_word w) b s = word-at (class_of b) w b s
+next-at (in_string w) b s = refl
+next-at (after_quote w) b s = elim (is_quote b) as (λ t. (if t then part_goes_on (in_string (w ++ b ∷ [])) s else next_outside (class_of b) b (taken (string w) s)).at ≡ s.at + 1) [ true ↦ refl | false ↦ after-at (class_of b) b (string w) s ]
+next-at (in_quoted w) b s = elim (is_bar b) as (λ t. (if t then taken (quoted w) (passed s) else part_goes_on (in_quoted (w ++ b ∷ [])) s).at ≡ s.at + 1) [ true ↦ taken-at (quoted w) s.levels (passed s) | false ↦ refl ]
 
 read_on-at : (s : Reading) (xs : List ℕ) → (read_on s xs).at ≡ s.at + length xs
 read_on-at s [] = omega arith
-read_on-at s (x ∷ xs) = omega (arith, read_on-at (next x s) xs, next-at (class_of x) x s)
+read_on-at s (x ∷ xs) = omega (arith, read_on-at (next x s) xs, next-at s.part x s)
 
 pub bytes_read : (xs : List ℕ) → (read_on start xs).at ≡ length xs
 bytes_read xs = read_on-at start xs ∙ (omega arith)

@@ -1,3 +1,4 @@
 pub mod Feeding
 pub mod Keeping
-pub mod Words
+pub mod Runs
+pub mod WordTokens

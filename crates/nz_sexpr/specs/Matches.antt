@@ -3,8 +3,8 @@ use Rattle.std.specs.Prelude.{◌≡◌, ◌<◌, ◌≤◌, ◌+◌, ◌-◌, �
 use Rattle.nz_spec.specs.Text.{Limits, Heard}
 use Rattle.nz_spec.specs.Kept.{AreToldAs}
 use Rattle.nz_spec.specs.Reading.{Reading}
-use Rattle.nz_sexpr.specs.Bytes.{kind_of_word}
-use Rattle.nz_sexpr.specs.Store.{kept_of}
+use Rattle.nz_sexpr.specs.Part.{part_of, text_of_part}
+use Rattle.nz_sexpr.specs.Store.{Kept, kept_of}
 use Rattle.nz_sexpr.specs.View.{heard_view}
 use Rattle.nz_sexpr.specs.declared.scan.Scan.{Scan}
 use Rattle.nz_sexpr.specs.declared.heard.Heard as code
@@ -13,18 +13,23 @@ use Rattle.nz_sexpr.specs.declared.heard.Limits as bounds
 abbrev pub limits_view : bounds.Limits → Limits
 limits_view l = record { depth = l.depth; bytes = l.bytes }
 
+-- what is kept is what stands in the open command
+pub record IsWhatStands (s : Reading) (k : Kept) : Type 0 where
+  pub inside : 0 < length s.levels
+  pub all : k ≡ record { text = text_of_part s.part; levels = s.levels }
+
 -- the state is that of this reading; what it keeps is there only inside a command
 pub record Matches (limits : Limits) (scan : Scan) (s : Reading) : Type 0 where
   pub depth_limit : scan.limits.depth ≡ limits.depth
   pub byte_limit : scan.limits.bytes ≡ limits.bytes
   pub at : scan.at ≡ s.at
   pub from : scan.from ≡ s.from
-  pub word : scan.word ≡ kind_of_word s.word
+  pub part : scan.part ≡ part_of s.part
   pub depth : scan.depth ≡ length s.levels
   pub few : length s.levels ≤ s.at
   pub bad : scan.bad ≡ s.bad
   pub deep : scan.deep ≡ nat_lt limits.depth s.deepest
-  pub kept : 0 < length s.levels → IfSome (kept_of scan.store) (λ k. k ≡ record { word = s.word; levels = s.levels })
+  pub kept : IfSome (kept_of scan.store) (IsWhatStands s)
 
 -- While fewer than 2^64 bytes were read, count more among them, the new state is that of the reading after this step.
 abbrev pub Follows : Scan → Scan → ℕ → (Reading → Reading) → Type 0

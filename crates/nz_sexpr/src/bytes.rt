@@ -1,29 +1,34 @@
-//! Bytes and words by their kind.
-ghost use Rattle.std.specs.Prelude.{◌≡◌, ◌≤◌, ◌<◌, ◌++◌, List, ℕ, if◌then◌else◌, length, take, drop, slice_get, Some, MatchOption};
-ghost use Rattle.std.specs.List.{list_all};
-ghost use Rattle.nz_spec.specs.Text.{class_of, word_byte, AllOfClass, BeginsWord};
+//! Bytes by their kind.
+ghost use Rattle.std.specs.Prelude.{◌≡◌, ◌==◌, ◌||◌};
+ghost use Rattle.nz_spec.specs.Text as script;
 ghost use Rattle.nz_spec.specs.Tree as text;
-ghost use Rattle.nz_sexpr.specs.Bytes.{class_view, kind_of_word};
+ghost use Rattle.nz_sexpr.specs.Bytes.{class_view};
 
-/// What a byte is, where no word goes on.
+/// What a byte is, where no word goes on and no comment, string or quoted symbol is open.
 #[derive(Clone, Copy, PartialEq, Eq)]
 pub(crate) enum Kind {
     Blank,
     Left,
     Right,
-    /// No token by itself: `;`, `"` or `|`.
-    Mark,
+    /// `;`
+    Comment,
+    /// `"`
+    Quote,
+    /// `|`
+    Bar,
     Word,
 }
 
 pub(crate) fn kind_of(byte: u8) -> Kind
-    ensures { class_view result ≡ class_of byte }
+    ensures { class_view result ≡ script.class_of byte }
 {
     match byte {
         b'\t' | b'\n' | b'\r' | b' ' => Kind::Blank,
         b'(' => Kind::Left,
         b')' => Kind::Right,
-        b';' | b'"' | b'|' => Kind::Mark,
+        b';' => Kind::Comment,
+        b'"' => Kind::Quote,
+        b'|' => Kind::Bar,
         _ => Kind::Word,
     }
 }
@@ -40,73 +45,43 @@ pub(crate) fn is_symbol_byte(byte: u8) -> bool
     )
 }
 
-fn is_digit(byte: u8) -> bool
+pub(crate) fn is_digit(byte: u8) -> bool
     ensures { result ≡ text.is_digit byte }
 {
     b'0' <= byte && byte <= b'9'
 }
 
-/// How many bytes at the front are a word's.
-pub(crate) fn word_run(bytes: &[u8]) -> usize
-    ensures bound { result ≤ length bytes.now }
-    ensures words { AllOfClass word_byte (take result bytes.now) }
-    ensures longest { BeginsWord (drop result bytes.now) → ⊥ }
+/// A digit of base 16, in either case.
+pub(crate) fn is_hexadecimal_digit(byte: u8) -> bool
+    ensures { result ≡ text.is_hexadecimal_digit byte }
 {
-    for (run, byte) in bytes.iter().enumerate() {
-        let Kind::Word = kind_of(*byte) else {
-            return run;
-        };
-    }
-    bytes.len()
+    matches!(byte, b'0'..=b'9' | b'A'..=b'F' | b'a'..=b'f')
 }
 
-/// How a word stands.
-#[derive(Clone, Copy, Debug, PartialEq, Eq)]
-pub(crate) enum WordKind {
-    /// No word was begun.
-    Absent,
-    /// So far it is a symbol.
-    Symbol,
-    /// It is no token, however it goes on.
-    Bad,
+/// `0` or `1`.
+pub(crate) fn is_binary_digit(byte: u8) -> bool
+    ensures { result ≡ (byte == 48) || (byte == 49) }
+{
+    byte == b'0' || byte == b'1'
 }
 
-/// How a word stands after more of its bytes.
-pub(crate) fn kind_after(kind: WordKind, run: &[u8]) -> WordKind
-    ensures { (word : List ℕ) → kind ≡ kind_of_word word → result ≡ kind_of_word (word ++ run.now) }
+/// A byte by which a comment ends.
+pub(crate) fn is_line_end(byte: u8) -> bool
+    ensures { result ≡ script.is_line_end byte }
 {
-    match kind {
-        WordKind::Absent => kind_of_run(run),
-        WordKind::Symbol => symbol_after(run),
-        WordKind::Bad => WordKind::Bad,
-    }
+    byte == b'\n' || byte == b'\r'
 }
 
-/// How a word stands that begins so.
-fn kind_of_run(run: &[u8]) -> WordKind
-    ensures { result ≡ kind_of_word run.now }
+/// A byte that may stand in a string literal: white space, one that prints, or one above ASCII.
+pub(crate) fn is_literal_byte(byte: u8) -> bool
+    ensures { result ≡ script.is_literal_byte byte }
 {
-    match run.first() {
-        None => WordKind::Absent,
-        Some(byte) if is_digit(*byte) => WordKind::Bad,
-        Some(_) => symbol_after(run),
-    }
+    matches!(byte, b'\t' | b'\n' | b'\r' | b' '..=b'~' | 128..=255)
 }
 
-/// How a word that is a symbol stands after more of its bytes.
-fn symbol_after(run: &[u8]) -> WordKind
-    ensures { result ≡ (if list_all text.is_symbol_byte run.now then WordKind.Symbol else WordKind.Bad) }
+/// A byte that may stand in a quoted symbol: the same, but no bar and no backslash.
+pub(crate) fn is_quoted_byte(byte: u8) -> bool
+    ensures { result ≡ script.is_quoted_byte byte }
 {
-    if run.iter().all(|byte| is_symbol_byte(*byte)) {
-        WordKind::Symbol
-    } else {
-        WordKind::Bad
-    }
-}
-
-/// Whether a name is a simple symbol, which is spelled without bars (SMT-LIB 2.6, section 3.1).
-pub fn is_simple_symbol(name: &[u8]) -> bool
-    ensures simple { result ≡ text.is_simple_symbol name.now }
-{
-    kind_of_run(name) == WordKind::Symbol
+    is_literal_byte(byte) && byte != b'|' && byte != b'\\'
 }

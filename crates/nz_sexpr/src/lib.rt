@@ -3,14 +3,16 @@
 
 mod bytes;
 mod heard;
+mod part;
 mod reader;
 mod scan;
 mod store;
 #[cfg(test)]
 mod tests;
 mod tree;
+mod words;
 
-pub use bytes::is_simple_symbol;
 pub use heard::{Heard, Limits, What};
 pub use reader::Reader;
 pub use tree::{Token, Tree, TreeList};
+pub use words::is_simple_symbol;

@@ -3,7 +3,6 @@ ghost use Rattle.std.specs.Prelude.{◌≡◌, ◌≤◌, ◌<◌, ◌+◌, ◌^
 ghost use Rattle.nz_spec.specs.Text.{Limits as Bounds, Heard as Thing};
 ghost use Rattle.nz_spec.specs.Told.{IsTold, IsToldFirst};
 
-use crate::bytes::word_run;
 use crate::heard::{Heard, Limits};
 use crate::scan::Scan;
 use nz_spec::text::{reading_is_heard, reading_tells_first};
@@ -13,7 +12,7 @@ use std::alloc::Global;
 #[derive(Debug, Drop)]
 pub struct Reader {
     scan: Scan,
-    /// What is told at the next call: a byte that ends a word outside any command may be a thing by itself.
+    /// What is told at the next call: a byte that ends a token outside any command may be a thing by itself.
     owed: Option<Heard>,
 }
 
@@ -68,7 +67,7 @@ impl Reader {
         (used, None)
     }
 
-    /// Reads on by a run of a word's bytes, or by one byte: how many, and the first thing that is heard.
+    /// Reads on by a run of bytes, or by one byte: how many, and the first thing that is heard.
     fn step(&mut self, rest: &[u8]) -> (usize, Option<Heard>)
         requires rest { 0 < length rest.now }
         requires settled { self.old.owed ≡ None }
@@ -81,9 +80,9 @@ impl Reader {
         ensures counted { GoesOnBy (bytes_read self.old) result.0 (bytes_read self.new) }
         ensures places { EndsWithin (bytes_read self.old) (bytes_read self.new) result.1 }
     {
-        let run = word_run(rest);
+        let run = self.scan.run(rest);
         if run > 0 {
-            self.scan.read_word(&rest[..run]);
+            self.scan.read_run(&rest[..run]);
             return (run, None);
         }
         let (heard, owed) = self.scan.read_byte(rest[0]);
@@ -91,8 +90,8 @@ impl Reader {
         (1, heard)
     }
 
-    /// The input ends: what that makes of what is open, a word outside any command or an open list. The reader then
-    /// stands at the beginning of a script.
+    /// The input ends: what that makes of what is open, a token outside any command, a string, a quoted symbol or a list.
+    /// The reader then stands at the beginning of a script.
     pub fn finish(&mut self) -> Option<Heard>
         // Where nothing was owed, all things told are those of the whole text.
         ensures heard { (limits : Bounds) (bytes : List ℕ) (things : List Thing) →

@@ -1,17 +1,21 @@
 //! The state of a reader between bytes, and its steps.
-ghost use Rattle.std.specs.Prelude.{◌≡◌, ◌≢◌, ◌≤◌, ◌<◌, ◌+◌, ◌-◌, ◌^◌, ◌++◌, ℕ, List, [], ◌∷◌, length, nat_lt, min, Some, None};
-ghost use Rattle.nz_spec.specs.Text.{Limits as Bounds, word_byte, class_of, AllOfClass};
-ghost use Rattle.nz_spec.specs.Kept.{IsToldWhat};
-ghost use Rattle.nz_spec.specs.Reading.{Reading, start, passed, settled, ended, opened, closed, told_closed, marked, told_marked, next, told_at, read_on, told_open, what_of};
+ghost use Rattle.std.specs.Prelude.{◌≡◌, ◌≢◌, ◌≤◌, ◌<◌, ◌+◌, ◌-◌, ◌^◌, ◌++◌, ◌||◌, ℕ, List, [], ◌∷◌, length, take, slice_index, is_none, nat_lt, min, true, Some, None, IfSome};
+ghost use Rattle.nz_spec.specs.Text.{Limits as Bounds, class_of, HasNone};
+ghost use Rattle.nz_spec.specs.Kept.{IsToldWhat, AreToldAs};
+ghost use Rattle.nz_spec.specs.Reading as text_part;
+ghost use Rattle.nz_spec.specs.Reading.{Reading, start, opened, closed, begun, goes_on, taken, told_closed, told_token, next_outside, told_outside, next, told_at, read_on, told_open, what_of};
 ghost use Rattle.nz_spec.specs.Tree as text;
-ghost use Rattle.nz_sexpr.specs.Bytes.{begins_here};
+ghost use Rattle.nz_sexpr.specs.Part.{part_of, text_of_part, text_after, filler_of, ends, begins_here};
+ghost use Rattle.nz_sexpr.specs.Store.{Kept, kept_of, Keeps, TakesToken};
 ghost use Rattle.nz_sexpr.specs.View.{what_view};
 ghost use Rattle.nz_sexpr.specs.Matches.{Matches, Follows, Tells, GoesOnBy, EndsWithin, told, limits_view};
 
-use crate::bytes::{Kind, WordKind, kind_after, kind_of};
+use crate::bytes::{Kind, kind_of};
 use crate::heard::{Heard, Limits, What};
+use crate::part::Part;
 use crate::store::Store;
 use crate::tree::Tree;
+use crate::words::TokenKind;
 use std::alloc::Global;
 
 /// What is open after the bytes that were read.
@@ -22,8 +26,8 @@ pub(crate) struct Scan {
     at: u64,
     /// Where the thing begins that is open.
     from: u64,
-    /// The word that is being read.
-    word: WordKind,
+    /// What is being read that may have more bytes than one.
+    part: Part,
     /// How many lists are open; outside any command none is.
     depth: u64,
     /// A token of the command is bad.
@@ -42,7 +46,7 @@ impl Scan {
             limits,
             at: 0,
             from: 0,
-            word: WordKind::Absent,
+            part: Part::Absent,
             depth: 0,
             bad: false,
             deep: false,
@@ -50,42 +54,45 @@ impl Scan {
         }
     }
 
-    /// Reads bytes of a word.
-    pub(crate) fn read_word(&mut self, run: &[u8])
+    /// How many bytes at the front go on with what is being read, or begin a word.
+    pub(crate) fn run(&self, bytes: &[u8]) -> usize
+        ensures bound { result ≤ length bytes.now }
+        ensures within { HasNone (ends self.now.part) (take result bytes.now) }
+        ensures longest { result < length bytes.now → ends self.now.part (slice_index bytes.now result) ≡ true }
+    {
+        self.part.run(bytes)
+    }
+
+    /// Reads bytes that go on with what is being read, or begin a word.
+    pub(crate) fn read_run(&mut self, run: &[u8])
         requires { 0 < length run.now }
-        ensures state { AllOfClass word_byte run.now → Follows self.old self.new (length run.now) (λ s. read_on s run.now) }
+        ensures state { HasNone (ends self.old.part) run.now → Follows self.old self.new (length run.now) (λ s. read_on s run.now) }
         ensures counted { GoesOnBy self.old.at (length run.now) self.new.at }
     {
-        if self.depth == 0 {
-            self.read_loose(run);
-        } else {
-            self.read_inner(run);
+        self.begin_part();
+        self.keep_run(run);
+        self.part = self.part.after_run(run);
+        self.pass(run.len() as u64);
+        self.forget_if(self.is_long());
+    }
+
+    /// A part begins here, if none is open; outside any command it is a thing.
+    fn begin_part(&mut self)
+        ensures { self.new ≡ record self.old { from = begins_here self.old.part self.old.depth self.old.at self.old.from } }
+    {
+        if self.part == Part::Absent && self.depth == 0 {
+            self.from = self.at;
         }
     }
 
-    /// Reads bytes of a word outside any command.
-    fn read_loose(&mut self, run: &[u8])
-        requires run { 0 < length run.now }
-        requires outside { self.old.depth ≡ 0 }
-        ensures state { AllOfClass word_byte run.now → Follows self.old self.new (length run.now) (λ s. read_on s run.now) }
-        ensures counted { GoesOnBy self.old.at (length run.now) self.new.at }
+    /// Keeps a run of a token's bytes, and none of a comment's.
+    fn keep_run(&mut self, run: &[u8])
+        ensures rest { self.new ≡ record self.old { store = self.new.store } }
+        ensures kept { Keeps (kept_of self.old.store) (kept_of self.new.store) (λ (k : Kept). record k { text = text_after self.old.part k.text run.now }) }
     {
-        self.from = word_start(self.word, self.at, self.from);
-        self.word = kind_after(self.word, run);
-        self.pass(run.len() as u64);
-    }
-
-    /// Reads bytes of a word in a command.
-    fn read_inner(&mut self, run: &[u8])
-        requires run { 0 < length run.now }
-        requires inside { 0 < self.old.depth }
-        ensures state { AllOfClass word_byte run.now → Follows self.old self.new (length run.now) (λ s. read_on s run.now) }
-        ensures counted { GoesOnBy self.old.at (length run.now) self.new.at }
-    {
-        self.store.extend_word(run);
-        self.word = kind_after(self.word, run);
-        self.pass(run.len() as u64);
-        self.forget_if(self.is_long());
+        if self.part.is_of_token() {
+            self.store.extend_text(run);
+        }
     }
 
     /// Keeps nothing more of the command where it can't be whole.
@@ -98,89 +105,159 @@ impl Scan {
         }
     }
 
-    /// Reads a byte that is no word's: what is heard, at most two things.
+    /// Reads a byte at which a run of bytes ends: what is heard, at most two things.
     pub(crate) fn read_byte(&mut self, byte: u8) -> (Option<Heard>, Option<Heard>)
-        requires { class_of byte ≢ word_byte }
+        requires { ends self.old.part byte ≡ true }
         ensures state { Follows self.old self.new 1 (λ s. next byte s) }
         ensures heard { Tells self.old 1 (told result.0 ++ told result.1) (λ limits s. told_at limits byte s) }
         ensures first { result.0 ≡ None → result.1 ≡ None }
         ensures counted { GoesOnBy self.old.at 1 self.new.at }
         ensures places { EndsWithin self.old.at self.new.at result.0 × EndsWithin self.old.at self.new.at result.1 }
     {
-        let ended = self.end_word();
-        let heard = match kind_of(byte) {
-            Kind::Left => {
-                self.open();
-                None
+        match self.part {
+            Part::Absent => (self.read_outside(byte), None),
+            Part::Comment => {
+                self.go_on(Part::Absent);
+                (None, None)
             }
-            Kind::Right => self.close(),
-            Kind::Mark => self.refuse(),
-            Kind::Blank | Kind::Word => {
+            Part::Word(_) => self.read_after_token(byte),
+            Part::String(clean) => {
+                self.go_on(Part::AfterQuote(clean));
+                (None, None)
+            }
+            Part::AfterQuote(clean) if byte == b'"' => {
+                self.read_doubled_quote(clean);
+                (None, None)
+            }
+            Part::AfterQuote(_) => self.read_after_token(byte),
+            Part::Quoted(_) => {
                 self.pass(1);
-                None
+                (self.end_token(), None)
             }
-        };
+        }
+    }
+
+    /// Reads a byte with which the part is this one.
+    fn go_on(&mut self, part: Part)
+        ensures state { self.new ≡ record self.old { at = min (self.old.at + 1) (2 ^ 64 - 1); part = part } }
+        ensures counted { GoesOnBy self.old.at 1 self.new.at }
+    {
+        self.part = part;
+        self.pass(1);
+    }
+
+    /// Reads the second of two quotes, which stand for one.
+    fn read_doubled_quote(&mut self, clean: bool)
+        requires { self.old.part ≡ Part.AfterQuote clean }
+        ensures state { (limits : Bounds) (s : Reading) (w : List ℕ) → Matches limits self.old s → s.at + 1 < 2 ^ 64 →
+            s.part ≡ text_part.after_quote w → Matches limits self.new (goes_on (text_part.in_string (w ++ 34 ∷ [])) s) }
+        ensures counted { GoesOnBy self.old.at 1 self.new.at }
+    {
+        self.store.extend_text(b"\"".as_slice());
+        self.go_on(Part::String(clean));
+        self.forget_if(self.is_long());
+    }
+
+    /// Reads the byte after a token: what is heard, at most two things.
+    fn read_after_token(&mut self, byte: u8) -> (Option<Heard>, Option<Heard>)
+        ensures state { (limits : Bounds) (s : Reading) → Matches limits self.old s → s.at + 1 < 2 ^ 64 →
+            IfSome (filler_of s.part) (λ f. Matches limits self.new (next_outside (class_of byte) byte (taken f s))) }
+        ensures heard { (limits : Bounds) (s : Reading) → Matches limits self.old s → s.at + 1 < 2 ^ 64 →
+            IfSome (filler_of s.part) (λ f. AreToldAs (told result.0 ++ told result.1) (told_token s ++ told_outside (class_of byte) limits (taken f s))) }
+        ensures first { result.0 ≡ None → result.1 ≡ None }
+        ensures counted { GoesOnBy self.old.at 1 self.new.at }
+        ensures places { EndsWithin self.old.at self.new.at result.0 × EndsWithin self.old.at self.new.at result.1 }
+    {
+        let ended = self.end_token();
+        let heard = self.read_outside(byte);
         match ended {
-            Some(word) => (Some(word), heard),
+            Some(token) => (Some(token), heard),
             None => (heard, None),
         }
     }
 
-    /// The word that was being read ends; outside any command it is told.
-    fn end_word(&mut self) -> Option<Heard>
-        ensures state { Follows self.old self.new 0 settled }
-        ensures heard { Tells self.old 0 (told result) (λ _ s. ended s) }
+    /// The token that was being read ends; outside any command it is told.
+    fn end_token(&mut self) -> Option<Heard>
+        ensures state { (limits : Bounds) (s : Reading) → Matches limits self.old s → IfSome (filler_of s.part) (λ f. Matches limits self.new (taken f s)) }
+        ensures heard { Tells self.old 0 (told result) (λ _ s. told_token s) }
+        ensures absent { self.new.part ≡ Part.Absent }
         ensures counted { self.new.at ≡ self.old.at }
         ensures places { EndsWithin self.old.at self.old.at result }
     {
+        let token = self.part.token();
+        self.part = Part::Absent;
         if self.depth == 0 {
-            self.end_loose()
-        } else {
-            self.end_inner();
-            None
+            return Some(bad_token(self.from, self.at));
         }
+        self.take_token(token);
+        None
     }
 
-    /// The word outside any command ends, if there is one.
-    fn end_loose(&mut self) -> Option<Heard>
-        requires { self.old.depth ≡ 0 }
-        ensures state { Follows self.old self.new 0 settled }
-        ensures heard { Tells self.old 0 (told result) (λ _ s. ended s) }
-        ensures counted { self.new.at ≡ self.old.at }
-        ensures places { EndsWithin self.old.at self.old.at result }
+    /// A token of the command ends, of this kind or bad.
+    fn take_token(&mut self, token: Option<TokenKind>)
+        ensures rest { self.new ≡ record self.old { bad = self.old.bad || is_none token; store = self.new.store } }
+        ensures kept { TakesToken token (kept_of self.old.store) (kept_of self.new.store) }
     {
-        match self.word {
-            WordKind::Absent => None,
-            _ => {
-                self.word = WordKind::Absent;
-                Some(bad_token(self.from, self.at))
-            }
-        }
-    }
-
-    /// The word in a command ends, if there is one.
-    fn end_inner(&mut self)
-        requires { 0 < self.old.depth }
-        ensures state { Follows self.old self.new 0 settled }
-        ensures counted { self.new.at ≡ self.old.at }
-    {
-        match self.word {
-            WordKind::Absent => {}
-            WordKind::Symbol => {
-                self.word = WordKind::Absent;
-                self.store.end_word();
-            }
-            WordKind::Bad => {
-                self.word = WordKind::Absent;
+        match token {
+            Some(kind) => self.store.end_token(kind),
+            None => {
                 self.bad = true;
                 self.store.stop();
             }
         }
     }
 
+    /// Reads a byte where no part is open.
+    fn read_outside(&mut self, byte: u8) -> Option<Heard>
+        requires { self.old.part ≡ Part.Absent }
+        ensures state { Follows self.old self.new 1 (λ s. next_outside (class_of byte) byte s) }
+        ensures heard { Tells self.old 1 (told result) (λ limits s. told_outside (class_of byte) limits s) }
+        ensures counted { GoesOnBy self.old.at 1 self.new.at }
+        ensures places { EndsWithin self.old.at self.new.at result }
+    {
+        match kind_of(byte) {
+            Kind::Left => {
+                self.open();
+                None
+            }
+            Kind::Right => self.close(),
+            Kind::Comment => {
+                self.begin(Part::Comment);
+                None
+            }
+            Kind::Quote => {
+                self.begin(Part::String(true));
+                None
+            }
+            Kind::Bar => {
+                self.begin(Part::Quoted(true));
+                None
+            }
+            Kind::Blank => {
+                self.pass(1);
+                None
+            }
+            Kind::Word => {
+                self.read_run([byte].as_slice());
+                None
+            }
+        }
+    }
+
+    /// Reads the byte with which a part begins that has no text yet.
+    fn begin(&mut self, part: Part)
+        requires { self.old.part ≡ Part.Absent }
+        ensures state { (limits : Bounds) (s : Reading) (p : text_part.Part) → Matches limits self.old s → s.at + 1 < 2 ^ 64 →
+            part ≡ part_of p → text_of_part p ≡ [] → Matches limits self.new (begun p s) }
+        ensures counted { GoesOnBy self.old.at 1 self.new.at }
+    {
+        self.begin_part();
+        self.go_on(part);
+    }
+
     /// Reads `(`.
     fn open(&mut self)
-        ensures state { (limits : Bounds) (s : Reading) → Matches limits self.old s → s.word ≡ [] → s.at + 1 < 2 ^ 64 → Matches limits self.new (opened s) }
+        ensures state { (limits : Bounds) (s : Reading) → Matches limits self.old s → s.part ≡ text_part.no_part → s.at + 1 < 2 ^ 64 → Matches limits self.new (opened s) }
         ensures counted { GoesOnBy self.old.at 1 self.new.at }
     {
         if self.depth == 0 {
@@ -188,13 +265,13 @@ impl Scan {
         } else {
             self.open_list();
         }
-        self.forget_if(self.deep);
+        self.forget_if(self.deep || self.is_long());
     }
 
     /// Reads the `(` of a command.
     fn open_command(&mut self)
         requires { self.old.depth ≡ 0 }
-        ensures state { (limits : Bounds) (s : Reading) → Matches limits self.old s → s.word ≡ [] → s.at + 1 < 2 ^ 64 → Matches limits self.new (opened s) }
+        ensures state { (limits : Bounds) (s : Reading) → Matches limits self.old s → s.part ≡ text_part.no_part → s.at + 1 < 2 ^ 64 → Matches limits self.new (opened s) }
         ensures counted { GoesOnBy self.old.at 1 self.new.at }
     {
         self.from = self.at;
@@ -266,29 +343,14 @@ impl Scan {
         self.depth -= 1;
         self.store.close();
         self.pass(1);
-    }
-
-    /// Reads a byte that is no token.
-    fn refuse(&mut self) -> Option<Heard>
-        ensures state { Follows self.old self.new 1 marked }
-        ensures heard { Tells self.old 1 (told result) (λ _ s. told_marked s) }
-        ensures counted { GoesOnBy self.old.at 1 self.new.at }
-        ensures places { EndsWithin self.old.at self.new.at result }
-    {
-        let at = self.at;
-        self.pass(1);
-        if self.depth == 0 {
-            return Some(bad_token(at, self.at));
-        }
-        self.bad = true;
-        self.store.stop();
-        None
+        self.forget_if(self.is_long());
     }
 
     /// What the command is whose last byte was read.
     fn take_command(&mut self) -> What
         ensures what { (limits : Bounds) (s : Reading) (l : List text.Tree) → Matches limits self.old s → s.levels ≡ l ∷ [] → IsToldWhat (what_view result) (what_of limits l s) }
         ensures rest { self.new ≡ record self.old { store = self.new.store } }
+        ensures ended { kept_of self.new.store ≡ None }
     {
         let list = self.store.end();
         if self.bad {
@@ -333,15 +395,23 @@ impl Scan {
         ensures heard { Tells self.now 0 (told result) (λ _ s. told_open s) }
     {
         if self.depth > 0 {
-            Some(Heard {
-                from: self.from,
-                to: self.at,
-                what: What::Unclosed,
-            })
-        } else if self.word == WordKind::Absent {
-            None
-        } else {
-            Some(bad_token(self.from, self.at))
+            return Some(self.unclosed());
+        }
+        match self.part {
+            Part::Absent | Part::Comment => None,
+            Part::Word(_) | Part::AfterQuote(_) => Some(bad_token(self.from, self.at)),
+            Part::String(_) | Part::Quoted(_) => Some(self.unclosed()),
+        }
+    }
+
+    /// What is open at the end of the input.
+    fn unclosed(&self) -> Heard
+        ensures { result ≡ record { from = self.now.from; to = self.now.at; what = What.Unclosed } }
+    {
+        Heard {
+            from: self.from,
+            to: self.at,
+            what: What::Unclosed,
         }
     }
 
@@ -351,21 +421,11 @@ impl Scan {
     {
         self.at = 0;
         self.from = 0;
-        self.word = WordKind::Absent;
+        self.part = Part::Absent;
         self.depth = 0;
         self.bad = false;
         self.deep = false;
         self.store.stop();
-    }
-}
-
-/// Where the word begins of which a byte is read at `at`.
-fn word_start(word: WordKind, at: u64, from: u64) -> u64
-    ensures { result ≡ begins_here word at from }
-{
-    match word {
-        WordKind::Absent => at,
-        WordKind::Symbol | WordKind::Bad => from,
     }
 }
 

@@ -1,19 +1,22 @@
-//! What is kept of an open command while it is read: its trees so far, and the word that is being read.
+//! What is kept of an open command while it is read: its trees so far, and the text of the token that is being read.
 ghost use Rattle.std.specs.Prelude.{◌≡◌, List, [], ◌∷◌, ◌++◌, Some, None, IfSome, IsSomeAnd};
 ghost use Rattle.nz_spec.specs.Tree as text;
 ghost use Rattle.nz_spec.specs.Reading.{with_trees, with_closed};
+ghost use Rattle.nz_sexpr.specs.Words.{token_by};
+ghost use Rattle.nz_sexpr.specs.View.{token_view};
 
 use crate::tree::{Token, Tree, TreeList};
+use crate::words::TokenKind;
 use nz_base::{Memory, Text};
 use std::alloc::Global;
 use std::mem;
 
-/// The open lists of a command and a word in it, while they are worth keeping.
+/// The open lists of a command and a token in it, while they are worth keeping.
 #[derive(Debug, Drop)]
 pub(crate) struct Store {
     alloc: Global,
-    /// The word so far.
-    word: Text,
+    /// The token's text so far.
+    text: Text,
     /// The trees so far of the innermost list.
     inner: TreeList,
     /// Those of the lists around it, the outermost first.
@@ -32,13 +35,13 @@ impl Store {
         Store::empty(alloc, false)
     }
 
-    /// No trees and no word yet, which are kept or aren't.
+    /// No trees and no text yet, which are kept or aren't.
     fn empty(alloc: Global, keeps: bool) -> Self
-        ensures { kept_of result ≡ kept_if keeps (record { word = []; levels = [] ∷ [] }) }
+        ensures { kept_of result ≡ kept_if keeps (record { text = []; levels = [] ∷ [] }) }
     {
         Store {
             alloc,
-            word: Text::new(alloc),
+            text: Text::new(alloc),
             inner: TreeList::new(alloc),
             outer: Vec::new(alloc),
             keeps,
@@ -47,7 +50,7 @@ impl Store {
 
     /// A command opens.
     pub(crate) fn begin(&mut self)
-        ensures { kept_of self.new ≡ Some (record { word = []; levels = [] ∷ [] }) }
+        ensures { kept_of self.new ≡ Some (record { text = []; levels = [] ∷ [] }) }
     {
         let alloc = self.alloc;
         *self = Store::empty(alloc, true);
@@ -61,22 +64,22 @@ impl Store {
         *self = Store::new(alloc);
     }
 
-    /// The word goes on.
-    pub(crate) fn extend_word(&mut self, run: &[u8])
-        ensures { Keeps (kept_of self.old) (kept_of self.new) (λ (k : Kept). record k { word = k.word ++ run.now }) }
+    /// The token's text goes on.
+    pub(crate) fn extend_text(&mut self, run: &[u8])
+        ensures { Keeps (kept_of self.old) (kept_of self.new) (λ (k : Kept). record k { text = k.text ++ run.now }) }
     {
-        if self.keeps && self.word.push_slice(run).is_err() {
+        if self.keeps && self.text.push_slice(run).is_err() {
             self.stop();
         }
     }
 
-    /// The word ends, and is a symbol.
-    pub(crate) fn end_word(&mut self)
-        ensures { Keeps (kept_of self.old) (kept_of self.new) (λ (k : Kept). record { word = []; levels = with_trees (text.leaf (text.symbol k.word) ∷ []) k.levels }) }
+    /// The token ends, and is of this kind.
+    pub(crate) fn end_token(&mut self, kind: TokenKind)
+        ensures { Keeps (kept_of self.old) (kept_of self.new) (λ (k : Kept). record { text = []; levels = with_trees (text.leaf (token_by kind k.text) ∷ []) k.levels }) }
     {
         if self.keeps {
-            let word = mem::replace(&mut self.word, Text::new(self.alloc));
-            if self.inner.push(Tree::Word(Token::Symbol(word))).is_err() {
+            let text = mem::replace(&mut self.text, Text::new(self.alloc));
+            if self.inner.push(Tree::Word(token(kind, text))).is_err() {
                 self.stop();
             }
         }
@@ -122,5 +125,20 @@ impl Store {
         } else {
             None
         }
+    }
+}
+
+/// The token of this kind and text.
+fn token(kind: TokenKind, text: Text) -> Token
+    ensures { token_view result ≡ token_by kind text }
+{
+    match kind {
+        TokenKind::Symbol => Token::Symbol(text),
+        TokenKind::Keyword => Token::Keyword(text),
+        TokenKind::Numeral => Token::Numeral(text),
+        TokenKind::Decimal => Token::Decimal(text),
+        TokenKind::Hexadecimal => Token::Hexadecimal(text),
+        TokenKind::Binary => Token::Binary(text),
+        TokenKind::Literal => Token::Literal(text),
     }
 }

@@ -1,14 +1,37 @@
 //! Tokens and trees of a script (SMT-LIB 2.6, sections 3.1 and 3.2).
-ghost use Rattle.std.specs.Prelude.{◌≡◌, [], ◌∷◌, ◌++◌, OnOk, OnErr};
+ghost use Rattle.std.specs.Prelude.{◌≡◌, [], ◌∷◌, ◌++◌, None, OnOk, OnErr, IfSome, IfNone};
+ghost use Rattle.nz_spec.specs.Tree.{symbol, symbol_name};
 
 use nz_base::{Memory, Text};
 use std::alloc::Global;
 
-/// A word of a script.
+/// A token of a script. A symbol is told by its name and a string literal by its text, however they were spelled; the
+/// others are told by their bytes.
 #[derive(Debug, Drop)]
 pub enum Token {
-    /// A symbol, by its name.
     Symbol(Text),
+    Keyword(Text),
+    Numeral(Text),
+    Decimal(Text),
+    Hexadecimal(Text),
+    Binary(Text),
+    /// A string literal.
+    Literal(Text),
+}
+
+impl Token {
+    ghost use Rattle.nz_sexpr.specs.View.{token_view};
+
+    /// The name of a symbol.
+    pub fn as_symbol(&self) -> Option<&Text>
+        ensures name { IfSome result (λ name. token_view self.now ≡ symbol name.now) }
+        ensures other { IfNone result (symbol_name (token_view self.now) ≡ None) }
+    {
+        match self {
+            Token::Symbol(name) => Some(name),
+            _ => None,
+        }
+    }
 }
 
 /// One token, or a list of trees between parentheses.

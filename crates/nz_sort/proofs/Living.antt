@@ -50,12 +50,15 @@ bare_with_arguments (x ∷ xs) h command = refl
 -- a declaration takes two trees
 declaration_of_one : (s : State) (t : Tree) → declaration_of s (trees t no_trees) ≡ None
 declaration_of_one s (leaf (symbol name)) = refl
+declaration_of_one s (leaf t) = refl
 declaration_of_one s (node ts) = refl
 
 declaration_of_more : (s : State) (t u v : Tree) (ts : Trees) → declaration_of s (trees t (trees u (trees v ts))) ≡ None
 declaration_of_more s (node xs) u v ts = refl
 declaration_of_more s (leaf (symbol name)) (node xs) v ts = refl
 declaration_of_more s (leaf (symbol name)) (leaf (symbol sort)) v ts = refl
+declaration_of_more s (leaf (symbol name)) (leaf u) v ts = refl
+declaration_of_more s (leaf t) u v ts = refl
 
 pub declaration_takes_two : (s : State) (xs : List code.Tree) → (length xs ≡ 2 → ⊥) → declaration_of s (trees_from (map view xs)) ≡ None
 declaration_takes_two s [] h = refl

@@ -1,11 +1,16 @@
 -- What elaboration makes of trees: terms in the table.
 use Rattle.std.specs.Prelude.{◌≡◌, ℕ, ◌<◌, ◌+◌, suc, List, [], ◌∷◌, ◌++◌, length, All, Option, Some, None, ⊤, codes, bytes_eq, if◌then◌else◌}
 use Rattle.std.specs.List.{AllByRecursion}
-use Rattle.nz_spec.specs.Tree.{Tree, leaf, node, Trees, no_trees, trees}
+use Rattle.nz_spec.specs.Tree.{symbol_name, Tree, leaf, node, Trees, no_trees, trees}
 use Rattle.nz_spec.specs.Reading.{trees_from}
 use Rattle.nz_spec.specs.Term.{Constant, Head, constant, verum, falsum, negation, conjunction, disjunction, Term, Terms, normal_of, normals_of}
 use Rattle.nz_spec.specs.Table.{Node, term_in, terms_at}
 use Rattle.nz_spec.specs.Script.{term_of, terms_of, unary_of, chain_of}
+
+-- the name of a tree that is a symbol
+abbrev pub name_of : Tree → Option (List ℕ)
+name_of (leaf t) = symbol_name t
+name_of (node ts) = None
 
 -- the head is an operator, and no constant
 abbrev pub IsOperator : Head → Type 0

@@ -7,13 +7,13 @@ ghost use Rattle.nz_spec.specs.Term.{Constant, Terms as Arguments, normals_of};
 ghost use Rattle.nz_spec.specs.Table.{term_in, terms_at};
 ghost use Rattle.nz_spec.specs.Script.{term_of, terms_of};
 ghost use Rattle.nz_sort.specs.Names.{AreNamesOf};
-ghost use Rattle.nz_sort.specs.Elaborate.{Grows, Elaborates, ElaboratesAll, Applies, applied, operator_named};
+ghost use Rattle.nz_sort.specs.Elaborate.{Grows, Elaborates, ElaboratesAll, Applies, applied, name_of, operator_named};
 ghost use Rattle.nz_sort.specs.Operators.{operator_head, Splits};
 ghost use Rattle.nz_term.specs.Heads.{head_of as code_head};
 
 use crate::names::Names;
 use nz_base::{Memory, Text};
-use nz_sexpr::{Token, Tree};
+use nz_sexpr::Tree;
 use nz_term::{Head, TermId, Terms};
 use std::alloc::{AllocError, AllocFailed, Global};
 
@@ -131,19 +131,27 @@ fn head_of(operator: Operator) -> Head
     }
 }
 
+/// The name of a tree that is a symbol.
+pub(crate) fn symbol_of(tree: &Tree) -> Option<&Text>
+    ensures name { IfSome result (λ name. view tree.now ≡ leaf (symbol name.now)) }
+    ensures none { IfNone result (name_of (view tree.now) ≡ None) }
+{
+    match tree {
+        Tree::Word(token) => token.as_symbol(),
+        Tree::List(_) => None,
+    }
+}
+
 /// The trees of an operation: its operator, and its arguments.
+#[tactic(auto, using(crate::proofs::Nameless::nameless_term))]
 fn split(trees: &[Tree]) -> Option<(Operator, &[Tree])>
     ensures operation { IfSome result (λ p. Splits (map view trees.now) p.0 (map view p.1.now)) }
     ensures none { IfNone result ((cs : List Constant) → term_of cs (node (trees_from (map view trees.now))) ≡ None) }
 {
     let (first, arguments) = trees.split_first()?;
-    match first {
-        Tree::Word(Token::Symbol(name)) => {
-            let operator = operator_of(name.as_bytes())?;
-            Some((operator, arguments))
-        }
-        Tree::List(_) => None,
-    }
+    let name = symbol_of(first)?;
+    let operator = operator_of(name.as_bytes())?;
+    Some((operator, arguments))
 }
 
 /// The number of the normal term of a tree, made in the table where it isn't there.
@@ -163,7 +171,10 @@ pub fn elaborate(
     ensures refused { IsErrOf result Refusal.Unsupported → (cs : List Constant) → AreNamesOf terms.old names.now cs → term_of cs (view tree.now) ≡ None }
 {
     match tree {
-        Tree::Word(Token::Symbol(name)) => atom(names, terms, name),
+        Tree::Word(token) => match token.as_symbol() {
+            Some(name) => atom(names, terms, name),
+            None => Err(Refusal::Unsupported),
+        },
         Tree::List(list) => operation(alloc, names, terms, list.as_slice()),
     }
 }

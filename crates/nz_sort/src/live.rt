@@ -2,7 +2,7 @@
 ghost use Rattle.std.specs.Prelude.{◌≡◌, ℕ, List, [], length, map, take, bytes_eq, OnOk, OnErr, IfOk, IfSome, IfNone, None, Some, is_some, IsErrOf};
 ghost use Rattle.std.specs.List.{list_any};
 ghost use Rattle.nz_sexpr.specs.View.{view};
-ghost use Rattle.nz_spec.specs.Tree.{Trees, leaf, node, symbol};
+ghost use Rattle.nz_spec.specs.Tree.{leaf, node, symbol};
 ghost use Rattle.nz_spec.specs.Reading.{trees_from};
 ghost use Rattle.nz_spec.specs.Term as spec;
 ghost use Rattle.nz_spec.specs.Script.{State, Command, command_of, command_named, declaration_of, assertion_of, term_of, alone as bare};
@@ -12,10 +12,10 @@ ghost use Rattle.nz_sort.specs.Live.{Standing, IsLive, IsCarriedOut};
 ghost use Rattle.nz_sort.specs.Acts.{asked};
 ghost use Rattle.nz_sort.specs.Commands.{word_named, command_by, Leaves, may_declare, declaration_by, bool_constant, HasAdded, HasAsserted};
 
-use crate::elaboration::{Refusal, elaborate};
+use crate::elaboration::{Refusal, elaborate, symbol_of};
 use crate::names::Names;
 use nz_base::{Memory, Text};
-use nz_sexpr::{Token, Tree};
+use nz_sexpr::Tree;
 use nz_term::{Constant, Head, Sort, TermId, Terms};
 use std::alloc::Global;
 use std::marker::Model;
@@ -157,18 +157,8 @@ fn word_of(name: &[u8]) -> Option<Word>
     }
 }
 
-/// The name of a tree that is a symbol.
-fn symbol_of(tree: &Tree) -> Option<&Text>
-    ensures name { IfSome result (λ name. view tree.now ≡ leaf (symbol name.now)) }
-    ensures none { IfNone result ((trees : Trees) × (view tree.now ≡ node trees)) }
-{
-    match tree {
-        Tree::Word(Token::Symbol(name)) => Some(name),
-        Tree::List(_) => None,
-    }
-}
-
 /// The name that a command begins with, and the trees after it.
+#[tactic(auto, using(crate::proofs::Nameless::nameless_command))]
 fn name_and_arguments(tree: &Tree) -> Option<(&Text, &[Tree])>
     ensures command { IfSome result (λ p. (s : State) → command_of s (view tree.now) ≡ command_named s p.0.now (trees_from (map view p.1.now))) }
     ensures none { IfNone result ((s : State) → command_of s (view tree.now) ≡ None) }
@@ -223,6 +213,7 @@ fn declare(
 }
 
 /// The name of a constant that is declared, of sort `Bool`.
+#[tactic(auto, using(crate::proofs::Nameless::nameless_constant, crate::proofs::Nameless::nameless_sort))]
 fn declared_name(arguments: &[Tree]) -> Option<&Text>
     ensures name { IfSome result (λ name. (s : State) → declaration_of s (trees_from (map view arguments.now)) ≡ declaration_by s name.now) }
     ensures none { IfNone result ((s : State) → declaration_of s (trees_from (map view arguments.now)) ≡ None) }

@@ -1,12 +1,14 @@
--- The example is computed from the definitions.
-use Rattle.std.proofs.Common.{◌≡◌, ℕ, List, [], ◌∷◌, codes, refl, inl, inr, map, rules}
-use Rattle.nz_spec.specs.Text.{Groups, no_groups, groups, Group, single, nest, Filler, gap, word, Thing, loose, command}
-use Rattle.nz_spec.specs.Text.{Heard, Hears, AreLongest, script_pieces, script_limits, heard_from, text_of}
-use Rattle.nz_spec.specs.Kept.{AreToldAs}
+-- The examples are computed from the definitions: the script by its things, the short texts by reading them.
+use Rattle.std.proofs.Common.{◌≡◌, ℕ, List, [], ◌∷◌, None, codes, refl, subst, inl, map, rules}
+use Rattle.nz_spec.specs.Text.{Groups, no_groups, groups, single, gap, word, Thing, loose, command, Open}
+use Rattle.nz_spec.specs.Text.{Limits, Hears, AreLongest, script_pieces, script_limits, heard_from, text_of}
 use Rattle.nz_spec.specs.Run.{solve_limit}
 use Rattle.nz_spec.specs.Script.{start}
-use Rattle.nz_spec.specs.Transcript.{Kept, IsTranscript, AreRight, EndsByExit, texts_of}
-use Rattle.nz_spec.specs.Example.{example_script, example_transcript, example_output, p_is_true}
+use Rattle.nz_spec.specs.Transcript.{Kept, IsTranscript, AreRight, texts_of}
+use Rattle.nz_spec.specs.Texts.{Sample, AreHeard, comment_samples, string_samples, quoted_samples, word_samples, group_samples, narrow_limits, limit_samples}
+use Rattle.nz_spec.specs.Reading.{hear_on, start as reading_start}
+use Rattle.nz_spec.proofs.Readings.{hears}
+use Rattle.nz_spec.specs.Example.{example_script, example_transcript, example_output}
 
 -- words, with a space between neighbours
 abbrev spaced : List (List ℕ) → Groups
@@ -25,16 +27,19 @@ things =
     ∷ command (spaced (codes "exit" ∷ []))
     ∷ []
 
+abbrev nothing_open : Open
+nothing_open = record { lists = []; last = None }
+
 pub example_output_is : texts_of example_transcript ≡ example_output
 example_output_is = refl
 
-spelled : text_of (script_pieces things []) ≡ example_script
+spelled : text_of (script_pieces things nothing_open) ≡ example_script
 spelled = refl
 
-longest : AreLongest (script_pieces things [])
+longest : AreLongest (script_pieces things nothing_open)
 longest = search rules
 
-told : map (λ (k : Kept). k.heard) example_transcript ≡ heard_from script_limits 0 things []
+told : map (λ (k : Kept). k.heard) example_transcript ≡ heard_from script_limits 0 things nothing_open
 told = refl
 
 right : AreRight solve_limit start example_transcript
@@ -46,10 +51,37 @@ example_is_transcript =
       rest = [];
       front =
           record {
-            heard = heard_from script_limits 0 things [];
-            hears = record { things = things; open_lists = []; spelled = spelled; longest = longest; told = refl };
+            heard = heard_from script_limits 0 things nothing_open;
+            hears = record { things = things; still_open = nothing_open; spelled = spelled; longest = longest; told = refl };
             told = search rules;
             right = right;
           };
       whole = inl refl;
     }
+
+-- ---- Short texts
+
+all_heard : (limits : Limits) (ss : List Sample) → map (λ (s : Sample). hear_on limits reading_start s.text) ss ≡ map (λ (s : Sample). s.heard) ss → AreHeard limits ss
+all_heard limits [] e = tt
+all_heard limits (s ∷ ss) e =
+    let first : hear_on limits reading_start s.text ≡ s.heard = cc in
+    let others : map (λ (s : Sample). hear_on limits reading_start s.text) ss ≡ map (λ (s : Sample). s.heard) ss = cc in
+    (subst (Hears limits s.text) first (hears limits s.text), all_heard limits ss others)
+
+pub comments_heard : AreHeard script_limits comment_samples
+comments_heard = all_heard script_limits comment_samples refl
+
+pub strings_heard : AreHeard script_limits string_samples
+strings_heard = all_heard script_limits string_samples refl
+
+pub quoted_heard : AreHeard script_limits quoted_samples
+quoted_heard = all_heard script_limits quoted_samples refl
+
+pub words_heard : AreHeard script_limits word_samples
+words_heard = all_heard script_limits word_samples refl
+
+pub groups_heard : AreHeard script_limits group_samples
+groups_heard = all_heard script_limits group_samples refl
+
+pub limits_heard : AreHeard narrow_limits limit_samples
+limits_heard = all_heard narrow_limits limit_samples refl

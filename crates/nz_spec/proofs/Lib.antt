@@ -4,6 +4,7 @@ pub mod FractionLaws
 pub mod FractionOrder
 pub mod InfinitesimalLaws
 pub mod Normal
+pub mod Pieces
 pub mod Readings
 pub mod Tables
 pub mod Tellings

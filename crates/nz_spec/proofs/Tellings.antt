@@ -2,8 +2,8 @@
 use Rattle.std.proofs.Common.{◌≡◌, ℕ, ◌+◌, List, [], ◌∷◌, ◌++◌, refl, sym, ◌∙◌, ap, arith, append_assoc}
 use Rattle.std.proofs.lemmas.List.{append-nil}
 use Rattle.nz_spec.specs.Tree.{Tree}
-use Rattle.nz_spec.specs.Text.{Limits, Heard, unclosed}
-use Rattle.nz_spec.specs.Reading.{Reading, start, refused, next, told_at, read_on, told_on, told_open, told_open_by, begins_at, with_byte, hear_on}
+use Rattle.nz_spec.specs.Text.{Limits, Heard, What, faulty, unclosed}
+use Rattle.nz_spec.specs.Reading.{Part, no_part, in_comment, in_word, in_string, after_quote, in_quoted, Reading, start, next, told_at, read_on, told_on, told_open, hear_on}
 use Rattle.nz_spec.specs.Told.{ReadingIsHeard, ReadingTellsFirst}
 use Rattle.nz_spec.proofs.Readings.{hears, hears_one}
 
@@ -32,20 +32,39 @@ common_front (z ∷ front) (o ∷ others) rest rest' x y apart h k =
     let r = common_front front others rest rest' x y apart h' k' in
     (r.0, ap (λ k. k ∷ front) p ∙ ap (λ k. o ∷ k) r.1)
 
--- What is open is told otherwise where one byte of a word follows: so it isn't complete.
-open_longest : (limits : Limits) (w : List ℕ) (ls : List (List Tree)) (s : Reading) (front others rest rest' : List Heard) → s.word ≡ w → s.levels ≡ ls → front ++ told_open s ≡ others ++ rest → front ++ hear_on limits s (97 ∷ []) ≡ others ++ rest' → (r : List Heard) × (front ≡ others ++ r)
-open_longest limits [] [] s front others rest rest' hw hl h k =
-    let e : told_open s ≡ [] = rw (hl, hw) refl in
-    (rest, sym (append-nil front) ∙ ap (λ m. front ++ m) (sym e) ∙ h)
-open_longest limits (b ∷ w) [] s front others rest rest' hw hl h k =
-    let x : told_open s ≡ refused s.from s.at ∷ [] = rw (hl, hw) refl in
-    let y : hear_on limits s (97 ∷ []) ≡ refused s.from (s.at + 1) ∷ [] = rw (hl, hw) refl in
-    common_front front others rest rest' (refused s.from s.at) (refused s.from (s.at + 1)) (λ e. let n : s.at ≡ s.at + 1 = ap (λ (t : Heard). t.to) e in omega arith) (ap (λ m. front ++ m) (sym x) ∙ h) (ap (λ m. front ++ m) (sym y) ∙ k)
-open_longest limits w (l ∷ ls) s front others rest rest' hw hl h k =
-    let x : told_open s ≡ record { from = s.from; to = s.at; what = unclosed } ∷ [] = rw hl refl in
-    let f : ℕ = begins_at s.word s.levels s in
-    let y : hear_on limits s (97 ∷ []) ≡ record { from = f; to = s.at + 1; what = unclosed } ∷ [] = ap (λ (m : List (List Tree)). told_open_by m (with_byte 97 s)) hl in
-    common_front front others rest rest' (record { from = s.from; to = s.at; what = unclosed }) (record { from = f; to = s.at + 1; what = unclosed }) (λ e. let n : s.at ≡ s.at + 1 = ap (λ (t : Heard). t.to) e in omega arith) (ap (λ m. front ++ m) (sym x) ∙ h) (ap (λ m. front ++ m) (sym y) ∙ k)
+-- What is told of what is open ends elsewhere where one more byte follows: so it isn't complete.
+ends_apart : (front others rest rest' : List Heard) (from at : ℕ) (w w' : What) (x y : List Heard) → x ≡ record { from = from; to = at; what = w } ∷ [] → y ≡ record { from = from; to = at + 1; what = w' } ∷ [] → front ++ x ≡ others ++ rest → front ++ y ≡ others ++ rest' → (r : List Heard) × (front ≡ others ++ r)
+ends_apart front others rest rest' from at w w' x y p q h k =
+    common_front front others rest rest' (record { from = from; to = at; what = w }) (record { from = from; to = at + 1; what = w' })
+    (λ e. let n : at ≡ at + 1 = ap (λ (t : Heard). t.to) e in omega arith) (ap (λ m. front ++ m) (sym p) ∙ h) (ap (λ m. front ++ m) (sym q) ∙ k)
+
+-- nothing is open
+none_open : (front others rest x : List Heard) → x ≡ [] → front ++ x ≡ others ++ rest → (r : List Heard) × (front ≡ others ++ r)
+none_open front others rest x e h = (rest, sym (append-nil front) ∙ ap (λ m. front ++ m) (sym e) ∙ h)
+
+-- A byte that makes what is open longer: after a quote that may be the last of a literal it is a second quote.
+abbrev more_of : Part → List ℕ
+more_of (after_quote w) = 34 ∷ []
+more_of p = 97 ∷ []
+
+-- a command that is open stays so with that byte
+longer_in : (limits : Limits) (l : List Tree) (ls : List (List Tree)) (s : Reading) → s.levels ≡ l ∷ ls → (p : Part) → s.part ≡ p → hear_on limits s (more_of p) ≡ record { from = s.from; to = s.at + 1; what = unclosed } ∷ []
+longer_in limits l ls s hl (after_quote w) hp = rw (hp, hl) refl
+longer_in limits l ls s hl p hp = rw (hp, hl) refl
+
+open_longest : (limits : Limits) (p : Part) (ls : List (List Tree)) (s : Reading) (front others rest rest' : List Heard) → s.part ≡ p → s.levels ≡ ls → front ++ told_open s ≡ others ++ rest → front ++ hear_on limits s (more_of p) ≡ others ++ rest' → (r : List Heard) × (front ≡ others ++ r)
+open_longest limits no_part [] s front others rest rest' hp hl h k = none_open front others rest (told_open s) (rw (hl, hp) refl) h
+open_longest limits in_comment [] s front others rest rest' hp hl h k = none_open front others rest (told_open s) (rw (hl, hp) refl) h
+open_longest limits (in_word w) [] s front others rest rest' hp hl h k =
+    ends_apart front others rest rest' s.from s.at (faulty 1) (faulty 1) (told_open s) (hear_on limits s (97 ∷ [])) (rw (hl, hp) refl) (rw (hl, hp) refl) h k
+open_longest limits (in_string w) [] s front others rest rest' hp hl h k =
+    ends_apart front others rest rest' s.from s.at unclosed unclosed (told_open s) (hear_on limits s (97 ∷ [])) (rw (hl, hp) refl) (rw (hl, hp) refl) h k
+open_longest limits (after_quote w) [] s front others rest rest' hp hl h k =
+    ends_apart front others rest rest' s.from s.at (faulty 1) unclosed (told_open s) (hear_on limits s (34 ∷ [])) (rw (hl, hp) refl) (rw (hl, hp) refl) h k
+open_longest limits (in_quoted w) [] s front others rest rest' hp hl h k =
+    ends_apart front others rest rest' s.from s.at unclosed unclosed (told_open s) (hear_on limits s (97 ∷ [])) (rw (hl, hp) refl) (rw (hl, hp) refl) h k
+open_longest limits p (l ∷ ls) s front others rest rest' hp hl h k =
+    ends_apart front others rest rest' s.from s.at unclosed unclosed (told_open s) (hear_on limits s (more_of p)) (rw hl refl) (longer_in limits l ls s hl p hp) h k
 
 pub reading_tells_first : ReadingTellsFirst
 reading_tells_first limits bytes told h = record {
@@ -53,8 +72,10 @@ reading_tells_first limits bytes told h = record {
   are_told = h;
   complete = λ more heard k. (hear_on limits (read_on start bytes) more, hears_one limits (bytes ++ more) heard k ∙ hear_on-split limits start bytes more);
   longest = λ others k.
+      let s : Reading = read_on start bytes in
+      let more : List ℕ = more_of s.part in
       let u = k [] (hear_on limits start (bytes ++ [])) (hears limits (bytes ++ [])) in
-      let v = k (97 ∷ []) (hear_on limits start (bytes ++ 97 ∷ [])) (hears limits (bytes ++ 97 ∷ [])) in
-      open_longest limits (read_on start bytes).word (read_on start bytes).levels (read_on start bytes) (told_on limits start bytes) others u.0 v.0 refl refl
-      (sym (hear_on-split limits start bytes []) ∙ u.1) (sym (hear_on-split limits start bytes (97 ∷ [])) ∙ v.1);
+      let v = k more (hear_on limits start (bytes ++ more)) (hears limits (bytes ++ more)) in
+      open_longest limits s.part s.levels s (told_on limits start bytes) others u.0 v.0 refl refl
+      (sym (hear_on-split limits start bytes []) ∙ u.1) (sym (hear_on-split limits start bytes more) ∙ v.1);
 }

@@ -11,6 +11,7 @@ pub mod Script
 pub mod Table
 pub mod Term
 pub mod Text
+pub mod Texts
 pub mod Told
 pub mod Transcript
 pub mod Tree

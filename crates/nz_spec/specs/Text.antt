@@ -1,52 +1,92 @@
 -- The text of a script: its bytes, the pieces that they spell, and the things that are heard
 -- (SMT-LIB 2.6, section 3.1, lexicon, and section 3.9, scripts). No machine is in these definitions: bytes are
 -- the spellings of pieces, and pieces are grouped by parentheses.
-use Rattle.std.specs.Prelude.{◌≡◌, ℕ, ◌+◌, ◌^◌, ◌==◌, ◌||◌, nat_lt, suc, max, Bool, true, false, List, [], ◌∷◌, ◌++◌, length, Option, Some, None, is_none, ⊤, if◌then◌else◌}
-use Rattle.nz_spec.specs.Tree.{Token, symbol, Tree, leaf, node, Trees, no_trees, trees, is_simple_symbol}
+use Rattle.std.specs.Prelude.{◌≡◌, ℕ, ◌+◌, ◌^◌, ◌==◌, ◌||◌, ◌&&◌, not, nat_le, nat_lt, suc, max, Bool, true, false, List, [], ◌∷◌, ◌++◌, length, Option, Some, None, is_none, ⊤, if◌then◌else◌}
+use Rattle.std.specs.List.{list_all}
+use Rattle.nz_spec.specs.Tree.{Token, symbol, literal, Tree, leaf, node, Trees, no_trees, trees, word_token}
 
 -- ---- Bytes
 
--- what a byte is, where no word goes on
+-- what a byte is, where no word goes on and no comment, literal or quoted symbol is open
 pub data ByteClass : Type 0 where
   blank_byte : ByteClass  -- tab, line feed, carriage return, space
   left_byte : ByteClass  -- (
   right_byte : ByteClass  -- )
-  mark_byte : ByteClass  -- one of ; " |
+  comment_byte : ByteClass  -- ;
+  quote_byte : ByteClass  -- "
+  bar_byte : ByteClass  -- |
   word_byte : ByteClass  -- any other
+
+abbrev pub is_blank_byte : ℕ → Bool
+is_blank_byte b = (b == 9) || (b == 10) || (b == 13) || (b == 32)
 
 abbrev pub class_of : ℕ → ByteClass
 class_of b =
-    if (b == 9) || (b == 10) || (b == 13) || (b == 32) then blank_byte
+    if is_blank_byte b then blank_byte
     else (if b == 40 then left_byte
     else (if b == 41 then right_byte
-    else (if (b == 59) || (b == 34) || (b == 124) then mark_byte
-    else word_byte)))
+    else (if b == 59 then comment_byte
+    else (if b == 34 then quote_byte
+    else (if b == 124 then bar_byte
+    else word_byte)))))
 
 abbrev pub IsClass : ByteClass → ℕ → Type 0
 IsClass c b = class_of b ≡ c
+
+-- a byte by which a comment ends
+abbrev pub is_line_end : ℕ → Bool
+is_line_end b = (b == 10) || (b == 13)
+
+-- a byte that may stand in a string literal: white space, one that prints, or one above ASCII
+abbrev pub is_literal_byte : ℕ → Bool
+is_literal_byte b = is_blank_byte b || (nat_le 32 b && not (b == 127))
+
+-- a byte that may stand in a quoted symbol: the same, but no bar and no backslash
+abbrev pub is_quoted_byte : ℕ → Bool
+is_quoted_byte b = is_literal_byte b && not (b == 124) && not (b == 92)
 
 -- ---- Pieces: what bytes spell
 
 -- what may stand between parentheses, beside lists
 pub data Filler : Type 0 where
   gap : ℕ → Filler  -- one byte of white space
-  mark : ℕ → Filler  -- a byte that is no token by itself
+  comment : List ℕ → Filler  -- what follows ; on its line
   word : List ℕ → Filler  -- a longest run of word bytes
+  string : List ℕ → Filler  -- a string literal, by its text
+  quoted : List ℕ → Filler  -- a quoted symbol, by its name
+
+-- what the end of the text leaves open
+pub data Unfinished : Type 0 where
+  open_string : List ℕ → Unfinished
+  open_quoted : List ℕ → Unfinished
 
 pub data Piece : Type 0 where
   opening : Piece
   closing : Piece
   filler : Filler → Piece
+  unfinished : Unfinished → Piece
+
+-- in a string literal two quotes stand for one
+abbrev pub with_quotes_doubled : List ℕ → List ℕ
+with_quotes_doubled [] = []
+with_quotes_doubled (b ∷ bs) = if b == 34 then 34 ∷ 34 ∷ with_quotes_doubled bs else b ∷ with_quotes_doubled bs
 
 abbrev pub spelling_of : Filler → List ℕ
 spelling_of (gap b) = b ∷ []
-spelling_of (mark b) = b ∷ []
+spelling_of (comment bs) = 59 ∷ bs
 spelling_of (word bs) = bs
+spelling_of (string bs) = 34 ∷ with_quotes_doubled bs ++ 34 ∷ []
+spelling_of (quoted bs) = 124 ∷ bs ++ 124 ∷ []
+
+abbrev pub unfinished_spelling : Unfinished → List ℕ
+unfinished_spelling (open_string bs) = 34 ∷ with_quotes_doubled bs
+unfinished_spelling (open_quoted bs) = 124 ∷ bs
 
 abbrev pub spelling : Piece → List ℕ
 spelling opening = 40 ∷ []
 spelling closing = 41 ∷ []
 spelling (filler f) = spelling_of f
+spelling (unfinished u) = unfinished_spelling u
 
 -- each byte of a list is of this class
 abbrev pub AllOfClass : ByteClass → List ℕ → Type 0
@@ -58,14 +98,36 @@ abbrev pub BeginsWord : List ℕ → Type 0
 BeginsWord [] = ⊥
 BeginsWord (b ∷ bs) = IsClass word_byte b
 
--- The piece may stand where these bytes come after it: its bytes are of its kind, and no word is longer than it is told.
+-- no byte of a list is one of these
+abbrev pub HasNone : (ℕ → Bool) → List ℕ → Type 0
+HasNone test [] = ⊤
+HasNone test (b ∷ bs) = (test b ≡ false) × HasNone test bs
+
+-- the list is empty, or begins with one of these bytes
+abbrev pub EndsOrBegins : (ℕ → Bool) → List ℕ → Type 0
+EndsOrBegins test [] = ⊤
+EndsOrBegins test (b ∷ bs) = test b ≡ true
+
+abbrev pub is_quote : ℕ → Bool
+is_quote b = b == 34
+
+abbrev pub is_bar : ℕ → Bool
+is_bar b = b == 124
+
+-- The piece may stand where these bytes come after it: its bytes are of its kind, it is as long as it can be, and nothing
+-- follows what the text leaves open.
 abbrev pub StandsBefore : Piece → List ℕ → Type 0
 StandsBefore opening rest = ⊤
 StandsBefore closing rest = ⊤
 StandsBefore (filler (gap b)) rest = IsClass blank_byte b
-StandsBefore (filler (mark b)) rest = IsClass mark_byte b
+StandsBefore (filler (comment bs)) rest = HasNone is_line_end bs × EndsOrBegins is_line_end rest
 StandsBefore (filler (word [])) rest = ⊥
 StandsBefore (filler (word (b ∷ bs))) rest = AllOfClass word_byte (b ∷ bs) × (BeginsWord rest → ⊥)
+StandsBefore (filler (string bs)) [] = ⊤
+StandsBefore (filler (string bs)) (b ∷ rest) = is_quote b ≡ false
+StandsBefore (filler (quoted bs)) rest = HasNone is_bar bs
+StandsBefore (unfinished (open_string bs)) rest = rest ≡ []
+StandsBefore (unfinished (open_quoted bs)) rest = HasNone is_bar bs × (rest ≡ [])
 
 -- the bytes of the pieces, one after another
 abbrev pub text_of : List Piece → List ℕ
@@ -109,39 +171,56 @@ thing_pieces (loose f) rest = filler f ∷ rest
 thing_pieces unmatched rest = closing ∷ rest
 thing_pieces (command gs) rest = opening ∷ groups_pieces gs (closing ∷ rest)
 
--- lists that are still open at the end of the text, the outermost first, each with what stands in it so far
-abbrev pub open_pieces : List Groups → List Piece
-open_pieces [] = []
-open_pieces (gs ∷ inner) = opening ∷ groups_pieces gs (open_pieces inner)
+-- What is still open at the end of the text: lists, the outermost first, each with what stands in it so far; and in the
+-- innermost, or outside any, a string literal or a quoted symbol.
+pub record Open : Type 0 where
+  pub lists : List Groups
+  pub last : Option Unfinished
 
--- a whole text: things, and then the lists that never close
-abbrev pub script_pieces : List Thing → List Groups → List Piece
-script_pieces [] open_lists = open_pieces open_lists
-script_pieces (t ∷ ts) open_lists = thing_pieces t (script_pieces ts open_lists)
+abbrev pub last_pieces : Option Unfinished → List Piece
+last_pieces None = []
+last_pieces (Some u) = unfinished u ∷ []
+
+abbrev pub open_pieces : List Groups → Option Unfinished → List Piece
+open_pieces [] last = last_pieces last
+open_pieces (gs ∷ inner) last = opening ∷ groups_pieces gs (open_pieces inner last)
+
+-- a whole text: things, and then what is still open
+abbrev pub script_pieces : List Thing → Open → List Piece
+script_pieces [] o = open_pieces o.lists o.last
+script_pieces (t ∷ ts) o = thing_pieces t (script_pieces ts o)
 
 -- ---- What is heard
 
--- the token that a word is, if it is one
-abbrev pub token_of : List ℕ → Option Token
-token_of bs = if is_simple_symbol bs then Some (symbol bs) else None
+-- white space, or a comment
+abbrev pub is_blank : Filler → Bool
+is_blank (gap b) = true
+is_blank (comment bs) = true
+is_blank (word bs) = false
+is_blank (string bs) = false
+is_blank (quoted bs) = false
 
--- the trees of the groups, where each word of theirs is a token
+-- the token that a filler is, if it is one
+abbrev pub token_of : Filler → Option Token
+token_of (gap b) = None
+token_of (comment bs) = None
+token_of (word bs) = word_token bs
+token_of (string bs) = if list_all is_literal_byte bs then Some (literal bs) else None
+token_of (quoted bs) = if list_all is_quoted_byte bs then Some (symbol bs) else None
+
+-- the trees of the groups, where each filler of theirs is blank or a token
 abbrev mutual
   pub tree_onto : Group → Trees → Trees
-  tree_onto (single (gap b)) rest = rest
-  tree_onto (single (mark b)) rest = rest
-  tree_onto (single (word bs)) rest = elim (token_of bs) [ Some t ↦ trees (leaf t) rest | None ↦ rest ]
+  tree_onto (single f) rest = elim (token_of f) [ Some t ↦ trees (leaf t) rest | None ↦ rest ]
   tree_onto (nest gs) rest = trees (node (trees_of gs)) rest
 
   pub trees_of : Groups → Trees
   trees_of no_groups = no_trees
   trees_of (groups g gs) = tree_onto g (trees_of gs)
 
--- a filler that is no white space and no token
+-- a filler that is no token, and not blank
 abbrev pub is_bad_filler : Filler → Bool
-is_bad_filler (gap b) = false
-is_bad_filler (mark b) = true
-is_bad_filler (word bs) = is_none (token_of bs)
+is_bad_filler f = not (is_blank f) && is_none (token_of f)
 
 -- some token in the groups is bad
 abbrev mutual
@@ -191,29 +270,29 @@ command_what limits gs =
     else (if nat_lt limits.depth (suc (groups_depth gs)) || nat_lt limits.bytes (thing_length (command gs)) then faulty 6
     else whole (node (trees_of gs)))
 
--- A thing is heard as one thing, but white space as none; at is the place of its first byte.
+-- A thing is heard as one thing, but white space and comments as none; at is the place of its first byte.
 abbrev pub heard_thing : Limits → ℕ → Thing → List Heard
-heard_thing limits at (loose (gap b)) = []
-heard_thing limits at (loose (mark b)) = record { from = at; to = at + 1; what = faulty 1 } ∷ []
-heard_thing limits at (loose (word bs)) = record { from = at; to = at + length bs; what = faulty 1 } ∷ []
+heard_thing limits at (loose f) = if is_blank f then [] else record { from = at; to = at + length (spelling_of f); what = faulty 1 } ∷ []
 heard_thing limits at unmatched = record { from = at; to = at + 1; what = faulty 1 } ∷ []
 heard_thing limits at (command gs) = record { from = at; to = at + thing_length (command gs); what = command_what limits gs } ∷ []
 
-abbrev pub heard_open : ℕ → List Groups → List Heard
-heard_open at [] = []
-heard_open at (gs ∷ inner) = record { from = at; to = at + length (text_of (open_pieces (gs ∷ inner))); what = unclosed } ∷ []
+-- what is open is heard as one incomplete command
+abbrev pub heard_open : ℕ → List Groups → Option Unfinished → List Heard
+heard_open at [] None = []
+heard_open at [] (Some u) = record { from = at; to = at + length (unfinished_spelling u); what = unclosed } ∷ []
+heard_open at (gs ∷ inner) last = record { from = at; to = at + length (text_of (open_pieces (gs ∷ inner) last)); what = unclosed } ∷ []
 
-abbrev pub heard_from : Limits → ℕ → List Thing → List Groups → List Heard
-heard_from limits at [] open_lists = heard_open at open_lists
-heard_from limits at (t ∷ ts) open_lists = heard_thing limits at t ++ heard_from limits (at + thing_length t) ts open_lists
+abbrev pub heard_from : Limits → ℕ → List Thing → Open → List Heard
+heard_from limits at [] o = heard_open at o.lists o.last
+heard_from limits at (t ∷ ts) o = heard_thing limits at t ++ heard_from limits (at + thing_length t) ts o
 
 -- The bytes are the spellings of pieces, each the longest, which are grouped so; and these are the things heard.
 pub record Hears (limits : Limits) (bytes : List ℕ) (heard : List Heard) : Type 0 where
   pub things : List Thing
-  pub open_lists : List Groups
-  pub spelled : text_of (script_pieces things open_lists) ≡ bytes
-  pub longest : AreLongest (script_pieces things open_lists)
-  pub told : heard ≡ heard_from limits 0 things open_lists
+  pub still_open : Open
+  pub spelled : text_of (script_pieces things still_open) ≡ bytes
+  pub longest : AreLongest (script_pieces things still_open)
+  pub told : heard ≡ heard_from limits 0 things still_open
 
 -- Each text is heard in exactly one way.
 abbrev pub OneReading : Type 0

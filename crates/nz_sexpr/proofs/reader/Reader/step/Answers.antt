@@ -1,18 +1,22 @@
 use Rattle.std.proofs.Common.{◌≡◌, ◌++◌, ◌∷◌, sym, subst, arith, [], List, take, get_or, append-nil, append_assoc, length-take, ℕ, ◌+◌, ◌<◌, ◌^◌}
+use Rattle.nz_spec.specs.Text.{HasNone}
 use Rattle.nz_spec.specs.Kept.{AreToldAs}
 use Rattle.nz_spec.specs.Reading.{start, read_on, told_on}
 use Rattle.nz_sexpr.specs.Matches.{Matches, told}
-use Rattle.nz_sexpr.proofs.Feeding.{read_on-append, told_on-words, told_more, bytes_read, take_one}
+use Rattle.nz_sexpr.proofs.Feeding.{read_on-append,  told_more, bytes_read, take_one}
+use Rattle.nz_sexpr.specs.Part.{ends, part_of}
+use Rattle.nz_sexpr.proofs.Runs.{told_run}
 use Rattle.nz_sexpr.proofs.reader.Reader.step.Goals as goal
 
 pub returns-then-run-gt0-clause-heard : goal.returns-then-run-gt0-clause-heard
 returns-then-run-gt0-clause-heard c limits bytes things fits few =
-    let run : List ℕ = take c.word_run-run.result c.args.rest.now in
+    let run : List ℕ = take c.run-run.result c.args.rest.now in
     let before : AreToldAs (things ++ []) (told_on limits start bytes) = subst (λ o. AreToldAs (things ++ told o) (told_on limits start bytes)) c.requires.settled fits.things in
-    let none : AreToldAs [] (told_on limits (read_on start bytes) run) = subst (AreToldAs []) (sym (told_on-words limits (read_on start bytes) run c.word_run-run.ensures.words)) tt in
+    let within : HasNone (ends (part_of (read_on start bytes).part)) run = subst (λ p. HasNone (ends p) run) fits.state.part c.run-run.ensures.within in
+    let none : AreToldAs [] (told_on limits (read_on start bytes) run) = subst (AreToldAs []) (sym (told_run limits run (read_on start bytes) within)) tt in
     let after : AreToldAs (things ++ []) (told_on limits start (bytes ++ run)) = told_more limits bytes run things [] before none in
     record {
-      state = subst (Matches limits _) (sym (read_on-append start bytes run)) (c.read_word.ensures.state c.word_run-run.ensures.words limits (read_on start bytes) fits.state (omega (arith, bytes_read bytes, length-take c.word_run-run.result c.args.rest.now)));
+      state = subst (Matches limits _) (sym (read_on-append start bytes run)) (c.read_run.ensures.state c.run-run.ensures.within limits (read_on start bytes) fits.state (omega (arith, bytes_read bytes, length-take c.run-run.result c.args.rest.now)));
       things = subst (λ o. AreToldAs ((things ++ []) ++ told o) (told_on limits start (bytes ++ run))) (sym c.requires.settled) (subst (λ k. AreToldAs k (told_on limits start (bytes ++ run))) (sym (append-nil (things ++ []))) after);
     }
 

@@ -1,10 +1,11 @@
-use Rattle.std.proofs.Common.{◌≡◌, ◌+◌, ◌∷◌, ◌∙◌, sym, ap, subst, []}
+use Rattle.std.proofs.Common.{◌≡◌, ◌+◌, ◌-◌, ◌^◌, min, ◌∷◌, ◌∙◌, sym, ap, subst, []}
 use Rattle.nz_spec.specs.Text.{Heard}
 use Rattle.nz_spec.specs.Kept.{AreToldAs}
-use Rattle.nz_spec.specs.Reading.{passed, told_closed, told_closed_by, what_of}
+use Rattle.nz_spec.specs.Reading.{closed, passed, told_closed, told_closed_by, what_of}
 use Rattle.nz_sexpr.specs.View.{heard_view}
 use Rattle.nz_sexpr.specs.Matches.{Matches}
-use Rattle.nz_sexpr.proofs.Keeping.{one_open, passes}
+use Rattle.nz_sexpr.proofs.Keeping.{one_open, passes, command_closes}
+use Rattle.nz_sexpr.specs.declared.scan.Scan.{Scan}
 use Rattle.nz_sexpr.proofs.scan.Scan.close_command.Goals as goal
 
 pub returns-clause-heard : goal.returns-clause-heard
@@ -23,3 +24,11 @@ returns-clause-heard c limits s m few =
       },
       tt,
     )
+
+pub returns-clause-state : goal.returns-clause-state
+returns-clause-state c limits s m few =
+    let what = c.take_command-what in
+    let e : what.new.self ≡ record c.args.self.now { at = min (c.args.self.now.at + 1) (2 ^ 64 - 1); store = what.new.self.store } =
+    what.ensures.rest ∙ ap (λ (v : Scan). record v { store = what.new.self.store }) c.pass.ensures.counted in
+    subst (λ (v : Scan). Matches limits (record v { depth = 0 }) (closed s)) (sym e)
+    (command_closes limits c.args.self.now s what.new.self.store m c.requires few what.ensures.ended)
