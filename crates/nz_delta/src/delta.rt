@@ -1,4 +1,9 @@
 //! Infinitesimal numbers.
+ghost use Rattle.std.specs.Prelude.{◌≡◌};
+ghost use Rattle.nz_spec.specs.Fraction.{Fraction};
+ghost use Rattle.nz_spec.specs.Infinitesimal.{◌=δ◌, ◌+δ◌, ◌-δ◌, scaled, infinitesimal_cmp};
+ghost use Rattle.nz_delta.specs.DeltaSpace.{infinitesimal_of, delta_plus, delta_minus, delta_scaled, delta_cmp};
+
 use crate::scalar::Scalar;
 use nz_frac::{Frac, Wide};
 use std::cmp::Ordering;
@@ -63,3 +68,11 @@ impl Scalar for Delta {
         }
     }
 }
+
+/// What `Delta`'s operations answer has the value of the infinitesimal number, and `cmp` is its order.
+pub fn stands_for_infinitesimal()
+    ensures sum { (x : Delta) → (y : Delta) → infinitesimal_of (delta_plus x y) =δ (infinitesimal_of x +δ infinitesimal_of y) }
+    ensures difference { (x : Delta) → (y : Delta) → infinitesimal_of (delta_minus x y) =δ (infinitesimal_of x -δ infinitesimal_of y) }
+    ensures product { (x : Delta) → (q : Fraction) → infinitesimal_of (delta_scaled x q) =δ scaled (infinitesimal_of x) q }
+    ensures order { (x : Delta) → (y : Delta) → delta_cmp x y ≡ infinitesimal_cmp (infinitesimal_of x) (infinitesimal_of y) }
+{}

@@ -10,7 +10,7 @@ mod delta;
 mod scalar;
 
 pub use choose::choose_delta;
-pub use delta::Delta;
+pub use delta::{Delta, stands_for_infinitesimal};
 pub use scalar::Scalar;
 
 #[cfg(test)]

@@ -1,5 +1,7 @@
 //! Values worked out by hand, and the laws used without knowing the type.
-ghost use Rattle.std.specs.Prelude.{◌≡◌, IfSome, ◌<ℤ◌};
+ghost use Rattle.std.specs.Prelude.{◌≡◌, IfSome, ◌<ℤ◌, pos};
+ghost use Rattle.std.specs.declared.cmp.Ordering.TheVariants.{Equal};
+ghost use Rattle.nz_spec.specs.Fraction.{whole, ◌<ℚ◌};
 ghost use Rattle.nz_spec.specs.Infinitesimal.{◌≤δ◌};
 ghost use Rattle.nz_delta.specs.DeltaSpace.{infinitesimal_of};
 
@@ -17,6 +19,36 @@ fn compared_after_adding<S: Scalar>(x: S, y: S, z: S) -> Option<Ordering>
     match x.add(z) {
         Ok(left) => match y.add(z) {
             Ok(right) => Some(left.cmp(&right)),
+            Err(_) => None,
+        },
+        Err(_) => None,
+    }
+}
+
+/// How two numbers compare after both were scaled: as before by a fraction above 0, turned by one below, by the laws alone.
+fn compared_after_scaling<S: Scalar>(x: S, y: S, by: Frac) -> Option<Ordering>
+    ensures kept { IfSome result (λ o. whole (pos 0) <ℚ by → o ≡ S.order x y) }
+    ensures turned { IfSome result (λ o. by <ℚ whole (pos 0) → o ≡ S.order y x) }
+{
+    match x.scale(by) {
+        Ok(left) => match y.scale(by) {
+            Ok(right) => Some(left.cmp(&right)),
+            Err(_) => None,
+        },
+        Err(_) => None,
+    }
+}
+
+/// How x and the whole way from x to y compares with y: equal, by the laws alone.
+fn compared_after_the_way<S: Scalar>(x: S, y: S) -> Option<Ordering>
+    ensures { IfSome result (λ o. o ≡ Equal) }
+{
+    match y.sub(x) {
+        Ok(way) => match way.scale(Frac::whole(1)) {
+            Ok(walked) => match x.add(walked) {
+                Ok(end) => Some(end.cmp(&y)),
+                Err(_) => None,
+            },
             Err(_) => None,
         },
         Err(_) => None,
@@ -65,6 +97,48 @@ fn orders_by_the_first_part_first(rt: HostRuntime) -> Result<(), Fail> {
 }
 
 #[test]
+fn meets_the_laws_as_fractions(rt: HostRuntime) -> Result<(), Fail> {
+    assert_eq!(rt;
+        compared_after_adding(frac(1, 3)?, frac(1, 2)?, frac(-5, 7)?),
+        Some(Ordering::Less)
+    );
+    assert_eq!(rt;
+        compared_after_scaling(frac(1, 3)?, frac(1, 2)?, frac(2, 3)?),
+        Some(Ordering::Less)
+    );
+    assert_eq!(rt;
+        compared_after_scaling(frac(1, 3)?, frac(1, 2)?, frac(-2, 3)?),
+        Some(Ordering::Greater)
+    );
+    assert_eq!(rt;
+        compared_after_the_way(frac(1, 3)?, frac(-1, 2)?),
+        Some(Ordering::Equal)
+    );
+    assert_eq!(rt;
+        compared_after_adding(frac(M, 1)?, frac(0, 1)?, frac(1, 1)?),
+        None
+    );
+    Ok(())
+}
+
+#[test]
+fn meets_the_laws_as_infinitesimals(rt: HostRuntime) -> Result<(), Fail> {
+    assert_eq!(rt;
+        compared_after_scaling(delta(1, 0)?, delta(1, 1)?, frac(2, 3)?),
+        Some(Ordering::Less)
+    );
+    assert_eq!(rt;
+        compared_after_scaling(delta(1, 0)?, delta(1, 1)?, frac(-2, 3)?),
+        Some(Ordering::Greater)
+    );
+    assert_eq!(rt;
+        compared_after_the_way(delta(1, 2)?, delta(3, -4)?),
+        Some(Ordering::Equal)
+    );
+    Ok(())
+}
+
+#[test]
 fn names_the_part_that_is_wide(rt: HostRuntime) -> Result<(), Fail> {
     match delta(1, M)?.add(delta(1, 2)?) {
         Err(Wide { op, a, b }) => {
@@ -106,4 +180,36 @@ fn chooses_at_most_one(rt: HostRuntime) {
     let pairs = [pair(0, 1, 5, 0)];
     let chosen = choose_delta(&pairs);
     assert_eq!(rt; chosen.ok().map(|q| (q.num(), q.den())), Some((1, 1)));
+}
+
+/// The two as a pair, where their first parts are in order.
+fn in_order(low: Delta, high: Delta) -> Option<(Delta, Delta)>
+    ensures { IfSome result (λ p. infinitesimal_of p.0 ≤δ infinitesimal_of p.1) }
+{
+    if low.c < high.c {
+        Some((low, high))
+    } else {
+        None
+    }
+}
+
+#[test]
+fn names_what_is_wide_in_a_limit(rt: HostRuntime) -> Result<(), Fail> {
+    // -1 + δ <= M would hold up to M + 1.
+    match in_order(delta(-1, 1)?, delta(M, 0)?) {
+        Some(pair) => match choose_delta(&[pair]) {
+            Err(Wide { op, a, b }) => {
+                assert!(rt; op == Op::Sub);
+                assert_eq!(rt; (a.num(), b.num()), (M, -1));
+            }
+            Ok(_) => assert!(rt; false),
+        },
+        None => assert!(rt; false),
+    }
+    // -1 <= M sets no limit, so nothing is computed.
+    match in_order(delta(-1, 0)?, delta(M, 0)?) {
+        Some(pair) => assert!(rt; choose_delta(&[pair]).is_ok()),
+        None => assert!(rt; false),
+    }
+    Ok(())
 }

@@ -272,7 +272,9 @@ impl Frac {
     }
 
     /// The sum over the least common multiple of the denominators. What the sum and that multiple share divides the
-    /// greatest common divisor of the denominators, so that is all that has to be taken out.
+    /// greatest common divisor of the denominators, so that is all that has to be taken out. It stays out of line: the sum
+    /// of whole numbers is short then.
+    #[inline(never)]
     fn sum_over_multiple(self, other: Frac) -> Option<Frac>
         ensures { SomeIff result (IsFalse (is_wide_sum self other)) (outcome Sum self other) }
     {
@@ -309,6 +311,8 @@ impl Frac {
     }
 
     /// The product with what each numerator shares with the other's denominator taken out before: nothing else is shared.
+    /// It stays out of line: the product of whole numbers is short then.
+    #[inline(never)]
     fn reduced_product(self, other: Frac) -> Option<Frac>
         ensures { SomeIff result (IsFalse (is_wide_product self other)) (outcome Product self other) }
     {

@@ -17,6 +17,14 @@ fn sum(a: (i128, i128), b: (i128, i128)) -> Result<Option<(i128, i128)>, Fail> {
     Ok(frac(a.0, a.1)?.add(frac(b.0, b.1)?).ok().map(parts))
 }
 
+fn quotient(a: (i128, i128), b: (i128, i128)) -> Result<Option<(i128, i128)>, Fail> {
+    let divisor = frac(b.0, b.1)?;
+    if divisor.num() == 0 {
+        return Err("the divisor is 0")?;
+    }
+    Ok(frac(a.0, a.1)?.div(divisor).ok().map(parts))
+}
+
 fn product(a: (i128, i128), b: (i128, i128)) -> Result<Option<(i128, i128)>, Fail> {
     Ok(frac(a.0, a.1)?.mul(frac(b.0, b.1)?).ok().map(parts))
 }
@@ -50,6 +58,18 @@ fn adds_up_to_the_edge(rt: HostRuntime) -> Result<(), Fail> {
     assert_eq!(rt; sum((1, M), (1, M - 1))?, None);
     // A part over the multiple is beyond M, though the sum in lowest terms would fit: M/1 - M/2 = M/2.
     assert_eq!(rt; sum((M, 1), (-M, 2))?, None);
+    // 2^63 * (2^64 - 1) = 2^127 - 2^63 is at most M, and 2^63 * (2^64 + 1) isn't.
+    assert_eq!(rt;
+        sum((1, 1 << 63), (1, (1 << 64) - 1))?,
+        Some(((1 << 64) - 1 + (1 << 63), M - (1 << 63) + 1))
+    );
+    assert_eq!(rt; sum((1, 1 << 63), (1, (1 << 64) + 1))?, None);
+    // Over 2, 2^126 - 1 is M - 1: one half more just fits, three halves don't.
+    assert_eq!(rt; sum(((1 << 126) - 1, 1), (1, 2))?, Some((M, 2)));
+    assert_eq!(rt; sum((1 - (1 << 126), 1), (-1, 2))?, Some((-M, 2)));
+    assert_eq!(rt; sum(((1 << 126) - 1, 1), (3, 2))?, None);
+    // Over 2, 2^126 is M + 1, though the sum M/2 would fit.
+    assert_eq!(rt; sum((1 << 126, 1), (-1, 2))?, None);
     // 1/2 + 1/2 is in lowest terms only once the shared 2 is taken out.
     assert_eq!(rt; sum((1, 2), (1, 2))?, Some((1, 1)));
     Ok(())
@@ -86,10 +106,21 @@ fn names_what_is_wide(rt: HostRuntime) -> Result<(), Fail> {
 
 #[test]
 fn divides_with_the_sign_above(rt: HostRuntime) -> Result<(), Fail> {
-    let (a, b) = (frac(3, 4)?, frac(-9, 8)?);
-    if b.num() != 0 {
-        assert_eq!(rt; a.div(b).ok().map(parts), Some((-2, 3)));
-    }
+    assert_eq!(rt; quotient((3, 4), (-9, 8))?, Some((-2, 3)));
+    assert_eq!(rt; quotient((-3, 4), (-9, 8))?, Some((2, 3)));
+    assert_eq!(rt; quotient((0, 1), (-3, 1))?, Some((0, 1)));
+    Ok(())
+}
+
+#[test]
+fn divides_up_to_the_edge(rt: HostRuntime) -> Result<(), Fail> {
+    assert_eq!(rt; quotient((M, 1), (-M, 1))?, Some((-1, 1)));
+    assert_eq!(rt; quotient((1, M), (1, M))?, Some((1, 1)));
+    assert_eq!(rt; quotient((1, 1), (1, M))?, Some((M, 1)));
+    // M and 2 are shared crosswise.
+    assert_eq!(rt; quotient((M, 2), (M, 4))?, Some((2, 1)));
+    assert_eq!(rt; quotient((M, 1), (1, 2))?, None);
+    assert_eq!(rt; quotient((1, M), (2, 1))?, None);
     Ok(())
 }
 
@@ -100,7 +131,11 @@ fn rounds_down_and_up(rt: HostRuntime) -> Result<(), Fail> {
     assert_eq!(rt; parts(frac(7, 2)?.floor()), (3, 1));
     assert_eq!(rt; parts(frac(7, 2)?.ceil()), (4, 1));
     assert_eq!(rt; parts(frac(-1, M)?.floor()), (-1, 1));
+    assert_eq!(rt; parts(frac(1, M)?.ceil()), (1, 1));
     assert_eq!(rt; parts(frac(-M, 1)?.ceil()), (-M, 1));
+    // M is 2 * (2^126 - 1) + 1.
+    assert_eq!(rt; parts(frac(-M, 2)?.floor()), (-(1 << 126), 1));
+    assert_eq!(rt; parts(frac(M, 2)?.ceil()), (1 << 126, 1));
     Ok(())
 }
 
@@ -113,5 +148,14 @@ fn compares_where_products_take_two_words(rt: HostRuntime) -> Result<(), Fail> {
     );
     assert_eq!(rt; frac(1, 3)?.cmp(&frac(2, 5)?), Ordering::Less);
     assert_eq!(rt; frac(-1, 2)?.cmp(&frac(1, 3)?), Ordering::Less);
+    Ok(())
+}
+
+#[test]
+fn compares_equal_values_alike(rt: HostRuntime) -> Result<(), Fail> {
+    assert!(rt; frac(2, -4)? == frac(-1, 2)?);
+    assert!(rt; frac(1, 2)? != frac(1, 3)?);
+    assert_eq!(rt; frac(M, 1)?.neg().cmp(&frac(-M, 1)?), Ordering::Equal);
+    assert_eq!(rt; frac(1, M)?.cmp(&frac(1, M - 1)?), Ordering::Less);
     Ok(())
 }
