@@ -5,7 +5,7 @@ use Rattle.nz_spec.specs.Term.{Constant, Head, constant, verum, falsum, negation
 use Rattle.nz_spec.specs.Table.{Node, term_in}
 use Rattle.nz_spec.specs.Script.{Binding}
 use Rattle.nz_spec.specs.Reply.{assignment_of, Note, atom_note}
-use Rattle.nz_spec.specs.Work.{WorkEntry, DecisionEntry, LearnedEntry, WorkLine, UnitLine, NoteLine}
+use Rattle.nz_spec.specs.Work.{DecisionEntry, LearnedEntry, WorkLine, UnitLine, NoteLine}
 
 -- ---- Constants and asserted terms
 

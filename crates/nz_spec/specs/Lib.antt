@@ -14,4 +14,5 @@ pub mod Text
 pub mod Told
 pub mod Transcript
 pub mod Tree
+pub mod TruthTables
 pub mod Work

@@ -1,9 +1,9 @@
 -- Commands and the live state (SMT-LIB 2.6, section 3.9 and chapter 4): what a tree asks for, where it is accepted, and
 -- the stack of levels that the accepted commands leave.
-use Rattle.std.specs.Prelude.{◌≡◌, ℕ, ◌+◌, ◌<◌, ◌&&◌, ◌==◌, suc, not, nat_lt, Bool, true, false, IsTrue, List, [], ◌∷◌, ◌++◌, length, map, Option, Some, None, option_map, option_and_then, is_some, is_none, codes, bytes_eq, find, if◌then◌else◌}
+use Rattle.std.specs.Prelude.{ℕ, ◌&&◌, ◌==◌, suc, not, nat_lt, Bool, List, [], ◌∷◌, ◌++◌, length, Option, Some, None, option_map, option_and_then, is_some, is_none, codes, bytes_eq, if◌then◌else◌}
 use Rattle.std.specs.List.{list_any}
-use Rattle.nz_spec.specs.Tree.{Token, symbol, Tree, leaf, node, Trees, no_trees, trees}
-use Rattle.nz_spec.specs.Term.{Sort, bool_sort, Constant, Head, constant, verum, falsum, negation, conjunction, disjunction, implication, exclusion, equality, distinction, choice, Term, apply, Terms, no_terms, terms, Value, truth, Assignment}
+use Rattle.nz_spec.specs.Tree.{symbol, Tree, leaf, node, Trees, no_trees, trees}
+use Rattle.nz_spec.specs.Term.{bool_sort, Constant, Head, constant, verum, falsum, negation, conjunction, disjunction, implication, exclusion, equality, distinction, choice, Term, apply, Terms, no_terms, terms, Value}
 
 -- ---- Names
 
