@@ -5,8 +5,8 @@ use Rattle.std.specs.declared.alloc.Global.{Global}
 use Rattle.std.proofs.lemmas.Slice.Eq.{bytes_eq-Decides}
 use Rattle.nz_spec.specs.Transcript.{Kept}
 use Rattle.nz_spec.specs.Run.{TakesSolve}
-use Rattle.nz_session.specs.declared.reply.Kept as kept
-use Rattle.nz_session.specs.Replies.{all_kept, kept_of}
+use Rattle.nz_reply.specs.declared.reply.Kept as kept
+use Rattle.nz_reply.specs.Replies.{all_kept, kept_of}
 
 or_right : (a b : Bool) → b ≡ true → (a || b) ≡ true
 or_right true b h = refl

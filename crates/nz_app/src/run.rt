@@ -4,14 +4,15 @@ ghost use Rattle.std.specs.Io.KnownBytes.{Keeps};
 ghost use Rattle.std.specs.List.{list_any};
 ghost use Rattle.nz_spec.specs.Outside.{HasRisen};
 ghost use Rattle.nz_spec.specs.Run.{IsRun, TakesSolve, TookMany, is_error, is_memory_error, solve_limit, status_of};
-ghost use Rattle.nz_session.specs.Journals.{journal_of};
-ghost use Rattle.nz_session.specs.Replies.{all_kept, kept_of};
+ghost use Rattle.nz_reply.specs.Journals.{journal_of};
+ghost use Rattle.nz_reply.specs.Replies.{all_kept, kept_of};
 ghost use Rattle.nz_session.specs.Serve.{Serves, kept_by};
 ghost use Rattle.nz_app.specs.Ending.{Ends, HasNotBegun};
 ghost use Rattle.nz_app.specs.Reading.{IsReading};
 
 use nz_base::{Memory, Sink, Source};
-use nz_session::{Decide, Fed, Journal, Kept, OUT_OF_MEMORY, Reply, Session, Trial};
+use nz_reply::{Journal, Kept, OUT_OF_MEMORY, Reply};
+use nz_session::{Decide, Fed, Session, Trial};
 use nz_term::Terms;
 use std::alloc::Global;
 

@@ -10,17 +10,17 @@ use Rattle.nz_spec.specs.Decide.{constants_in_table, asserted_terms, Satisfies, 
 use Rattle.nz_spec.specs.Script.{State, Binding, assertions_of, Command, declare_const, assert_term, check_sat, get_model, exit, declaration_of, assertion_of, alone, command_named, command_of}
 use Rattle.nz_spec.specs.Reply.{Reply, quiet, sat, unsat, unknown, model, unsupported, error, Cause, plain, IsModel, AreModel, IsRightCheck, IsRightCommand, model_after, effect, after, assignment_of}
 use Rattle.nz_spec.proofs.Normal.{normal_keeps_value}
-use Rattle.nz_session.specs.Live.{Standing, IsLive, Ask, changed, check, show_model, ask_of, IsCarriedOut}
+use Rattle.nz_sort.specs.Live.{Standing, IsLive, Ask, changed, check, show_model, ask_of, IsCarriedOut}
 use Rattle.nz_session.specs.Told.{IsTold}
-use Rattle.nz_session.specs.Replies.{reply_of, cause_of}
+use Rattle.nz_reply.specs.Replies.{reply_of, cause_of}
 use Rattle.nz_session.specs.Desk.{Holds, IsAnswer}
 use Rattle.nz_session.specs.Verdicts.{OnUnsat}
 use Rattle.nz_session.specs.declared.decide.Verdict.{Verdict}
 use Rattle.nz_session.specs.declared.decide.Stop.{Stop}
 use Rattle.nz_session.specs.declared.desk.Desk.{Desk}
 use Rattle.nz_session.specs.declared.desk.Answer.{Answer}
-use Rattle.nz_session.specs.declared.reply.Reply.TheVariants as code
-use Rattle.nz_session.specs.declared.reply.Cause.TheVariants as why
+use Rattle.nz_reply.specs.declared.reply.Reply.TheVariants as code
+use Rattle.nz_reply.specs.declared.reply.Cause.TheVariants as why
 
 -- ---- One level of assertions
 

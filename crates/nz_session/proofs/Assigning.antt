@@ -1,4 +1,4 @@
--- Bindings, one after another.
+-- What the pairs of an assignment bind, one after another.
 use Rattle.std.proofs.Common.{◌≡◌, ℕ, ◌+◌, ◌<◌, ◌≤◌, List, [], ◌∷◌, ◌++◌, length, get_or, take, map, Option, Some, None, option_map, sym, ap, ◌∙◌, append-nil, arith}
 use Rattle.std.proofs.lemmas.List.{take_more, flat_map_more, length-map, map_push, get_or-map}
 use Rattle.std.proofs.lemmas.Option.{slice_get_within, get_or_from_slice_get, slice_get_past}
@@ -7,22 +7,6 @@ use Rattle.nz_spec.specs.Term.{Constant, Head, Value}
 use Rattle.nz_spec.specs.Table.{Node}
 use Rattle.nz_spec.specs.Script as script
 use Rattle.nz_spec.specs.Decide.{constants_of_head, bindings_at, bindings_by}
-use Rattle.nz_session.specs.declared.reply.Binding.{Binding}
-use Rattle.nz_session.specs.Bindings.{binding_of}
-
--- one copy more
-pub copies_more : (items : List Binding) (i : ℕ) (whole : List script.Binding) (old new : List Binding) (item copy : Binding)
-    → map binding_of items ≡ whole → i < length items → item ≡ get_or items i item → map binding_of old ≡ take i whole
-    → new ≡ old ++ copy ∷ [] → binding_of copy ≡ binding_of item → map binding_of new ≡ take (i + 1) whole
-copies_more items i whole old new item copy all below at front grown same =
-    let within : i < length whole = omega (arith, below, ap length all, length-map items binding_of) in
-    let one : get_or whole i (binding_of item) ≡ binding_of copy =
-    sym (ap (λ l. get_or l i (binding_of item)) all) ∙ get_or-map binding_of items i item (binding_of item) below ∙ ap binding_of (sym at) ∙ sym same in
-    ap (map binding_of) grown
-    ∙ map_push binding_of old copy
-    ∙ ap (λ l. l ++ binding_of copy ∷ []) front
-    ∙ ap (λ b. take i whole ++ b ∷ []) (sym one)
-    ∙ sym (take_more whole i (binding_of item) within)
 
 -- the bindings of one pair more
 pub bindings_of_more : (ns : List Node) (ps : List (ℕ × Value)) (i : ℕ) (p : ℕ × Value) (old new : List script.Binding)

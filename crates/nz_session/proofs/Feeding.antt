@@ -17,9 +17,9 @@ use Rattle.nz_sexpr.specs.View.{heard_view}
 use Rattle.nz_sexpr.specs.Matches.{told}
 use Rattle.nz_sexpr.specs.Fits.{Fits, owes}
 use Rattle.nz_session.specs.declared.desk.Desk.{Desk}
-use Rattle.nz_session.specs.declared.reply.Kept as kept
+use Rattle.nz_reply.specs.declared.reply.Kept as kept
 use Rattle.nz_session.specs.declared.session.Session.{Session}
-use Rattle.nz_session.specs.Replies.{all_kept}
+use Rattle.nz_reply.specs.Replies.{all_kept}
 use Rattle.nz_session.specs.Serve.{IsGoing, Serves, Writes, WritesCut, Answers, HasExited, IsFront, kept_by, things_of}
 use Rattle.nz_session.proofs.Fronts.{told_first, told_split}
 

@@ -5,7 +5,8 @@ use Rattle.std.proofs.lemmas.List.{get_or_append_left, get_or-append-add, map-se
 use Rattle.nz_spec.specs.Term.{Constant, constant, Value, truth}
 use Rattle.nz_spec.specs.Table.{Node}
 use Rattle.nz_spec.specs.Decide.{asserted_numbers, with_number}
-use Rattle.nz_session.specs.Levels.{numbers_by_level, IsNumberOf, AreNumbersOf, paired}
+use Rattle.nz_truth.specs.Numbers.{AreNumbersOf}
+use Rattle.nz_session.specs.Levels.{numbers_by_level}
 
 -- ---- Levels
 
@@ -56,12 +57,6 @@ numbers_kept levels j level new l e f =
     numbers_by_level-set levels j new ∙ ap (set ls j) (f ∙ sym (level_at levels j level (omega arith) e)) ∙ set-get_or ls j []
 
 -- ---- Numbers of constants
-
-pub AreNumbersOf-push : (ns : List Node) (is : List ℕ) (cs : List Constant) (i : ℕ) (c : Constant) → AreNumbersOf ns is cs → IsNumberOf ns i c → AreNumbersOf ns (is ++ i ∷ []) (cs ++ c ∷ [])
-AreNumbersOf-push ns [] [] i c h n = (n, tt)
-AreNumbersOf-push ns [] (d ∷ cs) i c h n = absurd h
-AreNumbersOf-push ns (j ∷ is) [] i c h n = absurd h
-AreNumbersOf-push ns (j ∷ is) (d ∷ cs) i c h n = (h.0, AreNumbersOf-push ns is cs i c h.1 n)
 
 -- there are as many
 pub length-AreNumbersOf : (ns : List Node) (is : List ℕ) (cs : List Constant) → AreNumbersOf ns is cs → length is ≡ length cs

@@ -5,8 +5,8 @@ use Rattle.std.proofs.lemmas.List.{length-replicate, map-append}
 use Rattle.std.proofs.lemmas.List.Sums.{sum_by-append}
 use Rattle.nz_spec.specs.Work.{WorkEntry, DecisionEntry, LearnedEntry, WorkLine, UnitLine, NoteLine, WorkList, unit_count, is_unit, IsSpent, with_line}
 use Rattle.nz_spec.specs.Reply.{Note, atom_note}
-use Rattle.nz_session.specs.declared.decide.Note as own
-use Rattle.nz_session.specs.Notes.{note_of, noted_line, noted_list}
+use Rattle.nz_reply.specs.declared.reply.Note as own
+use Rattle.nz_reply.specs.Notes.{note_of, noted_line, noted_list}
 use Rattle.nz_spec.specs.Decide.{AtomsAreNoted}
 use Rattle.nz_session.specs.declared.decide.Stop.{Stop}
 use Rattle.nz_session.specs.declared.decide.Stop.TheVariants.{Spent, Memory}

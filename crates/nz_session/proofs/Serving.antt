@@ -7,9 +7,9 @@ use Rattle.nz_spec.specs.Script.{start}
 use Rattle.nz_spec.specs.Transcript.{Kept, AreRight, EndsByExit, state_after, TranscriptGrows}
 use Rattle.nz_session.specs.declared.desk.Desk.{Desk}
 use Rattle.nz_session.specs.declared.desk.Answer.{Answer}
-use Rattle.nz_session.specs.declared.reply.Kept as code
+use Rattle.nz_reply.specs.declared.reply.Kept as code
 use Rattle.nz_session.specs.Desk.{Holds, IsAnswer}
-use Rattle.nz_session.specs.Replies.{all_kept, kept_of}
+use Rattle.nz_reply.specs.Replies.{all_kept, kept_of}
 use Rattle.nz_session.specs.Serve.{IsGoing}
 
 -- what is kept of an answer

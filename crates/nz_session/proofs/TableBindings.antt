@@ -8,8 +8,9 @@ use Rattle.nz_spec.specs.Table.{Node}
 use Rattle.nz_spec.specs.Script.{Binding}
 use Rattle.nz_spec.specs.Reply.{assignment_of}
 use Rattle.nz_spec.specs.Decide.{bindings_at, bindings_by, constants_in_table, HasDistinctNames, AreModelOf, Satisfies, IsUnsatisfiable, asserted_terms}
-use Rattle.nz_session.specs.Truths.{GivesTruths, MakesTrue}
-use Rattle.nz_session.specs.Levels.{IsNumberOf, AreNumbersOf, paired}
+use Rattle.nz_truth.specs.Truths.{GivesTruths, MakesTrue}
+use Rattle.nz_truth.specs.Numbers.{AreNumbersOf}
+use Rattle.nz_session.specs.Levels.{paired}
 
 -- the constants, each with its truth value
 abbrev pub bound : List Constant → List Bool → List Binding

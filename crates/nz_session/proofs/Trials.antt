@@ -9,7 +9,7 @@ use Rattle.nz_spec.specs.Term.{Assignment, is_true, value_of, IsTrueUnder}
 use Rattle.nz_spec.specs.Table.{Node, term_in}
 use Rattle.nz_spec.specs.Decide.{asserted_numbers}
 use Rattle.nz_session.specs.Search.{Precedes, IsTurnedAt, whole_search, units_up_to}
-use Rattle.nz_session.specs.Truths.{AreTruths, GivesTruths, MakesTrue}
+use Rattle.nz_truth.specs.Truths.{AreTruths, GivesTruths, MakesTrue}
 use Rattle.nz_session.proofs.SearchOrder.{all_true_last, Precedes-turned, Precedes-push_falses}
 use Rattle.nz_session.proofs.SearchUnits.{units_up_to-append, units_up_to-le, units_up_to-last_false, units_up_to-turned}
 

@@ -3,8 +3,8 @@ use Rattle.std.specs.Prelude.{◌≡◌, ℕ, true, false, List}
 use Rattle.nz_spec.specs.Text.{What}
 use Rattle.nz_spec.specs.Script.{State}
 use Rattle.nz_spec.specs.Reply.{IsRight, IsExit, after}
-use Rattle.nz_session.specs.Live.{IsLive}
-use Rattle.nz_session.specs.Replies.{reply_of, cause_of}
+use Rattle.nz_sort.specs.Live.{IsLive}
+use Rattle.nz_reply.specs.Replies.{reply_of, cause_of}
 use Rattle.nz_session.specs.Told.{IsTold}
 use Rattle.nz_session.specs.declared.desk.Desk.{Desk}
 use Rattle.nz_session.specs.declared.desk.Answer.{Answer}

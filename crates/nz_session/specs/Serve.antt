@@ -7,7 +7,7 @@ use Rattle.nz_spec.specs.Reply.{reply_text, error}
 use Rattle.nz_spec.specs.Transcript.{Kept, AreRight, GoesOn, EndsByExit, state_after, texts_of, IsFrontOf, IsTranscript}
 use Rattle.nz_sexpr.specs.Fits.{Fits, owes}
 use Rattle.nz_session.specs.Desk.{Holds}
-use Rattle.nz_session.specs.Replies.{all_kept}
+use Rattle.nz_reply.specs.Replies.{all_kept}
 use Rattle.nz_session.specs.declared.desk.Desk.{Desk}
 use Rattle.nz_session.specs.declared.session.Session.{Session}
 

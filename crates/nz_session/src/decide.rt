@@ -1,14 +1,8 @@
 //! What decides checks: the trait that a search implements, and its answers.
 use nz_base::{Memory, Spent, Work};
+use nz_reply::Note;
 use nz_term::{Assign, TermId, Terms};
 use std::alloc::{AllocError, AllocFailed};
-
-/// A line of a work list that is no unit.
-#[derive(Debug, Drop)]
-pub enum Note {
-    /// The next atom is this Boolean term of the table.
-    Atom(TermId),
-}
 
 /// What a check found.
 #[derive(Debug, Drop)]
@@ -33,7 +27,7 @@ pub trait Decide: Drop {
     ghost use Rattle.std.specs.Prelude.{◌≡◌, ℕ, ◌-◌, ◌*◌, ◌^◌, ◌<◌, ◌≤◌, List, [], ◌∷◌, ◌++◌, length, take, OnOk, OnErr, IfOk, IfErr};
     ghost use Rattle.nz_spec.specs.Decide.{constants_in_table, HasDistinctNames, AreInTable, with_number, asserted_terms, AreModelOf, bindings_by, IsUnsatisfiable, AtomsAreNoted};
     ghost use Rattle.nz_spec.specs.Work.{IsSpent};
-    ghost use Rattle.nz_session.specs.Notes.{noted_list};
+    ghost use Rattle.nz_reply.specs.Notes.{noted_list};
     ghost use Rattle.nz_session.specs.Verdicts.{IfSat, OnUnsat, OnSpent};
 
     /// The numbers of the asserted terms by level, the oldest level first.

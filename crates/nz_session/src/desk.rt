@@ -6,17 +6,18 @@ ghost use Rattle.nz_spec.specs.Decide.{constants_in_table, HasDistinctNames, Are
 ghost use Rattle.nz_spec.specs.Script.{State};
 ghost use Rattle.nz_spec.specs.Table.{term_in};
 ghost use Rattle.nz_spec.specs.Work.{IsSpent};
-ghost use Rattle.nz_session.specs.Notes.{noted_list};
+ghost use Rattle.nz_reply.specs.Notes.{noted_list};
 ghost use Rattle.nz_session.specs.Told.{IsTold};
 ghost use Rattle.nz_session.specs.Verdicts.{IfSat, OnUnsat, OnSpent};
 ghost use Rattle.nz_term.specs.Values.{value_of};
 
-use crate::decide::{Decide, Note, Stop, Verdict};
-use crate::elaboration::Refusal;
-use crate::live::{Act, Live};
-use crate::reply::{Binding, Bindings, Cause, INCOMPLETE_COMMAND, OUT_OF_MEMORY, Reply, SpentList};
+use crate::decide::{Decide, Stop, Verdict};
 use nz_base::{Memory, Work};
+use nz_reply::{
+    Binding, Bindings, Cause, INCOMPLETE_COMMAND, Note, OUT_OF_MEMORY, Reply, SpentList,
+};
 use nz_sexpr::{Tree, What};
+use nz_sort::{Act, Live, Refusal};
 use nz_term::{Assign, Head, TermId, Terms, Value};
 use std::alloc::Global;
 

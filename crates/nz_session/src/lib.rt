@@ -3,22 +3,9 @@
 
 mod decide;
 mod desk;
-mod elaboration;
-mod live;
-mod names;
-mod reply;
 mod session;
 mod trial;
-mod truth;
-mod write;
 
-pub use decide::{Decide, Note, Stop, Verdict};
-pub use elaboration::{Refusal, elaborate};
-pub use live::{Act, Live};
-pub use names::Names;
-pub use reply::{
-    Binding, Bindings, Cause, Journal, Kept, OUT_OF_MEMORY, Reply, SpentList, write_reply,
-};
+pub use decide::{Decide, Stop, Verdict};
 pub use session::{Fed, Session};
 pub use trial::Trial;
-pub use write::{WriteFault, write_parts, write_text};

@@ -7,14 +7,13 @@ ghost use Rattle.nz_spec.specs.Reply.{error, reply_text};
 ghost use Rattle.nz_spec.specs.Script.{start, State};
 ghost use Rattle.nz_spec.specs.Transcript.{AreRight, EndsByExit, IsTranscript};
 ghost use Rattle.nz_session.specs.Desk.{Holds};
-ghost use Rattle.nz_session.specs.Replies.{all_kept, reply_of};
+ghost use Rattle.nz_reply.specs.Replies.{all_kept, reply_of};
 ghost use Rattle.nz_session.specs.Serve.{Answers, IsGoing};
 
 use crate::decide::Decide;
 use crate::desk::{Answer, Desk};
-use crate::reply::{Journal, Kept, OUT_OF_MEMORY, Reply, write_reply};
-use crate::write::WriteFault;
 use nz_base::{Memory, Sink};
+use nz_reply::{Journal, Kept, OUT_OF_MEMORY, Reply, WriteFault, write_reply};
 use nz_sexpr::{Heard, Limits, Reader};
 use nz_spec::text::{one_reading, reading_tells_first};
 use nz_spec::transcript::transcript_grows;
@@ -116,7 +115,7 @@ fn serve<E: Decide, K: Sink>(
 }
 
 impl<E: Decide> Session<E> {
-    ghost use Rattle.nz_session.specs.Journals.{journal_of};
+    ghost use Rattle.nz_reply.specs.Journals.{journal_of};
     ghost use Rattle.nz_session.specs.Serve.{HasExited, IsFront, Serves, Writes, WritesCut, kept_by};
 
     /// A session at the beginning of a script, over an engine that was told nothing yet, with this limit of units for each

@@ -2,24 +2,25 @@
 ghost use Rattle.std.specs.Prelude.{◌≡◌, ℕ, ◌<◌, Bool, true, false, List, [], ◌∷◌, ◌++◌, length, map, All, IfOk, IfErr, OnOk, slice_index_or};
 ghost use Rattle.std.specs.Bool.{OnTrue, OnFalse};
 ghost use Rattle.std.specs.List.{list_all};
-ghost use Rattle.nz_session.specs.Levels.{numbers_by_level, AreNumbersOf, paired};
+ghost use Rattle.nz_session.specs.Levels.{numbers_by_level, paired};
 ghost use Rattle.nz_spec.specs.Term.{Assignment};
 ghost use Rattle.nz_spec.specs.Decide.{constants_in_table, asserted_numbers, AreInTable, AtomsAreNoted};
-ghost use Rattle.nz_session.specs.Notes.{noted_list};
+ghost use Rattle.nz_reply.specs.Notes.{noted_list};
 ghost use Rattle.nz_session.specs.SearchNotes.{HasSearched, IsCutShort};
-ghost use Rattle.nz_session.specs.Truths.{GivesTruths, MakesTrue};
+ghost use Rattle.nz_truth.specs.Truths.{GivesTruths, MakesTrue};
 ghost use Rattle.nz_session.specs.Verdicts.{OnSpent};
 
 mod stack;
 #[cfg(test)]
 mod tests;
 
-use crate::decide::{Decide, Note, Stop, Verdict};
-use crate::truth::{are_true, evaluate};
+use crate::decide::{Decide, Stop, Verdict};
 use nz_base::{Memory, Work};
-use nz_term::{Assign, Head, TermId, Terms, Value};
+use nz_reply::Note;
+use nz_term::{Assign, TermId, Terms, Value};
+use nz_truth::{are_true, constant_numbers, evaluate};
 use stack::{decide_rest, turn_back};
-use std::alloc::{AllocError, Global};
+use std::alloc::Global;
 use std::marker::Model;
 
 /// A search through all assignments. A contract sees the numbers of the asserted terms by level.
@@ -87,19 +88,6 @@ impl Decide for Trial {
             Ok(Verdict::Unsat)
         }
     }
-}
-
-// The numbers of the constants of a table.
-fn constant_numbers(alloc: Global, terms: &Terms) -> Result<Vec<TermId>, AllocError>
-    ensures { IfOk result (λ ids. AreNumbersOf terms.now ids.items (constants_in_table terms.now)) }
-{
-    let mut ids = Vec::new(alloc);
-    for id in 0..terms.len() {
-        if let Head::Constant(_) = &terms.node(id).head {
-            ids.push(id)?;
-        }
-    }
-    Ok(ids)
 }
 
 // Notes an atom for each constant.

@@ -4,13 +4,14 @@ ghost use Rattle.std.specs.List.{enumerate_from};
 ghost use Rattle.std.specs.Bool.{OnTrue, OnFalse};
 ghost use Rattle.nz_session.specs.Search.{IsTurnedAt, learned_clause};
 ghost use Rattle.nz_session.specs.SearchNotes.{HasSearched, IsCutShort, Turns, with_decision, with_clause};
-ghost use Rattle.nz_session.specs.Notes.{noted_list};
+ghost use Rattle.nz_reply.specs.Notes.{noted_list};
 ghost use Rattle.nz_session.specs.Verdicts.{OnSpent};
 ghost use Rattle.nz_spec.specs.Decide.{AtomsAreNoted};
 ghost use Rattle.nz_spec.specs.Work.{IsSpent};
 
-use crate::decide::{Note, Stop};
+use crate::decide::Stop;
 use nz_base::{Entry, Literals, Work};
+use nz_reply::Note;
 use std::alloc::{AllocError, Global};
 
 // Decides the next constant.

@@ -6,8 +6,9 @@ ghost use Rattle.nz_spec.specs.Term.{constant, bool_sort};
 ghost use Rattle.nz_term.specs.Heads.{head_of};
 
 use super::Trial;
-use crate::decide::{Decide, Note, Stop, Verdict};
+use crate::decide::{Decide, Stop, Verdict};
 use nz_base::{Memory, Noted, Text, Work};
+use nz_reply::Note;
 use nz_term::{Assign, Constant, Head, Sort, TermId, Terms, Value};
 use std::alloc::Global;
 use std::test::Fail;

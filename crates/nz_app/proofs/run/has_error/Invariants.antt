@@ -2,7 +2,7 @@
 use Rattle.std.proofs.Common.{◌≡◌, false, take}
 use Rattle.std.specs.List.{list_any}
 use Rattle.nz_spec.specs.Run.{is_error}
-use Rattle.nz_session.specs.Replies.{all_kept}
+use Rattle.nz_reply.specs.Replies.{all_kept}
 use Rattle.nz_app.proofs.run.has_error.Given as goal
 
 abbrev pub invariant-loop-kept : goal.invariant-loop-kept

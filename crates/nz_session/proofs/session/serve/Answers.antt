@@ -1,8 +1,8 @@
 use Rattle.std.proofs.Common.{◌≡◌, List, [], ◌∷◌, ◌++◌, ℕ, sym, subst, rules, ◌∙◌}
 use Rattle.nz_spec.specs.Transcript.{Kept, AreRight, EndsByExit}
 use Rattle.nz_spec.specs.Script.{start}
-use Rattle.nz_session.specs.declared.reply.Kept as code
-use Rattle.nz_session.specs.Replies.{all_kept}
+use Rattle.nz_reply.specs.declared.reply.Kept as code
+use Rattle.nz_reply.specs.Replies.{all_kept}
 use Rattle.nz_session.specs.Serve.{IsGoing}
 use Rattle.nz_session.proofs.Serving.{going_on, exits_on, kept_answer}
 use Rattle.nz_session.proofs.session.serve.Goals as goal

@@ -1,5 +1,5 @@
 use Rattle.std.proofs.Common.{◌≡◌, ◌+◌, [], sym, ap, subst, ◌∙◌, slice_index_or}
-use Rattle.nz_session.specs.Notes.{noted_list}
+use Rattle.nz_reply.specs.Notes.{noted_list}
 use Rattle.nz_session.specs.SearchNotes.{HasSearched}
 use Rattle.nz_session.proofs.Noting.{HasSearched-note, noted_list-with_line}
 use Rattle.nz_session.proofs.trial.note_atoms.Goals as goal

@@ -1,10 +1,10 @@
 use Rattle.std.proofs.Common.{◌≡◌, ◌-◌, ℕ, List, Bool, length}
 use Rattle.nz_spec.specs.Term.{Assignment}
-use Rattle.nz_session.specs.Notes.{noted_list}
+use Rattle.nz_reply.specs.Notes.{noted_list}
 use Rattle.nz_session.specs.Search.{Precedes, whole_search, units_up_to}
 use Rattle.nz_session.specs.SearchNotes.{HasSearched}
 use Rattle.nz_session.specs.Levels.{numbers_by_level}
-use Rattle.nz_session.specs.Truths.{GivesTruths, MakesTrue}
+use Rattle.nz_truth.specs.Truths.{GivesTruths, MakesTrue}
 use Rattle.nz_session.proofs.trial.search.Given as goal
 
 -- each list of decisions before the stack makes some assertion false

@@ -1,6 +1,6 @@
 use Rattle.std.proofs.Common.{◌∙◌, ap, sym, refl, is_some}
 use Rattle.nz_sexpr.specs.View.{view}
-use Rattle.nz_session.specs.Live.{IsCarriedOut, changed, check, show_model}
+use Rattle.nz_sort.specs.Live.{IsCarriedOut, changed, check, show_model}
 use Rattle.nz_session.proofs.Answering.{holds_unchanged, changed_answer, is_check, is_get_model}
 use Rattle.nz_session.proofs.desk.Desk.command.Goals as goal
 

@@ -1,7 +1,7 @@
 use Rattle.std.proofs.Common.{inl, inr, refl, sym, subst, ◌++◌, List}
 use Rattle.std.proofs.lemmas.List.{take_rest}
-use Rattle.nz_session.specs.declared.reply.Kept as kept
-use Rattle.nz_session.specs.Replies.{all_kept}
+use Rattle.nz_reply.specs.declared.reply.Kept as kept
+use Rattle.nz_reply.specs.Replies.{all_kept}
 use Rattle.nz_session.specs.Serve.{IsFront}
 use Rattle.nz_session.proofs.Feeding.{feeding_start, feeding_more, exited_fed, cut_fed, fed_all, none_is}
 use Rattle.nz_session.proofs.session.Session.feed.Goals as goal

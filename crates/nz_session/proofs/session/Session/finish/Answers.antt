@@ -2,8 +2,8 @@ use Rattle.std.proofs.Common.{sym, subst, List, ◌≡◌, ◌⊎◌, inl, inr, 
 use Rattle.nz_spec.specs.Text.{script_limits}
 use Rattle.nz_spec.specs.Script.{start}
 use Rattle.nz_spec.specs.Transcript.{AreRight}
-use Rattle.nz_session.specs.declared.reply.Kept as kept
-use Rattle.nz_session.specs.Replies.{all_kept}
+use Rattle.nz_reply.specs.declared.reply.Kept as kept
+use Rattle.nz_reply.specs.Replies.{all_kept}
 use Rattle.nz_session.specs.Serve.{IsFront, things_of}
 use Rattle.nz_session.proofs.Feeding.{finished, finish_cut}
 use Rattle.nz_session.proofs.session.Session.finish.Goals as goal

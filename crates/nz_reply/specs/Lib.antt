@@ -1,0 +1,5 @@
+pub mod Bindings
+pub mod Journals
+pub mod Notes
+pub mod Parts
+pub mod Replies

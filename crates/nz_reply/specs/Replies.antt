@@ -1,0 +1,35 @@
+-- What replies and their causes are.
+use Rattle.std.specs.Prelude.{List, map}
+use Rattle.nz_spec.specs.Reply as spec
+use Rattle.nz_spec.specs.Transcript as transcript
+use Rattle.nz_spec.specs.Work.{WorkList}
+use Rattle.nz_sexpr.specs.View.{heard_view}
+use Rattle.nz_reply.specs.Notes.{noted_line}
+use Rattle.nz_reply.specs.declared.reply.Reply.{Reply}
+use Rattle.nz_reply.specs.declared.reply.Reply.TheVariants as reply
+use Rattle.nz_reply.specs.declared.reply.Cause.{Cause}
+use Rattle.nz_reply.specs.declared.reply.Cause.TheVariants as cause
+use Rattle.nz_reply.specs.declared.reply.Kept.{Kept}
+use Rattle.nz_reply.specs.declared.reply.SpentList.{SpentList}
+
+abbrev pub reply_of : Reply → spec.Reply
+reply_of reply.Quiet = spec.quiet
+reply_of (reply.Sat bindings) = spec.sat bindings
+reply_of reply.Unsat = spec.unsat
+reply_of reply.Unknown = spec.unknown
+reply_of (reply.Model bindings) = spec.model bindings
+reply_of reply.Unsupported = spec.unsupported
+reply_of (reply.Error number) = spec.error number
+
+abbrev pub spent_of : SpentList → WorkList spec.Note
+spent_of s = record { lines = map noted_line s.work; limit = s.limit }
+
+abbrev pub cause_of : Cause → spec.Cause
+cause_of cause.Plain = spec.plain
+cause_of (cause.Spent list) = spec.spent (spent_of list)
+
+abbrev pub kept_of : Kept → transcript.Kept
+kept_of k = record { heard = heard_view k.heard; reply = reply_of k.reply; cause = cause_of k.cause }
+
+abbrev pub all_kept : List Kept → List transcript.Kept
+all_kept ks = map kept_of ks

@@ -1,0 +1,3 @@
+pub mod Elaborating
+pub mod Living
+pub mod Naming

@@ -1,0 +1,6 @@
+pub mod Acts
+pub mod Commands
+pub mod Elaborate
+pub mod Live
+pub mod Names
+pub mod Operators

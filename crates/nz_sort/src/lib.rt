@@ -1,0 +1,12 @@
+//! Commands and their terms: which commands are accepted, what they leave of the live state, and the terms of trees.
+//!
+//! A term is made in the one table of terms, whose numbers the live state keeps. A refused command leaves both as they were.
+#![tactic(auto)]
+
+mod elaboration;
+mod live;
+mod names;
+
+pub use elaboration::{Refusal, elaborate};
+pub use live::{Act, Live};
+pub use names::Names;
