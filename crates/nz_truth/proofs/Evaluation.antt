@@ -1,10 +1,10 @@
 -- The truth of the terms of a table, node by node.
-use Rattle.std.proofs.Common.{◌≡◌, ◌≢◌, ℕ, zero, suc, ◌+◌, ◌<◌, ◌≤◌, Bool, true, false, not, ◌||◌, List, [], ◌∷◌, ◌++◌, length, map, take, drop, Option, Some, slice_get, slice_index_or, refl, sym, ap, subst, ◌∙◌, arith, append_assoc, append-nil, length-append, set, below_more, get_or-set_same, get_or-set_other}
-use Rattle.std.specs.Prelude.{All, flat_map}
+use Rattle.std.proofs.Common.{◌≡◌, ◌≢◌, ℕ, zero, suc, ◌+◌, ◌<◌, Bool, false, not, ◌||◌, List, [], ◌∷◌, ◌++◌, length, map, take, drop, Some, slice_get, slice_index_or, refl, sym, ap, ◌∙◌, arith, append_assoc, append-nil, length-append, set, below_more, get_or-set_same, get_or-set_other}
+use Rattle.std.specs.Prelude.{All}
 use Rattle.std.specs.List.{list_all, list_any, AllByRecursion}
 use Rattle.std.proofs.lemmas.List.Folds.{list_all-map}
 use Rattle.std.proofs.lemmas.List.{get_or_at, map-append, length-map}
-use Rattle.nz_spec.specs.Term.{Constant, Head, constant, verum, falsum, negation, conjunction, disjunction, Term, Terms, apply, no_terms, terms, Value, truth, Assignment, is_true, value_of, values_of, head_value}
+use Rattle.nz_spec.specs.Term.{Constant, Head, constant, verum, falsum, negation, conjunction, disjunction, Term, apply, Value, Assignment, is_true, value_of, values_of, head_value}
 use Rattle.nz_spec.specs.Table.{Node, IsTable, TermOfNode, term_in, terms_at}
 use Rattle.nz_spec.specs.Decide.{constants_in_table, constants_of_head}
 use Rattle.nz_term.specs.declared.heads.Head as heads

@@ -1,5 +1,5 @@
 -- Constants by their numbers in a table.
-use Rattle.std.specs.Prelude.{◌≡◌, ℕ, List, [], ◌∷◌, ⊤, Option, Some, slice_get}
+use Rattle.std.specs.Prelude.{◌≡◌, ℕ, List, [], ◌∷◌, ⊤, Some, slice_get}
 use Rattle.nz_spec.specs.Term.{Constant, constant}
 use Rattle.nz_spec.specs.Table.{Node}
 

@@ -13,8 +13,8 @@ use std::alloc::{AllocError, Global};
 
 // The truth of a node over that of its arguments; a constant has what was decided.
 fn node_truth(node: &Node, decided: bool, values: &[bool]) -> bool
-    requires { All (λ k. k < length values.now) node.now.kids }
-    ensures { result ≡ head_truth (head_of node.now.head) decided (λ k. slice_index_or values.now k false) node.now.kids }
+    requires within { All (λ k. k < length values.now) node.now.kids }
+    ensures truth { result ≡ head_truth (head_of node.now.head) decided (λ k. slice_index_or values.now k false) node.now.kids }
 {
     let kids = node.kids.as_slice();
     match &node.head {
@@ -29,8 +29,8 @@ fn node_truth(node: &Node, decided: bool, values: &[bool]) -> bool
 
 // Whether the first argument is false.
 fn negation(kids: &[TermId], values: &[bool]) -> bool
-    requires { All (λ k. k < length values.now) kids.now }
-    ensures { result ≡ head_truth not_head false (λ k. slice_index_or values.now k false) kids.now }
+    requires within { All (λ k. k < length values.now) kids.now }
+    ensures truth { result ≡ head_truth not_head false (λ k. slice_index_or values.now k false) kids.now }
 {
     match kids.first() {
         Some(kid) => !values[*kid],
@@ -40,8 +40,8 @@ fn negation(kids: &[TermId], values: &[bool]) -> bool
 
 // Whether one of these terms is true.
 fn is_one_true(ids: &[TermId], values: &[bool]) -> bool
-    requires { All (λ i. i < length values.now) ids.now }
-    ensures { result ≡ list_any (λ i. slice_index_or values.now i false) ids.now }
+    requires within { All (λ i. i < length values.now) ids.now }
+    ensures answer { result ≡ list_any (λ i. slice_index_or values.now i false) ids.now }
 {
     ids.iter().any(|id| values[*id])
 }

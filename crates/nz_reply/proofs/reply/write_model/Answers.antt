@@ -1,4 +1,4 @@
-use Rattle.std.proofs.Common.{codes, arith, ◌≡◌, ◌∙◌, sym, get_or}
+use Rattle.std.proofs.Common.{codes, arith}
 use Rattle.nz_reply.proofs.Models.{bindings_more}
 use Rattle.nz_reply.proofs.reply.write_model.Goals as goal
 

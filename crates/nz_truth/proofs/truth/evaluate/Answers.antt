@@ -1,6 +1,5 @@
-use Rattle.std.proofs.Common.{◌≡◌, ℕ, ◌+◌, ◌<◌, false, length, map, take, set, arith, slice_index_or, sym, ap, subst, ◌∙◌, refl, append-nil, length-append, [], ◌∷◌, ◌++◌}
-use Rattle.nz_spec.specs.Term.{Assignment, Constant, constant}
-use Rattle.nz_spec.specs.Table.{Node}
+use Rattle.std.proofs.Common.{◌≡◌, ◌+◌, ◌<◌, false, length, take, arith, slice_index_or, ap, ◌∙◌, length-append, [], ◌∷◌, ◌++◌}
+use Rattle.nz_spec.specs.Term.{constant}
 use Rattle.nz_spec.specs.Decide.{constants_in_table, constants_of_head}
 use Rattle.nz_term.specs.Heads.{head_of}
 use Rattle.nz_term.specs.Nodes.{node_of}
@@ -46,7 +45,7 @@ loop-id-preserved c =
             next = omega (arith, w.next-is, ap length grown, length-append (constants_in_table (take i ns)) []);
             truths = λ a g.
                 truths_more ns i a c.loop-id.values c.match-node.values _ (c.loop-id.invariant.truths a g) w.values-is room
-                (w.node_truth.ensures
+                (w.node_truth.ensures.truth
                 ∙ node_truth_value c.term_of_node.ensures.node ns c.len-id-end.ensures.table i n at a false c.loop-id.values (λ k e. absurd (none k e)) (c.loop-id.invariant.truths a g) c.node-node.ensures.before);
           }
     ]
