@@ -1,13 +1,13 @@
 -- Lemmas of elaboration.
 use Rattle.std.proofs.Common.{◌≡◌, ◌⊎◌, inl, inr, ℕ, ◌<◌, ◌≤◌, ◌+◌, zero, suc, List, [], ◌∷◌, ◌++◌, length, map, take, drop, get_or, Option, None, Some, Result, Ok, Err, true, false, cond, bytes_eq, slice_get, All, IfOk, OnOk, IsErrOf, ok_or, refl, sym, ap, ◌∙◌, append_assoc, append-nil, subst, arith, codes, option_and_then, length-append}
-use Rattle.std.proofs.lemmas.List.Elements.{All-nil, All-cons, All-head, All-weaker}
+use Rattle.std.proofs.lemmas.List.Elements.{All-nil, All-cons, All-weaker}
 use Rattle.std.proofs.lemmas.List.{map_more}
 use Rattle.std.proofs.lemmas.Option.{slice_get_within}
 use Rattle.std.specs.Cmp.Lexicographic.{nat_list_eq_equiv}
 use Rattle.std.specs.List.{AllByRecursion}
 use Rattle.nz_spec.specs.Tree.{Tree, leaf, node, symbol}
 use Rattle.nz_spec.specs.Reading.{trees_from}
-use Rattle.nz_spec.specs.Term.{Constant, Head, constant, verum, falsum, negation, conjunction, disjunction, Term, apply, Terms, no_terms, terms, normal_node, normal_of, normals_of}
+use Rattle.nz_spec.specs.Term.{Constant, Head, constant, verum, falsum, Term, apply, Terms, no_terms, terms, normal_node, normal_of, normals_of}
 use Rattle.nz_spec.specs.Table.{Node, term_in, terms_at}
 use Rattle.nz_spec.specs.Script.{term_of, terms_of, terms_onto, atom_of, operation_of, applied, takes, term_count, constant_named}
 use Rattle.nz_spec.proofs.Tables.{term_stays}

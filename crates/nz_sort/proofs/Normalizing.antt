@@ -2,12 +2,12 @@
 use Rattle.std.proofs.Common.{◌≡◌, ℕ, zero, suc, ◌+◌, ◌<◌, ◌≤◌, List, [], ◌∷◌, ◌++◌, length, drop, get_or, All, refl, sym, ap, ◌∙◌, subst, arith, add-one}
 use Rattle.std.proofs.Math.Seq.{drop-cons}
 use Rattle.std.proofs.lemmas.List.{drop_all}
-use Rattle.std.proofs.lemmas.List.Elements.{All-nil, All-cons, All-head, All-tail, All-push, All-get_or, All-drop}
-use Rattle.nz_spec.specs.Term.{Head, negation, conjunction, disjunction, exclusion, equality, Term, apply, Terms, no_terms, terms, negated, paired, implication_of, exclusion_onto, equations_of, disequations_onto, disequations_of, joined_by, normal_node}
+use Rattle.std.proofs.lemmas.List.Elements.{All-head, All-tail, All-push, All-get_or, All-drop}
+use Rattle.nz_spec.specs.Term.{Head, negation, disjunction, exclusion, equality, Term, apply, Terms, no_terms, terms, negated, paired, implication_of, exclusion_onto, equations_of, disequations_onto, disequations_of}
 use Rattle.nz_spec.specs.Table.{Node, term_in, terms_at}
 use Rattle.nz_spec.proofs.Tables.{terms_stay}
 use Rattle.nz_sort.specs.Elaborate.{Grows, StandsFor, terms_before}
-use Rattle.nz_sort.proofs.Elaborating.{longer, term_kept, within_kept}
+use Rattle.nz_sort.proofs.Elaborating.{term_kept, within_kept}
 
 -- ---- Numbers and their terms
 

@@ -3,7 +3,6 @@ use Rattle.std.proofs.lemmas.List.{take_all}
 use Rattle.std.proofs.lemmas.List.Elements.{All-push}
 use Rattle.nz_sexpr.specs.View.{view}
 use Rattle.nz_spec.specs.Reading.{trees_from}
-use Rattle.nz_spec.specs.Table.{term_in, terms_at}
 use Rattle.nz_spec.specs.Script.{term_of, terms_of, takes}
 use Rattle.nz_sort.specs.Elaborate.{Grows, EachElaborates, Elaborates, tree_size, trees_size}
 use Rattle.nz_sort.specs.Operators.{operator_head}

@@ -1,4 +1,4 @@
-use Rattle.std.proofs.Common.{◌≡◌, ℕ, suc, ◌<◌, ◌≤◌, length, get_or, IfOk, ap, ◌∙◌, subst, arith}
+use Rattle.std.proofs.Common.{◌≡◌, suc, ◌<◌, ◌≤◌, length, get_or, IfOk, ap, ◌∙◌, subst, arith}
 use Rattle.std.proofs.lemmas.List.Elements.{All-get_or}
 use Rattle.nz_spec.specs.Term.{conjunction, equations_of, joined_by}
 use Rattle.nz_spec.specs.Table.{term_in, terms_at}

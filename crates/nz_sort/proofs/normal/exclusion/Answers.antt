@@ -1,4 +1,4 @@
-use Rattle.std.proofs.Common.{ℕ, ◌<◌, length, get_or, ◌∙◌, arith}
+use Rattle.std.proofs.Common.{◌<◌, length, get_or, ◌∙◌, arith}
 use Rattle.std.proofs.lemmas.List.Elements.{All-get_or}
 use Rattle.nz_sort.proofs.Elaborating.{grows_more}
 use Rattle.nz_sort.proofs.Normalizing.{exclusion_next}
