@@ -2,6 +2,8 @@
 #![tactic(auto)]
 
 mod run;
+#[cfg(test)]
+mod tests;
 
 use nz_base::{Input, Output};
 pub use run::{Ended, run};

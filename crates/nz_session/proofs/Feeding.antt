@@ -1,5 +1,5 @@
 -- How a session reads on in a piece.
-use Rattle.std.proofs.Common.{◌≡◌, ℕ, ◌+◌, ◌^◌, ◌<◌, ◌≤◌, ◌⊎◌, inl, inr, IsNone, List, [], ◌∷◌, ◌++◌, length, take, drop, map, flat_map, Option, None, Some, Vec, false, refl, sym, ap, ◌∙◌, subst, append_assoc, append-nil, take-append-drop, arith}
+use Rattle.std.proofs.Common.{◌≡◌, ℕ, ◌+◌, ◌^◌, ◌<◌, ◌≤◌, inl, inr, IsNone, List, [], ◌∷◌, ◌++◌, length, take, drop, Option, None, Some, Vec, false, refl, sym, ap, ◌∙◌, subst, append_assoc, append-nil, take-append-drop, arith}
 use Rattle.std.proofs.lemmas.List.{map-append, length-append, take_all}
 use Rattle.std.proofs.lemmas.Grind.{flat_map-append}
 use Rattle.std.specs.Io.KnownBytes.{Appends}
@@ -9,8 +9,8 @@ use Rattle.nz_spec.specs.Text.{Limits, Heard, Hears, script_limits, OneReading}
 use Rattle.nz_spec.specs.Kept.{AreToldAs}
 use Rattle.nz_spec.specs.Told.{IsTold, ReadingTellsFirst}
 use Rattle.nz_spec.specs.Script.{start}
-use Rattle.nz_spec.specs.Reply.{reply_text, error}
-use Rattle.nz_spec.specs.Transcript.{Kept, AreRight, EndsByExit, IsFrontOf, IsTranscript, texts_of}
+use Rattle.nz_spec.specs.Reply.{reply_text}
+use Rattle.nz_spec.specs.Transcript.{Kept, AreRight, EndsByExit, IsTranscript, texts_of}
 use Rattle.nz_sexpr.specs.declared.reader.Reader.{Reader}
 use Rattle.nz_sexpr.specs.declared.heard.Heard as code
 use Rattle.nz_sexpr.specs.View.{heard_view}
@@ -20,7 +20,7 @@ use Rattle.nz_session.specs.declared.desk.Desk.{Desk}
 use Rattle.nz_reply.specs.declared.reply.Kept as kept
 use Rattle.nz_session.specs.declared.session.Session.{Session}
 use Rattle.nz_reply.specs.Replies.{all_kept}
-use Rattle.nz_session.specs.Serve.{IsGoing, Serves, Writes, WritesCut, Answers, HasExited, IsFront, kept_by, things_of}
+use Rattle.nz_session.specs.Serve.{IsGoing, Serves, Writes, Answers, HasExited, IsFront, kept_by, things_of}
 use Rattle.nz_session.proofs.Fronts.{told_first, told_split}
 
 -- Of the piece a front was read, and this is the rest; what is complete in it was answered.

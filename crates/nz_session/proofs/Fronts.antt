@@ -1,8 +1,8 @@
 -- What is kept is a front of what is heard.
-use Rattle.std.proofs.Common.{◌≡◌, ℕ, List, [], ◌∷◌, ◌++◌, refl, sym, ap, ◌∙◌, subst, append_assoc}
+use Rattle.std.proofs.Common.{◌≡◌, ℕ, List, [], ◌∷◌, ◌++◌, refl, ap, ◌∙◌, subst, append_assoc}
 use Rattle.nz_spec.specs.Text.{Limits, Heard, Hears, OneReading}
 use Rattle.nz_spec.specs.Kept.{AreToldAs}
-use Rattle.nz_spec.specs.Told.{ReadingTellsFirst, IsToldFirst}
+use Rattle.nz_spec.specs.Told.{ReadingTellsFirst}
 use Rattle.nz_sexpr.specs.declared.reader.Reader.{Reader}
 use Rattle.nz_sexpr.specs.Matches.{told}
 use Rattle.nz_sexpr.specs.Fits.{Fits}

@@ -1,8 +1,7 @@
 -- Terms by level, and constants by their numbers.
-use Rattle.std.proofs.Common.{◌≡◌, ℕ, zero, suc, ◌+◌, ◌-◌, ◌<◌, ◌≤◌, Bool, true, false, List, [], ◌∷◌, ◌++◌, length, map, take, drop, set, get_or, Option, Some, All, slice_get, slice_index_or, refl, sym, ap, subst, ◌∙◌, arith, append_assoc, length-append, Vec, Global}
-use Rattle.std.specs.List.{list_all, AllByRecursion}
+use Rattle.std.proofs.Common.{◌≡◌, ℕ, zero, suc, ◌+◌, ◌<◌, List, [], ◌∷◌, ◌++◌, length, set, get_or, All, refl, sym, ap, subst, ◌∙◌, arith, length-append, Vec, Global}
 use Rattle.std.proofs.lemmas.List.{get_or_append_left, get_or-append-add, map-set, set-get_or, length-map, get_or-map}
-use Rattle.nz_spec.specs.Term.{Constant, constant, Value, truth}
+use Rattle.nz_spec.specs.Term.{Constant}
 use Rattle.nz_spec.specs.Table.{Node}
 use Rattle.nz_spec.specs.Decide.{asserted_numbers, with_number}
 use Rattle.nz_truth.specs.Numbers.{AreNumbersOf}

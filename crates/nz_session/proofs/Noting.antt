@@ -1,9 +1,9 @@
 -- What a search has noted after one line more, and after a stop.
-use Rattle.std.proofs.Common.{◌≡◌, ℕ, ◌+◌, ◌-◌, ◌*◌, ◌^◌, ◌≤◌, ◌<◌, suc, zero, Bool, true, false, List, [], ◌∷◌, ◌++◌, length, length-append, map, refl, ap, sym, ◌∙◌, subst, replicate, arith, cond}
+use Rattle.std.proofs.Common.{◌≡◌, ℕ, ◌+◌, ◌^◌, ◌≤◌, ◌<◌, suc, Bool, true, false, List, [], ◌∷◌, ◌++◌, length, length-append, map, refl, ap, sym, ◌∙◌, subst, replicate, arith, cond}
 use Rattle.std.proofs.lemmas.Nat.{pow_pos}
 use Rattle.std.proofs.lemmas.List.{length-replicate, map-append}
 use Rattle.std.proofs.lemmas.List.Sums.{sum_by-append}
-use Rattle.nz_spec.specs.Work.{WorkEntry, DecisionEntry, LearnedEntry, WorkLine, UnitLine, NoteLine, WorkList, unit_count, is_unit, IsSpent, with_line}
+use Rattle.nz_spec.specs.Work.{DecisionEntry, LearnedEntry, WorkLine, UnitLine, NoteLine, WorkList, unit_count, is_unit, IsSpent, with_line}
 use Rattle.nz_spec.specs.Reply.{Note, atom_note}
 use Rattle.nz_reply.specs.declared.reply.Note as own
 use Rattle.nz_reply.specs.Notes.{note_of, noted_line, noted_list}
@@ -11,7 +11,7 @@ use Rattle.nz_spec.specs.Decide.{AtomsAreNoted}
 use Rattle.nz_session.specs.declared.decide.Stop.{Stop}
 use Rattle.nz_session.specs.declared.decide.Stop.TheVariants.{Spent, Memory}
 use Rattle.nz_session.specs.Verdicts.{OnSpent}
-use Rattle.nz_session.specs.Search.{IsTurnedAt, whole_search, units_up_to, learned_clause}
+use Rattle.nz_session.specs.Search.{IsTurnedAt, learned_clause}
 use Rattle.nz_session.specs.SearchNotes.{Turns, atom_count, HasSearched, IsCutShort, with_decision, with_clause}
 use Rattle.nz_session.proofs.SearchUnits.{units_up_to-append, units_up_to-le, units_up_to-last_false, units_up_to-turned}
 

@@ -1,8 +1,8 @@
 -- How a session goes on by one answer.
-use Rattle.std.proofs.Common.{◌≡◌, ℕ, Bool, true, false, List, [], ◌∷◌, ◌++◌, map, refl, sym, ap, ◌∙◌, subst}
+use Rattle.std.proofs.Common.{◌≡◌, ℕ, true, false, List, [], ◌∷◌, ◌++◌, sym, subst}
 use Rattle.std.proofs.lemmas.List.{map-append}
 use Rattle.nz_sexpr.specs.declared.heard.Heard.{Heard}
-use Rattle.nz_sexpr.specs.View.{heard_view, what_view}
+use Rattle.nz_sexpr.specs.View.{what_view}
 use Rattle.nz_spec.specs.Script.{start}
 use Rattle.nz_spec.specs.Transcript.{Kept, AreRight, EndsByExit, state_after, TranscriptGrows}
 use Rattle.nz_session.specs.declared.desk.Desk.{Desk}

@@ -1,13 +1,13 @@
 -- Constants bound to truth values, and the assignment that they make.
-use Rattle.std.proofs.Common.{◌≡◌, ℕ, zero, suc, Bool, true, false, eqb, List, [], ◌∷◌, ◌++◌, length, map, Option, Some, slice_get, refl, sym, ap, subst, ◌∙◌, arith}
-use Rattle.std.specs.Prelude.{bytes_eq, flat_map, if◌then◌else◌}
+use Rattle.std.proofs.Common.{◌≡◌, ℕ, Bool, true, false, eqb, List, [], ◌∷◌, ◌++◌, length, map, Option, refl, sym, ap, subst, ◌∙◌, arith}
+use Rattle.std.specs.Prelude.{bytes_eq}
 use Rattle.std.specs.List.{AllByRecursion, IsDistinct}
 use Rattle.std.proofs.lemmas.Bool.{and_from, cond-true, cond-false, eq-eqb}
-use Rattle.nz_spec.specs.Term.{Sort, bool_sort, Constant, constant, Value, truth, Assignment, is_true, IsOfSort}
+use Rattle.nz_spec.specs.Term.{Sort, bool_sort, Constant, Value, truth, Assignment, is_true, IsOfSort}
 use Rattle.nz_spec.specs.Table.{Node}
 use Rattle.nz_spec.specs.Script.{Binding}
 use Rattle.nz_spec.specs.Reply.{assignment_of}
-use Rattle.nz_spec.specs.Decide.{bindings_at, bindings_by, constants_in_table, HasDistinctNames, AreModelOf, Satisfies, IsUnsatisfiable, asserted_terms}
+use Rattle.nz_spec.specs.Decide.{bindings_at, bindings_by, constants_in_table, HasDistinctNames, AreModelOf, IsUnsatisfiable, asserted_terms}
 use Rattle.nz_truth.specs.Truths.{GivesTruths, MakesTrue}
 use Rattle.nz_truth.specs.Numbers.{AreNumbersOf}
 use Rattle.nz_session.specs.Levels.{paired}

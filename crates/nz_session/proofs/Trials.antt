@@ -1,11 +1,11 @@
 -- A trial of all stacks of decisions: what each turn leaves, and what it finds in the end.
-use Rattle.std.proofs.Common.{◌≡◌, ℕ, zero, suc, ◌+◌, ◌-◌, ◌<◌, ◌≤◌, Bool, true, false, ◌&&◌, List, [], ◌∷◌, ◌++◌, length, map, ◌⊎◌, inl, inr, refl, sym, ap, subst, ◌∙◌, arith, replicate, length-append, slice_index_or}
+use Rattle.std.proofs.Common.{◌≡◌, ℕ, suc, ◌+◌, ◌-◌, ◌<◌, ◌≤◌, Bool, true, false, List, [], ◌∷◌, ◌++◌, length, map, inl, inr, refl, sym, ap, subst, ◌∙◌, arith, replicate, length-append, slice_index_or}
 use Rattle.std.specs.Prelude.{All}
 use Rattle.std.specs.List.{list_all, AllByRecursion}
 use Rattle.std.proofs.lemmas.Bool.{and_parts, and_from, both_ways}
 use Rattle.std.proofs.lemmas.List.{length-replicate}
 use Rattle.std.proofs.lemmas.List.Elements.{All-head, All-tail}
-use Rattle.nz_spec.specs.Term.{Assignment, is_true, value_of, IsTrueUnder}
+use Rattle.nz_spec.specs.Term.{Assignment, IsTrueUnder}
 use Rattle.nz_spec.specs.Table.{Node, term_in}
 use Rattle.nz_spec.specs.Decide.{asserted_numbers}
 use Rattle.nz_session.specs.Search.{Precedes, IsTurnedAt, whole_search, units_up_to}

@@ -1,7 +1,7 @@
 -- What a search by a stack of decisions has noted, and why it stops.
-use Rattle.std.specs.Prelude.{◌≡◌, ℕ, ◌+◌, ◌*◌, ◌^◌, ◌<◌, ◌≤◌, Bool, true, false, List, [], ◌∷◌, ◌++◌, length, ⊤}
+use Rattle.std.specs.Prelude.{◌≡◌, ℕ, ◌+◌, ◌*◌, ◌^◌, ◌<◌, ◌≤◌, Bool, true, List, [], ◌∷◌, ◌++◌, length}
 use Rattle.nz_spec.specs.Reply.{Note}
-use Rattle.nz_spec.specs.Work.{WorkEntry, DecisionEntry, LearnedEntry, WorkLine, UnitLine, NoteLine, WorkList, unit_count, IsSpent, with_line}
+use Rattle.nz_spec.specs.Work.{DecisionEntry, LearnedEntry, WorkLine, UnitLine, NoteLine, WorkList, unit_count, IsSpent, with_line}
 use Rattle.nz_spec.specs.Decide.{AtomsAreNoted}
 use Rattle.nz_session.specs.Search.{IsTurnedAt, learned_clause, units_up_to}
 

@@ -1,8 +1,8 @@
 -- What a session has read, kept and answered.
-use Rattle.std.specs.Prelude.{◌≡◌, ℕ, ◌+◌, ◌^◌, ◌<◌, Bool, false, List, [], ◌∷◌, ◌++◌, length, map, Option, ◌⊎◌}
+use Rattle.std.specs.Prelude.{◌≡◌, ℕ, false, List, [], ◌∷◌, ◌++◌, map, Option}
 use Rattle.std.specs.Io.KnownBytes.{Appends}
 use Rattle.nz_spec.specs.Text.{Heard, script_limits}
-use Rattle.nz_spec.specs.Script.{State, start}
+use Rattle.nz_spec.specs.Script.{start}
 use Rattle.nz_spec.specs.Reply.{reply_text, error}
 use Rattle.nz_spec.specs.Transcript.{Kept, AreRight, GoesOn, EndsByExit, state_after, texts_of, IsFrontOf, IsTranscript}
 use Rattle.nz_sexpr.specs.Fits.{Fits, owes}

@@ -4,6 +4,8 @@
 mod decide;
 mod desk;
 mod session;
+#[cfg(test)]
+mod tests;
 mod trial;
 
 pub use decide::{Decide, Stop, Verdict};

@@ -1,5 +1,5 @@
-use Rattle.std.proofs.Common.{◌≡◌, List, [], ◌∷◌, ◌++◌, ℕ, sym, subst, rules, ◌∙◌}
-use Rattle.nz_spec.specs.Transcript.{Kept, AreRight, EndsByExit}
+use Rattle.std.proofs.Common.{◌≡◌, List, [], ◌∷◌, ◌++◌, sym, subst, rules}
+use Rattle.nz_spec.specs.Transcript.{AreRight, EndsByExit}
 use Rattle.nz_spec.specs.Script.{start}
 use Rattle.nz_reply.specs.declared.reply.Kept as code
 use Rattle.nz_reply.specs.Replies.{all_kept}

@@ -1,4 +1,4 @@
-use Rattle.std.proofs.Common.{◌<◌, length, All, subst, sym}
+use Rattle.std.proofs.Common.{◌<◌, length}
 use Rattle.nz_session.proofs.Leveling.{all_at_level}
 use Rattle.nz_session.proofs.trial.are_all_true.Goals as goal
 

@@ -1,4 +1,4 @@
-use Rattle.std.proofs.Common.{◌≡◌, ◌+◌, [], sym, ap, subst, ◌∙◌, slice_index_or}
+use Rattle.std.proofs.Common.{◌+◌, [], sym, ap, subst, ◌∙◌}
 use Rattle.nz_reply.specs.Notes.{noted_list}
 use Rattle.nz_session.specs.SearchNotes.{HasSearched}
 use Rattle.nz_session.proofs.Noting.{HasSearched-note, noted_list-with_line}

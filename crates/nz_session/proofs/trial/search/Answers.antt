@@ -1,4 +1,4 @@
-use Rattle.std.proofs.Common.{◌≡◌, ℕ, ◌-◌, ◌<◌, Bool, true, false, List, ◌++◌, length, replicate, map, sym, ap, subst, ◌∙◌, refl}
+use Rattle.std.proofs.Common.{◌≡◌, ◌-◌, Bool, List, length, map, sym, subst, ◌∙◌, refl}
 use Rattle.std.proofs.lemmas.List.{length-map}
 use Rattle.nz_spec.specs.Term.{Constant, is_true}
 use Rattle.std.proofs.lemmas.Bool.{OnTrue_at, OnFalse_at}
@@ -6,7 +6,7 @@ use Rattle.nz_spec.specs.Decide.{asserted_numbers, constants_in_table}
 use Rattle.nz_session.specs.Levels.{numbers_by_level}
 use Rattle.nz_reply.specs.Notes.{noted_list}
 use Rattle.nz_session.specs.SearchNotes.{HasSearched, Turns}
-use Rattle.nz_truth.specs.Truths.{GivesTruths, MakesTrue}
+use Rattle.nz_truth.specs.Truths.{GivesTruths}
 use Rattle.nz_session.proofs.Trials.{HasFailed, true_terms, failed_here, failed_before, failed_all, filled_length, turn_is_nearer}
 use Rattle.nz_session.proofs.trial.search.Goals as goal
 

@@ -1,4 +1,4 @@
-use Rattle.std.proofs.Common.{◌≡◌, ◌-◌, ℕ, List, Bool, length}
+use Rattle.std.proofs.Common.{◌≡◌, ◌-◌, List, Bool, length}
 use Rattle.nz_spec.specs.Term.{Assignment}
 use Rattle.nz_reply.specs.Notes.{noted_list}
 use Rattle.nz_session.specs.Search.{Precedes, whole_search, units_up_to}

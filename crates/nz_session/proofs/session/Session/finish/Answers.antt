@@ -1,4 +1,4 @@
-use Rattle.std.proofs.Common.{sym, subst, List, ◌≡◌, ◌⊎◌, inl, inr, ℕ}
+use Rattle.std.proofs.Common.{sym, subst, List, inl, inr}
 use Rattle.nz_spec.specs.Text.{script_limits}
 use Rattle.nz_spec.specs.Script.{start}
 use Rattle.nz_spec.specs.Transcript.{AreRight}

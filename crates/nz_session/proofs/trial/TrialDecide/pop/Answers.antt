@@ -1,4 +1,4 @@
-use Rattle.std.proofs.Common.{◌≡◌, ◌-◌, ℕ, length, map, take, sym, ap, ◌∙◌, Vec, Global}
+use Rattle.std.proofs.Common.{◌≡◌, ◌-◌, ℕ, length, take, sym, ap, ◌∙◌, Vec, Global}
 use Rattle.std.proofs.lemmas.List.{take-map, length-map}
 use Rattle.nz_session.specs.Levels.{numbers_by_level}
 use Rattle.nz_session.proofs.trial.TrialDecide.pop.Goals as goal

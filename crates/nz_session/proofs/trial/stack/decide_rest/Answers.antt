@@ -1,7 +1,6 @@
-use Rattle.std.proofs.Common.{ℕ, ◌≡◌, ◌+◌, ◌<◌, ◌≤◌, ◌∷◌, [], ◌++◌, false, length, length-append, arith, sym, ap, ◌∙◌, subst, rules}
+use Rattle.std.proofs.Common.{◌≡◌, ◌+◌, ◌<◌, ◌∷◌, [], false, length, length-append, arith, ap, ◌∙◌, rules}
 use Rattle.std.proofs.lemmas.Result.{err_from_is_err_and}
 use Rattle.nz_reply.specs.Notes.{noted_list}
-use Rattle.nz_session.specs.SearchNotes.{HasSearched}
 use Rattle.nz_session.proofs.Noting.{HasSearched-false, stops_at_decision}
 use Rattle.nz_session.proofs.SearchOrder.{one_false_more}
 use Rattle.nz_session.proofs.trial.stack.decide_rest.Goals as goal

@@ -1,4 +1,4 @@
-use Rattle.std.proofs.Common.{◌≡◌, ℕ, ◌-◌, ◌≤◌, ◌++◌, false, replicate, length}
+use Rattle.std.proofs.Common.{◌≡◌, ◌-◌, ◌≤◌, ◌++◌, false, replicate, length}
 use Rattle.nz_reply.specs.Notes.{noted_list}
 use Rattle.nz_session.specs.SearchNotes.{HasSearched}
 use Rattle.nz_session.proofs.trial.stack.decide_rest.Given as goal

@@ -1,4 +1,4 @@
-use Rattle.std.proofs.Common.{ℕ, suc}
+use Rattle.std.proofs.Common.{suc}
 use Rattle.nz_session.proofs.SearchOrder.{one_true_more}
 use Rattle.nz_session.proofs.trial.stack.take_last_false.Goals as goal
 

@@ -1,9 +1,8 @@
-use Rattle.std.proofs.Common.{ℕ, ◌≡◌, ◌∷◌, [], ◌++◌, length, refl, sym, ap, subst, ◌∙◌}
+use Rattle.std.proofs.Common.{length, refl, sym, ap, subst, ◌∙◌}
 use Rattle.std.proofs.lemmas.Result.{err_from_is_err_and}
 use Rattle.nz_session.specs.Search.{IsTurnedAt}
 use Rattle.nz_spec.specs.Decide.{AtomsAreNoted}
 use Rattle.nz_reply.specs.Notes.{noted_list}
-use Rattle.nz_session.specs.SearchNotes.{HasSearched}
 use Rattle.nz_session.proofs.Noting.{HasSearched-Turns, AtomsAreNoted-clause, stops_at_decision, stops_after_clause, turned_stack}
 use Rattle.nz_session.proofs.trial.stack.turn_back.Goals as goal
 

@@ -1,0 +1,153 @@
+//! Each public call of the session and of the desk once on its happy path, and a check that finds no memory.
+ghost use Rattle.std.specs.Prelude.{◌≡◌, ◌∷◌, [], IfOk};
+
+use crate::decide::{Decide, Stop, Verdict};
+use crate::desk::{Answer, Desk};
+use crate::session::{Fed, Session};
+use crate::trial::Trial;
+use nz_base::{Memory, PlainSink, Work};
+use nz_reply::{Journal, Note, Reply};
+use nz_sexpr::What;
+use nz_term::{TermId, Terms};
+use std::alloc::Global;
+use std::test::Fail;
+
+/// The most units of work that a check may use.
+const UNITS: u64 = 100;
+
+/// How many bytes the replies of a test may have.
+const ROOM: usize = 200;
+
+/// A trial of which each check but the first finds no memory.
+#[derive(Drop)]
+struct OnceOnly {
+    trial: Trial,
+    has_checked: bool,
+}
+
+impl Decide for OnceOnly {
+    ghost levels = { λ e. e.trial };
+
+    fn push(&mut self) -> Result<(), Memory> {
+        self.trial.push()
+    }
+
+    fn pop(&mut self, count: usize) {
+        self.trial.pop(count);
+    }
+
+    fn add(&mut self, term: TermId) -> Result<(), Memory> {
+        self.trial.add(term)
+    }
+
+    fn check(&mut self, terms: &Terms, work: &mut Work<Note>) -> Result<Verdict, Stop> {
+        if self.has_checked {
+            return Err(Stop::Memory);
+        }
+        self.has_checked = true;
+        self.trial.check(terms, work)
+    }
+}
+
+/// A script's session: how it stood after its piece and at its end, and what it kept.
+#[derive(Drop)]
+struct Outcome {
+    fed: Fed,
+    ended: Fed,
+    journal: Journal,
+}
+
+/// Feeds a session a script in one piece, and ends it there, unless it has ended.
+fn run_script<E: Decide>(
+    alloc: Global,
+    engine: E,
+    script: &[u8],
+    sink: &mut PlainSink,
+) -> Result<Outcome, Memory>
+    requires told { E.levels engine ≡ [] }
+{
+    let mut session = Session::new(alloc, engine, UNITS)?;
+    let fed = session.feed(script, sink);
+    let ended = match fed {
+        Fed::Going => session.finish(sink),
+        Fed::Exited => fed,
+        Fed::SinkFault => fed,
+        Fed::Cut => fed,
+    };
+    let (journal, terms) = session.into_kept();
+    drop(terms);
+    Ok(Outcome {
+        fed,
+        ended,
+        journal,
+    })
+}
+
+/// What a new desk answers.
+fn answer_of(alloc: Global, what: &What) -> Result<Answer, Memory> {
+    let mut desk = Desk::new(alloc, Trial::new(alloc), UNITS)?;
+    let answer = desk.answer(what);
+    drop(desk.into_terms());
+    Ok(answer)
+}
+
+/// Whether the reply is the error of this number.
+fn is_error(reply: &Reply, number: u8) -> bool {
+    match reply {
+        Reply::Error(other) => *other == number,
+        _ => false,
+    }
+}
+
+#[test]
+fn a_desk_answers_what_is_no_command(rt: HostRuntime) -> Result<(), Fail> {
+    let bad = answer_of(rt.alloc(), &What::Bad(6))?;
+    assert!(rt; is_error(&bad.reply, 6));
+    let unclosed = answer_of(rt.alloc(), &What::Unclosed)?;
+    assert!(rt; is_error(&unclosed.reply, 10));
+    assert!(rt; !unclosed.exits);
+    Ok(())
+}
+
+#[test]
+fn a_session_answers_to_its_exit(rt: HostRuntime) -> Result<(), Fail> {
+    let mut sink = PlainSink::new(rt.alloc(), ROOM)?;
+    let script = b"(declare-const p Bool)(assert p)(check-sat)(get-model)(exit)(check-sat)";
+    let ended = run_script(rt.alloc(), Trial::new(rt.alloc()), script, &mut sink)?;
+    assert_eq!(rt; ended.fed, Fed::Exited);
+    assert_eq!(rt; ended.journal.as_slice().len(), 5);
+    assert_eq!(rt;
+        sink.bytes(),
+        b"sat\n(\n(define-fun p () Bool true)\n)\n".as_slice()
+    );
+    Ok(())
+}
+
+#[test]
+fn a_session_ends_with_its_script(rt: HostRuntime) -> Result<(), Fail> {
+    let mut sink = PlainSink::new(rt.alloc(), ROOM)?;
+    let ended = run_script(rt.alloc(), Trial::new(rt.alloc()), b"(check-sat", &mut sink)?;
+    assert_eq!(rt; ended.fed, Fed::Going);
+    assert_eq!(rt; ended.ended, Fed::Going);
+    assert_eq!(rt; ended.journal.as_slice().len(), 1);
+    assert_eq!(rt;
+        sink.bytes(),
+        b"(error \"10 incomplete command\")\n".as_slice()
+    );
+    Ok(())
+}
+
+#[test]
+fn a_model_outlives_a_check_without_memory(rt: HostRuntime) -> Result<(), Fail> {
+    let mut sink = PlainSink::new(rt.alloc(), ROOM)?;
+    let engine = OnceOnly {
+        trial: Trial::new(rt.alloc()),
+        has_checked: false,
+    };
+    let script = b"(declare-const p Bool)(assert p)(check-sat)(check-sat)(get-model)";
+    let ended = run_script(rt.alloc(), engine, script, &mut sink)?;
+    assert_eq!(rt; ended.ended, Fed::Going);
+    let wanted = b"sat\n(error \"11 out of memory\")\n(\n(define-fun p () Bool true)\n)\n";
+    assert_eq!(rt; sink.bytes(), wanted.as_slice());
+    Ok(())
+}
