@@ -1,21 +1,20 @@
 -- Lemmas of elaboration.
-use Rattle.std.proofs.Common.{◌≡◌, ◌⊎◌, inl, inr, ℕ, ◌<◌, ◌≤◌, ◌+◌, zero, suc, List, [], ◌∷◌, ◌++◌, length, map, take, drop, get_or, Option, None, Some, Result, Ok, Err, true, false, cond, bytes_eq, slice_get, All, IfOk, IsErrOf, ok_or, refl, sym, ap, ◌∙◌, append_assoc, append-nil, subst, arith, codes, option_and_then, length-append}
-use Rattle.std.proofs.lemmas.List.Elements.{All-nil, All-cons, All-head, All-weaker}
+use Rattle.std.proofs.Common.{◌≡◌, ◌⊎◌, inl, inr, ℕ, ◌<◌, ◌≤◌, ◌+◌, zero, suc, List, [], ◌∷◌, ◌++◌, length, map, take, drop, get_or, Option, None, Some, Result, Ok, Err, true, false, cond, bytes_eq, slice_get, All, IfOk, OnOk, IsErrOf, ok_or, refl, sym, ap, ◌∙◌, append_assoc, append-nil, subst, arith, codes, option_and_then, length-append}
+use Rattle.std.proofs.lemmas.List.Elements.{All-nil, All-cons, All-weaker}
 use Rattle.std.proofs.lemmas.List.{map_more}
 use Rattle.std.proofs.lemmas.Option.{slice_get_within}
 use Rattle.std.specs.Cmp.Lexicographic.{nat_list_eq_equiv}
 use Rattle.std.specs.List.{AllByRecursion}
 use Rattle.nz_spec.specs.Tree.{Tree, leaf, node, symbol}
 use Rattle.nz_spec.specs.Reading.{trees_from}
-use Rattle.nz_spec.specs.Term.{Constant, Head, constant, verum, falsum, negation, conjunction, disjunction, Term, apply, Terms, no_terms, terms, normal_of, normals_of}
+use Rattle.nz_spec.specs.Term.{Constant, Head, constant, verum, falsum, Term, apply, Terms, no_terms, terms, normal_node, normal_of, normals_of}
 use Rattle.nz_spec.specs.Table.{Node, term_in, terms_at}
-use Rattle.nz_spec.specs.Script.{term_of, terms_of, terms_onto, atom_of, operation_of, constant_named}
+use Rattle.nz_spec.specs.Script.{term_of, terms_of, terms_onto, atom_of, operation_of, applied, takes, term_count, constant_named}
 use Rattle.nz_spec.proofs.Tables.{term_stays}
 use Rattle.nz_sort.specs.Names.{number_named, AreNamesOf}
-use Rattle.nz_sort.specs.Elaborate.{IsOperator, Grows, Elaborates, EachElaborates, ElaboratesAll, Applies, applied, operator_named, tree_size, trees_size}
+use Rattle.nz_sort.specs.Elaborate.{IsOperator, Grows, StandsFor, Elaborates, EachElaborates, ElaboratesAll, tree_size, trees_size}
 use Rattle.nz_sort.specs.Operators.{operator_head, Splits}
-use Rattle.nz_sort.specs.declared.elaboration.Operator.{Operator}
-use Rattle.nz_sort.specs.declared.elaboration.Operator.TheVariants.{Not, And, Or}
+use Rattle.nz_sort.specs.declared.operators.Operator.{Operator}
 use Rattle.nz_sort.specs.declared.elaboration.Refusal.{Refusal}
 use Rattle.nz_sort.specs.declared.elaboration.Refusal.TheVariants.{Unsupported}
 
@@ -117,59 +116,12 @@ pub atom_made : (cs : List Constant) (name : List ℕ) (h : Head) (ns : List Nod
 atom_made cs name h ns n id stands normal at is =
     record { term = apply h no_terms; stands = stands; within = slice_get_within ns id n at; normal = is ∙ sym normal }
 
--- ---- Operators
-
--- one number, and the one term that it stands for
-pub applies_not : (old new : List Node) (kids : List ℕ) (id : ℕ) (n : Node) → length kids ≡ 1 → slice_get new id ≡ Some n
-    → term_in new id ≡ apply negation (terms_at (term_in old) kids)
-    → (arguments : Terms) → terms_at (term_in old) kids ≡ normals_of arguments → Applies negation arguments new id
-applies_not old new [] id n long at is arguments e = absurd (omega (arith, long))
-applies_not old new (k ∷ l ∷ ks) id n long at is arguments e = absurd (omega (arith, long))
-applies_not old new (k ∷ []) id n long at is no_terms e = cc
-applies_not old new (k ∷ []) id n long at is (terms t (terms u us)) e = cc
-applies_not old new (k ∷ []) id n long at is (terms t no_terms) e =
-    record { term = apply negation (terms t no_terms); stands = refl; within = slice_get_within new id n at; normal = is ∙ ap (apply negation) e }
-
--- of one argument a chain is that argument
-pub applies_alone : (o : Operator) → (o ≡ Not → ⊥) → (ns : List Node) (kids : List ℕ) → length kids ≡ 1 → All (λ k. k < length ns) kids
-    → (arguments : Terms) → terms_at (term_in ns) kids ≡ normals_of arguments → Applies (operator_head o) arguments ns (get_or kids 0 0)
-applies_alone o other ns [] long within arguments e = absurd (omega (arith, long))
-applies_alone o other ns (k ∷ l ∷ ks) long within arguments e = absurd (omega (arith, long))
-applies_alone o other ns (k ∷ []) long within no_terms e = cc
-applies_alone o other ns (k ∷ []) long within (terms t (terms u us)) e = cc
-applies_alone Not other ns (k ∷ []) long within (terms t no_terms) e = absurd (other refl)
-applies_alone And other ns (k ∷ []) long within (terms t no_terms) e =
-    let same : term_in ns k ≡ normal_of t = cc in
-    record { term = apply conjunction (terms t no_terms); stands = refl; within = All-head (λ i. i < length ns) k [] within; normal = same }
-applies_alone Or other ns (k ∷ []) long within (terms t no_terms) e =
-    let same : term_in ns k ≡ normal_of t = cc in
-    record { term = apply disjunction (terms t no_terms); stands = refl; within = All-head (λ i. i < length ns) k [] within; normal = same }
-
-applies_chain : (o : Operator) → (o ≡ Not → ⊥) → (old new : List Node) (kids : List ℕ) (id : ℕ) (n : Node) → 2 ≤ length kids → slice_get new id ≡ Some n
-    → term_in new id ≡ apply (operator_head o) (terms_at (term_in old) kids)
-    → (arguments : Terms) → terms_at (term_in old) kids ≡ normals_of arguments → Applies (operator_head o) arguments new id
-applies_chain o other old new [] id n long at is arguments e = absurd (omega (arith, long))
-applies_chain o other old new (k ∷ []) id n long at is arguments e = absurd (omega (arith, long))
-applies_chain o other old new (k ∷ l ∷ ks) id n long at is no_terms e = cc
-applies_chain o other old new (k ∷ l ∷ ks) id n long at is (terms t no_terms) e = cc
-applies_chain Not other old new (k ∷ l ∷ ks) id n long at is (terms t (terms u us)) e = absurd (other refl)
-applies_chain And other old new (k ∷ l ∷ ks) id n long at is (terms t (terms u us)) e =
-    record { term = apply conjunction (terms t (terms u us)); stands = refl; within = slice_get_within new id n at; normal = is ∙ ap (apply conjunction) e }
-applies_chain Or other old new (k ∷ l ∷ ks) id n long at is (terms t (terms u us)) e =
-    record { term = apply disjunction (terms t (terms u us)); stands = refl; within = slice_get_within new id n at; normal = is ∙ ap (apply disjunction) e }
-
-pub chain_applies : (o : Operator) → (o ≡ Not → ⊥) → (old new : List Node) (kids : List ℕ) (id : ℕ) (n : Node) (h : Head) → 2 ≤ length kids → slice_get new id ≡ Some n
-    → h ≡ operator_head o → term_in new id ≡ apply h (terms_at (term_in old) kids)
-    → (arguments : Terms) → terms_at (term_in old) kids ≡ normals_of arguments → Applies (operator_head o) arguments new id
-chain_applies o other old new kids id n h long at same is =
-    applies_chain o other old new kids id n long at (is ∙ ap (λ g. apply g (terms_at (term_in old) kids)) same)
-
 -- ---- What stays while a table grows
 
-longer : (old new : List Node) → Grows old new → length old ≤ length new
+pub longer : (old new : List Node) → Grows old new → length old ≤ length new
 longer old new g = omega (arith, ap length g.all, length-append old g.more)
 
-term_kept : (old new : List Node) → Grows old new → (i : ℕ) → i < length old → term_in new i ≡ term_in old i
+pub term_kept : (old new : List Node) → Grows old new → (i : ℕ) → i < length old → term_in new i ≡ term_in old i
 term_kept old new g i below = ap (λ l. term_in l i) g.all ∙ term_stays old g.more i below
 
 pub names_kept : (old new : List Node) → Grows old new → (ps : List (List ℕ × ℕ)) (cs : List Constant) → AreNamesOf old ps cs → AreNamesOf new ps cs
@@ -238,27 +190,17 @@ map_next f xs i x below is = map_more f xs i x below ∙ ap (λ z. map f (take i
 
 -- ---- Operations
 
--- the operator of a name over its arguments
-operates : (name : List ℕ) (h : Head) (ts : Terms) → operator_named name ≡ Some h → operation_of name ts ≡ applied h ts
-operates name h ts e =
-    (elim (bytes_eq name (codes "not")) as (λ b.
-    cond b (Some negation) (cond (bytes_eq name (codes "and")) (Some conjunction) (cond (bytes_eq name (codes "or")) (Some disjunction) None)) ≡ Some h
-    → cond b (applied negation ts) (cond (bytes_eq name (codes "and")) (applied conjunction ts) (cond (bytes_eq name (codes "or")) (applied disjunction ts) None)) ≡ applied h ts) [
-      | true ↦ λ k. ap (λ g. applied g ts) (some_same k)
-      | false ↦ (elim (bytes_eq name (codes "and")) as (λ b.
-          cond b (Some conjunction) (cond (bytes_eq name (codes "or")) (Some disjunction) None) ≡ Some h
-          → cond b (applied conjunction ts) (cond (bytes_eq name (codes "or")) (applied disjunction ts) None) ≡ applied h ts) [
-            | true ↦ λ k. ap (λ g. applied g ts) (some_same k)
-            | false ↦ (elim (bytes_eq name (codes "or")) as (λ b.
-                cond b (Some disjunction) None ≡ Some h → cond b (applied disjunction ts) None ≡ applied h ts) [
-                  | true ↦ λ k. ap (λ g. applied g ts) (some_same k)
-                  | false ↦ λ k. cc
-                ])
-          ])
-    ]) e
-  where
-    some_same : {g : Head} → Some g ≡ Some h → g ≡ h
-    some_same k = cc
+term_count_at : (f : ℕ → Term) (ids : List ℕ) → term_count (terms_at f ids) ≡ length ids
+term_count_at f [] = refl
+term_count_at f (i ∷ is) = ap suc (term_count_at f is)
+
+term_count_normal : (ts : Terms) → term_count (normals_of ts) ≡ term_count ts
+term_count_normal no_terms = refl
+term_count_normal (terms t ts) = ap suc (term_count_normal ts)
+
+-- the numbers of normal terms are as many as the terms
+as_many : (f : ℕ → Term) (ids : List ℕ) (ts : Terms) → terms_at f ids ≡ normals_of ts → length ids ≡ term_count ts
+as_many f ids ts e = sym (term_count_at f ids) ∙ ap term_count e ∙ term_count_normal ts
 
 -- the term of a list of trees is its operator over the terms of the others
 pub term_of-split : (cs : List Constant) (ts : List Tree) (o : Operator) (arguments : List Tree) → Splits ts o arguments
@@ -268,36 +210,43 @@ term_of-split cs ts o arguments s =
   where
     both : (r : Option Terms) → option_and_then (operation_of s.name) r ≡ option_and_then (applied (operator_head o)) r
     both None = refl
-    both (Some us) = operates s.name (operator_head o) us s.named
+    both (Some us) = ap (option_and_then (λ h. applied h us)) s.named
 
 pub operation_found : (cs : List Constant) (ts : List Tree) (o : Operator) (arguments : List Tree) (mid new : List Node) (ids : List ℕ) (id : ℕ)
-    → Splits ts o arguments → ElaboratesAll cs arguments mid ids
-    → ((us : Terms) → terms_at (term_in mid) ids ≡ normals_of us → Applies (operator_head o) us new id)
+    → Splits ts o arguments → ElaboratesAll cs arguments mid ids → takes (operator_head o) (length ids) ≡ true
+    → StandsFor new id (normal_node (operator_head o) (terms_at (term_in mid) ids))
     → Elaborates cs (node (trees_from ts)) new id
-operation_found cs ts o arguments mid new ids id s e f =
-    let a : Applies (operator_head o) e.arguments new id = f e.arguments e.normal in
+operation_found cs ts o arguments mid new ids id s e taken made =
+    let h = operator_head o in
+    let here : takes h (term_count e.arguments) ≡ true = subst (λ n. takes h n ≡ true) (as_many (term_in mid) ids e.arguments e.normal) taken in
+    let stands : applied h e.arguments ≡ Some (apply h e.arguments) = rw here refl in
     record {
-      term = a.term;
-      stands = term_of-split cs ts o arguments s ∙ ap (option_and_then (applied (operator_head o))) e.stands ∙ a.stands;
-      within = a.within;
-      normal = a.normal;
+      term = apply h e.arguments;
+      stands = term_of-split cs ts o arguments s ∙ ap (option_and_then (applied h)) e.stands ∙ stands;
+      within = made.within;
+      normal = made.term ∙ ap (normal_node h) e.normal;
     }
 
 pub operation_refused : (cs : List Constant) (ts : List Tree) (o : Operator) (arguments : List Tree) (mid : List Node) (ids : List ℕ)
-    → Splits ts o arguments → ElaboratesAll cs arguments mid ids
-    → ((us : Terms) → terms_at (term_in mid) ids ≡ normals_of us → applied (operator_head o) us ≡ None)
+    → Splits ts o arguments → ElaboratesAll cs arguments mid ids → takes (operator_head o) (length ids) ≡ false
     → term_of cs (node (trees_from ts)) ≡ None
-operation_refused cs ts o arguments mid ids s e f =
-    term_of-split cs ts o arguments s ∙ ap (option_and_then (applied (operator_head o))) e.stands ∙ f e.arguments e.normal
+operation_refused cs ts o arguments mid ids s e refused =
+    let h = operator_head o in
+    let here : takes h (term_count e.arguments) ≡ false = subst (λ n. takes h n ≡ false) (as_many (term_in mid) ids e.arguments e.normal) refused in
+    let none : applied h e.arguments ≡ None = rw here refl in
+    term_of-split cs ts o arguments s ∙ ap (option_and_then (applied h)) e.stands ∙ none
 
 -- the same, of what was returned
 pub operation_returned : (r : Result ℕ Refusal) (ts : List Tree) (o : Operator) (arguments : List Tree) (start mid new : List Node) (ps : List (List ℕ × ℕ)) (ids shown : List ℕ)
     → Splits ts o arguments → shown ≡ ids → ((cs : List Constant) → AreNamesOf start ps cs → ElaboratesAll cs arguments mid ids)
-    → IfOk r (λ id. (us : Terms) → terms_at (term_in mid) shown ≡ normals_of us → Applies (operator_head o) us new id)
+    → OnOk r (takes (operator_head o) (length shown) ≡ true)
+    → IfOk r (λ id. StandsFor new id (normal_node (operator_head o) (terms_at (term_in mid) shown)))
     → IfOk r (λ id. (cs : List Constant) → AreNamesOf start ps cs → Elaborates cs (node (trees_from ts)) new id)
-operation_returned (Err x) ts o arguments start mid new ps ids shown s same e f = tt
-operation_returned (Ok id) ts o arguments start mid new ps ids shown s same e f =
-    λ cs a. operation_found cs ts o arguments mid new ids id s (e cs a) (λ us h. f us (ap (terms_at (term_in mid)) same ∙ h))
+operation_returned (Err x) ts o arguments start mid new ps ids shown s same e taken made = tt
+operation_returned (Ok id) ts o arguments start mid new ps ids shown s same e taken made =
+    λ cs a.
+    operation_found cs ts o arguments mid new ids id s (e cs a) (subst (λ l. takes (operator_head o) (length l) ≡ true) same taken)
+    (subst (λ l. StandsFor new id (normal_node (operator_head o) (terms_at (term_in mid) l))) same made)
 
 pub operation_none : (cs : List Constant) (ts : List Tree) (o : Operator) (arguments : List Tree) → Splits ts o arguments
     → terms_of cs (trees_from arguments) ≡ None → term_of cs (node (trees_from ts)) ≡ None

@@ -10,7 +10,7 @@ use Rattle.nz_sexpr.specs.declared.tree.Tree as code
 use Rattle.nz_sexpr.specs.View.{view}
 use Rattle.nz_spec.specs.Tree.{Tree, leaf, node, symbol, Trees, trees, no_trees}
 use Rattle.nz_spec.specs.Reading.{trees_from}
-use Rattle.nz_spec.specs.Term.{Constant, Head, constant, verum, falsum, negation, conjunction, disjunction, apply, no_terms, normal_of}
+use Rattle.nz_spec.specs.Term.{Constant, Head, constant, verum, falsum, negation, conjunction, disjunction, implication, exclusion, equality, distinction, choice, apply, no_terms, normal_of}
 use Rattle.nz_spec.specs.Table.{Node, term_in}
 use Rattle.nz_spec.specs.Decide.{constants_of_head, constants_in_table}
 use Rattle.nz_spec.specs.Script.{State, Item, declared, asserted, items_of, constants_in, assertions_in, constants_of, assertions_of, with_item, Command, declare_const, assert_term, check_sat, get_model, exit, command_of, command_named, declaration_of, assertion_of, alone, can_declare, is_one_of, reserved_words, operators, constant_limit, constant_named}
@@ -146,6 +146,11 @@ none_of_operator falsum o = refl
 none_of_operator negation o = refl
 none_of_operator conjunction o = refl
 none_of_operator disjunction o = refl
+none_of_operator implication o = refl
+none_of_operator exclusion o = refl
+none_of_operator equality o = refl
+none_of_operator distinction o = refl
+none_of_operator choice o = refl
 
 -- operators bring none
 no_constants : (more : List Node) → AllByRecursion (λ (n : Node). IsOperator n.head) more → constants_in_table more ≡ []

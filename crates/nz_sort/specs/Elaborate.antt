@@ -1,11 +1,11 @@
 -- What elaboration makes of trees: terms in the table.
-use Rattle.std.specs.Prelude.{◌≡◌, ℕ, ◌<◌, ◌+◌, suc, List, [], ◌∷◌, ◌++◌, length, All, Option, Some, None, ⊤, codes, bytes_eq, if◌then◌else◌}
+use Rattle.std.specs.Prelude.{◌≡◌, ℕ, ◌<◌, ◌+◌, suc, List, [], ◌∷◌, ◌++◌, length, All, Some, ⊤}
 use Rattle.std.specs.List.{AllByRecursion}
 use Rattle.nz_spec.specs.Tree.{symbol_name, Tree, leaf, node, Trees, no_trees, trees}
 use Rattle.nz_spec.specs.Reading.{trees_from}
-use Rattle.nz_spec.specs.Term.{Constant, Head, constant, verum, falsum, negation, conjunction, disjunction, Term, Terms, normal_of, normals_of}
+use Rattle.nz_spec.specs.Term.{Constant, Head, constant, verum, falsum, negation, conjunction, disjunction, implication, exclusion, equality, distinction, choice, Term, Terms, terms, normal_of, normals_of}
 use Rattle.nz_spec.specs.Table.{Node, term_in, terms_at}
-use Rattle.nz_spec.specs.Script.{term_of, terms_of, unary_of, chain_of}
+use Rattle.nz_spec.specs.Script.{term_of, terms_of}
 
 -- the name of a tree that is a symbol
 abbrev pub name_of : Tree → Option (List ℕ)
@@ -20,12 +20,27 @@ IsOperator falsum = ⊤
 IsOperator negation = ⊤
 IsOperator conjunction = ⊤
 IsOperator disjunction = ⊤
+IsOperator implication = ⊤
+IsOperator exclusion = ⊤
+IsOperator equality = ⊤
+IsOperator distinction = ⊤
+IsOperator choice = ⊤
 
 -- The table has grown by nodes of operators.
 pub record Grows (old new : List Node) : Type 0 where
   pub more : List Node
   pub all : new ≡ old ++ more
   pub operators : AllByRecursion (λ (n : Node). IsOperator n.head) more
+
+-- the terms of these numbers, and then others
+abbrev pub terms_before : (ℕ → Term) → List ℕ → Terms → Terms
+terms_before term_at [] others = others
+terms_before term_at (i ∷ is) others = terms (term_at i) (terms_before term_at is others)
+
+-- The number is that of this term.
+pub record StandsFor (ns : List Node) (id : ℕ) (t : Term) : Type 0 where
+  pub within : id < length ns
+  pub term : term_in ns id ≡ t
 
 -- The tree has a term, where these constants are live, and the number is that of its normal term.
 pub record Elaborates (cs : List Constant) (tree : Tree) (ns : List Node) (id : ℕ) : Type 0 where
@@ -47,30 +62,6 @@ pub record ElaboratesAll (cs : List Constant) (ts : List Tree) (ns : List Node) 
   pub stands : terms_of cs (trees_from ts) ≡ Some arguments
   pub within : All (λ i. i < length ns) ids
   pub normal : terms_at (term_in ns) ids ≡ normals_of arguments
-
--- the head of the operator of a name
-abbrev pub operator_named : List ℕ → Option Head
-operator_named name =
-    if bytes_eq name (codes "not") then Some negation
-    else (if bytes_eq name (codes "and") then Some conjunction
-    else (if bytes_eq name (codes "or") then Some disjunction
-    else None))
-
--- an operator over its arguments, where it takes so many
-abbrev pub applied : Head → Terms → Option Term
-applied negation ts = unary_of negation ts
-applied conjunction ts = chain_of conjunction ts
-applied disjunction ts = chain_of disjunction ts
-applied (constant c) ts = None
-applied verum ts = None
-applied falsum ts = None
-
--- The operator takes the arguments, and the number is that of the normal term.
-pub record Applies (h : Head) (arguments : Terms) (ns : List Node) (id : ℕ) : Type 0 where
-  pub term : Term
-  pub stands : applied h arguments ≡ Some term
-  pub within : id < length ns
-  pub normal : term_in ns id ≡ normal_of term
 
 -- ---- A measure
 

@@ -1,17 +1,18 @@
 //! Elaboration: the term of a tree, made in the table.
-ghost use Rattle.std.specs.Prelude.{◌≡◌, ◌<◌, ℕ, List, [], ◌∷◌, length, map, All, None, Some, IfOk, IfSome, OnSome, IfNone, IsErrOf, option_map};
+ghost use Rattle.std.specs.Prelude.{◌≡◌, ◌<◌, ℕ, List, [], ◌∷◌, length, map, All, None, Some, IfOk, IfSome, OnSome, IfNone, IsErrOf, OnOk, true, false};
 ghost use Rattle.nz_sexpr.specs.View.{view};
 ghost use Rattle.nz_spec.specs.Tree.{leaf, node, symbol};
 ghost use Rattle.nz_spec.specs.Reading.{trees_from};
-ghost use Rattle.nz_spec.specs.Term.{Constant, Terms as Arguments, normals_of};
+ghost use Rattle.nz_spec.specs.Term.{Constant, normal_node};
 ghost use Rattle.nz_spec.specs.Table.{term_in, terms_at};
-ghost use Rattle.nz_spec.specs.Script.{term_of, terms_of};
+ghost use Rattle.nz_spec.specs.Script.{term_of, terms_of, takes as may_take};
 ghost use Rattle.nz_sort.specs.Names.{AreNamesOf};
-ghost use Rattle.nz_sort.specs.Elaborate.{Grows, Elaborates, ElaboratesAll, Applies, applied, name_of, operator_named};
+ghost use Rattle.nz_sort.specs.Elaborate.{Grows, StandsFor, Elaborates, ElaboratesAll, name_of};
 ghost use Rattle.nz_sort.specs.Operators.{operator_head, Splits};
-ghost use Rattle.nz_term.specs.Heads.{head_of as code_head};
 
 use crate::names::Names;
+use crate::normal::normal_term;
+use crate::operators::{Operator, operator_of, takes};
 use nz_base::{Memory, Text};
 use nz_sexpr::Tree;
 use nz_term::{Head, TermId, Terms};
@@ -56,28 +57,6 @@ impl<T: Drop> From<AllocFailed<T>> for Refusal {
     }
 }
 
-/// An operator that takes arguments.
-#[derive(Clone, Copy, Debug, PartialEq, Eq)]
-enum Operator {
-    Not,
-    And,
-    Or,
-}
-
-fn operator_of(name: &[u8]) -> Option<Operator>
-    ensures named { option_map operator_head result ≡ operator_named name.now }
-{
-    if name == b"not".as_slice() {
-        Some(Operator::Not)
-    } else if name == b"and".as_slice() {
-        Some(Operator::And)
-    } else if name == b"or".as_slice() {
-        Some(Operator::Or)
-    } else {
-        None
-    }
-}
-
 /// The number of the term that a symbol alone stands for: a truth value or a live constant.
 fn atom(names: &Names, terms: &mut Terms, name: &Text) -> Result<TermId, Refusal>
     ensures grows { Grows terms.old terms.new }
@@ -91,44 +70,6 @@ fn atom(names: &Names, terms: &mut Terms, name: &Text) -> Result<TermId, Refusal
         return Ok(terms.make(Head::False, &[])?);
     }
     names.get(name).ok_or(Refusal::Unsupported)
-}
-
-/// A negation, of one argument.
-fn negate(terms: &mut Terms, kids: &[TermId]) -> Result<TermId, Refusal>
-    requires { All (λ k. k < length terms.old) kids.now }
-    ensures grows { Grows terms.old terms.new }
-    ensures found { IfOk result (λ id. (arguments : Arguments) → terms_at (term_in terms.old) kids.now ≡ normals_of arguments → Applies (operator_head Operator.Not) arguments terms.new id) }
-    ensures refused { IsErrOf result Refusal.Unsupported → (arguments : Arguments) → terms_at (term_in terms.old) kids.now ≡ normals_of arguments → applied (operator_head Operator.Not) arguments ≡ None }
-{
-    match kids {
-        [_] => Ok(terms.make(Head::Not, kids)?),
-        _ => Err(Refusal::Unsupported),
-    }
-}
-
-/// A conjunction or a disjunction, of one argument or more; of one it is that argument.
-fn chain(terms: &mut Terms, operator: Operator, kids: &[TermId]) -> Result<TermId, Refusal>
-    requires kids { All (λ k. k < length terms.old) kids.now }
-    requires operator { operator ≡ Operator.Not → ⊥ }
-    ensures grows { Grows terms.old terms.new }
-    ensures found { IfOk result (λ id. (arguments : Arguments) → terms_at (term_in terms.old) kids.now ≡ normals_of arguments → Applies (operator_head operator) arguments terms.new id) }
-    ensures refused { IsErrOf result Refusal.Unsupported → (arguments : Arguments) → terms_at (term_in terms.old) kids.now ≡ normals_of arguments → applied (operator_head operator) arguments ≡ None }
-{
-    match kids {
-        [] => Err(Refusal::Unsupported),
-        [only] => Ok(*only),
-        _ => Ok(terms.make(head_of(operator), kids)?),
-    }
-}
-
-fn head_of(operator: Operator) -> Head
-    ensures head { code_head result ≡ operator_head operator }
-{
-    match operator {
-        Operator::Not => Head::Not,
-        Operator::And => Head::And,
-        Operator::Or => Head::Or,
-    }
 }
 
 /// The name of a tree that is a symbol.
@@ -196,21 +137,27 @@ fn operation(
     };
     match elaborate_all(alloc, names, terms, arguments) {
         Err(refusal) => Err(refusal),
-        Ok(kids) => apply(terms, operator, kids.as_slice()),
+        Ok(kids) => apply(alloc, terms, operator, kids.as_slice()),
     }
 }
 
-/// The operator over its arguments.
-fn apply(terms: &mut Terms, operator: Operator, kids: &[TermId]) -> Result<TermId, Refusal>
-    requires { All (λ k. k < length terms.old) kids.now }
+/// The operator over its arguments, where it takes so many.
+fn apply(
+    alloc: Global,
+    terms: &mut Terms,
+    operator: Operator,
+    kids: &[TermId],
+) -> Result<TermId, Refusal>
+    requires within { All (λ k. k < length terms.old) kids.now }
     ensures grows { Grows terms.old terms.new }
-    ensures found { IfOk result (λ id. (arguments : Arguments) → terms_at (term_in terms.old) kids.now ≡ normals_of arguments → Applies (operator_head operator) arguments terms.new id) }
-    ensures refused { IsErrOf result Refusal.Unsupported → (arguments : Arguments) → terms_at (term_in terms.old) kids.now ≡ normals_of arguments → applied (operator_head operator) arguments ≡ None }
+    ensures taken { OnOk result (may_take (operator_head operator) (length kids.now) ≡ true) }
+    ensures made { IfOk result (λ id. StandsFor terms.new id (normal_node (operator_head operator) (terms_at (term_in terms.old) kids.now))) }
+    ensures refused { IsErrOf result Refusal.Unsupported → may_take (operator_head operator) (length kids.now) ≡ false }
 {
-    match operator {
-        Operator::Not => negate(terms, kids),
-        Operator::And | Operator::Or => chain(terms, operator, kids),
+    if !takes(operator, kids.len()) {
+        return Err(Refusal::Unsupported);
     }
+    Ok(normal_term(alloc, terms, operator, kids)?)
 }
 
 /// The numbers of the normal terms of the trees, in order.

@@ -6,6 +6,8 @@
 mod elaboration;
 mod live;
 mod names;
+mod normal;
+mod operators;
 
 pub use elaboration::{Refusal, elaborate};
 pub use live::{Act, Live};

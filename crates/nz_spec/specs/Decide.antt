@@ -1,11 +1,11 @@
 -- What a search answers to a check: over the constants of a table of terms, and the terms that are asserted by level.
 use Rattle.std.specs.Prelude.{◌≡◌, ℕ, ◌+◌, ◌<◌, List, [], ◌∷◌, ◌++◌, length, map, flat_map, Option, Some, None, ⊤, All, bytes_eq, slice_get}
 use Rattle.std.specs.List.{AllByRecursion, IsDistinct}
-use Rattle.nz_spec.specs.Term.{Constant, Head, constant, verum, falsum, negation, conjunction, disjunction, Term, Value, Assignment, IsOfSort, IsTrueUnder}
+use Rattle.nz_spec.specs.Term.{Constant, Head, constant, verum, falsum, negation, conjunction, disjunction, implication, exclusion, equality, distinction, choice, Term, Value, Assignment, IsOfSort, IsTrueUnder}
 use Rattle.nz_spec.specs.Table.{Node, term_in}
 use Rattle.nz_spec.specs.Script.{Binding}
 use Rattle.nz_spec.specs.Reply.{assignment_of, Note, atom_note}
-use Rattle.nz_spec.specs.Work.{WorkEntry, DecisionEntry, LearnedEntry, WorkLine, UnitLine, NoteLine}
+use Rattle.nz_spec.specs.Work.{DecisionEntry, LearnedEntry, WorkLine, UnitLine, NoteLine}
 
 -- ---- Constants and asserted terms
 
@@ -17,6 +17,11 @@ constants_of_head falsum = []
 constants_of_head negation = []
 constants_of_head conjunction = []
 constants_of_head disjunction = []
+constants_of_head implication = []
+constants_of_head exclusion = []
+constants_of_head equality = []
+constants_of_head distinction = []
+constants_of_head choice = []
 
 -- the constants of a table, in its order
 abbrev pub constants_in_table : List Node → List Constant

@@ -15,4 +15,5 @@ pub mod Texts
 pub mod Told
 pub mod Transcript
 pub mod Tree
+pub mod TruthTables
 pub mod Work

@@ -1,9 +1,9 @@
 -- Commands and the live state (SMT-LIB 2.6, section 3.9 and chapter 4): what a tree asks for, where it is accepted, and
 -- the stack of levels that the accepted commands leave.
-use Rattle.std.specs.Prelude.{◌≡◌, ℕ, ◌+◌, ◌<◌, ◌&&◌, not, nat_lt, Bool, true, false, IsTrue, List, [], ◌∷◌, ◌++◌, length, map, Option, Some, None, option_map, option_and_then, is_some, is_none, codes, bytes_eq, find, if◌then◌else◌}
+use Rattle.std.specs.Prelude.{ℕ, ◌&&◌, ◌==◌, suc, not, nat_lt, Bool, List, [], ◌∷◌, ◌++◌, length, Option, Some, None, option_map, option_and_then, is_some, is_none, codes, bytes_eq, if◌then◌else◌}
 use Rattle.std.specs.List.{list_any}
-use Rattle.nz_spec.specs.Tree.{Token, symbol, symbol_name, Tree, leaf, node, Trees, no_trees, trees}
-use Rattle.nz_spec.specs.Term.{Sort, bool_sort, Constant, Head, constant, verum, falsum, negation, conjunction, disjunction, Term, apply, Terms, no_terms, terms, Value, truth, Assignment}
+use Rattle.nz_spec.specs.Tree.{symbol, symbol_name, Tree, leaf, node, Trees, no_trees, trees}
+use Rattle.nz_spec.specs.Term.{bool_sort, Constant, Head, constant, verum, falsum, negation, conjunction, disjunction, implication, exclusion, equality, distinction, choice, Term, apply, Terms, no_terms, terms, Value}
 
 -- ---- Names
 
@@ -36,22 +36,44 @@ atom_of cs name =
     else (if bytes_eq name (codes "false") then Some (apply falsum no_terms)
     else option_map (λ c. apply (constant c) no_terms) (constant_named cs name))
 
--- an operator of one argument, and one of one or more
-abbrev pub unary_of : Head → Terms → Option Term
-unary_of h (terms t no_terms) = Some (apply h (terms t no_terms))
-unary_of h ts = None
+-- the operator of a name that takes arguments
+abbrev pub operator_named : List ℕ → Option Head
+operator_named name =
+    if bytes_eq name (codes "not") then Some negation
+    else (if bytes_eq name (codes "and") then Some conjunction
+    else (if bytes_eq name (codes "or") then Some disjunction
+    else (if bytes_eq name (codes "=>") then Some implication
+    else (if bytes_eq name (codes "xor") then Some exclusion
+    else (if bytes_eq name (codes "=") then Some equality
+    else (if bytes_eq name (codes "distinct") then Some distinction
+    else (if bytes_eq name (codes "ite") then Some choice
+    else None)))))))
 
-abbrev pub chain_of : Head → Terms → Option Term
-chain_of h no_terms = None
-chain_of h ts = Some (apply h ts)
+-- how many arguments an operator takes
+abbrev pub takes : Head → ℕ → Bool
+takes (constant c) n = n == 0
+takes verum n = n == 0
+takes falsum n = n == 0
+takes negation n = n == 1
+takes conjunction n = nat_lt 0 n
+takes disjunction n = nat_lt 0 n
+takes implication n = nat_lt 1 n
+takes exclusion n = nat_lt 1 n
+takes equality n = nat_lt 1 n
+takes distinction n = nat_lt 1 n
+takes choice n = n == 3
+
+abbrev pub term_count : Terms → ℕ
+term_count no_terms = 0
+term_count (terms t ts) = suc (term_count ts)
+
+-- an operator over its arguments, where it takes so many
+abbrev pub applied : Head → Terms → Option Term
+applied h ts = if takes h (term_count ts) then Some (apply h ts) else None
 
 -- the operator of this name over its arguments
 abbrev pub operation_of : List ℕ → Terms → Option Term
-operation_of name ts =
-    if bytes_eq name (codes "not") then unary_of negation ts
-    else (if bytes_eq name (codes "and") then chain_of conjunction ts
-    else (if bytes_eq name (codes "or") then chain_of disjunction ts
-    else None))
+operation_of name ts = option_and_then (λ h. applied h ts) (operator_named name)
 
 abbrev pub terms_onto : Option Term → Option Terms → Option Terms
 terms_onto (Some t) (Some ts) = Some (terms t ts)

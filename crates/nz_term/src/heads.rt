@@ -14,7 +14,7 @@ pub struct Constant {
     pub sort: Sort,
 }
 
-/// The head of a term.
+/// The head of a normal term.
 #[derive(Clone, Debug, Drop, PartialEq, Eq, Hash)]
 pub enum Head {
     /// A constant, which has no arguments.
@@ -24,4 +24,10 @@ pub enum Head {
     Not,
     And,
     Or,
+    /// Of two arguments.
+    Xor,
+    /// Of two arguments.
+    Equal,
+    /// Of three arguments: a condition, and a term for each answer.
+    Ite,
 }

@@ -37,6 +37,19 @@ fn equal_terms_have_one_number(rt: HostRuntime) -> Result<(), Fail> {
 }
 
 #[test]
+fn terms_of_different_operators_are_different(rt: HostRuntime) -> Result<(), Fail> {
+    let (mut terms, _) = clause(rt.alloc())?;
+    let excluded = terms.make(Head::Xor, &[0, 1])?;
+    assert_eq!(rt; excluded, 4);
+    let equal = terms.make(Head::Equal, &[0, 1])?;
+    assert_eq!(rt; equal, 5);
+    let chosen = terms.make(Head::Ite, &[0, 1, 2])?;
+    assert_eq!(rt; chosen, 6);
+    assert!(rt; Head::Xor != Head::Equal);
+    Ok(())
+}
+
+#[test]
 fn nodes_are_lent(rt: HostRuntime) -> Result<(), Fail> {
     let (terms, root) = clause(rt.alloc())?;
     assert!(rt; root < terms.len());

@@ -1,17 +1,19 @@
 -- The truth of the terms of a table, node by node.
-use Rattle.std.proofs.Common.{◌≡◌, ◌≢◌, ℕ, zero, suc, ◌+◌, ◌<◌, Bool, false, not, ◌||◌, List, [], ◌∷◌, ◌++◌, length, map, take, drop, Some, slice_get, slice_index_or, refl, sym, ap, ◌∙◌, arith, append_assoc, append-nil, length-append, set, below_more, get_or-set_same, get_or-set_other}
+use Rattle.std.proofs.Common.{◌≡◌, ◌≢◌, ℕ, zero, suc, ◌+◌, ◌<◌, Bool, false, not, ◌||◌, List, [], ◌∷◌, ◌++◌, length, map, take, drop, Some, slice_get, slice_index_or, refl, sym, ap, ◌∙◌, arith, append_assoc, append-nil, length-append, set, below_more, get_or-set_same, get_or-set_other, cond, true, add-one}
 use Rattle.std.specs.Prelude.{All}
+use Rattle.std.specs.Bool.{beq}
 use Rattle.std.specs.List.{list_all, list_any, AllByRecursion}
 use Rattle.std.proofs.lemmas.List.Folds.{list_all-map}
+use Rattle.std.proofs.Math.Seq.{drop-cons}
 use Rattle.std.proofs.lemmas.List.{get_or_at, map-append, length-map}
-use Rattle.nz_spec.specs.Term.{Constant, Head, constant, verum, falsum, negation, conjunction, disjunction, Term, apply, Value, Assignment, is_true, value_of, values_of, head_value}
+use Rattle.nz_spec.specs.Term.{Constant, Head, constant, verum, falsum, negation, conjunction, disjunction, Term, apply, Value, Assignment, is_true, value_of, values_of, head_value, implication, exclusion, equality, distinction, choice, truth, implies, are_equal, differs_from, are_chained, are_distinct}
 use Rattle.nz_spec.specs.Table.{Node, IsTable, TermOfNode, term_in, terms_at}
 use Rattle.nz_spec.specs.Decide.{constants_in_table, constants_of_head}
 use Rattle.nz_term.specs.declared.heads.Head as heads
 use Rattle.nz_term.specs.declared.heads.Head.TheVariants as own
 use Rattle.nz_term.specs.declared.heads.Constant as constants
 use Rattle.nz_term.specs.Heads.{head_of}
-use Rattle.nz_truth.specs.Truths.{head_truth, GivesTruths, AreTruths}
+use Rattle.nz_truth.specs.Truths.{values_by, head_truth, GivesTruths, AreTruths}
 
 -- ---- The constants before a node
 
@@ -66,6 +68,21 @@ list_any-map : (v : ℕ → Value) (ks : List ℕ) → list_any is_true (map v k
 list_any-map v [] = refl
 list_any-map v (k ∷ ks) = ap (λ b. is_true (v k) || b) (list_any-map v ks)
 
+-- the values of arguments that have these truths
+same_values : (f : ℕ → Bool) (v : ℕ → Value) (ks : List ℕ) → AllByRecursion (λ k. f k ≡ is_true (v k)) ks → values_by f ks ≡ map v ks
+same_values f v [] s = refl
+same_values f v (k ∷ ks) s =
+    let one : truth (f k) ≡ v k = ap truth s.0 ∙ truth_of (v k) in
+    let rest : values_by f ks ≡ map v ks = same_values f v ks s.1 in
+    cc
+  where
+    truth_of : (x : Value) → truth (is_true x) ≡ x
+    truth_of (truth b) = refl
+
+chosen : (b p q : Bool) (x y : Value) → p ≡ is_true x → q ≡ is_true y → cond b p q ≡ is_true (cond b x y)
+chosen true p q x y e f = e
+chosen false p q x y e f = f
+
 -- the value of a head is its truth over the truth of its arguments
 head_value_truth : (a : Assignment) (h : Head) (decided : Bool) (f : ℕ → Bool) (v : ℕ → Value) (ks : List ℕ) → ((c : Constant) → h ≡ constant c → decided ≡ is_true (a c.name))
     → AllByRecursion (λ k. f k ≡ is_true (v k)) ks → head_truth h decided f ks ≡ is_true (head_value a h (map v ks))
@@ -76,6 +93,16 @@ head_value_truth a negation d f v [] e s = refl
 head_value_truth a negation d f v (k ∷ ks) e s = ap not s.0
 head_value_truth a conjunction d f v ks e s = same_all f (λ k. is_true (v k)) ks s ∙ sym (list_all-map is_true v ks)
 head_value_truth a disjunction d f v ks e s = same_any f (λ k. is_true (v k)) ks s ∙ sym (list_any-map v ks)
+head_value_truth a implication d f v ks e s = ap implies (same_values f v ks s)
+head_value_truth a exclusion d f v [] e s = refl
+head_value_truth a exclusion d f v (k ∷ ks) e s = ap (λ vs. is_true (head_value a exclusion vs)) (same_values f v (k ∷ ks) s)
+head_value_truth a equality d f v ks e s = ap are_chained (same_values f v ks s)
+head_value_truth a distinction d f v ks e s = ap are_distinct (same_values f v ks s)
+head_value_truth a choice d f v [] e s = refl
+head_value_truth a choice d f v (c ∷ []) e s = refl
+head_value_truth a choice d f v (c ∷ k ∷ []) e s = refl
+head_value_truth a choice d f v (c ∷ k ∷ l ∷ []) e s = ap (λ b. cond b (f k) (f l)) s.0 ∙ chosen (is_true (v c)) (f k) (f l) (v k) (v l) s.1.0 s.1.1.0
+head_value_truth a choice d f v (c ∷ k ∷ l ∷ m ∷ ms) e s = refl
 
 -- a node has the truth of its term where the terms before it have theirs
 pub node_truth_value : TermOfNode → (ns : List Node) → IsTable ns → (i : ℕ) (n : Node) → slice_get ns i ≡ Some n → (a : Assignment) (decided : Bool) (values : List Bool)
@@ -137,6 +164,9 @@ not_constant own.False isnt c e = cc
 not_constant own.Not isnt c e = cc
 not_constant own.And isnt c e = cc
 not_constant own.Or isnt c e = cc
+not_constant own.Xor isnt c e = cc
+not_constant own.Equal isnt c e = cc
+not_constant own.Ite isnt c e = cc
 
 pub no_constants : (h : Head) → ((c : Constant) → h ≡ constant c → ⊥) → constants_of_head h ≡ []
 no_constants (constant c) isnt = absurd (isnt c refl)
@@ -145,3 +175,25 @@ no_constants falsum isnt = refl
 no_constants negation isnt = refl
 no_constants conjunction isnt = refl
 no_constants disjunction isnt = refl
+no_constants implication isnt = refl
+no_constants exclusion isnt = refl
+no_constants equality isnt = refl
+no_constants distinction isnt = refl
+no_constants choice isnt = refl
+
+-- ---- Exclusions
+
+-- one argument more
+pub exclusion_more : (f : ℕ → Bool) (ks : List ℕ) (i : ℕ) (b : Bool) → i < length ks
+    → is_true (differs_from (truth (not (beq b (f (slice_index_or ks i 0))))) (values_by f (drop (i + 1) ks))) ≡ is_true (differs_from (truth b) (values_by f (drop i ks)))
+exclusion_more f ks i b below =
+    let c = f (slice_index_or ks i 0) in
+    ap (λ n. is_true (differs_from (truth (not (beq b c))) (values_by f (drop n ks)))) (add-one i)
+    ∙ ap (λ x. is_true (differs_from (truth (not x)) (values_by f (drop (suc i) ks)))) (same b c)
+    ∙ sym (ap (λ l. is_true (differs_from (truth b) (values_by f l))) (drop-cons ks i 0 below))
+  where
+    same : (x y : Bool) → beq x y ≡ are_equal (truth x) (truth y)
+    same true true = refl
+    same true false = refl
+    same false true = refl
+    same false false = refl

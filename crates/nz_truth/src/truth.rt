@@ -1,7 +1,7 @@
 //! The truth of the terms of a table where its constants are decided, the oldest term first: arguments come before.
 ghost use Rattle.std.specs.Prelude.{◌≡◌, ℕ, ◌<◌, Bool, true, false, List, length, All, IfOk, slice_index_or};
 ghost use Rattle.std.specs.List.{list_all, list_any};
-ghost use Rattle.nz_spec.specs.Term.{Assignment, negation as not_head};
+ghost use Rattle.nz_spec.specs.Term.{Assignment, negation as not_head, exclusion as xor_head, equality as equal_head, choice as ite_head};
 ghost use Rattle.nz_spec.specs.Decide.{constants_in_table};
 ghost use Rattle.nz_term.specs.Heads.{head_of};
 ghost use Rattle.nz_truth.specs.Numbers.{AreNumbersOf};
@@ -24,6 +24,9 @@ fn node_truth(node: &Node, decided: bool, values: &[bool]) -> bool
         Head::Not => negation(kids, values),
         Head::And => are_true(kids, values),
         Head::Or => is_one_true(kids, values),
+        Head::Xor => exclusion(kids, values),
+        Head::Equal => are_chained(kids, values),
+        Head::Ite => choice(kids, values),
     }
 }
 
@@ -44,6 +47,48 @@ fn is_one_true(ids: &[TermId], values: &[bool]) -> bool
     ensures answer { result ≡ list_any (λ i. slice_index_or values.now i false) ids.now }
 {
     ids.iter().any(|id| values[*id])
+}
+
+// Whether the first argument, and then the outcome, differs from each next argument.
+fn exclusion(kids: &[TermId], values: &[bool]) -> bool
+    requires within { All (λ k. k < length values.now) kids.now }
+    ensures truth { result ≡ head_truth xor_head false (λ k. slice_index_or values.now k false) kids.now }
+{
+    let mut differs = false;
+    for kid in kids {
+        differs = differs != values[*kid];
+    }
+    differs
+}
+
+// Whether each argument is as true as the next.
+fn are_chained(kids: &[TermId], values: &[bool]) -> bool
+    requires within { All (λ k. k < length values.now) kids.now }
+    ensures truth { result ≡ head_truth equal_head false (λ k. slice_index_or values.now k false) kids.now }
+{
+    for i in 0..kids.len().saturating_sub(1) {
+        if values[kids[i]] != values[kids[i + 1]] {
+            return false;
+        }
+    }
+    true
+}
+
+// The second argument where the first is true, else the third.
+fn choice(kids: &[TermId], values: &[bool]) -> bool
+    requires within { All (λ k. k < length values.now) kids.now }
+    ensures truth { result ≡ head_truth ite_head false (λ k. slice_index_or values.now k false) kids.now }
+{
+    match kids {
+        [condition, then, otherwise] => {
+            if values[*condition] {
+                values[*then]
+            } else {
+                values[*otherwise]
+            }
+        }
+        _ => false,
+    }
 }
 
 /// Writes the truth of each term of the table, by the decided constants in their order.

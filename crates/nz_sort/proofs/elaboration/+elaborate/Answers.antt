@@ -1,11 +1,11 @@
-use Rattle.std.proofs.Common.{◌≡◌, ◌<◌, suc, ◌∷◌, [], ◌++◌, length, map, take, drop, None, Err, sym, ap, ◌∙◌, subst, arith, All}
+use Rattle.std.proofs.Common.{◌≡◌, ◌<◌, suc, false, ◌∷◌, [], ◌++◌, length, map, take, drop, None, Err, sym, ap, ◌∙◌, subst, arith, All}
 use Rattle.std.proofs.lemmas.List.{take_all}
 use Rattle.std.proofs.lemmas.List.Elements.{All-push}
 use Rattle.nz_sexpr.specs.View.{view}
 use Rattle.nz_spec.specs.Reading.{trees_from}
-use Rattle.nz_spec.specs.Table.{term_in, terms_at}
-use Rattle.nz_spec.specs.Script.{term_of, terms_of}
+use Rattle.nz_spec.specs.Script.{term_of, terms_of, takes}
 use Rattle.nz_sort.specs.Elaborate.{Grows, EachElaborates, Elaborates, tree_size, trees_size}
+use Rattle.nz_sort.specs.Operators.{operator_head}
 use Rattle.nz_sort.proofs.Elaborating.{grows_more, names_kept, within_kept, each_kept, each_push, all_from_each, terms_refused, map_round, map_next, item_smaller, operation_none, operation_refused, operation_returned}
 use Rattle.nz_sort.specs.declared.elaboration.Refusal.TheVariants.{Unsupported}
 use Rattle.nz_sort.proofs.elaboration.+elaborate.Goals as goal
@@ -61,12 +61,12 @@ operation-returns-in-Err-clause-refused t c = λ err cs a.
 pub operation-returns-in-Ok-clause-found : goal.operation-returns-in-Ok-clause-found
 operation-returns-in-Ok-clause-found t c =
     operation_returned c.apply.result (map view c.args.trees.now) c.in-Some.operator (map view c.in-Some.arguments.now) c.args.terms.now c.elaborate_all.new.terms c.apply.new.terms
-    c.args.names.now c.in-Ok.kids.items c.as_slice.result.now c.in-Some.ensures.operation c.as_slice.ensures.value c.in-Ok.ensures.found c.apply.ensures.found
+    c.args.names.now c.in-Ok.kids.items c.as_slice.result.now c.in-Some.ensures.operation c.as_slice.ensures.value c.in-Ok.ensures.found c.apply.ensures.taken c.apply.ensures.made
 
 pub operation-returns-in-Ok-clause-refused : goal.operation-returns-in-Ok-clause-refused
 operation-returns-in-Ok-clause-refused t c = λ err cs a.
     operation_refused cs _ _ _ _ _ c.in-Some.ensures.operation (c.in-Ok.ensures.found cs a)
-    (λ us h. c.apply.ensures.refused err us (ap (terms_at (term_in c.elaborate_all.new.terms)) c.as_slice.ensures.value ∙ h))
+    (subst (λ l. takes (operator_head c.in-Some.operator) (length l) ≡ false) c.as_slice.ensures.value (c.apply.ensures.refused err))
 
 pub elaborate_all-returns-clause-found : goal.elaborate_all-returns-clause-found
 elaborate_all-returns-clause-found t c = λ cs a.

@@ -1,0 +1,19 @@
+use Rattle.std.proofs.Common.{◌<◌, length, get_or, ◌∙◌, arith}
+use Rattle.std.proofs.lemmas.List.Elements.{All-get_or}
+use Rattle.nz_sort.proofs.Elaborating.{grows_more}
+use Rattle.nz_sort.proofs.Normalizing.{exclusion_next}
+use Rattle.nz_sort.proofs.normal.exclusion.Goals as goal
+
+pub loop-i-preserved : goal.loop-i-preserved
+loop-i-preserved c =
+    let old = c.args.terms.now in
+    let kids = c.args.kids.now in
+    let i = c.loop-i.i in
+    let here = c.in_ok-left.ensures in
+    let within : get_or kids i 0 < length old = All-get_or (λ k. k < length old) kids i 0 (omega arith) c.requires.within in
+    record {
+      grown = grows_more _ _ _ c.loop-i.invariant.grown here.grows;
+      within = here.made.within;
+      made = exclusion_next old c.loop-i.terms c.make-in-loop-i.new.terms kids i c.loop-i.left c.in_ok-left.left c.loop-i.invariant.grown (omega arith) within here.made
+          ∙ c.loop-i.invariant.made;
+    }
