@@ -9,7 +9,7 @@ use Rattle.nz_spec.specs.Text.{Limits, Heard, Hears, script_limits, OneReading}
 use Rattle.nz_spec.specs.Kept.{AreToldAs}
 use Rattle.nz_spec.specs.Told.{IsTold, ReadingTellsFirst}
 use Rattle.nz_spec.specs.Script.{start}
-use Rattle.nz_spec.specs.Reply.{reply_text}
+use Rattle.nz_spec.specs.Reply.{reply_text, error}
 use Rattle.nz_spec.specs.Transcript.{Kept, AreRight, EndsByExit, IsTranscript, texts_of}
 use Rattle.nz_sexpr.specs.declared.reader.Reader.{Reader}
 use Rattle.nz_sexpr.specs.declared.heard.Heard as code
@@ -20,7 +20,7 @@ use Rattle.nz_session.specs.declared.desk.Desk.{Desk}
 use Rattle.nz_reply.specs.declared.reply.Kept as kept
 use Rattle.nz_session.specs.declared.session.Session.{Session}
 use Rattle.nz_reply.specs.Replies.{all_kept}
-use Rattle.nz_session.specs.Serve.{IsGoing, Serves, Writes, Answers, HasExited, IsFront, kept_by, things_of}
+use Rattle.nz_session.specs.Serve.{IsGoing, Serves, Writes, WritesCut, Answers, HasExited, IsFront, kept_by, things_of}
 use Rattle.nz_session.proofs.Fronts.{told_first, told_split}
 
 -- Of the piece a front was read, and this is the rest; what is complete in it was answered.
@@ -44,6 +44,15 @@ writes_more old mid new thing a b c w n =
       more = w.more ++ n.one ∷ [];
       kept = n.kept ∙ ap (λ l. l ++ n.one ∷ []) w.kept ∙ append_assoc old w.more (n.one ∷ []);
       written = subst (Appends a c) (sym (texts-append w.more n.one)) (Appends-trans a b c (texts_of w.more) (reply_text n.one.reply) w.written n.written);
+    }
+
+-- and then that memory is wanted
+pub writes_cut : (old mid new : List Kept) (a b c : Option (List ℕ)) → Writes old mid a b → new ≡ mid → Appends b c (reply_text (error 11)) → WritesCut old new a c
+writes_cut old mid new a b c w e n =
+    record {
+      more = w.more;
+      kept = e ∙ w.kept;
+      written = Appends-trans a b c (texts_of w.more) (reply_text (error 11)) w.written n;
     }
 
 things-answered : (thing : Heard) (old new : List Kept) (b c : Option (List ℕ)) → Answers thing old new b c → things_of new ≡ things_of old ++ thing ∷ []

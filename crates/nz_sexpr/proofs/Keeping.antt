@@ -95,9 +95,9 @@ ended_matches limits v s st (Some k) m n h = record {
   deep = m.deep;
   kept = keeps_more (kept_of v.store) (kept_of st) (λ x. record { text = []; levels = with_trees (leaf (token_by k x.text) ∷ []) x.levels }) s (ended_as (Some k) (text_of_part s.part) s.levels s) h m.kept
       (λ x stands. record {
-          inside = omega (arith, n, length-with_trees (leaf (token_by k (text_of_part s.part)) ∷ []) s.levels);
-          all = ap (λ (y : Kept). record { text = []; levels = with_trees (leaf (token_by k y.text) ∷ []) y.levels }) stands.all;
-        });
+        inside = omega (arith, n, length-with_trees (leaf (token_by k (text_of_part s.part)) ∷ []) s.levels);
+        all = ap (λ (y : Kept). record { text = []; levels = with_trees (leaf (token_by k y.text) ∷ []) y.levels }) stands.all;
+      });
 }
 ended_matches limits v s st None m n h = record {
   depth_limit = m.depth_limit;
@@ -144,11 +144,11 @@ run_matches limits v s st run m n h few keeps =
       deep = m.deep;
       kept = keeps_more (kept_of v.store) (kept_of st) (λ k. record k { text = text_after v.part k.text run }) s t keeps m.kept
           (λ k stands. record {
-              inside = stands.inside;
-              all = ap (λ (x : Kept). record x { text = text_after v.part x.text run }) stands.all
-                  ∙ ap (λ p. record { text = text_after p (text_of_part s.part) run; levels = s.levels }) m.part
-                  ∙ ap (λ x. record { text = x; levels = s.levels }) (text_grows s.part run none);
-            });
+            inside = stands.inside;
+            all = ap (λ (x : Kept). record x { text = text_after v.part x.text run }) stands.all
+                ∙ ap (λ p. record { text = text_after p (text_of_part s.part) run; levels = s.levels }) m.part
+                ∙ ap (λ x. record { text = x; levels = s.levels }) (text_grows s.part run none);
+          });
     })
 
 -- ---- Two quotes
@@ -173,10 +173,10 @@ quote_doubles limits v s st w clean m c p few keeps =
       deep = m.deep;
       kept = keeps_more (kept_of v.store) (kept_of st) (λ k. record k { text = k.text ++ 34 ∷ [] }) s (goes_on (in_string (w ++ 34 ∷ [])) s) keeps m.kept
           (λ k stands. record {
-              inside = stands.inside;
-              all = ap (λ (x : Kept). record x { text = x.text ++ 34 ∷ [] }) stands.all
-                  ∙ ap (λ q. record { text = text_of_part q ++ 34 ∷ []; levels = s.levels }) p;
-            });
+            inside = stands.inside;
+            all = ap (λ (x : Kept). record x { text = x.text ++ 34 ∷ [] }) stands.all
+                ∙ ap (λ q. record { text = text_of_part q ++ 34 ∷ []; levels = s.levels }) p;
+          });
     }
 
 -- ---- A list closes

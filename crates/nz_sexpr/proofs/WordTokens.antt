@@ -264,8 +264,8 @@ digits_told c bs d z =
     let hash : (c == 35) ≡ false = not_here is_digit c 35 d refl in
     let simple : is_simple_symbol w ≡ false = ap (λ t. not t && list_all is_symbol_byte w) d in
     let fraction : is_decimal w ≡ is_fraction bs =
-      ap (λ t. is_numeral (if t then [] else c ∷ before_point bs) && are_digits (if t then bs else after_point bs)) point
-      ∙ ap (λ t. t && are_digits (after_point bs)) (numeral_tail c (before_point bs) d z) in
+    ap (λ t. is_numeral (if t then [] else c ∷ before_point bs) && are_digits (if t then bs else after_point bs)) point
+    ∙ ap (λ t. t && are_digits (after_point bs)) (numeral_tail c (before_point bs) d z) in
     let first : kind_after kind.Empty c ≡ kind.Digits = firsts c true false (is_symbol_byte c) false false d z refl colon hash in
     picks w false (list_all is_digit bs) (is_fraction bs) false false false simple (numeral_tail c bs d z) fraction (no_keyword c bs colon) (no_hexadecimal c bs hash) (no_binary c bs hash)
     ∙ number_picked w (list_all is_digit bs) (is_fraction bs)

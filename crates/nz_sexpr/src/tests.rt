@@ -148,8 +148,14 @@ fn refuses_what_is_no_token(rt: HostRuntime) -> Result<(), Fail> {
         ("(1a)", "0-4 bad 1\n"),
         ("(:)", "0-3 bad 1\n"),
         ("(:a:)", "0-5 bad 1\n"),
-        ("(#x)(#b2)(#Xa)(#xg)(#)", "0-4 bad 1\n4-9 bad 1\n9-14 bad 1\n14-19 bad 1\n19-22 bad 1\n"),
-        ("(a\x01b)(\"\x01\")(\"\x7f\")(|\\|)", "0-5 bad 1\n5-10 bad 1\n10-15 bad 1\n15-20 bad 1\n"),
+        (
+            "(#x)(#b2)(#Xa)(#xg)(#)",
+            "0-4 bad 1\n4-9 bad 1\n9-14 bad 1\n14-19 bad 1\n19-22 bad 1\n",
+        ),
+        (
+            "(a\x01b)(\"\x01\")(\"\x7f\")(|\\|)",
+            "0-5 bad 1\n5-10 bad 1\n10-15 bad 1\n15-20 bad 1\n",
+        ),
     ];
     reads_cases(&rt, rt.alloc(), &cases)
 }
@@ -157,7 +163,10 @@ fn refuses_what_is_no_token(rt: HostRuntime) -> Result<(), Fail> {
 #[test]
 fn reads_outside_commands(rt: HostRuntime) -> Result<(), Fail> {
     let cases = [
-        ("a \"b\" |c| d", "0-1 bad 1\n2-5 bad 1\n6-9 bad 1\n10-11 bad 1\n"),
+        (
+            "a \"b\" |c| d",
+            "0-1 bad 1\n2-5 bad 1\n6-9 bad 1\n10-11 bad 1\n",
+        ),
         ("\"a\"b", "0-3 bad 1\n3-4 bad 1\n"),
         ("\"a\")", "0-3 bad 1\n3-4 bad 1\n"),
         ("\"a\"(b)", "0-3 bad 1\n3-6 [b ]\n"),

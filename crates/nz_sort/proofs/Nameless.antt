@@ -24,4 +24,3 @@ nameless_sort s (leaf (symbol name)) (leaf u) ts h = refl
 nameless_sort s (leaf (symbol name)) (node us) ts h = refl
 nameless_sort s (leaf t) u ts h = refl
 nameless_sort s (node us) u ts h = refl
-

@@ -1,9 +1,9 @@
-use Rattle.std.proofs.Common.{inl, inr, refl, sym, subst, ◌++◌, List}
+use Rattle.std.proofs.Common.{inl, inr, refl, sym, ap, subst, ◌++◌, List}
 use Rattle.std.proofs.lemmas.List.{take_rest}
 use Rattle.nz_reply.specs.declared.reply.Kept as kept
 use Rattle.nz_reply.specs.Replies.{all_kept}
 use Rattle.nz_session.specs.Serve.{IsFront}
-use Rattle.nz_session.proofs.Feeding.{feeding_start, feeding_more, exited_fed, cut_fed, fed_all, none_is}
+use Rattle.nz_session.proofs.Feeding.{feeding_start, feeding_more, exited_fed, cut_fed, fed_all, none_is, writes_more, writes_cut}
 use Rattle.nz_session.proofs.session.Session.feed.Goals as goal
 
 pub heard-init : goal.heard-init
@@ -34,3 +34,9 @@ returns-in-Cut-clause-cut g c =
     subst (λ (l : List kept.Kept). IsFront limit (bytes ++ c.args.piece.now) (all_kept l)) (sym (c.in-Cut.ensures.cut refl))
     (cut_fed g.E.Decide.levels c.args.self.now c.args.piece.now c.heard.rest.now _ _ _ _ c.heard.self.reader c.feed-used.new.self c.heard.self.desk c.heard.self.kept
     c.feed-used.result.0 c.feed-used.result.1 c.heard.invariant c.feed-used.ensures.heard c.one_reading.ensures.one c.reading_tells_first.ensures.first limit bytes serves fits)
+
+pub returns-in-Exited-clause-written : goal.returns-in-Exited-clause-written
+returns-in-Exited-clause-written g c = λ _. writes_more _ _ _ _ _ _ _ c.heard.invariant.writes (c.in-Exited.ensures.answered (inr refl))
+
+pub returns-in-Cut-clause-cut_written : goal.returns-in-Cut-clause-cut_written
+returns-in-Cut-clause-cut_written g c = λ _. writes_cut _ _ _ _ _ _ c.heard.invariant.writes (ap all_kept (c.in-Cut.ensures.cut refl)) (c.in-Cut.ensures.cut_written refl)

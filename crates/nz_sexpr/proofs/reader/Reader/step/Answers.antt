@@ -3,7 +3,7 @@ use Rattle.nz_spec.specs.Text.{HasNone}
 use Rattle.nz_spec.specs.Kept.{AreToldAs}
 use Rattle.nz_spec.specs.Reading.{start, read_on, told_on}
 use Rattle.nz_sexpr.specs.Matches.{Matches, told}
-use Rattle.nz_sexpr.proofs.Feeding.{read_on-append,  told_more, bytes_read, take_one}
+use Rattle.nz_sexpr.proofs.Feeding.{read_on-append, told_more, bytes_read, take_one}
 use Rattle.nz_sexpr.specs.Part.{ends, part_of}
 use Rattle.nz_sexpr.proofs.Runs.{told_run}
 use Rattle.nz_sexpr.proofs.reader.Reader.step.Goals as goal

@@ -47,6 +47,6 @@ returns-in-Quoted-clause-heard c limits s m few =
     let here : Matches limits c.pass.new.self (passed s) = subst (λ (v : Scan). Matches limits v (passed s)) (sym c.pass.ensures.counted) (passes limits c.args.self.now s 1 m few) in
     let tells : AreToldAs (told c.end_token.result) (told_token (passed s)) = c.end_token.ensures.heard limits (passed s) here (omega (arith, few)) in
     subst (λ k. AreToldAs k (told_in s.part limits byte s)) (sym (append-nil (told c.end_token.result))) (
-      subst (λ p. AreToldAs (told c.end_token.result) (told_in p limits byte s)) (sym w.1)
-      (subst (AreToldAs (told c.end_token.result)) (sym (told_closing_bar w.0 byte limits s bar)) tells)
+    subst (λ p. AreToldAs (told c.end_token.result) (told_in p limits byte s)) (sym w.1)
+    (subst (AreToldAs (told c.end_token.result)) (sym (told_closing_bar w.0 byte limits s bar)) tells)
     )

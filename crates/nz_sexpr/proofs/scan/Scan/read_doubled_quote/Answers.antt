@@ -12,6 +12,6 @@ returns-clause-state c limits s w m few p =
     subst (λ (x : List ℕ). Keeps (kept_of c.args.self.now.store) (kept_of c.extend_text.new.self) (λ (k : Kept). record k { text = k.text ++ x })) c.as_slice.ensures c.extend_text.ensures in
     let after : Reading = goes_on (in_string (w ++ 34 ∷ [])) s in
     c.forget_if.ensures.state limits after (
-      subst (λ (v : Scan). Matches limits v after) (sym c.go_on.ensures.state)
-      (quote_doubles limits c.args.self.now s c.extend_text.new.self w c.args.clean m c.requires p few keeps)
+    subst (λ (v : Scan). Matches limits v after) (sym c.go_on.ensures.state)
+    (quote_doubles limits c.args.self.now s c.extend_text.new.self w c.args.clean m c.requires p few keeps)
     )

@@ -24,6 +24,6 @@ returns-clause-state c within limits s m few =
     let keeps : Keeps (kept_of old.store) (kept_of store) (λ (k : Kept). record k { text = text_after old.part k.text run }) =
     subst (λ (v : Scan). Keeps (kept_of v.store) (kept_of store) (λ (k : Kept). record k { text = text_after v.part k.text run })) c.begin_part.ensures c.keep_run.ensures.kept in
     c.forget_if.ensures.state limits (read_on s run) (
-      subst (λ (v : Scan). Matches limits v (read_on s run)) (sym e)
-      (run_matches limits old s store run m c.requires within few keeps)
+    subst (λ (v : Scan). Matches limits v (read_on s run)) (sym e)
+    (run_matches limits old s store run m c.requires within few keeps)
     )
