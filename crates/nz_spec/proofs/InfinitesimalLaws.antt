@@ -1,13 +1,13 @@
 -- The chosen fraction is above 0, is the least limit, and keeps ordered pairs in order, as each smaller fraction above 0 does.
-use Rattle.std.proofs.Common.{◌≡◌, ℕ, zero, suc, pred, ◌*◌, ◌<◌, Bool, true, false, ◌⊎◌, inl, inr, List, [], ◌∷◌, ℤ, pos, negsuc, ◌+ℤ◌, ◌*ℤ◌, neg_ℤ, ◌<ℤ◌, refl, arith, sym, ap, ap₂, ◌∙◌, subst, Ordering, Less, Equal, Greater, All, Contains, if◌then◌else◌}
+use Rattle.std.proofs.Common.{◌≡◌, ℕ, zero, suc, Bool, true, false, ◌⊎◌, inl, inr, List, [], ◌∷◌, ℤ, pos, negsuc, ◌*ℤ◌, ◌<ℤ◌, refl, arith, sym, ◌∙◌, subst, Ordering, Less, Equal, Greater, All, Contains, if◌then◌else◌}
 use Rattle.std.proofs.lemmas.Int.{ints}
 use Rattle.std.proofs.lemmas.List.Elements.{All-nil, All-cons, All-head, All-tail}
 use Rattle.nz_ints.proofs.Ring.{Atom, Literal, ◌⊕◌, ◌⊗◌, Minus, solve}
-use Rattle.nz_spec.specs.Fraction.{Fraction, denominator, over, whole, ◌=ℚ◌, ◌≤ℚ◌, ◌<ℚ◌, ◌+ℚ◌, neg_ℚ, ◌*ℚ◌, ◌/ℚ◌, flipped, reciprocal, fraction_cmp, fraction_lt, fraction_le, fraction_min, reduce, outcome, exact, Difference, Quotient}
+use Rattle.nz_spec.specs.Fraction.{Fraction, denominator, over, whole, ◌=ℚ◌, ◌≤ℚ◌, ◌<ℚ◌, ◌+ℚ◌, neg_ℚ, ◌*ℚ◌, ◌/ℚ◌, flipped, reciprocal, fraction_cmp, fraction_lt, fraction_le, fraction_min, outcome, exact, Difference, Quotient}
 use Rattle.nz_spec.specs.Infinitesimal.{Infinitesimal, ◌≤δ◌, at, Pair, is_limiting, limit, limits, IsLeastLimit, least_from, chosen_delta, AreOrdered, AreOrderedAt}
-use Rattle.nz_spec.proofs.FractionLaws.{denominator_pos, denominator-over, numerator-over, =ℚ_refl, =ℚ_sym, =ℚ_trans, ≤ℚ-from_eq, ≤ℚ_refl, ≤ℚ-from_lt, ≤ℚ_trans, ≤ℚ_total, <ℚ-≤ℚ_trans, ≤ℚ-<ℚ_trans, <ℚ_trans, <ℚ_irrefl, reduce-same}
-use Rattle.nz_spec.proofs.FractionOrder.{fraction_ranked, fraction_ranks, fraction_cmp_is}
-use Rattle.nz_spec.proofs.FractionArithmetic.{Parts, own_parts, sum_parts, product_parts, neg_parts, whole_parts, by_parts, +ℚ_comm, +ℚ-neg, *ℚ_comm, *ℚ_assoc, *ℚ-one, *ℚ-same, cmp-same, cmp-+ℚ, cmp-*ℚ_pos, outcome-difference}
+use Rattle.nz_spec.proofs.FractionLaws.{=ℚ_refl, =ℚ_sym, =ℚ_trans, ≤ℚ-from_eq, ≤ℚ_refl, ≤ℚ-from_lt, ≤ℚ_trans, <ℚ-≤ℚ_trans, ≤ℚ-<ℚ_trans, <ℚ_irrefl, reduce-same}
+use Rattle.nz_spec.proofs.FractionOrder.{fraction_ranked, fraction_cmp_is}
+use Rattle.nz_spec.proofs.FractionArithmetic.{own_parts, sum_parts, product_parts, neg_parts, whole_parts, by_parts, +ℚ_comm, +ℚ-neg, *ℚ_assoc, *ℚ-one, *ℚ-same, cmp-same, cmp-+ℚ, cmp-*ℚ_pos, outcome-difference}
 
 -- ---- what one comparison says of another
 

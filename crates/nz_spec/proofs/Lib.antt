@@ -6,6 +6,7 @@ pub mod InfinitesimalLaws
 pub mod Normal
 pub mod Pieces
 pub mod Readings
+pub mod Rounds
 pub mod Tables
 pub mod Tellings
 pub mod Transcripts

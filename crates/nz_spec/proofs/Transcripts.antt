@@ -2,7 +2,7 @@
 use Rattle.std.proofs.Common.{◌≡◌, ℕ, List, [], ◌∷◌, ◌++◌, refl, sym, ap, ◌∙◌, append_assoc, append-nil}
 use Rattle.nz_spec.specs.Script.{State, start}
 use Rattle.nz_spec.specs.Reply.{IsRight, IsExit, after, reply_text}
-use Rattle.nz_spec.specs.Transcript.{Kept, state_after, AreRight, GoesOn, EndsByExit, texts_of, GrowsByOne, TranscriptGrows}
+use Rattle.nz_spec.specs.Transcript.{Kept, state_after, AreRight, GoesOn, EndsByExit, texts_of, TranscriptGrows}
 
 right-append : (limit : ℕ) (s : State) (ks : List Kept) (k : Kept) → AreRight limit s ks → GoesOn s ks
     → IsRight limit (state_after s ks) k.heard.what k.reply k.cause → AreRight limit s (ks ++ k ∷ [])

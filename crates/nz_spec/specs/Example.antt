@@ -1,11 +1,11 @@
 -- A worked example of the definitions: one script, what is heard in it, and its transcript.
 use Rattle.std.specs.Prelude.{ℕ, List, [], ◌∷◌, codes, true}
-use Rattle.nz_spec.specs.Tree.{symbol, Tree, leaf, node, Trees, no_trees, trees}
-use Rattle.nz_spec.specs.Text.{Heard, What, whole}
+use Rattle.nz_spec.specs.Tree.{symbol, leaf, node, Trees, no_trees, trees}
+use Rattle.nz_spec.specs.Text.{whole}
 use Rattle.nz_spec.specs.Term.{bool_sort, truth}
 use Rattle.nz_spec.specs.Script.{Binding}
-use Rattle.nz_spec.specs.Reply.{Reply, quiet, sat, model, Cause, plain}
-use Rattle.nz_spec.specs.Transcript.{Kept, IsTranscript, texts_of}
+use Rattle.nz_spec.specs.Reply.{Reply, quiet, sat, model, plain}
+use Rattle.nz_spec.specs.Transcript.{Kept}
 
 abbrev pub example_script : List ℕ
 example_script = codes "(declare-const p Bool)(assert p)\n(check-sat) (get-model)(exit)"

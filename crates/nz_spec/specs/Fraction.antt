@@ -2,7 +2,7 @@
 -- A fraction is a pair of integers of any size whose second one is above 0; two pairs that are equal by cross products are one value.
 -- Sources: SMT-LIB 2.6, theory Reals_Ints (the values of sort Real are quotients in lowest terms; `to_int` rounds down).
 -- The limit M and the word Wide are this solver's own: a number has at most 128 bits, and an operation that would pass them is named.
-use Rattle.std.specs.Prelude.{◌≡◌, ℕ, suc, pred, ◌*◌, ◌/◌, ◌≤◌, Bool, ◌&&◌, ◌||◌, nat_lt, nat_le, nat_eq, List, [], ◌∷◌, Option, Some, None, if◌then◌else◌, ℤ, pos, negsuc, ◌+ℤ◌, ◌*ℤ◌, neg_ℤ, ◌≤ℤ◌, ◌<ℤ◌, unsigned_abs, int_lt, int_le, int_div}
+use Rattle.std.specs.Prelude.{◌≡◌, ℕ, suc, pred, ◌*◌, ◌/◌, ◌≤◌, Bool, ◌||◌, nat_lt, List, [], ◌∷◌, Option, Some, None, if◌then◌else◌, ℤ, pos, negsuc, ◌+ℤ◌, ◌*ℤ◌, neg_ℤ, ◌≤ℤ◌, ◌<ℤ◌, unsigned_abs, int_lt, int_le, int_div}
 use Rattle.std.specs.Ordering.{int_cmp, int_eq}
 use Rattle.std.specs.declared.cmp.Ordering.{Ordering}
 unfoldable pub use Rattle.nz_ints.specs.Division.{gcd, lcm, floor_div}
@@ -107,6 +107,10 @@ pub record IsCeiling (q : Fraction) (n : ℤ) : Type 0 where
   pub at_least : q ≤ℚ whole n
   pub least : whole (n +ℤ negsuc 0) <ℚ q
 
+-- `floor` and `ceiling` compute these.
+abbrev pub Rounds : Type 0
+Rounds = (q : Fraction) → IsFloor q (floor q) × IsCeiling q (ceiling q)
+
 -- ---- lowest terms
 
 -- the same value in lowest terms
@@ -133,13 +137,6 @@ pub record IsNumber (q : Fraction) : Type 0 where
   pub lowest : gcd (unsigned_abs q.numerator) (denominator q) ≡ 1
   pub numerator_fits : unsigned_abs q.numerator ≤ largest
   pub denominator_fits : denominator q ≤ largest
-
--- the same as a test
-unfoldable pub is_number : Fraction → Bool
-is_number q =
-    nat_eq (gcd (unsigned_abs q.numerator) (denominator q)) 1
-    && nat_le (unsigned_abs q.numerator) largest
-    && nat_le (denominator q) largest
 
 -- ---- Wide
 

@@ -19,10 +19,7 @@ pub record ◌=δ◌ (x y : Infinitesimal) : Type 0 where
 abbrev pub ◌≤δ◌ : Infinitesimal → Infinitesimal → Type 0
 x ≤δ y = (x.standard <ℚ y.standard) ⊎ ((x.standard =ℚ y.standard) × (x.coefficient ≤ℚ y.coefficient))
 
-abbrev pub ◌<δ◌ : Infinitesimal → Infinitesimal → Type 0
-x <δ y = (x.standard <ℚ y.standard) ⊎ ((x.standard =ℚ y.standard) × (x.coefficient <ℚ y.coefficient))
-
-infix 4 ◌=δ◌ ◌≤δ◌ ◌<δ◌
+infix 4 ◌=δ◌ ◌≤δ◌
 -- the same as a test
 unfoldable pub infinitesimal_cmp : Infinitesimal → Infinitesimal → Ordering
 infinitesimal_cmp x y = ordering_then (fraction_cmp x.standard y.standard) (fraction_cmp x.coefficient y.coefficient)

@@ -1,5 +1,5 @@
 -- How a thing heard may be told: as it is, or as one for which there was no memory while it was read.
-use Rattle.std.specs.Prelude.{◌≡◌, ℕ, List, [], ◌∷◌, ⊤}
+use Rattle.std.specs.Prelude.{◌≡◌, List, [], ◌∷◌, ⊤}
 use Rattle.nz_spec.specs.Text.{What, whole, faulty, unclosed, unread, Heard}
 
 -- What a command is may give way to want of memory; anything else is told as it is.

@@ -1,6 +1,6 @@
 -- A text read byte by byte: what is open after some bytes, and what has been told by then. No meaning rests on it: that
 -- these are the things that `Hears` tells is a theorem.
-use Rattle.std.specs.Prelude.{ℕ, ◌+◌, ◌-◌, ◌||◌, nat_lt, max, Bool, true, false, List, [], ◌∷◌, ◌++◌, length, Some, None, if◌then◌else◌}
+use Rattle.std.specs.Prelude.{ℕ, ◌+◌, ◌-◌, ◌||◌, nat_lt, max, Bool, false, List, [], ◌∷◌, ◌++◌, length, Some, None, if◌then◌else◌}
 use Rattle.nz_spec.specs.Tree.{Tree, leaf, node, Trees, no_trees, trees}
 use Rattle.nz_spec.specs.Text.{ByteClass, blank_byte, left_byte, right_byte, comment_byte, quote_byte, bar_byte, word_byte, class_of, is_line_end, is_quote, is_bar, Filler, word, string, quoted, token_of, is_bad_filler, Limits, What, whole, faulty, unclosed, Heard}
 

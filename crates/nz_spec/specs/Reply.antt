@@ -1,10 +1,10 @@
 -- Replies, their texts, and which reply is right (SMT-LIB 2.6, section 4.2; the texts of errors are this program's own).
-use Rattle.std.specs.Prelude.{◌≡◌, ℕ, ◌+◌, ◌*◌, ◌^◌, ◌<◌, ◌==◌, Bool, true, false, IsTrue, List, [], ◌∷◌, ◌++◌, length, map, flat_map, Option, Some, None, ◌⊎◌, ⊤, codes, bytes_eq, if◌then◌else◌}
+use Rattle.std.specs.Prelude.{◌≡◌, ℕ, ◌*◌, ◌^◌, ◌<◌, ◌==◌, true, false, List, [], ◌∷◌, ◌++◌, length, map, flat_map, Option, Some, None, ◌⊎◌, codes, bytes_eq, if◌then◌else◌}
 use Rattle.std.specs.List.{AllByRecursion}
-use Rattle.nz_spec.specs.Tree.{Tree, is_simple_symbol}
-use Rattle.nz_spec.specs.Term.{Sort, bool_sort, Constant, Term, Value, truth, Assignment, IsOfSort, IsTrueUnder}
-use Rattle.nz_spec.specs.Text.{What, whole, faulty, unclosed, unread, Heard}
-use Rattle.nz_spec.specs.Script.{Binding, Command, declare_const, assert_term, check_sat, get_model, exit, Item, declared, asserted, State, command_of, constants_of, assertions_of, with_item}
+use Rattle.nz_spec.specs.Tree.{is_simple_symbol}
+use Rattle.nz_spec.specs.Term.{Sort, bool_sort, Constant, Value, truth, Assignment, IsOfSort, IsTrueUnder}
+use Rattle.nz_spec.specs.Text.{What, whole, faulty, unclosed, unread}
+use Rattle.nz_spec.specs.Script.{Binding, Command, declare_const, assert_term, check_sat, get_model, exit, declared, asserted, State, command_of, constants_of, assertions_of, with_item}
 use Rattle.nz_spec.specs.Work.{WorkList, IsSpent}
 
 pub data Reply : Type 0 where

@@ -1,9 +1,9 @@
 -- What a run of the program claims, from its command line, the bytes that it read and the bytes that it wrote.
-use Rattle.std.specs.Prelude.{◌≡◌, ℕ, ◌+◌, ◌≤◌, ◌==◌, ◌||◌, length, Bool, true, false, List, [], ◌∷◌, ◌++◌, map, Option, Some, None, ◌⊎◌, ⊤, codes, if◌then◌else◌}
+use Rattle.std.specs.Prelude.{◌≡◌, ℕ, ◌+◌, ◌≤◌, ◌==◌, ◌||◌, length, Bool, true, false, List, [], ◌++◌, Option, Some, None, ◌⊎◌, ⊤, if◌then◌else◌}
 use Rattle.std.specs.List.{list_any}
 use Rattle.nz_spec.specs.Text.{Heard}
 use Rattle.nz_spec.specs.Script.{start}
-use Rattle.nz_spec.specs.Reply.{Reply, quiet, sat, unsat, unknown, model, unsupported, error, reply_text}
+use Rattle.nz_spec.specs.Reply.{error, reply_text}
 use Rattle.nz_spec.specs.Transcript.{Kept, EndsByExit, IsFrontOf, IsTranscript, texts_of}
 
 -- the most units of work that one check may use, where the command line doesn't say

@@ -4,6 +4,7 @@
 #![tactic(auto)]
 
 pub mod example;
+pub mod fraction;
 pub mod table;
 pub mod term;
 pub mod text;
