@@ -71,14 +71,12 @@ impl WordKind {
             WordKind::Colon | WordKind::Keyword => kind_if(is_symbol_byte(byte), WordKind::Keyword),
             WordKind::Hash if byte == b'x' => WordKind::HexadecimalPrefix,
             WordKind::Hash => kind_if(byte == b'b', WordKind::BinaryPrefix),
-            WordKind::HexadecimalPrefix | WordKind::Hexadecimal => kind_if(
-                is_hexadecimal_digit(byte),
-                WordKind::Hexadecimal,
-            ),
-            WordKind::BinaryPrefix | WordKind::Binary => kind_if(
-                is_binary_digit(byte),
-                WordKind::Binary,
-            ),
+            WordKind::HexadecimalPrefix | WordKind::Hexadecimal => {
+                kind_if(is_hexadecimal_digit(byte), WordKind::Hexadecimal)
+            }
+            WordKind::BinaryPrefix | WordKind::Binary => {
+                kind_if(is_binary_digit(byte), WordKind::Binary)
+            }
             WordKind::Bad => WordKind::Bad,
         }
     }
