@@ -2,18 +2,11 @@
 -- the stack of levels that the accepted commands leave.
 use Rattle.std.specs.Prelude.{◌≡◌, ℕ, ◌+◌, ◌<◌, ◌&&◌, not, nat_lt, Bool, true, false, IsTrue, List, [], ◌∷◌, ◌++◌, length, map, Option, Some, None, option_map, option_and_then, is_some, is_none, codes, bytes_eq, find, if◌then◌else◌}
 use Rattle.std.specs.List.{list_any}
-use Rattle.nz_spec.specs.Tree.{Token, symbol, Tree, leaf, node, Trees, no_trees, trees}
+use Rattle.nz_spec.specs.Form.{is_one_of, reserved_words}
+use Rattle.nz_spec.specs.Tree.{Token, symbol, symbol_name, Tree, leaf, node, Trees, no_trees, trees}
 use Rattle.nz_spec.specs.Term.{Sort, bool_sort, Constant, Head, constant, verum, falsum, negation, conjunction, disjunction, Term, apply, Terms, no_terms, terms, Value, truth, Assignment}
 
 -- ---- Names
-
--- the name is one of these
-abbrev pub is_one_of : List (List ℕ) → List ℕ → Bool
-is_one_of names name = list_any (bytes_eq name) names
-
--- words that no symbol may be
-abbrev pub reserved_words : List (List ℕ)
-reserved_words = codes "!" ∷ codes "_" ∷ codes "as" ∷ codes "exists" ∷ codes "forall" ∷ codes "let" ∷ codes "match" ∷ codes "par" ∷ []
 
 -- the operators of the theories Core, Ints, Reals and Reals_Ints, which are declared from the start
 abbrev pub operators : List (List ℕ)
@@ -61,10 +54,10 @@ terms_onto None r = None
 -- The term of a tree, where these constants are live, if it has one.
 abbrev mutual
   pub term_of : List Constant → Tree → Option Term
-  term_of cs (leaf (symbol name)) = atom_of cs name
+  term_of cs (leaf t) = option_and_then (atom_of cs) (symbol_name t)
   term_of cs (node no_trees) = None
   term_of cs (node (trees (node inner) arguments)) = None
-  term_of cs (node (trees (leaf (symbol name)) arguments)) = option_and_then (operation_of name) (terms_of cs arguments)
+  term_of cs (node (trees (leaf t) arguments)) = elim (symbol_name t) [ Some name ↦ option_and_then (operation_of name) (terms_of cs arguments) | None ↦ None ]
 
   pub terms_of : List Constant → Trees → Option Terms
   terms_of cs no_trees = Some no_terms
@@ -164,4 +157,4 @@ abbrev pub command_of : State → Tree → Option Command
 command_of s (leaf t) = None
 command_of s (node no_trees) = None
 command_of s (node (trees (node inner) arguments)) = None
-command_of s (node (trees (leaf (symbol name)) arguments)) = command_named s name arguments
+command_of s (node (trees (leaf t) arguments)) = elim (symbol_name t) [ Some name ↦ command_named s name arguments | None ↦ None ]

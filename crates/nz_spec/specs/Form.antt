@@ -1,0 +1,242 @@
+-- The form of commands and terms (SMT-LIB 2.6, sections 3.2 to 3.6 and 3.9): what a command must look like, whatever its
+-- names stand for. A command that isn't of its form is an error of syntax. A command that the program doesn't know has any
+-- form.
+use Rattle.std.specs.Prelude.{ℕ, ◌&&◌, ◌||◌, not, Bool, true, false, List, [], ◌∷◌, codes, bytes_eq, is_some, Option, Some, None, if◌then◌else◌}
+use Rattle.std.specs.List.{list_any}
+use Rattle.nz_spec.specs.Tree.{Token, symbol, keyword, numeral, decimal, hexadecimal, binary, literal, symbol_name, Tree, leaf, node, Trees, no_trees, trees}
+
+-- the name is one of these
+abbrev pub is_one_of : List (List ℕ) → List ℕ → Bool
+is_one_of names name = list_any (bytes_eq name) names
+
+-- words that no symbol may be
+abbrev pub reserved_words : List (List ℕ)
+reserved_words = codes "!" ∷ codes "_" ∷ codes "as" ∷ codes "exists" ∷ codes "forall" ∷ codes "let" ∷ codes "match" ∷ codes "par" ∷ []
+
+-- ---- Tokens
+
+-- a symbol that may be a name
+abbrev pub is_name : Token → Bool
+is_name t = elim (symbol_name t) [ Some name ↦ not (is_one_of reserved_words name) | None ↦ false ]
+
+abbrev pub is_numeral_token : Token → Bool
+is_numeral_token (numeral bs) = true
+is_numeral_token (symbol name) = false
+is_numeral_token (keyword bs) = false
+is_numeral_token (decimal bs) = false
+is_numeral_token (hexadecimal bs) = false
+is_numeral_token (binary bs) = false
+is_numeral_token (literal bs) = false
+
+abbrev pub is_decimal_token : Token → Bool
+is_decimal_token (decimal bs) = true
+is_decimal_token (symbol name) = false
+is_decimal_token (keyword bs) = false
+is_decimal_token (numeral bs) = false
+is_decimal_token (hexadecimal bs) = false
+is_decimal_token (binary bs) = false
+is_decimal_token (literal bs) = false
+
+abbrev pub is_number_token : Token → Bool
+is_number_token t = is_numeral_token t || is_decimal_token t
+
+abbrev pub is_literal_token : Token → Bool
+is_literal_token (literal bs) = true
+is_literal_token (symbol name) = false
+is_literal_token (keyword bs) = false
+is_literal_token (numeral bs) = false
+is_literal_token (decimal bs) = false
+is_literal_token (hexadecimal bs) = false
+is_literal_token (binary bs) = false
+
+abbrev pub keyword_name : Token → Option (List ℕ)
+keyword_name (keyword bs) = Some bs
+keyword_name (symbol name) = None
+keyword_name (numeral bs) = None
+keyword_name (decimal bs) = None
+keyword_name (hexadecimal bs) = None
+keyword_name (binary bs) = None
+keyword_name (literal bs) = None
+
+-- the symbol is this word
+abbrev pub is_symbol : List ℕ → Token → Bool
+is_symbol word t = elim (symbol_name t) [ Some name ↦ bytes_eq name word | None ↦ false ]
+
+abbrev pub is_keyword_token : Token → Bool
+is_keyword_token t = is_some (keyword_name t)
+
+-- ---- Trees
+
+abbrev pub is_name_tree : Tree → Bool
+is_name_tree (leaf t) = is_name t
+is_name_tree (node ts) = false
+
+-- a sort: its name, or a list, whatever stands in it
+abbrev pub is_sort_tree : Tree → Bool
+is_sort_tree (leaf t) = is_name t
+is_sort_tree (node ts) = true
+
+abbrev pub are_sort_trees : Trees → Bool
+are_sort_trees no_trees = true
+are_sort_trees (trees t ts) = is_sort_tree t && are_sort_trees ts
+
+-- the value of an attribute: a constant, a symbol or a list
+abbrev pub is_attribute_value : Tree → Bool
+is_attribute_value (leaf t) = not (is_keyword_token t) && (not (is_some (symbol_name t)) || is_name t)
+is_attribute_value (node ts) = true
+
+-- ---- Terms
+
+-- a list that begins with this token: an operator or another name, `let`, or a word that no term begins with
+pub data TermHead : Type 0 where
+  name_head : TermHead
+  let_head : TermHead
+  no_head : TermHead
+
+abbrev pub term_head : Token → TermHead
+term_head t = if is_symbol (codes "let") t then let_head else (if is_name t then name_head else no_head)
+
+abbrev pub is_empty : Trees → Bool
+is_empty no_trees = true
+is_empty (trees t ts) = false
+
+-- a numeral, a decimal, a name, an application of a name to one term or more, or a `let`
+abbrev mutual
+  pub is_term_tree : Tree → Bool
+  is_term_tree (leaf t) = is_number_token t || is_name t
+  is_term_tree (node no_trees) = false
+  is_term_tree (node (trees (node inner) arguments)) = false
+  is_term_tree (node (trees (leaf t) arguments)) = elim (term_head t) [ name_head ↦ not (is_empty arguments) && are_term_trees arguments | let_head ↦ is_let_form arguments | no_head ↦ false ]
+
+  pub are_term_trees : Trees → Bool
+  are_term_trees no_trees = true
+  are_term_trees (trees t ts) = is_term_tree t && are_term_trees ts
+
+  -- bindings, one or more, and the term in which they hold
+  pub is_let_form : Trees → Bool
+  is_let_form no_trees = false
+  is_let_form (trees (leaf t) ts) = false
+  is_let_form (trees (node bindings) no_trees) = false
+  is_let_form (trees (node bindings) (trees body no_trees)) = not (is_empty bindings) && are_bindings bindings && is_term_tree body
+  is_let_form (trees (node bindings) (trees body (trees t ts))) = false
+
+  pub are_bindings : Trees → Bool
+  are_bindings no_trees = true
+  are_bindings (trees b bs) = is_binding b && are_bindings bs
+
+  pub is_binding : Tree → Bool
+  is_binding (leaf t) = false
+  is_binding (node no_trees) = false
+  is_binding (node (trees x no_trees)) = false
+  is_binding (node (trees x (trees t no_trees))) = is_name_tree x && is_term_tree t
+  is_binding (node (trees x (trees t (trees u us)))) = false
+
+-- ---- Commands
+
+-- one argument, two, three, each of its kind
+abbrev pub is_one : (Tree → Bool) → Trees → Bool
+is_one test no_trees = false
+is_one test (trees t no_trees) = test t
+is_one test (trees t (trees u us)) = false
+
+abbrev pub is_two : (Tree → Bool) → (Tree → Bool) → Trees → Bool
+is_two test other no_trees = false
+is_two test other (trees t ts) = test t && is_one other ts
+
+abbrev pub is_three : (Tree → Bool) → (Tree → Bool) → (Tree → Bool) → Trees → Bool
+is_three test other third no_trees = false
+is_three test other third (trees t ts) = test t && is_two other third ts
+
+-- a tree that is a token of this kind, and one that is a list of this kind
+abbrev pub is_token : (Token → Bool) → Tree → Bool
+is_token test (leaf t) = test t
+is_token test (node ts) = false
+
+abbrev pub is_list : (Trees → Bool) → Tree → Bool
+is_list test (leaf t) = false
+is_list test (node ts) = test ts
+
+-- a parameter of a definition: its name and its sort
+abbrev pub are_parameters : Trees → Bool
+are_parameters no_trees = true
+are_parameters (trees t ts) = is_list (is_two is_name_tree is_sort_tree) t && are_parameters ts
+
+-- a name, or `not` of one
+abbrev pub is_literal_form : Tree → Bool
+is_literal_form (leaf t) = is_name t
+is_literal_form (node ts) = is_two (is_token (is_symbol (codes "not"))) is_name_tree ts
+
+abbrev pub are_literal_forms : Trees → Bool
+are_literal_forms no_trees = true
+are_literal_forms (trees t ts) = is_literal_form t && are_literal_forms ts
+
+-- the weight and the group of a wish, in any order, each at most once
+abbrev pub are_wish_attributes : Bool → Bool → Trees → Bool
+are_wish_attributes weight group no_trees = true
+are_wish_attributes weight group (trees k no_trees) = false
+are_wish_attributes weight group (trees (node us) (trees v ts)) = false
+are_wish_attributes weight group (trees (leaf k) (trees v ts)) =
+    elim (keyword_name k) [
+      | Some name ↦
+          if bytes_eq name (codes ":weight") then not weight && is_token is_number_token v && are_wish_attributes true group ts
+          else (if bytes_eq name (codes ":id") then not group && is_name_tree v && are_wish_attributes weight true ts
+          else false)
+      | None ↦ false
+    ]
+
+abbrev pub is_wish_form : Trees → Bool
+is_wish_form no_trees = false
+is_wish_form (trees t ts) = is_term_tree t && are_wish_attributes false false ts
+
+-- a name, parameters, a sort, and a term
+abbrev pub is_definition_form : Trees → Bool
+is_definition_form no_trees = false
+is_definition_form (trees x ts) = is_name_tree x && is_three (is_list are_parameters) is_sort_tree is_term_tree ts
+
+-- an option that is known has a value of its own; another has any attribute value
+abbrev pub is_truth_word : Token → Bool
+is_truth_word t = is_symbol (codes "true") t || is_symbol (codes "false") t
+
+abbrev pub is_priority_word : Token → Bool
+is_priority_word t = is_symbol (codes "lex") t || is_symbol (codes "box") t || is_symbol (codes "pareto") t
+
+abbrev pub is_option_value : List ℕ → Tree → Bool
+is_option_value name v =
+    if bytes_eq name (codes ":print-success") || bytes_eq name (codes ":produce-models") then is_token is_truth_word v
+    else (if bytes_eq name (codes ":opt.priority") then is_token is_priority_word v
+    else is_attribute_value v)
+
+abbrev pub is_option_form : Trees → Bool
+is_option_form no_trees = false
+is_option_form (trees (node us) ts) = false
+is_option_form (trees (leaf k) ts) = elim (keyword_name k) [ Some name ↦ is_one (is_option_value name) ts | None ↦ false ]
+
+abbrev pub is_info_form : Trees → Bool
+is_info_form no_trees = false
+is_info_form (trees k ts) = is_token is_keyword_token k && (is_empty ts || is_one is_attribute_value ts)
+
+-- The arguments are of the form of the command of this name.
+abbrev pub has_form : List ℕ → Trees → Bool
+has_form name arguments =
+    if bytes_eq name (codes "assert") || bytes_eq name (codes "minimize") || bytes_eq name (codes "maximize") then is_one is_term_tree arguments
+    else (if is_one_of (codes "check-sat" ∷ codes "get-model" ∷ codes "get-objectives" ∷ codes "reset" ∷ codes "reset-assertions" ∷ codes "exit" ∷ []) name then is_empty arguments
+    else (if bytes_eq name (codes "declare-const") then is_two is_name_tree is_sort_tree arguments
+    else (if bytes_eq name (codes "declare-fun") then is_three is_name_tree (is_list are_sort_trees) is_sort_tree arguments
+    else (if bytes_eq name (codes "define-fun") then is_definition_form arguments
+    else (if bytes_eq name (codes "push") || bytes_eq name (codes "pop") then is_empty arguments || is_one (is_token is_numeral_token) arguments
+    else (if bytes_eq name (codes "assert-soft") then is_wish_form arguments
+    else (if bytes_eq name (codes "check-sat-assuming") then is_one (is_list are_literal_forms) arguments
+    else (if bytes_eq name (codes "get-value") then is_one (is_list (λ ts. not (is_empty ts) && are_term_trees ts)) arguments
+    else (if bytes_eq name (codes "set-logic") then is_one is_name_tree arguments
+    else (if bytes_eq name (codes "set-info") then is_info_form arguments
+    else (if bytes_eq name (codes "set-option") then is_option_form arguments
+    else (if bytes_eq name (codes "get-info") then is_one (is_token is_keyword_token) arguments
+    else (if bytes_eq name (codes "echo") then is_one (is_token is_literal_token) arguments
+    else true)))))))))))))
+
+-- A command is a list that begins with a name, and its arguments are of its form.
+abbrev pub is_command_tree : Tree → Bool
+is_command_tree (leaf t) = false
+is_command_tree (node no_trees) = false
+is_command_tree (node (trees (node inner) arguments)) = false
+is_command_tree (node (trees (leaf t) arguments)) = is_name t && elim (symbol_name t) [ Some name ↦ has_form name arguments | None ↦ false ]
