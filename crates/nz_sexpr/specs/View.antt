@@ -4,7 +4,7 @@ use Rattle.nz_spec.specs.Tree as text
 use Rattle.nz_spec.specs.Reading.{trees_from}
 use Rattle.nz_spec.specs.Text as script
 use Rattle.nz_sexpr.specs.declared.tree.Token.{Token}
-use Rattle.nz_sexpr.specs.declared.tree.Token.TheVariants.{Symbol}
+use Rattle.nz_sexpr.specs.declared.tree.Token.TheVariants.{Symbol, Keyword, Numeral, Decimal, Hexadecimal, Binary, Literal}
 use Rattle.nz_sexpr.specs.declared.tree.Tree.{Tree, fold-Tree}
 use Rattle.nz_sexpr.specs.declared.tree.Tree.TheOpen.{Tree-F, TreeList-F}
 use Rattle.nz_sexpr.specs.declared.tree.TreeList.{TreeList}
@@ -14,6 +14,12 @@ use Rattle.nz_sexpr.specs.declared.heard.Heard as thing
 
 abbrev pub token_view : Token → text.Token
 token_view (Symbol name) = text.symbol name
+token_view (Keyword bs) = text.keyword bs
+token_view (Numeral bs) = text.numeral bs
+token_view (Decimal bs) = text.decimal bs
+token_view (Hexadecimal bs) = text.hexadecimal bs
+token_view (Binary bs) = text.binary bs
+token_view (Literal bs) = text.literal bs
 
 -- one level, with each tree inside already seen as its data
 abbrev pub view_step : Tree-F text.Tree (List text.Tree) → text.Tree

@@ -63,11 +63,7 @@ fn show(heard: &Heard, text: &mut String) -> Result<(), AllocError> {
 
 fn show_tree(tree: &Tree, text: &mut String) -> Result<(), AllocError> {
     match tree {
-        Tree::Word(Token::Symbol(name)) => {
-            for byte in name.as_bytes() {
-                text.push(*byte as char)?;
-            }
-        }
+        Tree::Word(token) => show_token(token, text)?,
         Tree::List(list) => {
             text.push('[')?;
             for tree in list.as_slice() {
@@ -76,6 +72,25 @@ fn show_tree(tree: &Tree, text: &mut String) -> Result<(), AllocError> {
             }
             text.push(']')?;
         }
+    }
+    Ok(())
+}
+
+fn show_token(token: &Token, text: &mut String) -> Result<(), AllocError> {
+    match token {
+        Token::Symbol(name) => show_bytes(name.as_bytes(), text),
+        Token::Keyword(bytes) => show_bytes(bytes.as_bytes(), text),
+        Token::Numeral(bytes) => show_bytes(bytes.as_bytes(), text),
+        Token::Decimal(bytes) => show_bytes(bytes.as_bytes(), text),
+        Token::Hexadecimal(bytes) => show_bytes(bytes.as_bytes(), text),
+        Token::Binary(bytes) => show_bytes(bytes.as_bytes(), text),
+        Token::Literal(bytes) => show_bytes(bytes.as_bytes(), text),
+    }
+}
+
+fn show_bytes(bytes: &[u8], text: &mut String) -> Result<(), AllocError> {
+    for byte in bytes {
+        text.push(*byte as char)?;
     }
     Ok(())
 }

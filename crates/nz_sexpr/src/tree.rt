@@ -4,11 +4,23 @@ ghost use Rattle.std.specs.Prelude.{◌≡◌, [], ◌∷◌, ◌++◌, OnOk, On
 use nz_base::{Memory, Text};
 use std::alloc::Global;
 
-/// A word of a script.
+/// A token of a script, by its kind.
 #[derive(Debug, Drop)]
 pub enum Token {
     /// A symbol, by its name.
     Symbol(Text),
+    /// A keyword, by its bytes, the colon among them.
+    Keyword(Text),
+    /// A numeral, by its digits.
+    Numeral(Text),
+    /// A decimal, by its digits and its point.
+    Decimal(Text),
+    /// A hexadecimal, by its bytes, `#x` among them.
+    Hexadecimal(Text),
+    /// A binary, by its bytes, `#b` among them.
+    Binary(Text),
+    /// A string literal, by its text.
+    Literal(Text),
 }
 
 /// One token, or a list of trees between parentheses.

@@ -13,7 +13,8 @@ use Rattle.nz_spec.specs.Reading.{trees_from}
 use Rattle.nz_spec.specs.Term.{Constant, Head, constant, verum, falsum, negation, conjunction, disjunction, apply, no_terms, normal_of}
 use Rattle.nz_spec.specs.Table.{Node, term_in}
 use Rattle.nz_spec.specs.Decide.{constants_of_head, constants_in_table}
-use Rattle.nz_spec.specs.Script.{State, Item, declared, asserted, items_of, constants_in, assertions_in, constants_of, assertions_of, with_item, Command, declare_const, assert_term, check_sat, get_model, exit, command_of, command_named, declaration_of, assertion_of, alone, can_declare, is_one_of, reserved_words, operators, constant_limit, constant_named}
+use Rattle.nz_spec.specs.Form.{is_one_of, reserved_words}
+use Rattle.nz_spec.specs.Script.{State, Item, declared, asserted, items_of, constants_in, assertions_in, constants_of, assertions_of, with_item, Command, declare_const, assert_term, check_sat, get_model, exit, command_of, command_named, declaration_of, assertion_of, alone, can_declare, operators, constant_limit, constant_named}
 use Rattle.nz_spec.proofs.Tables.{term_stays}
 use Rattle.nz_sort.specs.Names.{number_named, AreNamesOf}
 use Rattle.nz_sort.specs.Elaborate.{IsOperator, Grows}
