@@ -67,6 +67,11 @@ is_keyword_token t = is_some (keyword_name t)
 
 -- ---- Trees
 
+-- the name of a tree that is a symbol
+abbrev pub tree_symbol : Tree → Option (List ℕ)
+tree_symbol (leaf t) = symbol_name t
+tree_symbol (node ts) = None
+
 abbrev pub is_name_tree : Tree → Bool
 is_name_tree (leaf t) = is_name t
 is_name_tree (node ts) = false
@@ -115,10 +120,13 @@ abbrev mutual
   -- bindings, one or more, and the term in which they hold
   pub is_let_form : Trees → Bool
   is_let_form no_trees = false
-  is_let_form (trees (leaf t) ts) = false
-  is_let_form (trees (node bindings) no_trees) = false
-  is_let_form (trees (node bindings) (trees body no_trees)) = not (is_empty bindings) && are_bindings bindings && is_term_tree body
-  is_let_form (trees (node bindings) (trees body (trees t ts))) = false
+  is_let_form (trees b no_trees) = false
+  is_let_form (trees b (trees body no_trees)) = is_binding_list b && is_term_tree body
+  is_let_form (trees b (trees body (trees t ts))) = false
+
+  pub is_binding_list : Tree → Bool
+  is_binding_list (leaf t) = false
+  is_binding_list (node bindings) = not (is_empty bindings) && are_bindings bindings
 
   pub are_bindings : Trees → Bool
   are_bindings no_trees = true
@@ -126,10 +134,14 @@ abbrev mutual
 
   pub is_binding : Tree → Bool
   is_binding (leaf t) = false
-  is_binding (node no_trees) = false
-  is_binding (node (trees x no_trees)) = false
-  is_binding (node (trees x (trees t no_trees))) = is_name_tree x && is_term_tree t
-  is_binding (node (trees x (trees t (trees u us)))) = false
+  is_binding (node ts) = is_bound_term ts
+
+  -- a name, and the term that it stands for
+  pub is_bound_term : Trees → Bool
+  is_bound_term no_trees = false
+  is_bound_term (trees x no_trees) = false
+  is_bound_term (trees x (trees t no_trees)) = is_name_tree x && is_term_tree t
+  is_bound_term (trees x (trees t (trees u us))) = false
 
 -- ---- Commands
 
@@ -215,28 +227,88 @@ abbrev pub is_info_form : Trees → Bool
 is_info_form no_trees = false
 is_info_form (trees k ts) = is_token is_keyword_token k && (is_empty ts || is_one is_attribute_value ts)
 
+-- The commands by name.
+pub data CommandName : Type 0 where
+  assert_name : CommandName
+  assert_soft_name : CommandName
+  check_sat_name : CommandName
+  check_sat_assuming_name : CommandName
+  declare_const_name : CommandName
+  declare_fun_name : CommandName
+  define_fun_name : CommandName
+  echo_name : CommandName
+  exit_name : CommandName
+  get_info_name : CommandName
+  get_model_name : CommandName
+  get_objectives_name : CommandName
+  get_value_name : CommandName
+  maximize_name : CommandName
+  minimize_name : CommandName
+  pop_name : CommandName
+  push_name : CommandName
+  reset_name : CommandName
+  reset_assertions_name : CommandName
+  set_info_name : CommandName
+  set_logic_name : CommandName
+  set_option_name : CommandName
+  other_name : CommandName  -- a command that the program doesn't know
+
+abbrev pub command_names : List (List ℕ × CommandName)
+command_names =
+    (codes "assert", assert_name) ∷ (codes "assert-soft", assert_soft_name) ∷ (codes "check-sat", check_sat_name)
+    ∷ (codes "check-sat-assuming", check_sat_assuming_name) ∷ (codes "declare-const", declare_const_name)
+    ∷ (codes "declare-fun", declare_fun_name) ∷ (codes "define-fun", define_fun_name) ∷ (codes "echo", echo_name)
+    ∷ (codes "exit", exit_name) ∷ (codes "get-info", get_info_name) ∷ (codes "get-model", get_model_name)
+    ∷ (codes "get-objectives", get_objectives_name) ∷ (codes "get-value", get_value_name) ∷ (codes "maximize", maximize_name)
+    ∷ (codes "minimize", minimize_name) ∷ (codes "pop", pop_name) ∷ (codes "push", push_name) ∷ (codes "reset", reset_name)
+    ∷ (codes "reset-assertions", reset_assertions_name) ∷ (codes "set-info", set_info_name) ∷ (codes "set-logic", set_logic_name)
+    ∷ (codes "set-option", set_option_name) ∷ []
+
+-- what is listed with a name
+abbrev pub name_in : List (List ℕ × CommandName) → List ℕ → CommandName
+name_in [] name = other_name
+name_in (p ∷ ps) name = if bytes_eq name p.0 then p.1 else name_in ps name
+
+abbrev pub command_name : List ℕ → CommandName
+command_name name = name_in command_names name
+
+-- the values that are asked for: one term or more
+abbrev pub are_values : Trees → Bool
+are_values ts = not (is_empty ts) && are_term_trees ts
+
+-- how many levels: one if nothing stands there
+abbrev pub is_level_form : Trees → Bool
+is_level_form ts = is_empty ts || is_one (is_token is_numeral_token) ts
+
 -- The arguments are of the form of the command of this name.
-abbrev pub has_form : List ℕ → Trees → Bool
-has_form name arguments =
-    if bytes_eq name (codes "assert") || bytes_eq name (codes "minimize") || bytes_eq name (codes "maximize") then is_one is_term_tree arguments
-    else (if is_one_of (codes "check-sat" ∷ codes "get-model" ∷ codes "get-objectives" ∷ codes "reset" ∷ codes "reset-assertions" ∷ codes "exit" ∷ []) name then is_empty arguments
-    else (if bytes_eq name (codes "declare-const") then is_two is_name_tree is_sort_tree arguments
-    else (if bytes_eq name (codes "declare-fun") then is_three is_name_tree (is_list are_sort_trees) is_sort_tree arguments
-    else (if bytes_eq name (codes "define-fun") then is_definition_form arguments
-    else (if bytes_eq name (codes "push") || bytes_eq name (codes "pop") then is_empty arguments || is_one (is_token is_numeral_token) arguments
-    else (if bytes_eq name (codes "assert-soft") then is_wish_form arguments
-    else (if bytes_eq name (codes "check-sat-assuming") then is_one (is_list are_literal_forms) arguments
-    else (if bytes_eq name (codes "get-value") then is_one (is_list (λ ts. not (is_empty ts) && are_term_trees ts)) arguments
-    else (if bytes_eq name (codes "set-logic") then is_one is_name_tree arguments
-    else (if bytes_eq name (codes "set-info") then is_info_form arguments
-    else (if bytes_eq name (codes "set-option") then is_option_form arguments
-    else (if bytes_eq name (codes "get-info") then is_one (is_token is_keyword_token) arguments
-    else (if bytes_eq name (codes "echo") then is_one (is_token is_literal_token) arguments
-    else true)))))))))))))
+abbrev pub has_form : CommandName → Trees → Bool
+has_form assert_name ts = is_one is_term_tree ts
+has_form assert_soft_name ts = is_wish_form ts
+has_form check_sat_name ts = is_empty ts
+has_form check_sat_assuming_name ts = is_one (is_list are_literal_forms) ts
+has_form declare_const_name ts = is_two is_name_tree is_sort_tree ts
+has_form declare_fun_name ts = is_three is_name_tree (is_list are_sort_trees) is_sort_tree ts
+has_form define_fun_name ts = is_definition_form ts
+has_form echo_name ts = is_one (is_token is_literal_token) ts
+has_form exit_name ts = is_empty ts
+has_form get_info_name ts = is_one (is_token is_keyword_token) ts
+has_form get_model_name ts = is_empty ts
+has_form get_objectives_name ts = is_empty ts
+has_form get_value_name ts = is_one (is_list are_values) ts
+has_form maximize_name ts = is_one is_term_tree ts
+has_form minimize_name ts = is_one is_term_tree ts
+has_form pop_name ts = is_level_form ts
+has_form push_name ts = is_level_form ts
+has_form reset_name ts = is_empty ts
+has_form reset_assertions_name ts = is_empty ts
+has_form set_info_name ts = is_info_form ts
+has_form set_logic_name ts = is_one is_name_tree ts
+has_form set_option_name ts = is_option_form ts
+has_form other_name ts = true
 
 -- A command is a list that begins with a name, and its arguments are of its form.
 abbrev pub is_command_tree : Tree → Bool
 is_command_tree (leaf t) = false
 is_command_tree (node no_trees) = false
 is_command_tree (node (trees (node inner) arguments)) = false
-is_command_tree (node (trees (leaf t) arguments)) = is_name t && elim (symbol_name t) [ Some name ↦ has_form name arguments | None ↦ false ]
+is_command_tree (node (trees (leaf t) arguments)) = is_name t && elim (symbol_name t) [ Some name ↦ has_form (command_name name) arguments | None ↦ false ]
