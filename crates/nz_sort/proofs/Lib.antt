@@ -1,3 +1,4 @@
 pub mod Elaborating
+pub mod Forming
 pub mod Living
 pub mod Naming

@@ -8,7 +8,7 @@ use Rattle.std.specs.Cmp.Lexicographic.{nat_list_eq_equiv}
 use Rattle.std.specs.List.{AllByRecursion, IsDistinct}
 use Rattle.nz_sexpr.specs.declared.tree.Tree as code
 use Rattle.nz_sexpr.specs.View.{view}
-use Rattle.nz_spec.specs.Tree.{Tree, leaf, node, symbol, Trees, trees, no_trees}
+use Rattle.nz_spec.specs.Tree.{Tree, leaf, node, symbol, keyword, numeral, decimal, hexadecimal, binary, literal, Trees, trees, no_trees}
 use Rattle.nz_spec.specs.Reading.{trees_from}
 use Rattle.nz_spec.specs.Term.{Constant, Head, constant, verum, falsum, negation, conjunction, disjunction, apply, no_terms, normal_of}
 use Rattle.nz_spec.specs.Table.{Node, term_in}
@@ -51,12 +51,30 @@ bare_with_arguments (x ∷ xs) h command = refl
 -- a declaration takes two trees
 declaration_of_one : (s : State) (t : Tree) → declaration_of s (trees t no_trees) ≡ None
 declaration_of_one s (leaf (symbol name)) = refl
+declaration_of_one s (leaf (keyword bs)) = refl
+declaration_of_one s (leaf (numeral bs)) = refl
+declaration_of_one s (leaf (decimal bs)) = refl
+declaration_of_one s (leaf (hexadecimal bs)) = refl
+declaration_of_one s (leaf (binary bs)) = refl
+declaration_of_one s (leaf (literal bs)) = refl
 declaration_of_one s (node ts) = refl
 
 declaration_of_more : (s : State) (t u v : Tree) (ts : Trees) → declaration_of s (trees t (trees u (trees v ts))) ≡ None
 declaration_of_more s (node xs) u v ts = refl
 declaration_of_more s (leaf (symbol name)) (node xs) v ts = refl
 declaration_of_more s (leaf (symbol name)) (leaf (symbol sort)) v ts = refl
+declaration_of_more s (leaf (symbol name)) (leaf (keyword bs)) v ts = refl
+declaration_of_more s (leaf (symbol name)) (leaf (numeral bs)) v ts = refl
+declaration_of_more s (leaf (symbol name)) (leaf (decimal bs)) v ts = refl
+declaration_of_more s (leaf (symbol name)) (leaf (hexadecimal bs)) v ts = refl
+declaration_of_more s (leaf (symbol name)) (leaf (binary bs)) v ts = refl
+declaration_of_more s (leaf (symbol name)) (leaf (literal bs)) v ts = refl
+declaration_of_more s (leaf (keyword bs)) u v ts = refl
+declaration_of_more s (leaf (numeral bs)) u v ts = refl
+declaration_of_more s (leaf (decimal bs)) u v ts = refl
+declaration_of_more s (leaf (hexadecimal bs)) u v ts = refl
+declaration_of_more s (leaf (binary bs)) u v ts = refl
+declaration_of_more s (leaf (literal bs)) u v ts = refl
 
 pub declaration_takes_two : (s : State) (xs : List code.Tree) → (length xs ≡ 2 → ⊥) → declaration_of s (trees_from (map view xs)) ≡ None
 declaration_takes_two s [] h = refl

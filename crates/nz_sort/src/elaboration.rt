@@ -1,6 +1,6 @@
 //! Elaboration: the term of a tree, made in the table.
 ghost use Rattle.std.specs.Prelude.{◌≡◌, ◌<◌, ℕ, List, [], ◌∷◌, length, map, All, None, Some, IfOk, IfSome, OnSome, IfNone, IsErrOf, option_map};
-ghost use Rattle.nz_sexpr.specs.View.{view};
+ghost use Rattle.nz_sexpr.specs.View.{token_view, view};
 ghost use Rattle.nz_spec.specs.Tree.{leaf, node, symbol};
 ghost use Rattle.nz_spec.specs.Reading.{trees_from};
 ghost use Rattle.nz_spec.specs.Term.{Constant, Terms as Arguments, normals_of};
@@ -11,6 +11,7 @@ ghost use Rattle.nz_sort.specs.Elaborate.{Grows, Elaborates, ElaboratesAll, Appl
 ghost use Rattle.nz_sort.specs.Operators.{operator_head, Splits};
 ghost use Rattle.nz_term.specs.Heads.{head_of as code_head};
 
+use crate::form::{symbol_name, symbol_of};
 use crate::names::Names;
 use nz_base::{Memory, Text};
 use nz_sexpr::{Token, Tree};
@@ -93,6 +94,18 @@ fn atom(names: &Names, terms: &mut Terms, name: &Text) -> Result<TermId, Refusal
     names.get(name).ok_or(Refusal::Unsupported)
 }
 
+/// The number of the term that a token stands for. Only a symbol stands for one.
+fn word(names: &Names, terms: &mut Terms, token: &Token) -> Result<TermId, Refusal>
+    ensures grows { Grows terms.old terms.new }
+    ensures found { IfOk result (λ id. (cs : List Constant) → AreNamesOf terms.old names.now cs → Elaborates cs (leaf (token_view token.now)) terms.new id) }
+    ensures refused { IsErrOf result Refusal.Unsupported → (cs : List Constant) → AreNamesOf terms.old names.now cs → term_of cs (leaf (token_view token.now)) ≡ None }
+{
+    match symbol_name(token) {
+        Some(name) => atom(names, terms, name),
+        None => Err(Refusal::Unsupported),
+    }
+}
+
 /// A negation, of one argument.
 fn negate(terms: &mut Terms, kids: &[TermId]) -> Result<TermId, Refusal>
     requires { All (λ k. k < length terms.old) kids.now }
@@ -137,13 +150,9 @@ fn split(trees: &[Tree]) -> Option<(Operator, &[Tree])>
     ensures none { IfNone result ((cs : List Constant) → term_of cs (node (trees_from (map view trees.now))) ≡ None) }
 {
     let (first, arguments) = trees.split_first()?;
-    match first {
-        Tree::Word(Token::Symbol(name)) => {
-            let operator = operator_of(name.as_bytes())?;
-            Some((operator, arguments))
-        }
-        Tree::List(_) => None,
-    }
+    let name = symbol_of(first)?;
+    let operator = operator_of(name.as_bytes())?;
+    Some((operator, arguments))
 }
 
 /// The number of the normal term of a tree, made in the table where it isn't there.
@@ -163,7 +172,7 @@ pub fn elaborate(
     ensures refused { IsErrOf result Refusal.Unsupported → (cs : List Constant) → AreNamesOf terms.old names.now cs → term_of cs (view tree.now) ≡ None }
 {
     match tree {
-        Tree::Word(Token::Symbol(name)) => atom(names, terms, name),
+        Tree::Word(token) => word(names, terms, token),
         Tree::List(list) => operation(alloc, names, terms, list.as_slice()),
     }
 }

@@ -4,9 +4,13 @@
 #![tactic(auto)]
 
 mod elaboration;
+mod form;
 mod live;
 mod names;
+mod tokens;
 
 pub use elaboration::{Refusal, elaborate};
+pub use form::is_of_form;
 pub use live::{Act, Live};
 pub use names::Names;
+pub use tokens::{TokenTest, has_token};

@@ -1,8 +1,6 @@
 //! The live state: which commands are accepted, and what they leave.
-ghost use Rattle.std.specs.Prelude.{◌≡◌, ℕ, List, [], length, map, take, bytes_eq, OnOk, OnErr, IfOk, IfSome, IfNone, None, Some, is_some, IsErrOf};
-ghost use Rattle.std.specs.List.{list_any};
+ghost use Rattle.std.specs.Prelude.{◌≡◌, ℕ, List, [], length, map, take, OnOk, OnErr, IfOk, IfSome, IfNone, None, Some, is_some, IsErrOf};
 ghost use Rattle.nz_sexpr.specs.View.{view};
-ghost use Rattle.nz_spec.specs.Tree.{Trees, leaf, node, symbol};
 ghost use Rattle.nz_spec.specs.Reading.{trees_from};
 ghost use Rattle.nz_spec.specs.Term as spec;
 ghost use Rattle.nz_spec.specs.Script.{State, Command, command_of, command_named, declaration_of, assertion_of, term_of, alone as bare};
@@ -13,9 +11,10 @@ ghost use Rattle.nz_sort.specs.Acts.{asked};
 ghost use Rattle.nz_sort.specs.Commands.{word_named, command_by, Leaves, may_declare, declaration_by, bool_constant, HasAdded, HasAsserted};
 
 use crate::elaboration::{Refusal, elaborate};
+use crate::form::{RESERVED_WORDS, is_one_of, symbol_of};
 use crate::names::Names;
 use nz_base::{Memory, Text};
-use nz_sexpr::{Token, Tree};
+use nz_sexpr::Tree;
 use nz_term::{Constant, Head, Sort, TermId, Terms};
 use std::alloc::Global;
 use std::marker::Model;
@@ -157,17 +156,6 @@ fn word_of(name: &[u8]) -> Option<Word>
     }
 }
 
-/// The name of a tree that is a symbol.
-fn symbol_of(tree: &Tree) -> Option<&Text>
-    ensures name { IfSome result (λ name. view tree.now ≡ leaf (symbol name.now)) }
-    ensures none { IfNone result ((trees : Trees) × (view tree.now ≡ node trees)) }
-{
-    match tree {
-        Tree::Word(Token::Symbol(name)) => Some(name),
-        Tree::List(_) => None,
-    }
-}
-
 /// The name that a command begins with, and the trees after it.
 fn name_and_arguments(tree: &Tree) -> Option<(&Text, &[Tree])>
     ensures command { IfSome result (λ p. (s : State) → command_of s (view tree.now) ≡ command_named s p.0.now (trees_from (map view p.1.now))) }
@@ -247,11 +235,6 @@ fn can_declare(names: &Names, name: &Text) -> bool
         && names.len() < CONSTANT_LIMIT
 }
 
-/// Words that no symbol may be (SMT-LIB 2.6, section 3.1).
-const RESERVED_WORDS: [&[u8]; 8] = [
-    b"!", b"_", b"as", b"exists", b"forall", b"let", b"match", b"par",
-];
-
 /// The operators of the theories Core, Ints, Reals and Reals_Ints, which are declared from the start.
 const OPERATORS: [&[u8]; 24] = [
     b"true",
@@ -279,12 +262,6 @@ const OPERATORS: [&[u8]; 24] = [
     b"to_int",
     b"is_int",
 ];
-
-fn is_one_of(words: &[&[u8]], name: &[u8]) -> bool
-    ensures listed { result ≡ list_any (λ word. bytes_eq name.now word.now) words.now }
-{
-    words.iter().any(|word| name == *word)
-}
 
 /// Adds a constant of a name that isn't there yet to the table and to the names. After an error the table may have grown.
 fn add_constant(

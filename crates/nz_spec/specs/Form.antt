@@ -81,9 +81,10 @@ abbrev pub is_sort_tree : Tree → Bool
 is_sort_tree (leaf t) = is_name t
 is_sort_tree (node ts) = true
 
-abbrev pub are_sort_trees : Trees → Bool
-are_sort_trees no_trees = true
-are_sort_trees (trees t ts) = is_sort_tree t && are_sort_trees ts
+-- each of the trees is so
+abbrev pub all_trees : (Tree → Bool) → Trees → Bool
+all_trees test no_trees = true
+all_trees test (trees t ts) = test t && all_trees test ts
 
 -- the value of an attribute: a constant, a symbol or a list
 abbrev pub is_attribute_value : Tree → Bool
@@ -169,31 +170,42 @@ is_list test (leaf t) = false
 is_list test (node ts) = test ts
 
 -- a parameter of a definition: its name and its sort
-abbrev pub are_parameters : Trees → Bool
-are_parameters no_trees = true
-are_parameters (trees t ts) = is_list (is_two is_name_tree is_sort_tree) t && are_parameters ts
+abbrev pub is_parameter : Tree → Bool
+is_parameter t = is_list (is_two is_name_tree is_sort_tree) t
+
+abbrev pub is_negation : Tree → Bool
+is_negation t = is_token (is_symbol (codes "not")) t
 
 -- a name, or `not` of one
 abbrev pub is_literal_form : Tree → Bool
 is_literal_form (leaf t) = is_name t
-is_literal_form (node ts) = is_two (is_token (is_symbol (codes "not"))) is_name_tree ts
+is_literal_form (node ts) = is_two is_negation is_name_tree ts
 
-abbrev pub are_literal_forms : Trees → Bool
-are_literal_forms no_trees = true
-are_literal_forms (trees t ts) = is_literal_form t && are_literal_forms ts
+-- what an attribute of a wish tells
+pub data WishAttribute : Type 0 where
+  weight_attribute : WishAttribute
+  group_attribute : WishAttribute
+  other_attribute : WishAttribute
 
--- the weight and the group of a wish, in any order, each at most once
+abbrev pub named_attribute : List ℕ → WishAttribute
+named_attribute name =
+    if bytes_eq name (codes ":weight") then weight_attribute
+    else (if bytes_eq name (codes ":id") then group_attribute
+    else other_attribute)
+
+abbrev pub wish_attribute : Tree → WishAttribute
+wish_attribute (leaf t) = elim (keyword_name t) [ Some name ↦ named_attribute name | None ↦ other_attribute ]
+wish_attribute (node ts) = other_attribute
+
+-- The weight and the group of a wish, in any order, each at most once; whether one was there is told before.
 abbrev pub are_wish_attributes : Bool → Bool → Trees → Bool
 are_wish_attributes weight group no_trees = true
 are_wish_attributes weight group (trees k no_trees) = false
-are_wish_attributes weight group (trees (node us) (trees v ts)) = false
-are_wish_attributes weight group (trees (leaf k) (trees v ts)) =
-    elim (keyword_name k) [
-      | Some name ↦
-          if bytes_eq name (codes ":weight") then not weight && is_token is_number_token v && are_wish_attributes true group ts
-          else (if bytes_eq name (codes ":id") then not group && is_name_tree v && are_wish_attributes weight true ts
-          else false)
-      | None ↦ false
+are_wish_attributes weight group (trees k (trees v ts)) =
+    elim (wish_attribute k) [
+      | weight_attribute ↦ not weight && is_token is_number_token v && are_wish_attributes true group ts
+      | group_attribute ↦ not group && is_name_tree v && are_wish_attributes weight true ts
+      | other_attribute ↦ false
     ]
 
 abbrev pub is_wish_form : Trees → Bool
@@ -203,7 +215,7 @@ is_wish_form (trees t ts) = is_term_tree t && are_wish_attributes false false ts
 -- a name, parameters, a sort, and a term
 abbrev pub is_definition_form : Trees → Bool
 is_definition_form no_trees = false
-is_definition_form (trees x ts) = is_name_tree x && is_three (is_list are_parameters) is_sort_tree is_term_tree ts
+is_definition_form (trees x ts) = is_name_tree x && is_three (is_list (all_trees is_parameter)) is_sort_tree is_term_tree ts
 
 -- an option that is known has a value of its own; another has any attribute value
 abbrev pub is_truth_word : Token → Bool
@@ -285,9 +297,9 @@ abbrev pub has_form : CommandName → Trees → Bool
 has_form assert_name ts = is_one is_term_tree ts
 has_form assert_soft_name ts = is_wish_form ts
 has_form check_sat_name ts = is_empty ts
-has_form check_sat_assuming_name ts = is_one (is_list are_literal_forms) ts
+has_form check_sat_assuming_name ts = is_one (is_list (all_trees is_literal_form)) ts
 has_form declare_const_name ts = is_two is_name_tree is_sort_tree ts
-has_form declare_fun_name ts = is_three is_name_tree (is_list are_sort_trees) is_sort_tree ts
+has_form declare_fun_name ts = is_three is_name_tree (is_list (all_trees is_sort_tree)) is_sort_tree ts
 has_form define_fun_name ts = is_definition_form ts
 has_form echo_name ts = is_one (is_token is_literal_token) ts
 has_form exit_name ts = is_empty ts
