@@ -1,5 +1,5 @@
 -- The bounds on the numbers that a command may hold, wherever they stand in it.
-use Rattle.std.specs.Prelude.{ℕ, ◌+◌, ◌-◌, ◌*◌, ◌^◌, ◌||◌, nat_lt, Bool, false, List, [], ◌∷◌, ◌++◌, length}
+use Rattle.std.specs.Prelude.{ℕ, ◌+◌, ◌-◌, ◌*◌, ◌^◌, ◌||◌, ◌==◌, nat_lt, Bool, false, List, [], ◌∷◌, ◌++◌, length}
 use Rattle.nz_spec.specs.Tree.{Token, symbol, keyword, numeral, decimal, hexadecimal, binary, literal, Tree, leaf, node, Trees, no_trees, trees, before_point, after_point}
 
 -- the number that decimal digits spell, after those that spell this number
@@ -43,6 +43,26 @@ is_long_decimal (keyword bs) = false
 is_long_decimal (hexadecimal bs) = false
 is_long_decimal (binary bs) = false
 is_long_decimal (literal bs) = false
+
+-- the number of a numeral, and 0 for any other token
+abbrev pub numeral_value : Token → ℕ
+numeral_value (numeral bs) = digits_value bs
+numeral_value (symbol name) = 0
+numeral_value (keyword bs) = 0
+numeral_value (decimal bs) = 0
+numeral_value (hexadecimal bs) = 0
+numeral_value (binary bs) = 0
+numeral_value (literal bs) = 0
+
+-- a numeral or a decimal of value zero
+abbrev pub is_zero_token : Token → Bool
+is_zero_token (numeral bs) = digits_value bs == 0
+is_zero_token (decimal bs) = digits_value (decimal_digits bs) == 0
+is_zero_token (symbol name) = false
+is_zero_token (keyword bs) = false
+is_zero_token (hexadecimal bs) = false
+is_zero_token (binary bs) = false
+is_zero_token (literal bs) = false
 
 -- some token of the tree, at any depth, is so
 abbrev mutual
