@@ -1,4 +1,5 @@
 pub mod Elaborating
+pub mod Forming
 pub mod Living
 pub mod Nameless
 pub mod Naming

@@ -3,7 +3,8 @@ use Rattle.std.specs.Prelude.{◌≡◌, ℕ, ◌&&◌, not, nat_lt, Bool, List,
 use Rattle.nz_spec.specs.Tree.{Tree, Trees}
 use Rattle.nz_spec.specs.Term.{bool_sort, Constant, constant, apply, no_terms}
 use Rattle.nz_spec.specs.Table.{Node, term_in}
-use Rattle.nz_spec.specs.Script.{State, Command, is_one_of, reserved_words, operators, constant_limit, can_declare, declare_const, declaration_of, assertion_of, alone, check_sat, get_model, exit}
+use Rattle.nz_spec.specs.Form.{is_one_of, reserved_words}
+use Rattle.nz_spec.specs.Script.{State, Command, operators, constant_limit, can_declare, declare_const, declaration_of, assertion_of, alone, check_sat, get_model, exit}
 use Rattle.nz_spec.specs.Reply.{Reply, effect}
 use Rattle.nz_sort.specs.Live.{Standing, IsLive, Ask, ask_of}
 use Rattle.nz_sort.specs.Names.{number_named}

@@ -4,11 +4,15 @@
 #![tactic(auto)]
 
 mod elaboration;
+mod form;
 mod live;
 mod names;
 mod normal;
 mod operators;
+mod tokens;
 
 pub use elaboration::{Refusal, elaborate};
+pub use form::is_of_form;
 pub use live::{Act, Live};
 pub use names::Names;
+pub use tokens::{TokenTest, has_token};

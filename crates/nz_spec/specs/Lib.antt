@@ -1,5 +1,7 @@
+pub mod Bounds
 pub mod Decide
 pub mod Example
+pub mod Form
 pub mod Fraction
 pub mod Infinitesimal
 pub mod Kept

@@ -1,25 +1,24 @@
 -- Commands and the live state (SMT-LIB 2.6, section 3.9 and chapter 4): what a tree asks for, where it is accepted, and
 -- the stack of levels that the accepted commands leave.
-use Rattle.std.specs.Prelude.{ℕ, ◌&&◌, ◌==◌, suc, not, nat_lt, Bool, List, [], ◌∷◌, ◌++◌, length, Option, Some, None, option_map, option_and_then, is_some, is_none, codes, bytes_eq, if◌then◌else◌}
-use Rattle.std.specs.List.{list_any}
-use Rattle.nz_spec.specs.Tree.{symbol, symbol_name, Tree, leaf, node, Trees, no_trees, trees}
+use Rattle.std.specs.Prelude.{ℕ, ◌&&◌, ◌||◌, ◌+◌, ◌-◌, ◌==◌, suc, not, nat_lt, Bool, true, false, List, [], ◌∷◌, ◌++◌, length, Option, Some, None, option_map, option_and_then, is_some, is_none, codes, bytes_eq, if◌then◌else◌}
+use Rattle.nz_spec.specs.Form.{is_one_of, is_name, is_symbol, is_keyword, is_number_token, is_token, is_one, has_form, CommandName, command_name, assert_name, assert_soft_name, check_sat_name, check_sat_assuming_name, declare_const_name, declare_fun_name, define_fun_name, echo_name, exit_name, get_info_name, get_model_name, get_objectives_name, get_value_name, maximize_name, minimize_name, pop_name, push_name, reset_name, reset_assertions_name, set_info_name, set_logic_name, set_option_name, other_name}
+use Rattle.nz_spec.specs.Bounds.{has_token, have_token, is_zero_token, numeral_value, is_wide_token, is_long_decimal}
+use Rattle.nz_spec.specs.Tree.{Token, symbol_name, Tree, leaf, node, Trees, no_trees, trees}
 use Rattle.nz_spec.specs.Term.{bool_sort, Constant, Head, constant, verum, falsum, negation, conjunction, disjunction, implication, exclusion, equality, distinction, choice, Term, apply, Terms, no_terms, terms, Value}
 
 -- ---- Names
-
--- the name is one of these
-abbrev pub is_one_of : List (List ℕ) → List ℕ → Bool
-is_one_of names name = list_any (bytes_eq name) names
-
--- words that no symbol may be
-abbrev pub reserved_words : List (List ℕ)
-reserved_words = codes "!" ∷ codes "_" ∷ codes "as" ∷ codes "exists" ∷ codes "forall" ∷ codes "let" ∷ codes "match" ∷ codes "par" ∷ []
 
 -- the operators of the theories Core, Ints, Reals and Reals_Ints, which are declared from the start
 abbrev pub operators : List (List ℕ)
 operators =
     codes "true" ∷ codes "false" ∷ codes "not" ∷ codes "and" ∷ codes "or" ∷ codes "=>" ∷ codes "xor" ∷ codes "=" ∷ codes "distinct" ∷ codes "ite"
     ∷ codes "<=" ∷ codes "<" ∷ codes ">=" ∷ codes ">" ∷ codes "+" ∷ codes "*" ∷ codes "-" ∷ codes "/" ∷ codes "div" ∷ codes "mod" ∷ codes "abs"
+    ∷ codes "to_real" ∷ codes "to_int" ∷ codes "is_int" ∷ []
+
+-- those of them that are over numbers
+abbrev pub number_operators : List (List ℕ)
+number_operators =
+    codes "<=" ∷ codes "<" ∷ codes ">=" ∷ codes ">" ∷ codes "+" ∷ codes "*" ∷ codes "-" ∷ codes "/" ∷ codes "div" ∷ codes "mod" ∷ codes "abs"
     ∷ codes "to_real" ∷ codes "to_int" ∷ codes "is_int" ∷ []
 
 -- the constant of this name
@@ -103,14 +102,19 @@ pub record Binding : Type 0 where
   pub constant : Constant
   pub value : Value
 
--- The levels, the newest first, each with its items in the order of acceptance; and the model of the last answer, while
--- that was `sat` and stands.
+-- why a check wasn't decided: each of so many units of work was used
+pub data Reason : Type 0 where
+  units_spent : ℕ → Reason
+
+-- The levels, the newest first, each with its items in the order of acceptance; and what the last answer shows while it
+-- stands: a model where it was `sat`, a reason where it was `unknown`.
 pub record State : Type 0 where
   pub levels : List (List Item)
   pub model : Option (List Binding)
+  pub reason : Option Reason
 
 abbrev pub start : State
-start = record { levels = [] ∷ []; model = None }
+start = record { levels = [] ∷ []; model = None; reason = None }
 
 -- the live items, in the order of acceptance
 abbrev pub items_of : List (List Item) → List Item
@@ -139,6 +143,10 @@ abbrev pub with_item : List (List Item) → Item → List (List Item)
 with_item [] i = (i ∷ []) ∷ []
 with_item (items ∷ older) i = (items ++ i ∷ []) ∷ older
 
+-- how many levels were pushed
+abbrev pub pushed_levels : State → ℕ
+pushed_levels s = length s.levels - 1
+
 -- ---- Commands
 
 pub data Command : Type 0 where
@@ -146,44 +154,155 @@ pub data Command : Type 0 where
   assert_term : Term → Command
   check_sat : Command
   get_model : Command
+  get_reason : Command  -- get-info of :reason-unknown
   exit : Command
 
--- the greatest number of live constants
+-- What becomes of a command: it is accepted, or refused by the first rule that it breaks, told by the number of its error;
+-- or it is one that the program doesn't take.
+pub data Outcome : Type 0 where
+  accepted : Command → Outcome
+  refused : ℕ → Outcome
+  not_taken : Outcome
+
+-- ---- Limits: error 6
+
+-- the greatest number of live constants, and of pushed levels
 abbrev pub constant_limit : ℕ
 constant_limit = 65535
 
--- A constant may be declared by this name.
-abbrev pub can_declare : State → List ℕ → Bool
-can_declare s name =
-    not (is_one_of reserved_words name) && not (is_one_of operators name) && is_none (constant_named (constants_of s) name)
-    && nat_lt (length (constants_of s)) constant_limit
+abbrev pub level_limit : ℕ
+level_limit = 1000
 
-abbrev pub declaration_of : State → Trees → Option Command
-declaration_of s (trees (leaf (symbol name)) (trees (leaf (symbol sort)) no_trees)) =
-    if bytes_eq sort (codes "Bool") && can_declare s name then Some (declare_const (record { name = name; sort = bool_sort })) else None
-declaration_of s arguments = None
+abbrev pub has_most_constants : State → Bool
+has_most_constants s = not (nat_lt (length (constants_of s)) constant_limit)
 
-abbrev pub assertion_of : State → Trees → Option Command
-assertion_of s (trees t no_trees) = option_map assert_term (term_of (constants_of s) t)
-assertion_of s arguments = None
+-- how many levels a `push` asks for
+abbrev pub level_count : Trees → ℕ
+level_count no_trees = 1
+level_count (trees (leaf t) ts) = numeral_value t
+level_count (trees (node us) ts) = 0
 
-abbrev pub alone : Command → Trees → Option Command
-alone c no_trees = Some c
-alone c (trees t ts) = None
+-- the weight of a wish is zero
+abbrev pub has_zero_weight : Trees → Bool
+has_zero_weight no_trees = false
+has_zero_weight (trees k no_trees) = false
+has_zero_weight (trees k (trees v ts)) = (is_token (is_keyword (codes ":weight")) k && is_token is_zero_token v) || has_zero_weight ts
 
--- The command of this name over its arguments, where it is accepted.
-abbrev pub command_named : State → List ℕ → Trees → Option Command
-command_named s name arguments =
-    if bytes_eq name (codes "declare-const") then declaration_of s arguments
-    else (if bytes_eq name (codes "assert") then assertion_of s arguments
-    else (if bytes_eq name (codes "check-sat") then alone check_sat arguments
-    else (if bytes_eq name (codes "get-model") then (if is_some s.model then alone get_model arguments else None)
-    else (if bytes_eq name (codes "exit") then alone exit arguments
-    else None))))
+abbrev pub wish_attributes : Trees → Trees
+wish_attributes no_trees = no_trees
+wish_attributes (trees t ts) = ts
 
--- The command that a tree is, where it is accepted; none where it isn't.
-abbrev pub command_of : State → Tree → Option Command
-command_of s (leaf t) = None
-command_of s (node no_trees) = None
-command_of s (node (trees (node inner) arguments)) = None
-command_of s (node (trees (leaf t) arguments)) = elim (symbol_name t) [ Some name ↦ command_named s name arguments | None ↦ None ]
+-- The command goes beyond a limit, in its own way.
+abbrev pub passes_limit : State → CommandName → Trees → Bool
+passes_limit s declare_const_name ts = has_most_constants s
+passes_limit s declare_fun_name ts = has_most_constants s
+passes_limit s push_name ts = nat_lt level_limit (pushed_levels s + level_count ts)
+passes_limit s assert_soft_name ts = has_zero_weight (wish_attributes ts)
+passes_limit s assert_name ts = false
+passes_limit s check_sat_name ts = false
+passes_limit s check_sat_assuming_name ts = false
+passes_limit s define_fun_name ts = false
+passes_limit s echo_name ts = false
+passes_limit s exit_name ts = false
+passes_limit s get_info_name ts = false
+passes_limit s get_model_name ts = false
+passes_limit s get_objectives_name ts = false
+passes_limit s get_value_name ts = false
+passes_limit s maximize_name ts = false
+passes_limit s minimize_name ts = false
+passes_limit s pop_name ts = false
+passes_limit s reset_name ts = false
+passes_limit s reset_assertions_name ts = false
+passes_limit s set_info_name ts = false
+passes_limit s set_logic_name ts = false
+passes_limit s set_option_name ts = false
+passes_limit s other_name ts = false
+
+-- ---- What is taken
+
+-- a token that only terms over numbers, or a `let`, have
+abbrev pub is_of_number_term : Token → Bool
+is_of_number_term t = is_number_token t || elim (symbol_name t) [ Some name ↦ is_one_of number_operators name || bytes_eq name (codes "let") | None ↦ false ]
+
+abbrev pub is_number_sort : Token → Bool
+is_number_sort t = is_symbol (codes "Int") t || is_symbol (codes "Real") t
+
+abbrev pub declares_number : Trees → Bool
+declares_number no_trees = false
+declares_number (trees x ts) = is_one (is_token is_number_sort) ts
+
+-- The program takes commands of this name over such arguments.
+abbrev pub takes_command : CommandName → Trees → Bool
+takes_command declare_const_name ts = not (declares_number ts)
+takes_command assert_name ts = not (have_token is_of_number_term ts)
+takes_command check_sat_name ts = true
+takes_command get_model_name ts = true
+takes_command get_info_name ts = is_one (is_token (is_keyword (codes ":reason-unknown"))) ts
+takes_command exit_name ts = true
+takes_command assert_soft_name ts = false
+takes_command check_sat_assuming_name ts = false
+takes_command declare_fun_name ts = false
+takes_command define_fun_name ts = false
+takes_command echo_name ts = false
+takes_command get_objectives_name ts = false
+takes_command get_value_name ts = false
+takes_command maximize_name ts = false
+takes_command minimize_name ts = false
+takes_command pop_name ts = false
+takes_command push_name ts = false
+takes_command reset_name ts = false
+takes_command reset_assertions_name ts = false
+takes_command set_info_name ts = false
+takes_command set_logic_name ts = false
+takes_command set_option_name ts = false
+takes_command other_name ts = false
+
+-- ---- Names and sorts: errors 2, 9 and 3
+
+-- a live name, or an operator
+abbrev pub is_declared : List Constant → List ℕ → Bool
+is_declared cs name = is_one_of operators name || is_some (constant_named cs name)
+
+-- a symbol of a term that is neither
+abbrev pub is_unknown_symbol : List Constant → Token → Bool
+is_unknown_symbol cs t = elim (symbol_name t) [ Some name ↦ not (is_declared cs name) | None ↦ false ]
+
+-- a constant of this name, of a sort that is given by its name or as a list
+abbrev pub declaration_of : State → List ℕ → Tree → Outcome
+declaration_of s name (leaf sort) =
+    if not (is_symbol (codes "Bool") sort) then refused 2
+    else (if is_declared (constants_of s) name then refused 9
+    else accepted (declare_const (record { name = name; sort = bool_sort })))
+declaration_of s name (node ts) = if is_declared (constants_of s) name then refused 9 else refused 3
+
+-- the term of a tree is asserted
+abbrev pub assertion_of : State → Tree → Outcome
+assertion_of s t =
+    if has_token (is_unknown_symbol (constants_of s)) t then refused 2
+    else elim (term_of (constants_of s) t) [ Some u ↦ accepted (assert_term u) | None ↦ refused 3 ]
+
+-- a command that the program takes, over arguments of its form
+abbrev pub outcome_by : State → CommandName → Trees → Outcome
+outcome_by s declare_const_name (trees (leaf x) (trees sort no_trees)) = elim (symbol_name x) [ Some name ↦ declaration_of s name sort | None ↦ refused 1 ]
+outcome_by s assert_name (trees t no_trees) = assertion_of s t
+outcome_by s check_sat_name ts = accepted check_sat
+outcome_by s get_model_name ts = accepted get_model
+outcome_by s get_info_name ts = accepted get_reason
+outcome_by s exit_name ts = accepted exit
+outcome_by s name ts = refused 1
+
+-- The rules in their order: the form, the limits, the width of numbers, what the program takes, and then the names and sorts.
+abbrev pub outcome_named : State → CommandName → Trees → Outcome
+outcome_named s name ts =
+    if not (has_form name ts) then refused 1
+    else (if passes_limit s name ts || have_token is_long_decimal ts then refused 6
+    else (if have_token is_wide_token ts then refused 5
+    else (if not (takes_command name ts) then not_taken
+    else outcome_by s name ts)))
+
+-- What becomes of a command; a tree that isn't a list that begins with a name is refused for its form.
+abbrev pub outcome_of : State → Tree → Outcome
+outcome_of s (leaf t) = refused 1
+outcome_of s (node no_trees) = refused 1
+outcome_of s (node (trees (node inner) ts)) = refused 1
+outcome_of s (node (trees (leaf t) ts)) = if not (is_name t) then refused 1 else elim (symbol_name t) [ Some name ↦ outcome_named s (command_name name) ts | None ↦ refused 1 ]

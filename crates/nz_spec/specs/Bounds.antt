@@ -1,0 +1,75 @@
+-- The bounds on the numbers that a command may hold, wherever they stand in it.
+use Rattle.std.specs.Prelude.{ℕ, ◌+◌, ◌-◌, ◌*◌, ◌^◌, ◌||◌, ◌==◌, nat_lt, Bool, false, List, [], ◌∷◌, ◌++◌, length}
+use Rattle.nz_spec.specs.Tree.{Token, symbol, keyword, numeral, decimal, hexadecimal, binary, literal, Tree, leaf, node, Trees, no_trees, trees, before_point, after_point}
+
+-- the number that decimal digits spell, after those that spell this number
+abbrev pub value_onto : ℕ → List ℕ → ℕ
+value_onto n [] = n
+value_onto n (b ∷ bs) = value_onto (10 * n + (b - 48)) bs
+
+abbrev pub digits_value : List ℕ → ℕ
+digits_value bs = value_onto 0 bs
+
+-- the digits of a decimal, without its point
+abbrev pub decimal_digits : List ℕ → List ℕ
+decimal_digits bs = before_point bs ++ after_point bs
+
+-- the greatest numerator and the greatest denominator
+abbrev pub greatest_number : ℕ
+greatest_number = 2 ^ 127 - 1
+
+-- how many digits a decimal may have after its point
+abbrev pub place_limit : ℕ
+place_limit = 38
+
+-- the digits spell a number above the greatest
+abbrev pub are_wide : List ℕ → Bool
+are_wide bs = nat_lt greatest_number (digits_value bs)
+
+abbrev pub is_wide_token : Token → Bool
+is_wide_token (numeral bs) = are_wide bs
+is_wide_token (decimal bs) = are_wide (decimal_digits bs)
+is_wide_token (symbol name) = false
+is_wide_token (keyword bs) = false
+is_wide_token (hexadecimal bs) = false
+is_wide_token (binary bs) = false
+is_wide_token (literal bs) = false
+
+abbrev pub is_long_decimal : Token → Bool
+is_long_decimal (decimal bs) = nat_lt place_limit (length (after_point bs))
+is_long_decimal (numeral bs) = false
+is_long_decimal (symbol name) = false
+is_long_decimal (keyword bs) = false
+is_long_decimal (hexadecimal bs) = false
+is_long_decimal (binary bs) = false
+is_long_decimal (literal bs) = false
+
+-- the number of a numeral, and 0 for any other token
+abbrev pub numeral_value : Token → ℕ
+numeral_value (numeral bs) = digits_value bs
+numeral_value (symbol name) = 0
+numeral_value (keyword bs) = 0
+numeral_value (decimal bs) = 0
+numeral_value (hexadecimal bs) = 0
+numeral_value (binary bs) = 0
+numeral_value (literal bs) = 0
+
+-- a numeral or a decimal of value zero
+abbrev pub is_zero_token : Token → Bool
+is_zero_token (numeral bs) = digits_value bs == 0
+is_zero_token (decimal bs) = digits_value (decimal_digits bs) == 0
+is_zero_token (symbol name) = false
+is_zero_token (keyword bs) = false
+is_zero_token (hexadecimal bs) = false
+is_zero_token (binary bs) = false
+is_zero_token (literal bs) = false
+
+-- some token of the tree, at any depth, is so
+abbrev mutual
+  pub has_token : (Token → Bool) → Tree → Bool
+  has_token test (leaf t) = test t
+  has_token test (node ts) = have_token test ts
+
+  pub have_token : (Token → Bool) → Trees → Bool
+  have_token test no_trees = false
+  have_token test (trees t ts) = has_token test t || have_token test ts
