@@ -7,6 +7,8 @@ mod elaboration;
 mod form;
 mod live;
 mod names;
+#[cfg(test)]
+mod tests;
 mod tokens;
 
 pub use elaboration::{Refusal, elaborate};

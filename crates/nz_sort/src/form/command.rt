@@ -5,11 +5,11 @@ ghost use Rattle.nz_spec.specs.Tree.{leaf, node, trees};
 ghost use Rattle.nz_spec.specs.Form as form;
 ghost use Rattle.nz_sort.specs.Form.{seen, command_meaning, attribute_meaning, IsShort};
 
+use crate::form::term::{are_term_trees, is_term_tree};
 use crate::form::{
     headed, is_attribute_value, is_empty, is_keyword, is_literal, is_name, is_name_tree, is_number,
     is_numeral, is_sort_tree, is_symbol, keyword_name, only, pair, triple,
 };
-use crate::form::term::{are_term_trees, is_term_tree};
 use nz_sexpr::{Token, Tree};
 
 /// The commands by name.
