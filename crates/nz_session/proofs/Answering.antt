@@ -2,7 +2,7 @@
 use Rattle.std.proofs.Common.{◌≡◌, ◌⊎◌, inl, inr, ℕ, ◌≤◌, Bool, true, false, IsTrue, List, [], ◌∷◌, length, map, take, Option, Some, None, Result, IfOk, is_some, cond, option_map, bytes_eq, codes, refl, sym, ap, ◌∙◌, subst, arith, length-take, append-nil}
 use Rattle.std.proofs.lemmas.List.{take-take}
 use Rattle.std.specs.List.{AllByRecursion}
-use Rattle.nz_spec.specs.Tree.{Tree, leaf, node, Trees, trees, no_trees, symbol}
+use Rattle.nz_spec.specs.Tree.{Tree, leaf, node, Trees, trees, no_trees, symbol, keyword, numeral, decimal, hexadecimal, binary, literal}
 use Rattle.nz_spec.specs.Text.{whole}
 use Rattle.nz_spec.specs.Term.{Constant, Term, normal_of, is_true, Assignment, IsOfSort, IsTrueUnder}
 use Rattle.nz_spec.specs.Table.{Node, term_in}
@@ -223,7 +223,19 @@ none_declared false k e = cc
 no_declaration : (s : State) (ts : Trees) → declaration_of s ts ≡ Some get_model → ⊥
 no_declaration s no_trees e = cc
 no_declaration s (trees (node a) us) e = cc
+no_declaration s (trees (leaf (keyword bs)) us) e = cc
+no_declaration s (trees (leaf (numeral bs)) us) e = cc
+no_declaration s (trees (leaf (decimal bs)) us) e = cc
+no_declaration s (trees (leaf (hexadecimal bs)) us) e = cc
+no_declaration s (trees (leaf (binary bs)) us) e = cc
+no_declaration s (trees (leaf (literal bs)) us) e = cc
 no_declaration s (trees (leaf (symbol name)) no_trees) e = cc
+no_declaration s (trees (leaf (symbol name)) (trees (leaf (keyword bs)) us)) e = cc
+no_declaration s (trees (leaf (symbol name)) (trees (leaf (numeral bs)) us)) e = cc
+no_declaration s (trees (leaf (symbol name)) (trees (leaf (decimal bs)) us)) e = cc
+no_declaration s (trees (leaf (symbol name)) (trees (leaf (hexadecimal bs)) us)) e = cc
+no_declaration s (trees (leaf (symbol name)) (trees (leaf (binary bs)) us)) e = cc
+no_declaration s (trees (leaf (symbol name)) (trees (leaf (literal bs)) us)) e = cc
 no_declaration s (trees (leaf (symbol name)) (trees (node b) us)) e = cc
 no_declaration s (trees (leaf (symbol name)) (trees (leaf (symbol sort)) no_trees)) e = none_declared _ _ e
 no_declaration s (trees (leaf (symbol name)) (trees (leaf (symbol sort)) (trees u us))) e = cc
@@ -269,3 +281,9 @@ model_is_there s (leaf w) e = cc
 model_is_there s (node no_trees) e = cc
 model_is_there s (node (trees (node inner) ts)) e = cc
 model_is_there s (node (trees (leaf (symbol name)) ts)) e = model_named s name ts e
+model_is_there s (node (trees (leaf (keyword bs)) ts)) e = cc
+model_is_there s (node (trees (leaf (numeral bs)) ts)) e = cc
+model_is_there s (node (trees (leaf (decimal bs)) ts)) e = cc
+model_is_there s (node (trees (leaf (hexadecimal bs)) ts)) e = cc
+model_is_there s (node (trees (leaf (binary bs)) ts)) e = cc
+model_is_there s (node (trees (leaf (literal bs)) ts)) e = cc
