@@ -9,6 +9,8 @@ mod live;
 mod names;
 mod normal;
 mod operators;
+#[cfg(test)]
+mod tests;
 mod tokens;
 
 pub use elaboration::{Refusal, elaborate};
