@@ -39,6 +39,7 @@ fn equal_terms_have_one_number(rt: HostRuntime) -> Result<(), Fail> {
 #[test]
 fn terms_of_different_operators_are_different(rt: HostRuntime) -> Result<(), Fail> {
     let (mut terms, _) = clause(rt.alloc())?;
+    assert_eq!(rt; terms.len(), 4);
     let excluded = terms.make(Head::Xor, &[0, 1])?;
     assert_eq!(rt; excluded, 4);
     let equal = terms.make(Head::Equal, &[0, 1])?;
