@@ -1,3 +1,4 @@
+pub mod Digits
 pub mod Elaborating
 pub mod Forming
 pub mod Living

@@ -119,6 +119,12 @@ pub(crate) fn symbol_of(tree: &Tree) -> Option<&Text>
     }
 }
 
+fn is_empty(list: &[Tree]) -> bool
+    ensures form { result ≡ form.is_empty (seen list.now) }
+{
+    list.is_empty()
+}
+
 /// The one tree.
 fn only(list: &[Tree]) -> Option<&Tree>
     ensures one { IfSome result (λ tree. seen list.now ≡ trees (view tree.now) no_trees) }

@@ -1,5 +1,5 @@
 //! Tests of the tokens of a command, wherever they stand in it.
-ghost use Rattle.std.specs.Prelude.{◌≡◌, ◌<◌, ◌≤◌, ◌-◌, ◌^◌, ◌++◌, IfSome, IfNone, false};
+ghost use Rattle.std.specs.Prelude.{◌≡◌, ◌<◌, ◌≤◌, IfSome, IfNone, nat_lt};
 ghost use Rattle.nz_sexpr.specs.View.{token_view, view};
 ghost use Rattle.nz_spec.specs.Tree.{before_point as front_of, after_point as places_of};
 ghost use Rattle.nz_spec.specs.Bounds as bounds;
@@ -83,7 +83,15 @@ fn is_long_decimal(token: &Token) -> bool
 fn are_wide(digits: &[u8]) -> bool
     ensures wide { result ≡ bounds.are_wide digits.now }
 {
-    value_onto(0, digits).is_none()
+    are_wide_after(0, digits)
+}
+
+/// The digits after those that spell `start` spell a number above the greatest.
+fn are_wide_after(start: u128, digits: &[u8]) -> bool
+    requires { start ≤ bounds.greatest_number }
+    ensures wide { result ≡ nat_lt bounds.greatest_number (bounds.value_onto start digits.now) }
+{
+    value_onto(start, digits).is_none()
 }
 
 /// The digits of a decimal, without its point, spell a number above the greatest.
@@ -92,7 +100,7 @@ fn are_wide_around_point(bytes: &[u8]) -> bool
 {
     let (front, places) = around_point(bytes);
     match value_onto(0, front) {
-        Some(value) => value_onto(value, places).is_none(),
+        Some(value) => are_wide_after(value, places),
         None => true,
     }
 }

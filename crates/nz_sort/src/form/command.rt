@@ -6,7 +6,7 @@ ghost use Rattle.nz_spec.specs.Form as form;
 ghost use Rattle.nz_sort.specs.Form.{seen, command_meaning, attribute_meaning, IsShort};
 
 use crate::form::{
-    headed, is_attribute_value, is_keyword, is_literal, is_name, is_name_tree, is_number,
+    headed, is_attribute_value, is_empty, is_keyword, is_literal, is_name, is_name_tree, is_number,
     is_numeral, is_sort_tree, is_symbol, keyword_name, only, pair, triple,
 };
 use crate::form::term::{are_term_trees, is_term_tree};
@@ -84,23 +84,23 @@ pub(super) fn has_form(name: CommandName, arguments: &[Tree]) -> bool
     match name {
         CommandName::Assert => is_one_term(arguments),
         CommandName::AssertSoft => is_wish_form(arguments),
-        CommandName::CheckSat => arguments.is_empty(),
+        CommandName::CheckSat => is_empty(arguments),
         CommandName::CheckSatAssuming => is_assuming_form(arguments),
         CommandName::DeclareConst => is_constant_form(arguments),
         CommandName::DeclareFun => is_function_form(arguments),
         CommandName::DefineFun => is_definition_form(arguments),
         CommandName::Echo => is_echo_form(arguments),
-        CommandName::Exit => arguments.is_empty(),
+        CommandName::Exit => is_empty(arguments),
         CommandName::GetInfo => is_query_form(arguments),
-        CommandName::GetModel => arguments.is_empty(),
-        CommandName::GetObjectives => arguments.is_empty(),
+        CommandName::GetModel => is_empty(arguments),
+        CommandName::GetObjectives => is_empty(arguments),
         CommandName::GetValue => is_value_form(arguments),
         CommandName::Maximize => is_one_term(arguments),
         CommandName::Minimize => is_one_term(arguments),
         CommandName::Pop => is_level_form(arguments),
         CommandName::Push => is_level_form(arguments),
-        CommandName::Reset => arguments.is_empty(),
-        CommandName::ResetAssertions => arguments.is_empty(),
+        CommandName::Reset => is_empty(arguments),
+        CommandName::ResetAssertions => is_empty(arguments),
         CommandName::SetInfo => is_info_form(arguments),
         CommandName::SetLogic => is_logic_form(arguments),
         CommandName::SetOption => is_option_form(arguments),
@@ -184,13 +184,35 @@ fn is_negation(tree: &Tree) -> bool
     }
 }
 
+fn are_parameters(list: &[Tree]) -> bool
+    ensures form { result ≡ form.all_trees form.is_parameter (seen list.now) }
+{
+    for tree in list {
+        if !is_parameter(tree) {
+            return false;
+        }
+    }
+    true
+}
+
 fn is_list_of_parameters(tree: &Tree) -> bool
     ensures form { result ≡ form.is_list (form.all_trees form.is_parameter) (view tree.now) }
 {
     match tree {
         Tree::Word(_) => false,
-        Tree::List(list) => list.as_slice().iter().all(|tree| is_parameter(tree)),
+        Tree::List(list) => are_parameters(list.as_slice()),
     }
+}
+
+fn are_sorts(list: &[Tree]) -> bool
+    ensures form { result ≡ form.all_trees form.is_sort_tree (seen list.now) }
+{
+    for tree in list {
+        if !is_sort_tree(tree) {
+            return false;
+        }
+    }
+    true
 }
 
 fn is_list_of_sorts(tree: &Tree) -> bool
@@ -198,8 +220,19 @@ fn is_list_of_sorts(tree: &Tree) -> bool
 {
     match tree {
         Tree::Word(_) => false,
-        Tree::List(list) => list.as_slice().iter().all(|tree| is_sort_tree(tree)),
+        Tree::List(list) => are_sorts(list.as_slice()),
     }
+}
+
+fn are_literals(list: &[Tree]) -> bool
+    ensures form { result ≡ form.all_trees form.is_literal_form (seen list.now) }
+{
+    for tree in list {
+        if !is_literal_form(tree) {
+            return false;
+        }
+    }
+    true
 }
 
 fn is_list_of_literals(tree: &Tree) -> bool
@@ -207,7 +240,7 @@ fn is_list_of_literals(tree: &Tree) -> bool
 {
     match tree {
         Tree::Word(_) => false,
-        Tree::List(list) => list.as_slice().iter().all(|tree| is_literal_form(tree)),
+        Tree::List(list) => are_literals(list.as_slice()),
     }
 }
 
@@ -217,7 +250,7 @@ fn is_list_of_values(tree: &Tree) -> bool
 {
     match tree {
         Tree::Word(_) => false,
-        Tree::List(list) => !list.as_slice().is_empty() && are_term_trees(list.as_slice()),
+        Tree::List(list) => !is_empty(list.as_slice()) && are_term_trees(list.as_slice()),
     }
 }
 
@@ -281,7 +314,7 @@ fn is_assuming_form(arguments: &[Tree]) -> bool
 fn is_level_form(arguments: &[Tree]) -> bool
     ensures form { result ≡ form.is_level_form (seen arguments.now) }
 {
-    arguments.is_empty() || is_one_numeral(arguments)
+    is_empty(arguments) || is_one_numeral(arguments)
 }
 
 fn is_one_numeral(arguments: &[Tree]) -> bool
@@ -352,17 +385,17 @@ fn is_wish_form(arguments: &[Tree]) -> bool
 fn are_wish_attributes(weight: bool, group: bool, attributes: &[Tree]) -> bool
     ensures form { result ≡ form.are_wish_attributes weight group (seen attributes.now) }
 {
-    let Some((key, value, others)) = attribute(attributes) else {
-        return attributes.is_empty();
-    };
-    match wish_attribute(key) {
-        WishAttribute::Weight => {
-            !weight && is_number_tree(value) && are_wish_attributes(true, group, others)
-        }
-        WishAttribute::Group => {
-            !group && is_name_tree(value) && are_wish_attributes(weight, true, others)
-        }
-        WishAttribute::Other => false,
+    match attribute(attributes) {
+        Some((key, value, others)) => match wish_attribute(key) {
+            WishAttribute::Weight => {
+                !weight && is_number_tree(value) && are_wish_attributes(true, group, others)
+            }
+            WishAttribute::Group => {
+                !group && is_name_tree(value) && are_wish_attributes(weight, true, others)
+            }
+            WishAttribute::Other => false,
+        },
+        None => is_empty(attributes),
     }
 }
 
@@ -420,7 +453,7 @@ fn is_info_form(arguments: &[Tree]) -> bool
 {
     match arguments.split_first() {
         Some((keyword, values)) => {
-            is_keyword_tree(keyword) && (values.is_empty() || is_one_value(values))
+            is_keyword_tree(keyword) && (is_empty(values) || is_one_value(values))
         }
         None => false,
     }

@@ -5,7 +5,7 @@ ghost use Rattle.nz_spec.specs.Tree.{node};
 ghost use Rattle.nz_spec.specs.Form as form;
 ghost use Rattle.nz_sort.specs.Form.{seen, head_meaning};
 
-use crate::form::{headed, is_name, is_name_tree, is_number, is_symbol, pair};
+use crate::form::{headed, is_empty, is_name, is_name_tree, is_number, is_symbol, pair};
 use nz_sexpr::{Token, Tree};
 
 /// What a list begins with that may be a term.
@@ -51,7 +51,7 @@ fn is_term_list(list: &[Tree]) -> bool
         return false;
     };
     match term_head(head) {
-        TermHead::Name => !arguments.is_empty() && are_term_trees(arguments),
+        TermHead::Name => !is_empty(arguments) && are_term_trees(arguments),
         TermHead::Let => is_let_form(arguments),
         TermHead::Other => false,
     }
@@ -86,7 +86,7 @@ fn is_binding_list(tree: &Tree) -> bool
 {
     match tree {
         Tree::Word(_) => false,
-        Tree::List(list) => !list.as_slice().is_empty() && are_bindings(list.as_slice()),
+        Tree::List(list) => !is_empty(list.as_slice()) && are_bindings(list.as_slice()),
     }
 }
 

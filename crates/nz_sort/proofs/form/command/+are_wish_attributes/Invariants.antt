@@ -2,5 +2,5 @@ use Rattle.nz_sort.specs.Elaborate.{trees_size}
 use Rattle.nz_sort.specs.Form.{seen}
 use Rattle.nz_sort.proofs.form.command.+are_wish_attributes.Given as goal
 
-abbrev pub decreases : goal.decreases
-decreases l = trees_size (seen l.attributes.now)
+abbrev pub decreases-are_wish_attributes : goal.decreases-are_wish_attributes
+decreases-are_wish_attributes l = trees_size (seen l.attributes.now)

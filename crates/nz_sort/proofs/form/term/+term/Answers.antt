@@ -1,0 +1,18 @@
+use Rattle.std.proofs.Common.{◌<◌, arith, map}
+use Rattle.nz_sexpr.specs.View.{view}
+use Rattle.nz_sort.specs.Elaborate.{tree_size, trees_size}
+use Rattle.nz_sort.specs.Form.{seen}
+use Rattle.nz_sort.proofs.Elaborating.{item_smaller}
+use Rattle.nz_sort.proofs.form.term.+term.Goals as goal
+
+pub are_bindings-is_binding-requires : goal.are_bindings-is_binding-requires
+are_bindings-is_binding-requires t c =
+    let smaller : tree_size (view c.tree-item.result) < trees_size (seen c.args.list.now) =
+    item_smaller view c.args.list.now c.loop-tree.tree-index c.tree-item.result c.loop-tree-test.true c.tree-item.is in
+    (omega arith, tt)
+
+pub are_term_trees-is_term_tree-requires : goal.are_term_trees-is_term_tree-requires
+are_term_trees-is_term_tree-requires t c =
+    let smaller : tree_size (view c.tree-item.result) < trees_size (seen c.args.list.now) =
+    item_smaller view c.args.list.now c.loop-tree.tree-index c.tree-item.result c.loop-tree-test.true c.tree-item.is in
+    (omega arith, tt)
