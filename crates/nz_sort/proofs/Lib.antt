@@ -5,3 +5,4 @@ pub mod Living
 pub mod Nameless
 pub mod Naming
 pub mod Normalizing
+pub mod Ruling
