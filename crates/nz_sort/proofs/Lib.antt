@@ -6,3 +6,4 @@ pub mod Nameless
 pub mod Naming
 pub mod Normalizing
 pub mod Ruling
+pub mod Zeros

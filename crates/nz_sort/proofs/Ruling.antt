@@ -1,11 +1,15 @@
 -- What becomes of a command, by the rules in their order.
-use Rattle.std.proofs.Common.{◌≡◌, ◌||◌, ℕ, List, Option, Some, None, Bool, true, false, not, cond, refl, sym, ap, ◌∙◌}
+use Rattle.std.proofs.Common.{◌≡◌, ◌||◌, ℕ, List, Option, Some, None, IfSome, Bool, true, false, not, cond, refl, sym, ap, ◌∙◌}
 use Rattle.nz_spec.specs.Tree.{Token, symbol_name, Tree, leaf, node, Trees, trees, no_trees}
 use Rattle.nz_spec.specs.Bounds.{have_token, is_wide_token, is_long_decimal}
 use Rattle.nz_spec.specs.Form.{CommandName, declare_const_name, assert_name, command_name, has_form, is_name, tree_symbol}
 use Rattle.nz_spec.specs.Script.{State, Outcome, refused, not_taken, outcome_of, outcome_named, outcome_by, passes_limit, takes_command, declaration_of}
 use Rattle.nz_sort.specs.Form.{IsHeadless, IsNotOne, IsNotTwo}
 use Rattle.nz_sort.specs.Commands.{IsNamed}
+
+pub if_some_weaker : {P Q : ℕ → Type 0} (o : Option ℕ) → ((n : ℕ) → P n → Q n) → IfSome o P → IfSome o Q
+if_some_weaker None f h = tt
+if_some_weaker (Some n) f h = f n h
 
 -- ---- The rules before names and sorts
 

@@ -230,15 +230,17 @@ fn declare(
     let Some((name, sort)) = declared(arguments) else {
         return Err(Refusal::Syntax);
     };
-    if let Some(refusal) = declaration_refusal(names, name, sort) {
-        return Err(refusal);
-    }
-    let mark = terms.mark();
-    match add_constant(alloc, names, terms, name) {
-        Ok(()) => Ok(()),
-        Err(Memory) => {
-            terms.cut(mark);
-            Err(Refusal::Memory)
+    match declaration_refusal(names, name, sort) {
+        Some(refusal) => Err(refusal),
+        None => {
+            let mark = terms.mark();
+            match add_constant(alloc, names, terms, name) {
+                Ok(()) => Ok(()),
+                Err(Memory) => {
+                    terms.cut(mark);
+                    Err(Refusal::Memory)
+                }
+            }
         }
     }
 }
