@@ -1,5 +1,6 @@
 -- How the code takes trees apart to tell their form.
-use Rattle.std.specs.Prelude.{List, map, ⊤}
+use Rattle.std.specs.Prelude.{ℕ, List, map, ⊤}
+use Rattle.std.specs.Borrow.{Bor}
 use Rattle.nz_spec.specs.Tree.{Tree, leaf, node, Trees, no_trees, trees}
 use Rattle.nz_spec.specs.Reading.{trees_from}
 use Rattle.nz_sexpr.specs.View.{view}
@@ -77,3 +78,6 @@ command_meaning commands.SetInfo = form.set_info_name
 command_meaning commands.SetLogic = form.set_logic_name
 command_meaning commands.SetOption = form.set_option_name
 command_meaning commands.Other = form.other_name
+
+abbrev pub entry_meaning : Bor (List ℕ) × command.CommandName → List ℕ × form.CommandName
+entry_meaning e = (e.0.now, command_meaning e.1)

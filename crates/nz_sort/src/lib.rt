@@ -13,6 +13,8 @@ mod operators;
 mod refusal;
 mod scope;
 mod taken;
+#[cfg(test)]
+mod tests;
 mod tokens;
 
 pub use elaboration::{ElaborateError, elaborate};

@@ -1,0 +1,152 @@
+//! The form of commands, and tests of their tokens, on trees of the standard's and of this program's own.
+use crate::{TokenTest, has_token, is_of_form};
+use nz_base::{Memory, Text};
+use nz_sexpr::{Token, Tree, TreeList};
+use std::alloc::Global;
+use std::mem;
+use std::test::Fail;
+
+/// The token that a word is, told by its first byte, and a decimal by its point.
+fn token(alloc: Global, word: &[u8]) -> Result<Token, Memory> {
+    let text = Text::from_slice(alloc, word)?;
+    match word {
+        [b':', ..] => Ok(Token::Keyword(text)),
+        [b'"', ..] => Ok(Token::Literal(text)),
+        [b'0'..=b'9', ..] if word.contains(&b'.') => Ok(Token::Decimal(text)),
+        [b'0'..=b'9', ..] => Ok(Token::Numeral(text)),
+        _ => Ok(Token::Symbol(text)),
+    }
+}
+
+/// The list of the words between spaces, parentheses among them.
+fn list(alloc: Global, words: &str) -> Result<Tree, Memory> {
+    let mut inner = TreeList::new(alloc);
+    let mut outer = Vec::new(alloc);
+    for word in words.as_bytes().split(|byte| *byte == b' ') {
+        if word == b"(".as_slice() {
+            outer.push(mem::replace(&mut inner, TreeList::new(alloc)))?;
+        } else if word == b")".as_slice() {
+            if let Some(around) = outer.pop() {
+                let closed = mem::replace(&mut inner, around);
+                inner.push(Tree::List(closed))?;
+            }
+        } else {
+            inner.push(Tree::Word(token(alloc, word)?))?;
+        }
+    }
+    Ok(Tree::List(inner))
+}
+
+#[test]
+fn takes_what_is_of_its_form(rt: HostRuntime) -> Result<(), Fail> {
+    let commands = [
+        "set-logic QF_LRA",
+        "set-option :print-success false",
+        "set-option :opt.priority pareto",
+        "set-option :random-seed 7",
+        "set-info :status sat",
+        "set-info :notes",
+        "declare-const x Int",
+        "declare-fun f ( Int Bool ) Real",
+        "define-fun f ( ( x Int ) ( y ( Array Int ) ) ) Int ( + x y )",
+        "assert ( let ( ( x 1 ) ( y 2.5 ) ) ( < x y ) )",
+        "assert-soft a :id goal :weight 0.5",
+        "check-sat-assuming ( a ( not b ) )",
+        "check-sat-assuming ( )",
+        "get-value ( x ( + x 1 ) )",
+        "push",
+        "pop 2",
+        "echo \"a",
+        "get-info :name",
+        "frob 1 ( )",
+    ];
+    for command in commands {
+        assert_eq!(rt; is_of_form(&list(rt.alloc(), command)?), true, "{command}");
+    }
+    Ok(())
+}
+
+#[test]
+fn refuses_what_is_not(rt: HostRuntime) -> Result<(), Fail> {
+    let commands = [
+        "1 2",
+        "( f ) x",
+        "let x",
+        "set-logic let",
+        "set-option :print-success maybe",
+        "set-option :random-seed",
+        "set-info :status :sat",
+        "declare-const 1 Int",
+        "declare-fun f Int",
+        "define-fun f ( x ) Int x",
+        "assert ( )",
+        "assert ( f )",
+        "assert ( let ( ) x )",
+        "assert ( ! x :named y )",
+        "assert \"a",
+        "assert-soft a :weight 1 :weight 2",
+        "assert-soft a :weight",
+        "check-sat-assuming ( ( not a b ) )",
+        "get-value ( )",
+        "push 1 2",
+        "push 1.0",
+        "echo a",
+        "get-info :name 1",
+        "check-sat 1",
+    ];
+    for command in commands {
+        assert_eq!(rt; is_of_form(&list(rt.alloc(), command)?), false, "{command}");
+    }
+    Ok(())
+}
+
+#[test]
+fn tells_numbers(rt: HostRuntime) -> Result<(), Fail> {
+    let commands = [
+        ("f x :a", TokenTest::OfNumberTerm, false),
+        ("f ( x ( 0.0 ) )", TokenTest::OfNumberTerm, true),
+        (
+            "f 170141183460469231731687303715884105727",
+            TokenTest::Wide,
+            false,
+        ),
+        (
+            "f 170141183460469231731687303715884105728",
+            TokenTest::Wide,
+            true,
+        ),
+        (
+            "f ( 1.70141183460469231731687303715884105727 )",
+            TokenTest::Wide,
+            false,
+        ),
+        (
+            "f ( 1.70141183460469231731687303715884105728 )",
+            TokenTest::Wide,
+            true,
+        ),
+        (
+            "f 0.0000000000000000000000000000000000000000000000001",
+            TokenTest::Wide,
+            false,
+        ),
+        (
+            "f 0.00000000000000000000000000000000000001",
+            TokenTest::LongDecimal,
+            false,
+        ),
+        (
+            "f 0.000000000000000000000000000000000000001",
+            TokenTest::LongDecimal,
+            true,
+        ),
+    ];
+    for (command, test, want) in commands {
+        assert_eq!(rt;
+            has_token(&list(rt.alloc(), command)?, test),
+            want,
+            "{command}"
+        );
+    }
+    Ok(())
+}
