@@ -142,6 +142,7 @@ impl Live {
     }
 
     /// Carries out a command that the program takes, over arguments of its form.
+    #[tactic(auto, using(crate::proofs::Living::leaves_checked))]
     fn carry_out(
         &mut self,
         terms: &mut Terms,
