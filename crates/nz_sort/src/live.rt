@@ -195,6 +195,7 @@ fn name_and_arguments(tree: &Tree) -> Option<(CommandName, &[Tree])>
 }
 
 /// The same of the trees of a list.
+#[tactic(auto, using(crate::proofs::Ruling::headless, crate::proofs::Ruling::nameless, crate::proofs::Ruling::named))]
 fn named_list(list: &[Tree]) -> Option<(CommandName, &[Tree])>
     ensures command { IfSome result (λ p. (s : State) → outcome_of s (node (seen list.now)) ≡ outcome_named s (command_meaning p.0) (seen p.1.now)) }
     ensures none { IfNone result ((s : State) → outcome_of s (node (seen list.now)) ≡ refused 1) }
@@ -247,6 +248,7 @@ fn declare(
 }
 
 /// The name and the sort of a constant that is declared.
+#[tactic(auto, using(crate::proofs::Ruling::declares_nothing, crate::proofs::Ruling::declares_no_name, crate::proofs::Ruling::declares))]
 fn declared(arguments: &[Tree]) -> Option<(&Text, &Tree)>
     ensures declaration { IfSome result (λ p. (s : State) → outcome_by s declare_const_name (seen arguments.now) ≡ declaration_of s p.0.now (view p.1.now)) }
     ensures none { IfNone result ((s : State) → outcome_by s declare_const_name (seen arguments.now) ≡ refused 1) }
@@ -303,6 +305,7 @@ fn add_constant(
 }
 
 /// Asserts the term of a tree.
+#[tactic(auto, using(crate::proofs::Ruling::asserts_nothing))]
 fn assert_term(
     alloc: Global,
     names: &Names,
