@@ -1,4 +1,5 @@
-use Rattle.std.proofs.Common.{◌∙◌, ap, refl, sym, subst}
+use Rattle.std.proofs.Common.{◌∙◌, ap, Err, sym, subst}
+use Rattle.nz_sexpr.specs.View.{view}
 use Rattle.nz_spec.specs.Form.{assert_name}
 use Rattle.nz_spec.specs.Script.{constants_of, outcome_by}
 use Rattle.nz_sort.specs.Live.{IsAccepted, changed}
@@ -8,14 +9,14 @@ use Rattle.nz_sort.proofs.live.assert_term.Goals as goal
 pub returns-then-has_unknown_symbol-clause-refused : goal.returns-then-has_unknown_symbol-clause-refused
 returns-then-has_unknown_symbol-clause-refused c = λ s live.
     ap (outcome_by s assert_name) c.in-Some.ensures.one
-    ∙ unknown_assertion _ _ s _ live (sym c.has_unknown_symbol.ensures.found ∙ c.if-has_unknown_symbol.true)
+    ∙ unknown_assertion _ _ s (view c.in-Some.tree.now) live (sym c.has_unknown_symbol.ensures.found ∙ c.if-has_unknown_symbol.true)
 
 pub returns-in-Ok-clause-accepted : goal.returns-in-Ok-clause-accepted
 returns-in-Ok-clause-accepted c = λ s live.
     subst (λ ts. IsAccepted s (outcome_by s assert_name ts) changed c.add_assertion.new.terms (record { names = c.args.names.now; asserted = c.add_assertion.new.asserted.items })) (sym c.in-Some.ensures.one)
-    (leaves_asserted _ _ _ _ _ s _ c.add_assertion.ensures.grows (sym c.has_unknown_symbol.ensures.found ∙ c.if-has_unknown_symbol.false) (c.in-Ok.ensures.added (constants_of s) live.named) live)
+    (leaves_asserted _ _ _ _ _ s (view c.in-Some.tree.now) c.add_assertion.ensures.grows (sym c.has_unknown_symbol.ensures.found ∙ c.if-has_unknown_symbol.false) (c.in-Ok.ensures.added (constants_of s) live.named) live)
 
 pub returns-in-Err-Sort-clause-refused : goal.returns-in-Err-Sort-clause-refused
 returns-in-Err-Sort-clause-refused c = λ s live.
     ap (outcome_by s assert_name) c.in-Some.ensures.one
-    ∙ untyped_assertion _ _ s _ live (sym c.has_unknown_symbol.ensures.found ∙ c.if-has_unknown_symbol.false) (c.in-Err-Sort.ensures.refused refl (constants_of s) live.named)
+    ∙ untyped_assertion _ _ s (view c.in-Some.tree.now) live (sym c.has_unknown_symbol.ensures.found ∙ c.if-has_unknown_symbol.false) (c.in-Err-Sort.ensures.refused (ap Err c.in-Err-Sort.field-0-is) (constants_of s) live.named)
