@@ -188,9 +188,20 @@ fn name_and_arguments(tree: &Tree) -> Option<(CommandName, &[Tree])>
     ensures command { IfSome result (λ p. (s : State) → outcome_of s (view tree.now) ≡ outcome_named s (command_meaning p.0) (seen p.1.now)) }
     ensures none { IfNone result ((s : State) → outcome_of s (view tree.now) ≡ refused 1) }
 {
+    match trees_of(tree) {
+        Some(list) => named_list(list),
+        None => None,
+    }
+}
+
+/// The trees of a list.
+fn trees_of(tree: &Tree) -> Option<&[Tree]>
+    ensures list { IfSome result (λ list. view tree.now ≡ node (seen list.now)) }
+    ensures none { IfNone result ((s : State) → outcome_of s (view tree.now) ≡ refused 1) }
+{
     match tree {
         Tree::Word(_) => None,
-        Tree::List(list) => named_list(list.as_slice()),
+        Tree::List(list) => Some(list.as_slice()),
     }
 }
 
