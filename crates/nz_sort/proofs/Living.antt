@@ -1,24 +1,22 @@
 -- The live state after commands.
-use Rattle.std.proofs.Common.{◌||◌, ◌-◌, ◌≡◌, ◌⊎◌, inl, inr, ℕ, zero, suc, ◌<◌, List, [], ◌∷◌, ◌++◌, length, map, Option, None, Some, is_some, is_none, option_map, Bool, true, false, not, ◌&&◌, nat_lt, cond, bytes_eq, slice_get, get_or, All, refl, sym, ap, ◌∙◌, append_assoc, append-nil, length-append, subst, arith, codes}
+use Rattle.std.proofs.Common.{◌||◌, ◌-◌, ◌≡◌, ◌⊎◌, inl, inr, ℕ, zero, suc, ◌<◌, List, [], ◌∷◌, ◌++◌, length, map, Option, None, Some, is_some, Bool, true, false, not, cond, bytes_eq, slice_get, All, refl, sym, ap, ◌∙◌, append_assoc, append-nil, length-append, subst, arith, codes}
 use Rattle.std.proofs.lemmas.Grind.{flat_map-append}
 use Rattle.std.proofs.lemmas.List.Elements.{All-head, All-tail, All-append, All-cons, All-nil, All-weaker}
 use Rattle.std.proofs.lemmas.List.{map-append}
 use Rattle.std.proofs.lemmas.Option.{slice_get_within}
 use Rattle.std.specs.Cmp.Lexicographic.{nat_list_eq_equiv}
 use Rattle.std.specs.List.{AllByRecursion, IsDistinct}
-use Rattle.nz_sexpr.specs.declared.tree.Tree as code
-use Rattle.nz_sexpr.specs.View.{view}
-use Rattle.nz_spec.specs.Tree.{Token, symbol, symbol_name, Tree, leaf, node, Trees, trees, no_trees}
+use Rattle.nz_spec.specs.Tree.{Token, symbol_name, Tree, leaf, node, Trees, trees, no_trees}
 use Rattle.nz_spec.specs.Bounds.{has_token, have_token}
 use Rattle.nz_spec.specs.Form.{is_one_of, is_symbol}
-use Rattle.nz_spec.specs.Term.{bool_sort, Constant, Head, constant, verum, falsum, negation, conjunction, disjunction, implication, exclusion, equality, distinction, choice, apply, no_terms, normal_of}
+use Rattle.nz_spec.specs.Term.{Constant, Head, constant, verum, falsum, negation, conjunction, disjunction, implication, exclusion, equality, distinction, choice, apply, no_terms, normal_of}
 use Rattle.nz_spec.specs.Table.{Node, term_in}
 use Rattle.nz_spec.specs.Decide.{constants_of_head, constants_in_table}
-use Rattle.nz_spec.specs.Script.{State, Item, declared, asserted, items_of, constants_in, assertions_in, constants_of, assertions_of, with_item, pushed_levels, Command, declare_const, assert_term, check_sat, get_model, get_reason, exit, Outcome, accepted, refused, operators, is_declared, is_unknown_symbol, declaration_of, assertion_of, term_of, constant_named}
+use Rattle.nz_spec.specs.Script.{State, Item, declared, asserted, items_of, constants_in, assertions_in, constants_of, assertions_of, with_item, declare_const, assert_term, check_sat, Outcome, accepted, refused, operators, is_declared, is_unknown_symbol, declaration_of, assertion_of, term_of, constant_named}
 use Rattle.nz_spec.proofs.Tables.{term_stays}
 use Rattle.nz_sort.specs.Names.{number_named, AreNamesOf}
 use Rattle.nz_sort.specs.Elaborate.{IsOperator, Grows}
-use Rattle.nz_sort.specs.Live.{Standing, IsLive, Ask, ask_of, IsAccepted, changed, check, show_model, show_reason, leave}
+use Rattle.nz_sort.specs.Live.{Standing, IsLive, IsAccepted, changed, check}
 use Rattle.nz_sort.specs.Commands.{is_listed, is_unlisted, bool_constant, declaration_by, HasAdded, HasAsserted}
 
 -- ---- Items

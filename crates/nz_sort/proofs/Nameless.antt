@@ -1,7 +1,7 @@
 -- Lists that begin with no symbol.
 use Rattle.std.proofs.Common.{◌≡◌, ℕ, List, Option, Some, None, ap, refl, option_and_then}
-use Rattle.nz_spec.specs.Tree.{symbol, symbol_name, Tree, leaf, node, Trees, trees, no_trees}
-use Rattle.nz_spec.specs.Term.{Constant, Term}
+use Rattle.nz_spec.specs.Tree.{Tree, leaf, node, Trees, trees}
+use Rattle.nz_spec.specs.Term.{Constant}
 use Rattle.nz_spec.specs.Script.{term_of, terms_of, operation_of}
 use Rattle.nz_sort.specs.Elaborate.{name_of}
 

@@ -1,9 +1,9 @@
 -- What becomes of a command, by the rules in their order.
-use Rattle.std.proofs.Common.{◌≡◌, ◌||◌, ℕ, List, Option, Some, None, IfSome, Bool, true, false, not, cond, refl, sym, ap, ◌∙◌}
-use Rattle.nz_spec.specs.Tree.{Token, symbol_name, Tree, leaf, node, Trees, trees, no_trees}
+use Rattle.std.proofs.Common.{◌≡◌, ◌||◌, ℕ, List, Option, Some, None, IfSome, true, false, refl, ap}
+use Rattle.nz_spec.specs.Tree.{Token, Tree, leaf, node, Trees, trees, no_trees}
 use Rattle.nz_spec.specs.Bounds.{have_token, is_wide_token, is_long_decimal}
 use Rattle.nz_spec.specs.Form.{CommandName, declare_const_name, assert_name, command_name, has_form, is_name, tree_symbol}
-use Rattle.nz_spec.specs.Script.{State, Outcome, refused, not_taken, outcome_of, outcome_named, outcome_by, passes_limit, takes_command, declaration_of}
+use Rattle.nz_spec.specs.Script.{State, refused, not_taken, outcome_of, outcome_named, outcome_by, passes_limit, takes_command, declaration_of}
 use Rattle.nz_sort.specs.Form.{IsHeadless, IsNotOne, IsNotTwo}
 use Rattle.nz_sort.specs.Commands.{IsNamed}
 

@@ -1,5 +1,5 @@
 -- How the code takes a command apart.
-use Rattle.std.specs.Prelude.{◌≡◌, ℕ, ◌||◌, not, Bool, true, false, List, [], ◌∷◌, ◌++◌, Option, Some, None, is_some, codes, bytes_eq, slice_get, ◌⊎◌, if◌then◌else◌}
+use Rattle.std.specs.Prelude.{◌≡◌, ℕ, ◌||◌, not, Bool, true, false, List, [], ◌∷◌, ◌++◌, Some, None, is_some, codes, bytes_eq, slice_get, ◌⊎◌, if◌then◌else◌}
 use Rattle.nz_spec.specs.Tree.{Token, symbol_name, Tree, leaf, node}
 use Rattle.nz_spec.specs.Term.{bool_sort, Constant, constant, apply, no_terms}
 use Rattle.nz_spec.specs.Table.{Node, term_in}

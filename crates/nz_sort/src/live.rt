@@ -205,7 +205,7 @@ fn trees_of(tree: &Tree) -> Option<&[Tree]>
     }
 }
 
-/// The same of the trees of a list.
+/// The name that the trees of a list begin with, and those after it.
 #[tactic(auto, using(crate::proofs::Ruling::headless, crate::proofs::Ruling::nameless, crate::proofs::Ruling::named))]
 fn named_list(list: &[Tree]) -> Option<(CommandName, &[Tree])>
     ensures command { IfSome result (λ p. (s : State) → outcome_of s (node (seen list.now)) ≡ outcome_named s (command_meaning p.0) (seen p.1.now)) }
