@@ -5,11 +5,11 @@ use Rattle.nz_spec.specs.Tree.{before_point, after_point}
 use Rattle.nz_spec.specs.Bounds.{value_onto, greatest_number, are_wide, decimal_digits}
 
 -- further digits spell no smaller number
-value_grows : (n : ℕ) (bs : List ℕ) → n ≤ value_onto n bs
+pub value_grows : (n : ℕ) (bs : List ℕ) → n ≤ value_onto n bs
 value_grows n [] = omega arith
 value_grows n (b ∷ bs) = omega (arith, value_grows (10 * n + (b - 48)) bs)
 
-value_append : (n : ℕ) (xs ys : List ℕ) → value_onto n (xs ++ ys) ≡ value_onto (value_onto n xs) ys
+pub value_append : (n : ℕ) (xs ys : List ℕ) → value_onto n (xs ++ ys) ≡ value_onto (value_onto n xs) ys
 value_append n [] ys = refl
 value_append n (x ∷ xs) ys = value_append (10 * n + (x - 48)) xs ys
 

@@ -15,8 +15,8 @@ use Rattle.nz_sort.specs.Names.{number_named, AreNamesOf}
 use Rattle.nz_sort.specs.Elaborate.{IsOperator, Grows, StandsFor, Elaborates, EachElaborates, ElaboratesAll, tree_size, trees_size}
 use Rattle.nz_sort.specs.Operators.{operator_head, Splits}
 use Rattle.nz_sort.specs.declared.operators.Operator.{Operator}
-use Rattle.nz_sort.specs.declared.elaboration.Refusal.{Refusal}
-use Rattle.nz_sort.specs.declared.elaboration.Refusal.TheVariants.{Unsupported}
+use Rattle.nz_sort.specs.declared.elaboration.ElaborateError.{ElaborateError}
+use Rattle.nz_sort.specs.declared.elaboration.ElaborateError.TheVariants.{Sort}
 
 -- ---- A table that grows
 
@@ -89,7 +89,7 @@ finds_none ns (p ∷ ps) (c ∷ cs) name a e =
 
 -- what a name gives that is no truth value
 pub atom_listed : (ns : List Node) (ps : List (List ℕ × ℕ)) (name : List ℕ) → bytes_eq name (codes "true") ≡ false → bytes_eq name (codes "false") ≡ false
-    → (o : Option ℕ) → o ≡ number_named ps name → (r : Result ℕ Refusal) → r ≡ ok_or o Unsupported
+    → (o : Option ℕ) → o ≡ number_named ps name → (r : Result ℕ ElaborateError) → r ≡ ok_or o Sort
     → IfOk r (λ id. (cs : List Constant) → AreNamesOf ns ps cs → Elaborates cs (leaf (symbol name)) ns id)
 atom_listed ns ps name h k None e r is = rw is tt
 atom_listed ns ps name h k (Some id) e r is =
@@ -103,11 +103,11 @@ atom_listed ns ps name h k (Some id) e r is =
     }))
 
 pub atom_unlisted : (ns : List Node) (ps : List (List ℕ × ℕ)) (name : List ℕ) → bytes_eq name (codes "true") ≡ false → bytes_eq name (codes "false") ≡ false
-    → (o : Option ℕ) → o ≡ number_named ps name → (r : Result ℕ Refusal) → r ≡ ok_or o Unsupported
-    → IsErrOf r Unsupported → (cs : List Constant) → AreNamesOf ns ps cs → atom_of cs name ≡ None
+    → (o : Option ℕ) → o ≡ number_named ps name → (r : Result ℕ ElaborateError) → r ≡ ok_or o Sort
+    → IsErrOf r Sort → (cs : List Constant) → AreNamesOf ns ps cs → atom_of cs name ≡ None
 atom_unlisted ns ps name h k None e r is err = λ cs a. (let none : constant_named cs name ≡ None = finds_none ns ps cs name a (sym e) in rw (h, k, none) refl)
 atom_unlisted ns ps name h k (Some id) e r is err =
-    let both : ok_or (Some id) Unsupported ≡ Err Unsupported = sym is ∙ err in
+    let both : ok_or (Some id) Sort ≡ Err Sort = sym is ∙ err in
     cc
 
 -- the number of a truth value
@@ -237,7 +237,7 @@ operation_refused cs ts o arguments mid ids s e refused =
     term_of-split cs ts o arguments s ∙ ap (option_and_then (applied h)) e.stands ∙ none
 
 -- the same, of what was returned
-pub operation_returned : (r : Result ℕ Refusal) (ts : List Tree) (o : Operator) (arguments : List Tree) (start mid new : List Node) (ps : List (List ℕ × ℕ)) (ids shown : List ℕ)
+pub operation_returned : (r : Result ℕ ElaborateError) (ts : List Tree) (o : Operator) (arguments : List Tree) (start mid new : List Node) (ps : List (List ℕ × ℕ)) (ids shown : List ℕ)
     → Splits ts o arguments → shown ≡ ids → ((cs : List Constant) → AreNamesOf start ps cs → ElaboratesAll cs arguments mid ids)
     → OnOk r (takes (operator_head o) (length shown) ≡ true)
     → IfOk r (λ id. StandsFor new id (normal_node (operator_head o) (terms_at (term_in mid) shown)))

@@ -5,3 +5,5 @@ pub mod Living
 pub mod Nameless
 pub mod Naming
 pub mod Normalizing
+pub mod Ruling
+pub mod Zeros

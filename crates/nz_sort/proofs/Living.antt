@@ -1,76 +1,23 @@
 -- The live state after commands.
-use Rattle.std.proofs.Common.{◌≡◌, ◌⊎◌, inl, inr, ℕ, zero, suc, ◌<◌, List, [], ◌∷◌, ◌++◌, length, map, Option, None, Some, is_some, is_none, option_map, Bool, true, false, not, ◌&&◌, nat_lt, cond, bytes_eq, slice_get, get_or, All, refl, sym, ap, ◌∙◌, append_assoc, append-nil, length-append, subst, arith, codes}
+use Rattle.std.proofs.Common.{◌||◌, ◌-◌, ◌≡◌, ◌⊎◌, inl, inr, ℕ, zero, suc, ◌<◌, List, [], ◌∷◌, ◌++◌, length, map, Option, None, Some, is_some, Bool, true, false, not, cond, bytes_eq, slice_get, All, refl, sym, ap, ◌∙◌, append_assoc, append-nil, length-append, subst, arith, codes}
 use Rattle.std.proofs.lemmas.Grind.{flat_map-append}
 use Rattle.std.proofs.lemmas.List.Elements.{All-head, All-tail, All-append, All-cons, All-nil, All-weaker}
 use Rattle.std.proofs.lemmas.List.{map-append}
 use Rattle.std.proofs.lemmas.Option.{slice_get_within}
 use Rattle.std.specs.Cmp.Lexicographic.{nat_list_eq_equiv}
 use Rattle.std.specs.List.{AllByRecursion, IsDistinct}
-use Rattle.nz_sexpr.specs.declared.tree.Tree as code
-use Rattle.nz_sexpr.specs.View.{view}
-use Rattle.nz_spec.specs.Tree.{Tree, leaf, node, symbol, Trees, trees, no_trees}
-use Rattle.nz_spec.specs.Reading.{trees_from}
+use Rattle.nz_spec.specs.Tree.{Token, symbol_name, Tree, leaf, node, Trees, trees, no_trees}
+use Rattle.nz_spec.specs.Bounds.{has_token, have_token}
+use Rattle.nz_spec.specs.Form.{is_one_of, is_symbol}
 use Rattle.nz_spec.specs.Term.{Constant, Head, constant, verum, falsum, negation, conjunction, disjunction, implication, exclusion, equality, distinction, choice, apply, no_terms, normal_of}
 use Rattle.nz_spec.specs.Table.{Node, term_in}
 use Rattle.nz_spec.specs.Decide.{constants_of_head, constants_in_table}
-use Rattle.nz_spec.specs.Script.{State, Item, declared, asserted, items_of, constants_in, assertions_in, constants_of, assertions_of, with_item, Command, declare_const, assert_term, check_sat, get_model, exit, command_of, command_named, declaration_of, assertion_of, alone, can_declare, is_one_of, reserved_words, operators, constant_limit, constant_named}
+use Rattle.nz_spec.specs.Script.{State, Item, declared, asserted, items_of, constants_in, assertions_in, constants_of, assertions_of, with_item, declare_const, assert_term, check_sat, Outcome, accepted, refused, operators, is_declared, is_unknown_symbol, declaration_of, assertion_of, term_of, constant_named}
 use Rattle.nz_spec.proofs.Tables.{term_stays}
 use Rattle.nz_sort.specs.Names.{number_named, AreNamesOf}
 use Rattle.nz_sort.specs.Elaborate.{IsOperator, Grows}
-use Rattle.nz_sort.specs.Live.{Standing, IsLive, Ask, IsCarriedOut, changed, check, show_model, leave}
-use Rattle.nz_sort.specs.Commands.{word_named, command_by, command_by_word, Leaves, may_declare, bool_constant, declaration_by, HasAdded, HasAsserted}
-use Rattle.nz_sort.specs.declared.live.Word.{Word}
-
--- ---- Words
-
-out_of_cond : {A B : Type 0} (f : A → B) (b : Bool) (x y : A) → f (cond b x y) ≡ cond b (f x) (f y)
-out_of_cond f b x y = elim b as (λ v. f (cond v x y) ≡ cond v (f x) (f y)) [ true ↦ refl | false ↦ refl ]
-
--- a command is by the word that it begins with
-pub command_by_its_word : (s : State) (name : List ℕ) (ts : Trees) → command_by_word s (word_named name) ts ≡ command_named s name ts
-command_by_its_word s name ts =
-    let f : Option Word → Option Command = λ w. command_by_word s w ts in
-    out_of_cond f (bytes_eq name (codes "declare-const")) _ _
-    ∙ ap (cond (bytes_eq name (codes "declare-const")) (declaration_of s ts))
-    (out_of_cond f (bytes_eq name (codes "assert")) _ _
-    ∙ ap (cond (bytes_eq name (codes "assert")) (assertion_of s ts))
-    (out_of_cond f (bytes_eq name (codes "check-sat")) _ _
-    ∙ ap (cond (bytes_eq name (codes "check-sat")) (alone check_sat ts))
-    (out_of_cond f (bytes_eq name (codes "get-model")) _ _
-    ∙ ap (cond (bytes_eq name (codes "get-model")) (cond (is_some s.model) (alone get_model ts) None))
-    (out_of_cond f (bytes_eq name (codes "exit")) _ _))))
-
--- ---- Arguments
-
--- a command without arguments takes none
-pub bare_with_arguments : (xs : List code.Tree) → (length xs ≡ 0 → ⊥) → (command : Command) → alone command (trees_from (map view xs)) ≡ None
-bare_with_arguments [] h command = absurd (h refl)
-bare_with_arguments (x ∷ xs) h command = refl
-
--- a declaration takes two trees
-declaration_of_one : (s : State) (t : Tree) → declaration_of s (trees t no_trees) ≡ None
-declaration_of_one s (leaf (symbol name)) = refl
-declaration_of_one s (leaf t) = refl
-declaration_of_one s (node ts) = refl
-
-declaration_of_more : (s : State) (t u v : Tree) (ts : Trees) → declaration_of s (trees t (trees u (trees v ts))) ≡ None
-declaration_of_more s (node xs) u v ts = refl
-declaration_of_more s (leaf (symbol name)) (node xs) v ts = refl
-declaration_of_more s (leaf (symbol name)) (leaf (symbol sort)) v ts = refl
-declaration_of_more s (leaf (symbol name)) (leaf u) v ts = refl
-declaration_of_more s (leaf t) u v ts = refl
-
-pub declaration_takes_two : (s : State) (xs : List code.Tree) → (length xs ≡ 2 → ⊥) → declaration_of s (trees_from (map view xs)) ≡ None
-declaration_takes_two s [] h = refl
-declaration_takes_two s (x ∷ []) h = declaration_of_one s (view x)
-declaration_takes_two s (x ∷ y ∷ []) h = absurd (h refl)
-declaration_takes_two s (x ∷ y ∷ z ∷ xs) h = declaration_of_more s (view x) (view y) (view z) (trees_from (map view xs))
-
--- an assertion takes one
-pub assertion_takes_one : (s : State) (xs : List code.Tree) → (length xs ≡ 1 → ⊥) → assertion_of s (trees_from (map view xs)) ≡ None
-assertion_takes_one s [] h = refl
-assertion_takes_one s (x ∷ []) h = absurd (h refl)
-assertion_takes_one s (x ∷ y ∷ xs) h = refl
+use Rattle.nz_sort.specs.Live.{Standing, IsLive, IsAccepted, changed, check}
+use Rattle.nz_sort.specs.Commands.{is_listed, is_unlisted, bool_constant, declaration_by, HasAdded, HasAsserted}
 
 -- ---- Items
 
@@ -97,27 +44,51 @@ assertions_with levels i = ap assertions_in (items_of-with_item levels i) ∙ as
 -- ---- Names and their constants
 
 named_together : (ns : List Node) (ps : List (List ℕ × ℕ)) (cs : List Constant) (name : List ℕ) → AreNamesOf ns ps cs
-    → is_none (number_named ps name) ≡ is_none (constant_named cs name)
+    → is_some (number_named ps name) ≡ is_some (constant_named cs name)
 named_together ns [] [] name h = refl
 named_together ns [] (c ∷ cs) name h = absurd h
 named_together ns (p ∷ ps) [] name h = absurd h
 named_together ns (p ∷ ps) (c ∷ cs) name h =
     let same : bytes_eq name p.0 ≡ bytes_eq c.name name = ap (bytes_eq name) h.0 ∙ nat_list_eq_equiv.symm name c.name in
     let rest = named_together ns ps cs name h.3 in
-    ap (λ b. is_none (cond b (Some p.1) (number_named ps name))) same
-    ∙ (elim (bytes_eq c.name name) as (λ b. is_none (cond b (Some p.1) (number_named ps name)) ≡ is_none (cond b (Some c) (constant_named cs name))) [ true ↦ refl | false ↦ rest ])
+    ap (λ b. is_some (cond b (Some p.1) (number_named ps name))) same
+    ∙ (elim (bytes_eq c.name name) as (λ b. is_some (cond b (Some p.1) (number_named ps name)) ≡ is_some (cond b (Some c) (constant_named cs name))) [ true ↦ refl | false ↦ rest ])
 
-as_many : (ns : List Node) (ps : List (List ℕ × ℕ)) (cs : List Constant) → AreNamesOf ns ps cs → length ps ≡ length cs
+pub as_many : (ns : List Node) (ps : List (List ℕ × ℕ)) (cs : List Constant) → AreNamesOf ns ps cs → length ps ≡ length cs
 as_many ns [] [] h = refl
 as_many ns [] (c ∷ cs) h = absurd h
 as_many ns (p ∷ ps) [] h = absurd h
 as_many ns (p ∷ ps) (c ∷ cs) h = ap suc (as_many ns ps cs h.3)
 
+-- what is listed or an operator is declared
+listed_is_declared : (ns : List Node) (ps : List (List ℕ × ℕ)) (cs : List Constant) (name : List ℕ) → AreNamesOf ns ps cs → is_listed ps name ≡ is_declared cs name
+listed_is_declared ns ps cs name h = ap (λ b. is_one_of operators name || b) (named_together ns ps cs name h)
+
+unlisted_is_unknown : (ns : List Node) (ps : List (List ℕ × ℕ)) (cs : List Constant) (t : Token) → AreNamesOf ns ps cs → is_unlisted ps t ≡ is_unknown_symbol cs t
+unlisted_is_unknown ns ps cs t h =
+    elim (symbol_name t) as (λ o. elim o [ Some name ↦ not (is_listed ps name) | None ↦ false ] ≡ elim o [ Some name ↦ not (is_declared cs name) | None ↦ false ]) [
+      | Some name ↦ ap not (listed_is_declared ns ps cs name h)
+      | None ↦ refl
+    ]
+
+-- tests that agree find the same
+mutual
+  same_found : (f g : Token → Bool) → ((t : Token) → f t ≡ g t) → (t : Tree) → has_token f t ≡ has_token g t
+  same_found f g e (leaf t) = e t
+  same_found f g e (node ts) = same_some f g e ts
+
+  same_some : (f g : Token → Bool) → ((t : Token) → f t ≡ g t) → (ts : Trees) → have_token f ts ≡ have_token g ts
+  same_some f g e no_trees = refl
+  same_some f g e (trees t ts) = ap (λ b. b || have_token f ts) (same_found f g e t) ∙ ap (λ b. has_token g t || b) (same_some f g e ts)
+
+unlisted_found : (ns : List Node) (ps : List (List ℕ × ℕ)) (cs : List Constant) (t : Tree) → AreNamesOf ns ps cs → has_token (is_unlisted ps) t ≡ has_token (is_unknown_symbol cs) t
+unlisted_found ns ps cs t h = same_found (is_unlisted ps) (is_unknown_symbol cs) (λ u. unlisted_is_unknown ns ps cs u h) t
+
 -- what the names say of a declaration is what the constants say
-pub may_is_can : (ns : List Node) (standing : Standing) (s : State) (name : List ℕ) → IsLive ns standing s → may_declare standing.names name ≡ can_declare s name
-may_is_can ns standing s name live =
-    ap (λ b. not (is_one_of reserved_words name) && not (is_one_of operators name) && b && nat_lt (length standing.names) constant_limit) (named_together ns standing.names (constants_of s) name live.named)
-    ∙ ap (λ n. not (is_one_of reserved_words name) && not (is_one_of operators name) && is_none (constant_named (constants_of s) name) && nat_lt n constant_limit) (as_many ns standing.names (constants_of s) live.named)
+declared_alike : (ns : List Node) (ps : List (List ℕ × ℕ)) (s : State) (name : List ℕ) (sort : Tree) → AreNamesOf ns ps (constants_of s) → declaration_of s name sort ≡ declaration_by ps name sort
+declared_alike ns ps s name (leaf sort) h =
+    ap (λ b. cond (not (is_symbol (codes "Bool") sort)) (refused 2) (cond b (refused 9) (accepted (declare_const (bool_constant name))))) (sym (listed_is_declared ns ps (constants_of s) name h))
+declared_alike ns ps s name (node ts) h = ap (λ b. cond b (refused 9) (refused 3)) (sym (listed_is_declared ns ps (constants_of s) name h))
 
 -- names stay when the table grows
 names_stay : (ns more : List Node) (ps : List (List ℕ × ℕ)) (cs : List Constant) → AreNamesOf ns ps cs → AreNamesOf (ns ++ more) ps cs
@@ -222,20 +193,18 @@ grown_in : (old new : List Node) (id : ℕ) (c : Constant) → constant_named (c
 grown_in old new id c none at (inl e) = absurd (named_in_table old id c (ap (λ ns. slice_get ns id) (sym e) ∙ at) none)
 grown_in old new id c none at (inr e) = e
 
-none_from_test : (o : Option Constant) (a b : Bool) → (a && is_none o && b) ≡ true → o ≡ None
-none_from_test None a b h = refl
-none_from_test (Some c) true b h = cc
-none_from_test (Some c) false b h = cc
+-- a name that isn't listed is that of no constant
+none_from_unlisted : (o : Option ℕ) (u : Option Constant) → is_some o ≡ is_some u → o ≡ None → u ≡ None
+none_from_unlisted o None e h = refl
+none_from_unlisted o (Some c) e h = let no : true ≡ false = sym e ∙ ap is_some h in cc
 
--- where a constant may be declared, none has its name
-unnamed_where_may : (ns : List Node) (standing : Standing) (s : State) (name : List ℕ) → IsLive ns standing s → may_declare standing.names name ≡ true
-    → constant_named (constants_of s) name ≡ None
-unnamed_where_may ns standing s name live may =
-    none_from_test (constant_named (constants_of s) name) (not (is_one_of reserved_words name) && not (is_one_of operators name)) (nat_lt (length (constants_of s)) constant_limit) (sym (may_is_can ns standing s name live) ∙ may)
+pushed_with : (levels : List (List Item)) (i : Item) → length (with_item levels i) - 1 ≡ length levels - 1
+pushed_with [] i = refl
+pushed_with (items ∷ older) i = refl
 
 live_declared : (old new : List Node) (before after : List (List ℕ × ℕ)) (numbers : List ℕ) (s : State) (c : Constant) → IsLive old (record { names = before; asserted = numbers }) s
     → constant_named (constants_of s) c.name ≡ None → HasAdded c old new before after
-    → IsLive new (record { names = after; asserted = numbers }) (record { levels = with_item s.levels (declared c); model = None })
+    → IsLive new (record { names = after; asserted = numbers }) (record { levels = with_item s.levels (declared c); model = None; reason = None })
 live_declared old new before after numbers s c live none h =
     let one : Node = record { head = constant c; kids = [] } in
     let grown : new ≡ old ++ one ∷ [] = grown_in old new h.id c (ap (λ cs. constant_named cs c.name) live.constants ∙ none) h.node h.grown in
@@ -257,33 +226,32 @@ live_declared old new before after numbers s c live none h =
       terms =
           ap (λ ns. map (term_in ns) numbers) grown ∙ terms_stay_there old (one ∷ []) numbers live.within ∙ live.terms
           ∙ ap (map normal_of) (sym (assertions_with s.levels (declared c) ∙ append-nil (assertions_of s)));
+      unpushed = pushed_with s.levels (declared c) ∙ live.unpushed;
     }
 
-pub leaves_declared : (old new : List Node) (before after : List (List ℕ × ℕ)) (numbers : List ℕ) (s : State) (name : List ℕ) (accepted : Option Command)
-    → accepted ≡ declaration_by s name → may_declare before name ≡ true → HasAdded (bool_constant name) old new before after
-    → IsLive old (record { names = before; asserted = numbers }) s → Leaves s accepted changed new (record { names = after; asserted = numbers })
-leaves_declared old new before after numbers s name accepted e may h live =
-    let standing : Standing = record { names = before; asserted = numbers } in
-    let can : can_declare s name ≡ true = sym (may_is_can old standing s name live) ∙ may in
-    let none = unnamed_where_may old standing s name live may in
+pub leaves_declared : (old new : List Node) (before after : List (List ℕ × ℕ)) (numbers : List ℕ) (s : State) (name : List ℕ) (sort : Tree) (outcome : Outcome)
+    → outcome ≡ declaration_of s name sort → declaration_by before name sort ≡ accepted (declare_const (bool_constant name)) → number_named before name ≡ None
+    → HasAdded (bool_constant name) old new before after
+    → IsLive old (record { names = before; asserted = numbers }) s → IsAccepted s outcome changed new (record { names = after; asserted = numbers })
+leaves_declared old new before after numbers s name sort outcome e may fresh h live =
+    let none : constant_named (constants_of s) name ≡ None =
+    none_from_unlisted (number_named before name) (constant_named (constants_of s) name) (named_together old before (constants_of s) name live.named) fresh in
     record {
       command = declare_const (bool_constant name);
-      is = e ∙ ap (λ b. cond b (Some (declare_const (bool_constant name))) None) can;
+      is = e ∙ declared_alike old before s name sort live.named ∙ may;
       asks = refl;
       live = λ reply. live_declared old new before after numbers s (bool_constant name) live none h;
     }
 
--- where a constant may not be declared, the declaration isn't accepted
-pub refused_declaration : (ns : List Node) (standing : Standing) (s : State) (name : List ℕ) (accepted : Option Command) → accepted ≡ declaration_by s name
-    → may_declare standing.names name ≡ false → IsLive ns standing s → accepted ≡ None
-refused_declaration ns standing s name accepted e may live =
-    e ∙ ap (λ b. cond b (Some (declare_const (bool_constant name))) None) (sym (may_is_can ns standing s name live) ∙ may)
+pub refused_declaration : (ns : List Node) (standing : Standing) (s : State) (name : List ℕ) (sort : Tree) (outcome : Outcome) (n : ℕ)
+    → outcome ≡ declaration_of s name sort → declaration_by standing.names name sort ≡ refused n → IsLive ns standing s → outcome ≡ refused n
+refused_declaration ns standing s name sort outcome n e broken live = e ∙ declared_alike ns standing.names s name sort live.named ∙ broken
 
 -- ---- What an assertion leaves
 
 live_asserted : (old new : List Node) (names : List (List ℕ × ℕ)) (before after : List ℕ) (s : State) (tree : Tree) → IsLive old (record { names = names; asserted = before }) s
     → Grows old new → (h : HasAsserted (constants_of s) tree new before after)
-    → IsLive new (record { names = names; asserted = after }) (record { levels = with_item s.levels (asserted h.term.term); model = None })
+    → IsLive new (record { names = names; asserted = after }) (record { levels = with_item s.levels (asserted h.term.term); model = None; reason = None })
 live_asserted old new names before after s tree live g h =
     let t = h.term.term in
     let same : constants_in (items_of (with_item s.levels (asserted t))) ≡ constants_of s = constants_with s.levels (asserted t) ∙ append-nil (constants_of s) in
@@ -301,50 +269,47 @@ live_asserted old new names before after s tree live g h =
           ∙ ap (λ l. l ++ term_in new h.id ∷ []) older
           ∙ ap (λ u. map normal_of (assertions_of s) ++ u ∷ []) h.term.normal
           ∙ sym (ap (map normal_of) (assertions_with s.levels (asserted t)) ∙ map-append normal_of (assertions_of s) (t ∷ []));
+      unpushed = pushed_with s.levels (asserted t) ∙ live.unpushed;
     }
 
+-- an assertion without unknown symbols is by its term
+known_assertion : (ns : List Node) (standing : Standing) (s : State) (tree : Tree) → IsLive ns standing s → has_token (is_unlisted standing.names) tree ≡ false
+    → assertion_of s tree ≡ elim (term_of (constants_of s) tree) [ Some u ↦ accepted (assert_term u) | None ↦ refused 3 ]
+known_assertion ns standing s tree live known =
+    ap (λ b. cond b (refused 2) (elim (term_of (constants_of s) tree) [ Some u ↦ accepted (assert_term u) | None ↦ refused 3 ]))
+    (sym (unlisted_found ns standing.names (constants_of s) tree live.named) ∙ known)
+
 pub leaves_asserted : (old new : List Node) (names : List (List ℕ × ℕ)) (before after : List ℕ) (s : State) (tree : Tree) → Grows old new
-    → HasAsserted (constants_of s) tree new before after → IsLive old (record { names = names; asserted = before }) s
-    → Leaves s (assertion_of s (trees tree no_trees)) changed new (record { names = names; asserted = after })
-leaves_asserted old new names before after s tree g h live =
+    → has_token (is_unlisted names) tree ≡ false → HasAsserted (constants_of s) tree new before after → IsLive old (record { names = names; asserted = before }) s
+    → IsAccepted s (assertion_of s tree) changed new (record { names = names; asserted = after })
+leaves_asserted old new names before after s tree g known h live =
     record {
       command = assert_term h.term.term;
-      is = ap (option_map assert_term) h.term.stands;
+      is = known_assertion old (record { names = names; asserted = before }) s tree live known
+          ∙ ap (λ o. elim o [ Some u ↦ accepted (assert_term u) | None ↦ refused 3 ]) h.term.stands;
       asks = refl;
       live = λ reply. live_asserted old new names before after s tree live g h;
     }
 
+pub unknown_assertion : (ns : List Node) (standing : Standing) (s : State) (tree : Tree) → IsLive ns standing s → has_token (is_unlisted standing.names) tree ≡ true
+    → assertion_of s tree ≡ refused 2
+unknown_assertion ns standing s tree live unknown =
+    ap (λ b. cond b (refused 2) (elim (term_of (constants_of s) tree) [ Some u ↦ accepted (assert_term u) | None ↦ refused 3 ]))
+    (sym (unlisted_found ns standing.names (constants_of s) tree live.named) ∙ unknown)
+
+pub untyped_assertion : (ns : List Node) (standing : Standing) (s : State) (tree : Tree) → IsLive ns standing s → has_token (is_unlisted standing.names) tree ≡ false
+    → term_of (constants_of s) tree ≡ None → assertion_of s tree ≡ refused 3
+untyped_assertion ns standing s tree live known none =
+    known_assertion ns standing s tree live known ∙ ap (λ o. elim o [ Some u ↦ accepted (assert_term u) | None ↦ refused 3 ]) none
+
 -- ---- What the other commands leave
 
-pub leaves_checked : (ns : List Node) (standing : Standing) (s : State) (accepted : Option Command) → accepted ≡ Some check_sat → IsLive ns standing s → Leaves s accepted check ns standing
-leaves_checked ns standing s accepted e live =
+-- what is live doesn't rest on what the last answer shows
+pub leaves_checked : (ns : List Node) (standing : Standing) (s : State) → IsLive ns standing s → IsAccepted s (accepted check_sat) check ns standing
+leaves_checked ns standing s live =
     record {
       command = check_sat;
-      is = e;
+      is = refl;
       asks = refl;
-      live = λ reply. record { named = live.named; constants = live.constants; distinct = live.distinct; within = live.within; terms = live.terms };
+      live = λ reply. record { named = live.named; constants = live.constants; distinct = live.distinct; within = live.within; terms = live.terms; unpushed = live.unpushed };
     }
-
-pub leaves_shown : (ns : List Node) (standing : Standing) (s : State) (accepted : Option Command) → accepted ≡ Some get_model → IsLive ns standing s → Leaves s accepted show_model ns standing
-leaves_shown ns standing s accepted e live = record { command = get_model; is = e; asks = refl; live = λ reply. live }
-
-pub leaves_left : (ns : List Node) (standing : Standing) (s : State) (accepted : Option Command) → accepted ≡ Some exit → IsLive ns standing s → Leaves s accepted leave ns standing
-leaves_left ns standing s accepted e live = record { command = exit; is = e; asks = refl; live = λ reply. live }
-
--- ---- A whole command
-
-pub carried_out : (s : State) (tree : Tree) (name : List ℕ) (word : Word) (ts : Trees) (ask : Ask) (ns : List Node) (standing : Standing) → command_of s tree ≡ command_named s name ts
-    → Some word ≡ word_named name → Leaves s (command_by s word ts) ask ns standing → IsCarriedOut s tree ask ns standing
-carried_out s tree name word ts ask ns standing e w h =
-    record {
-      command = h.command;
-      accepted = e ∙ sym (command_by_its_word s name ts) ∙ ap (λ v. command_by_word s v ts) (sym w) ∙ h.is;
-      asks = h.asks;
-      live = h.live;
-    }
-
--- the one item of a list
-pub one_item : {A : Type 0} (xs : List A) (x : A) → length xs ≡ 1 → x ≡ get_or xs 0 x → xs ≡ x ∷ []
-one_item [] x l e = absurd (omega arith)
-one_item (y ∷ []) x l e = ap (λ z. z ∷ []) (sym e)
-one_item (y ∷ z ∷ ys) x l e = absurd (omega arith)

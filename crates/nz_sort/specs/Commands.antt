@@ -1,54 +1,47 @@
--- How the code takes a command apart: by the word that it begins with.
-use Rattle.std.specs.Prelude.{◌≡◌, ℕ, ◌&&◌, not, nat_lt, Bool, List, [], ◌∷◌, ◌++◌, length, Option, Some, None, is_some, is_none, codes, bytes_eq, slice_get, ◌⊎◌, if◌then◌else◌}
-use Rattle.nz_spec.specs.Tree.{Tree, Trees}
+-- How the code takes a command apart.
+use Rattle.std.specs.Prelude.{◌≡◌, ℕ, ◌||◌, not, Bool, true, false, List, [], ◌∷◌, ◌++◌, Some, None, is_some, codes, bytes_eq, slice_get, ◌⊎◌, if◌then◌else◌}
+use Rattle.nz_spec.specs.Tree.{Token, symbol_name, Tree, leaf, node}
 use Rattle.nz_spec.specs.Term.{bool_sort, Constant, constant, apply, no_terms}
 use Rattle.nz_spec.specs.Table.{Node, term_in}
-use Rattle.nz_spec.specs.Form.{is_one_of, reserved_words}
-use Rattle.nz_spec.specs.Script.{State, Command, operators, constant_limit, can_declare, declare_const, declaration_of, assertion_of, alone, check_sat, get_model, exit}
-use Rattle.nz_spec.specs.Reply.{Reply, effect}
-use Rattle.nz_sort.specs.Live.{Standing, IsLive, Ask, ask_of}
+use Rattle.nz_spec.specs.Form.{is_one_of, is_name, is_symbol}
+use Rattle.nz_spec.specs.Script.{operators, number_operators, Outcome, accepted, refused, declare_const}
 use Rattle.nz_sort.specs.Names.{number_named}
 use Rattle.nz_sort.specs.Elaborate.{Elaborates}
-use Rattle.nz_sort.specs.declared.live.Word.{Word}
-use Rattle.nz_sort.specs.declared.live.Word.TheVariants.{DeclareConst, Assert, CheckSat, GetModel, Exit}
 
--- the word of a name
-abbrev pub word_named : List ℕ → Option Word
-word_named name =
-    if bytes_eq name (codes "declare-const") then Some DeclareConst
-    else (if bytes_eq name (codes "assert") then Some Assert
-    else (if bytes_eq name (codes "check-sat") then Some CheckSat
-    else (if bytes_eq name (codes "get-model") then Some GetModel
-    else (if bytes_eq name (codes "exit") then Some Exit
-    else None))))
+-- ---- Names in scope, where these names stand
 
--- the command of a word over its arguments, where it is accepted
-abbrev pub command_by : State → Word → Trees → Option Command
-command_by s DeclareConst arguments = declaration_of s arguments
-command_by s Assert arguments = assertion_of s arguments
-command_by s CheckSat arguments = alone check_sat arguments
-command_by s GetModel arguments = if is_some s.model then alone get_model arguments else None
-command_by s Exit arguments = alone exit arguments
+-- a listed name, or an operator
+abbrev pub is_listed : List (List ℕ × ℕ) → List ℕ → Bool
+is_listed names name = is_one_of operators name || is_some (number_named names name)
 
-abbrev pub command_by_word : State → Option Word → Trees → Option Command
-command_by_word s None arguments = None
-command_by_word s (Some word) arguments = command_by s word arguments
-
--- The command is accepted and asks this, and what stands after it is what it leaves, whatever the reply.
-pub record Leaves (s : State) (accepted : Option Command) (ask : Ask) (ns : List Node) (standing : Standing) : Type 0 where
-  pub command : Command
-  pub is : accepted ≡ Some command
-  pub asks : ask ≡ ask_of command
-  pub live : (reply : Reply) → IsLive ns standing (effect s (Some command) reply)
-
--- a constant may be declared by this name, where these names stand
-abbrev pub may_declare : List (List ℕ × ℕ) → List ℕ → Bool
-may_declare names name =
-    not (is_one_of reserved_words name) && not (is_one_of operators name) && is_none (number_named names name) && nat_lt (length names) constant_limit
+-- a symbol that is neither
+abbrev pub is_unlisted : List (List ℕ × ℕ) → Token → Bool
+is_unlisted names t = elim (symbol_name t) [ Some name ↦ not (is_listed names name) | None ↦ false ]
 
 -- the constant of a name
 abbrev pub bool_constant : List ℕ → Constant
 bool_constant name = record { name = name; sort = bool_sort }
+
+-- what becomes of a declaration by this name, of this sort
+abbrev pub declaration_by : List (List ℕ × ℕ) → List ℕ → Tree → Outcome
+declaration_by names name (leaf sort) =
+    if not (is_symbol (codes "Bool") sort) then refused 2
+    else (if is_listed names name then refused 9
+    else accepted (declare_const (bool_constant name)))
+declaration_by names name (node ts) = if is_listed names name then refused 9 else refused 3
+
+-- ---- Symbols
+
+-- the token may be a name, and is this one
+pub record IsNamed (t : Token) (word : List ℕ) : Type 0 where
+  pub free : is_name t ≡ true
+  pub name : symbol_name t ≡ Some word
+
+-- a symbol that only terms over numbers have, or `let`
+abbrev pub is_number_symbol : Token → Bool
+is_number_symbol t = elim (symbol_name t) [ Some name ↦ is_one_of number_operators name || bytes_eq name (codes "let") | None ↦ false ]
+
+-- ---- What is added
 
 -- The table and the names have this constant more.
 pub record HasAdded (c : Constant) (old new : List Node) (before after : List (List ℕ × ℕ)) : Type 0 where
@@ -57,10 +50,6 @@ pub record HasAdded (c : Constant) (old new : List Node) (before after : List (L
   pub node : slice_get new id ≡ Some (record { head = constant c; kids = [] })
   pub grown : (new ≡ old) ⊎ (new ≡ old ++ record { head = constant c; kids = [] } ∷ [])
   pub term : term_in new id ≡ apply (constant c) no_terms
-
--- what a declaration of sort Bool by this name is
-abbrev pub declaration_by : State → List ℕ → Option Command
-declaration_by s name = if can_declare s name then Some (declare_const (bool_constant name)) else None
 
 -- The numbers have that of the term of this tree more.
 pub record HasAsserted (cs : List Constant) (tree : Tree) (ns : List Node) (before after : List ℕ) : Type 0 where

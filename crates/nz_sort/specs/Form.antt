@@ -1,7 +1,7 @@
 -- How the code takes trees apart to tell their form.
 use Rattle.std.specs.Prelude.{ℕ, List, map, ⊤}
 use Rattle.std.specs.Borrow.{Bor}
-use Rattle.nz_spec.specs.Tree.{Tree, leaf, node, Trees, no_trees, trees}
+use Rattle.nz_spec.specs.Tree.{leaf, node, Trees, no_trees, trees}
 use Rattle.nz_spec.specs.Reading.{trees_from}
 use Rattle.nz_sexpr.specs.View.{view}
 use Rattle.nz_spec.specs.Form as form

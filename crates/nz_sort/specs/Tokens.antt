@@ -1,12 +1,12 @@
 -- What the tests of tokens mean.
 use Rattle.std.specs.Prelude.{Bool}
 use Rattle.nz_spec.specs.Tree.{Token}
-use Rattle.nz_spec.specs.Form.{is_number_token}
 use Rattle.nz_spec.specs.Bounds.{is_wide_token, is_long_decimal}
+use Rattle.nz_spec.specs.Script.{is_of_number_term}
 use Rattle.nz_sort.specs.declared.tokens.TokenTest.{TokenTest}
-use Rattle.nz_sort.specs.declared.tokens.TokenTest.TheVariants.{Wide, LongDecimal, Number}
+use Rattle.nz_sort.specs.declared.tokens.TokenTest.TheVariants.{Wide, LongDecimal, OfNumberTerm}
 
 abbrev pub meaning_of : TokenTest → Token → Bool
 meaning_of Wide = is_wide_token
 meaning_of LongDecimal = is_long_decimal
-meaning_of Number = is_number_token
+meaning_of OfNumberTerm = is_of_number_term

@@ -18,50 +18,50 @@ use nz_sexpr::Tree;
 use nz_term::{Head, TermId, Terms};
 use std::alloc::{AllocError, AllocFailed, Global};
 
-/// Why a command isn't carried out.
+/// Why a tree isn't elaborated.
 #[derive(Clone, Copy, Debug, PartialEq, Eq)]
-pub enum Refusal {
-    /// It isn't accepted.
-    Unsupported,
+pub enum ElaborateError {
+    /// It has no term.
+    Sort,
     /// There was no memory for it.
     Memory,
 }
 
-impl From<Memory> for Refusal {
-    ghost use Rattle.nz_sort.specs.declared.elaboration.Refusal.TheVariants as refusal;
+impl From<Memory> for ElaborateError {
+    ghost use Rattle.nz_sort.specs.declared.elaboration.ElaborateError.TheVariants as errors;
 
-    ghost from_gives = { λ _ r. r ≡ refusal.Memory };
+    ghost from_gives = { λ _ r. r ≡ errors.Memory };
 
-    fn from(_memory: Memory) -> Refusal {
-        Refusal::Memory
+    fn from(_memory: Memory) -> ElaborateError {
+        ElaborateError::Memory
     }
 }
 
-impl From<AllocError> for Refusal {
-    ghost use Rattle.nz_sort.specs.declared.elaboration.Refusal.TheVariants as refusal;
+impl From<AllocError> for ElaborateError {
+    ghost use Rattle.nz_sort.specs.declared.elaboration.ElaborateError.TheVariants as errors;
 
-    ghost from_gives = { λ _ r. r ≡ refusal.Memory };
+    ghost from_gives = { λ _ r. r ≡ errors.Memory };
 
-    fn from(_error: AllocError) -> Refusal {
-        Refusal::Memory
+    fn from(_error: AllocError) -> ElaborateError {
+        ElaborateError::Memory
     }
 }
 
-impl<T: Drop> From<AllocFailed<T>> for Refusal {
-    ghost use Rattle.nz_sort.specs.declared.elaboration.Refusal.TheVariants as refusal;
+impl<T: Drop> From<AllocFailed<T>> for ElaborateError {
+    ghost use Rattle.nz_sort.specs.declared.elaboration.ElaborateError.TheVariants as errors;
 
-    ghost from_gives = { λ _ r. r ≡ refusal.Memory };
+    ghost from_gives = { λ _ r. r ≡ errors.Memory };
 
-    fn from(_error: AllocFailed<T>) -> Refusal {
-        Refusal::Memory
+    fn from(_error: AllocFailed<T>) -> ElaborateError {
+        ElaborateError::Memory
     }
 }
 
 /// The number of the term that a symbol alone stands for: a truth value or a live constant.
-fn atom(names: &Names, terms: &mut Terms, name: &Text) -> Result<TermId, Refusal>
+fn atom(names: &Names, terms: &mut Terms, name: &Text) -> Result<TermId, ElaborateError>
     ensures grows { Grows terms.old terms.new }
     ensures found { IfOk result (λ id. (cs : List Constant) → AreNamesOf terms.old names.now cs → Elaborates cs (leaf (symbol name.now)) terms.new id) }
-    ensures refused { IsErrOf result Refusal.Unsupported → (cs : List Constant) → AreNamesOf terms.old names.now cs → term_of cs (leaf (symbol name.now)) ≡ None }
+    ensures refused { IsErrOf result ElaborateError.Sort → (cs : List Constant) → AreNamesOf terms.old names.now cs → term_of cs (leaf (symbol name.now)) ≡ None }
 {
     if name.as_bytes() == b"true".as_slice() {
         return Ok(terms.make(Head::True, &[])?);
@@ -69,7 +69,7 @@ fn atom(names: &Names, terms: &mut Terms, name: &Text) -> Result<TermId, Refusal
     if name.as_bytes() == b"false".as_slice() {
         return Ok(terms.make(Head::False, &[])?);
     }
-    names.get(name).ok_or(Refusal::Unsupported)
+    names.get(name).ok_or(ElaborateError::Sort)
 }
 
 /// The name of a tree that is a symbol.
@@ -99,22 +99,22 @@ fn split(trees: &[Tree]) -> Option<(Operator, &[Tree])>
 ///
 /// # Errors
 ///
-/// `Unsupported` exactly where the tree has no term. After an error the table may have grown: cut it back.
+/// `Sort` exactly where the tree has no term. After an error the table may have grown: cut it back.
 #[cycle(elaborate)]
 pub fn elaborate(
     alloc: Global,
     names: &Names,
     terms: &mut Terms,
     tree: &Tree,
-) -> Result<TermId, Refusal>
+) -> Result<TermId, ElaborateError>
     ensures grows { Grows terms.old terms.new }
     ensures found { IfOk result (λ id. (cs : List Constant) → AreNamesOf terms.old names.now cs → Elaborates cs (view tree.now) terms.new id) }
-    ensures refused { IsErrOf result Refusal.Unsupported → (cs : List Constant) → AreNamesOf terms.old names.now cs → term_of cs (view tree.now) ≡ None }
+    ensures refused { IsErrOf result ElaborateError.Sort → (cs : List Constant) → AreNamesOf terms.old names.now cs → term_of cs (view tree.now) ≡ None }
 {
     match tree {
         Tree::Word(token) => match token.as_symbol() {
             Some(name) => atom(names, terms, name),
-            None => Err(Refusal::Unsupported),
+            None => Err(ElaborateError::Sort),
         },
         Tree::List(list) => operation(alloc, names, terms, list.as_slice()),
     }
@@ -127,16 +127,16 @@ fn operation(
     names: &Names,
     terms: &mut Terms,
     trees: &[Tree],
-) -> Result<TermId, Refusal>
+) -> Result<TermId, ElaborateError>
     ensures grows { Grows terms.old terms.new }
     ensures found { IfOk result (λ id. (cs : List Constant) → AreNamesOf terms.old names.now cs → Elaborates cs (node (trees_from (map view trees.now))) terms.new id) }
-    ensures refused { IsErrOf result Refusal.Unsupported → (cs : List Constant) → AreNamesOf terms.old names.now cs → term_of cs (node (trees_from (map view trees.now))) ≡ None }
+    ensures refused { IsErrOf result ElaborateError.Sort → (cs : List Constant) → AreNamesOf terms.old names.now cs → term_of cs (node (trees_from (map view trees.now))) ≡ None }
 {
     let Some((operator, arguments)) = split(trees) else {
-        return Err(Refusal::Unsupported);
+        return Err(ElaborateError::Sort);
     };
     match elaborate_all(alloc, names, terms, arguments) {
-        Err(refusal) => Err(refusal),
+        Err(error) => Err(error),
         Ok(kids) => apply(alloc, terms, operator, kids.as_slice()),
     }
 }
@@ -147,15 +147,15 @@ fn apply(
     terms: &mut Terms,
     operator: Operator,
     kids: &[TermId],
-) -> Result<TermId, Refusal>
+) -> Result<TermId, ElaborateError>
     requires within { All (λ k. k < length terms.old) kids.now }
     ensures grows { Grows terms.old terms.new }
     ensures taken { OnOk result (may_take (operator_head operator) (length kids.now) ≡ true) }
     ensures made { IfOk result (λ id. StandsFor terms.new id (normal_node (operator_head operator) (terms_at (term_in terms.old) kids.now))) }
-    ensures refused { IsErrOf result Refusal.Unsupported → may_take (operator_head operator) (length kids.now) ≡ false }
+    ensures refused { IsErrOf result ElaborateError.Sort → may_take (operator_head operator) (length kids.now) ≡ false }
 {
     if !takes(operator, kids.len()) {
-        return Err(Refusal::Unsupported);
+        return Err(ElaborateError::Sort);
     }
     Ok(normal_term(alloc, terms, operator, kids)?)
 }
@@ -167,20 +167,20 @@ fn elaborate_all(
     names: &Names,
     terms: &mut Terms,
     trees: &[Tree],
-) -> Result<Vec<TermId>, Refusal>
+) -> Result<Vec<TermId>, ElaborateError>
     ensures grows { Grows terms.old terms.new }
     ensures found { IfOk result (λ ids. (cs : List Constant) → AreNamesOf terms.old names.now cs → ElaboratesAll cs (map view trees.now) terms.new ids.items) }
     ensures within { IfOk result (λ ids. All (λ i. i < length terms.new) ids.items) }
-    ensures refused { IsErrOf result Refusal.Unsupported → (cs : List Constant) → AreNamesOf terms.old names.now cs → terms_of cs (trees_from (map view trees.now)) ≡ None }
+    ensures refused { IsErrOf result ElaborateError.Sort → (cs : List Constant) → AreNamesOf terms.old names.now cs → terms_of cs (trees_from (map view trees.now)) ≡ None }
 {
     let mut ids = Vec::with_capacity(alloc, trees.len())?;
     for tree in trees {
         match elaborate(alloc, names, terms, tree) {
-            Err(refusal) => return Err(refusal),
+            Err(error) => return Err(error),
             Ok(id) => {
                 // Names that were made for another table have numbers that aren't in this one.
                 if id >= terms.len() {
-                    return Err(Refusal::Unsupported);
+                    return Err(ElaborateError::Sort);
                 }
                 ids.push(id)?;
             }

@@ -7,7 +7,7 @@ ghost use Rattle.nz_spec.specs.Tree.{leaf, node, trees, no_trees, symbol_name as
 ghost use Rattle.nz_spec.specs.Form as form;
 ghost use Rattle.nz_sort.specs.Form.{seen, IsHeadless, IsNotOne, IsNotTwo, IsNotThree};
 
-mod command;
+pub(crate) mod command;
 mod term;
 
 use command::{command_name, has_form};
@@ -39,7 +39,7 @@ pub(crate) fn symbol_name(token: &Token) -> Option<&Text>
 }
 
 /// The bytes of a token that is a keyword.
-fn keyword_name(token: &Token) -> Option<&Text>
+pub(crate) fn keyword_name(token: &Token) -> Option<&Text>
     ensures name { IfSome result (λ name. form.keyword_name (token_view token.now) ≡ Some name.now) }
     ensures none { IfNone result (form.keyword_name (token_view token.now) ≡ None) }
 {
@@ -50,7 +50,7 @@ fn keyword_name(token: &Token) -> Option<&Text>
 }
 
 /// A symbol that may be a name.
-fn is_name(token: &Token) -> bool
+pub(crate) fn is_name(token: &Token) -> bool
     ensures form { result ≡ form.is_name (token_view token.now) }
 {
     match symbol_name(token) {
@@ -60,7 +60,7 @@ fn is_name(token: &Token) -> bool
 }
 
 /// The symbol is this word.
-fn is_symbol(token: &Token, word: &[u8]) -> bool
+pub(crate) fn is_symbol(token: &Token, word: &[u8]) -> bool
     ensures form { result ≡ form.is_symbol word.now (token_view token.now) }
 {
     match symbol_name(token) {
@@ -126,7 +126,7 @@ fn is_empty(list: &[Tree]) -> bool
 }
 
 /// The one tree.
-fn only(list: &[Tree]) -> Option<&Tree>
+pub(crate) fn only(list: &[Tree]) -> Option<&Tree>
     ensures one { IfSome result (λ tree. seen list.now ≡ trees (view tree.now) no_trees) }
     ensures none { IfNone result (IsNotOne (seen list.now)) }
 {
@@ -137,7 +137,7 @@ fn only(list: &[Tree]) -> Option<&Tree>
 }
 
 /// The two trees.
-fn pair(list: &[Tree]) -> Option<(&Tree, &Tree)>
+pub(crate) fn pair(list: &[Tree]) -> Option<(&Tree, &Tree)>
     ensures two { IfSome result (λ p. seen list.now ≡ trees (view p.0.now) (trees (view p.1.now) no_trees)) }
     ensures none { IfNone result (IsNotTwo (seen list.now)) }
 {
@@ -159,7 +159,7 @@ fn triple(list: &[Tree]) -> Option<(&Tree, &Tree, &Tree)>
 }
 
 /// The token that a list begins with, and the trees after it.
-fn headed(list: &[Tree]) -> Option<(&Token, &[Tree])>
+pub(crate) fn headed(list: &[Tree]) -> Option<(&Token, &[Tree])>
     ensures head { IfSome result (λ p. seen list.now ≡ trees (leaf (token_view p.0.now)) (seen p.1.now)) }
     ensures none { IfNone result (IsHeadless (seen list.now)) }
 {

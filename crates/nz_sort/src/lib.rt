@@ -5,16 +5,21 @@
 
 mod elaboration;
 mod form;
+mod limits;
 mod live;
 mod names;
 mod normal;
 mod operators;
+mod refusal;
+mod scope;
+mod taken;
 #[cfg(test)]
 mod tests;
 mod tokens;
 
-pub use elaboration::{Refusal, elaborate};
+pub use elaboration::{ElaborateError, elaborate};
 pub use form::is_of_form;
 pub use live::{Act, Live};
 pub use names::Names;
+pub use refusal::Refusal;
 pub use tokens::{TokenTest, has_token};

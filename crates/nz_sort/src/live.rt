@@ -1,29 +1,35 @@
-//! The live state: which commands are accepted, and what they leave.
-ghost use Rattle.std.specs.Prelude.{◌≡◌, ℕ, List, [], length, map, take, bytes_eq, OnOk, OnErr, IfOk, IfSome, IfNone, None, Some, is_some, IsErrOf};
-ghost use Rattle.std.specs.List.{list_any};
-ghost use Rattle.nz_sexpr.specs.View.{view};
-ghost use Rattle.nz_spec.specs.Tree.{leaf, node, symbol};
-ghost use Rattle.nz_spec.specs.Reading.{trees_from};
+//! The live state: what becomes of a command, and what it leaves.
+ghost use Rattle.std.specs.Prelude.{◌≡◌, ℕ, List, [], length, take, OnOk, OnErr, IfOk, IfErr, IfSome, IfNone, None, ◌||◌, IsErrOf, false};
+ghost use Rattle.nz_sexpr.specs.View.{token_view, view};
+ghost use Rattle.nz_spec.specs.Tree.{node};
+ghost use Rattle.nz_spec.specs.Bounds.{is_long_decimal, have_token as some_token};
+ghost use Rattle.nz_spec.specs.Table.{Node};
+ghost use Rattle.nz_spec.specs.Form.{assert_name, declare_const_name, is_name as may_be_name};
 ghost use Rattle.nz_spec.specs.Term as spec;
-ghost use Rattle.nz_spec.specs.Script.{State, Command, command_of, command_named, declaration_of, assertion_of, term_of, alone as bare};
+ghost use Rattle.nz_spec.specs.Script.{State, accepted, refused, outcome_of, outcome_named, outcome_by, passes_limit as beyond_limit, declaration_of, declare_const, term_of};
+ghost use Rattle.nz_sort.specs.Form.{seen, command_meaning};
 ghost use Rattle.nz_sort.specs.Names.{number_named, AreNamesOf};
 ghost use Rattle.nz_sort.specs.Elaborate.{Grows};
-ghost use Rattle.nz_sort.specs.Live.{Standing, IsLive, IsCarriedOut};
-ghost use Rattle.nz_sort.specs.Acts.{asked};
-ghost use Rattle.nz_sort.specs.Commands.{word_named, command_by, Leaves, may_declare, declaration_by, bool_constant, HasAdded, HasAsserted};
+ghost use Rattle.nz_sort.specs.Live.{Standing, IsLive, Leaves, IsCarriedOut, IfSkipped, changed};
+ghost use Rattle.nz_sort.specs.Acts.{asked, error_of};
+ghost use Rattle.nz_sort.specs.Commands.{IsNamed, declaration_by, bool_constant, HasAdded, HasAsserted};
 
-use crate::elaboration::{Refusal, elaborate, symbol_of};
+use crate::elaboration::{ElaborateError, elaborate};
+use crate::form::command::{CommandName, command_name, has_form};
+use crate::form::{headed, is_name, is_symbol, only, pair, symbol_name, symbol_of};
+use crate::limits::passes_limit;
 use crate::names::Names;
+use crate::refusal::Refusal;
+use crate::scope::{has_unknown_symbol, is_declared};
+use crate::taken::takes_command;
+use crate::tokens::{TokenTest, have_token};
 use nz_base::{Memory, Text};
-use nz_sexpr::Tree;
+use nz_sexpr::{Token, Tree};
 use nz_term::{Constant, Head, Sort, TermId, Terms};
 use std::alloc::Global;
 use std::marker::Model;
 
-/// The most live constants that there may be.
-const CONSTANT_LIMIT: usize = 65_535;
-
-/// What an accepted command asks of the session.
+/// What a command that isn't refused asks of the session.
 #[derive(Clone, Copy, Debug, PartialEq, Eq)]
 pub enum Act {
     /// Nothing: it only changed the live state.
@@ -32,8 +38,12 @@ pub enum Act {
     Check,
     /// The model of the last answer.
     ShowModel,
+    /// The reason of the last answer.
+    ShowReason,
     /// The end of the session.
     Leave,
+    /// To be told that the program doesn't take it: it changed nothing.
+    Unsupported,
 }
 
 /// The live state. A contract sees its names and the numbers of its asserted terms.
@@ -71,116 +81,150 @@ impl Live {
         self.asserted.as_slice()
     }
 
-    /// Carries out what a command changes in the live state, and answers what it asks. `has_model` tells whether the last
-    /// answer has a model to show.
+    /// Carries out what a command changes in the live state, and answers what it asks. Whether the last answer has a model or a
+    /// reason to show is the session's to say.
     ///
     /// # Errors
     ///
-    /// `Unsupported` exactly where the command isn't accepted, and `Memory`. Then the live state and the table are as before.
-    pub fn command(
-        &mut self,
-        terms: &mut Terms,
-        tree: &Tree,
-        has_model: bool,
-    ) -> Result<Act, Refusal>
-        ensures accepted { IfOk result (λ act. (s : State) → IsLive terms.old self.old s → is_some s.model ≡ has_model → IsCarriedOut s (view tree.now) (asked act) terms.new self.new) }
-        ensures refused { IsErrOf result Refusal.Unsupported → (s : State) → IsLive terms.old self.old s → is_some s.model ≡ has_model → command_of s (view tree.now) ≡ None }
+    /// The first rule that the command breaks, and `Memory`. Then the live state and the table are as before, and so they are
+    /// after `Unsupported`.
+    pub fn command(&mut self, terms: &mut Terms, tree: &Tree) -> Result<Act, Refusal>
+        ensures accepted { IfOk result (λ act. (s : State) → IsLive terms.old self.old s → IsCarriedOut s (view tree.now) (asked act) terms.new self.new) }
+        ensures refused { IfErr result (λ refusal. IfSome (error_of refusal) (λ n. (s : State) → IsLive terms.old self.old s → outcome_of s (view tree.now) ≡ refused n)) }
         ensures unchanged_terms { OnErr result (terms.new ≡ terms.old) }
         ensures unchanged { OnErr result (self.new ≡ self.old) }
+        ensures skipped_terms { IfOk result (λ act. IfSkipped (asked act) (terms.new ≡ terms.old)) }
+        ensures skipped { IfOk result (λ act. IfSkipped (asked act) (self.new ≡ self.old)) }
         ensures front { take (length self.old.asserted) self.new.asserted ≡ self.old.asserted }
     {
         let Some((name, arguments)) = name_and_arguments(tree) else {
-            return Err(Refusal::Unsupported);
+            return Err(Refusal::Syntax);
         };
-        let Some(word) = word_of(name.as_bytes()) else {
-            return Err(Refusal::Unsupported);
-        };
-        self.carry_out(terms, word, arguments, has_model)
+        self.named(terms, name, arguments)
     }
 
-    /// Carries out the command of a word over its arguments.
+    /// The rules in their order: the form, the limits, the width of numbers, what the program takes, and then the names and sorts.
+    fn named(
+        &mut self,
+        terms: &mut Terms,
+        name: CommandName,
+        arguments: &[Tree],
+    ) -> Result<Act, Refusal>
+        ensures accepted { IfOk result (λ act. (s : State) → IsLive terms.old self.old s → Leaves s (outcome_named s (command_meaning name) (seen arguments.now)) (asked act) terms.new self.new) }
+        ensures refused { IfErr result (λ refusal. IfSome (error_of refusal) (λ n. (s : State) → IsLive terms.old self.old s → outcome_named s (command_meaning name) (seen arguments.now) ≡ refused n)) }
+        ensures unchanged_terms { OnErr result (terms.new ≡ terms.old) }
+        ensures unchanged { OnErr result (self.new ≡ self.old) }
+        ensures skipped_terms { IfOk result (λ act. IfSkipped (asked act) (terms.new ≡ terms.old)) }
+        ensures skipped { IfOk result (λ act. IfSkipped (asked act) (self.new ≡ self.old)) }
+        ensures front { take (length self.old.asserted) self.new.asserted ≡ self.old.asserted }
+    {
+        if !has_form(name, arguments) {
+            return Err(Refusal::Syntax);
+        }
+        if self.passes_limit(name, arguments) {
+            return Err(Refusal::Limit);
+        }
+        if have_token(arguments, TokenTest::Wide) {
+            return Err(Refusal::TooWide);
+        }
+        if !takes_command(name, arguments) {
+            return Ok(Act::Unsupported);
+        }
+        self.carry_out(terms, name, arguments)
+    }
+
+    /// The command goes beyond a limit: its own, or that of the places of a decimal.
+    fn passes_limit(&self, name: CommandName, arguments: &[Tree]) -> bool
+        ensures limit { (ns : List Node) (s : State) → IsLive ns self.now s → result ≡ (beyond_limit s (command_meaning name) (seen arguments.now) || some_token is_long_decimal (seen arguments.now)) }
+    {
+        passes_limit(self.names.len(), name, arguments)
+            || have_token(arguments, TokenTest::LongDecimal)
+    }
+
+    /// Carries out a command that the program takes, over arguments of its form.
+    #[tactic(auto, using(crate::proofs::Living::leaves_checked))]
     fn carry_out(
         &mut self,
         terms: &mut Terms,
-        word: Word,
+        name: CommandName,
         arguments: &[Tree],
-        has_model: bool,
     ) -> Result<Act, Refusal>
-        ensures accepted { IfOk result (λ act. (s : State) → IsLive terms.old self.old s → is_some s.model ≡ has_model → Leaves s (command_by s word (trees_from (map view arguments.now))) (asked act) terms.new self.new) }
-        ensures refused { IsErrOf result Refusal.Unsupported → (s : State) → IsLive terms.old self.old s → is_some s.model ≡ has_model → command_by s word (trees_from (map view arguments.now)) ≡ None }
+        ensures accepted { IfOk result (λ act. (s : State) → IsLive terms.old self.old s → Leaves s (outcome_by s (command_meaning name) (seen arguments.now)) (asked act) terms.new self.new) }
+        ensures refused { IfErr result (λ refusal. IfSome (error_of refusal) (λ n. (s : State) → IsLive terms.old self.old s → outcome_by s (command_meaning name) (seen arguments.now) ≡ refused n)) }
         ensures unchanged_terms { OnErr result (terms.new ≡ terms.old) }
         ensures unchanged { OnErr result (self.new ≡ self.old) }
+        ensures skipped_terms { IfOk result (λ act. IfSkipped (asked act) (terms.new ≡ terms.old)) }
+        ensures skipped { IfOk result (λ act. IfSkipped (asked act) (self.new ≡ self.old)) }
         ensures front { take (length self.old.asserted) self.new.asserted ≡ self.old.asserted }
     {
-        match word {
-            Word::DeclareConst => declare(self.alloc, &mut self.names, terms, arguments),
-            Word::Assert => assert_term(
+        match name {
+            CommandName::DeclareConst => {
+                match declare(self.alloc, &mut self.names, terms, arguments) {
+                    Ok(()) => Ok(Act::Changed),
+                    Err(refusal) => Err(refusal),
+                }
+            }
+            CommandName::Assert => match assert_term(
                 self.alloc,
                 &self.names,
                 &mut self.asserted,
                 terms,
                 arguments,
-            ),
-            Word::CheckSat => alone(arguments, Act::Check),
-            Word::GetModel if has_model => alone(arguments, Act::ShowModel),
-            Word::GetModel => Err(Refusal::Unsupported),
-            Word::Exit => alone(arguments, Act::Leave),
+            ) {
+                Ok(()) => Ok(Act::Changed),
+                Err(refusal) => Err(refusal),
+            },
+            CommandName::CheckSat => Ok(Act::Check),
+            CommandName::GetModel => Ok(Act::ShowModel),
+            CommandName::GetInfo => Ok(Act::ShowReason),
+            CommandName::Exit => Ok(Act::Leave),
+            _ => Err(Refusal::Syntax),
         }
     }
 }
 
-/// The word that a command begins with.
-#[derive(Clone, Copy, Debug, PartialEq, Eq)]
-enum Word {
-    DeclareConst,
-    Assert,
-    CheckSat,
-    GetModel,
-    Exit,
-}
-
-fn word_of(name: &[u8]) -> Option<Word>
-    ensures named { result ≡ word_named name.now }
+/// The name that a command begins with, and the trees after it.
+fn name_and_arguments(tree: &Tree) -> Option<(CommandName, &[Tree])>
+    ensures command { IfSome result (λ p. (s : State) → outcome_of s (view tree.now) ≡ outcome_named s (command_meaning p.0) (seen p.1.now)) }
+    ensures none { IfNone result ((s : State) → outcome_of s (view tree.now) ≡ refused 1) }
 {
-    if name == b"declare-const".as_slice() {
-        Some(Word::DeclareConst)
-    } else if name == b"assert".as_slice() {
-        Some(Word::Assert)
-    } else if name == b"check-sat".as_slice() {
-        Some(Word::CheckSat)
-    } else if name == b"get-model".as_slice() {
-        Some(Word::GetModel)
-    } else if name == b"exit".as_slice() {
-        Some(Word::Exit)
-    } else {
-        None
+    match trees_of(tree) {
+        Some(list) => named_list(list),
+        None => None,
     }
 }
 
-/// The name that a command begins with, and the trees after it.
-#[tactic(auto, using(crate::proofs::Nameless::nameless_command))]
-fn name_and_arguments(tree: &Tree) -> Option<(&Text, &[Tree])>
-    ensures command { IfSome result (λ p. (s : State) → command_of s (view tree.now) ≡ command_named s p.0.now (trees_from (map view p.1.now))) }
-    ensures none { IfNone result ((s : State) → command_of s (view tree.now) ≡ None) }
+/// The trees of a list.
+fn trees_of(tree: &Tree) -> Option<&[Tree]>
+    ensures list { IfSome result (λ list. view tree.now ≡ node (seen list.now)) }
+    ensures none { IfNone result ((s : State) → outcome_of s (view tree.now) ≡ refused 1) }
 {
-    let Tree::List(list) = tree else {
-        return None;
-    };
-    let (first, arguments) = list.as_slice().split_first()?;
-    let name = symbol_of(first)?;
-    Some((name, arguments))
+    match tree {
+        Tree::Word(_) => None,
+        Tree::List(list) => Some(list.as_slice()),
+    }
 }
 
-/// A command without arguments.
-fn alone(arguments: &[Tree], act: Act) -> Result<Act, Refusal>
-    ensures act { IfOk result (λ asked. asked ≡ act) }
-    ensures accepted { OnOk result ((command : Command) → bare command (trees_from (map view arguments.now)) ≡ Some command) }
-    ensures refused { OnErr result ((command : Command) → bare command (trees_from (map view arguments.now)) ≡ None) }
+/// The name that the trees of a list begin with, and those after it.
+#[tactic(auto, using(crate::proofs::Ruling::headless, crate::proofs::Ruling::nameless, crate::proofs::Ruling::named))]
+fn named_list(list: &[Tree]) -> Option<(CommandName, &[Tree])>
+    ensures command { IfSome result (λ p. (s : State) → outcome_of s (node (seen list.now)) ≡ outcome_named s (command_meaning p.0) (seen p.1.now)) }
+    ensures none { IfNone result ((s : State) → outcome_of s (node (seen list.now)) ≡ refused 1) }
 {
-    if arguments.is_empty() {
-        Ok(act)
+    let (head, arguments) = headed(list)?;
+    let name = name_of(head)?;
+    Some((command_name(name.as_bytes()), arguments))
+}
+
+/// The name that a token is.
+fn name_of(token: &Token) -> Option<&Text>
+    ensures name { IfSome result (λ name. IsNamed (token_view token.now) name.now) }
+    ensures none { IfNone result (may_be_name (token_view token.now) ≡ false) }
+{
+    if is_name(token) {
+        symbol_name(token)
     } else {
-        Err(Refusal::Unsupported)
+        None
     }
 }
 
@@ -190,91 +234,64 @@ fn declare(
     names: &mut Names,
     terms: &mut Terms,
     arguments: &[Tree],
-) -> Result<Act, Refusal>
-    ensures accepted { IfOk result (λ act. (asserted : List ℕ) (s : State) → IsLive terms.old (record { names = names.old; asserted = asserted }) s → Leaves s (declaration_of s (trees_from (map view arguments.now))) (asked act) terms.new (record { names = names.new; asserted = asserted })) }
-    ensures refused { IsErrOf result Refusal.Unsupported → (asserted : List ℕ) (s : State) → IsLive terms.old (record { names = names.old; asserted = asserted }) s → declaration_of s (trees_from (map view arguments.now)) ≡ None }
+) -> Result<(), Refusal>
+    ensures accepted { OnOk result ((asserted : List ℕ) (s : State) → IsLive terms.old (record { names = names.old; asserted = asserted }) s → Leaves s (outcome_by s declare_const_name (seen arguments.now)) changed terms.new (record { names = names.new; asserted = asserted })) }
+    ensures refused { IfErr result (λ refusal. IfSome (error_of refusal) (λ n. (asserted : List ℕ) (s : State) → IsLive terms.old (record { names = names.old; asserted = asserted }) s → outcome_by s declare_const_name (seen arguments.now) ≡ refused n)) }
     ensures unchanged_terms { OnErr result (terms.new ≡ terms.old) }
     ensures unchanged { OnErr result (names.new ≡ names.old) }
 {
-    let Some(name) = declared_name(arguments) else {
-        return Err(Refusal::Unsupported);
+    let Some((name, sort)) = declared(arguments) else {
+        return Err(Refusal::Syntax);
     };
-    if !can_declare(names, name) {
-        return Err(Refusal::Unsupported);
-    }
-    let mark = terms.mark();
-    match add_constant(alloc, names, terms, name) {
-        Ok(()) => Ok(Act::Changed),
-        Err(Memory) => {
-            terms.cut(mark);
-            Err(Refusal::Memory)
+    match declaration_refusal(names, name, sort) {
+        Some(refusal) => Err(refusal),
+        None => {
+            let mark = terms.mark();
+            match add_constant(alloc, names, terms, name) {
+                Ok(()) => Ok(()),
+                Err(Memory) => {
+                    terms.cut(mark);
+                    Err(Refusal::Memory)
+                }
+            }
         }
     }
 }
 
-/// The name of a constant that is declared, of sort `Bool`.
-#[tactic(auto, using(crate::proofs::Nameless::nameless_constant, crate::proofs::Nameless::nameless_sort))]
-fn declared_name(arguments: &[Tree]) -> Option<&Text>
-    ensures name { IfSome result (λ name. (s : State) → declaration_of s (trees_from (map view arguments.now)) ≡ declaration_by s name.now) }
-    ensures none { IfNone result ((s : State) → declaration_of s (trees_from (map view arguments.now)) ≡ None) }
+/// The name and the sort of a constant that is declared.
+#[tactic(auto, using(crate::proofs::Ruling::declares_nothing, crate::proofs::Ruling::declares_no_name, crate::proofs::Ruling::declares))]
+fn declared(arguments: &[Tree]) -> Option<(&Text, &Tree)>
+    ensures declaration { IfSome result (λ p. (s : State) → outcome_by s declare_const_name (seen arguments.now) ≡ declaration_of s p.0.now (view p.1.now)) }
+    ensures none { IfNone result ((s : State) → outcome_by s declare_const_name (seen arguments.now) ≡ refused 1) }
 {
-    match arguments {
-        [first, second] => {
-            let name = symbol_of(first)?;
-            let sort = symbol_of(second)?;
-            (sort.as_bytes() == b"Bool".as_slice()).then_some(name)
+    let (first, sort) = pair(arguments)?;
+    let name = symbol_of(first)?;
+    Some((name, sort))
+}
+
+/// Why no constant is declared by this name, of this sort.
+fn declaration_refusal(names: &Names, name: &Text, sort: &Tree) -> Option<Refusal>
+    ensures refused { IfSome result (λ refusal. IfSome (error_of refusal) (λ n. declaration_by names.now name.now (view sort.now) ≡ refused n)) }
+    ensures accepted { IfNone result (declaration_by names.now name.now (view sort.now) ≡ accepted (declare_const (bool_constant name.now))) }
+    ensures fresh { IfNone result (number_named names.now name.now ≡ None) }
+{
+    match sort {
+        Tree::Word(token) => {
+            if !is_symbol(token, b"Bool") {
+                return Some(Refusal::UnknownSymbol);
+            }
+            if is_declared(names, name) {
+                return Some(Refusal::Declared);
+            }
+            None
         }
-        _ => None,
+        Tree::List(_) => {
+            if is_declared(names, name) {
+                return Some(Refusal::Declared);
+            }
+            Some(Refusal::Sort)
+        }
     }
-}
-
-/// A constant may be declared by this name.
-fn can_declare(names: &Names, name: &Text) -> bool
-    ensures answer { result ≡ may_declare names.now name.now }
-{
-    !is_one_of(&RESERVED_WORDS, name.as_bytes())
-        && !is_one_of(&OPERATORS, name.as_bytes())
-        && names.get(name).is_none()
-        && names.len() < CONSTANT_LIMIT
-}
-
-/// Words that no symbol may be (SMT-LIB 2.6, section 3.1).
-const RESERVED_WORDS: [&[u8]; 8] = [
-    b"!", b"_", b"as", b"exists", b"forall", b"let", b"match", b"par",
-];
-
-/// The operators of the theories Core, Ints, Reals and Reals_Ints, which are declared from the start.
-const OPERATORS: [&[u8]; 24] = [
-    b"true",
-    b"false",
-    b"not",
-    b"and",
-    b"or",
-    b"=>",
-    b"xor",
-    b"=",
-    b"distinct",
-    b"ite",
-    b"<=",
-    b"<",
-    b">=",
-    b">",
-    b"+",
-    b"*",
-    b"-",
-    b"/",
-    b"div",
-    b"mod",
-    b"abs",
-    b"to_real",
-    b"to_int",
-    b"is_int",
-];
-
-fn is_one_of(words: &[&[u8]], name: &[u8]) -> bool
-    ensures listed { result ≡ list_any (λ word. bytes_eq name.now word.now) words.now }
-{
-    words.iter().any(|word| name == *word)
 }
 
 /// Adds a constant of a name that isn't there yet to the table and to the names. After an error the table may have grown.
@@ -299,28 +316,36 @@ fn add_constant(
 }
 
 /// Asserts the term of a tree.
+#[tactic(auto, using(crate::proofs::Ruling::asserts_nothing))]
 fn assert_term(
     alloc: Global,
     names: &Names,
     asserted: &mut Vec<TermId>,
     terms: &mut Terms,
     arguments: &[Tree],
-) -> Result<Act, Refusal>
-    ensures accepted { IfOk result (λ act. (s : State) → IsLive terms.old (record { names = names.now; asserted = asserted.old.items }) s → Leaves s (assertion_of s (trees_from (map view arguments.now))) (asked act) terms.new (record { names = names.now; asserted = asserted.new.items })) }
-    ensures refused { IsErrOf result Refusal.Unsupported → (s : State) → IsLive terms.old (record { names = names.now; asserted = asserted.old.items }) s → assertion_of s (trees_from (map view arguments.now)) ≡ None }
+) -> Result<(), Refusal>
+    ensures accepted { OnOk result ((s : State) → IsLive terms.old (record { names = names.now; asserted = asserted.old.items }) s → Leaves s (outcome_by s assert_name (seen arguments.now)) changed terms.new (record { names = names.now; asserted = asserted.new.items })) }
+    ensures refused { IfErr result (λ refusal. IfSome (error_of refusal) (λ n. (s : State) → IsLive terms.old (record { names = names.now; asserted = asserted.old.items }) s → outcome_by s assert_name (seen arguments.now) ≡ refused n)) }
     ensures unchanged_terms { OnErr result (terms.new ≡ terms.old) }
     ensures unchanged { OnErr result (asserted.new.items ≡ asserted.old.items) }
     ensures front { take (length asserted.old.items) asserted.new.items ≡ asserted.old.items }
 {
-    let [tree] = arguments else {
-        return Err(Refusal::Unsupported);
+    let Some(tree) = only(arguments) else {
+        return Err(Refusal::Syntax);
     };
+    if has_unknown_symbol(names, tree) {
+        return Err(Refusal::UnknownSymbol);
+    }
     let mark = terms.mark();
     match add_assertion(alloc, names, asserted, terms, tree) {
-        Ok(()) => Ok(Act::Changed),
-        Err(refusal) => {
+        Ok(()) => Ok(()),
+        Err(ElaborateError::Sort) => {
             terms.cut(mark);
-            Err(refusal)
+            Err(Refusal::Sort)
+        }
+        Err(ElaborateError::Memory) => {
+            terms.cut(mark);
+            Err(Refusal::Memory)
         }
     }
 }
@@ -332,15 +357,15 @@ fn add_assertion(
     asserted: &mut Vec<TermId>,
     terms: &mut Terms,
     tree: &Tree,
-) -> Result<(), Refusal>
+) -> Result<(), ElaborateError>
     ensures grows { Grows terms.old terms.new }
     ensures added { OnOk result ((cs : List spec.Constant) → AreNamesOf terms.old names.now cs → HasAsserted cs (view tree.now) terms.new asserted.old.items asserted.new.items) }
-    ensures refused { IsErrOf result Refusal.Unsupported → (cs : List spec.Constant) → AreNamesOf terms.old names.now cs → term_of cs (view tree.now) ≡ None }
+    ensures refused { IsErrOf result ElaborateError.Sort → (cs : List spec.Constant) → AreNamesOf terms.old names.now cs → term_of cs (view tree.now) ≡ None }
     ensures unchanged { OnErr result (asserted.new.items ≡ asserted.old.items) }
     ensures front { take (length asserted.old.items) asserted.new.items ≡ asserted.old.items }
 {
     match elaborate(alloc, names, terms, tree) {
-        Err(refusal) => Err(refusal),
+        Err(error) => Err(error),
         Ok(id) => {
             asserted.push(id)?;
             Ok(())

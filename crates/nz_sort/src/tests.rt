@@ -103,8 +103,8 @@ fn refuses_what_is_not(rt: HostRuntime) -> Result<(), Fail> {
 #[test]
 fn tells_numbers(rt: HostRuntime) -> Result<(), Fail> {
     let commands = [
-        ("f x :a", TokenTest::Number, false),
-        ("f ( x ( 0.0 ) )", TokenTest::Number, true),
+        ("f x :a", TokenTest::OfNumberTerm, false),
+        ("f ( x ( 0.0 ) )", TokenTest::OfNumberTerm, true),
         (
             "f 170141183460469231731687303715884105727",
             TokenTest::Wide,

@@ -6,7 +6,7 @@ ghost use Rattle.nz_spec.specs.Bounds as bounds;
 ghost use Rattle.nz_sort.specs.Form.{seen};
 ghost use Rattle.nz_sort.specs.Tokens.{meaning_of};
 
-use crate::form::is_number;
+use crate::taken::is_of_number_term;
 use nz_sexpr::{Token, Tree};
 
 /// The greatest numerator and the greatest denominator.
@@ -22,8 +22,8 @@ pub enum TokenTest {
     Wide,
     /// A decimal of too many places.
     LongDecimal,
-    /// A numeral or a decimal.
-    Number,
+    /// A token that only terms over numbers, or a `let`, have.
+    OfNumberTerm,
 }
 
 /// Whether some token of the tree, at any depth, meets the test.
@@ -39,7 +39,7 @@ pub fn has_token(tree: &Tree, test: TokenTest) -> bool
 
 /// Whether some token of the trees meets the test.
 #[cycle(tokens)]
-fn have_token(list: &[Tree], test: TokenTest) -> bool
+pub(crate) fn have_token(list: &[Tree], test: TokenTest) -> bool
     ensures found { result ≡ bounds.have_token (meaning_of test) (seen list.now) }
 {
     for tree in list {
@@ -56,7 +56,7 @@ fn meets(token: &Token, test: TokenTest) -> bool
     match test {
         TokenTest::Wide => is_wide(token),
         TokenTest::LongDecimal => is_long_decimal(token),
-        TokenTest::Number => is_number(token),
+        TokenTest::OfNumberTerm => is_of_number_term(token),
     }
 }
 
@@ -106,7 +106,7 @@ fn are_wide_around_point(bytes: &[u8]) -> bool
 }
 
 /// The bytes before the first point, and those after it.
-fn around_point(bytes: &[u8]) -> (&[u8], &[u8])
+pub(crate) fn around_point(bytes: &[u8]) -> (&[u8], &[u8])
     ensures front { result.0.now ≡ front_of bytes.now }
     ensures places { result.1.now ≡ places_of bytes.now }
 {
@@ -119,7 +119,7 @@ fn around_point(bytes: &[u8]) -> (&[u8], &[u8])
 }
 
 /// The number that the digits spell after those that spell `start`, or none where it is above the greatest.
-fn value_onto(start: u128, digits: &[u8]) -> Option<u128>
+pub(crate) fn value_onto(start: u128, digits: &[u8]) -> Option<u128>
     requires { start ≤ bounds.greatest_number }
     ensures value { IfSome result (λ value. value ≡ bounds.value_onto start digits.now) }
     ensures bounded { IfSome result (λ value. value ≤ bounds.greatest_number) }

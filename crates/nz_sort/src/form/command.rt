@@ -14,7 +14,7 @@ use nz_sexpr::{Token, Tree};
 
 /// The commands by name.
 #[derive(Clone, Copy, Debug, PartialEq, Eq)]
-pub(super) enum CommandName {
+pub(crate) enum CommandName {
     Assert,
     AssertSoft,
     CheckSat,
@@ -66,7 +66,7 @@ const COMMAND_NAMES: [(&[u8], CommandName); 22] = [
     (b"set-option", CommandName::SetOption),
 ];
 
-pub(super) fn command_name(name: &[u8]) -> CommandName
+pub(crate) fn command_name(name: &[u8]) -> CommandName
     ensures named { command_meaning result ≡ form.command_name name.now }
 {
     for (listed, command) in &COMMAND_NAMES {
@@ -78,7 +78,7 @@ pub(super) fn command_name(name: &[u8]) -> CommandName
 }
 
 /// The arguments are of the form of the command of this name.
-pub(super) fn has_form(name: CommandName, arguments: &[Tree]) -> bool
+pub(crate) fn has_form(name: CommandName, arguments: &[Tree]) -> bool
     ensures form { result ≡ form.has_form (command_meaning name) (seen arguments.now) }
 {
     match name {
@@ -438,7 +438,7 @@ fn named_attribute(name: &[u8]) -> WishAttribute
 }
 
 /// The first attribute, its value, and the trees after them.
-fn attribute(list: &[Tree]) -> Option<(&Tree, &Tree, &[Tree])>
+pub(crate) fn attribute(list: &[Tree]) -> Option<(&Tree, &Tree, &[Tree])>
     ensures first { IfSome result (λ p. seen list.now ≡ trees (view p.0.now) (trees (view p.1.now) (seen p.2.now))) }
     ensures none { IfNone result (IsShort (seen list.now)) }
 {

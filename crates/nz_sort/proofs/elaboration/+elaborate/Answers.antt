@@ -7,7 +7,7 @@ use Rattle.nz_spec.specs.Script.{term_of, terms_of, takes}
 use Rattle.nz_sort.specs.Elaborate.{Grows, EachElaborates, Elaborates, tree_size, trees_size}
 use Rattle.nz_sort.specs.Operators.{operator_head}
 use Rattle.nz_sort.proofs.Elaborating.{grows_more, names_kept, within_kept, each_kept, each_push, all_from_each, terms_refused, map_round, map_next, item_smaller, operation_none, operation_refused, operation_returned}
-use Rattle.nz_sort.specs.declared.elaboration.Refusal.TheVariants.{Unsupported}
+use Rattle.nz_sort.specs.declared.elaboration.ElaborateError.TheVariants.{Sort}
 use Rattle.nz_sort.proofs.elaboration.+elaborate.Goals as goal
 
 pub elaborate_all-elaborate-requires : goal.elaborate_all-elaborate-requires
@@ -21,7 +21,7 @@ elaborate_all-returns-in-Err-clause-refused t c = λ err cs a.
     (let before = map view (take c.loop-tree.tree-index c.args.trees.now) in
     let item = view c.tree-item.result in
     let more = map view (drop (suc c.loop-tree.tree-index) c.args.trees.now) in
-    let same : c.in-Err.refusal ≡ Unsupported = cc in
+    let same : c.in-Err.error ≡ Sort = cc in
     let none : term_of cs item ≡ None =
     c.in-Err.ensures.refused (ap (λ r. Err r) same) cs (names_kept _ _ c.loop-tree.invariant.grown c.args.names.now cs a) in
     ap (λ l. terms_of cs (trees_from l)) (sym (map_round view c.args.trees.now c.loop-tree.tree-index c.tree-item.result c.loop-tree-test.true c.tree-item.is))
@@ -55,7 +55,7 @@ elaborate_all-loop-tree-preserved t c =
 
 pub operation-returns-in-Err-clause-refused : goal.operation-returns-in-Err-clause-refused
 operation-returns-in-Err-clause-refused t c = λ err cs a.
-    (let same : c.in-Err.refusal ≡ Unsupported = cc in
+    (let same : c.in-Err.error ≡ Sort = cc in
     operation_none cs _ _ _ c.in-Some.ensures.operation (c.in-Err.ensures.refused (ap (λ r. Err r) same) cs a))
 
 pub operation-returns-in-Ok-clause-found : goal.operation-returns-in-Ok-clause-found

@@ -1,4 +1,4 @@
-use Rattle.std.proofs.Common.{◌<◌, arith, map}
+use Rattle.std.proofs.Common.{◌<◌, arith}
 use Rattle.nz_sexpr.specs.View.{view}
 use Rattle.nz_sort.specs.Elaborate.{tree_size, trees_size}
 use Rattle.nz_sort.specs.Form.{seen}

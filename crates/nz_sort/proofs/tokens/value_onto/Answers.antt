@@ -1,4 +1,4 @@
-use Rattle.std.proofs.Common.{◌<◌, arith, lit<}
+use Rattle.std.proofs.Common.{arith, lit<}
 use Rattle.nz_sort.proofs.Digits.{wide_next, wide_then}
 use Rattle.nz_sort.proofs.tokens.value_onto.Goals as goal
 

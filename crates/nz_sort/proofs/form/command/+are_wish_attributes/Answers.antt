@@ -1,5 +1,4 @@
-use Rattle.std.proofs.Common.{◌∙◌, ap, arith}
-use Rattle.nz_sort.specs.Elaborate.{trees_size}
+use Rattle.std.proofs.Common.{◌∙◌}
 use Rattle.nz_sort.proofs.Forming.{short_attributes}
 use Rattle.nz_sort.proofs.form.command.+are_wish_attributes.Goals as goal
 

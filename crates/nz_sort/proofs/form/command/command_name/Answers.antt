@@ -1,4 +1,4 @@
-use Rattle.std.proofs.Common.{◌≡◌, ◌∙◌, sym}
+use Rattle.std.proofs.Common.{◌∙◌, sym}
 use Rattle.nz_sort.proofs.Forming.{not_listed}
 use Rattle.nz_sort.proofs.form.command.command_name.Goals as goal
 

@@ -1,11 +1,18 @@
-use Rattle.std.proofs.Common.{ap, ◌∙◌}
-use Rattle.std.proofs.lemmas.Result.{IfOk-weaker}
-use Rattle.nz_sort.specs.Commands.{word_named}
-use Rattle.nz_sort.proofs.Living.{carried_out}
+use Rattle.std.proofs.Common.{◌∙◌, sym, subst}
+use Rattle.std.proofs.lemmas.Result.{IfOk-weaker, IfErr-weaker}
+use Rattle.nz_sort.specs.Acts.{asked, error_of}
+use Rattle.nz_sort.specs.Live.{Leaves}
+use Rattle.nz_sort.proofs.Ruling.{if_some_weaker}
 use Rattle.nz_sort.proofs.live.Live.command.Goals as goal
 
 pub returns-clause-accepted : goal.returns-clause-accepted
 returns-clause-accepted c =
-    IfOk-weaker c.carry_out.result _ _
-    (λ act h s live same. carried_out s _ c.in-Some.name.now c.in-Some-word_of.word _ _ _ _ (c.in-Some.ensures.command s) (c.in-Some-word_of.ensures.named ∙ ap word_named c.as_bytes.ensures.bytes) (h s live same))
-    c.carry_out.ensures.accepted
+    IfOk-weaker c.named.result _ _
+    (λ act h s live. subst (λ o. Leaves s o (asked act) c.named.new.terms c.named.new.self) (sym (c.in-Some.ensures.command s)) (h s live))
+    c.named.ensures.accepted
+
+pub returns-clause-refused : goal.returns-clause-refused
+returns-clause-refused c =
+    IfErr-weaker c.named.result _ _
+    (λ refusal h. if_some_weaker (error_of refusal) (λ n told s live. c.in-Some.ensures.command s ∙ told s live) h)
+    c.named.ensures.refused
