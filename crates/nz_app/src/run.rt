@@ -159,8 +159,9 @@ fn is_out_of_memory(kept: &Kept) -> bool
         Reply::Quiet => false,
         Reply::Sat(_) => false,
         Reply::Unsat => false,
-        Reply::Unknown => false,
+        Reply::Unknown(_) => false,
         Reply::Model(_) => false,
+        Reply::Reason(_) => false,
         Reply::Unsupported => false,
     }
 }
@@ -185,8 +186,9 @@ fn is_an_error(kept: &Kept) -> bool
         Reply::Quiet => false,
         Reply::Sat(_) => false,
         Reply::Unsat => false,
-        Reply::Unknown => false,
+        Reply::Unknown(_) => false,
         Reply::Model(_) => false,
+        Reply::Reason(_) => false,
         Reply::Unsupported => false,
     }
 }

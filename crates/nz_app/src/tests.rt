@@ -124,12 +124,13 @@ fn other_words_are_not_taken(rt: HostRuntime) -> Result<(), Fail> {
 
 #[test]
 fn a_check_uses_no_more_units_than_the_words_allow(rt: HostRuntime) -> Result<(), Fail> {
-    let script = b"(declare-const p Bool)(assert p)(check-sat)";
+    let script = b"(declare-const p Bool)(assert p)(check-sat)(get-info :reason-unknown)";
     let mut input = PlainSource::new(script.as_slice().to_vec(rt.alloc())?, 43);
     let mut out = PlainSink::new(rt.alloc(), ROOM)?;
     let words = ["nuz", "solve", "--work", "0"];
     let ended = run_words(rt.alloc(), &words, &mut input, &mut out)?;
     assert_eq!(rt; ended.status, DONE);
-    assert_eq!(rt; out.bytes(), b"unknown\n".as_slice());
+    let wanted = b"unknown\n(:reason-unknown (spent 0))\n";
+    assert_eq!(rt; out.bytes(), wanted.as_slice());
     Ok(())
 }

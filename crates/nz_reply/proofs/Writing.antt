@@ -62,13 +62,16 @@ pub parts_text-next : (ps : List (Bor (List ℕ))) (i : ℕ) (d : Bor (List ℕ)
     → parts_text (drop i ps) ≡ (get_or ps i d).now ++ parts_text (drop (i + 1) ps)
 parts_text-next ps i d h = rw (add-one, drop-cons ps i d) refl
 
+-- three texts, one behind another
+pub appends_three : (a b c d : Option (List ℕ)) (t1 t2 t3 : List ℕ) → Appends a b t1 → Appends b c t2 → Appends c d t3 → Appends a d (t1 ++ t2 ++ t3)
+appends_three a b c d t1 t2 t3 p1 p2 p3 = Appends-trans a c d (t1 ++ t2) t3 (Appends-trans a b c t1 t2 p1 p2) p3
+
 -- seven texts, one behind another
 pub appends_seven : (a b c d e f g h : Option (List ℕ)) (t1 t2 t3 t4 t5 t6 t7 : List ℕ)
     → Appends a b t1 → Appends b c t2 → Appends c d t3 → Appends d e t4 → Appends e f t5 → Appends f g t6 → Appends g h t7
     → Appends a h (t1 ++ t2 ++ t3 ++ t4 ++ t5 ++ t6 ++ t7)
 appends_seven a b c d e f g h t1 t2 t3 t4 t5 t6 t7 p1 p2 p3 p4 p5 p6 p7 =
-    let q2 = Appends-trans a b c t1 t2 p1 p2 in
-    let q3 = Appends-trans a c d (t1 ++ t2) t3 q2 p3 in
+    let q3 = appends_three a b c d t1 t2 t3 p1 p2 p3 in
     let q4 = Appends-trans a d e (t1 ++ t2 ++ t3) t4 q3 p4 in
     let q5 = Appends-trans a e f (t1 ++ t2 ++ t3 ++ t4) t5 q4 p5 in
     let q6 = Appends-trans a f g (t1 ++ t2 ++ t3 ++ t4 ++ t5) t6 q5 p6 in

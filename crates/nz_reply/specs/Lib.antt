@@ -2,4 +2,5 @@ pub mod Bindings
 pub mod Journals
 pub mod Notes
 pub mod Parts
+pub mod Reasons
 pub mod Replies

@@ -5,6 +5,7 @@ use Rattle.nz_spec.specs.Transcript as transcript
 use Rattle.nz_spec.specs.Work.{WorkList}
 use Rattle.nz_sexpr.specs.View.{heard_view}
 use Rattle.nz_reply.specs.Notes.{noted_line}
+use Rattle.nz_reply.specs.Reasons.{reason_of}
 use Rattle.nz_reply.specs.declared.reply.Reply.{Reply}
 use Rattle.nz_reply.specs.declared.reply.Reply.TheVariants as reply
 use Rattle.nz_reply.specs.declared.reply.Cause.{Cause}
@@ -16,8 +17,9 @@ abbrev pub reply_of : Reply → spec.Reply
 reply_of reply.Quiet = spec.quiet
 reply_of (reply.Sat bindings) = spec.sat bindings
 reply_of reply.Unsat = spec.unsat
-reply_of reply.Unknown = spec.unknown
+reply_of (reply.Unknown reason) = spec.unknown (reason_of reason)
 reply_of (reply.Model bindings) = spec.model bindings
+reply_of (reply.Reason reason) = spec.reason (reason_of reason)
 reply_of reply.Unsupported = spec.unsupported
 reply_of (reply.Error number) = spec.error number
 

@@ -1,14 +1,18 @@
 //! Replies: what they hold, and their texts (SMT-LIB 2.6, section 4.2).
-ghost use Rattle.std.specs.Prelude.{◌≡◌, ◌≤◌, [], ◌∷◌, ◌++◌, length, map, IfOk, OnOk, OnErr};
+ghost use Rattle.std.specs.Prelude.{◌≡◌, ◌≤◌, [], ◌∷◌, ◌++◌, decimal, length, map, IfOk, OnOk, OnErr};
 ghost use Rattle.std.specs.Io.KnownBytes.{Appends};
 ghost use Rattle.nz_spec.specs.Outside.{HasRisen};
-ghost use Rattle.nz_spec.specs.Reply.{binding_text, error, model as model_reply, reply_text, sort_text, symbol_text, value_text};
+ghost use Rattle.nz_spec.specs.Reply.{binding_text, model as model_reply, reason as reason_reply, reply_text, sort_text, symbol_text, value_text};
+ghost use Rattle.nz_spec.specs.Script.{units_spent};
 ghost use Rattle.nz_reply.specs.Bindings.{binding_of};
+ghost use Rattle.nz_reply.specs.Reasons.{reason_of};
 ghost use Rattle.nz_reply.specs.Replies.{reply_of};
 ghost use Rattle.nz_term.specs.Constants.{sort_of};
 ghost use Rattle.nz_term.specs.Values.{value_of};
 
+use crate::errors::error_text;
 use crate::write::{WriteFault, write_text};
+use itoa::Buffer;
 use nz_base::{Lines, Memory, Sink};
 use nz_sexpr::{Heard, is_simple_symbol};
 use nz_term::{Constant, Sort, TermId, Value};
@@ -74,17 +78,12 @@ impl Bindings {
     }
 }
 
-/// The number of the error for a bad or a stray token.
-pub const SYNTAX_ERROR: u8 = 1;
-
-/// The number of the error for a command past a limit.
-pub const LIMIT_ERROR: u8 = 6;
-
-/// The number of the error for a command that the input ends inside of.
-pub const INCOMPLETE_COMMAND: u8 = 10;
-
-/// The number of the error for want of memory.
-pub const OUT_OF_MEMORY: u8 = 11;
+/// Why a check wasn't decided.
+#[derive(Clone, Copy, Debug, PartialEq, Eq)]
+pub enum Reason {
+    /// Each of so many units of work was used.
+    UnitsSpent(u64),
+}
 
 /// A reply.
 #[derive(Debug, Drop)]
@@ -94,10 +93,13 @@ pub enum Reply {
     /// With the model that was found.
     Sat(Bindings),
     Unsat,
-    Unknown,
+    /// And why.
+    Unknown(Reason),
     /// The model of the last answer.
     Model(Bindings),
-    /// The command is none that is accepted.
+    /// The reason of the last answer.
+    Reason(Reason),
+    /// The program doesn't take the command.
     Unsupported,
     /// An error, by its number.
     Error(u8),
@@ -172,24 +174,11 @@ pub fn write_reply<K: Sink>(sink: &mut K, reply: &Reply) -> Result<(), WriteFaul
         Reply::Quiet => write_text(sink, b""),
         Reply::Sat(_) => write_text(sink, b"sat\n"),
         Reply::Unsat => write_text(sink, b"unsat\n"),
-        Reply::Unknown => write_text(sink, b"unknown\n"),
+        Reply::Unknown(_) => write_text(sink, b"unknown\n"),
         Reply::Model(bindings) => write_model(sink, &bindings.bindings),
+        Reply::Reason(reason) => write_reason(sink, *reason),
         Reply::Unsupported => write_text(sink, b"unsupported\n"),
         Reply::Error(number) => write_text(sink, error_text(*number)),
-    }
-}
-
-fn error_text(number: u8) -> &'static [u8]
-    ensures text { result.now ≡ reply_text (error number) }
-{
-    if number == SYNTAX_ERROR {
-        b"(error \"1 syntax\")\n"
-    } else if number == LIMIT_ERROR {
-        b"(error \"6 limit\")\n"
-    } else if number == INCOMPLETE_COMMAND {
-        b"(error \"10 incomplete command\")\n"
-    } else {
-        b"(error \"11 out of memory\")\n"
     }
 }
 
@@ -210,6 +199,42 @@ fn write_model<K: Sink>(sink: &mut K, bindings: &Vec<Binding>) -> Result<(), Wri
         return Err(fault);
     }
     Ok(())
+}
+
+fn write_reason<K: Sink>(sink: &mut K, reason: Reason) -> Result<(), WriteFault>
+    ensures whole { OnOk result (Appends (K.held sink.old) (K.held sink.new) (reply_text (reason_reply (reason_of reason)))) }
+    ensures later { K.faults sink.old ≤ K.faults sink.new }
+    ensures fault { OnErr result (HasRisen K.last (K.faults sink.old) (K.faults sink.new)) }
+{
+    match reason {
+        Reason::UnitsSpent(units) => write_units_spent(sink, units),
+    }
+}
+
+fn write_units_spent<K: Sink>(sink: &mut K, units: u64) -> Result<(), WriteFault>
+    ensures whole { OnOk result (Appends (K.held sink.old) (K.held sink.new) (reply_text (reason_reply (units_spent units)))) }
+    ensures later { K.faults sink.old ≤ K.faults sink.new }
+    ensures fault { OnErr result (HasRisen K.last (K.faults sink.old) (K.faults sink.new)) }
+{
+    if let Err(fault) = write_text(sink, b"(:reason-unknown (spent ") {
+        return Err(fault);
+    }
+    if let Err(fault) = write_number(sink, units) {
+        return Err(fault);
+    }
+    if let Err(fault) = write_text(sink, b"))\n") {
+        return Err(fault);
+    }
+    Ok(())
+}
+
+fn write_number<K: Sink>(sink: &mut K, number: u64) -> Result<(), WriteFault>
+    ensures whole { OnOk result (Appends (K.held sink.old) (K.held sink.new) (decimal number)) }
+    ensures later { K.faults sink.old ≤ K.faults sink.new }
+    ensures fault { OnErr result (HasRisen K.last (K.faults sink.old) (K.faults sink.new)) }
+{
+    let mut digits = Buffer::new();
+    write_text(sink, digits.format(number).as_bytes())
 }
 
 fn write_binding<K: Sink>(sink: &mut K, binding: &Binding) -> Result<(), WriteFault>

@@ -1,10 +1,11 @@
 -- What a desk holds, and what its answers are.
-use Rattle.std.specs.Prelude.{◌≡◌, ℕ, true, false, List}
+use Rattle.std.specs.Prelude.{◌≡◌, ℕ, true, false, List, option_map}
 use Rattle.nz_spec.specs.Text.{What}
 use Rattle.nz_spec.specs.Table.{Node}
 use Rattle.nz_spec.specs.Script.{State}
 use Rattle.nz_spec.specs.Reply.{IsRight, IsExit, after}
 use Rattle.nz_sort.specs.Live.{IsLive}
+use Rattle.nz_reply.specs.Reasons.{reason_of}
 use Rattle.nz_reply.specs.Replies.{reply_of, cause_of}
 use Rattle.nz_session.specs.Told.{IsTold}
 use Rattle.nz_session.specs.declared.desk.Desk.{Desk}
@@ -19,6 +20,7 @@ pub record Holds {E : Type 0} (levels : E → List (List ℕ)) (limit : ℕ) (de
   pub live : IsLive desk.terms desk.live s
   pub told : IsTold (levels desk.engine) desk.told desk.live.asserted
   pub model : desk.model ≡ s.model
+  pub reason : option_map reason_of desk.reason ≡ s.reason
   pub bounded : desk.limit ≡ limit
 
 -- The answer is right for what was heard, and the desk holds what it leaves.

@@ -1,5 +1,5 @@
 //! The desk: what a command acts on, and the answer to it.
-ghost use Rattle.std.specs.Prelude.{◌≡◌, ◌<◌, ◌*◌, ◌^◌, ℕ, [], ◌∷◌, ◌++◌, length, map, slice_get, All, IfOk, IfErr, OnOk, false};
+ghost use Rattle.std.specs.Prelude.{◌≡◌, ◌<◌, ◌*◌, ◌^◌, ℕ, [], ◌∷◌, ◌++◌, length, map, slice_get, All, IfOk, IfErr, IfSome, IfNone, OnOk, false};
 ghost use Rattle.nz_sexpr.specs.View.{view, what_view};
 ghost use Rattle.nz_spec.specs.Text.{whole};
 ghost use Rattle.nz_spec.specs.Decide.{constants_in_table, HasDistinctNames, AreModelOf, IsUnsatisfiable, bindings_at, bindings_by};
@@ -7,6 +7,7 @@ ghost use Rattle.nz_spec.specs.Script.{State};
 ghost use Rattle.nz_spec.specs.Table.{term_in};
 ghost use Rattle.nz_spec.specs.Work.{IsSpent};
 ghost use Rattle.nz_reply.specs.Notes.{noted_list};
+ghost use Rattle.nz_sort.specs.Acts.{error_of};
 ghost use Rattle.nz_session.specs.Told.{IsTold};
 ghost use Rattle.nz_session.specs.Verdicts.{IfSat, OnUnsat, OnSpent};
 ghost use Rattle.nz_term.specs.Values.{value_of};
@@ -14,7 +15,8 @@ ghost use Rattle.nz_term.specs.Values.{value_of};
 use crate::decide::{Decide, Stop, Verdict};
 use nz_base::{Memory, Work};
 use nz_reply::{
-    Binding, Bindings, Cause, INCOMPLETE_COMMAND, Note, OUT_OF_MEMORY, Reply, SpentList,
+    ALREADY_DECLARED, Binding, Bindings, Cause, INCOMPLETE_COMMAND, LIMIT, NO_ANSWER,
+    NUMBER_TOO_WIDE, Note, OUT_OF_MEMORY, Reason, Reply, SORT, SYNTAX, SpentList, UNKNOWN_SYMBOL,
 };
 use nz_sexpr::{Tree, What};
 use nz_sort::{Act, Live, Refusal};
@@ -30,7 +32,7 @@ pub struct Answer {
     pub exits: bool,
 }
 
-/// What commands act on: the live state with its table of terms, the engine, and the model of the last answer.
+/// What commands act on: the live state with its table of terms, the engine, and what the last answer shows.
 #[derive(Drop)]
 pub struct Desk<E: Decide> {
     alloc: Global,
@@ -42,11 +44,12 @@ pub struct Desk<E: Decide> {
     work: Work<Note>,
     limit: u64,
     model: Option<Bindings>,
+    reason: Option<Reason>,
 }
 
 impl<E: Decide> Desk<E> {
     ghost use Rattle.nz_spec.specs.Tree as script;
-    ghost use Rattle.nz_spec.specs.Script.{start, command_of, check_sat, get_model};
+    ghost use Rattle.nz_spec.specs.Script.{start, outcome_of, accepted, check_sat, get_model, get_reason};
     ghost use Rattle.nz_spec.specs.Reply.{AreModel};
     ghost use Rattle.nz_session.specs.Desk.{Holds, IsAnswer, table_of};
 
@@ -64,6 +67,7 @@ impl<E: Decide> Desk<E> {
             work: Work::new(alloc)?,
             limit,
             model: None,
+            reason: None,
         })
     }
 
@@ -85,16 +89,17 @@ impl<E: Decide> Desk<E> {
         requires { (limit : ℕ) × (s : State) × Holds E.levels limit self.old s }
         ensures right { (limit : ℕ) (s : State) → Holds E.levels limit self.old s → IsAnswer E.levels limit s (whole (view tree.now)) result self.new }
     {
-        let has_model = self.model.is_some();
-        match self.live.command(&mut self.terms, tree, has_model) {
-            Err(Refusal::Unsupported) => said(Reply::Unsupported),
-            Err(Refusal::Memory) => said(Reply::Error(OUT_OF_MEMORY)),
+        match self.live.command(&mut self.terms, tree) {
+            Err(refusal) => said(Reply::Error(error_number(refusal))),
             Ok(Act::Changed) => {
                 self.model = None;
+                self.reason = None;
                 said(Reply::Quiet)
             }
             Ok(Act::Check) => self.check(),
             Ok(Act::ShowModel) => self.show_model(),
+            Ok(Act::ShowReason) => self.show_reason(),
+            Ok(Act::Unsupported) => said(Reply::Unsupported),
             Ok(Act::Leave) => Answer {
                 reply: Reply::Quiet,
                 cause: Cause::Plain,
@@ -106,7 +111,7 @@ impl<E: Decide> Desk<E> {
     /// The answer to `check-sat`.
     fn check(&mut self) -> Answer
         requires { (limit : ℕ) × (s : State) × Holds E.levels limit self.old s }
-        ensures right { (limit : ℕ) (s : State) (tree : script.Tree) → Holds E.levels limit self.old s → command_of s tree ≡ Some check_sat → IsAnswer E.levels limit s (whole tree) result self.new }
+        ensures right { (limit : ℕ) (s : State) (tree : script.Tree) → Holds E.levels limit self.old s → outcome_of s tree ≡ accepted check_sat → IsAnswer E.levels limit s (whole tree) result self.new }
     {
         let decided = decide(
             &mut self.engine,
@@ -120,12 +125,15 @@ impl<E: Decide> Desk<E> {
             Ok(Verdict::Sat(assign)) => self.found(&assign),
             Ok(Verdict::Unsat) => {
                 self.model = None;
+                self.reason = None;
                 said(Reply::Unsat)
             }
             Err(Stop::Spent) => {
+                let reason = Reason::UnitsSpent(self.limit);
                 self.model = None;
+                self.reason = Some(reason);
                 Answer {
-                    reply: Reply::Unknown,
+                    reply: Reply::Unknown(reason),
                     cause: Cause::Spent(SpentList {
                         limit: self.limit,
                         work: self.work.take(),
@@ -139,27 +147,38 @@ impl<E: Decide> Desk<E> {
 
     /// The answer where a model was found, which is kept for `get-model`.
     fn found(&mut self, assign: &Assign) -> Answer
-        ensures right { (limit : ℕ) (s : State) (tree : script.Tree) → Holds E.levels limit self.old s → command_of s tree ≡ Some check_sat → AreModel s (bindings_by self.old.terms assign.now) → IsAnswer E.levels limit s (whole tree) result self.new }
+        ensures right { (limit : ℕ) (s : State) (tree : script.Tree) → Holds E.levels limit self.old s → outcome_of s tree ≡ accepted check_sat → AreModel s (bindings_by self.old.terms assign.now) → IsAnswer E.levels limit s (whole tree) result self.new }
     {
         match bindings_twice(self.alloc, &self.terms, assign) {
             Ok((shown, kept)) => {
                 self.model = Some(kept);
+                self.reason = None;
                 said(Reply::Sat(shown))
             }
             Err(Memory) => said(Reply::Error(OUT_OF_MEMORY)),
         }
     }
 
-    /// The answer to `get-model` where the last answer has a model.
+    /// The answer to `get-model`.
     fn show_model(&self) -> Answer
-        ensures right { (limit : ℕ) (s : State) (tree : script.Tree) → Holds E.levels limit self.now s → command_of s tree ≡ Some get_model → IsAnswer E.levels limit s (whole tree) result self.now }
+        ensures right { (limit : ℕ) (s : State) (tree : script.Tree) → Holds E.levels limit self.now s → outcome_of s tree ≡ accepted get_model → IsAnswer E.levels limit s (whole tree) result self.now }
     {
         match &self.model {
-            None => said(Reply::Unsupported),
+            None => said(Reply::Error(NO_ANSWER)),
             Some(model) => match model.copy(self.alloc) {
                 Ok(shown) => said(Reply::Model(shown)),
                 Err(Memory) => said(Reply::Error(OUT_OF_MEMORY)),
             },
+        }
+    }
+
+    /// The answer to `get-info` of the reason of the last answer.
+    fn show_reason(&self) -> Answer
+        ensures right { (limit : ℕ) (s : State) (tree : script.Tree) → Holds E.levels limit self.now s → outcome_of s tree ≡ accepted get_reason → IsAnswer E.levels limit s (whole tree) result self.now }
+    {
+        match self.reason {
+            None => said(Reply::Error(NO_ANSWER)),
+            Some(reason) => said(Reply::Reason(reason)),
         }
     }
 
@@ -176,6 +195,7 @@ impl<E: Decide> Desk<E> {
             work,
             limit: _,
             model,
+            reason: _,
         } = self;
         drop(live);
         drop(engine);
@@ -193,6 +213,22 @@ fn said(reply: Reply) -> Answer
         reply,
         cause: Cause::Plain,
         exits: false,
+    }
+}
+
+/// The number of the error that tells a refusal.
+fn error_number(refusal: Refusal) -> u8
+    ensures told { IfSome (error_of refusal) (λ number. result ≡ number) }
+    ensures memory { IfNone (error_of refusal) (result ≡ 11) }
+{
+    match refusal {
+        Refusal::Syntax => SYNTAX,
+        Refusal::UnknownSymbol => UNKNOWN_SYMBOL,
+        Refusal::Sort => SORT,
+        Refusal::TooWide => NUMBER_TOO_WIDE,
+        Refusal::Limit => LIMIT,
+        Refusal::Declared => ALREADY_DECLARED,
+        Refusal::Memory => OUT_OF_MEMORY,
     }
 }
 

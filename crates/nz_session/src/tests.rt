@@ -151,3 +151,17 @@ fn a_model_outlives_a_check_without_memory(rt: HostRuntime) -> Result<(), Fail> 
     assert_eq!(rt; sink.bytes(), wanted.as_slice());
     Ok(())
 }
+
+#[test]
+fn a_reason_is_shown_until_an_assertion(rt: HostRuntime) -> Result<(), Fail> {
+    let mut sink = PlainSink::new(rt.alloc(), ROOM)?;
+    let script = b"(declare-const a Bool)(declare-const b Bool)(declare-const c Bool)
+        (declare-const d Bool)(declare-const e Bool)(declare-const f Bool)(assert (and a false))
+        (check-sat)(get-info :reason-unknown)(assert b)(get-info :reason-unknown)";
+    let ended = run_script(rt.alloc(), Trial::new(rt.alloc()), script, &mut sink)?;
+    assert_eq!(rt; ended.ended, Fed::Going);
+    let wanted =
+        b"unknown\n(:reason-unknown (spent 100))\n(error \"7 no answer to show\")\n";
+    assert_eq!(rt; sink.bytes(), wanted.as_slice());
+    Ok(())
+}

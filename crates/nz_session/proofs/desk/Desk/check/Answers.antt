@@ -8,7 +8,7 @@ returns-in-Ok-Sat g c =
       right = λ limit s tree h e.
           let told = rw c.asserted.ensures.asserted at c.decide-decided.ensures.told in
           let sat = rw (c.in-Ok-Sat.field-0-is, c.asserted.ensures.asserted) at c.in-Ok-Sat.ensures.sat in
-          c.found.ensures.right limit s tree (record { live = h.live; told = told; model = h.model; bounded = h.bounded }) e
+          c.found.ensures.right limit s tree (record { live = h.live; told = told; model = h.model; reason = h.reason; bounded = h.bounded }) e
           (are_model c.args.self.now.terms c.args.self.now.live s _ h.live sat);
     }
 
@@ -18,5 +18,5 @@ returns-in-Ok-Unsat g c =
       right = λ limit s tree h e.
           let told = rw c.asserted.ensures.asserted at c.decide-decided.ensures.told in
           let unsat = rw (c.in-Ok-Unsat.field-0-is, c.asserted.ensures.asserted) at c.in-Ok-Unsat.ensures.unsat in
-          unsatisfiable g.E.Decide.levels limit s tree c.said.result _ c.said.ensures.said e h.live told refl h.bounded unsat;
+          unsatisfiable g.E.Decide.levels limit s tree c.said.result _ c.said.ensures.said e h.live told refl refl h.bounded unsat;
     }
