@@ -1,14 +1,14 @@
 //! Replies: what they hold, and their texts (SMT-LIB 2.6, section 4.2).
 ghost use Rattle.std.specs.Prelude.{◌≡◌, ◌≤◌, [], ◌∷◌, ◌++◌, length, map, IfOk, OnOk, OnErr};
 ghost use Rattle.std.specs.Io.KnownBytes.{Appends};
-ghost use Rattle.nz_spec.specs.Outside.{HasRisen};
+ghost use Rattle.nz_spec.specs.Outside.{AddsFrontOf, HasRisen};
 ghost use Rattle.nz_spec.specs.Reply.{binding_text, error, model as model_reply, reply_text, sort_text, symbol_text, value_text};
 ghost use Rattle.nz_reply.specs.Bindings.{binding_of};
 ghost use Rattle.nz_reply.specs.Replies.{reply_of};
 ghost use Rattle.nz_term.specs.Constants.{sort_of};
 ghost use Rattle.nz_term.specs.Values.{value_of};
 
-use crate::write::{WriteFault, write_text};
+use crate::write::{WriteFault, write_parts, write_text};
 use nz_base::{Lines, Memory, Sink};
 use nz_sexpr::{Heard, is_simple_symbol};
 use nz_term::{Constant, Sort, TermId, Value};
@@ -162,9 +162,10 @@ impl Journal {
 ///
 /// # Errors
 ///
-/// `WriteFault` only where the sink's count of faults rose.
+/// `WriteFault` only where the sink's count of faults rose. Then a front of the text was written.
 pub fn write_reply<K: Sink>(sink: &mut K, reply: &Reply) -> Result<(), WriteFault>
     ensures whole { OnOk result (Appends (K.held sink.old) (K.held sink.new) (reply_text (reply_of reply.now))) }
+    ensures front { OnErr result (AddsFrontOf (K.held sink.old) (K.held sink.new) (reply_text (reply_of reply.now))) }
     ensures later { K.faults sink.old ≤ K.faults sink.new }
     ensures fault { OnErr result (HasRisen K.last (K.faults sink.old) (K.faults sink.new)) }
 {
@@ -195,6 +196,7 @@ fn error_text(number: u8) -> &'static [u8]
 
 fn write_model<K: Sink>(sink: &mut K, bindings: &Vec<Binding>) -> Result<(), WriteFault>
     ensures whole { OnOk result (Appends (K.held sink.old) (K.held sink.new) (reply_text (model_reply (map binding_of bindings.now.items)))) }
+    ensures front { OnErr result (AddsFrontOf (K.held sink.old) (K.held sink.new) (reply_text (model_reply (map binding_of bindings.now.items)))) }
     ensures later { K.faults sink.old ≤ K.faults sink.new }
     ensures fault { OnErr result (HasRisen K.last (K.faults sink.old) (K.faults sink.new)) }
 {
@@ -214,6 +216,7 @@ fn write_model<K: Sink>(sink: &mut K, bindings: &Vec<Binding>) -> Result<(), Wri
 
 fn write_binding<K: Sink>(sink: &mut K, binding: &Binding) -> Result<(), WriteFault>
     ensures whole { OnOk result (Appends (K.held sink.old) (K.held sink.new) (binding_text (binding_of binding.now))) }
+    ensures front { OnErr result (AddsFrontOf (K.held sink.old) (K.held sink.new) (binding_text (binding_of binding.now))) }
     ensures later { K.faults sink.old ≤ K.faults sink.new }
     ensures fault { OnErr result (HasRisen K.last (K.faults sink.old) (K.faults sink.new)) }
 {
@@ -223,27 +226,15 @@ fn write_binding<K: Sink>(sink: &mut K, binding: &Binding) -> Result<(), WriteFa
     if let Err(fault) = write_symbol(sink, binding.constant.name.as_bytes()) {
         return Err(fault);
     }
-    if let Err(fault) = write_text(sink, b" () ") {
-        return Err(fault);
-    }
-    if let Err(fault) = write_text(sink, sort_name(binding.constant.sort)) {
-        return Err(fault);
-    }
-    if let Err(fault) = write_text(sink, b" ") {
-        return Err(fault);
-    }
-    if let Err(fault) = write_text(sink, value_name(binding.value)) {
-        return Err(fault);
-    }
-    if let Err(fault) = write_text(sink, b")\n") {
-        return Err(fault);
-    }
-    Ok(())
+    let sort = sort_name(binding.constant.sort);
+    let value = value_name(binding.value);
+    write_parts(sink, &[b" () ", sort, b" ", value, b")\n"])
 }
 
 /// Writes a symbol as it is spelled: between bars, where it is no simple symbol.
 fn write_symbol<K: Sink>(sink: &mut K, name: &[u8]) -> Result<(), WriteFault>
     ensures whole { OnOk result (Appends (K.held sink.old) (K.held sink.new) (symbol_text name.now)) }
+    ensures front { OnErr result (AddsFrontOf (K.held sink.old) (K.held sink.new) (symbol_text name.now)) }
     ensures later { K.faults sink.old ≤ K.faults sink.new }
     ensures fault { OnErr result (HasRisen K.last (K.faults sink.old) (K.faults sink.new)) }
 {
