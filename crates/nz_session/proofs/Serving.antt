@@ -3,7 +3,7 @@ use Rattle.std.proofs.Common.{◌≡◌, ℕ, true, false, List, [], ◌∷◌, 
 use Rattle.std.proofs.lemmas.List.{map-append}
 use Rattle.nz_sexpr.specs.declared.heard.Heard.{Heard}
 use Rattle.nz_sexpr.specs.View.{heard_view, what_view}
-use Rattle.nz_spec.specs.Text as text
+use Rattle.nz_spec.specs.Text as spec
 use Rattle.nz_spec.specs.Outside.{AddsFrontOf}
 use Rattle.nz_spec.specs.Reply.{error, reply_text}
 use Rattle.nz_spec.specs.Script.{start}
@@ -61,5 +61,5 @@ answered_in_part ks h a b c f =
     }
 
 -- nothing was kept, and a front of the line for want of memory was written
-pub cut_in_part : (thing : text.Heard) (ks : List Kept) (b c : Option (List ℕ)) → AddsFrontOf b c (reply_text (error 11)) → AnswersInPart thing ks ks b c
+pub cut_in_part : (thing : spec.Heard) (ks : List Kept) (b c : Option (List ℕ)) → AddsFrontOf b c (reply_text (error 11)) → AnswersInPart thing ks ks b c
 cut_in_part thing ks b c f = record { later = thing ∷ []; heard = refl; text = reply_text (error 11); begins = memory_line refl refl; written = f }
