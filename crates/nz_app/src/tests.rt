@@ -108,10 +108,19 @@ fn status_by(alloc: Global, words: &[&str]) -> Result<u8, Memory> {
 #[test]
 fn other_words_are_not_taken(rt: HostRuntime) -> Result<(), Fail> {
     assert_eq!(rt; status_by(rt.alloc(), &["nuz"])?, USAGE);
-    assert_eq!(rt; status_by(rt.alloc(), &["nuz", "solve", "--work", "x"])?, USAGE);
-    assert_eq!(rt; status_by(rt.alloc(), &["nuz", "solve", "--work", "1000001"])?, USAGE);
+    assert_eq!(rt;
+        status_by(rt.alloc(), &["nuz", "solve", "--work", "x"])?,
+        USAGE
+    );
+    assert_eq!(rt;
+        status_by(rt.alloc(), &["nuz", "solve", "--work", "1000001"])?,
+        USAGE
+    );
     assert_eq!(rt; status_by(rt.alloc(), &["nuz", "solve", "--help"])?, USAGE);
-    assert_eq!(rt; status_by(rt.alloc(), &["nuz", "solve", "--work=1000000"])?, DONE);
+    assert_eq!(rt;
+        status_by(rt.alloc(), &["nuz", "solve", "--work=1000000"])?,
+        DONE
+    );
     Ok(())
 }
 
