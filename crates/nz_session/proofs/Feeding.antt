@@ -180,11 +180,10 @@ none_is h e = subst IsNone (sym e) refl
 
 -- ---- The end of the text
 
-module _ (limit : ℕ) (bytes : List ℕ) (ks : List Kept) (h : Option code.Heard) (heard : code.Heard) (some : h ≡ Some heard) (whole : IsTold script_limits bytes (things_of ks ++ told h)) where
-  -- the last thing heard was answered
-  pub finished : (new : List Kept) (b c : Option (List ℕ)) → Answers (heard_view heard) ks new b c → AreRight limit start new → IsTranscript limit bytes new
-  finished new b c answers right =
-      let all : things_of ks ++ told h ≡ things_of new = ap (λ x. things_of ks ++ told x) some ∙ sym (things-answered (heard_view heard) ks new b c answers) in
+module _ (limit : ℕ) (bytes : List ℕ) (ks : List Kept) (h : Option code.Heard) (whole : IsTold script_limits bytes (things_of ks ++ told h)) where
+  -- what was kept is all that is heard
+  finish_whole : (new : List Kept) → things_of ks ++ told h ≡ things_of new → AreRight limit start new → IsTranscript limit bytes new
+  finish_whole new all right =
       record {
         rest = [];
         front =
@@ -203,10 +202,19 @@ module _ (limit : ℕ) (bytes : List ℕ) (ks : List Kept) (h : Option code.Hear
       let split = told_split (things_of new) later whole.0 (subst (λ (l : List Heard). AreToldAs l whole.0) same whole.2) in
       (split.1, record { heard = split.0; hears = subst (Hears script_limits bytes) split.2 whole.1; told = split.3; right = right })
 
+  -- nothing was left to answer
+  pub finish_quiet : h ≡ None → AreRight limit start ks → IsTranscript limit bytes ks
+  finish_quiet none right = finish_whole ks (ap (λ x. things_of ks ++ told x) none ∙ append-nil (things_of ks)) right
+
   -- the last thing heard wasn't answered, for want of memory
   pub finish_cut : AreRight limit start ks → IsFront limit bytes ks
   finish_cut right = finish_front ks (told h) refl right
 
-  -- the sink failed at the last thing heard
-  pub finish_broken : (new : List Kept) (b c : Option (List ℕ)) → AnswersInPart (heard_view heard) ks new b c → AreRight limit start new → IsFront limit bytes new
-  finish_broken new b c part right = finish_front new part.later (ap (λ x. things_of ks ++ told x) some ∙ part.heard) right
+  module _ (heard : code.Heard) (some : h ≡ Some heard) (new : List Kept) (b c : Option (List ℕ)) where
+    -- the last thing heard was answered
+    pub finished : Answers (heard_view heard) ks new b c → AreRight limit start new → IsTranscript limit bytes new
+    finished answers right = finish_whole new (ap (λ x. things_of ks ++ told x) some ∙ sym (things-answered (heard_view heard) ks new b c answers)) right
+
+    -- the sink failed at the last thing heard
+    pub finish_broken : AnswersInPart (heard_view heard) ks new b c → AreRight limit start new → IsFront limit bytes new
+    finish_broken part right = finish_front new part.later (ap (λ x. things_of ks ++ told x) some ∙ part.heard) right

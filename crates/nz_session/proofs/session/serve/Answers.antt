@@ -39,3 +39,10 @@ returns-in-Err-clause-broken_off_written g c =
     let P : List code.Kept → Type 0 =
     λ l. AnswersInPart (heard_view c.args.heard) (all_kept c.args.kept.now.items) (all_kept l) (g.K.Sink.held c.args.sink.now) (g.K.Sink.held c.show-shown.new.sink) in
     subst P (sym items) (answered_in_part c.args.kept.now.items c.args.heard c.answer-reply.result _ _ c.in-Err.ensures.front)
+
+pub returns-then-is_err-clause-broken_off_written : goal.returns-then-is_err-clause-broken_off_written
+returns-then-is_err-clause-broken_off_written g c =
+    λ e.
+    let P : List code.Kept → Type 0 =
+    λ l. AnswersInPart (heard_view c.args.heard) (all_kept c.args.kept.now.items) (all_kept l) (g.K.Sink.held c.args.sink.now) (g.K.Sink.held c.cut.new.sink) in
+    subst P (sym c.reserve.ensures.items) (cut_in_part (heard_view c.args.heard) (all_kept c.args.kept.now.items) _ _ (c.cut.ensures.front e))
