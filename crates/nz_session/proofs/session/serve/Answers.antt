@@ -45,4 +45,4 @@ returns-then-is_err-clause-broken_off_written g c =
     λ e.
     let P : List code.Kept → Type 0 =
     λ l. AnswersInPart (heard_view c.args.heard) (all_kept c.args.kept.now.items) (all_kept l) (g.K.Sink.held c.args.sink.now) (g.K.Sink.held c.cut.new.sink) in
-    subst P (sym c.reserve.ensures.items) (cut_in_part (heard_view c.args.heard) (all_kept c.args.kept.now.items) _ _ (c.cut.ensures.front e))
+    subst P (sym {A = List code.Kept} c.reserve.ensures.items) (cut_in_part (heard_view c.args.heard) (all_kept c.args.kept.now.items) _ _ (c.cut.ensures.front e))
