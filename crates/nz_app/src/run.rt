@@ -3,7 +3,7 @@ ghost use Rattle.std.specs.Prelude.{◌≡◌, ◌≤◌, ◌<◌, ◌+◌, ◌*
 ghost use Rattle.std.specs.Io.KnownBytes.{Keeps};
 ghost use Rattle.std.specs.List.{list_any};
 ghost use Rattle.nz_spec.specs.Outside.{HasRisen};
-ghost use Rattle.nz_spec.specs.Run.{IsRun, TookMany, is_error, is_memory_error, status_of};
+ghost use Rattle.nz_spec.specs.Run.{IsBrokenOffRun, IsInterruptedRun, IsRun, TookMany, is_error, is_memory_error, status_of};
 ghost use Rattle.nz_reply.specs.Journals.{journal_of};
 ghost use Rattle.nz_reply.specs.Replies.{all_kept, kept_of};
 ghost use Rattle.nz_session.specs.Serve.{Serves, kept_by};
@@ -90,6 +90,8 @@ fn read_once<E: Decide, S: Source, K: Sink>(
     ensures going { result ≡ Turn.Going → (limit : ℕ) (first : Option (List ℕ)) (held : Option (List ℕ)) (count : ℕ) → count < 2 ^ 32 → IsReading E.levels limit session.old first (S.left input.old) held (K.held out.old) count → IsReading E.levels limit session.new first (S.left input.new) held (K.held out.new) (count + 1) }
     ensures finished { result ≡ Turn.Finished → (limit : ℕ) (first : Option (List ℕ)) (held : Option (List ℕ)) (count : ℕ) → count < 2 ^ 32 → IsReading E.levels limit session.old first (S.left input.old) held (K.held out.old) count → IsRun limit false first (S.left input.new) held (K.held out.new) (kept_by session.new) }
     ensures cut { result ≡ Turn.Cut → (limit : ℕ) (first : Option (List ℕ)) (held : Option (List ℕ)) (count : ℕ) → count < 2 ^ 32 → IsReading E.levels limit session.old first (S.left input.old) held (K.held out.old) count → IsRun limit true first (S.left input.new) held (K.held out.new) (kept_by session.new) }
+    ensures interrupted { result ≡ Turn.ReadFault → (limit : ℕ) (first : Option (List ℕ)) (held : Option (List ℕ)) (count : ℕ) → count < 2 ^ 32 → IsReading E.levels limit session.old first (S.left input.old) held (K.held out.old) count → IsInterruptedRun limit first (S.left input.new) held (K.held out.new) (kept_by session.new) }
+    ensures broken_off { result ≡ Turn.WriteFault → (limit : ℕ) (first : Option (List ℕ)) (held : Option (List ℕ)) (count : ℕ) → count < 2 ^ 32 → IsReading E.levels limit session.old first (S.left input.old) held (K.held out.old) count → IsBrokenOffRun limit first (S.left input.new) held (K.held out.new) (kept_by session.new) }
     ensures read_fault { result ≡ Turn.ReadFault → HasRisen S.last (S.faults input.old) (S.faults input.new) }
     ensures write_fault { result ≡ Turn.WriteFault → HasRisen K.last (K.faults out.old) (K.faults out.new) }
     ensures input_later { S.faults input.old ≤ S.faults input.new }
@@ -120,6 +122,8 @@ fn serve<E: Decide, S: Source, K: Sink>(session: &mut Session<E>, input: &mut S,
     requires start { (limit : ℕ) × IsReading E.levels limit session.old (S.left input.old) (S.left input.old) (K.held out.old) (K.held out.old) 0 }
     ensures finished { result ≡ End.Finished → (limit : ℕ) → IsReading E.levels limit session.old (S.left input.old) (S.left input.old) (K.held out.old) (K.held out.old) 0 → IsRun limit false (S.left input.old) (S.left input.new) (K.held out.old) (K.held out.new) (kept_by session.new) }
     ensures cut { result ≡ End.Cut → (limit : ℕ) → IsReading E.levels limit session.old (S.left input.old) (S.left input.old) (K.held out.old) (K.held out.old) 0 → IsRun limit true (S.left input.old) (S.left input.new) (K.held out.old) (K.held out.new) (kept_by session.new) }
+    ensures interrupted { (result ≡ End.ReadFault) ⊎ (result ≡ End.Reads) → (limit : ℕ) → IsReading E.levels limit session.old (S.left input.old) (S.left input.old) (K.held out.old) (K.held out.old) 0 → IsInterruptedRun limit (S.left input.old) (S.left input.new) (K.held out.old) (K.held out.new) (kept_by session.new) }
+    ensures broken_off { result ≡ End.WriteFault → (limit : ℕ) → IsReading E.levels limit session.old (S.left input.old) (S.left input.old) (K.held out.old) (K.held out.old) 0 → IsBrokenOffRun limit (S.left input.old) (S.left input.new) (K.held out.old) (K.held out.new) (kept_by session.new) }
     ensures read_fault { result ≡ End.ReadFault → HasRisen S.last (S.faults input.old) (S.faults input.new) }
     ensures write_fault { result ≡ End.WriteFault → HasRisen K.last (K.faults out.old) (K.faults out.new) }
     ensures reads { result ≡ End.Reads → TookMany (S.left input.old) (S.left input.new) (2 ^ 32) }
@@ -228,6 +232,12 @@ pub fn run<S: Source, K: Sink>(alloc: Global, words: &[String], input: &mut S, o
     // The headline: where the run came to its end without a fault, each reply is right, in order.
     ensures answered { result.status ≡ status_of result.cut (journal_of result.journal) →
         (limit : ℕ) × AreUnits (map string_bytes words.now) limit × IsRun limit result.cut (S.left input.old) (S.left input.new) (K.held out.old) (K.held out.new) (journal_of result.journal) }
+
+    // Where the input failed or had no end, or the output failed, what came before is right too.
+    ensures interrupted { (result.status ≡ READ_FAULT) ⊎ (result.status ≡ READS) →
+        (limit : ℕ) × AreUnits (map string_bytes words.now) limit × IsInterruptedRun limit (S.left input.old) (S.left input.new) (K.held out.old) (K.held out.new) (journal_of result.journal) }
+    ensures broken_off { result.status ≡ WRITE_FAULT →
+        (limit : ℕ) × AreUnits (map string_bytes words.now) limit × IsBrokenOffRun limit (S.left input.old) (S.left input.new) (K.held out.old) (K.held out.new) (journal_of result.journal) }
 
     // Each status has its cause.
     ensures status { Ends result.status ⊎ (result.status ≡ status_of result.cut (journal_of result.journal)) }

@@ -81,6 +81,7 @@ fn a_read_that_fails_ends_the_run(rt: HostRuntime) -> Result<(), Fail> {
     let ended = run_words(rt.alloc(), &["nuz", "solve"], &mut input, &mut out)?;
     assert_eq!(rt; ended.status, READ_FAULT);
     assert_eq!(rt; input.faults(), 1);
+    assert_eq!(rt; ended.journal.as_slice().len(), 3);
     assert_eq!(rt; out.bytes(), b"sat\n".as_slice());
     Ok(())
 }
@@ -92,6 +93,7 @@ fn a_write_that_fails_ends_the_run(rt: HostRuntime) -> Result<(), Fail> {
     let ended = run_words(rt.alloc(), &["nuz", "solve"], &mut input, &mut out)?;
     assert_eq!(rt; ended.status, WRITE_FAULT);
     assert_eq!(rt; out.faults(), 1);
+    assert_eq!(rt; ended.journal.as_slice().len(), 1);
     assert_eq!(rt; out.bytes(), b"".as_slice());
     Ok(())
 }

@@ -2,8 +2,9 @@
 use Rattle.std.proofs.Math.Seq.{drop-cons, take-append-add}
 use Rattle.std.proofs.lemmas.List.{take-append-le, length-append}
 use Rattle.std.specs.Borrow.{Bor}
+use Rattle.std.specs.Prelude.{OnOk, OnErr}
 use Rattle.nz_reply.specs.Parts.{parts_text}
-use Rattle.std.proofs.Common.{◌≡◌, ℕ, ◌+◌, ◌≤◌, ◌<◌, length, get_or, add-one, List, [], ◌++◌, take, drop, Option, None, Some, refl, sym, ap, ◌∙◌, append_assoc, arith, subst, append-nil}
+use Rattle.std.proofs.Common.{◌≡◌, ℕ, ◌+◌, ◌≤◌, ◌<◌, length, get_or, add-one, List, [], ◌++◌, take, drop, Option, None, Some, Result, Ok, Err, refl, sym, ap, ◌∙◌, append_assoc, arith, subst, append-nil}
 use Rattle.std.specs.Io.KnownBytes.{Appends, Keeps}
 use Rattle.std.proofs.KnownBytes.{Appends-nil, Appends-trans}
 use Rattle.nz_spec.specs.Outside.{AddsFrontOf, HasRisen}
@@ -40,18 +41,26 @@ written_text old mid new before middle now bytes rest text later h e w l =
       later = let a = h.later in omega arith;
     }
 
+-- a front of a text is one of that text and more
+pub front_within : (old new : Option (List ℕ)) (text more : List ℕ) → AddsFrontOf old new text → AddsFrontOf old new (text ++ more)
+front_within old new text more f =
+    let within : f.0 ≤ length text = f.1 in
+    (f.0, omega (arith, within, length-append text more), subst (Appends old new) (sym (take-append-le f.0 text more within)) f.2)
+
+-- a text, and then a front of the next
+pub front_behind : (old mid new : Option (List ℕ)) (text next : List ℕ) → Appends old mid text → AddsFrontOf mid new next → AddsFrontOf old new (text ++ next)
+front_behind old mid new text next p f =
+    let within : f.0 ≤ length next = f.1 in (
+      length text + f.0,
+      omega (arith, within, length-append text next),
+      subst (Appends old new) (sym (take-append-add text next f.0)) (Appends-trans old mid new text (take f.0 next) p f.2),
+    )
+
 -- a front of the next text is a front of all
 pub front_of_all : (old mid new : Option (List ℕ)) (before middle : ℕ) (bytes rest text later : List ℕ)
     → HasWrittenTo old mid before middle bytes rest → rest ≡ text ++ later → AddsFrontOf mid new text → AddsFrontOf old new bytes
-front_of_all old mid new before middle bytes rest text later h e a =
-    let within : a.0 ≤ length text = a.1 in
-    let all : bytes ≡ h.front ++ (text ++ later) = h.all ∙ ap (λ r. h.front ++ r) e in
-    let taken : take (length h.front + a.0) bytes ≡ h.front ++ take a.0 text =
-    ap (take (length h.front + a.0)) all ∙ take-append-add h.front (text ++ later) a.0 ∙ ap (λ r. h.front ++ r) (take-append-le a.0 text later within) in (
-      length h.front + a.0,
-      omega (arith, ap length all, length-append h.front (text ++ later), length-append text later),
-      subst (Appends old new) (sym taken) (Appends-trans old mid new h.front (take a.0 text) h.held a.2),
-    )
+front_of_all old mid new before middle bytes rest text later h e f =
+    subst (AddsFrontOf old new) (sym (h.all ∙ ap (λ r. h.front ++ r) e)) (front_behind old mid new h.front (text ++ later) h.held (front_within mid new text later f))
 
 -- where nothing is left, all is written
 pub written_all : (old new : Option (List ℕ)) (before now : ℕ) (bytes : List ℕ) → HasWrittenTo old new before now bytes [] → Appends old new bytes
@@ -62,17 +71,23 @@ pub parts_text-next : (ps : List (Bor (List ℕ))) (i : ℕ) (d : Bor (List ℕ)
     → parts_text (drop i ps) ≡ (get_or ps i d).now ++ parts_text (drop (i + 1) ps)
 parts_text-next ps i d h = rw (add-one, drop-cons ps i d) refl
 
--- three texts, one behind another
-pub appends_three : (a b c d : Option (List ℕ)) (t1 t2 t3 : List ℕ) → Appends a b t1 → Appends b c t2 → Appends c d t3 → Appends a d (t1 ++ t2 ++ t3)
-appends_three a b c d t1 t2 t3 p1 p2 p3 = Appends-trans a c d (t1 ++ t2) t3 (Appends-trans a b c t1 t2 p1 p2) p3
+-- fronts of three texts, one behind another
+pub front_first : (a b : Option (List ℕ)) (t1 t2 t3 : List ℕ) → AddsFrontOf a b t1 → AddsFrontOf a b ((t1 ++ t2) ++ t3)
+front_first a b t1 t2 t3 f = front_within a b (t1 ++ t2) t3 (front_within a b t1 t2 f)
 
--- seven texts, one behind another
-pub appends_seven : (a b c d e f g h : Option (List ℕ)) (t1 t2 t3 t4 t5 t6 t7 : List ℕ)
-    → Appends a b t1 → Appends b c t2 → Appends c d t3 → Appends d e t4 → Appends e f t5 → Appends f g t6 → Appends g h t7
-    → Appends a h (t1 ++ t2 ++ t3 ++ t4 ++ t5 ++ t6 ++ t7)
-appends_seven a b c d e f g h t1 t2 t3 t4 t5 t6 t7 p1 p2 p3 p4 p5 p6 p7 =
-    let q3 = appends_three a b c d t1 t2 t3 p1 p2 p3 in
-    let q4 = Appends-trans a d e (t1 ++ t2 ++ t3) t4 q3 p4 in
-    let q5 = Appends-trans a e f (t1 ++ t2 ++ t3 ++ t4) t5 q4 p5 in
-    let q6 = Appends-trans a f g (t1 ++ t2 ++ t3 ++ t4 ++ t5) t6 q5 p6 in
-    Appends-trans a g h (t1 ++ t2 ++ t3 ++ t4 ++ t5 ++ t6) t7 q6 p7
+pub front_second : (a b c : Option (List ℕ)) (t1 t2 t3 : List ℕ) → Appends a b t1 → AddsFrontOf b c t2 → AddsFrontOf a c ((t1 ++ t2) ++ t3)
+front_second a b c t1 t2 t3 p f = front_within a c (t1 ++ t2) t3 (front_behind a b c t1 t2 p f)
+
+pub front_third : (a b c d : Option (List ℕ)) (t1 t2 t3 : List ℕ) → Appends a b t1 → Appends b c t2 → AddsFrontOf c d t3 → AddsFrontOf a d ((t1 ++ t2) ++ t3)
+front_third a b c d t1 t2 t3 p q f = front_behind a c d (t1 ++ t2) t3 (Appends-trans a b c t1 t2 p q) f
+
+-- what a call wrote, behind a text
+pub whole_behind : {A E : Type 0} (r : Result A E) (a b c : Option (List ℕ)) (text next all : List ℕ) → text ++ next ≡ all → Appends a b text
+    → OnOk r (Appends b c next) → OnOk r (Appends a c all)
+whole_behind (Ok x) a b c text next all e p w = subst (Appends a c) e (Appends-trans a b c text next p w)
+whole_behind (Err x) a b c text next all e p w = tt
+
+pub part_behind : {A E : Type 0} (r : Result A E) (a b c : Option (List ℕ)) (text next all : List ℕ) → text ++ next ≡ all → Appends a b text
+    → OnErr r (AddsFrontOf b c next) → OnErr r (AddsFrontOf a c all)
+part_behind (Ok x) a b c text next all e p f = tt
+part_behind (Err x) a b c text next all e p f = subst (AddsFrontOf a c) e (front_behind a b c text next p f)

@@ -1,7 +1,7 @@
 //! Replies: what they hold, and their texts (SMT-LIB 2.6, section 4.2).
-ghost use Rattle.std.specs.Prelude.{◌≡◌, ◌≤◌, [], ◌∷◌, ◌++◌, decimal, length, map, IfOk, OnOk, OnErr};
+ghost use Rattle.std.specs.Prelude.{◌≡◌, ◌≤◌, [], ◌∷◌, ◌++◌, length, map, IfOk, OnOk, OnErr};
 ghost use Rattle.std.specs.Io.KnownBytes.{Appends};
-ghost use Rattle.nz_spec.specs.Outside.{HasRisen};
+ghost use Rattle.nz_spec.specs.Outside.{AddsFrontOf, HasRisen};
 ghost use Rattle.nz_spec.specs.Reply.{binding_text, model as model_reply, reason as reason_reply, reply_text, sort_text, symbol_text, value_text};
 ghost use Rattle.nz_spec.specs.Script.{units_spent};
 ghost use Rattle.nz_reply.specs.Bindings.{binding_of};
@@ -11,7 +11,7 @@ ghost use Rattle.nz_term.specs.Constants.{sort_of};
 ghost use Rattle.nz_term.specs.Values.{value_of};
 
 use crate::errors::error_text;
-use crate::write::{WriteFault, write_text};
+use crate::write::{WriteFault, write_parts, write_text};
 use itoa::Buffer;
 use nz_base::{Lines, Memory, Sink};
 use nz_sexpr::{Heard, is_simple_symbol};
@@ -164,9 +164,10 @@ impl Journal {
 ///
 /// # Errors
 ///
-/// `WriteFault` only where the sink's count of faults rose.
+/// `WriteFault` only where the sink's count of faults rose. Then a front of the text was written.
 pub fn write_reply<K: Sink>(sink: &mut K, reply: &Reply) -> Result<(), WriteFault>
     ensures whole { OnOk result (Appends (K.held sink.old) (K.held sink.new) (reply_text (reply_of reply.now))) }
+    ensures front { OnErr result (AddsFrontOf (K.held sink.old) (K.held sink.new) (reply_text (reply_of reply.now))) }
     ensures later { K.faults sink.old ≤ K.faults sink.new }
     ensures fault { OnErr result (HasRisen K.last (K.faults sink.old) (K.faults sink.new)) }
 {
@@ -184,6 +185,7 @@ pub fn write_reply<K: Sink>(sink: &mut K, reply: &Reply) -> Result<(), WriteFaul
 
 fn write_model<K: Sink>(sink: &mut K, bindings: &Vec<Binding>) -> Result<(), WriteFault>
     ensures whole { OnOk result (Appends (K.held sink.old) (K.held sink.new) (reply_text (model_reply (map binding_of bindings.now.items)))) }
+    ensures front { OnErr result (AddsFrontOf (K.held sink.old) (K.held sink.new) (reply_text (model_reply (map binding_of bindings.now.items)))) }
     ensures later { K.faults sink.old ≤ K.faults sink.new }
     ensures fault { OnErr result (HasRisen K.last (K.faults sink.old) (K.faults sink.new)) }
 {
@@ -203,6 +205,7 @@ fn write_model<K: Sink>(sink: &mut K, bindings: &Vec<Binding>) -> Result<(), Wri
 
 fn write_reason<K: Sink>(sink: &mut K, reason: Reason) -> Result<(), WriteFault>
     ensures whole { OnOk result (Appends (K.held sink.old) (K.held sink.new) (reply_text (reason_reply (reason_of reason)))) }
+    ensures front { OnErr result (AddsFrontOf (K.held sink.old) (K.held sink.new) (reply_text (reason_reply (reason_of reason)))) }
     ensures later { K.faults sink.old ≤ K.faults sink.new }
     ensures fault { OnErr result (HasRisen K.last (K.faults sink.old) (K.faults sink.new)) }
 {
@@ -213,32 +216,18 @@ fn write_reason<K: Sink>(sink: &mut K, reason: Reason) -> Result<(), WriteFault>
 
 fn write_units_spent<K: Sink>(sink: &mut K, units: u64) -> Result<(), WriteFault>
     ensures whole { OnOk result (Appends (K.held sink.old) (K.held sink.new) (reply_text (reason_reply (units_spent units)))) }
-    ensures later { K.faults sink.old ≤ K.faults sink.new }
-    ensures fault { OnErr result (HasRisen K.last (K.faults sink.old) (K.faults sink.new)) }
-{
-    if let Err(fault) = write_text(sink, b"(:reason-unknown (spent ") {
-        return Err(fault);
-    }
-    if let Err(fault) = write_number(sink, units) {
-        return Err(fault);
-    }
-    if let Err(fault) = write_text(sink, b"))\n") {
-        return Err(fault);
-    }
-    Ok(())
-}
-
-fn write_number<K: Sink>(sink: &mut K, number: u64) -> Result<(), WriteFault>
-    ensures whole { OnOk result (Appends (K.held sink.old) (K.held sink.new) (decimal number)) }
+    ensures front { OnErr result (AddsFrontOf (K.held sink.old) (K.held sink.new) (reply_text (reason_reply (units_spent units)))) }
     ensures later { K.faults sink.old ≤ K.faults sink.new }
     ensures fault { OnErr result (HasRisen K.last (K.faults sink.old) (K.faults sink.new)) }
 {
     let mut digits = Buffer::new();
-    write_text(sink, digits.format(number).as_bytes())
+    let number = digits.format(units).as_bytes();
+    write_parts(sink, &[b"(:reason-unknown (spent ", number, b"))\n"])
 }
 
 fn write_binding<K: Sink>(sink: &mut K, binding: &Binding) -> Result<(), WriteFault>
     ensures whole { OnOk result (Appends (K.held sink.old) (K.held sink.new) (binding_text (binding_of binding.now))) }
+    ensures front { OnErr result (AddsFrontOf (K.held sink.old) (K.held sink.new) (binding_text (binding_of binding.now))) }
     ensures later { K.faults sink.old ≤ K.faults sink.new }
     ensures fault { OnErr result (HasRisen K.last (K.faults sink.old) (K.faults sink.new)) }
 {
@@ -248,27 +237,15 @@ fn write_binding<K: Sink>(sink: &mut K, binding: &Binding) -> Result<(), WriteFa
     if let Err(fault) = write_symbol(sink, binding.constant.name.as_bytes()) {
         return Err(fault);
     }
-    if let Err(fault) = write_text(sink, b" () ") {
-        return Err(fault);
-    }
-    if let Err(fault) = write_text(sink, sort_name(binding.constant.sort)) {
-        return Err(fault);
-    }
-    if let Err(fault) = write_text(sink, b" ") {
-        return Err(fault);
-    }
-    if let Err(fault) = write_text(sink, value_name(binding.value)) {
-        return Err(fault);
-    }
-    if let Err(fault) = write_text(sink, b")\n") {
-        return Err(fault);
-    }
-    Ok(())
+    let sort = sort_name(binding.constant.sort);
+    let value = value_name(binding.value);
+    write_parts(sink, &[b" () ", sort, b" ", value, b")\n"])
 }
 
 /// Writes a symbol as it is spelled: between bars, where it is no simple symbol.
 fn write_symbol<K: Sink>(sink: &mut K, name: &[u8]) -> Result<(), WriteFault>
     ensures whole { OnOk result (Appends (K.held sink.old) (K.held sink.new) (symbol_text name.now)) }
+    ensures front { OnErr result (AddsFrontOf (K.held sink.old) (K.held sink.new) (symbol_text name.now)) }
     ensures later { K.faults sink.old ≤ K.faults sink.new }
     ensures fault { OnErr result (HasRisen K.last (K.faults sink.old) (K.faults sink.new)) }
 {

@@ -4,13 +4,15 @@ use Rattle.std.proofs.lemmas.List.{map-append, length-append, take_all}
 use Rattle.std.proofs.lemmas.Grind.{flat_map-append}
 use Rattle.std.specs.Io.KnownBytes.{Appends}
 use Rattle.std.specs.declared.alloc.Global.{Global}
-use Rattle.std.proofs.KnownBytes.{Appends-nil, Appends-trans}
+use Rattle.std.specs.Io.KnownBytes.{Keeps}
+use Rattle.std.proofs.KnownBytes.{Appends-kept, Appends-nil, Appends-trans}
 use Rattle.nz_spec.specs.Text.{Limits, Heard, Hears, script_limits, OneReading}
 use Rattle.nz_spec.specs.Kept.{AreToldAs}
-use Rattle.nz_spec.specs.Told.{IsTold, ReadingTellsFirst}
+use Rattle.nz_spec.specs.Told.{IsTold, IsToldFirst, ReadingTellsFirst}
+use Rattle.nz_spec.specs.Outside.{AddsFrontOf}
 use Rattle.nz_spec.specs.Script.{start}
 use Rattle.nz_spec.specs.Reply.{reply_text, error}
-use Rattle.nz_spec.specs.Transcript.{Kept, AreRight, EndsByExit, IsTranscript, texts_of}
+use Rattle.nz_spec.specs.Transcript.{BeginsText, Kept, AreRight, EndsByExit, IsTranscript, texts_of}
 use Rattle.nz_sexpr.specs.declared.reader.Reader.{Reader}
 use Rattle.nz_sexpr.specs.declared.heard.Heard as code
 use Rattle.nz_sexpr.specs.View.{heard_view}
@@ -20,7 +22,7 @@ use Rattle.nz_session.specs.declared.desk.Desk.{Desk}
 use Rattle.nz_reply.specs.declared.reply.Kept as kept
 use Rattle.nz_session.specs.declared.session.Session.{Session}
 use Rattle.nz_reply.specs.Replies.{all_kept}
-use Rattle.nz_session.specs.Serve.{IsGoing, Serves, Writes, WritesCut, Answers, HasExited, IsFront, kept_by, things_of}
+use Rattle.nz_session.specs.Serve.{IsGoing, Serves, Writes, WritesCut, Answers, AnswersInPart, BreaksOff, HasExited, IsFront, kept_by, things_of}
 use Rattle.nz_session.proofs.Fronts.{told_first, told_split}
 
 -- Of the piece a front was read, and this is the rest; what is complete in it was answered.
@@ -55,6 +57,23 @@ writes_cut old mid new a b c w e n =
       written = Appends-trans a b c (texts_of w.more) (reply_text (error 11)) w.written n;
     }
 
+-- and then that the sink failed
+pub breaks_off : (old mid new : List Kept) (thing : Heard) (a b c : Option (List ℕ)) → Writes old mid a b → AnswersInPart thing mid new b c → BreaksOff old new a c
+breaks_off old mid new thing a b c w n =
+    record {
+      more = w.more;
+      text = n.text;
+      begins = subst (λ (l : List Kept). BeginsText new l n.text) w.kept n.begins;
+      count = n.written.0;
+      written = Appends-trans a b c (texts_of w.more) (take n.written.0 n.text) w.written n.written.2;
+    }
+
+-- a text that was written whole is a front of itself
+pub front_whole : (a b c : Option (List ℕ)) (text : List ℕ) → Appends a b text → Keeps b c → AddsFrontOf a c text
+front_whole a b c text p k =
+    let all : take (length text) text ≡ text = take_all (length text) text (omega arith) in
+    (length text, omega arith, subst (Appends a c) (sym all) (Appends-kept a b c text p k))
+
 things-answered : (thing : Heard) (old new : List Kept) (b c : Option (List ℕ)) → Answers thing old new b c → things_of new ≡ things_of old ++ thing ∷ []
 things-answered thing old new b c n =
     ap things_of n.kept ∙ map-append (λ (k : Kept). k.heard) old (n.one ∷ []) ∙ ap (λ h. things_of old ++ h ∷ []) n.heard
@@ -82,14 +101,16 @@ module _ {E : Type 0} (levels : E → List (List ℕ)) (first : Session E) (piec
   piece_more = feeding.all ∙ ap (λ l. feeding.done ++ l) (sym (take-append-drop used rest)) ∙ sym (append_assoc feeding.done (take used rest) (drop used rest))
 
   -- at the end of the piece
-  pub fed_all : h ≡ None → used ≡ length rest → owes next ≡ false → (limit : ℕ) (bytes : List ℕ) → Serves levels limit first bytes → length bytes + length piece < 2 ^ 64
+  pub fed_all : h ≡ None → used ≡ length rest → owes next ≡ false
+      → ((all : List ℕ) (things : List Heard) → Fits script_limits next all things → IsToldFirst script_limits all things) → (limit : ℕ) (bytes : List ℕ) → Serves levels limit first bytes → length bytes + length piece < 2 ^ 64
       → Serves levels limit (record { reader = next; desk = desk; kept = ks }) (bytes ++ piece)
-  fed_all none all settled limit bytes serves fits =
+  fed_all none all settled complete limit bytes serves fits =
       let taken : take used rest ≡ rest = ap (λ n. take n rest) all ∙ take_all (length rest) rest (omega arith) in
       let whole : feeding.done ++ take used rest ≡ piece = ap (λ l. feeding.done ++ l) taken ∙ sym feeding.all in
       let nothing : things_of (all_kept ks.items) ++ told h ≡ things_of (all_kept ks.items) = ap (λ x. things_of (all_kept ks.items) ++ told x) none ∙ append-nil (things_of (all_kept ks.items)) in
       let fit = subst (λ (l : List ℕ). Fits script_limits next (bytes ++ l) (things_of (all_kept ks.items) ++ told h)) whole (reads_more limit bytes serves fits) in
-      record { reads = subst (Fits script_limits next (bytes ++ piece)) nothing fit; settled = settled; going = feeding.going limit bytes serves }
+      let reads : Fits script_limits next (bytes ++ piece) (things_of (all_kept ks.items)) = subst (Fits script_limits next (bytes ++ piece)) nothing fit in
+      record { reads = reads; settled = settled; complete = complete (bytes ++ piece) (things_of (all_kept ks.items)) reads; going = feeding.going limit bytes serves }
 
   -- what is kept of the things told is what is heard first in the whole piece
   pub front_fed : OneReading → ReadingTellsFirst → (new : List Kept) (later : List Heard) → things_of (all_kept ks.items) ++ told h ≡ things_of new ++ later
@@ -100,6 +121,14 @@ module _ {E : Type 0} (levels : E → List (List ℕ)) (first : Session E) (piec
       let front = told_first one tells script_limits next (bytes ++ read) (drop used rest) (things_of new) later fit in
       let whole : (bytes ++ read) ++ drop used rest ≡ bytes ++ piece = append_assoc bytes read (drop used rest) ∙ ap (λ l. bytes ++ l) (sym piece_more) in
       (front.1, record { heard = front.0; hears = subst (λ (l : List ℕ). Hears script_limits l (front.0 ++ front.1)) whole front.2; told = front.3; right = right })
+
+  -- the sink failed
+  pub broken_fed : (heard : code.Heard) → h ≡ Some heard → (new : List Kept) (b c : Option (List ℕ)) → AnswersInPart (heard_view heard) (all_kept ks.items) new b c
+      → ((limit : ℕ) → IsGoing levels limit desk (all_kept ks.items) → AreRight limit start new) → OneReading → ReadingTellsFirst
+      → (limit : ℕ) (bytes : List ℕ) → Serves levels limit first bytes → length bytes + length piece < 2 ^ 64 → IsFront limit (bytes ++ piece) new
+  broken_fed heard some new b c part right one tells limit bytes serves fits =
+      front_fed one tells new part.later (ap (λ x. things_of (all_kept ks.items) ++ told x) some ∙ part.heard) limit bytes serves fits
+      (right limit (feeding.going limit bytes serves))
 
   module _ (heard : code.Heard) (some : h ≡ Some heard) (desk' : Desk E) (ks' : Vec kept.Kept Global) (held' : Option (List ℕ)) (after' : ℕ)
       (answers : Answers (heard_view heard) (all_kept ks.items) (all_kept ks'.items) held held') where
@@ -151,11 +180,10 @@ none_is h e = subst IsNone (sym e) refl
 
 -- ---- The end of the text
 
-module _ (limit : ℕ) (bytes : List ℕ) (ks : List Kept) (h : Option code.Heard) (heard : code.Heard) (some : h ≡ Some heard) (whole : IsTold script_limits bytes (things_of ks ++ told h)) where
-  -- the last thing heard was answered
-  pub finished : (new : List Kept) (b c : Option (List ℕ)) → Answers (heard_view heard) ks new b c → AreRight limit start new → IsTranscript limit bytes new
-  finished new b c answers right =
-      let all : things_of ks ++ told h ≡ things_of new = ap (λ x. things_of ks ++ told x) some ∙ sym (things-answered (heard_view heard) ks new b c answers) in
+module _ (limit : ℕ) (bytes : List ℕ) (ks : List Kept) (h : Option code.Heard) (whole : IsTold script_limits bytes (things_of ks ++ told h)) where
+  -- what was kept is all that is heard
+  finish_whole : (new : List Kept) → things_of ks ++ told h ≡ things_of new → AreRight limit start new → IsTranscript limit bytes new
+  finish_whole new all right =
       record {
         rest = [];
         front =
@@ -168,8 +196,25 @@ module _ (limit : ℕ) (bytes : List ℕ) (ks : List Kept) (h : Option code.Hear
         whole = inl refl;
       }
 
+  -- what was kept is what is heard first
+  finish_front : (new : List Kept) (later : List Heard) → things_of ks ++ told h ≡ things_of new ++ later → AreRight limit start new → IsFront limit bytes new
+  finish_front new later same right =
+      let split = told_split (things_of new) later whole.0 (subst (λ (l : List Heard). AreToldAs l whole.0) same whole.2) in
+      (split.1, record { heard = split.0; hears = subst (Hears script_limits bytes) split.2 whole.1; told = split.3; right = right })
+
+  -- nothing was left to answer
+  pub finish_quiet : h ≡ None → AreRight limit start ks → IsTranscript limit bytes ks
+  finish_quiet none right = finish_whole ks (ap (λ x. things_of ks ++ told x) none ∙ append-nil (things_of ks)) right
+
   -- the last thing heard wasn't answered, for want of memory
   pub finish_cut : AreRight limit start ks → IsFront limit bytes ks
-  finish_cut right =
-      let split = told_split (things_of ks) (told h) whole.0 whole.2 in
-      (split.1, record { heard = split.0; hears = subst (Hears script_limits bytes) split.2 whole.1; told = split.3; right = right })
+  finish_cut right = finish_front ks (told h) refl right
+
+  module _ (heard : code.Heard) (some : h ≡ Some heard) (new : List Kept) (b c : Option (List ℕ)) where
+    -- the last thing heard was answered
+    pub finished : Answers (heard_view heard) ks new b c → AreRight limit start new → IsTranscript limit bytes new
+    finished answers right = finish_whole new (ap (λ x. things_of ks ++ told x) some ∙ sym (things-answered (heard_view heard) ks new b c answers)) right
+
+    -- the sink failed at the last thing heard
+    pub finish_broken : AnswersInPart (heard_view heard) ks new b c → AreRight limit start new → IsFront limit bytes new
+    finish_broken part right = finish_front new part.later (ap (λ x. things_of ks ++ told x) some ∙ part.heard) right

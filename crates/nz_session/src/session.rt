@@ -2,13 +2,13 @@
 ghost use Rattle.std.specs.Prelude.{◌≡◌, ◌≤◌, ◌<◌, ◌+◌, ◌^◌, ℕ, List, [], ◌∷◌, ◌++◌, length, IfOk, OnOk, OnErr, ◌⊎◌};
 ghost use Rattle.std.specs.Io.KnownBytes.{Appends, Keeps};
 ghost use Rattle.nz_sexpr.specs.View.{heard_view};
-ghost use Rattle.nz_spec.specs.Outside.{HasRisen};
+ghost use Rattle.nz_spec.specs.Outside.{AddsFrontOf, HasRisen};
 ghost use Rattle.nz_spec.specs.Reply.{error, reply_text};
 ghost use Rattle.nz_spec.specs.Script.{start, State};
 ghost use Rattle.nz_spec.specs.Transcript.{AreRight, EndsByExit, IsTranscript};
 ghost use Rattle.nz_session.specs.Desk.{Holds};
 ghost use Rattle.nz_reply.specs.Replies.{all_kept, reply_of};
-ghost use Rattle.nz_session.specs.Serve.{Answers, IsGoing};
+ghost use Rattle.nz_session.specs.Serve.{Answers, AnswersInPart, IsGoing};
 
 use crate::decide::Decide;
 use crate::desk::{Answer, Desk};
@@ -50,6 +50,7 @@ pub struct Session<E: Decide> {
 /// Writes the text of a reply, and flushes.
 fn show<K: Sink>(sink: &mut K, reply: &Reply) -> Result<(), WriteFault>
     ensures whole { OnOk result (Appends (K.held sink.old) (K.held sink.new) (reply_text (reply_of reply.now))) }
+    ensures front { OnErr result (AddsFrontOf (K.held sink.old) (K.held sink.new) (reply_text (reply_of reply.now))) }
     ensures later { K.faults sink.old ≤ K.faults sink.new }
     ensures fault { OnErr result (HasRisen K.last (K.faults sink.old) (K.faults sink.new)) }
 {
@@ -66,6 +67,7 @@ fn show<K: Sink>(sink: &mut K, reply: &Reply) -> Result<(), WriteFault>
 fn cut<K: Sink>(sink: &mut K) -> Fed
     ensures result { (result ≡ Fed.Cut) ⊎ (result ≡ Fed.SinkFault) }
     ensures written { result ≡ Fed.Cut → Appends (K.held sink.old) (K.held sink.new) (reply_text (error 11)) }
+    ensures front { result ≡ Fed.SinkFault → AddsFrontOf (K.held sink.old) (K.held sink.new) (reply_text (error 11)) }
     ensures later { K.faults sink.old ≤ K.faults sink.new }
     ensures fault { result ≡ Fed.SinkFault → HasRisen K.last (K.faults sink.old) (K.faults sink.new) }
 {
@@ -88,6 +90,8 @@ fn serve<E: Decide, K: Sink>(
     ensures answered { (result ≡ Fed.Going) ⊎ (result ≡ Fed.Exited) → Answers (heard_view heard) (all_kept kept.old.items) (all_kept kept.new.items) (K.held sink.old) (K.held sink.new) }
     ensures cut { result ≡ Fed.Cut → kept.new.items ≡ kept.old.items }
     ensures cut_written { result ≡ Fed.Cut → Appends (K.held sink.old) (K.held sink.new) (reply_text (error 11)) }
+    ensures broken_off { result ≡ Fed.SinkFault → (limit : ℕ) → IsGoing E.levels limit desk.old (all_kept kept.old.items) → AreRight limit start (all_kept kept.new.items) }
+    ensures broken_off_written { result ≡ Fed.SinkFault → AnswersInPart (heard_view heard) (all_kept kept.old.items) (all_kept kept.new.items) (K.held sink.old) (K.held sink.new) }
     ensures later { K.faults sink.old ≤ K.faults sink.new }
     ensures fault { result ≡ Fed.SinkFault → HasRisen K.last (K.faults sink.old) (K.faults sink.new) }
 {
@@ -116,7 +120,7 @@ fn serve<E: Decide, K: Sink>(
 
 impl<E: Decide> Session<E> {
     ghost use Rattle.nz_reply.specs.Journals.{journal_of};
-    ghost use Rattle.nz_session.specs.Serve.{HasExited, IsFront, Serves, Writes, WritesCut, kept_by, table_by};
+    ghost use Rattle.nz_session.specs.Serve.{BreaksOff, HasExited, IsFront, Serves, Writes, WritesCut, kept_by, table_by};
 
     /// A session at the beginning of a script, over an engine that was told nothing yet, with this limit of units for each
     /// check.
@@ -125,6 +129,7 @@ impl<E: Decide> Session<E> {
         ensures serves { IfOk result (λ session. Serves E.levels limit session []) }
         ensures nothing { IfOk result (λ session. kept_by session ≡ []) }
     {
+        reading_tells_first();
         let limits = Limits {
             depth: DEPTH_LIMIT,
             bytes: BYTE_LIMIT,
@@ -144,6 +149,8 @@ impl<E: Decide> Session<E> {
         ensures cut { result ≡ Fed.Cut → (limit : ℕ) (bytes : List ℕ) → Serves E.levels limit self.old bytes → length bytes + length piece.now < 2 ^ 64 → IsFront limit (bytes ++ piece.now) (kept_by self.new) }
         ensures written { (result ≡ Fed.Going) ⊎ (result ≡ Fed.Exited) → Writes (kept_by self.old) (kept_by self.new) (K.held sink.old) (K.held sink.new) }
         ensures cut_written { result ≡ Fed.Cut → WritesCut (kept_by self.old) (kept_by self.new) (K.held sink.old) (K.held sink.new) }
+        ensures broken_off { result ≡ Fed.SinkFault → (limit : ℕ) (bytes : List ℕ) → Serves E.levels limit self.old bytes → length bytes + length piece.now < 2 ^ 64 → IsFront limit (bytes ++ piece.now) (kept_by self.new) }
+        ensures broken_off_written { result ≡ Fed.SinkFault → BreaksOff (kept_by self.old) (kept_by self.new) (K.held sink.old) (K.held sink.new) }
         ensures later { K.faults sink.old ≤ K.faults sink.new }
         ensures fault { result ≡ Fed.SinkFault → HasRisen K.last (K.faults sink.old) (K.faults sink.new) }
     {
@@ -173,6 +180,8 @@ impl<E: Decide> Session<E> {
         ensures cut { result ≡ Fed.Cut → (limit : ℕ) (bytes : List ℕ) → Serves E.levels limit self.old bytes → length bytes < 2 ^ 64 → IsFront limit bytes (kept_by self.new) }
         ensures written { (result ≡ Fed.Going) ⊎ (result ≡ Fed.Exited) → Writes (kept_by self.old) (kept_by self.new) (K.held sink.old) (K.held sink.new) }
         ensures cut_written { result ≡ Fed.Cut → WritesCut (kept_by self.old) (kept_by self.new) (K.held sink.old) (K.held sink.new) }
+        ensures broken_off { result ≡ Fed.SinkFault → (limit : ℕ) (bytes : List ℕ) → Serves E.levels limit self.old bytes → length bytes < 2 ^ 64 → IsFront limit bytes (kept_by self.new) }
+        ensures broken_off_written { result ≡ Fed.SinkFault → BreaksOff (kept_by self.old) (kept_by self.new) (K.held sink.old) (K.held sink.new) }
         ensures later { K.faults sink.old ≤ K.faults sink.new }
         ensures fault { result ≡ Fed.SinkFault → HasRisen K.last (K.faults sink.old) (K.faults sink.new) }
     {

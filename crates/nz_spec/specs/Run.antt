@@ -1,10 +1,10 @@
 -- What a run of the program claims, from its command line, the bytes that it read and the bytes that it wrote.
-use Rattle.std.specs.Prelude.{◌≡◌, ℕ, ◌+◌, ◌≤◌, ◌==◌, ◌||◌, length, Bool, true, false, List, [], ◌++◌, Option, Some, None, ◌⊎◌, ⊤, if◌then◌else◌}
+use Rattle.std.specs.Prelude.{◌≡◌, ℕ, ◌+◌, ◌≤◌, ◌==◌, ◌||◌, length, Bool, true, false, List, [], ◌++◌, take, Option, Some, None, ◌⊎◌, ⊤, if◌then◌else◌}
 use Rattle.std.specs.List.{list_any}
 use Rattle.nz_spec.specs.Text.{Heard}
 use Rattle.nz_spec.specs.Script.{start}
 use Rattle.nz_spec.specs.Reply.{error, reply_text}
-use Rattle.nz_spec.specs.Transcript.{Kept, EndsByExit, IsFrontOf, IsTranscript, texts_of}
+use Rattle.nz_spec.specs.Transcript.{BeginsText, Kept, EndsByExit, IsFrontOf, IsTranscript, IsTranscriptSoFar, texts_of}
 
 -- the most units of work that one check may use, where the command line doesn't say
 abbrev pub solve_limit : ℕ
@@ -47,10 +47,39 @@ pub record IsCutShort (limit : ℕ) (input rest before after : List ℕ) (kept :
   pub front : IsFrontOf limit read kept others
   pub written : after ≡ before ++ texts_of kept ++ reply_text (error 11)
 
+-- A run that a fault of the input or the last of the reads interrupted: what was kept is the transcript so far of the bytes
+-- read, and the texts of its replies were written.
+pub record IsInterrupted (limit : ℕ) (input rest before after : List ℕ) (kept : List Kept) : Type 0 where
+  pub read : List ℕ
+  pub taken : input ≡ read ++ rest
+  pub transcript : IsTranscriptSoFar limit read kept
+  pub written : after ≡ before ++ texts_of kept
+
+-- A run that a fault of the output broke off: what was kept is the transcript of a front of what is heard, and the texts of its
+-- replies were written, but of the last text only a front.
+pub record IsBrokenOff (limit : ℕ) (input rest before after : List ℕ) (kept : List Kept) : Type 0 where
+  pub read : List ℕ
+  pub taken : input ≡ read ++ rest
+  pub others : List Heard
+  pub front : IsFrontOf limit read kept others
+  pub first : List Kept
+  pub text : List ℕ
+  pub begins : BeginsText kept first text
+  pub count : ℕ
+  pub written : after ≡ before ++ texts_of first ++ take count text
+
 -- What a run claims where it met no fault.
 abbrev pub IsRun : ℕ → Bool → Option (List ℕ) → Option (List ℕ) → Option (List ℕ) → Option (List ℕ) → List Kept → Type 0
 IsRun limit cut input rest before after kept =
     IfTold input rest (λ all left. IfTold before after (λ held now. elim cut [ true ↦ IsCutShort limit all left held now kept | false ↦ IsAnswered limit all left held now kept ]))
+
+-- What a run claims where the input failed, or the last of the reads was made.
+abbrev pub IsInterruptedRun : ℕ → Option (List ℕ) → Option (List ℕ) → Option (List ℕ) → Option (List ℕ) → List Kept → Type 0
+IsInterruptedRun limit input rest before after kept = IfTold input rest (λ all left. IfTold before after (λ held now. IsInterrupted limit all left held now kept))
+
+-- What a run claims where the output failed.
+abbrev pub IsBrokenOffRun : ℕ → Option (List ℕ) → Option (List ℕ) → Option (List ℕ) → Option (List ℕ) → List Kept → Type 0
+IsBrokenOffRun limit input rest before after kept = IfTold input rest (λ all left. IfTold before after (λ held now. IsBrokenOff limit all left held now kept))
 
 -- so many reads were made, each of a byte or more
 abbrev pub TookMany : Option (List ℕ) → Option (List ℕ) → ℕ → Type 0

@@ -2,8 +2,9 @@
 use Rattle.std.specs.Prelude.{◌≡◌, ℕ, List, [], ◌∷◌, ◌++◌, map, flat_map, ⊤, ◌⊎◌}
 use Rattle.nz_spec.specs.Text.{Heard, Hears, script_limits}
 use Rattle.nz_spec.specs.Kept.{AreToldAs}
+use Rattle.nz_spec.specs.Told.{IsToldFirst}
 use Rattle.nz_spec.specs.Script.{State, start}
-use Rattle.nz_spec.specs.Reply.{Reply, Cause, IsRight, IsExit, after, reply_text}
+use Rattle.nz_spec.specs.Reply.{Reply, error, Cause, IsRight, IsExit, after, reply_text}
 
 -- a thing told, its reply, and the reply's cause
 pub record Kept : Type 0 where
@@ -49,6 +50,19 @@ pub record IsTranscript (limit : ℕ) (bytes : List ℕ) (kept : List Kept) : Ty
   pub rest : List Heard
   pub front : IsFrontOf limit bytes kept rest
   pub whole : (rest ≡ []) ⊎ EndsByExit start kept
+
+-- What was kept is all that is complete in the bytes, whatever follows them; each reply is right, and none is that to an
+-- accepted exit.
+pub record IsTranscriptSoFar (limit : ℕ) (bytes : List ℕ) (kept : List Kept) : Type 0 where
+  pub complete : IsToldFirst script_limits bytes (map (λ (k : Kept). k.heard) kept)
+  pub right : AreRight limit start kept
+  pub goes_on : GoesOn start kept
+
+-- The replies of the first were written whole, and then a text was begun: that of the one reply that was kept beside them, or,
+-- where none was, the line for want of memory.
+pub data BeginsText (kept first : List Kept) (text : List ℕ) : Type 0 where
+  last_reply : (last : Kept) → kept ≡ first ++ last ∷ [] → text ≡ reply_text last.reply → BeginsText kept first text
+  memory_line : kept ≡ first → text ≡ reply_text (error 11) → BeginsText kept first text
 
 -- ---- Laws
 
