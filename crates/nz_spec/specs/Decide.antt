@@ -1,7 +1,7 @@
 -- What a search answers to a check: over the constants of a table of terms, and the terms that are asserted by level.
 use Rattle.std.specs.Prelude.{◌≡◌, ℕ, ◌+◌, ◌<◌, List, [], ◌∷◌, ◌++◌, length, map, flat_map, Option, Some, None, ⊤, All, bytes_eq, slice_get}
 use Rattle.std.specs.List.{AllByRecursion, IsDistinct}
-use Rattle.nz_spec.specs.Term.{Constant, Head, constant, verum, falsum, negation, conjunction, disjunction, implication, exclusion, equality, distinction, choice, Term, Value, Assignment, IsOfSort, IsTrueUnder}
+use Rattle.nz_spec.specs.Term.{Constant, Head, constant_of, Term, Value, Assignment, IsOfSort, IsTrueUnder}
 use Rattle.nz_spec.specs.Table.{Node, term_in}
 use Rattle.nz_spec.specs.Script.{Binding}
 use Rattle.nz_spec.specs.Reply.{assignment_of, Note, atom_note}
@@ -11,17 +11,7 @@ use Rattle.nz_spec.specs.Work.{DecisionEntry, LearnedEntry, WorkLine, UnitLine, 
 
 -- the constant that a head is, if it is one
 abbrev pub constants_of_head : Head → List Constant
-constants_of_head (constant c) = c ∷ []
-constants_of_head verum = []
-constants_of_head falsum = []
-constants_of_head negation = []
-constants_of_head conjunction = []
-constants_of_head disjunction = []
-constants_of_head implication = []
-constants_of_head exclusion = []
-constants_of_head equality = []
-constants_of_head distinction = []
-constants_of_head choice = []
+constants_of_head h = elim (constant_of h) [ Some c ↦ c ∷ [] | None ↦ [] ]
 
 -- the constants of a table, in its order
 abbrev pub constants_in_table : List Node → List Constant

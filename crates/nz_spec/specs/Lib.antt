@@ -1,10 +1,13 @@
 pub mod Bounds
 pub mod Decide
 pub mod Example
+pub mod Elaboration
 pub mod Form
 pub mod Fraction
 pub mod Infinitesimal
 pub mod Kept
+pub mod Linear
+pub mod Normal
 pub mod Outside
 pub mod Reading
 pub mod Reply

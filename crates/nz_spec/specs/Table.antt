@@ -1,7 +1,7 @@
 -- A table of shared terms: a list of nodes, the oldest first, each with the places of its arguments in the list.
 -- A place is the number of the term that stands there.
 use Rattle.std.specs.Prelude.{◌≡◌, ℕ, ◌<◌, ◌≤◌, ◌==◌, Bool, false, List, [], ◌∷◌, ◌++◌, length, take, Option, Some, None, All, fold, slice_get, slice_index_or, bytes_eq, unwrap_or, if◌then◌else◌}
-use Rattle.nz_spec.specs.Term.{Head, constant, verum, falsum, negation, conjunction, disjunction, implication, exclusion, equality, distinction, choice, Term, apply, Terms, no_terms, terms, Value, truth, Assignment}
+use Rattle.nz_spec.specs.Term.{Head, falsum, constant_of, Term, apply, Terms, no_terms, terms, Value, truth, Assignment}
 
 pub record Node : Type 0 where
   pub head : Head
@@ -58,17 +58,7 @@ TermsStay = (ns more : List Node) (is : List ℕ) → All (λ i. i < length ns) 
 
 -- the head is the constant of this name
 abbrev pub is_constant_named : Head → List ℕ → Bool
-is_constant_named (constant c) name = bytes_eq c.name name
-is_constant_named verum name = false
-is_constant_named falsum name = false
-is_constant_named negation name = false
-is_constant_named conjunction name = false
-is_constant_named disjunction name = false
-is_constant_named implication name = false
-is_constant_named exclusion name = false
-is_constant_named equality name = false
-is_constant_named distinction name = false
-is_constant_named choice name = false
+is_constant_named h name = elim (constant_of h) [ Some c ↦ bytes_eq c.name name | None ↦ false ]
 
 abbrev pub is_named : Option Node → List ℕ → Bool
 is_named None name = false

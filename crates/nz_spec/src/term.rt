@@ -1,5 +1,5 @@
 //! Laws of terms.
-ghost use Rattle.nz_spec.specs.Term.{NormalKeepsValue};
+ghost use Rattle.nz_spec.specs.Normal.{NormalKeepsValue};
 ghost use Rattle.nz_spec.specs.TruthTables.{HasNormalTerms, HasPairs, HasTriples};
 
 /// A term and its normal term have one value.
