@@ -8,6 +8,7 @@ pub mod Infinitesimal
 pub mod Kept
 pub mod Linear
 pub mod Normal
+pub mod Operations
 pub mod Outside
 pub mod Reading
 pub mod Reply
