@@ -5,7 +5,7 @@ use Rattle.std.specs.List.{list_any}
 use Rattle.nz_spec.specs.Tree.{Token, symbol, keyword, numeral, decimal, hexadecimal, binary, literal, symbol_name, after_point, Tree, leaf, node, Trees, no_trees, trees}
 use Rattle.nz_spec.specs.Form.{tree_symbol, term_head, name_head, let_head, no_head}
 use Rattle.nz_spec.specs.Bounds.{digits_value, decimal_digits}
-use Rattle.nz_spec.specs.Term.{Sort, bool_sort, int_sort, real_sort, sort_of, Constant, Head, constant, parameter, integer, decimal_number, verum, falsum, negation, conjunction, disjunction, implication, exclusion, equality, distinction, choice, less, at_most, greater, at_least, sum, difference, product, quotient, integer_quotient, modulus, magnitude, to_real, to_int, is_int, Term, apply, Terms, no_terms, terms}
+use Rattle.nz_spec.specs.Term.{Sort, bool_sort, int_sort, real_sort, sort_of, head_fits, Constant, Head, constant, parameter, integer, decimal_number, verum, falsum, negation, conjunction, disjunction, implication, exclusion, equality, distinction, choice, less, at_most, greater, at_least, sum, difference, product, quotient, integer_quotient, modulus, magnitude, to_real, to_int, is_int, Term, apply, Terms, no_terms, terms}
 
 -- ---- Operators
 
@@ -255,10 +255,14 @@ application sc name ts =
       | None ↦ (if is_some (constant_named sc.constants name) then None else option_and_then (λ d. expansion d ts) (definition_named sc.definitions name))
     ])
 
+-- the term of a numeral or a decimal that is a number
+abbrev pub fitting : Head → Option Term
+fitting h = if head_fits h then Some (apply h no_terms) else None
+
 abbrev pub token_term : Scope → Token → Option Term
 token_term sc (symbol name) = name_term sc name
-token_term sc (numeral bs) = Some (apply (integer (digits_value bs)) no_terms)
-token_term sc (decimal bs) = Some (apply (decimal_number (digits_value (decimal_digits bs)) (length (after_point bs))) no_terms)
+token_term sc (numeral bs) = fitting (integer (digits_value bs))
+token_term sc (decimal bs) = fitting (decimal_number (digits_value (decimal_digits bs)) (length (after_point bs)))
 token_term sc (keyword bs) = None
 token_term sc (hexadecimal bs) = None
 token_term sc (binary bs) = None

@@ -2,16 +2,12 @@
 -- Source: SMT-LIB 2.6, logics LIRA and QF_LRA (linear arithmetic: products and quotients with a constant). That a constant
 -- term is one whose value, folded from the left, stays among the numbers is this solver's own.
 use Rattle.std.specs.Prelude.{◌≡◌, ℕ, zero, suc, ◌+◌, ◌&&◌, ◌||◌, nat_lt, not, Bool, true, false, List, [], ◌∷◌, Option, Some, None, option_map, pos, if◌then◌else◌}
-use Rattle.nz_spec.specs.Fraction.{Fraction, whole, fraction_eq, neg_ℚ, Operator, Sum, Difference, Product, Quotient, outcome, is_wide}
-use Rattle.nz_spec.specs.Term.{Head, integer, decimal_number, sum, difference, product, quotient, integer_quotient, modulus, to_real, Term, apply, Terms, no_terms, terms, scaled}
-
-abbrev pub is_zero : Fraction → Bool
-is_zero q = fraction_eq q (whole (pos 0))
+use Rattle.nz_spec.specs.Fraction.{Fraction, whole, neg_ℚ, Operator, Sum, Difference, Product, Quotient, outcome, is_wide}
+use Rattle.nz_spec.specs.Term.{Head, integer, decimal_number, sum, difference, product, quotient, integer_quotient, modulus, to_real, Term, apply, Terms, no_terms, terms, scaled, is_zero, is_undefined}
 
 -- an operation on two constants, where it has a value among the numbers
 abbrev pub folded_step : Operator → Option Fraction → Option Fraction → Option Fraction
-folded_step Quotient (Some p) (Some q) = if is_zero q || is_wide Quotient p q then None else Some (outcome Quotient p q)
-folded_step op (Some p) (Some q) = if is_wide op p q then None else Some (outcome op p q)
+folded_step op (Some p) (Some q) = if is_undefined op q || is_wide op p q then None else Some (outcome op p q)
 folded_step op (Some p) None = None
 folded_step op None q = None
 

@@ -1,7 +1,8 @@
 -- Terms, sorts and values (SMT-LIB 2.6, section 3.6, terms, and the theories Core and Reals_Ints).
-use Rattle.std.specs.Prelude.{◌≡◌, ℕ, suc, ◌^◌, ◌<◌, ◌&&◌, ◌||◌, Bool, true, false, not, IsTrue, List, [], ◌∷◌, ℤ, pos, negsuc, ◌+ℤ◌, ◌*ℤ◌, neg_ℤ, ◌≤ℤ◌, ◌<ℤ◌, unsigned_abs, ⊤, Option, Some, None, if◌then◌else◌}
+use Rattle.std.specs.Prelude.{◌≡◌, ℕ, suc, ◌^◌, ◌<◌, ◌&&◌, ◌||◌, Bool, true, false, not, IsTrue, nat_le, List, [], ◌∷◌, ℤ, pos, negsuc, ◌+ℤ◌, ◌*ℤ◌, neg_ℤ, ◌≤ℤ◌, ◌<ℤ◌, unsigned_abs, ⊤, Option, Some, None, if◌then◌else◌}
 use Rattle.std.specs.List.{list_all, list_any}
-use Rattle.nz_spec.specs.Fraction.{Fraction, over, whole, IsWhole, fraction_eq, fraction_le, fraction_lt, neg_ℚ, floor, floor_div, reduce, Operator, Sum, Difference, Product, Quotient, outcome}
+use Rattle.nz_spec.specs.Fraction.{Fraction, whole, IsWhole, IsNumber, ratio, fraction_eq, fraction_le, fraction_lt, neg_ℚ, floor, floor_div, Operator, Sum, Difference, Product, Quotient, outcome, exceeds}
+use Rattle.nz_spec.specs.Bounds.{place_limit}
 
 pub data Sort : Type 0 where
   bool_sort : Sort
@@ -47,6 +48,12 @@ pub data Head : Type 0 where
 abbrev pub constant_of : Head → Option Constant
 constant_of (constant c) = Some c
 constant_of h = None
+
+-- A numeral is a number where it is at most M; a decimal where its digits are, and at most 38 of them stand after the point.
+abbrev pub head_fits : Head → Bool
+head_fits (integer n) = not (exceeds n)
+head_fits (decimal_number n places) = not (exceeds n) && nat_le places place_limit
+head_fits h = true
 
 -- the sort of a term, which its head tells
 abbrev pub head_sort : Head → Sort
@@ -166,9 +173,20 @@ abbrev pub combined : (Value → Value → Value) → Value → List Value → V
 combined f v [] = v
 combined f v (w ∷ ws) = combined f (f v w) ws
 
--- an operation on two numbers, of any size; a quotient's divisor is not 0
+abbrev pub whole_number : ℤ → Value
+whole_number n = number (whole n)
+
+abbrev pub is_zero : Fraction → Bool
+is_zero q = fraction_eq q (whole (pos 0))
+
+-- a quotient by 0 is no operation
+abbrev pub is_undefined : Operator → Fraction → Bool
+is_undefined Quotient q = is_zero q
+is_undefined op q = false
+
+-- an operation on two numbers, of any size; a quotient by 0, which no linear term has, is 0
 abbrev pub carried_out : Operator → Value → Value → Value
-carried_out op v w = number (outcome op (number_of v) (number_of w))
+carried_out op v w = if is_undefined op (number_of w) then whole_number (pos 0) else number (outcome op (number_of v) (number_of w))
 
 -- `div` and `mod` by n other than 0: of m the q and the r with m = n*q + r and 0 <= r < |n|
 unfoldable pub div_of : ℤ → ℤ → ℤ
@@ -194,15 +212,16 @@ DividesOnce = (m n q r : ℤ) → IsDivision m n q r → (q ≡ div_of m n) × (
 abbrev pub integer_of : Value → ℤ
 integer_of v = floor (number_of v)
 
-abbrev pub whole_number : ℤ → Value
-whole_number n = number (whole n)
-
 abbrev pub divided : Value → Value → Value
 divided v w = whole_number (div_of (integer_of v) (integer_of w))
 
 -- a number of so many decimal places
 abbrev pub scaled : ℕ → ℕ → Fraction
-scaled digits places = reduce (over (pos digits) (10 ^ places))
+scaled digits places = ratio (pos digits) (pos (10 ^ places))
+
+-- A decimal that fits is a number.
+abbrev pub DecimalsAreNumbers : Type 0
+DecimalsAreNumbers = (digits places : ℕ) → IsTrue (head_fits (decimal_number digits places)) → IsNumber (scaled digits places)
 
 -- what a parameter stands for where nothing is put in its place
 abbrev pub default_value : Sort → Value

@@ -2,10 +2,10 @@
 use Rattle.std.proofs.Common.{◌≡◌, ℕ, zero, suc, ◌<◌, ◌⊎◌, inl, inr, Bool, true, false, cond, List, [], ◌∷◌, ◌++◌, length, map, take, drop, Some, All, slice_get, refl, sym, ap, subst, ◌∙◌, arith}
 use Rattle.std.proofs.lemmas.List.{map-append, take-append-drop}
 use Rattle.std.proofs.lemmas.Option.{slice_get-map}
-use Rattle.std.specs.Prelude.{option_map}
+use Rattle.std.specs.Prelude.{option_map, IsTrue}
 use Rattle.std.specs.List.{IsDistinct, list_any}
 use Rattle.indexmap.specs.IndexSet.{insert_key}
-use Rattle.nz_spec.specs.Term.{apply}
+use Rattle.nz_spec.specs.Term.{apply, head_fits}
 use Rattle.nz_spec.specs.Table as table
 use Rattle.nz_spec.specs.Table.{IsTable, HasOneNumberEach, term_in, terms_at}
 use Rattle.nz_spec.proofs.Tables as laws
@@ -42,7 +42,12 @@ front_table ns m t =
     record {
       before = λ i n at. t.before i n (back i n at);
       once = λ i j n at beside. t.once i j n (back i n at) (back j n beside);
+      fits = λ i n at. t.fits i n (back i n at);
     }
+
+grown_fits : (ns : List table.Node) (n : table.Node) → IsTable ns → IsTrue (head_fits n.head)
+    → (i : ℕ) (m : table.Node) → slice_get (ns ++ n ∷ []) i ≡ Some m → IsTrue (head_fits m.head)
+grown_fits ns n t fits i m at = elim (came ns n i m at) [ inl there ↦ t.fits i m there | inr last ↦ subst (λ x. IsTrue (head_fits x.head)) last.1 fits ]
 
 -- how a table goes on: the node was there, or it is put last
 abbrev pub GoesOn : List table.Node → table.Node → List table.Node → Type 0
@@ -85,14 +90,18 @@ made_grown ks k new e = by (list_any (node_eq k) ks) refl
     by false gone = inr (ap (map node_of) (e ∙ ap (λ c. cond c ks (ks ++ k ∷ [])) gone) ∙ map-append node_of ks (k ∷ []))
 
 pub made_table : (ks : List Node) (k : Node) (new : List Node) → new ≡ insert_key node_eq ks k → IsDistinct node_eq new
-    → IsTable (map node_of ks) → All (λ i. i < length (map node_of ks)) k.kids → IsTable (map node_of new)
-made_table ks k new e distinct t within =
+    → IsTable (map node_of ks) → All (λ i. i < length (map node_of ks)) k.kids → IsTrue (head_fits (node_of k).head) → IsTable (map node_of new)
+made_table ks k new e distinct t within fits =
     record {
       before = elim (made_grown ks k new e) [
         | inl same ↦ subst (λ l. (i : ℕ) (m : table.Node) → slice_get l i ≡ Some m → All (λ j. j < i) m.kids) (sym same) t.before
         | inr more ↦ subst (λ l. (i : ℕ) (m : table.Node) → slice_get l i ≡ Some m → All (λ j. j < i) m.kids) (sym more) (grown_before (map node_of ks) (node_of k) t within)
       ];
       once = once node_eq node_of tells_nodes new distinct;
+      fits = elim (made_grown ks k new e) [
+        | inl same ↦ subst (λ l. (i : ℕ) (m : table.Node) → slice_get l i ≡ Some m → IsTrue (head_fits m.head)) (sym same) t.fits
+        | inr more ↦ subst (λ l. (i : ℕ) (m : table.Node) → slice_get l i ≡ Some m → IsTrue (head_fits m.head)) (sym more) (grown_fits (map node_of ks) (node_of k) t fits)
+      ];
     }
 
 -- the node at the place where a key equal to it stands

@@ -1,10 +1,12 @@
-//! What a term is of: an operator of the theory Core (SMT-LIB 2.6), or a declared constant.
+//! What a term is of: an operator of the theories Core and Reals_Ints (SMT-LIB 2.6), a declared constant, or a number.
 use nz_base::Text;
 
 /// A sort.
 #[derive(Clone, Copy, Debug, PartialEq, Eq, Hash)]
 pub enum Sort {
     Bool,
+    Int,
+    Real,
 }
 
 /// A declared constant. Two of one name and one sort are the same constant.
@@ -14,11 +16,17 @@ pub struct Constant {
     pub sort: Sort,
 }
 
-/// The head of a normal term.
+/// The head of a normal term. Where an operator is over Int or over Real, its head says which.
 #[derive(Clone, Debug, Drop, PartialEq, Eq, Hash)]
 pub enum Head {
     /// A constant, which has no arguments.
     Constant(Constant),
+    /// A parameter of a definition, by its place. It stands in the definition's body alone.
+    Parameter(usize, Sort),
+    /// A numeral.
+    Integer(u128),
+    /// A decimal: its digits as one number, and how many of them stand after the point.
+    Decimal(u128, usize),
     True,
     False,
     Not,
@@ -28,6 +36,25 @@ pub enum Head {
     Xor,
     /// Of two arguments.
     Equal,
-    /// Of three arguments: a condition, and a term for each answer.
-    Ite,
+    /// Of three arguments: a condition, and a term of this sort for each answer.
+    Ite(Sort),
+    /// `<`, of two arguments.
+    Less,
+    /// `<=`, of two arguments.
+    AtMost,
+    Sum(Sort),
+    /// Of one argument, its negation.
+    Difference(Sort),
+    Product(Sort),
+    /// `/`, of two arguments.
+    Quotient,
+    /// `div`, of two arguments.
+    Div,
+    /// `mod`, of two arguments.
+    Mod,
+    /// `abs`.
+    Abs,
+    ToReal,
+    ToInt,
+    IsInt,
 }

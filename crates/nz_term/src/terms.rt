@@ -1,6 +1,6 @@
 //! The table of shared terms.
-ghost use Rattle.std.specs.Prelude.{◌≡◌, ℕ, ◌<◌, ◌==◌, ◌⊎◌, [], ◌∷◌, ◌++◌, length, take, All, Some, IfOk, OnOk, OnErr, IsOkAnd, option_map, slice_get};
-ghost use Rattle.nz_spec.specs.Term.{apply};
+ghost use Rattle.std.specs.Prelude.{◌≡◌, ℕ, ◌<◌, ◌==◌, ◌⊎◌, [], ◌∷◌, ◌++◌, length, take, All, Some, IsTrue, IfOk, OnOk, OnErr, IsOkAnd, option_map, slice_get};
+ghost use Rattle.nz_spec.specs.Term.{apply, head_fits};
 ghost use Rattle.nz_spec.specs.Table.{IsTable, HasOneNumberEach, term_in, terms_at};
 ghost use Rattle.nz_term.specs.Heads.{head_of};
 ghost use Rattle.nz_term.specs.Nodes.{node_of, node_with};
@@ -42,9 +42,10 @@ impl Terms {
     }
 
     /// The number of the term of this head over the terms of these numbers. A term that is there already has the number
-    /// that it had.
+    /// that it had. A numeral or decimal must be a number.
     pub fn make(&mut self, head: Head, kids: &[TermId]) -> Result<TermId, Memory>
-        requires { All (λ k. k < length self.old) kids.now }
+        requires within { All (λ k. k < length self.old) kids.now }
+        requires fits { IsTrue (head_fits (head_of head)) }
         ensures node { IfOk result (λ id. slice_get self.new id ≡ Some (node_with head kids.now)) }
         ensures term { IfOk result (λ id. term_in self.new id ≡ apply (head_of head) (terms_at (term_in self.old) kids.now)) }
         ensures grown { OnOk result ((self.new ≡ self.old) ⊎ (self.new ≡ self.old ++ node_with head kids.now ∷ [])) }

@@ -44,7 +44,7 @@ fn terms_of_different_operators_are_different(rt: HostRuntime) -> Result<(), Fai
     assert_eq!(rt; excluded, 4);
     let equal = terms.make(Head::Equal, &[0, 1])?;
     assert_eq!(rt; equal, 5);
-    let chosen = terms.make(Head::Ite, &[0, 1, 2])?;
+    let chosen = terms.make(Head::Ite(Sort::Bool), &[0, 1, 2])?;
     assert_eq!(rt; chosen, 6);
     assert!(rt; Head::Xor != Head::Equal);
     Ok(())

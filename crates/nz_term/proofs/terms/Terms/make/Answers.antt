@@ -20,8 +20,8 @@ invariant_of-self-2 c =
     let now = c.args.self.now in
     let put : Node = record { head = c.args.head; kids = c.in_ok-kids.kids } in
     let within : All (λ i. i < length (map node_of c.self.inside.nodes.keys)) put.kids =
-    subst (λ l. All (λ i. i < length l) put.kids) (sym c.self.view_is) (subst (All (λ i. i < length now)) (sym c.in_ok-kids.ensures.ids) c.requires) in
-    made_table c.self.inside.nodes.keys put c.insert_full.new.self.keys c.in_ok-id.ensures.keys c.insert_full.ensures.unique c.self.invariant within
+    subst (λ l. All (λ i. i < length l) put.kids) (sym c.self.view_is) (subst (All (λ i. i < length now)) (sym c.in_ok-kids.ensures.ids) c.requires.within) in
+    made_table c.self.inside.nodes.keys put c.insert_full.new.self.keys c.in_ok-id.ensures.keys c.insert_full.ensures.unique c.self.invariant within c.requires.fits
 
 pub returns-clause-node : goal.returns-clause-node
 returns-clause-node c =
@@ -33,7 +33,7 @@ returns-clause-term c =
     let before = map node_of c.self.inside.nodes.keys in
     let put : Node = record { head = c.args.head; kids = c.in_ok-kids.kids } in
     let within : All (λ i. i < length before) put.kids =
-    subst (λ l. All (λ i. i < length l) put.kids) (sym c.self.view_is) (subst (All (λ i. i < length c.args.self.now)) (sym c.in_ok-kids.ensures.ids) c.requires) in
+    subst (λ l. All (λ i. i < length l) put.kids) (sym c.self.view_is) (subst (All (λ i. i < length c.args.self.now)) (sym c.in_ok-kids.ensures.ids) c.requires.within) in
     let grown = made_grown c.self.inside.nodes.keys put c.insert_full.new.self.keys c.in_ok-id.ensures.keys in
     let at = made_node c.insert_full.new.self.keys put c.in_ok-id.id c.in_ok-id.ensures.stored in
     made_term before (node_of put) (map node_of c.insert_full.new.self.keys) c.in_ok-id.id (invariant_of-self-2 c) grown within at
