@@ -3,6 +3,7 @@ pub mod FractionArithmetic
 pub mod FractionLaws
 pub mod FractionOrder
 pub mod InfinitesimalLaws
+pub mod Instances
 pub mod Normal
 pub mod Pieces
 pub mod Readings

@@ -6,6 +6,7 @@ use Rattle.nz_spec.specs.Tree.{Token, symbol, keyword, numeral, decimal, hexadec
 use Rattle.nz_spec.specs.Form.{tree_symbol, term_head, name_head, let_head, no_head}
 use Rattle.nz_spec.specs.Bounds.{digits_value, decimal_digits}
 use Rattle.nz_spec.specs.Term.{Sort, bool_sort, int_sort, real_sort, sort_of, head_fits, Constant, Head, constant, parameter, integer, decimal_number, verum, falsum, negation, conjunction, disjunction, implication, exclusion, equality, distinction, choice, less, at_most, greater, at_least, sum, difference, product, quotient, integer_quotient, modulus, magnitude, to_real, to_int, is_int, Term, apply, Terms, no_terms, terms}
+use Rattle.nz_spec.specs.Normal.{normal_of, normals_of}
 
 -- ---- Operators
 
@@ -189,6 +190,10 @@ abbrev mutual
   pub instances_of : Terms → Terms → Terms
   instances_of us no_terms = no_terms
   instances_of us (terms t ts) = terms (instance_of us t) (instances_of us ts)
+
+-- The normal term of a body with terms for its parameters is the normal body with their normal terms.
+abbrev pub InstanceKeepsNormal : Type 0
+InstanceKeepsNormal = (us : Terms) (t : Term) → normal_of (instance_of us t) ≡ instance_of (normals_of us) (normal_of t)
 
 abbrev pub terms_onto : Option Term → Option Terms → Option Terms
 terms_onto (Some t) (Some ts) = Some (terms t ts)

@@ -1,10 +1,16 @@
 //! Laws of terms.
 ghost use Rattle.nz_spec.specs.Normal.{NormalKeepsValue};
+ghost use Rattle.nz_spec.specs.Elaboration.{InstanceKeepsNormal};
 ghost use Rattle.nz_spec.specs.TruthTables.{HasNormalTerms, HasPairs, HasTriples};
 
 /// A term and its normal term have one value.
 pub fn normal_keeps_value()
     ensures keeps { NormalKeepsValue }
+{}
+
+/// Terms may be put for the parameters of a body before or after both are made normal.
+pub fn instance_keeps_normal()
+    ensures keeps { InstanceKeepsNormal }
 {}
 
 /// The truth tables of the operators, by the definitions alone.
