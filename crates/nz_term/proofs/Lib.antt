@@ -1,3 +1,4 @@
 pub mod Equality
 pub mod Keys
 pub mod Tables
+pub mod Traversal
