@@ -2,3 +2,4 @@ pub mod Equality
 pub mod Keys
 pub mod Tables
 pub mod Traversal
+pub mod Walks

@@ -1,14 +1,12 @@
 -- Putting terms into their order, one step after another.
-use Rattle.std.proofs.Common.{◌≡◌, ℕ, suc, ◌+◌, ◌*◌, ◌<◌, ◌≤◌, List, [], ◌∷◌, ◌++◌, length, map, reverse, All, refl, sym, ap, subst, ◌∙◌, arith, append_assoc, append-nil, length-append}
-use Rattle.std.specs.Prelude.{Contains, flat_map, ⊤, ◌⊎◌}
-use Rattle.std.proofs.lemmas.List.{reverse-append, reverse-reverse}
+use Rattle.std.proofs.Common.{◌≡◌, ◌⊎◌, inl, inr, ℕ, zero, suc, ◌+◌, ◌*◌, ◌<◌, ◌≤◌, List, [], ◌∷◌, ◌++◌, length, map, slice_index_or, refl, sym, ap, subst, ◌∙◌, arith, append_assoc, append-nil, length-append}
+use Rattle.std.specs.Prelude.{Contains, flat_map, ⊤}
 use Rattle.std.proofs.lemmas.List.Elements.{Contains-append_left, Contains-append_right, Contains-append_cases}
 use Rattle.nz_spec.specs.Term.{Head, Term, apply, Terms, no_terms, terms}
 use Rattle.nz_spec.specs.Table.{terms_at}
 use Rattle.nz_spec.specs.Order.{post_order, post_orders, AreFirst}
 use Rattle.nz_term.specs.declared.order.Step.{Step}
 use Rattle.nz_term.specs.declared.order.Step.TheVariants.{Enter, Leave}
-use Rattle.nz_term.specs.Steps.{entries}
 
 -- ---- Terms of lists
 
@@ -16,10 +14,12 @@ use Rattle.nz_term.specs.Steps.{entries}
 abbrev pub IsWithin : List Term → List Term → Type 0
 IsWithin xs ys = (t : Term) → Contains xs t → Contains ys t
 
-none : {X : Type 0} (x : X) → Contains [] x → ⊥
+-- an empty list has nothing
+pub none : {X : Type 0} (x : X) → Contains [] x → ⊥
 none x k = omega (arith, k.1)
 
-alone : {X : Type 0} (y x : X) → Contains (y ∷ []) x → y ≡ x
+-- a list of one has that one
+pub alone : {X : Type 0} (y x : X) → Contains (y ∷ []) x → y ≡ x
 alone y x k = Contains_one y x k.0 k.1 k.2
   where
     Contains_one : {X : Type 0} (y x : X) (k : ℕ) → k < 1 → slice_index_or (y ∷ []) k x ≡ x → y ≡ x
@@ -51,7 +51,7 @@ behind xs ys t k = Contains-append_right xs ys t k
 abbrev pub parts : Term → List Term
 parts (apply h ts) = post_orders ts
 
-whole : (t : Term) → post_order t ≡ parts t ++ t ∷ []
+pub whole : (t : Term) → post_order t ≡ parts t ++ t ∷ []
 whole (apply h ts) = refl
 
 -- no part of a term is larger than it
@@ -157,10 +157,10 @@ module _ (f : ℕ → Term) where
 
   pub start : (roots : List ℕ) → AreOnWay (flat_map post_order (map f roots)) [] [] (map Enter roots ++ [])
   start roots = record {
-      first = λ list h. subst (λ l. AreFirst [] l list) (to_come_entries roots [] ∙ append-nil (post_orders (terms_at f roots)) ∙ orders_of_roots roots) h;
-      closed = λ t k. absurd (none t k);
-      ready = ready_entries roots [] [] tt;
-    }
+    first = λ list h. subst (λ l. AreFirst [] l list) (to_come_entries roots [] ∙ append-nil (post_orders (terms_at f roots)) ∙ orders_of_roots roots) h;
+    closed = λ t k. absurd (none t k);
+    ready = ready_entries roots [] [] tt;
+  }
 
   pub finish : (all seen done : List Term) → AreOnWay all seen done [] → AreFirst [] all done
   finish all seen done w = subst (AreFirst [] all) (append-nil done) (w.first [] refl)
@@ -189,24 +189,25 @@ module _ (f : ℕ → Term) where
       record {
         first = λ list k. w.first list (subst (λ l. AreFirst seen l list) same k);
         closed = w.closed;
-        ready = ready_entries kids seen (Leave i ∷ s)
-            (λ t k. Contains-append_left inner seen t (subst (λ l. Contains l t) made k),
-            λ k. elim (Contains-append_cases inner seen (f i) k) [
-              | inl l ↦ not_part (f i) (subst (λ x. Contains x (f i)) (sym made) l)
-              | inr r ↦ new r
-            ],
-            ready_same ((inner ++ f i ∷ []) ++ seen) (f i ∷ (inner ++ seen)) s
-            (joined (inner ++ f i ∷ []) seen (f i ∷ (inner ++ seen))
-            (joined inner (f i ∷ []) (f i ∷ (inner ++ seen))
-            (λ t k. behind (f i ∷ []) (inner ++ seen) t (Contains-append_left inner seen t k))
-            (λ t k. Contains-append_left (f i ∷ []) (inner ++ seen) t k))
-            (λ t k. behind (f i ∷ []) (inner ++ seen) t (behind inner seen t k)))
-            (joined (f i ∷ []) (inner ++ seen) ((inner ++ f i ∷ []) ++ seen)
-            (λ t k. Contains-append_left (inner ++ f i ∷ []) seen t (behind inner (f i ∷ []) t k))
-            (joined inner seen ((inner ++ f i ∷ []) ++ seen)
-            (λ t k. Contains-append_left (inner ++ f i ∷ []) seen t (Contains-append_left inner (f i ∷ []) t k))
-            (behind (inner ++ f i ∷ []) seen)))
-            around);
+        ready = ready_entries kids seen (Leave i ∷ s) (
+          λ t k. Contains-append_left inner seen t (subst (λ l. Contains l t) made k),
+          λ k. elim (Contains-append_cases inner seen (f i) k) [
+            | inl l ↦ not_part (f i) (subst (λ x. Contains x (f i)) (sym made) l)
+            | inr r ↦ new r
+          ],
+          ready_same ((inner ++ f i ∷ []) ++ seen) (f i ∷ (inner ++ seen)) s
+              (joined (inner ++ f i ∷ []) seen (f i ∷ (inner ++ seen))
+              (joined inner (f i ∷ []) (f i ∷ (inner ++ seen))
+              (λ t k. behind (f i ∷ []) (inner ++ seen) t (Contains-append_left inner seen t k))
+              (λ t k. Contains-append_left (f i ∷ []) (inner ++ seen) t k))
+              (λ t k. behind (f i ∷ []) (inner ++ seen) t (behind inner seen t k)))
+              (joined (f i ∷ []) (inner ++ seen) ((inner ++ f i ∷ []) ++ seen)
+              (λ t k. Contains-append_left (inner ++ f i ∷ []) seen t (behind inner (f i ∷ []) t k))
+              (joined inner seen ((inner ++ f i ∷ []) ++ seen)
+              (λ t k. Contains-append_left (inner ++ f i ∷ []) seen t (Contains-append_left inner (f i ∷ []) t k))
+              (behind (inner ++ f i ∷ []) seen)))
+              around,
+        );
       }
 
   -- a term is left behind its arguments

@@ -23,8 +23,8 @@ enum Step {
 fn enter_each(steps: &mut Vec<Step>, ids: &[TermId]) -> Result<(), Memory>
     ensures entered { OnOk result (steps.new.items ≡ steps.old.items ++ entries ids.now) }
 {
-    for id in ids.iter().rev() {
-        steps.push(Step::Enter(*id))?;
+    for id in ids.iter().rev().copied() {
+        steps.push(Step::Enter(id))?;
     }
     Ok(())
 }
