@@ -1,7 +1,7 @@
 pub mod Bounds
 pub mod Decide
-pub mod Example
 pub mod Elaboration
+pub mod Example
 pub mod Form
 pub mod Fraction
 pub mod Infinitesimal
@@ -9,6 +9,7 @@ pub mod Kept
 pub mod Linear
 pub mod Normal
 pub mod Operations
+pub mod Order
 pub mod Outside
 pub mod Reading
 pub mod Reply
