@@ -95,13 +95,6 @@ abbrev pub as_reals : Terms → Terms
 as_reals no_terms = no_terms
 as_reals (terms t ts) = terms (as_real t) (as_reals ts)
 
--- numbers side by side are all Int, or are all read as Real
-abbrev pub number_sort : Terms → Sort
-number_sort ts = if all_terms (has_sort int_sort) ts then int_sort else real_sort
-
-abbrev pub alike : Terms → Terms
-alike ts = if all_terms (has_sort int_sort) ts then ts else as_reals ts
-
 -- a term where one of this sort is wanted
 abbrev pub placed : Sort → Term → Option Term
 placed s t =
@@ -110,60 +103,125 @@ placed s t =
 
 -- ---- Operators over their arguments
 
-abbrev pub term_if : Bool → Head → Terms → Option Term
-term_if fits h ts = if fits then Some (apply h ts) else None
+-- how many arguments an operator takes
+abbrev pub takes : Operator → ℕ → Bool
+takes true_operator n = n == 0
+takes false_operator n = n == 0
+takes not_operator n = n == 1
+takes and_operator n = nat_lt 0 n
+takes or_operator n = nat_lt 0 n
+takes implies_operator n = nat_lt 1 n
+takes xor_operator n = nat_lt 1 n
+takes equals_operator n = nat_lt 1 n
+takes distinct_operator n = nat_lt 1 n
+takes ite_operator n = n == 3
+takes at_most_operator n = nat_lt 1 n
+takes less_operator n = nat_lt 1 n
+takes at_least_operator n = nat_lt 1 n
+takes greater_operator n = nat_lt 1 n
+takes plus_operator n = nat_lt 0 n
+takes times_operator n = nat_lt 0 n
+takes minus_operator n = nat_lt 0 n
+takes over_operator n = nat_lt 1 n
+takes div_operator n = nat_lt 1 n
+takes mod_operator n = n == 2
+takes abs_operator n = n == 1
+takes to_real_operator n = n == 1
+takes to_int_operator n = n == 1
+takes is_int_operator n = n == 1
 
-abbrev pub over_bools : (ℕ → Bool) → Head → Terms → Option Term
-over_bools takes h ts = term_if (takes (term_count ts) && all_terms (has_sort bool_sort) ts) h ts
+-- which arguments it takes
+pub data Operands : Type 0 where
+  bools : Operands
+  ints : Operands
+  reals : Operands  -- numbers, read as Real
+  numbers : Operands  -- numbers, all Int or read as Real
+  alike : Operands  -- all Bool, or numbers as before
+  branches : Operands  -- one Bool, and then as before
 
-abbrev pub over_ints : (ℕ → Bool) → Head → Terms → Option Term
-over_ints takes h ts = term_if (takes (term_count ts) && all_terms (has_sort int_sort) ts) h ts
+abbrev pub operands_of : Operator → Operands
+operands_of true_operator = bools
+operands_of false_operator = bools
+operands_of not_operator = bools
+operands_of and_operator = bools
+operands_of or_operator = bools
+operands_of implies_operator = bools
+operands_of xor_operator = bools
+operands_of equals_operator = alike
+operands_of distinct_operator = alike
+operands_of ite_operator = branches
+operands_of at_most_operator = numbers
+operands_of less_operator = numbers
+operands_of at_least_operator = numbers
+operands_of greater_operator = numbers
+operands_of plus_operator = numbers
+operands_of times_operator = numbers
+operands_of minus_operator = numbers
+operands_of over_operator = reals
+operands_of div_operator = ints
+operands_of mod_operator = ints
+operands_of abs_operator = ints
+operands_of to_real_operator = ints
+operands_of to_int_operator = reals
+operands_of is_int_operator = reals
 
-abbrev pub over_reals : (ℕ → Bool) → Head → Terms → Option Term
-over_reals takes h ts = term_if (takes (term_count ts) && all_terms is_number_term ts) h (as_reals ts)
+-- the sort that terms are read at, side by side: Int where all are Int, else Real
+abbrev pub number_sort : Terms → Option Sort
+number_sort ts =
+    if all_terms (has_sort int_sort) ts then Some int_sort
+    else (if all_terms is_number_term ts then Some real_sort else None)
 
--- over numbers, by a head for their sort
-abbrev pub over_numbers : (ℕ → Bool) → (Sort → Head) → Terms → Option Term
-over_numbers takes head_for ts = term_if (takes (term_count ts) && all_terms is_number_term ts) (head_for (number_sort ts)) (alike ts)
+abbrev pub alike_sort : Terms → Option Sort
+alike_sort ts = if all_terms (has_sort bool_sort) ts then Some bool_sort else number_sort ts
 
--- over two or more arguments, all Bool or all numbers
-abbrev pub over_alike : Head → Terms → Option Term
-over_alike h ts = if all_terms (has_sort bool_sort) ts then over_bools (nat_lt 1) h ts else over_numbers (nat_lt 1) (λ s. h) ts
+-- the sort that the arguments are read at, where they are such operands
+abbrev pub operand_sort : Operands → Terms → Option Sort
+operand_sort bools ts = if all_terms (has_sort bool_sort) ts then Some bool_sort else None
+operand_sort ints ts = if all_terms (has_sort int_sort) ts then Some int_sort else None
+operand_sort reals ts = if all_terms is_number_term ts then Some real_sort else None
+operand_sort numbers ts = number_sort ts
+operand_sort alike ts = alike_sort ts
+operand_sort branches no_terms = None
+operand_sort branches (terms c ts) = if has_sort bool_sort c then alike_sort ts else None
 
--- a Bool, and two more arguments, both Bool or both numbers
-abbrev pub over_branches : Terms → Option Term
-over_branches no_terms = None
-over_branches (terms c ts) =
-    if not (has_sort bool_sort c) || not (term_count ts == 2) then None
-    else (if all_terms (has_sort bool_sort) ts then Some (apply (choice bool_sort) (terms c ts))
-    else (if all_terms is_number_term ts then Some (apply (choice (number_sort ts)) (terms c (alike ts))) else None))
+-- the arguments, read at a sort
+abbrev pub read_at : Sort → Terms → Terms
+read_at bool_sort ts = ts
+read_at int_sort ts = ts
+read_at real_sort ts = as_reals ts
+
+-- the head of an operator over arguments that are read at a sort
+abbrev pub operator_head : Operator → Sort → Head
+operator_head true_operator s = verum
+operator_head false_operator s = falsum
+operator_head not_operator s = negation
+operator_head and_operator s = conjunction
+operator_head or_operator s = disjunction
+operator_head implies_operator s = implication
+operator_head xor_operator s = exclusion
+operator_head equals_operator s = equality
+operator_head distinct_operator s = distinction
+operator_head ite_operator s = choice s
+operator_head at_most_operator s = at_most
+operator_head less_operator s = less
+operator_head at_least_operator s = at_least
+operator_head greater_operator s = greater
+operator_head plus_operator s = sum s
+operator_head times_operator s = product s
+operator_head minus_operator s = difference s
+operator_head over_operator s = quotient
+operator_head div_operator s = integer_quotient
+operator_head mod_operator s = modulus
+operator_head abs_operator s = magnitude
+operator_head to_real_operator s = to_real
+operator_head to_int_operator s = to_int
+operator_head is_int_operator s = is_int
 
 -- An operator over its arguments, where their number and their sorts are those that it takes.
 abbrev pub applied : Operator → Terms → Option Term
-applied true_operator ts = over_bools (nat_eq 0) verum ts
-applied false_operator ts = over_bools (nat_eq 0) falsum ts
-applied not_operator ts = over_bools (nat_eq 1) negation ts
-applied and_operator ts = over_bools (nat_lt 0) conjunction ts
-applied or_operator ts = over_bools (nat_lt 0) disjunction ts
-applied implies_operator ts = over_bools (nat_lt 1) implication ts
-applied xor_operator ts = over_bools (nat_lt 1) exclusion ts
-applied equals_operator ts = over_alike equality ts
-applied distinct_operator ts = over_alike distinction ts
-applied ite_operator ts = over_branches ts
-applied less_operator ts = over_numbers (nat_lt 1) (λ s. less) ts
-applied at_most_operator ts = over_numbers (nat_lt 1) (λ s. at_most) ts
-applied greater_operator ts = over_numbers (nat_lt 1) (λ s. greater) ts
-applied at_least_operator ts = over_numbers (nat_lt 1) (λ s. at_least) ts
-applied plus_operator ts = over_numbers (nat_lt 0) sum ts
-applied times_operator ts = over_numbers (nat_lt 0) product ts
-applied minus_operator ts = over_numbers (nat_lt 0) difference ts
-applied over_operator ts = over_reals (nat_lt 1) quotient ts
-applied div_operator ts = over_ints (nat_lt 1) integer_quotient ts
-applied mod_operator ts = over_ints (nat_eq 2) modulus ts
-applied abs_operator ts = over_ints (nat_eq 1) magnitude ts
-applied to_real_operator ts = over_ints (nat_eq 1) to_real ts
-applied to_int_operator ts = over_reals (nat_eq 1) to_int ts
-applied is_int_operator ts = over_reals (nat_eq 1) is_int ts
+applied o ts =
+    if takes o (term_count ts) then option_map (λ s. apply (operator_head o s) (read_at s ts)) (operand_sort (operands_of o) ts)
+    else None
 
 -- ---- Definitions
 

@@ -2,7 +2,7 @@
 -- the stack of levels that the accepted commands leave.
 use Rattle.std.specs.Prelude.{ℕ, ◌&&◌, ◌||◌, ◌+◌, ◌-◌, ◌==◌, zero, suc, not, nat_lt, Bool, true, false, List, [], ◌∷◌, ◌++◌, length, map, Option, Some, None, option_map, option_and_then, is_some, is_none, codes, bytes_eq, if◌then◌else◌}
 use Rattle.std.specs.List.{list_any, list_all}
-use Rattle.nz_spec.specs.Form.{is_name, is_symbol, is_keyword, is_token, is_one, is_empty, tree_symbol, term_head, name_head, let_head, no_head, has_form, CommandName, command_name, assert_name, assert_soft_name, check_sat_name, check_sat_assuming_name, declare_const_name, declare_fun_name, define_fun_name, echo_name, exit_name, get_info_name, get_model_name, get_objectives_name, get_value_name, maximize_name, minimize_name, pop_name, push_name, reset_name, reset_assertions_name, set_info_name, set_logic_name, set_option_name, other_name}
+use Rattle.nz_spec.specs.Form.{is_one_of, is_name, is_symbol, is_keyword, is_token, is_one, is_empty, tree_symbol, term_head, name_head, let_head, no_head, has_form, CommandName, command_name, assert_name, assert_soft_name, check_sat_name, check_sat_assuming_name, declare_const_name, declare_fun_name, define_fun_name, echo_name, exit_name, get_info_name, get_model_name, get_objectives_name, get_value_name, maximize_name, minimize_name, pop_name, push_name, reset_name, reset_assertions_name, set_info_name, set_logic_name, set_option_name, other_name}
 use Rattle.nz_spec.specs.Bounds.{has_token, have_token, is_zero_token, numeral_value, is_wide_token, is_long_decimal}
 use Rattle.nz_spec.specs.Fraction.{Fraction}
 use Rattle.nz_spec.specs.Tree.{Token, symbol, literal, symbol_name, Tree, leaf, node, Trees, no_trees, trees}
@@ -268,49 +268,51 @@ abbrev pub names_bound : Tree → List (List ℕ)
 names_bound (leaf t) = []
 names_bound (node bs) = bound_names bs
 
--- a symbol that is none of these names, and that nothing was declared by
-abbrev pub is_unknown : (List ℕ → Bool) → Token → Bool
-is_unknown knows t = elim (symbol_name t) [ Some name ↦ not (knows name) | None ↦ false ]
+-- a symbol that is none of these bound names, and that nothing was declared by
+abbrev pub is_unknown : (List ℕ → Bool) → List (List ℕ) → Token → Bool
+is_unknown is_live bound t = elim (symbol_name t) [ Some name ↦ not (is_one_of bound name || is_live name) | None ↦ false ]
 
-abbrev pub knows_too : List (List ℕ) → (List ℕ → Bool) → List ℕ → Bool
-knows_too names knows name = list_any (bytes_eq name) names || knows name
-
--- Some symbol of a term isn't in scope, where these names are.
+-- Some symbol of a term isn't in scope, where these names are bound.
 abbrev mutual
-  pub has_unknown : (List ℕ → Bool) → Tree → Bool
-  has_unknown knows (leaf t) = is_unknown knows t
-  has_unknown knows (node no_trees) = false
-  has_unknown knows (node (trees (node inner) ts)) = have_unknown knows ts
-  has_unknown knows (node (trees (leaf t) ts)) = elim (term_head t) [ let_head ↦ has_unknown_in_let knows ts | name_head ↦ is_unknown knows t || have_unknown knows ts | no_head ↦ have_unknown knows ts ]
+  pub has_unknown : (List ℕ → Bool) → List (List ℕ) → Tree → Bool
+  has_unknown is_live bound (leaf t) = is_unknown is_live bound t
+  has_unknown is_live bound (node no_trees) = false
+  has_unknown is_live bound (node (trees (node inner) ts)) = have_unknown is_live bound ts
+  has_unknown is_live bound (node (trees (leaf t) ts)) =
+      elim (term_head t) [
+        | let_head ↦ has_unknown_in_let is_live bound ts
+        | name_head ↦ is_unknown is_live bound t || have_unknown is_live bound ts
+        | no_head ↦ have_unknown is_live bound ts
+      ]
 
-  pub have_unknown : (List ℕ → Bool) → Trees → Bool
-  have_unknown knows no_trees = false
-  have_unknown knows (trees t ts) = has_unknown knows t || have_unknown knows ts
+  pub have_unknown : (List ℕ → Bool) → List (List ℕ) → Trees → Bool
+  have_unknown is_live bound no_trees = false
+  have_unknown is_live bound (trees t ts) = has_unknown is_live bound t || have_unknown is_live bound ts
 
-  pub has_unknown_in_let : (List ℕ → Bool) → Trees → Bool
-  has_unknown_in_let knows no_trees = false
-  has_unknown_in_let knows (trees bs ts) = has_unknown_bound knows bs || have_unknown (knows_too (names_bound bs) knows) ts
+  pub has_unknown_in_let : (List ℕ → Bool) → List (List ℕ) → Trees → Bool
+  has_unknown_in_let is_live bound no_trees = false
+  has_unknown_in_let is_live bound (trees bs ts) = has_unknown_bound is_live bound bs || have_unknown is_live (names_bound bs ++ bound) ts
 
-  pub has_unknown_bound : (List ℕ → Bool) → Tree → Bool
-  has_unknown_bound knows (leaf t) = false
-  has_unknown_bound knows (node bs) = have_unknown_bound knows bs
+  pub has_unknown_bound : (List ℕ → Bool) → List (List ℕ) → Tree → Bool
+  has_unknown_bound is_live bound (leaf t) = false
+  has_unknown_bound is_live bound (node bs) = have_unknown_bound is_live bound bs
 
-  pub have_unknown_bound : (List ℕ → Bool) → Trees → Bool
-  have_unknown_bound knows no_trees = false
-  have_unknown_bound knows (trees b bs) = has_unknown_pair knows b || have_unknown_bound knows bs
+  pub have_unknown_bound : (List ℕ → Bool) → List (List ℕ) → Trees → Bool
+  have_unknown_bound is_live bound no_trees = false
+  have_unknown_bound is_live bound (trees b bs) = has_unknown_pair is_live bound b || have_unknown_bound is_live bound bs
 
-  pub has_unknown_pair : (List ℕ → Bool) → Tree → Bool
-  has_unknown_pair knows (leaf t) = false
-  has_unknown_pair knows (node ts) = has_unknown_second knows ts
+  pub has_unknown_pair : (List ℕ → Bool) → List (List ℕ) → Tree → Bool
+  has_unknown_pair is_live bound (leaf t) = false
+  has_unknown_pair is_live bound (node ts) = has_unknown_second is_live bound ts
 
-  pub has_unknown_second : (List ℕ → Bool) → Trees → Bool
-  has_unknown_second knows no_trees = false
-  has_unknown_second knows (trees x ts) = have_unknown knows ts
+  pub has_unknown_second : (List ℕ → Bool) → List (List ℕ) → Trees → Bool
+  has_unknown_second is_live bound no_trees = false
+  has_unknown_second is_live bound (trees x ts) = have_unknown is_live bound ts
 
 -- Two of the names are one, or one is an operator's.
 abbrev pub clash : List (List ℕ) → Bool
 clash [] = false
-clash (name ∷ names) = is_operator name || list_any (bytes_eq name) names || clash names
+clash (name ∷ names) = is_operator name || is_one_of names name || clash names
 
 -- Some `let` of a term binds names that clash.
 abbrev mutual
@@ -416,7 +418,7 @@ definition_by s name names sorts sort body = refused 3
 abbrev pub definition_of : State → List ℕ → Trees → Tree → Tree → Outcome
 definition_of s name parameters sort body =
     let names = bound_names parameters in
-    if any_tree is_unknown_sort (parameter_sorts parameters) || is_unknown_sort sort || has_unknown (knows_too names (is_live_name s)) body then refused 2
+    if any_tree is_unknown_sort (parameter_sorts parameters) || is_unknown_sort sort || has_unknown (is_live_name s) names body then refused 2
     else (if is_live_name s name || clash names || has_clash body then refused 9
     else definition_by s name names (sorts_of_trees (parameter_sorts parameters)) (sort_of_tree sort) body)
 
@@ -426,7 +428,7 @@ asserted_outcome t = if has_sort bool_sort t then linear_outcome (is_linear (nor
 
 abbrev pub assertion_of : State → Tree → Outcome
 assertion_of s t =
-    if has_unknown (is_live_name s) t then refused 2
+    if has_unknown (is_live_name s) [] t then refused 2
     else (if has_clash t then refused 9
     else elim (term_of (scope_of s) t) [ Some u ↦ asserted_outcome u | None ↦ refused 3 ])
 
@@ -441,7 +443,7 @@ all_linear (terms t ts) = is_linear (normal_of t) && all_linear ts
 
 abbrev pub values_of_trees : State → Trees → Outcome
 values_of_trees s ts =
-    if have_unknown (is_live_name s) ts then refused 2
+    if have_unknown (is_live_name s) [] ts then refused 2
     else (if have_clash ts then refused 9
     else elim (terms_of (scope_of s) ts) [ Some us ↦ linear_outcome (all_linear us) (get_value (asked_of ts us)) | None ↦ refused 3 ])
 
