@@ -1,8 +1,5 @@
-pub mod Acts
-pub mod Commands
-pub mod Elaborate
 pub mod Form
-pub mod Live
-pub mod Names
+pub mod Links
 pub mod Operators
 pub mod Tokens
+pub mod Typed

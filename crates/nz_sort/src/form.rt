@@ -106,7 +106,27 @@ fn is_keyword(token: &Token) -> bool
     }
 }
 
+/// The keyword is this one.
+fn is_this_keyword(token: &Token, word: &[u8]) -> bool
+    ensures keyword { result ≡ form.is_keyword word.now (token_view token.now) }
+{
+    match keyword_name(token) {
+        Some(name) => name.as_bytes() == word,
+        None => false,
+    }
+}
+
 // ---- Trees
+
+/// The tree is this keyword.
+pub(crate) fn is_keyword_tree(tree: &Tree, word: &[u8]) -> bool
+    ensures keyword { result ≡ form.is_token (form.is_keyword word.now) (view tree.now) }
+{
+    match tree {
+        Tree::Word(token) => is_this_keyword(token, word),
+        Tree::List(_) => false,
+    }
+}
 
 /// The name of a tree that is a symbol.
 pub(crate) fn symbol_of(tree: &Tree) -> Option<&Text>

@@ -6,7 +6,6 @@ ghost use Rattle.nz_spec.specs.Bounds as bounds;
 ghost use Rattle.nz_sort.specs.Form.{seen};
 ghost use Rattle.nz_sort.specs.Tokens.{meaning_of};
 
-use crate::taken::is_of_number_term;
 use nz_sexpr::{Token, Tree};
 
 /// The greatest numerator and the greatest denominator.
@@ -22,8 +21,6 @@ pub enum TokenTest {
     Wide,
     /// A decimal of too many places.
     LongDecimal,
-    /// A token that only terms over numbers, or a `let`, have.
-    OfNumberTerm,
 }
 
 /// Whether some token of the tree, at any depth, meets the test.
@@ -56,7 +53,6 @@ fn meets(token: &Token, test: TokenTest) -> bool
     match test {
         TokenTest::Wide => is_wide(token),
         TokenTest::LongDecimal => is_long_decimal(token),
-        TokenTest::OfNumberTerm => is_of_number_term(token),
     }
 }
 

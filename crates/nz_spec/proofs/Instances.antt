@@ -2,7 +2,7 @@
 use Rattle.std.proofs.Common.{◌≡◌, ℕ, zero, suc, Option, Some, None, refl, sym, ap, ◌∙◌}
 use Rattle.std.specs.Prelude.{option_map}
 use Rattle.nz_spec.specs.Term.{Sort, Head, constant, parameter, integer, decimal_number, verum, falsum, negation, conjunction, disjunction, implication, exclusion, equality, distinction, choice, less, at_most, greater, at_least, sum, difference, product, quotient, integer_quotient, modulus, magnitude, to_real, to_int, is_int, Term, apply, Terms, no_terms, terms}
-use Rattle.nz_spec.specs.Normal.{negated, paired, turned, implication_of, grouped_onto, neighbours_of, disequations_onto, disequations_of, joined_by, chained_by, normal_node, normal_of, normals_of}
+use Rattle.nz_spec.specs.Normal.{negated, paired, turned, implication_of, grouped_onto, grouped_by, neighbours_of, disequations_onto, disequations_of, joined_by, chained_by, normal_node, normal_of, normals_of}
 use Rattle.nz_spec.specs.Elaboration.{term_at, instance_node, instance_of, instances_of, InstanceKeepsNormal}
 
 term_at-normal : (us : Terms) (i : ℕ) → term_at (normals_of us) i ≡ option_map normal_of (term_at us i)
@@ -23,6 +23,11 @@ grouped_instance us h stays t no_terms = refl
 grouped_instance us h stays t (terms u ts) =
     ap (λ x. grouped_onto h x (instances_of us ts)) (sym (stays (terms (instance_of us t) (terms (instance_of us u) no_terms))))
     ∙ grouped_instance us h stays (paired h t u) ts
+
+grouped_by_instance : (us : Terms) (h : Head) → ((vs : Terms) → instance_node us h vs ≡ apply h vs) → (ts : Terms)
+    → grouped_by h (instances_of us ts) ≡ instance_of us (grouped_by h ts)
+grouped_by_instance us h stays no_terms = sym (stays no_terms)
+grouped_by_instance us h stays (terms t ts) = grouped_instance us h stays t ts
 
 joined_instance : (us : Terms) (h : Head) → ((vs : Terms) → instance_node us h vs ≡ apply h vs) → (ts : Terms)
     → joined_by h (instances_of us ts) ≡ instance_of us (joined_by h ts)
@@ -68,8 +73,7 @@ node_instance us negation stays ts = refl
 node_instance us conjunction stays ts = joined_instance us conjunction stays ts
 node_instance us disjunction stays ts = joined_instance us disjunction stays ts
 node_instance us implication stays ts = implication_instance us ts
-node_instance us exclusion stays no_terms = refl
-node_instance us exclusion stays (terms t ts) = grouped_instance us exclusion stays t ts
+node_instance us exclusion stays ts = grouped_by_instance us exclusion stays ts
 node_instance us equality stays ts = chained_instance us (paired equality) (λ t u. refl) ts
 node_instance us distinction stays ts =
     ap (joined_by conjunction) (disequations_instance us ts) ∙ joined_instance us conjunction (λ vs. refl) (disequations_of ts)
@@ -81,10 +85,8 @@ node_instance us at_least stays ts = chained_instance us (turned at_most) (λ t 
 node_instance us (sum s) stays ts = joined_instance us (sum s) stays ts
 node_instance us (difference s) stays ts = refl
 node_instance us (product s) stays ts = joined_instance us (product s) stays ts
-node_instance us quotient stays no_terms = refl
-node_instance us quotient stays (terms t ts) = grouped_instance us quotient stays t ts
-node_instance us integer_quotient stays no_terms = refl
-node_instance us integer_quotient stays (terms t ts) = grouped_instance us integer_quotient stays t ts
+node_instance us quotient stays ts = grouped_by_instance us quotient stays ts
+node_instance us integer_quotient stays ts = grouped_by_instance us integer_quotient stays ts
 node_instance us modulus stays ts = refl
 node_instance us magnitude stays ts = refl
 node_instance us to_real stays ts = refl

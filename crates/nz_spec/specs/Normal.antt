@@ -24,6 +24,10 @@ abbrev pub grouped_onto : Head → Term → Terms → Term
 grouped_onto h t no_terms = t
 grouped_onto h t (terms u ts) = grouped_onto h (paired h t u) ts
 
+abbrev pub grouped_by : Head → Terms → Term
+grouped_by h no_terms = apply h no_terms
+grouped_by h (terms t ts) = grouped_onto h t ts
+
 -- a pair for each term and the next
 abbrev pub neighbours_of : (Term → Term → Term) → Terms → Terms
 neighbours_of pair no_terms = no_terms
@@ -61,8 +65,7 @@ normal_node negation ts = apply negation ts
 normal_node conjunction ts = joined_by conjunction ts
 normal_node disjunction ts = joined_by disjunction ts
 normal_node implication ts = implication_of ts
-normal_node exclusion no_terms = apply falsum no_terms
-normal_node exclusion (terms t ts) = grouped_onto exclusion t ts
+normal_node exclusion ts = grouped_by exclusion ts
 normal_node equality ts = chained_by (paired equality) ts
 normal_node distinction ts = joined_by conjunction (disequations_of ts)
 normal_node (choice s) ts = apply (choice s) ts
@@ -73,10 +76,8 @@ normal_node at_least ts = chained_by (turned at_most) ts
 normal_node (sum s) ts = joined_by (sum s) ts
 normal_node (difference s) ts = apply (difference s) ts
 normal_node (product s) ts = joined_by (product s) ts
-normal_node quotient no_terms = apply quotient no_terms
-normal_node quotient (terms t ts) = grouped_onto quotient t ts
-normal_node integer_quotient no_terms = apply integer_quotient no_terms
-normal_node integer_quotient (terms t ts) = grouped_onto integer_quotient t ts
+normal_node quotient ts = grouped_by quotient ts
+normal_node integer_quotient ts = grouped_by integer_quotient ts
 normal_node modulus ts = apply modulus ts
 normal_node magnitude ts = apply magnitude ts
 normal_node to_real ts = apply to_real ts
