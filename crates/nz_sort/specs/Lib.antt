@@ -1,5 +1,7 @@
+pub mod Elaborate
 pub mod Form
 pub mod Links
+pub mod Names
 pub mod Operators
 pub mod Tokens
 pub mod Typed

@@ -8,7 +8,7 @@ ghost use Rattle.nz_spec.specs.Form as form;
 ghost use Rattle.nz_sort.specs.Form.{seen, IsHeadless, IsNotOne, IsNotTwo, IsNotThree};
 
 pub(crate) mod command;
-mod term;
+pub(crate) mod term;
 
 use command::{command_name, has_form};
 use nz_base::Text;

@@ -4,8 +4,10 @@
 #![tactic(auto)]
 
 mod apply;
+mod elaboration;
 mod form;
 mod limits;
+mod names;
 mod normal;
 mod operators;
 mod refusal;

@@ -12,7 +12,7 @@ use nz_sexpr::{Token, Tree};
 const GREATEST_NUMBER: u128 = 0x7fff_ffff_ffff_ffff_ffff_ffff_ffff_ffff;
 
 /// How many digits a decimal may have after its point.
-const PLACE_LIMIT: usize = 38;
+pub(crate) const PLACE_LIMIT: usize = 38;
 
 /// What is asked of a token.
 #[derive(Clone, Copy, Debug, PartialEq, Eq)]

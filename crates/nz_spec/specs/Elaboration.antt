@@ -1,7 +1,7 @@
 -- The terms that trees stand for (SMT-LIB 2.6, sections 3.6 and 4.2.3, and the theories Core and Reals_Ints): names in scope,
 -- sorts, `let` in parallel, and definitions by their bodies.
-use Rattle.std.specs.Prelude.{◌≡◌, ℕ, zero, suc, ◌+◌, ◌&&◌, ◌||◌, ◌==◌, nat_lt, nat_eq, not, Bool, true, false, List, [], ◌∷◌, ◌++◌, length, map, Option, Some, None, option_map, option_and_then, is_some, codes, bytes_eq, if◌then◌else◌}
-use Rattle.std.specs.List.{list_any}
+use Rattle.std.specs.Prelude.{◌≡◌, ℕ, zero, suc, ◌+◌, ◌&&◌, ◌||◌, ◌==◌, nat_lt, nat_eq, not, Bool, true, false, List, [], ◌∷◌, ◌++◌, length, map, Option, Some, None, option_map, option_and_then, is_some, slice_get, ⊤, codes, bytes_eq, if◌then◌else◌}
+use Rattle.std.specs.List.{AllByRecursion, list_any}
 use Rattle.nz_spec.specs.Tree.{Token, symbol, keyword, numeral, decimal, hexadecimal, binary, literal, symbol_name, after_point, Tree, leaf, node, Trees, no_trees, trees}
 use Rattle.nz_spec.specs.Form.{tree_symbol, term_head, name_head, let_head, no_head}
 use Rattle.nz_spec.specs.Bounds.{digits_value, decimal_digits}
@@ -265,6 +265,10 @@ all_placed [] (terms t ts) = None
 all_placed (s ∷ ss) no_terms = None
 all_placed (s ∷ ss) (terms t ts) = terms_onto (placed s t) (all_placed ss ts)
 
+-- The term is no parameter, or it is one of these sorts, at its place.
+abbrev pub RootFits : List Sort → Term → Type 0
+RootFits ss (apply h ts) = elim h [ parameter i s ↦ slice_get ss i ≡ Some s | _ ↦ ⊤ ]
+
 -- A use of a definition: its body, with the arguments for its parameters.
 abbrev pub expansion : Definition → Terms → Option Term
 expansion d ts = option_map (λ us. instance_of us d.body) (all_placed d.parameters ts)
@@ -377,3 +381,18 @@ abbrev mutual
   bound_pair sc (trees x no_trees) ps = None
   bound_pair sc (trees x (trees t no_trees)) ps = bound_onto (tree_symbol x) (term_of sc t) ps
   bound_pair sc (trees x (trees t (trees u us))) ps = None
+
+-- ---- Laws
+
+-- What is bound, and the bodies of definitions, are no parameters, or parameters that fit.
+pub record ScopeFits (ss : List Sort) (sc : Scope) : Type 0 where
+  pub bound : AllByRecursion (λ (p : List ℕ × Term). RootFits ss p.1) sc.bound
+  pub definitions : AllByRecursion (λ (d : Definition). RootFits d.parameters d.body) sc.definitions
+
+-- So is the term of a tree.
+abbrev pub TermFits : Type 0
+TermFits = (ss : List Sort) (sc : Scope) → ScopeFits ss sc → (t : Tree) (u : Term) → term_of sc t ≡ Some u → RootFits ss u
+
+-- A use of a definition has the sort of its body.
+abbrev pub ExpansionKeepsSort : Type 0
+ExpansionKeepsSort = (d : Definition) → RootFits d.parameters d.body → (ts : Terms) (u : Term) → expansion d ts ≡ Some u → sort_of u ≡ sort_of d.body
