@@ -1,4 +1,5 @@
 pub mod Elaborate
+pub mod Faults
 pub mod Form
 pub mod Links
 pub mod Names

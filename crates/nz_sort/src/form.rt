@@ -128,6 +128,16 @@ pub(crate) fn is_keyword_tree(tree: &Tree, word: &[u8]) -> bool
     }
 }
 
+/// The tree is this symbol.
+pub(crate) fn is_symbol_tree(tree: &Tree, word: &[u8]) -> bool
+    ensures symbol { result ≡ form.is_token (form.is_symbol word.now) (view tree.now) }
+{
+    match tree {
+        Tree::Word(token) => is_symbol(token, word),
+        Tree::List(_) => false,
+    }
+}
+
 /// The name of a tree that is a symbol.
 pub(crate) fn symbol_of(tree: &Tree) -> Option<&Text>
     ensures name { IfSome result (λ name. form.tree_symbol (view tree.now) ≡ Some name.now) }

@@ -11,6 +11,9 @@ mod names;
 mod normal;
 mod operators;
 mod refusal;
+mod scope;
+mod sorts;
+mod taken;
 mod tokens;
 mod typed;
 

@@ -257,12 +257,15 @@ takes_command s name ts = true
 
 -- ---- Names: errors 2 and 9
 
--- the names that these trees bind: of `let`, or of parameters
+-- the name that stands first in a list: of a binding of `let`, or of a parameter
+abbrev pub bound_name : Tree → Option (List ℕ)
+bound_name (leaf t) = None
+bound_name (node no_trees) = None
+bound_name (node (trees x ts)) = tree_symbol x
+
 abbrev pub bound_names : Trees → List (List ℕ)
 bound_names no_trees = []
-bound_names (trees (node (trees x ts)) bs) = elim (tree_symbol x) [ Some name ↦ name ∷ bound_names bs | None ↦ bound_names bs ]
-bound_names (trees (node no_trees) bs) = bound_names bs
-bound_names (trees (leaf t) bs) = bound_names bs
+bound_names (trees b bs) = elim (bound_name b) [ Some name ↦ name ∷ bound_names bs | None ↦ bound_names bs ]
 
 abbrev pub names_bound : Tree → List (List ℕ)
 names_bound (leaf t) = []
@@ -340,7 +343,11 @@ abbrev mutual
 
   pub has_clash_pair : Tree → Bool
   has_clash_pair (leaf t) = false
-  has_clash_pair (node ts) = have_clash ts
+  has_clash_pair (node ts) = has_clash_second ts
+
+  pub has_clash_second : Trees → Bool
+  has_clash_second no_trees = false
+  has_clash_second (trees x ts) = have_clash ts
 
 -- ---- Sorts
 

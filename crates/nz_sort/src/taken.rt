@@ -1,0 +1,81 @@
+//! What the program takes: commands of these names, over such arguments.
+ghost use Rattle.std.specs.Prelude.{◌≡◌, codes};
+ghost use Rattle.nz_spec.specs.Form as form;
+ghost use Rattle.nz_spec.specs.Script as script;
+ghost use Rattle.nz_sort.specs.Form.{seen, command_meaning};
+
+use crate::form::command::CommandName;
+use crate::form::{is_keyword_tree, is_symbol_tree, only};
+use nz_sexpr::Tree;
+
+/// The infos that the program tells.
+const INFOS: [&[u8]; 6] = [
+    b":name",
+    b":version",
+    b":authors",
+    b":error-behavior",
+    b":assertion-stack-levels",
+    b":reason-unknown",
+];
+
+/// The program takes commands of this name over such arguments. Where a live item holds a term over numbers, it takes no check.
+pub(crate) fn takes_command(holds_numbers: bool, name: CommandName, arguments: &[Tree]) -> bool
+    ensures taken { (s : script.State) → script.items_hold_numbers (script.items_of s.levels) ≡ holds_numbers → result ≡ script.takes_command s (command_meaning name) (seen arguments.now) }
+{
+    match name {
+        CommandName::CheckSat => !holds_numbers,
+        CommandName::GetInfo => takes_info(arguments),
+        CommandName::SetOption => takes_option(arguments),
+        CommandName::Assert
+        | CommandName::DeclareConst
+        | CommandName::DeclareFun
+        | CommandName::DefineFun
+        | CommandName::Echo
+        | CommandName::Exit
+        | CommandName::GetModel
+        | CommandName::GetValue
+        | CommandName::SetInfo
+        | CommandName::SetLogic => true,
+        CommandName::AssertSoft
+        | CommandName::CheckSatAssuming
+        | CommandName::GetObjectives
+        | CommandName::Maximize
+        | CommandName::Minimize
+        | CommandName::Pop
+        | CommandName::Push
+        | CommandName::Reset
+        | CommandName::ResetAssertions
+        | CommandName::Other => false,
+    }
+}
+
+/// The info is one that the program tells.
+fn takes_info(arguments: &[Tree]) -> bool
+    ensures taken { result ≡ script.takes_info (seen arguments.now) }
+{
+    match only(arguments) {
+        Some(key) => INFOS.iter().any(|info| is_keyword_tree(key, info)),
+        None => false,
+    }
+}
+
+/// The option is known; of the priorities of goals only `lex`.
+fn takes_option(arguments: &[Tree]) -> bool
+    ensures taken { result ≡ script.takes_option (seen arguments.now) }
+{
+    let Some((key, values)) = arguments.split_first() else {
+        return false;
+    };
+    is_keyword_tree(key, b":print-success")
+        || is_keyword_tree(key, b":produce-models")
+        || (is_keyword_tree(key, b":opt.priority") && is_lex(values))
+}
+
+fn is_lex(values: &[Tree]) -> bool
+    ensures lex { result ≡ form.is_one (form.is_token (form.is_symbol (codes "lex"))) (seen values.now) }
+{
+    match only(values) {
+        Some(value) => is_symbol_tree(value, b"lex"),
+        None => false,
+    }
+}
