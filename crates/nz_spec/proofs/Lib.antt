@@ -1,3 +1,4 @@
+pub mod Divisions
 pub mod Examples
 pub mod FractionArithmetic
 pub mod FractionLaws
