@@ -13,6 +13,7 @@ pub mod Outside
 pub mod Reading
 pub mod Reply
 pub mod Run
+pub mod Samples
 pub mod Script
 pub mod Table
 pub mod Term
@@ -23,3 +24,4 @@ pub mod Transcript
 pub mod Tree
 pub mod TruthTables
 pub mod Work
+pub mod WorkedTerms
