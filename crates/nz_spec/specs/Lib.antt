@@ -24,4 +24,7 @@ pub mod Transcript
 pub mod Tree
 pub mod TruthTables
 pub mod Work
+pub mod WorkedLinear
+pub mod WorkedNormals
+pub mod WorkedNumbers
 pub mod WorkedTerms

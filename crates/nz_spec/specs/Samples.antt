@@ -1,10 +1,10 @@
 -- Short texts with what they stand for: the trees and the terms of worked values.
-use Rattle.std.specs.Prelude.{ℕ, List, [], ◌∷◌, Option, Some, None, option_map, option_and_then, codes}
+use Rattle.std.specs.Prelude.{ℕ, false, List, [], ◌∷◌, Option, option_map, codes}
 use Rattle.nz_spec.specs.Tree.{Tree, node, no_trees}
 use Rattle.nz_spec.specs.Text.{Heard, What, whole, faulty, unclosed, unread, script_limits}
 use Rattle.nz_spec.specs.Reading.{start, hear_on}
-use Rattle.nz_spec.specs.Term.{Sort, bool_sort, int_sort, real_sort, Constant, Head, constant, parameter, integer, less, quotient, to_real, Term, apply, no_terms, terms}
-use Rattle.nz_spec.specs.Normal.{paired}
+use Rattle.nz_spec.specs.Term.{Sort, bool_sort, int_sort, real_sort, Constant, Head, constant, parameter, integer, less, quotient, to_real, Term, apply, no_terms, terms, Value, truth, value_of}
+use Rattle.nz_spec.specs.Normal.{paired, normal_of}
 use Rattle.nz_spec.specs.Elaboration.{Definition, Scope, term_of}
 
 -- ---- Trees
@@ -76,6 +76,12 @@ below = record { name = codes "below"; parameters = int_sort ∷ int_sort ∷ []
 abbrev pub sample_scope : Scope
 sample_scope = record { constants = sample_constants; definitions = half ∷ above ∷ below ∷ []; bound = [] }
 
--- the term of a text among these
+-- the term of a text among these, its normal term, and its value where it holds no constant
 abbrev pub term_in : List ℕ → Option Term
 term_in text = term_of sample_scope (tree_in text)
+
+abbrev pub normal_in : List ℕ → Option Term
+normal_in text = option_map normal_of (term_in text)
+
+abbrev pub value_in : List ℕ → Option Value
+value_in text = option_map (value_of (λ name. truth false)) (term_in text)

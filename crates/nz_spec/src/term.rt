@@ -2,6 +2,9 @@
 ghost use Rattle.nz_spec.specs.Normal.{NormalKeepsValue};
 ghost use Rattle.nz_spec.specs.Term.{Divides, DividesOnce};
 ghost use Rattle.nz_spec.specs.TruthTables.{HasNormalTerms, HasPairs, HasTriples};
+ghost use Rattle.nz_spec.specs.WorkedLinear.{HasConstants, HasLinearTerms};
+ghost use Rattle.nz_spec.specs.WorkedNormals.{HasChains, HasGroups};
+ghost use Rattle.nz_spec.specs.WorkedNumbers.{HasArithmetic, HasComparisons, HasDivisions, HasRounding};
 
 /// A term and its normal term have one value.
 pub fn normal_keeps_value()
@@ -23,4 +26,20 @@ pub fn worked_values()
 /// Normal terms, by the definitions alone.
 pub fn worked_normal_terms()
     ensures terms { HasNormalTerms }
+    ensures chains { HasChains }
+    ensures groups { HasGroups }
+{}
+
+/// Values of numbers, by the definitions alone.
+pub fn worked_numbers()
+    ensures divisions { HasDivisions }
+    ensures rounding { HasRounding }
+    ensures arithmetic { HasArithmetic }
+    ensures comparisons { HasComparisons }
+{}
+
+/// Which terms are linear, and what constant terms come to, by the definitions alone.
+pub fn worked_linear_terms()
+    ensures linear { HasLinearTerms }
+    ensures constants { HasConstants }
 {}
