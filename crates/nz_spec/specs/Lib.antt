@@ -27,4 +27,5 @@ pub mod Work
 pub mod WorkedLinear
 pub mod WorkedNormals
 pub mod WorkedNumbers
+pub mod WorkedReplies
 pub mod WorkedTerms

@@ -1,11 +1,12 @@
 -- Short texts with what they stand for: the trees and the terms of worked values.
-use Rattle.std.specs.Prelude.{ℕ, false, List, [], ◌∷◌, Option, option_map, codes}
+use Rattle.std.specs.Prelude.{ℕ, false, List, [], ◌∷◌, ◌++◌, map, Option, None, option_map, codes}
 use Rattle.nz_spec.specs.Tree.{Tree, node, no_trees}
 use Rattle.nz_spec.specs.Text.{Heard, What, whole, faulty, unclosed, unread, script_limits}
 use Rattle.nz_spec.specs.Reading.{start, hear_on}
 use Rattle.nz_spec.specs.Term.{Sort, bool_sort, int_sort, real_sort, Constant, Head, constant, parameter, integer, less, quotient, to_real, Term, apply, no_terms, terms, Value, truth, value_of}
 use Rattle.nz_spec.specs.Normal.{paired, normal_of}
 use Rattle.nz_spec.specs.Elaboration.{Definition, Scope, term_of}
+use Rattle.nz_spec.specs.Script.{State, declared, defined, Outcome, outcome_of}
 
 -- ---- Trees
 
@@ -73,8 +74,11 @@ above = record { name = codes "above"; parameters = int_sort ∷ []; body = pair
 abbrev pub below : Definition
 below = record { name = codes "below"; parameters = int_sort ∷ int_sort ∷ []; body = paired less (alone (parameter 0 int_sort)) (alone (parameter 1 int_sort)) }
 
+abbrev pub sample_definitions : List Definition
+sample_definitions = half ∷ above ∷ below ∷ []
+
 abbrev pub sample_scope : Scope
-sample_scope = record { constants = sample_constants; definitions = half ∷ above ∷ below ∷ []; bound = [] }
+sample_scope = record { constants = sample_constants; definitions = sample_definitions; bound = [] }
 
 -- the term of a text among these, its normal term, and its value where it holds no constant
 abbrev pub term_in : List ℕ → Option Term
@@ -85,3 +89,13 @@ normal_in text = option_map normal_of (term_in text)
 
 abbrev pub value_in : List ℕ → Option Value
 value_in text = option_map (value_of (λ name. truth false)) (term_in text)
+
+-- ---- Commands
+
+-- these are declared and defined, and nothing else was done
+abbrev pub sample_state : State
+sample_state = record { levels = (map declared sample_constants ++ map defined sample_definitions) ∷ []; model = None; reason = None; options = record { prints_success = false } }
+
+-- what becomes of the command of a text there
+abbrev pub outcome_in : List ℕ → Outcome
+outcome_in text = outcome_of sample_state (tree_in text)
