@@ -28,4 +28,5 @@ pub mod WorkedLinear
 pub mod WorkedNormals
 pub mod WorkedNumbers
 pub mod WorkedReplies
+pub mod WorkedScript
 pub mod WorkedTerms

@@ -7,6 +7,7 @@ pub mod elaboration;
 pub mod example;
 pub mod fraction;
 pub mod reply;
+pub mod script;
 pub mod table;
 pub mod term;
 pub mod text;
