@@ -1,11 +1,11 @@
 -- `div` and `mod` are the only two numbers with m = n*q + r and 0 <= r < |n|.
-use Rattle.std.proofs.Common.{◌≡◌, ℕ, zero, suc, refl, ℤ, pos, negsuc, ◌+ℤ◌, ◌*ℤ◌, neg_ℤ, ◌≤ℤ◌, ◌<ℤ◌, unsigned_abs, arith, ap, ◌∙◌, ◌<◌}
+use Rattle.std.proofs.Common.{◌≡◌, ℕ, zero, suc, refl, ℤ, pos, negsuc, ◌+ℤ◌, ◌*ℤ◌, neg_ℤ, ◌≤ℤ◌, ◌<ℤ◌, arith, ap, ◌∙◌, ◌<◌}
 use Rattle.std.proofs.Math.IntN.{*ℤ_comm}
 use Rattle.std.proofs.lemmas.Int.{ints}
 use Rattle.nz_ints.specs.Division.{floor_div}
-use Rattle.nz_ints.proofs.Products.{one-mul, add-mul, neg-mul, mul-neg, lt_of_mul-lt-mul_pos}
+use Rattle.nz_ints.proofs.Products.{one-mul, add-mul, neg-mul, lt_of_mul-lt-mul_pos}
 use Rattle.nz_ints.proofs.Rounding.{floor_div-at_most, floor_div-greatest}
-use Rattle.nz_spec.specs.Term.{div_of, mod_of, IsDivision, Divides, DividesOnce}
+use Rattle.nz_spec.specs.Term.{div_of, mod_of, Divides, DividesOnce}
 
 -- the floor's multiple is at most m, and the next multiple above it
 record Floors (m : ℤ) (k : ℕ) (f : ℤ) : Type 0 where

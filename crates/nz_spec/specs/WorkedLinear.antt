@@ -1,8 +1,8 @@
 -- Worked linear terms: short texts, and which of them are linear.
 use Rattle.std.specs.Prelude.{◌≡◌, ℕ, Bool, true, false, List, [], ◌∷◌, map, pos, negsuc, Option, Some, None, option_map, option_and_then, codes}
-use Rattle.nz_spec.specs.Fraction.{Fraction, whole, over, largest}
+use Rattle.nz_spec.specs.Fraction.{Fraction, whole, over}
 use Rattle.nz_spec.specs.Linear.{constant_value, is_linear}
-use Rattle.nz_spec.specs.Samples.{term_in, normal_in}
+use Rattle.nz_spec.specs.Samples.{normal_in}
 
 abbrev pub linear_in : List (List ℕ) → List (Option Bool)
 linear_in texts = map (λ text. option_map is_linear (normal_in text)) texts

@@ -1,8 +1,8 @@
 -- Worked normal terms over numbers: what is chained, pairwise or grouped is written out.
 use Rattle.std.specs.Prelude.{◌≡◌, Some, codes}
-use Rattle.nz_spec.specs.Term.{int_sort, conjunction, equality, less, at_most, sum, difference, quotient, integer_quotient, Term, apply, no_terms, terms}
+use Rattle.nz_spec.specs.Term.{int_sort, conjunction, equality, less, at_most, sum, difference, quotient, integer_quotient, Term}
 use Rattle.nz_spec.specs.Normal.{negated, paired}
-use Rattle.nz_spec.specs.Samples.{over_one, a_term, x_term, y_term, u_term, numeral_term, real_of, normal_in}
+use Rattle.nz_spec.specs.Samples.{over_one, x_term, y_term, u_term, numeral_term, real_of, normal_in}
 use Rattle.nz_spec.specs.TruthTables.{of_three}
 
 abbrev pub one_term : Term

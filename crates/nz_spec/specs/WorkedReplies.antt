@@ -1,9 +1,9 @@
 -- Worked texts: values, trees and replies, byte for byte.
 use Rattle.std.specs.Prelude.{◌≡◌, ℕ, true, List, [], ◌∷◌, map, pos, negsuc, codes}
-use Rattle.nz_spec.specs.Fraction.{whole, over, largest, Operation, Sum, Difference, Product, Quotient}
-use Rattle.nz_spec.specs.Term.{bool_sort, int_sort, real_sort, Value, truth, number, whole_number}
-use Rattle.nz_spec.specs.Script.{Binding, units_spent, name_info, error_behavior_info, Outcome, accepted, refused, not_taken, get_value}
-use Rattle.nz_spec.specs.Reply.{value_text, wide_text, tree_text, Reply, quiet, success, sat, unsat, unknown, model, values, info, levels, reason, echoed, unsupported, error, reply_text, assignment_of, shown_under}
+use Rattle.nz_spec.specs.Fraction.{whole, over, largest, Sum, Difference, Product, Quotient}
+use Rattle.nz_spec.specs.Term.{bool_sort, int_sort, real_sort, truth, number, whole_number}
+use Rattle.nz_spec.specs.Script.{Binding, units_spent, name_info, error_behavior_info, Outcome, accepted, get_value}
+use Rattle.nz_spec.specs.Reply.{value_text, wide_text, tree_text, quiet, success, sat, unsat, unknown, model, values, info, levels, reason, echoed, unsupported, error, reply_text, assignment_of, shown_under}
 use Rattle.nz_spec.specs.Samples.{constant_of_sort, tree_in, outcome_in}
 
 -- Values by their sorts. One of sort Real is a quotient in lowest terms, or a decimal where it is whole.

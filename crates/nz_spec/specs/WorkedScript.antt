@@ -1,11 +1,11 @@
 -- A worked script: what becomes of commands, one at a time, where a few constants and definitions are live.
-use Rattle.std.specs.Prelude.{◌≡◌, ℕ, true, false, List, [], ◌∷◌, map, pos, Some, None, codes}
+use Rattle.std.specs.Prelude.{◌≡◌, ℕ, true, false, List, [], ◌∷◌, map, Some, None, codes}
 use Rattle.nz_spec.specs.Tree.{Tree, leaf, symbol, numeral}
-use Rattle.nz_spec.specs.Term.{bool_sort, int_sort, real_sort, parameter, verum, less, sum, decimal_number, whole_number}
+use Rattle.nz_spec.specs.Term.{bool_sort, int_sort, real_sort, parameter, less, sum, decimal_number}
 use Rattle.nz_spec.specs.Normal.{paired}
-use Rattle.nz_spec.specs.Script.{State, start, declared, asserted, constants_of, Options, Command, declare_const, define, assert_term, check_sat, get_model, get_value, get_info, name_info, get_levels, get_reason, set_print_success, no_effect, echo, exit, Outcome, accepted, refused, not_taken, outcome_of}
+use Rattle.nz_spec.specs.Script.{State, start, declared, asserted, declare_const, define, assert_term, get_model, get_value, get_info, name_info, get_levels, get_reason, set_print_success, no_effect, echo, exit, Outcome, accepted, refused, not_taken, outcome_of}
 use Rattle.nz_spec.specs.Text.{whole}
-use Rattle.nz_spec.specs.Reply.{Reply, quiet, success, sat, unsat, values, error, unsupported, after}
+use Rattle.nz_spec.specs.Reply.{Reply, quiet, success, unsat, values, error, unsupported, after}
 use Rattle.nz_spec.specs.TruthTables.{of_three}
 use Rattle.nz_spec.specs.Samples.{constant_of_sort, alone, a_term, x_term, u_term, numeral_term, real_of, half, above, below, tree_in, sample_constants, sample_state, outcome_in}
 

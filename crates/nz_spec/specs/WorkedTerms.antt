@@ -1,6 +1,6 @@
 -- Worked terms: short texts, and the terms that they stand for.
 use Rattle.std.specs.Prelude.{◌≡◌, Some, None, codes}
-use Rattle.nz_spec.specs.Term.{int_sort, real_sort, decimal_number, verum, conjunction, distinction, choice, less, sum, difference, product, quotient, integer_quotient, to_int, is_int, apply, no_terms, terms}
+use Rattle.nz_spec.specs.Term.{int_sort, real_sort, decimal_number, verum, conjunction, distinction, choice, less, sum, quotient, to_int, is_int, apply, no_terms, terms}
 use Rattle.nz_spec.specs.Normal.{paired}
 use Rattle.nz_spec.specs.Samples.{alone, over_one, a_term, x_term, y_term, u_term, numeral_term, real_of, term_in}
 
