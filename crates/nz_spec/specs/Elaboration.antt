@@ -1,7 +1,6 @@
 -- The terms that trees stand for (SMT-LIB 2.6, sections 3.6 and 4.2.3, and the theories Core and Reals_Ints): names in scope,
 -- sorts, `let` in parallel, and definitions by their bodies.
-use Rattle.std.specs.Prelude.{◌≡◌, ℕ, zero, suc, ◌+◌, ◌&&◌, ◌||◌, ◌==◌, nat_lt, nat_eq, not, Bool, true, false, List, [], ◌∷◌, ◌++◌, length, map, Option, Some, None, option_map, option_and_then, is_some, codes, bytes_eq, if◌then◌else◌}
-use Rattle.std.specs.List.{list_any}
+use Rattle.std.specs.Prelude.{ℕ, zero, suc, ◌&&◌, ◌||◌, ◌==◌, nat_lt, nat_eq, not, Bool, true, false, List, [], ◌∷◌, ◌++◌, length, Option, Some, None, option_map, option_and_then, is_some, codes, bytes_eq, if◌then◌else◌}
 use Rattle.nz_spec.specs.Tree.{Token, symbol, keyword, numeral, decimal, hexadecimal, binary, literal, symbol_name, after_point, Tree, leaf, node, Trees, no_trees, trees}
 use Rattle.nz_spec.specs.Form.{tree_symbol, term_head, name_head, let_head, no_head}
 use Rattle.nz_spec.specs.Bounds.{digits_value, decimal_digits}
@@ -238,12 +237,12 @@ name_term sc name =
     elim (listed sc.bound name) [
       | Some t ↦ Some t
       | None ↦ (elim (operator_named name) [
-          | Some o ↦ applied o no_terms
-          | None ↦ (elim (constant_named sc.constants name) [
-              | Some c ↦ Some (apply (constant c) no_terms)
-              | None ↦ option_and_then (λ d. expansion d no_terms) (definition_named sc.definitions name)
-            ])
+        | Some o ↦ applied o no_terms
+        | None ↦ (elim (constant_named sc.constants name) [
+          | Some c ↦ Some (apply (constant c) no_terms)
+          | None ↦ option_and_then (λ d. expansion d no_terms) (definition_named sc.definitions name)
         ])
+      ])
     ]
 
 -- what a name stands for over arguments: an operator, or a definition; no bound name and no constant takes any
