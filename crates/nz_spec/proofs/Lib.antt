@@ -8,6 +8,8 @@ pub mod Normal
 pub mod Pieces
 pub mod Readings
 pub mod Rounds
+pub mod Sorted
+pub mod SortedTrees
 pub mod Tables
 pub mod Tellings
 pub mod Transcripts
