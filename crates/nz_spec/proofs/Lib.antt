@@ -1,3 +1,4 @@
+pub mod Divisions
 pub mod Examples
 pub mod FractionArithmetic
 pub mod FractionLaws
@@ -8,6 +9,8 @@ pub mod Normal
 pub mod Pieces
 pub mod Readings
 pub mod Rounds
+pub mod Sorted
+pub mod SortedTrees
 pub mod Tables
 pub mod Tellings
 pub mod Transcripts

@@ -305,12 +305,12 @@ name_term sc name =
     elim (listed sc.bound name) [
       | Some t ↦ Some t
       | None ↦ (elim (operator_named name) [
-          | Some o ↦ applied o no_terms
-          | None ↦ (elim (constant_named sc.constants name) [
-              | Some c ↦ Some (apply (constant c) no_terms)
-              | None ↦ option_and_then (λ d. expansion d no_terms) (definition_named sc.definitions name)
-            ])
+        | Some o ↦ applied o no_terms
+        | None ↦ (elim (constant_named sc.constants name) [
+          | Some c ↦ Some (apply (constant c) no_terms)
+          | None ↦ option_and_then (λ d. expansion d no_terms) (definition_named sc.definitions name)
         ])
+      ])
     ]
 
 -- what a name stands for over arguments: an operator, or a definition; no bound name and no constant takes any

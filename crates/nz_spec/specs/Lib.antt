@@ -14,6 +14,7 @@ pub mod Outside
 pub mod Reading
 pub mod Reply
 pub mod Run
+pub mod Samples
 pub mod Script
 pub mod Table
 pub mod Term
@@ -24,3 +25,9 @@ pub mod Transcript
 pub mod Tree
 pub mod TruthTables
 pub mod Work
+pub mod WorkedLinear
+pub mod WorkedNormals
+pub mod WorkedNumbers
+pub mod WorkedReplies
+pub mod WorkedScript
+pub mod WorkedTerms

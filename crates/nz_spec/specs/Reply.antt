@@ -1,13 +1,13 @@
 -- Replies, their texts, and which reply is right (SMT-LIB 2.6, section 4.2; the texts of errors are this program's own).
-use Rattle.std.specs.Prelude.{◌≡◌, ℕ, suc, ◌*◌, ◌^◌, ◌<◌, ◌==◌, Bool, true, false, List, [], ◌∷◌, ◌++◌, length, map, flat_map, ℤ, pos, negsuc, unsigned_abs, Option, Some, None, ◌⊎◌, codes, decimal, bytes_eq, if◌then◌else◌}
+use Rattle.std.specs.Prelude.{◌≡◌, ℕ, ◌*◌, ◌^◌, ◌<◌, ◌==◌, true, false, List, [], ◌∷◌, ◌++◌, length, map, flat_map, ℤ, pos, negsuc, unsigned_abs, Option, Some, None, ◌⊎◌, codes, decimal, bytes_eq, if◌then◌else◌}
 use Rattle.std.specs.List.{AllByRecursion}
 use Rattle.nz_spec.specs.Fraction.{Fraction, denominator, Operator, Sum, Difference, Product, Quotient, Operation, first_wide}
 use Rattle.nz_spec.specs.Tree.{is_simple_symbol, Token, symbol, keyword, numeral, hexadecimal, binary, literal, decimal as decimal_token, Tree, leaf, node, Trees, no_trees, trees}
-use Rattle.nz_spec.specs.Term.{Sort, bool_sort, int_sort, real_sort, Constant, Term, sort_of, Value, truth, number, Assignment, value_of, IsOfSort, IsTrueUnder}
+use Rattle.nz_spec.specs.Term.{Sort, bool_sort, int_sort, real_sort, Constant, sort_of, Value, truth, number, Assignment, value_of, IsOfSort, IsTrueUnder}
 use Rattle.nz_spec.specs.Normal.{normal_of}
 use Rattle.nz_spec.specs.Operations.{operations_of}
 use Rattle.nz_spec.specs.Text.{What, whole, faulty, unclosed, unread}
-use Rattle.nz_spec.specs.Script.{Binding, Reason, units_spent, Info, name_info, version_info, authors_info, error_behavior_info, Asked, Options, Command, declare_const, define, assert_term, check_sat, get_model, get_value, get_info, get_levels, get_reason, set_print_success, no_effect, echo, exit, Outcome, accepted, refused, not_taken, Item, declared, defined, asserted, State, outcome_of, constants_of, assertions_of, with_item, pushed_levels}
+use Rattle.nz_spec.specs.Script.{Binding, Reason, units_spent, Info, name_info, version_info, authors_info, error_behavior_info, Asked, Options, Command, declare_const, define, assert_term, check_sat, get_model, get_value, get_info, get_levels, get_reason, set_print_success, echo, exit, Outcome, accepted, refused, not_taken, Item, declared, defined, asserted, State, outcome_of, constants_of, assertions_of, with_item, pushed_levels}
 use Rattle.nz_spec.specs.Work.{WorkList, IsSpent}
 
 -- what is told of the value of a term: the value, or the first operation that left the numbers
@@ -147,12 +147,14 @@ error_text n =
     if n == 1 then codes "(error \"1 syntax\")"
     else (if n == 2 then codes "(error \"2 unknown symbol\")"
     else (if n == 3 then codes "(error \"3 sort\")"
+    else (if n == 4 then codes "(error \"4 not linear\")"
     else (if n == 5 then codes "(error \"5 number too wide\")"
     else (if n == 6 then codes "(error \"6 limit\")"
     else (if n == 7 then codes "(error \"7 no answer to show\")"
+    else (if n == 8 then codes "(error \"8 pop below zero\")"
     else (if n == 9 then codes "(error \"9 already declared\")"
     else (if n == 10 then codes "(error \"10 incomplete command\")"
-    else codes "(error \"11 out of memory\")")))))))
+    else codes "(error \"11 out of memory\")")))))))))
 
 -- why a check wasn't decided
 abbrev pub reason_text : Reason → List ℕ

@@ -5,11 +5,11 @@ use Rattle.std.specs.List.{list_any, list_all}
 use Rattle.nz_spec.specs.Form.{is_one_of, is_name, is_symbol, is_keyword, is_token, is_one, is_empty, tree_symbol, term_head, name_head, let_head, no_head, has_form, CommandName, command_name, assert_name, assert_soft_name, check_sat_name, check_sat_assuming_name, declare_const_name, declare_fun_name, define_fun_name, echo_name, exit_name, get_info_name, get_model_name, get_objectives_name, get_value_name, maximize_name, minimize_name, pop_name, push_name, reset_name, reset_assertions_name, set_info_name, set_logic_name, set_option_name, other_name}
 use Rattle.nz_spec.specs.Bounds.{has_token, have_token, is_zero_token, numeral_value, is_wide_token, is_long_decimal}
 use Rattle.nz_spec.specs.Fraction.{Fraction}
-use Rattle.nz_spec.specs.Tree.{Token, symbol, literal, symbol_name, Tree, leaf, node, Trees, no_trees, trees}
-use Rattle.nz_spec.specs.Term.{Sort, bool_sort, int_sort, real_sort, Constant, constant, parameter, Term, apply, Terms, no_terms, terms, is_bool, holds_number, Value}
+use Rattle.nz_spec.specs.Tree.{Token, literal, symbol_name, Tree, leaf, node, Trees, no_trees, trees}
+use Rattle.nz_spec.specs.Term.{Sort, bool_sort, Constant, parameter, Term, apply, Terms, no_terms, terms, is_bool, holds_number, Value}
 use Rattle.nz_spec.specs.Normal.{normal_of}
-use Rattle.nz_spec.specs.Linear.{is_linear, are_linear}
-use Rattle.nz_spec.specs.Elaboration.{is_operator, is_declared, sort_named, has_sort, is_number_term, placed, Definition, Scope, term_of, terms_of}
+use Rattle.nz_spec.specs.Linear.{is_linear}
+use Rattle.nz_spec.specs.Elaboration.{is_operator, is_declared, sort_named, has_sort, placed, Definition, Scope, term_of, terms_of}
 
 -- ---- The live state
 
@@ -219,8 +219,8 @@ first_is test (trees t ts) = is_token test t
 abbrev pub takes_info : Trees → Bool
 takes_info ts =
     is_one (is_token (λ t.
-      is_keyword (codes ":name") t || is_keyword (codes ":version") t || is_keyword (codes ":authors") t || is_keyword (codes ":error-behavior") t
-      || is_keyword (codes ":assertion-stack-levels") t || is_keyword (codes ":reason-unknown") t)) ts
+    is_keyword (codes ":name") t || is_keyword (codes ":version") t || is_keyword (codes ":authors") t || is_keyword (codes ":error-behavior") t
+    || is_keyword (codes ":assertion-stack-levels") t || is_keyword (codes ":reason-unknown") t)) ts
 
 -- the options that are known; of the priorities of goals only `lex`
 abbrev pub takes_option : Trees → Bool
