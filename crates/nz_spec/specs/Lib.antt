@@ -5,6 +5,7 @@ pub mod Form
 pub mod Fraction
 pub mod Infinitesimal
 pub mod Kept
+pub mod Order
 pub mod Outside
 pub mod Reading
 pub mod Reply
