@@ -5,6 +5,7 @@ pub mod Form
 pub mod Fraction
 pub mod Infinitesimal
 pub mod Kept
+pub mod Order
 pub mod Outside
 pub mod Reading
 pub mod Reply
@@ -12,6 +13,7 @@ pub mod Run
 pub mod Script
 pub mod Table
 pub mod Term
+pub mod TermList
 pub mod Text
 pub mod Texts
 pub mod Told

@@ -4,7 +4,7 @@ use Rattle.nz_spec.specs.Form.{assert_name}
 use Rattle.nz_spec.specs.Script.{constants_of, outcome_by}
 use Rattle.nz_sort.specs.Live.{IsAccepted, changed}
 use Rattle.nz_sort.proofs.Living.{leaves_asserted, unknown_assertion, untyped_assertion}
-use Rattle.nz_sort.proofs.live.assert_term.Goals as goal
+use Rattle.nz_sort.proofs.live.Live.assert_term.Goals as goal
 
 pub returns-then-has_unknown_symbol-clause-refused : goal.returns-then-has_unknown_symbol-clause-refused
 returns-then-has_unknown_symbol-clause-refused c = λ s live.
@@ -13,8 +13,8 @@ returns-then-has_unknown_symbol-clause-refused c = λ s live.
 
 pub returns-in-Ok-clause-accepted : goal.returns-in-Ok-clause-accepted
 returns-in-Ok-clause-accepted c = λ s live.
-    subst (λ ts. IsAccepted s (outcome_by s assert_name ts) changed c.add_assertion.new.terms (record { names = c.args.names.now; asserted = c.add_assertion.new.asserted.items })) (sym c.in-Some.ensures.one)
-    (leaves_asserted _ _ _ _ _ s (view c.in-Some.tree.now) c.add_assertion.ensures.grows (sym c.has_unknown_symbol.ensures.found ∙ c.if-has_unknown_symbol.false) (c.in-Ok.ensures.added (constants_of s) live.named) live)
+    subst (λ ts. IsAccepted s (outcome_by s assert_name ts) changed c.add_assertion.new.terms c.add_assertion.new.self) (sym c.in-Some.ensures.one)
+    (leaves_asserted _ _ _ _ s (view c.in-Some.tree.now) c.add_assertion.ensures.grows (sym c.has_unknown_symbol.ensures.found ∙ c.if-has_unknown_symbol.false) (c.in-Ok.ensures.added (constants_of s) live.named) live)
 
 pub returns-in-Err-Sort-clause-refused : goal.returns-in-Err-Sort-clause-refused
 returns-in-Err-Sort-clause-refused c = λ s live.

@@ -2,14 +2,14 @@ use Rattle.nz_sexpr.specs.View.{view}
 use Rattle.nz_sort.specs.Acts.{error_of}
 use Rattle.nz_sort.proofs.Living.{leaves_declared, refused_declaration}
 use Rattle.nz_sort.proofs.Ruling.{if_some_weaker}
-use Rattle.nz_sort.proofs.live.declare.Goals as goal
+use Rattle.nz_sort.proofs.live.Live.declare.Goals as goal
 
 pub returns-in-Some-declaration_refusal-clause-refused : goal.returns-in-Some-declaration_refusal-clause-refused
 returns-in-Some-declaration_refusal-clause-refused c =
     if_some_weaker (error_of c.in-Some-declaration_refusal.refusal)
-    (λ n broken numbers s live. refused_declaration c.args.terms.now _ s c.in-Some.name.now (view c.in-Some.sort.now) _ n (c.in-Some.ensures.declaration s) broken live)
+    (λ n broken s live. refused_declaration c.args.terms.now _ s c.in-Some.name.now (view c.in-Some.sort.now) _ n (c.in-Some.ensures.declaration s) broken live)
     c.in-Some-declaration_refusal.ensures.refused
 
 pub returns-in-Ok-clause-accepted : goal.returns-in-Ok-clause-accepted
-returns-in-Ok-clause-accepted c = λ numbers s live.
-    leaves_declared _ _ _ _ numbers s c.in-Some.name.now (view c.in-Some.sort.now) _ (c.in-Some.ensures.declaration s) c.in-None.ensures.accepted c.in-None.ensures.fresh c.in-Ok.ensures.added live
+returns-in-Ok-clause-accepted c = λ s live.
+    leaves_declared _ _ _ _ s c.in-Some.name.now (view c.in-Some.sort.now) _ (c.in-Some.ensures.declaration s) c.in-None.ensures.accepted c.in-None.ensures.fresh c.in-Ok.ensures.added live
