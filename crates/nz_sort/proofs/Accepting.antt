@@ -1,7 +1,7 @@
 -- The live items, one of them more.
-use Rattle.std.proofs.Common.{◌+◌, ◌≡◌, ℕ, suc, ◌<◌, List, [], ◌∷◌, ◌++◌, length, map, Bool, true, false, cond, All, refl, sym, ap, ◌∙◌, append-nil, length-map, length-append, subst, arith}
+use Rattle.std.proofs.Common.{◌+◌, ◌≡◌, ℕ, suc, ◌<◌, List, [], ◌∷◌, ◌++◌, length, map, Bool, true, false, cond, All, refl, sym, ap, ◌∙◌, append-nil, length-append, subst, arith}
 use Rattle.std.proofs.lemmas.List.Elements.{All-head, All-tail, All-append, All-cons, All-nil, All-weaker}
-use Rattle.std.proofs.lemmas.List.{map-append}
+use Rattle.std.proofs.lemmas.List.{map-append, length-map}
 use Rattle.nz_spec.specs.Term.{Constant, constant, Term, apply, no_terms, normal_of}
 use Rattle.nz_spec.specs.Table.{Node, term_in}
 use Rattle.nz_spec.specs.Script.{Item, declared, asserted, sought, wished, constants_in, assertions_in, goals_in, wishes_in, is_constant, is_assertion, is_goal, is_wish, numbers_of, item_term}
@@ -108,10 +108,10 @@ items_last old new more items numbers others ts us number id t e h within term f
 -- an item of another kind
 goals_stay : (old new more : List Node) (goals : List Goal) (live : List Item) (i : Item) → new ≡ old ++ more → is_goal i ≡ false → goals_in (i ∷ []) ≡ []
     → AreGoals old goals live → AreGoals new goals (live ++ i ∷ [])
-goals_stay old new more goals live i e no none h =
+goals_stay old new more goals live i e other none h =
     let numbers : numbers_of is_goal 0 live ≡ numbers_of is_goal 0 (live ++ i ∷ []) =
     sym (numbers_of-last is_goal 0 (length live) live i (omega arith)
-    ∙ ap (λ b. numbers_of is_goal 0 live ++ cond b (length live ∷ []) []) no ∙ append-nil (numbers_of is_goal 0 live)) in
+    ∙ ap (λ b. numbers_of is_goal 0 live ++ cond b (length live ∷ []) []) other ∙ append-nil (numbers_of is_goal 0 live)) in
     let same : goals_in live ≡ goals_in (live ++ i ∷ []) =
     sym (goals_in-append live (i ∷ []) ∙ ap (λ l. goals_in live ++ l) none ∙ append-nil (goals_in live)) in
     record {
@@ -121,10 +121,10 @@ goals_stay old new more goals live i e no none h =
 
 wishes_stay : (old new more : List Node) (wishes : List Wish) (live : List Item) (i : Item) → new ≡ old ++ more → is_wish i ≡ false → wishes_in (i ∷ []) ≡ []
     → AreWishes old wishes live → AreWishes new wishes (live ++ i ∷ [])
-wishes_stay old new more wishes live i e no none h =
+wishes_stay old new more wishes live i e other none h =
     let numbers : numbers_of is_wish 0 live ≡ numbers_of is_wish 0 (live ++ i ∷ []) =
     sym (numbers_of-last is_wish 0 (length live) live i (omega arith)
-    ∙ ap (λ b. numbers_of is_wish 0 live ++ cond b (length live ∷ []) []) no ∙ append-nil (numbers_of is_wish 0 live)) in
+    ∙ ap (λ b. numbers_of is_wish 0 live ++ cond b (length live ∷ []) []) other ∙ append-nil (numbers_of is_wish 0 live)) in
     let same : wishes_in live ≡ wishes_in (live ++ i ∷ []) =
     sym (wishes_in-append live (i ∷ []) ∙ ap (λ l. wishes_in live ++ l) none ∙ append-nil (wishes_in live)) in
     record {
@@ -136,7 +136,7 @@ wishes_stay old new more wishes live i e no none h =
 -- the next number is how many items there are
 next_number : (ns : List Node) (standing : Standing) (live : List Item) → HasItems ns standing live → length standing.accepted ≡ length live
 next_number ns standing live h =
-    sym (length-map (term_in ns) standing.accepted) ∙ ap length h.all.terms ∙ length-map item_term live
+    sym (length-map standing.accepted (term_in ns)) ∙ ap length h.all.terms ∙ length-map live item_term
 
 -- all items, one more
 all_last : (old new more : List Node) (ids : List ℕ) (live : List Item) (i : Item) (id : ℕ) → new ≡ old ++ more → StandForAll old ids (map item_term live)
@@ -156,7 +156,7 @@ has_constant old new more standing live c id e h within term =
           items_last old new more standing.constants _ _ _ _ (length standing.accepted) id (apply (constant c) no_terms) e h.constants within term
           (sym (numbers_of-last is_constant 0 (length standing.accepted) live i place))
           (sym (ap (map (λ (d : Constant). apply (constant d) no_terms)) (constants_in-append live (i ∷ []))
-              ∙ map-append (λ (d : Constant). apply (constant d) no_terms) (constants_in live) (c ∷ [])));
+          ∙ map-append (λ (d : Constant). apply (constant d) no_terms) (constants_in live) (c ∷ [])));
       assertions =
           items_longer old new more standing.assertions _ _ _ _ e h.assertions
           (sym (numbers_of-last is_assertion 0 (length standing.accepted) live i place ∙ append-nil (numbers_of is_assertion 0 live)))

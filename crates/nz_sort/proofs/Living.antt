@@ -210,7 +210,7 @@ live_declared old new before after s c live none h =
       items =
           subst (HasItems new (with_constant before c.name h.id)) (sym (items_of-with_item s.levels (declared c)))
           (has_constant old new (one ∷ []) before (items_of s.levels) c h.id grown live.items within h.term);
-      levels = pushed_with s.levels (declared c) ∙ live.levels;
+      unpushed = pushed_with s.levels (declared c) ∙ live.unpushed;
     })
 
 pub leaves_declared : (old new : List Node) (before after : Standing) (s : State) (name : List ℕ) (sort : Tree) (outcome : Outcome)
@@ -254,7 +254,7 @@ live_asserted old new before after s tree live g h =
       items =
           subst (HasItems new (with_assertion before h.id)) (sym (items_of-with_item s.levels (asserted t)))
           (has_assertion old new g.more before (items_of s.levels) t h.id g.all live.items h.term.within h.term.normal);
-      levels = pushed_with s.levels (asserted t) ∙ live.levels;
+      unpushed = pushed_with s.levels (asserted t) ∙ live.unpushed;
     })
 
 -- an assertion without unknown symbols is by its term
@@ -296,5 +296,5 @@ leaves_checked ns standing s live =
       command = check_sat;
       is = refl;
       asks = refl;
-      live = λ reply. record { named = live.named; constants = live.constants; distinct = live.distinct; within = live.within; terms = live.terms; items = live.items; levels = live.levels };
+      live = λ reply. record { named = live.named; constants = live.constants; distinct = live.distinct; within = live.within; terms = live.terms; items = live.items; unpushed = live.unpushed };
     }

@@ -21,20 +21,18 @@ pub record Standing : Type 0 where
   pub goals : List Goal
   pub wishes : List Wish
   pub accepted : List ℕ  -- the terms of the items of all kinds
-  pub levels : ℕ  -- how many were pushed
 
--- what stands where no command brings a goal, a wish or a level
-abbrev pub standing_of : List (List ℕ × ℕ) → List Accepted → List Accepted → List ℕ → Standing
-standing_of names constants assertions numbers =
+-- what stands, by the parts that the code keeps
+abbrev pub standing_of : List (List ℕ × ℕ) → List Accepted → List Accepted → List Goal → List Wish → List ℕ → Standing
+standing_of names constants assertions goals wishes numbers =
     record {
       names = names;
       constants = constants;
       assertions = assertions;
       asserted = table_numbers assertions;
-      goals = [];
-      wishes = [];
+      goals = goals;
+      wishes = wishes;
       accepted = numbers;
-      levels = 0;
     }
 
 -- The items of each kind, and of all kinds, are those of these live items.
@@ -46,7 +44,7 @@ pub record HasItems (ns : List Node) (standing : Standing) (live : List Item) : 
   pub all : StandForAll ns standing.accepted (map item_term live)
 
 -- The table and what stands are those of a live state: its constants are those of the table, no two of one name; the
--- terms are the normal ones of its assertions; the items are its items.
+-- terms are the normal ones of its assertions; the items are its items. No level is pushed.
 pub record IsLive (ns : List Node) (standing : Standing) (s : State) : Type 0 where
   pub named : AreNamesOf ns standing.names (constants_of s)
   pub constants : constants_in_table ns ≡ constants_of s
@@ -54,7 +52,7 @@ pub record IsLive (ns : List Node) (standing : Standing) (s : State) : Type 0 wh
   pub within : All (λ i. i < length ns) standing.asserted
   pub terms : map (term_in ns) standing.asserted ≡ map normal_of (assertions_of s)
   pub items : HasItems ns standing (items_of s.levels)
-  pub levels : pushed_levels s ≡ standing.levels
+  pub unpushed : pushed_levels s ≡ 0
 
 -- what a command asks of the session
 pub data Ask : Type 0 where

@@ -6,7 +6,7 @@ ghost use Rattle.nz_spec.specs.Bounds.{is_long_decimal, have_token as some_token
 ghost use Rattle.nz_spec.specs.Table.{Node};
 ghost use Rattle.nz_spec.specs.Form.{assert_name, declare_const_name, is_name as may_be_name};
 ghost use Rattle.nz_spec.specs.Term as spec;
-ghost use Rattle.nz_spec.specs.Script.{State, accepted, refused, outcome_of, outcome_named, outcome_by, passes_limit as beyond_limit, declaration_of, declare_const, term_of};
+ghost use Rattle.nz_spec.specs.Script.{State, accepted, refused, outcome_of, outcome_named, outcome_by, passes_limit as beyond_limit, pushed_levels, declaration_of, declare_const, term_of};
 ghost use Rattle.nz_sort.specs.Form.{seen, command_meaning};
 ghost use Rattle.nz_sort.specs.Names.{number_named, AreNamesOf};
 ghost use Rattle.nz_sort.specs.Elaborate.{Grows};
@@ -57,6 +57,8 @@ pub struct Live {
     names: Names,
     constants: Vec<Accepted>,
     assertions: Vec<Accepted>,
+    goals: Vec<Goal>,
+    wishes: Vec<Wish>,
     /// The terms of the items of all kinds. An item's number is its place here.
     accepted: Vec<TermId>,
 }
@@ -66,19 +68,21 @@ impl Model for Live {
 
     ghost Value = { Standing };
 
-    ghost view = { λ l. standing_of l.names l.constants.items l.assertions.items l.accepted.items };
+    ghost view = { λ l. standing_of l.names l.constants.items l.assertions.items l.goals.items l.wishes.items l.accepted.items };
 }
 
 impl Live {
     /// The live state of the start: no item and no level. Takes no memory.
     pub fn new(alloc: Global) -> Live
-        ensures start { result ≡ standing_of [] [] [] [] }
+        ensures start { result ≡ standing_of [] [] [] [] [] [] }
     {
         Live {
             alloc,
             names: Names::new(alloc),
             constants: Vec::new(alloc),
             assertions: Vec::new(alloc),
+            goals: Vec::new(alloc),
+            wishes: Vec::new(alloc),
             accepted: Vec::new(alloc),
         }
     }
@@ -102,19 +106,19 @@ impl Live {
     pub fn goals(&self) -> &[Goal]
         ensures goals { result.now ≡ self.now.goals }
     {
-        &[]
+        self.goals.as_slice()
     }
 
     /// The live wishes.
     pub fn wishes(&self) -> &[Wish]
         ensures wishes { result.now ≡ self.now.wishes }
     {
-        &[]
+        self.wishes.as_slice()
     }
 
     /// How many levels were pushed.
     pub fn levels(&self) -> usize
-        ensures levels { result ≡ self.now.levels }
+        ensures levels { (ns : List Node) (s : State) → IsLive ns self.now s → result ≡ pushed_levels s }
     {
         0
     }
