@@ -1,3 +1,5 @@
 pub mod Equality
 pub mod Keys
 pub mod Tables
+pub mod Traversal
+pub mod Walks

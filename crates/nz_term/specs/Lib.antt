@@ -1,4 +1,5 @@
 pub mod Constants
 pub mod Heads
 pub mod Nodes
+pub mod Steps
 pub mod Values

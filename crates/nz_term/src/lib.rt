@@ -7,6 +7,7 @@
 mod assign;
 mod heads;
 mod nodes;
+mod order;
 mod terms;
 #[cfg(test)]
 mod tests;
@@ -14,4 +15,5 @@ mod tests;
 pub use assign::{Assign, Value};
 pub use heads::{Constant, Head, Sort};
 pub use nodes::{Ids, Node, TermId};
+pub use order::post_order;
 pub use terms::Terms;

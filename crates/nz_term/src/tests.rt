@@ -1,5 +1,7 @@
 //! Each public call once on its happy path.
-use crate::{Assign, Constant, Head, Ids, Sort, TermId, Terms, Value};
+ghost use Rattle.std.specs.Prelude.{◌<◌, length, IfOk};
+
+use crate::{Assign, Constant, Head, Ids, Sort, TermId, Terms, Value, post_order};
 use nz_base::Text;
 use std::alloc::Global;
 use std::test::Fail;
@@ -90,5 +92,56 @@ fn values_are_found_by_number(rt: HostRuntime) -> Result<(), Fail> {
     assert_eq!(rt; model.get(1), (2, Value::Truth(false)));
     assert_eq!(rt; model.value(5), Some(Value::Truth(true)));
     assert_eq!(rt; model.value(0), None);
+    Ok(())
+}
+
+// A table with the negation of the negation .. of `p`, and its number.
+fn negations(alloc: Global, count: usize) -> Result<(Terms, TermId), Fail>
+    ensures within { IfOk result (λ made. made.1 < length made.0) }
+{
+    let mut terms = Terms::new(alloc)?;
+    let mut last = terms.make(bool_constant(alloc, b"p")?, &[])?;
+    for _ in 0..count {
+        last = terms.make(Head::Not, &[last])?;
+    }
+    Ok((terms, last))
+}
+
+#[test]
+fn arguments_come_before_from_the_left(rt: HostRuntime) -> Result<(), Fail> {
+    let (mut terms, _) = clause(rt.alloc())?;
+    assert_eq!(rt; terms.len(), 4);
+    let root = terms.make(Head::And, &[3, 1, 2, 1])?;
+    assert_eq!(rt; root, 4);
+    assert_eq!(rt; terms.len(), 5);
+    let order = post_order(rt.alloc(), &terms, &[4])?;
+    assert_eq!(rt; order.as_slice(), [0, 1, 2, 3, 4].as_slice());
+    Ok(())
+}
+
+#[test]
+fn each_root_comes_once(rt: HostRuntime) -> Result<(), Fail> {
+    let (terms, _) = clause(rt.alloc())?;
+    assert_eq!(rt; terms.len(), 4);
+    let order = post_order(rt.alloc(), &terms, &[2, 3, 2])?;
+    assert_eq!(rt; order.as_slice(), [1, 2, 0, 3].as_slice());
+    Ok(())
+}
+
+#[test]
+fn no_root_leads_nowhere(rt: HostRuntime) -> Result<(), Fail> {
+    let (terms, _) = clause(rt.alloc())?;
+    let order = post_order(rt.alloc(), &terms, &[])?;
+    assert!(rt; order.is_empty());
+    Ok(())
+}
+
+#[test]
+fn a_long_chain_needs_no_deep_stack(rt: HostRuntime) -> Result<(), Fail> {
+    let (terms, last) = negations(rt.alloc(), 100_000)?;
+    let order = post_order(rt.alloc(), &terms, &[last])?;
+    assert_eq!(rt; order.len(), 100_001);
+    assert_eq!(rt; order.first(), Some(&0));
+    assert_eq!(rt; order.last(), Some(&100_000));
     Ok(())
 }

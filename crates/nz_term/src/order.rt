@@ -1,0 +1,66 @@
+//! The order of shared terms in which what a term is made of comes before it.
+ghost use Rattle.std.specs.Prelude.{◌≡◌, ◌<◌, ◌++◌, [], length, map, flat_map, All, IfOk, OnOk};
+ghost use Rattle.nz_spec.specs.Table.{term_in};
+ghost use Rattle.nz_spec.specs.Order.{post_order, AreFirst};
+ghost use Rattle.nz_term.specs.Steps.{entries, EntersArguments};
+
+use crate::nodes::TermId;
+use crate::terms::Terms;
+use nz_base::Memory;
+use nz_spec::table::one_number;
+use std::alloc::Global;
+
+// What is left to do of a term.
+#[derive(Clone, Copy, Debug)]
+enum Step {
+    // The term and all that it is made of.
+    Enter(TermId),
+    // The term alone, since what it is made of is done.
+    Leave(TermId),
+}
+
+// Puts the entries of these terms on the stack, that of the first one on top.
+fn enter_each(steps: &mut Vec<Step>, ids: &[TermId]) -> Result<(), Memory>
+    ensures entered { OnOk result (steps.new.items ≡ steps.old.items ++ entries ids.now) }
+{
+    for id in ids.iter().rev().copied() {
+        steps.push(Step::Enter(id))?;
+    }
+    Ok(())
+}
+
+// Puts the entries of what comes before a term on the stack: its arguments, from the left.
+fn enter_arguments(steps: &mut Vec<Step>, terms: &Terms, id: TermId) -> Result<(), Memory>
+    requires within { id < length terms.now }
+    ensures entered { OnOk result (EntersArguments terms.now id steps.old.items steps.new.items) }
+{
+    enter_each(steps, terms.node(id).kids.as_slice())
+}
+
+/// The terms of these roots with all that they are made of, each once, in post-order: arguments come before, from the left.
+pub fn post_order(alloc: Global, terms: &Terms, roots: &[TermId]) -> Result<Vec<TermId>, Memory>
+    requires within { All (λ r. r < length terms.now) roots.now }
+    ensures order { IfOk result (λ ids. AreFirst [] (flat_map post_order (map (term_in terms.now) roots.now)) (map (term_in terms.now) ids.items)) }
+    ensures within { IfOk result (λ ids. All (λ i. i < length terms.now) ids.items) }
+{
+    one_number();
+    let mut steps = Vec::new(alloc);
+    enter_each(&mut steps, roots)?;
+    let mut is_done = vec![in alloc; false; terms.len()]?;
+    let mut order = Vec::new(alloc);
+    while let Some(step) = steps.pop() {
+        match step {
+            Step::Enter(id) => {
+                if !is_done[id] {
+                    steps.push(Step::Leave(id))?;
+                    enter_arguments(&mut steps, terms, id)?;
+                }
+            }
+            Step::Leave(id) => {
+                is_done[id] = true;
+                order.push(id)?;
+            }
+        }
+    }
+    Ok(order)
+}
