@@ -1,9 +1,10 @@
 //! The live state: what becomes of a command, and what it leaves.
-ghost use Rattle.std.specs.Prelude.{◌≡◌, ℕ, List, [], length, take, OnOk, OnErr, IfOk, IfErr, IfSome, IfNone, None, ◌||◌, IsErrOf, false};
+ghost use Rattle.std.specs.Prelude.{◌≡◌, ◌<◌, ℕ, List, [], length, map, take, All, OnOk, OnErr, IfOk, IfErr, IfSome, IfNone, None, ◌||◌, IsErrOf, false};
 ghost use Rattle.nz_sexpr.specs.View.{token_view, view};
 ghost use Rattle.nz_spec.specs.Tree.{node};
 ghost use Rattle.nz_spec.specs.Bounds.{is_long_decimal, have_token as some_token};
-ghost use Rattle.nz_spec.specs.Table.{Node};
+ghost use Rattle.nz_spec.specs.Table.{Node, term_in};
+ghost use Rattle.nz_spec.specs.TermList.{IsTermList};
 ghost use Rattle.nz_spec.specs.Form.{assert_name, declare_const_name, is_name as may_be_name};
 ghost use Rattle.nz_spec.specs.Term as spec;
 ghost use Rattle.nz_spec.specs.Script.{State, accepted, refused, outcome_of, outcome_named, outcome_by, passes_limit as beyond_limit, pushed_levels, declaration_of, declare_const, term_of};
@@ -27,7 +28,7 @@ use crate::taken::takes_command;
 use crate::tokens::{TokenTest, have_token};
 use nz_base::{Memory, Text};
 use nz_sexpr::{Token, Tree};
-use nz_term::{Constant, Head, Sort, TermId, Terms};
+use nz_term::{Constant, Head, Sort, TermId, Terms, post_order};
 use std::alloc::Global;
 use std::marker::Model;
 
@@ -121,6 +122,28 @@ impl Live {
         ensures levels { (ns : List Node) (s : State) → IsLive ns self.now s → result ≡ pushed_levels s }
     {
         0
+    }
+
+    /// The terms of the live state, by which they are numbered: those of its items, in the order of acceptance, and then the
+    /// assumed ones. Each comes once, and behind all that it is made of.
+    ///
+    /// # Errors
+    ///
+    /// `Memory`.
+    pub fn term_list(
+        &self,
+        alloc: Global,
+        terms: &Terms,
+        assumed: &[TermId],
+    ) -> Result<Vec<TermId>, Memory>
+        requires live { (s : State) × IsLive terms.now self.now s }
+        requires within { All (λ i. i < length terms.now) assumed.now }
+        ensures list { IfOk result (λ ids. (s : State) → IsLive terms.now self.now s → IsTermList s (map (term_in terms.now) assumed.now) (map (term_in terms.now) ids.items)) }
+        ensures within { IfOk result (λ ids. All (λ i. i < length terms.now) ids.items) }
+    {
+        let mut roots = Vec::from_slice(alloc, self.accepted.as_slice())?;
+        roots.extend_from_slice(assumed)?;
+        post_order(alloc, terms, roots.as_slice())
     }
 
     /// Carries out what a command changes in the live state, and answers what it asks. Whether the last answer has a model or a
