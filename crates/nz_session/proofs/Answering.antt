@@ -83,11 +83,11 @@ no_model ns l s h u a m = u a (live_model ns l s a h m)
 -- what stands is of the levels alone
 live_with : (ns : List Node) (l : Standing) (s : State) (m : Option (List Binding)) (r : Option Reason) → IsLive ns l s
     → IsLive ns l (record { levels = s.levels; model = m; reason = r })
-live_with ns l s m r h = record { named = h.named; constants = h.constants; distinct = h.distinct; within = h.within; terms = h.terms; unpushed = h.unpushed }
+live_with ns l s m r h = record { named = h.named; constants = h.constants; distinct = h.distinct; within = h.within; terms = h.terms; items = h.items; unpushed = h.unpushed }
 
 live_without : (ns : List Node) (l : Standing) (s : State) (m : Option (List Binding)) (r : Option Reason)
     → IsLive ns l (record { levels = s.levels; model = m; reason = r }) → IsLive ns l s
-live_without ns l s m r h = record { named = h.named; constants = h.constants; distinct = h.distinct; within = h.within; terms = h.terms; unpushed = h.unpushed }
+live_without ns l s m r h = record { named = h.named; constants = h.constants; distinct = h.distinct; within = h.within; terms = h.terms; items = h.items; unpushed = h.unpushed }
 
 asks_check : (c : Command) → check ≡ ask_of c → c ≡ check_sat
 asks_check (declare_const k) e = cc

@@ -1,3 +1,4 @@
+pub mod Accepting
 pub mod Digits
 pub mod Elaborating
 pub mod Forming

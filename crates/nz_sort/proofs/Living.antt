@@ -16,24 +16,16 @@ use Rattle.nz_spec.specs.Script.{State, Item, declared, asserted, items_of, cons
 use Rattle.nz_spec.proofs.Tables.{term_stays}
 use Rattle.nz_sort.specs.Names.{number_named, AreNamesOf}
 use Rattle.nz_sort.specs.Elaborate.{IsOperator, Grows}
-use Rattle.nz_sort.specs.Live.{Standing, IsLive, IsAccepted, changed, check}
-use Rattle.nz_sort.specs.Commands.{is_listed, is_unlisted, bool_constant, declaration_by, HasAdded, HasAsserted}
+use Rattle.nz_sort.specs.Items.{StandForAll}
+use Rattle.nz_sort.specs.Live.{Standing, HasItems, IsLive, IsAccepted, changed, check}
+use Rattle.nz_sort.specs.Commands.{is_listed, is_unlisted, bool_constant, declaration_by, HasAdded, HasAsserted, with_constant, with_assertion}
+use Rattle.nz_sort.proofs.Accepting.{constants_in-append, assertions_in-append, stand_longer, stand_last, has_constant, has_assertion}
 
 -- ---- Items
 
 items_of-with_item : (levels : List (List Item)) (i : Item) → items_of (with_item levels i) ≡ items_of levels ++ i ∷ []
 items_of-with_item [] i = refl
 items_of-with_item (items ∷ older) i = sym (append_assoc (items_of older) items (i ∷ []))
-
-constants_in-append : (xs ys : List Item) → constants_in (xs ++ ys) ≡ constants_in xs ++ constants_in ys
-constants_in-append [] ys = refl
-constants_in-append (declared c ∷ xs) ys = ap (λ l. c ∷ l) (constants_in-append xs ys)
-constants_in-append (asserted t ∷ xs) ys = constants_in-append xs ys
-
-assertions_in-append : (xs ys : List Item) → assertions_in (xs ++ ys) ≡ assertions_in xs ++ assertions_in ys
-assertions_in-append [] ys = refl
-assertions_in-append (declared c ∷ xs) ys = assertions_in-append xs ys
-assertions_in-append (asserted t ∷ xs) ys = ap (λ l. t ∷ l) (assertions_in-append xs ys)
 
 constants_with : (levels : List (List Item)) (i : Item) → constants_in (items_of (with_item levels i)) ≡ constants_in (items_of levels) ++ constants_in (i ∷ [])
 constants_with levels i = ap constants_in (items_of-with_item levels i) ∙ constants_in-append (items_of levels) (i ∷ [])
@@ -174,17 +166,6 @@ differ_from_unnamed (c ∷ cs) name h =
       | false ↦ λ e. (refl, differ_from_unnamed cs name e)
     ]) h
 
--- ---- Terms that are there already
-
-terms_stay_there : (ns more : List Node) (is : List ℕ) → All (λ i. i < length ns) is → map (term_in (ns ++ more)) is ≡ map (term_in ns) is
-terms_stay_there ns more [] h = refl
-terms_stay_there ns more (i ∷ is) h =
-    ap (λ t. t ∷ map (term_in (ns ++ more)) is) (term_stays ns more i (All-head (λ i. i < length ns) i is h))
-    ∙ ap (λ l. term_in ns i ∷ l) (terms_stay_there ns more is (All-tail (λ i. i < length ns) i is h))
-
-within_more : (ns more : List Node) (is : List ℕ) → All (λ i. i < length ns) is → All (λ i. i < length (ns ++ more)) is
-within_more ns more is h = All-weaker (λ i. i < length ns) (λ i. i < length (ns ++ more)) (λ i below. omega (arith, length-append ns more)) is h
-
 -- ---- What a declaration leaves
 
 -- a constant that is not in the table yet is a node more
@@ -202,45 +183,48 @@ pushed_with : (levels : List (List Item)) (i : Item) → length (with_item level
 pushed_with [] i = refl
 pushed_with (items ∷ older) i = refl
 
-live_declared : (old new : List Node) (before after : List (List ℕ × ℕ)) (numbers : List ℕ) (s : State) (c : Constant) → IsLive old (record { names = before; asserted = numbers }) s
+live_declared : (old new : List Node) (before after : Standing) (s : State) (c : Constant) → IsLive old before s
     → constant_named (constants_of s) c.name ≡ None → HasAdded c old new before after
-    → IsLive new (record { names = after; asserted = numbers }) (record { levels = with_item s.levels (declared c); model = None; reason = None })
-live_declared old new before after numbers s c live none h =
+    → IsLive new after (record { levels = with_item s.levels (declared c); model = None; reason = None })
+live_declared old new before after s c live none h =
     let one : Node = record { head = constant c; kids = [] } in
     let grown : new ≡ old ++ one ∷ [] = grown_in old new h.id c (ap (λ cs. constant_named cs c.name) live.constants ∙ none) h.node h.grown in
     let within : h.id < length new = slice_get_within new h.id one h.node in
     let later : constants_in (items_of (with_item s.levels (declared c))) ≡ constants_of s ++ c ∷ [] = constants_with s.levels (declared c) in
     let listed : constants_in_table new ≡ constants_of s ++ c ∷ [] =
     ap constants_in_table grown ∙ flat_map-append (λ (n : Node). constants_of_head n.head) old (one ∷ []) ∙ ap (λ l. l ++ c ∷ []) live.constants in
-    let stay : AreNamesOf new before (constants_of s) = subst (λ ns. AreNamesOf ns before (constants_of s)) (sym grown) (names_stay old (one ∷ []) before (constants_of s) live.named) in
-    let named : AreNamesOf new after (constants_of s ++ c ∷ []) =
-    subst (λ ps. AreNamesOf new ps (constants_of s ++ c ∷ [])) (sym h.names) (names_last new before (constants_of s) c h.id stay within h.term) in
+    let stay : AreNamesOf new before.names (constants_of s) =
+    subst (λ ns. AreNamesOf ns before.names (constants_of s)) (sym grown) (names_stay old (one ∷ []) before.names (constants_of s) live.named) in
     let apart : IsDistinct bytes_eq (map (λ (d : Constant). d.name) (constants_of s)) = subst (λ cs. IsDistinct bytes_eq (map (λ (d : Constant). d.name) cs)) live.constants live.distinct in
     let distinct : IsDistinct bytes_eq (map (λ (d : Constant). d.name) (constants_of s) ++ c.name ∷ []) =
     distinct_last (map (λ (d : Constant). d.name) (constants_of s)) c.name apart (differ_from_unnamed (constants_of s) c.name none) in
-    record {
-      named = subst (AreNamesOf new after) (sym later) named;
+    let stand = stand_longer old new (one ∷ []) before.asserted (map normal_of (assertions_of s)) grown (record { within = live.within; terms = live.terms }) in
+    let more : State = record { levels = with_item s.levels (declared c); model = None; reason = None } in
+    subst (λ standing. IsLive new standing more) (sym h.stands)
+    (record {
+      named = subst (AreNamesOf new (before.names ++ (c.name, h.id) ∷ [])) (sym later) (names_last new before.names (constants_of s) c h.id stay within h.term);
       constants = listed ∙ sym later;
       distinct = subst (IsDistinct bytes_eq) (sym (ap (map (λ (d : Constant). d.name)) listed ∙ map-append (λ (d : Constant). d.name) (constants_of s) (c ∷ []))) distinct;
-      within = subst (λ ns. All (λ i. i < length ns) numbers) (sym grown) (within_more old (one ∷ []) numbers live.within);
-      terms =
-          ap (λ ns. map (term_in ns) numbers) grown ∙ terms_stay_there old (one ∷ []) numbers live.within ∙ live.terms
-          ∙ ap (map normal_of) (sym (assertions_with s.levels (declared c) ∙ append-nil (assertions_of s)));
+      within = stand.within;
+      terms = stand.terms ∙ ap (map normal_of) (sym (assertions_with s.levels (declared c) ∙ append-nil (assertions_of s)));
+      items =
+          subst (HasItems new (with_constant before c.name h.id)) (sym (items_of-with_item s.levels (declared c)))
+          (has_constant old new (one ∷ []) before (items_of s.levels) c h.id grown live.items within h.term);
       unpushed = pushed_with s.levels (declared c) ∙ live.unpushed;
-    }
+    })
 
-pub leaves_declared : (old new : List Node) (before after : List (List ℕ × ℕ)) (numbers : List ℕ) (s : State) (name : List ℕ) (sort : Tree) (outcome : Outcome)
-    → outcome ≡ declaration_of s name sort → declaration_by before name sort ≡ accepted (declare_const (bool_constant name)) → number_named before name ≡ None
+pub leaves_declared : (old new : List Node) (before after : Standing) (s : State) (name : List ℕ) (sort : Tree) (outcome : Outcome)
+    → outcome ≡ declaration_of s name sort → declaration_by before.names name sort ≡ accepted (declare_const (bool_constant name)) → number_named before.names name ≡ None
     → HasAdded (bool_constant name) old new before after
-    → IsLive old (record { names = before; asserted = numbers }) s → IsAccepted s outcome changed new (record { names = after; asserted = numbers })
-leaves_declared old new before after numbers s name sort outcome e may fresh h live =
+    → IsLive old before s → IsAccepted s outcome changed new after
+leaves_declared old new before after s name sort outcome e may fresh h live =
     let none : constant_named (constants_of s) name ≡ None =
-    none_from_unlisted (number_named before name) (constant_named (constants_of s) name) (named_together old before (constants_of s) name live.named) fresh in
+    none_from_unlisted (number_named before.names name) (constant_named (constants_of s) name) (named_together old before.names (constants_of s) name live.named) fresh in
     record {
       command = declare_const (bool_constant name);
-      is = e ∙ declared_alike old before s name sort live.named ∙ may;
+      is = e ∙ declared_alike old before.names s name sort live.named ∙ may;
       asks = refl;
-      live = λ reply. live_declared old new before after numbers s (bool_constant name) live none h;
+      live = λ reply. live_declared old new before after s (bool_constant name) live none h;
     }
 
 pub refused_declaration : (ns : List Node) (standing : Standing) (s : State) (name : List ℕ) (sort : Tree) (outcome : Outcome) (n : ℕ)
@@ -249,28 +233,29 @@ refused_declaration ns standing s name sort outcome n e broken live = e ∙ decl
 
 -- ---- What an assertion leaves
 
-live_asserted : (old new : List Node) (names : List (List ℕ × ℕ)) (before after : List ℕ) (s : State) (tree : Tree) → IsLive old (record { names = names; asserted = before }) s
+live_asserted : (old new : List Node) (before after : Standing) (s : State) (tree : Tree) → IsLive old before s
     → Grows old new → (h : HasAsserted (constants_of s) tree new before after)
-    → IsLive new (record { names = names; asserted = after }) (record { levels = with_item s.levels (asserted h.term.term); model = None; reason = None })
-live_asserted old new names before after s tree live g h =
+    → IsLive new after (record { levels = with_item s.levels (asserted h.term.term); model = None; reason = None })
+live_asserted old new before after s tree live g h =
     let t = h.term.term in
     let same : constants_in (items_of (with_item s.levels (asserted t))) ≡ constants_of s = constants_with s.levels (asserted t) ∙ append-nil (constants_of s) in
-    let stay : AreNamesOf new names (constants_of s) = subst (λ ns. AreNamesOf ns names (constants_of s)) (sym g.all) (names_stay old g.more names (constants_of s) live.named) in
-    let inside : All (λ i. i < length new) before = subst (λ ns. All (λ i. i < length ns) before) (sym g.all) (within_more old g.more before live.within) in
-    let last : All (λ i. i < length new) (h.id ∷ []) = All-cons (λ i. i < length new) h.id [] h.term.within (All-nil (λ i. i < length new)) in
-    let older : map (term_in new) before ≡ map normal_of (assertions_of s) = ap (λ ns. map (term_in ns) before) g.all ∙ terms_stay_there old g.more before live.within ∙ live.terms in
-    record {
-      named = subst (AreNamesOf new names) (sym same) stay;
+    let stay : AreNamesOf new before.names (constants_of s) = subst (λ ns. AreNamesOf ns before.names (constants_of s)) (sym g.all) (names_stay old g.more before.names (constants_of s) live.named) in
+    let stand =
+    stand_last new before.asserted (map normal_of (assertions_of s)) h.id (normal_of t)
+    (stand_longer old new g.more before.asserted (map normal_of (assertions_of s)) g.all (record { within = live.within; terms = live.terms })) h.term.within h.term.normal in
+    let more : State = record { levels = with_item s.levels (asserted t); model = None; reason = None } in
+    subst (λ standing. IsLive new standing more) (sym h.stands)
+    (record {
+      named = subst (AreNamesOf new before.names) (sym same) stay;
       constants = same_constants old new g ∙ live.constants ∙ sym same;
       distinct = subst (λ cs. IsDistinct bytes_eq (map (λ (d : Constant). d.name) cs)) (sym (same_constants old new g)) live.distinct;
-      within = subst (All (λ i. i < length new)) (sym h.numbers) (All-append (λ i. i < length new) before (h.id ∷ []) inside last);
-      terms =
-          ap (map (term_in new)) h.numbers ∙ map-append (term_in new) before (h.id ∷ [])
-          ∙ ap (λ l. l ++ term_in new h.id ∷ []) older
-          ∙ ap (λ u. map normal_of (assertions_of s) ++ u ∷ []) h.term.normal
-          ∙ sym (ap (map normal_of) (assertions_with s.levels (asserted t)) ∙ map-append normal_of (assertions_of s) (t ∷ []));
+      within = stand.within;
+      terms = stand.terms ∙ sym (ap (map normal_of) (assertions_with s.levels (asserted t)) ∙ map-append normal_of (assertions_of s) (t ∷ []));
+      items =
+          subst (HasItems new (with_assertion before h.id)) (sym (items_of-with_item s.levels (asserted t)))
+          (has_assertion old new g.more before (items_of s.levels) t h.id g.all live.items h.term.within h.term.normal);
       unpushed = pushed_with s.levels (asserted t) ∙ live.unpushed;
-    }
+    })
 
 -- an assertion without unknown symbols is by its term
 known_assertion : (ns : List Node) (standing : Standing) (s : State) (tree : Tree) → IsLive ns standing s → has_token (is_unlisted standing.names) tree ≡ false
@@ -279,16 +264,16 @@ known_assertion ns standing s tree live known =
     ap (λ b. cond b (refused 2) (elim (term_of (constants_of s) tree) [ Some u ↦ accepted (assert_term u) | None ↦ refused 3 ]))
     (sym (unlisted_found ns standing.names (constants_of s) tree live.named) ∙ known)
 
-pub leaves_asserted : (old new : List Node) (names : List (List ℕ × ℕ)) (before after : List ℕ) (s : State) (tree : Tree) → Grows old new
-    → has_token (is_unlisted names) tree ≡ false → HasAsserted (constants_of s) tree new before after → IsLive old (record { names = names; asserted = before }) s
-    → IsAccepted s (assertion_of s tree) changed new (record { names = names; asserted = after })
-leaves_asserted old new names before after s tree g known h live =
+pub leaves_asserted : (old new : List Node) (before after : Standing) (s : State) (tree : Tree) → Grows old new
+    → has_token (is_unlisted before.names) tree ≡ false → HasAsserted (constants_of s) tree new before after → IsLive old before s
+    → IsAccepted s (assertion_of s tree) changed new after
+leaves_asserted old new before after s tree g known h live =
     record {
       command = assert_term h.term.term;
-      is = known_assertion old (record { names = names; asserted = before }) s tree live known
+      is = known_assertion old before s tree live known
           ∙ ap (λ o. elim o [ Some u ↦ accepted (assert_term u) | None ↦ refused 3 ]) h.term.stands;
       asks = refl;
-      live = λ reply. live_asserted old new names before after s tree live g h;
+      live = λ reply. live_asserted old new before after s tree live g h;
     }
 
 pub unknown_assertion : (ns : List Node) (standing : Standing) (s : State) (tree : Tree) → IsLive ns standing s → has_token (is_unlisted standing.names) tree ≡ true
@@ -311,5 +296,5 @@ leaves_checked ns standing s live =
       command = check_sat;
       is = refl;
       asks = refl;
-      live = λ reply. record { named = live.named; constants = live.constants; distinct = live.distinct; within = live.within; terms = live.terms; unpushed = live.unpushed };
+      live = λ reply. record { named = live.named; constants = live.constants; distinct = live.distinct; within = live.within; terms = live.terms; items = live.items; unpushed = live.unpushed };
     }

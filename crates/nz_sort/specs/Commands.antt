@@ -1,5 +1,5 @@
 -- How the code takes a command apart.
-use Rattle.std.specs.Prelude.{◌≡◌, ℕ, ◌||◌, not, Bool, true, false, List, [], ◌∷◌, ◌++◌, Some, None, is_some, codes, bytes_eq, slice_get, ◌⊎◌, if◌then◌else◌}
+use Rattle.std.specs.Prelude.{◌≡◌, ℕ, ◌||◌, not, Bool, true, false, List, [], ◌∷◌, ◌++◌, length, Some, None, is_some, codes, bytes_eq, slice_get, ◌⊎◌, if◌then◌else◌}
 use Rattle.nz_spec.specs.Tree.{Token, symbol_name, Tree, leaf, node}
 use Rattle.nz_spec.specs.Term.{bool_sort, Constant, constant, apply, no_terms}
 use Rattle.nz_spec.specs.Table.{Node, term_in}
@@ -7,6 +7,7 @@ use Rattle.nz_spec.specs.Form.{is_one_of, is_name, is_symbol}
 use Rattle.nz_spec.specs.Script.{operators, number_operators, Outcome, accepted, refused, declare_const}
 use Rattle.nz_sort.specs.Names.{number_named}
 use Rattle.nz_sort.specs.Elaborate.{Elaborates}
+use Rattle.nz_sort.specs.Live.{Standing}
 
 -- ---- Names in scope, where these names stand
 
@@ -43,16 +44,34 @@ is_number_symbol t = elim (symbol_name t) [ Some name ↦ is_one_of number_opera
 
 -- ---- What is added
 
--- The table and the names have this constant more.
-pub record HasAdded (c : Constant) (old new : List Node) (before after : List (List ℕ × ℕ)) : Type 0 where
+-- what stands with a constant more, of this number in the table
+abbrev pub with_constant : Standing → List ℕ → ℕ → Standing
+with_constant before name id =
+    record before {
+      names = before.names ++ (name, id) ∷ [];
+      constants = before.constants ++ record { number = length before.accepted; term = id } ∷ [];
+      accepted = before.accepted ++ id ∷ [];
+    }
+
+-- what stands with an assertion more
+abbrev pub with_assertion : Standing → ℕ → Standing
+with_assertion before id =
+    record before {
+      assertions = before.assertions ++ record { number = length before.accepted; term = id } ∷ [];
+      asserted = before.asserted ++ id ∷ [];
+      accepted = before.accepted ++ id ∷ [];
+    }
+
+-- The table and what stands have this constant more.
+pub record HasAdded (c : Constant) (old new : List Node) (before after : Standing) : Type 0 where
   pub id : ℕ
-  pub names : after ≡ before ++ (c.name, id) ∷ []
+  pub stands : after ≡ with_constant before c.name id
   pub node : slice_get new id ≡ Some (record { head = constant c; kids = [] })
   pub grown : (new ≡ old) ⊎ (new ≡ old ++ record { head = constant c; kids = [] } ∷ [])
   pub term : term_in new id ≡ apply (constant c) no_terms
 
--- The numbers have that of the term of this tree more.
-pub record HasAsserted (cs : List Constant) (tree : Tree) (ns : List Node) (before after : List ℕ) : Type 0 where
+-- What stands has the assertion of the term of this tree more.
+pub record HasAsserted (cs : List Constant) (tree : Tree) (ns : List Node) (before after : Standing) : Type 0 where
   pub id : ℕ
-  pub numbers : after ≡ before ++ id ∷ []
+  pub stands : after ≡ with_assertion before id
   pub term : Elaborates cs tree ns id

@@ -2,6 +2,7 @@ pub mod Acts
 pub mod Commands
 pub mod Elaborate
 pub mod Form
+pub mod Items
 pub mod Live
 pub mod Names
 pub mod Operators

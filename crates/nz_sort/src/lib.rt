@@ -5,6 +5,7 @@
 
 mod elaboration;
 mod form;
+mod items;
 mod limits;
 mod live;
 mod names;
@@ -19,6 +20,7 @@ mod tokens;
 
 pub use elaboration::{ElaborateError, elaborate};
 pub use form::is_of_form;
+pub use items::{Accepted, Direction, Goal, Wish};
 pub use live::{Act, Live};
 pub use names::Names;
 pub use refusal::Refusal;

@@ -1,22 +1,25 @@
 //! The live state: what becomes of a command, and what it leaves.
-ghost use Rattle.std.specs.Prelude.{◌≡◌, ℕ, List, [], length, take, OnOk, OnErr, IfOk, IfErr, IfSome, IfNone, None, ◌||◌, IsErrOf, false};
+ghost use Rattle.std.specs.Prelude.{◌≡◌, ◌<◌, ℕ, List, [], length, map, take, All, OnOk, OnErr, IfOk, IfErr, IfSome, IfNone, None, ◌||◌, IsErrOf, false};
 ghost use Rattle.nz_sexpr.specs.View.{token_view, view};
 ghost use Rattle.nz_spec.specs.Tree.{node};
 ghost use Rattle.nz_spec.specs.Bounds.{is_long_decimal, have_token as some_token};
-ghost use Rattle.nz_spec.specs.Table.{Node};
+ghost use Rattle.nz_spec.specs.Table.{Node, term_in};
+ghost use Rattle.nz_spec.specs.TermList.{IsTermList};
 ghost use Rattle.nz_spec.specs.Form.{assert_name, declare_const_name, is_name as may_be_name};
 ghost use Rattle.nz_spec.specs.Term as spec;
-ghost use Rattle.nz_spec.specs.Script.{State, accepted, refused, outcome_of, outcome_named, outcome_by, passes_limit as beyond_limit, declaration_of, declare_const, term_of};
+ghost use Rattle.nz_spec.specs.Script.{State, accepted, refused, outcome_of, outcome_named, outcome_by, passes_limit as beyond_limit, pushed_levels, declaration_of, declare_const, term_of};
 ghost use Rattle.nz_sort.specs.Form.{seen, command_meaning};
 ghost use Rattle.nz_sort.specs.Names.{number_named, AreNamesOf};
 ghost use Rattle.nz_sort.specs.Elaborate.{Grows};
-ghost use Rattle.nz_sort.specs.Live.{Standing, IsLive, Leaves, IsCarriedOut, IfSkipped, changed};
+ghost use Rattle.nz_sort.specs.Items.{table_numbers};
+ghost use Rattle.nz_sort.specs.Live.{IsLive, Leaves, IsCarriedOut, IfSkipped, changed, standing_of};
 ghost use Rattle.nz_sort.specs.Acts.{asked, error_of};
-ghost use Rattle.nz_sort.specs.Commands.{IsNamed, declaration_by, bool_constant, HasAdded, HasAsserted};
+ghost use Rattle.nz_sort.specs.Commands.{IsNamed, declaration_by, bool_constant, HasAdded, HasAsserted, with_constant, with_assertion};
 
 use crate::elaboration::{ElaborateError, elaborate};
 use crate::form::command::{CommandName, command_name, has_form};
 use crate::form::{headed, is_name, is_symbol, only, pair, symbol_name, symbol_of};
+use crate::items::{Accepted, Goal, Wish};
 use crate::limits::passes_limit;
 use crate::names::Names;
 use crate::refusal::Refusal;
@@ -25,7 +28,7 @@ use crate::taken::takes_command;
 use crate::tokens::{TokenTest, have_token};
 use nz_base::{Memory, Text};
 use nz_sexpr::{Token, Tree};
-use nz_term::{Constant, Head, Sort, TermId, Terms};
+use nz_term::{Constant, Head, Sort, TermId, Terms, post_order};
 use std::alloc::Global;
 use std::marker::Model;
 
@@ -46,39 +49,101 @@ pub enum Act {
     Unsupported,
 }
 
-/// The live state. A contract sees its names and the numbers of its asserted terms.
+/// The live state. A contract sees what stands in it: its names, and its items by kind, in the order of acceptance.
+///
+/// No command brings a goal, a wish or a level yet.
 #[derive(Drop)]
 pub struct Live {
     alloc: Global,
     names: Names,
-    asserted: Vec<TermId>,
+    constants: Vec<Accepted>,
+    assertions: Vec<Accepted>,
+    goals: Vec<Goal>,
+    wishes: Vec<Wish>,
+    /// The terms of the items of all kinds. An item's number is its place here.
+    accepted: Vec<TermId>,
 }
 
 impl Model for Live {
-    ghost use Rattle.nz_sort.specs.Live.{Standing};
+    ghost use Rattle.nz_sort.specs.Live.{Standing, standing_of};
 
     ghost Value = { Standing };
 
-    ghost view = { λ l. record { names = l.names; asserted = l.asserted.items } };
+    ghost view = { λ l. standing_of l.names l.constants.items l.assertions.items l.goals.items l.wishes.items l.accepted.items };
 }
 
 impl Live {
-    /// The live state of the start: no constant and no assertion. Takes no memory.
+    /// The live state of the start: no item and no level. Takes no memory.
     pub fn new(alloc: Global) -> Live
-        ensures start { result ≡ record { names = []; asserted = [] } }
+        ensures start { result ≡ standing_of [] [] [] [] [] [] }
     {
         Live {
             alloc,
             names: Names::new(alloc),
-            asserted: Vec::new(alloc),
+            constants: Vec::new(alloc),
+            assertions: Vec::new(alloc),
+            goals: Vec::new(alloc),
+            wishes: Vec::new(alloc),
+            accepted: Vec::new(alloc),
         }
     }
 
-    /// The numbers of the asserted terms, in the order of acceptance.
-    pub fn asserted(&self) -> &[TermId]
-        ensures asserted { result.now ≡ self.now.asserted }
+    /// The live constants, in the order of declaration.
+    pub fn constants(&self) -> &[Accepted]
+        ensures constants { result.now ≡ self.now.constants }
     {
-        self.asserted.as_slice()
+        self.constants.as_slice()
+    }
+
+    /// The live assertions.
+    pub fn assertions(&self) -> &[Accepted]
+        ensures assertions { result.now ≡ self.now.assertions }
+        ensures terms { table_numbers result.now ≡ self.now.asserted }
+    {
+        self.assertions.as_slice()
+    }
+
+    /// The live goals.
+    pub fn goals(&self) -> &[Goal]
+        ensures goals { result.now ≡ self.now.goals }
+    {
+        self.goals.as_slice()
+    }
+
+    /// The live wishes.
+    pub fn wishes(&self) -> &[Wish]
+        ensures wishes { result.now ≡ self.now.wishes }
+    {
+        self.wishes.as_slice()
+    }
+
+    /// How many levels were pushed.
+    pub fn levels(&self) -> usize
+        ensures levels { (ns : List Node) (s : State) → IsLive ns self.now s → result ≡ pushed_levels s }
+    {
+        0
+    }
+
+    /// The terms of the live state, by which they are numbered: those of its items, in the order of acceptance, and then the
+    /// assumed ones. Each comes once, and behind all that it is made of.
+    ///
+    /// # Errors
+    ///
+    /// `Memory`.
+    pub fn term_list(
+        &self,
+        alloc: Global,
+        terms: &Terms,
+        assumed: &[TermId],
+    ) -> Result<Vec<TermId>, Memory>
+        requires live { (s : State) × IsLive terms.now self.now s }
+        requires within { All (λ i. i < length terms.now) assumed.now }
+        ensures list { IfOk result (λ ids. (s : State) → IsLive terms.now self.now s → IsTermList s (map (term_in terms.now) assumed.now) (map (term_in terms.now) ids.items)) }
+        ensures within { IfOk result (λ ids. All (λ i. i < length terms.now) ids.items) }
+    {
+        let mut roots = Vec::from_slice(alloc, self.accepted.as_slice())?;
+        roots.extend_from_slice(assumed)?;
+        post_order(alloc, terms, roots.as_slice())
     }
 
     /// Carries out what a command changes in the live state, and answers what it asks. Whether the last answer has a model or a
@@ -158,19 +223,11 @@ impl Live {
         ensures front { take (length self.old.asserted) self.new.asserted ≡ self.old.asserted }
     {
         match name {
-            CommandName::DeclareConst => {
-                match declare(self.alloc, &mut self.names, terms, arguments) {
-                    Ok(()) => Ok(Act::Changed),
-                    Err(refusal) => Err(refusal),
-                }
-            }
-            CommandName::Assert => match assert_term(
-                self.alloc,
-                &self.names,
-                &mut self.asserted,
-                terms,
-                arguments,
-            ) {
+            CommandName::DeclareConst => match self.declare(terms, arguments) {
+                Ok(()) => Ok(Act::Changed),
+                Err(refusal) => Err(refusal),
+            },
+            CommandName::Assert => match self.assert_term(terms, arguments) {
                 Ok(()) => Ok(Act::Changed),
                 Err(refusal) => Err(refusal),
             },
@@ -180,6 +237,121 @@ impl Live {
             CommandName::Exit => Ok(Act::Leave),
             _ => Err(Refusal::Syntax),
         }
+    }
+
+    /// Declares a constant.
+    fn declare(&mut self, terms: &mut Terms, arguments: &[Tree]) -> Result<(), Refusal>
+        ensures accepted { OnOk result ((s : State) → IsLive terms.old self.old s → Leaves s (outcome_by s declare_const_name (seen arguments.now)) changed terms.new self.new) }
+        ensures refused { IfErr result (λ refusal. IfSome (error_of refusal) (λ n. (s : State) → IsLive terms.old self.old s → outcome_by s declare_const_name (seen arguments.now) ≡ refused n)) }
+        ensures unchanged_terms { OnErr result (terms.new ≡ terms.old) }
+        ensures unchanged { OnErr result (self.new ≡ self.old) }
+        ensures front { take (length self.old.asserted) self.new.asserted ≡ self.old.asserted }
+    {
+        let Some((name, sort)) = declared(arguments) else {
+            return Err(Refusal::Syntax);
+        };
+        match declaration_refusal(&self.names, name, sort) {
+            Some(refusal) => Err(refusal),
+            None => {
+                let mark = terms.mark();
+                match self.add_constant(terms, name) {
+                    Ok(()) => Ok(()),
+                    Err(Memory) => {
+                        terms.cut(mark);
+                        Err(Refusal::Memory)
+                    }
+                }
+            }
+        }
+    }
+
+    /// Adds a constant of a name that isn't there yet to the table and to what stands. After an error the table may have grown.
+    fn add_constant(&mut self, terms: &mut Terms, name: &Text) -> Result<(), Memory>
+        requires fresh { number_named self.old.names name.now ≡ None }
+        ensures added { OnOk result (HasAdded (bool_constant name.now) terms.old terms.new self.old self.new) }
+        ensures front { take (length terms.old) terms.new ≡ terms.old }
+        ensures unchanged { OnErr result (self.new ≡ self.old) }
+    {
+        let constant = Constant {
+            name: Text::from_slice(self.alloc, name.as_bytes())?,
+            sort: Sort::Bool,
+        };
+        let key = Text::from_slice(self.alloc, name.as_bytes())?;
+        let id = terms.make(Head::Constant(constant), &[])?;
+        self.keep_constant(key, id)
+    }
+
+    /// Keeps a constant of a name that isn't there yet.
+    fn keep_constant(&mut self, name: Text, term: TermId) -> Result<(), Memory>
+        requires fresh { number_named self.old.names name ≡ None }
+        ensures kept { OnOk result (self.new ≡ with_constant self.old name term) }
+        ensures unchanged { OnErr result (self.new ≡ self.old) }
+    {
+        let number = self.accepted.len();
+        self.constants.reserve(1)?;
+        self.accepted.reserve(1)?;
+        self.names.insert(name, term)?;
+        self.constants.push_reserved(Accepted { number, term });
+        self.accepted.push_reserved(term);
+        Ok(())
+    }
+
+    /// Asserts the term of a tree.
+    #[tactic(auto, using(crate::proofs::Ruling::asserts_nothing))]
+    fn assert_term(&mut self, terms: &mut Terms, arguments: &[Tree]) -> Result<(), Refusal>
+        ensures accepted { OnOk result ((s : State) → IsLive terms.old self.old s → Leaves s (outcome_by s assert_name (seen arguments.now)) changed terms.new self.new) }
+        ensures refused { IfErr result (λ refusal. IfSome (error_of refusal) (λ n. (s : State) → IsLive terms.old self.old s → outcome_by s assert_name (seen arguments.now) ≡ refused n)) }
+        ensures unchanged_terms { OnErr result (terms.new ≡ terms.old) }
+        ensures unchanged { OnErr result (self.new ≡ self.old) }
+        ensures front { take (length self.old.asserted) self.new.asserted ≡ self.old.asserted }
+    {
+        let Some(tree) = only(arguments) else {
+            return Err(Refusal::Syntax);
+        };
+        if has_unknown_symbol(&self.names, tree) {
+            return Err(Refusal::UnknownSymbol);
+        }
+        let mark = terms.mark();
+        match self.add_assertion(terms, tree) {
+            Ok(()) => Ok(()),
+            Err(ElaborateError::Sort) => {
+                terms.cut(mark);
+                Err(Refusal::Sort)
+            }
+            Err(ElaborateError::Memory) => {
+                terms.cut(mark);
+                Err(Refusal::Memory)
+            }
+        }
+    }
+
+    /// Adds the term of a tree to the table and to what is asserted. After an error the table may have grown.
+    fn add_assertion(&mut self, terms: &mut Terms, tree: &Tree) -> Result<(), ElaborateError>
+        ensures grows { Grows terms.old terms.new }
+        ensures added { OnOk result ((cs : List spec.Constant) → AreNamesOf terms.old self.old.names cs → HasAsserted cs (view tree.now) terms.new self.old self.new) }
+        ensures refused { IsErrOf result ElaborateError.Sort → (cs : List spec.Constant) → AreNamesOf terms.old self.old.names cs → term_of cs (view tree.now) ≡ None }
+        ensures unchanged { OnErr result (self.new ≡ self.old) }
+        ensures front { take (length self.old.asserted) self.new.asserted ≡ self.old.asserted }
+    {
+        match elaborate(self.alloc, &self.names, terms, tree) {
+            Err(error) => Err(error),
+            Ok(term) => {
+                self.keep_assertion(term)?;
+                Ok(())
+            }
+        }
+    }
+
+    /// Keeps the assertion of a term.
+    fn keep_assertion(&mut self, term: TermId) -> Result<(), Memory>
+        ensures kept { OnOk result (self.new ≡ with_assertion self.old term) }
+        ensures unchanged { OnErr result (self.new ≡ self.old) }
+    {
+        let number = self.accepted.len();
+        self.assertions.reserve(1)?;
+        self.accepted.push(term)?;
+        self.assertions.push_reserved(Accepted { number, term });
+        Ok(())
     }
 }
 
@@ -228,36 +400,6 @@ fn name_of(token: &Token) -> Option<&Text>
     }
 }
 
-/// Declares a constant.
-fn declare(
-    alloc: Global,
-    names: &mut Names,
-    terms: &mut Terms,
-    arguments: &[Tree],
-) -> Result<(), Refusal>
-    ensures accepted { OnOk result ((asserted : List ℕ) (s : State) → IsLive terms.old (record { names = names.old; asserted = asserted }) s → Leaves s (outcome_by s declare_const_name (seen arguments.now)) changed terms.new (record { names = names.new; asserted = asserted })) }
-    ensures refused { IfErr result (λ refusal. IfSome (error_of refusal) (λ n. (asserted : List ℕ) (s : State) → IsLive terms.old (record { names = names.old; asserted = asserted }) s → outcome_by s declare_const_name (seen arguments.now) ≡ refused n)) }
-    ensures unchanged_terms { OnErr result (terms.new ≡ terms.old) }
-    ensures unchanged { OnErr result (names.new ≡ names.old) }
-{
-    let Some((name, sort)) = declared(arguments) else {
-        return Err(Refusal::Syntax);
-    };
-    match declaration_refusal(names, name, sort) {
-        Some(refusal) => Err(refusal),
-        None => {
-            let mark = terms.mark();
-            match add_constant(alloc, names, terms, name) {
-                Ok(()) => Ok(()),
-                Err(Memory) => {
-                    terms.cut(mark);
-                    Err(Refusal::Memory)
-                }
-            }
-        }
-    }
-}
-
 /// The name and the sort of a constant that is declared.
 #[tactic(auto, using(crate::proofs::Ruling::declares_nothing, crate::proofs::Ruling::declares_no_name, crate::proofs::Ruling::declares))]
 fn declared(arguments: &[Tree]) -> Option<(&Text, &Tree)>
@@ -290,85 +432,6 @@ fn declaration_refusal(names: &Names, name: &Text, sort: &Tree) -> Option<Refusa
                 return Some(Refusal::Declared);
             }
             Some(Refusal::Sort)
-        }
-    }
-}
-
-/// Adds a constant of a name that isn't there yet to the table and to the names. After an error the table may have grown.
-fn add_constant(
-    alloc: Global,
-    names: &mut Names,
-    terms: &mut Terms,
-    name: &Text,
-) -> Result<(), Memory>
-    requires fresh { number_named names.old name.now ≡ None }
-    ensures added { OnOk result (HasAdded (bool_constant name.now) terms.old terms.new names.old names.new) }
-    ensures front { take (length terms.old) terms.new ≡ terms.old }
-    ensures unchanged { OnErr result (names.new ≡ names.old) }
-{
-    let constant = Constant {
-        name: Text::from_slice(alloc, name.as_bytes())?,
-        sort: Sort::Bool,
-    };
-    let key = Text::from_slice(alloc, name.as_bytes())?;
-    let id = terms.make(Head::Constant(constant), &[])?;
-    names.insert(key, id)
-}
-
-/// Asserts the term of a tree.
-#[tactic(auto, using(crate::proofs::Ruling::asserts_nothing))]
-fn assert_term(
-    alloc: Global,
-    names: &Names,
-    asserted: &mut Vec<TermId>,
-    terms: &mut Terms,
-    arguments: &[Tree],
-) -> Result<(), Refusal>
-    ensures accepted { OnOk result ((s : State) → IsLive terms.old (record { names = names.now; asserted = asserted.old.items }) s → Leaves s (outcome_by s assert_name (seen arguments.now)) changed terms.new (record { names = names.now; asserted = asserted.new.items })) }
-    ensures refused { IfErr result (λ refusal. IfSome (error_of refusal) (λ n. (s : State) → IsLive terms.old (record { names = names.now; asserted = asserted.old.items }) s → outcome_by s assert_name (seen arguments.now) ≡ refused n)) }
-    ensures unchanged_terms { OnErr result (terms.new ≡ terms.old) }
-    ensures unchanged { OnErr result (asserted.new.items ≡ asserted.old.items) }
-    ensures front { take (length asserted.old.items) asserted.new.items ≡ asserted.old.items }
-{
-    let Some(tree) = only(arguments) else {
-        return Err(Refusal::Syntax);
-    };
-    if has_unknown_symbol(names, tree) {
-        return Err(Refusal::UnknownSymbol);
-    }
-    let mark = terms.mark();
-    match add_assertion(alloc, names, asserted, terms, tree) {
-        Ok(()) => Ok(()),
-        Err(ElaborateError::Sort) => {
-            terms.cut(mark);
-            Err(Refusal::Sort)
-        }
-        Err(ElaborateError::Memory) => {
-            terms.cut(mark);
-            Err(Refusal::Memory)
-        }
-    }
-}
-
-/// Adds the term of a tree to the table and to those asserted. After an error the table may have grown.
-fn add_assertion(
-    alloc: Global,
-    names: &Names,
-    asserted: &mut Vec<TermId>,
-    terms: &mut Terms,
-    tree: &Tree,
-) -> Result<(), ElaborateError>
-    ensures grows { Grows terms.old terms.new }
-    ensures added { OnOk result ((cs : List spec.Constant) → AreNamesOf terms.old names.now cs → HasAsserted cs (view tree.now) terms.new asserted.old.items asserted.new.items) }
-    ensures refused { IsErrOf result ElaborateError.Sort → (cs : List spec.Constant) → AreNamesOf terms.old names.now cs → term_of cs (view tree.now) ≡ None }
-    ensures unchanged { OnErr result (asserted.new.items ≡ asserted.old.items) }
-    ensures front { take (length asserted.old.items) asserted.new.items ≡ asserted.old.items }
-{
-    match elaborate(alloc, names, terms, tree) {
-        Err(error) => Err(error),
-        Ok(id) => {
-            asserted.push(id)?;
-            Ok(())
         }
     }
 }

@@ -1,7 +1,12 @@
-//! The form of commands, and tests of their tokens, on trees of the standard's and of this program's own.
-use crate::{TokenTest, has_token, is_of_form};
+//! The form of commands, and tests of their tokens, on trees of the standard's and of this program's own; and the live state.
+ghost use Rattle.std.specs.Prelude.{IfOk};
+ghost use Rattle.nz_spec.specs.Script.{State};
+ghost use Rattle.nz_sort.specs.Live.{IsLive};
+
+use crate::{Accepted, Live, TokenTest, has_token, is_of_form};
 use nz_base::{Memory, Text};
 use nz_sexpr::{Token, Tree, TreeList};
+use nz_term::Terms;
 use std::alloc::Global;
 use std::mem;
 use std::test::Fail;
@@ -148,5 +153,76 @@ fn tells_numbers(rt: HostRuntime) -> Result<(), Fail> {
             "{command}"
         );
     }
+    Ok(())
+}
+
+/// Carries out a command that is accepted.
+fn carry_out(live: &mut Live, terms: &mut Terms, tree: &Tree) -> Result<(), Fail>
+    requires live { (s : State) × IsLive terms.old live.old s }
+    ensures live { (s : State) × IsLive terms.new live.new s }
+{
+    match live.command(terms, tree) {
+        Ok(_) => Ok(()),
+        Err(refusal) => Err(Fail::from(refusal)),
+    }
+}
+
+/// What accepted commands leave.
+fn after(alloc: Global, commands: &[&str]) -> Result<(Live, Terms), Fail>
+    ensures live { IfOk result (λ left. (s : State) × IsLive left.1 left.0 s) }
+{
+    let mut live = Live::new(alloc);
+    let mut terms = Terms::new(alloc)?;
+    for command in commands {
+        carry_out(&mut live, &mut terms, &list(alloc, command)?)?;
+    }
+    Ok((live, terms))
+}
+
+#[test]
+fn items_of_all_kinds_share_one_order(rt: HostRuntime) -> Result<(), Fail> {
+    let commands = [
+        "declare-const p Bool",
+        "assert p",
+        "declare-const q Bool",
+        "assert ( or p ( not q ) )",
+        "check-sat",
+    ];
+    let (live, _) = after(rt.alloc(), &commands)?;
+    let constants = [
+        Accepted { number: 0, term: 0 },
+        Accepted { number: 2, term: 1 },
+    ];
+    assert_eq!(rt; live.constants(), constants.as_slice());
+    let assertions = [
+        Accepted { number: 1, term: 0 },
+        Accepted { number: 3, term: 3 },
+    ];
+    assert_eq!(rt; live.assertions(), assertions.as_slice());
+    Ok(())
+}
+
+#[test]
+fn nothing_is_sought_or_wished_yet(rt: HostRuntime) -> Result<(), Fail> {
+    let (live, _) = after(rt.alloc(), &["declare-const p Bool", "assert p"])?;
+    assert!(rt; live.goals().is_empty());
+    assert!(rt; live.wishes().is_empty());
+    assert_eq!(rt; live.levels(), 0);
+    Ok(())
+}
+
+#[test]
+fn terms_are_listed_once(rt: HostRuntime) -> Result<(), Fail> {
+    let commands = [
+        "declare-const p Bool",
+        "declare-const q Bool",
+        "assert ( or ( not q ) p )",
+        "assert q",
+        "declare-const r Bool",
+    ];
+    let (live, terms) = after(rt.alloc(), &commands)?;
+    assert_eq!(rt; terms.len(), 5);
+    let listed = live.term_list(rt.alloc(), &terms, &[2, 4])?;
+    assert_eq!(rt; listed.as_slice(), [0, 1, 2, 3, 4].as_slice());
     Ok(())
 }

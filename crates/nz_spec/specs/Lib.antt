@@ -13,6 +13,7 @@ pub mod Run
 pub mod Script
 pub mod Table
 pub mod Term
+pub mod TermList
 pub mod Text
 pub mod Texts
 pub mod Told

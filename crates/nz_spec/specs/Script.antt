@@ -3,8 +3,9 @@
 use Rattle.std.specs.Prelude.{ℕ, ◌&&◌, ◌||◌, ◌+◌, ◌-◌, ◌==◌, suc, not, nat_lt, Bool, true, false, List, [], ◌∷◌, ◌++◌, length, Option, Some, None, option_map, option_and_then, is_some, is_none, codes, bytes_eq, if◌then◌else◌}
 use Rattle.nz_spec.specs.Form.{is_one_of, is_name, is_symbol, is_keyword, is_number_token, is_token, is_one, has_form, CommandName, command_name, assert_name, assert_soft_name, check_sat_name, check_sat_assuming_name, declare_const_name, declare_fun_name, define_fun_name, echo_name, exit_name, get_info_name, get_model_name, get_objectives_name, get_value_name, maximize_name, minimize_name, pop_name, push_name, reset_name, reset_assertions_name, set_info_name, set_logic_name, set_option_name, other_name}
 use Rattle.nz_spec.specs.Bounds.{has_token, have_token, is_zero_token, numeral_value, is_wide_token, is_long_decimal}
+use Rattle.nz_spec.specs.Fraction.{Fraction}
 use Rattle.nz_spec.specs.Tree.{Token, symbol_name, Tree, leaf, node, Trees, no_trees, trees}
-use Rattle.nz_spec.specs.Term.{bool_sort, Constant, Head, constant, verum, falsum, negation, conjunction, disjunction, implication, exclusion, equality, distinction, choice, Term, apply, Terms, no_terms, terms, Value}
+use Rattle.nz_spec.specs.Term.{bool_sort, Constant, Head, constant, verum, falsum, negation, conjunction, disjunction, implication, exclusion, equality, distinction, choice, Term, apply, Terms, no_terms, terms, normal_of, Value}
 
 -- ---- Names
 
@@ -93,9 +94,26 @@ abbrev mutual
 
 -- ---- The live state
 
+-- which value of its term a goal seeks
+pub data Direction : Type 0 where
+  least : Direction
+  greatest : Direction
+
+pub record Goal : Type 0 where
+  pub direction : Direction
+  pub term : Term
+
+-- a term that is to be true; where it is not, that costs its weight in its group
+pub record Wish : Type 0 where
+  pub term : Term
+  pub weight : Fraction
+  pub group : List ℕ
+
 pub data Item : Type 0 where
   declared : Constant → Item
   asserted : Term → Item
+  sought : Goal → Item
+  wished : Wish → Item
 
 -- what a constant stands for in a model that was found
 pub record Binding : Type 0 where
@@ -125,18 +143,80 @@ abbrev pub constants_in : List Item → List Constant
 constants_in [] = []
 constants_in (declared c ∷ items) = c ∷ constants_in items
 constants_in (asserted t ∷ items) = constants_in items
+constants_in (sought g ∷ items) = constants_in items
+constants_in (wished w ∷ items) = constants_in items
 
 abbrev pub assertions_in : List Item → List Term
 assertions_in [] = []
 assertions_in (declared c ∷ items) = assertions_in items
 assertions_in (asserted t ∷ items) = t ∷ assertions_in items
+assertions_in (sought g ∷ items) = assertions_in items
+assertions_in (wished w ∷ items) = assertions_in items
 
--- the live constants in the order of declaration, and the live assertions
+abbrev pub goals_in : List Item → List Goal
+goals_in [] = []
+goals_in (declared c ∷ items) = goals_in items
+goals_in (asserted t ∷ items) = goals_in items
+goals_in (sought g ∷ items) = g ∷ goals_in items
+goals_in (wished w ∷ items) = goals_in items
+
+abbrev pub wishes_in : List Item → List Wish
+wishes_in [] = []
+wishes_in (declared c ∷ items) = wishes_in items
+wishes_in (asserted t ∷ items) = wishes_in items
+wishes_in (sought g ∷ items) = wishes_in items
+wishes_in (wished w ∷ items) = w ∷ wishes_in items
+
+-- the live constants in the order of declaration, and the live assertions, goals and wishes
 abbrev pub constants_of : State → List Constant
 constants_of s = constants_in (items_of s.levels)
 
 abbrev pub assertions_of : State → List Term
 assertions_of s = assertions_in (items_of s.levels)
+
+abbrev pub goals_of : State → List Goal
+goals_of s = goals_in (items_of s.levels)
+
+abbrev pub wishes_of : State → List Wish
+wishes_of s = wishes_in (items_of s.levels)
+
+-- an item's kind
+abbrev pub is_constant : Item → Bool
+is_constant (declared c) = true
+is_constant (asserted t) = false
+is_constant (sought g) = false
+is_constant (wished w) = false
+
+abbrev pub is_assertion : Item → Bool
+is_assertion (declared c) = false
+is_assertion (asserted t) = true
+is_assertion (sought g) = false
+is_assertion (wished w) = false
+
+abbrev pub is_goal : Item → Bool
+is_goal (declared c) = false
+is_goal (asserted t) = false
+is_goal (sought g) = true
+is_goal (wished w) = false
+
+abbrev pub is_wish : Item → Bool
+is_wish (declared c) = false
+is_wish (asserted t) = false
+is_wish (sought g) = false
+is_wish (wished w) = true
+
+-- The numbers of the items of a kind, where the first item has this number. The number of a live item is its place among
+-- the live items of all kinds, the first being 0: no level can be popped yet.
+abbrev pub numbers_of : (Item → Bool) → ℕ → List Item → List ℕ
+numbers_of is_of_kind first [] = []
+numbers_of is_of_kind first (i ∷ items) = if is_of_kind i then first ∷ numbers_of is_of_kind (suc first) items else numbers_of is_of_kind (suc first) items
+
+-- the term of an item: a constant's own, and else the normal one of what is asserted, sought or wished
+abbrev pub item_term : Item → Term
+item_term (declared c) = apply (constant c) no_terms
+item_term (asserted t) = normal_of t
+item_term (sought g) = normal_of g.term
+item_term (wished w) = normal_of w.term
 
 -- the levels with an item more in the newest
 abbrev pub with_item : List (List Item) → Item → List (List Item)
