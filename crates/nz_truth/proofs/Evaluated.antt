@@ -27,7 +27,7 @@ pub before_all : AssignsByNumber → (ns : List Node) → HasDistinctNames ns �
 before_all law ns d ps values room listed = record {
   room = room;
   constants = λ i n c at e. listed i (slice_get_within ns i n at) ∙ ap is_true (assigned law ns d ps i n c at e);
-  terms = λ i k. omega (arith, k.1);
+  terms = λ i k. absurd (omega (arith, k.1));
 }
 
 -- what holds of the value that is written holds of it there, and of the others what held

@@ -1,5 +1,5 @@
 //! The values of terms, where the constants of their table have given values.
-ghost use Rattle.std.specs.Prelude.{◌≡◌, ℕ, ◌<◌, length, map, All, IfOk, slice_index_or, unwrap_or};
+ghost use Rattle.std.specs.Prelude.{◌≡◌, ℕ, ◌<◌, false, length, map, All, IfOk, slice_index_or, unwrap_or};
 ghost use Rattle.nz_spec.specs.Term.{truth, is_true, value_of};
 ghost use Rattle.nz_spec.specs.Table.{term_in, listed_value, assignment_by};
 ghost use Rattle.nz_spec.specs.Decide.{HasDistinctNames};
@@ -47,7 +47,7 @@ pub enum EvalStop {
 }
 
 impl From<Memory> for EvalStop {
-    ghost use Rattle.nz_truth.specs.declared.eval.EvalStop.TheVariants as stops;
+    ghost use Rattle.nz_truth.specs.declared.value.EvalStop.TheVariants as stops;
 
     ghost from_gives = { λ _ r. r ≡ stops.Memory };
 
@@ -57,12 +57,20 @@ impl From<Memory> for EvalStop {
 }
 
 impl From<AllocError> for EvalStop {
-    ghost use Rattle.nz_truth.specs.declared.eval.EvalStop.TheVariants as stops;
+    ghost use Rattle.nz_truth.specs.declared.value.EvalStop.TheVariants as stops;
 
     ghost from_gives = { λ _ r. r ≡ stops.Memory };
 
     fn from(_error: AllocError) -> EvalStop {
         EvalStop::Memory
+    }
+}
+
+fn is_true(value: Value) -> bool
+    ensures truth { result ≡ is_true (own.value_of value) }
+{
+    match value {
+        Value::Truth(truth) => truth,
     }
 }
 
@@ -74,9 +82,9 @@ fn listed_truths(alloc: Global, assign: &Assign, count: usize) -> Result<Vec<boo
     let mut truths = vec![in alloc; false; count]?;
     // The first pair of a number is written last.
     for place in (0..assign.len()).rev() {
-        let (id, Value::Truth(is_true)) = assign.get(place);
+        let (id, value) = assign.get(place);
         if id < count {
-            truths[id] = is_true;
+            truths[id] = is_true(value);
         }
     }
     Ok(truths)

@@ -2,7 +2,7 @@ use Rattle.std.proofs.Common.{◌≡◌, ℕ, ◌<◌, false, length, drop, slic
 use Rattle.std.specs.Prelude.{unwrap_or}
 use Rattle.nz_spec.specs.Term.{truth, is_true}
 use Rattle.nz_spec.specs.Table.{listed_value}
-use Rattle.nz_truth.proofs.eval.listed_truths.Given as goal
+use Rattle.nz_truth.proofs.value.listed_truths.Given as goal
 
 -- the truth that is listed first in the pairs from this one on
 abbrev pub invariant-loop-place : goal.invariant-loop-place
