@@ -1,5 +1,5 @@
 -- The state of the reader, against the text read byte by byte.
-use Rattle.std.specs.Prelude.{◌≡◌, ◌<◌, ◌≤◌, ◌+◌, ◌-◌, ◌^◌, ℕ, List, length, nat_lt, Option, option_map, option_to_list, IfSome}
+use Rattle.std.specs.Prelude.{◌≡◌, ◌<◌, ◌≤◌, ◌+◌, ◌-◌, ◌^◌, ℕ, List, length, Bool, nat_lt, ◌==◌, if◌then◌else◌, Option, option_map, option_to_list, IfSome}
 use Rattle.nz_spec.specs.Text.{Limits, Heard}
 use Rattle.nz_spec.specs.Kept.{AreToldAs}
 use Rattle.nz_spec.specs.Reading.{Reading}
@@ -34,6 +34,10 @@ pub record Matches (limits : Limits) (scan : Scan) (s : Reading) : Type 0 where
 -- While fewer than 2^64 bytes were read, count more among them, the new state is that of the reading after this step.
 abbrev pub Follows : Scan → Scan → ℕ → (Reading → Reading) → Type 0
 Follows old new count step = (limits : Limits) (s : Reading) → Matches limits old s → s.at + count < 2 ^ 64 → Matches limits new (step s)
+
+-- so many lists are open, and a byte outside any part ends no command
+abbrev pub is_within_at : ℕ → ℕ → Bool
+is_within_at depth byte = if byte == 41 then nat_lt 1 depth else nat_lt 0 depth
 
 abbrev pub told : Option code.Heard → List Heard
 told heard = option_to_list (option_map heard_view heard)
