@@ -2,4 +2,4 @@ pub mod Feeding
 pub mod Keeping
 pub mod Runs
 pub mod WordTokens
-pub mod Within
+pub mod Quiet

@@ -85,8 +85,8 @@ impl Reader {
             self.scan.read_run(&rest[..run]);
             return (run, None);
         }
-        if self.scan.is_within(rest[0]) {
-            self.scan.read_within(rest[0]);
+        if self.scan.is_quiet(rest[0]) {
+            self.scan.read_quietly(rest[0]);
             return (1, None);
         }
         let (heard, owed) = self.scan.read_byte(rest[0]);

@@ -8,7 +8,7 @@ ghost use Rattle.nz_spec.specs.Tree as text;
 ghost use Rattle.nz_sexpr.specs.Part.{part_of, text_of_part, text_after, filler_of, ends, begins_here};
 ghost use Rattle.nz_sexpr.specs.Store.{Kept, kept_of, Keeps, TakesToken};
 ghost use Rattle.nz_sexpr.specs.View.{what_view};
-ghost use Rattle.nz_sexpr.specs.Matches.{Matches, Follows, Tells, GoesOnBy, EndsWithin, told, limits_view, is_within_at};
+ghost use Rattle.nz_sexpr.specs.Matches.{Matches, Follows, Tells, GoesOnBy, EndsWithin, told, limits_view, is_quiet_at};
 
 use crate::bytes::{Kind, kind_of};
 use crate::heard::{Heard, Limits, What};
@@ -105,22 +105,23 @@ impl Scan {
         }
     }
 
-    /// Whether this byte, if a run of bytes ends there, is read within a command and isn't its last.
-    pub(crate) fn is_within(&self, byte: u8) -> bool
-        ensures { result ≡ is_within_at self.now.depth byte }
+    /// Whether nothing is heard at this byte, if a run of bytes ends there: no command and no token outside any ends.
+    pub(crate) fn is_quiet(&self, byte: u8) -> bool
+        ensures { result ≡ is_quiet_at self.now.part self.now.depth byte }
     {
         if byte == b')' {
             self.depth > 1
         } else {
-            self.depth > 0
+            self.depth > 0 || self.part.is_no_token()
         }
     }
 
-    /// Reads a byte within a command at which a run of bytes ends. Nothing is heard at it, so that most bytes of a script
-    /// hand no room for things heard from call to call.
-    pub(crate) fn read_within(&mut self, byte: u8)
+    /// Reads a byte at which a run of bytes ends and nothing is heard.
+    ///
+    /// Most bytes of a script are such: they hand no room for things heard from call to call.
+    pub(crate) fn read_quietly(&mut self, byte: u8)
         requires ends { ends self.old.part byte ≡ true }
-        requires within { is_within_at self.old.depth byte ≡ true }
+        requires quiet { is_quiet_at self.old.part self.old.depth byte ≡ true }
         ensures state { Follows self.old self.new 1 (λ s. next byte s) }
         ensures heard { Tells self.old 1 [] (λ limits s. told_at limits byte s) }
         ensures counted { GoesOnBy self.old.at 1 self.new.at }
@@ -139,9 +140,9 @@ impl Scan {
         }
     }
 
-    /// Reads the byte within a command after a token.
+    /// Reads the byte after a token, where no command ends.
     fn pass_after_token(&mut self, byte: u8)
-        requires { is_within_at self.old.depth byte ≡ true }
+        requires goes_on { byte ≡ 41 → 1 < self.old.depth }
         ensures state { (limits : Bounds) (s : Reading) → Matches limits self.old s → s.at + 1 < 2 ^ 64 →
             IfSome (filler_of s.part) (λ f. Matches limits self.new (next_outside (class_of byte) byte (taken f s))) }
         ensures counted { GoesOnBy self.old.at 1 self.new.at }

@@ -3,13 +3,13 @@ use Rattle.nz_spec.specs.Text.{class_of, is_bar}
 use Rattle.nz_spec.specs.Kept.{AreToldAs}
 use Rattle.nz_spec.specs.Reading.{in_string, goes_on, passed, taken, next_in, next_outside}
 use Rattle.nz_sexpr.specs.Bytes.{ends_word}
-use Rattle.nz_sexpr.specs.Part.{filler_of, ends}
-use Rattle.nz_sexpr.specs.Matches.{Matches, is_within_at}
+use Rattle.nz_sexpr.specs.Part.{filler_of, ends, part_of}
+use Rattle.nz_sexpr.specs.Matches.{Matches, is_quiet_at}
 use Rattle.nz_sexpr.proofs.Keeping.{passes}
 use Rattle.nz_sexpr.proofs.Runs.{is_word_part, is_after_quote, is_quoted_part, after_word, second_quote, closing_bar}
-use Rattle.nz_sexpr.proofs.Within.{told_within}
+use Rattle.nz_sexpr.proofs.Quiet.{told_quietly}
 use Rattle.nz_sexpr.specs.declared.scan.Scan.{Scan}
-use Rattle.nz_sexpr.proofs.scan.Scan.read_within.Goals as goal
+use Rattle.nz_sexpr.proofs.scan.Scan.read_quietly.Goals as goal
 
 pub returns-in-Word-clause-state : goal.returns-in-Word-clause-state
 returns-in-Word-clause-state c limits s m few =
@@ -22,8 +22,10 @@ returns-in-Word-clause-state c limits s m few =
 
 pub returns-in-Word-clause-heard : goal.returns-in-Word-clause-heard
 returns-in-Word-clause-heard c limits s m few =
-    let within : is_within_at (length s.levels) c.args.byte ≡ true = subst (λ d. is_within_at d c.args.byte ≡ true) m.depth c.requires.within in
-    subst (AreToldAs []) (sym (told_within limits c.args.byte s within)) tt
+    let byte : ℕ = c.args.byte in
+    let quiet : is_quiet_at (part_of s.part) (length s.levels) byte ≡ true =
+    subst (λ p. is_quiet_at p (length s.levels) byte ≡ true) m.part (subst (λ d. is_quiet_at c.args.self.now.part d byte ≡ true) m.depth c.requires.quiet) in
+    subst (AreToldAs []) (sym (told_quietly limits byte s quiet)) tt
 
 pub returns-in-AfterQuote-clause-state : goal.returns-in-AfterQuote-clause-state
 returns-in-AfterQuote-clause-state c limits s m few =
