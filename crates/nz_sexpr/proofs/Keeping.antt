@@ -59,7 +59,7 @@ length-with_trees ts (l ∷ ls) = refl
 
 -- ---- A token ends in a command
 
-or-false : (b : Bool) → b || false ≡ b
+pub or-false : (b : Bool) → b || false ≡ b
 or-false true = refl
 or-false false = refl
 

@@ -3,7 +3,7 @@ use Rattle.nz_spec.specs.Text.{class_of, comment_byte, quote_byte, bar_byte}
 use Rattle.nz_spec.specs.Reading.{in_comment, in_string, in_quoted, next_outside}
 use Rattle.nz_sexpr.specs.Bytes.{class_view}
 use Rattle.nz_sexpr.specs.Matches.{Matches}
-use Rattle.nz_sexpr.proofs.scan.Scan.read_outside.Goals as goal
+use Rattle.nz_sexpr.proofs.scan.Scan.pass_outside.Goals as goal
 
 pub returns-in-Comment-clause-state : goal.returns-in-Comment-clause-state
 returns-in-Comment-clause-state c limits s m few =

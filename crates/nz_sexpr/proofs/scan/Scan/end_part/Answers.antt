@@ -8,7 +8,7 @@ use Rattle.nz_sexpr.specs.declared.scan.Scan.{Scan}
 use Rattle.nz_sexpr.specs.declared.part.Part.TheVariants as part
 use Rattle.nz_sexpr.specs.declared.store.Store.{Store}
 use Rattle.nz_sexpr.specs.declared.words.TokenKind.{TokenKind}
-use Rattle.nz_sexpr.proofs.scan.Scan.end_token.Goals as goal
+use Rattle.nz_sexpr.proofs.scan.Scan.end_part.Goals as goal
 
 pub returns-clause-state : goal.returns-clause-state
 returns-clause-state c limits s m =
