@@ -7,7 +7,7 @@ ghost use Rattle.nz_spec.specs.Table.{Node, term_in};
 ghost use Rattle.nz_spec.specs.TermList.{IsTermList};
 ghost use Rattle.nz_spec.specs.Form.{assert_name, declare_const_name, is_name as may_be_name};
 ghost use Rattle.nz_spec.specs.Term as spec;
-ghost use Rattle.nz_spec.specs.Script.{State, accepted, refused, outcome_of, outcome_named, outcome_by, passes_limit as beyond_limit, pushed_levels, declaration_of, declare_const, term_of};
+ghost use Rattle.nz_spec.specs.Script.{State, accepted, refused, outcome_of, outcome_named, outcome_by, passes_limit as beyond_limit, pushed_levels, start, declaration_of, declare_const, term_of};
 ghost use Rattle.nz_sort.specs.Form.{seen, command_meaning};
 ghost use Rattle.nz_sort.specs.Names.{number_named, AreNamesOf};
 ghost use Rattle.nz_sort.specs.Elaborate.{Grows};
@@ -18,7 +18,7 @@ ghost use Rattle.nz_sort.specs.Commands.{IsNamed, declaration_by, bool_constant,
 
 use crate::elaboration::{ElaborateError, elaborate};
 use crate::form::command::{CommandName, command_name, has_form};
-use crate::form::{headed, is_name, is_symbol, only, pair, symbol_name, symbol_of};
+use crate::form::{headed, is_name, is_symbol, only, pair, symbol_of};
 use crate::items::{Accepted, Goal, Wish};
 use crate::limits::passes_limit;
 use crate::names::Names;
@@ -76,6 +76,7 @@ impl Live {
     /// The live state of the start: no item and no level. Takes no memory.
     pub fn new(alloc: Global) -> Live
         ensures start { result ≡ standing_of [] [] [] [] [] [] }
+        ensures live { IsLive [] result start }
     {
         Live {
             alloc,
@@ -394,7 +395,7 @@ fn name_of(token: &Token) -> Option<&Text>
     ensures none { IfNone result (may_be_name (token_view token.now) ≡ false) }
 {
     if is_name(token) {
-        symbol_name(token)
+        token.as_symbol()
     } else {
         None
     }

@@ -5,7 +5,7 @@ ghost use Rattle.nz_spec.specs.Bounds.{has_token, have_token};
 ghost use Rattle.nz_sort.specs.Form.{seen};
 ghost use Rattle.nz_sort.specs.Commands.{is_listed, is_unlisted};
 
-use crate::form::{is_one_of, symbol_name};
+use crate::form::is_one_of;
 use crate::names::Names;
 use nz_base::Text;
 use nz_sexpr::{Token, Tree};
@@ -72,7 +72,7 @@ fn have_unknown_symbol(names: &Names, list: &[Tree]) -> bool
 fn is_unknown_symbol(names: &Names, token: &Token) -> bool
     ensures unknown { result ≡ is_unlisted names.now (token_view token.now) }
 {
-    match symbol_name(token) {
+    match token.as_symbol() {
         Some(name) => !is_declared(names, name),
         None => false,
     }

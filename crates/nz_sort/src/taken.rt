@@ -7,7 +7,7 @@ ghost use Rattle.nz_sort.specs.Form.{seen, command_meaning};
 ghost use Rattle.nz_sort.specs.Commands as commands;
 
 use crate::form::command::CommandName;
-use crate::form::{is_number, is_one_of, is_symbol, keyword_name, only, pair, symbol_name};
+use crate::form::{is_number, is_one_of, is_symbol, keyword_name, only, pair};
 use crate::tokens::{TokenTest, have_token};
 use nz_sexpr::{Token, Tree};
 
@@ -105,7 +105,7 @@ pub(crate) fn is_of_number_term(token: &Token) -> bool
 fn is_number_symbol(token: &Token) -> bool
     ensures symbol { result ≡ commands.is_number_symbol (token_view token.now) }
 {
-    match symbol_name(token) {
+    match token.as_symbol() {
         Some(name) => {
             is_one_of(&NUMBER_OPERATORS, name.as_bytes()) || name.as_bytes() == b"let".as_slice()
         }

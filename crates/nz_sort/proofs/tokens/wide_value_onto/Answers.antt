@@ -1,6 +1,6 @@
 use Rattle.std.proofs.Common.{arith, lit<}
 use Rattle.nz_sort.proofs.Digits.{wide_next, wide_then}
-use Rattle.nz_sort.proofs.tokens.value_onto.Goals as goal
+use Rattle.nz_sort.proofs.tokens.wide_value_onto.Goals as goal
 
 pub returns-then-value-clause-wide : goal.returns-then-value-clause-wide
 returns-then-value-clause-wide c =

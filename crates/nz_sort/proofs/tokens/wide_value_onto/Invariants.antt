@@ -1,6 +1,6 @@
 use Rattle.std.proofs.Common.{◌≡◌, ◌≤◌, drop}
 use Rattle.nz_spec.specs.Bounds.{value_onto, greatest_number}
-use Rattle.nz_sort.proofs.tokens.value_onto.Given as goal
+use Rattle.nz_sort.proofs.tokens.wide_value_onto.Given as goal
 
 abbrev pub invariant-loop-byte : goal.invariant-loop-byte
 invariant-loop-byte l = record {
