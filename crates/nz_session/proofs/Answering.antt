@@ -1,5 +1,5 @@
 -- What the desk holds after a command, and that its answer is right.
-use Rattle.std.proofs.Common.{◌≡◌, ◌⊎◌, inl, inr, ℕ, ◌≤◌, Bool, true, false, IsTrue, List, [], ◌∷◌, length, map, take, Option, Some, None, Result, IfOk, IfSome, IfNone, option_map, refl, sym, ap, ◌∙◌, subst, arith, length-take, append-nil}
+use Rattle.std.proofs.Common.{◌≡◌, inl, inr, ℕ, ◌≤◌, false, IsTrue, List, [], ◌∷◌, length, map, take, Option, Some, None, Result, IfOk, IfSome, IfNone, option_map, refl, sym, ap, ◌∙◌, subst, arith, length-take, append-nil}
 use Rattle.std.proofs.lemmas.List.{take-take}
 use Rattle.std.specs.List.{AllByRecursion}
 use Rattle.nz_spec.specs.Tree.{Tree}
@@ -7,7 +7,7 @@ use Rattle.nz_spec.specs.Text.{whole}
 use Rattle.nz_spec.specs.Term.{Constant, Term, normal_of, is_true, Assignment, IsOfSort, IsTrueUnder}
 use Rattle.nz_spec.specs.Table.{Node, term_in}
 use Rattle.nz_spec.specs.Decide.{constants_in_table, asserted_terms, Satisfies, AreModelOf, IsUnsatisfiable}
-use Rattle.nz_spec.specs.Script.{State, Binding, Reason, assertions_of, Command, declare_const, assert_term, check_sat, get_model, get_reason, exit, Outcome, accepted, refused, not_taken, outcome_of}
+use Rattle.nz_spec.specs.Script.{State, Binding, Reason, assertions_of, Command, declare_const, assert_term, check_sat, get_model, get_reason, exit, accepted, refused, not_taken, outcome_of}
 use Rattle.nz_spec.specs.Reply.{Reply, quiet, sat, unsat, unknown, model, reason, unsupported, error, Cause, plain, IsModel, AreModel, IsRightCheck, IsRightCommand, IsRightOutcome, IsRight, model_after, reason_after, effect, effect_of, after, assignment_of}
 use Rattle.nz_spec.proofs.Normal.{normal_keeps_value}
 use Rattle.nz_sort.specs.Live.{Standing, IsLive, Ask, changed, check, show_model, show_reason, ask_of, IsAccepted}
@@ -83,11 +83,11 @@ no_model ns l s h u a m = u a (live_model ns l s a h m)
 -- what stands is of the levels alone
 live_with : (ns : List Node) (l : Standing) (s : State) (m : Option (List Binding)) (r : Option Reason) → IsLive ns l s
     → IsLive ns l (record { levels = s.levels; model = m; reason = r })
-live_with ns l s m r h = record { named = h.named; constants = h.constants; distinct = h.distinct; within = h.within; terms = h.terms; unpushed = h.unpushed }
+live_with ns l s m r h = record { named = h.named; constants = h.constants; distinct = h.distinct; within = h.within; terms = h.terms; items = h.items; unpushed = h.unpushed }
 
 live_without : (ns : List Node) (l : Standing) (s : State) (m : Option (List Binding)) (r : Option Reason)
     → IsLive ns l (record { levels = s.levels; model = m; reason = r }) → IsLive ns l s
-live_without ns l s m r h = record { named = h.named; constants = h.constants; distinct = h.distinct; within = h.within; terms = h.terms; unpushed = h.unpushed }
+live_without ns l s m r h = record { named = h.named; constants = h.constants; distinct = h.distinct; within = h.within; terms = h.terms; items = h.items; unpushed = h.unpushed }
 
 asks_check : (c : Command) → check ≡ ask_of c → c ≡ check_sat
 asks_check (declare_const k) e = cc

@@ -1,7 +1,7 @@
 -- What a search has noted after one line more, and after a stop.
 use Rattle.std.proofs.Common.{◌≡◌, ℕ, ◌+◌, ◌^◌, ◌≤◌, ◌<◌, suc, Bool, true, false, List, [], ◌∷◌, ◌++◌, length, length-append, map, refl, ap, sym, ◌∙◌, subst, replicate, arith, cond}
 use Rattle.std.proofs.lemmas.Nat.{pow_pos}
-use Rattle.std.proofs.lemmas.List.{length-replicate, map-append}
+use Rattle.std.proofs.lemmas.List.{map-append}
 use Rattle.std.proofs.lemmas.List.Sums.{sum_by-append}
 use Rattle.nz_spec.specs.Work.{DecisionEntry, LearnedEntry, WorkLine, UnitLine, NoteLine, WorkList, unit_count, is_unit, IsSpent, with_line}
 use Rattle.nz_spec.specs.Reply.{Note, atom_note}
@@ -13,7 +13,7 @@ use Rattle.nz_session.specs.declared.decide.Stop.TheVariants.{Spent, Memory}
 use Rattle.nz_session.specs.Verdicts.{OnSpent}
 use Rattle.nz_session.specs.Search.{IsTurnedAt, learned_clause}
 use Rattle.nz_session.specs.SearchNotes.{Turns, atom_count, HasSearched, IsCutShort, with_decision, with_clause}
-use Rattle.nz_session.proofs.SearchUnits.{units_up_to-append, units_up_to-le, units_up_to-last_false, units_up_to-turned}
+use Rattle.nz_session.proofs.SearchUnits.{turned_length, units_up_to-append, units_up_to-le, units_up_to-last_false, units_up_to-turned}
 
 unit_count-append : {T : Type 0} (xs ys : List (WorkLine T)) → unit_count (xs ++ ys) ≡ unit_count xs + unit_count ys
 unit_count-append xs ys = sum_by-append (λ x. cond (is_unit x) 1 0) xs ys
@@ -105,13 +105,6 @@ IsCutShort-clause count m kept work e h s = record {
 
 -- ---- After a stop, which left the list as it was
 
-full_length : (count : ℕ) (kept stack : List Bool) → length stack ≡ count → (t : IsTurnedAt kept stack) → count ≡ length kept + suc t.0
-full_length count kept stack l t =
-    let whole = ap length t.1 in
-    let parts = length-append kept (false ∷ replicate t.0 true) in
-    let trues = length-replicate t.0 true in
-    omega arith
-
 -- at a decision
 pub stops_at_decision : (count : ℕ) (stack : List Bool) (work new : WorkList Note) (stop : Stop) → HasSearched count stack work → new ≡ work → OnSpent stop (IsSpent work)
     → OnSpent stop (IsCutShort count new)
@@ -124,14 +117,14 @@ pub stops_after_clause : (count : ℕ) (kept stack : List Bool) (work noted new 
 stops_after_clause count kept stack work noted new Memory l t h n e s = tt
 stops_after_clause count kept stack work noted new Spent l t h n e s =
     subst (IsCutShort count) (sym (e ∙ n))
-    (IsCutShort-clause count t.0 kept work (full_length count kept stack l t) (subst (λ s. HasSearched count s work) t.1 h) (subst IsSpent n s))
+    (IsCutShort-clause count t.0 kept work (turned_length count kept stack l t) (subst (λ s. HasSearched count s work) t.1 h) (subst IsSpent n s))
 
 -- the search goes on where a decision was turned
 pub HasSearched-Turns : (count : ℕ) (old new : List Bool) (before after : WorkList Note) → length old ≡ count → Turns old new before after → HasSearched count old before
     → HasSearched count new after
 HasSearched-Turns count old new before after l t h =
     subst (λ s. HasSearched count s after) (sym t.stack) (subst (HasSearched count (t.kept ++ true ∷ [])) (sym t.notes)
-    (HasSearched-turned count t.place.0 t.kept before (full_length count t.kept old l t.place) (subst (λ s. HasSearched count s before) t.place.1 h)))
+    (HasSearched-turned count t.place.0 t.kept before (turned_length count t.kept old l t.place) (subst (λ s. HasSearched count s before) t.place.1 h)))
 
 pub turned_stack : (kept old new : List Bool) (before noted after : WorkList Note) → IsTurnedAt kept old → new ≡ kept ++ true ∷ [] → noted ≡ with_clause before kept
     → after ≡ with_decision noted (length kept) true → Turns old new before after

@@ -1,8 +1,17 @@
 -- How many units a search through all lists of truth values takes: one for each decision, and one for each clause learned.
-use Rattle.std.proofs.Common.{◌≡◌, ℕ, ◌+◌, ◌-◌, ◌*◌, ◌^◌, ◌≤◌, ◌<◌, suc, zero, Bool, true, false, List, [], ◌∷◌, ◌++◌, length, refl, ap, sym, ◌∙◌, subst, replicate, arith}
+use Rattle.std.proofs.Common.{◌≡◌, ℕ, ◌+◌, ◌-◌, ◌*◌, ◌^◌, ◌≤◌, ◌<◌, suc, zero, Bool, true, false, List, [], ◌∷◌, ◌++◌, length, length-append, refl, ap, sym, ◌∙◌, subst, replicate, arith}
+use Rattle.std.proofs.lemmas.List.{length-replicate}
 use Rattle.std.proofs.lemmas.Nat.{pow_pos}
 use Rattle.std.proofs.Math.Nat.{pow-suc}
-use Rattle.nz_session.specs.Search.{whole_search, units_of, units_up_to}
+use Rattle.nz_session.specs.Search.{IsTurnedAt, whole_search, units_of, units_up_to}
+
+-- a stack is as long as what was kept below its last `false`, that one and those above it
+pub turned_length : (count : ℕ) (kept stack : List Bool) → length stack ≡ count → (t : IsTurnedAt kept stack) → count ≡ length kept + suc t.0
+turned_length count kept stack l t =
+    let whole = ap length t.1 in
+    let parts = length-append kept (false ∷ replicate t.0 true) in
+    let trues = length-replicate t.0 true in
+    omega arith
 
 pub whole_search-suc : (m : ℕ) → whole_search (suc m) ≡ 3 + 2 * whole_search m
 whole_search-suc m = let positive : 0 < 2 ^ m = pow_pos m in let e = pow-suc 2 m in omega arith

@@ -11,7 +11,7 @@ use Rattle.nz_spec.specs.Decide.{asserted_numbers}
 use Rattle.nz_session.specs.Search.{Precedes, IsTurnedAt, whole_search, units_up_to}
 use Rattle.nz_truth.specs.Truths.{AreTruths, GivesTruths, MakesTrue}
 use Rattle.nz_session.proofs.SearchOrder.{all_true_last, Precedes-turned, Precedes-push_falses}
-use Rattle.nz_session.proofs.SearchUnits.{units_up_to-append, units_up_to-le, units_up_to-last_false, units_up_to-turned}
+use Rattle.nz_session.proofs.SearchUnits.{turned_length, units_up_to-append, units_up_to-le, units_up_to-last_false, units_up_to-turned}
 
 -- ---- The terms of these numbers
 
@@ -34,18 +34,11 @@ true_values ns a values (i ∷ is) h known t =
 
 -- ---- Turns
 
-full_length : (count : ℕ) (kept full : List Bool) → length full ≡ count → (t : IsTurnedAt kept full) → count ≡ length kept + suc t.0
-full_length count kept full l t =
-    let whole = ap length t.1 in
-    let parts = length-append kept (false ∷ replicate t.0 true) in
-    let trues = length-replicate t.0 true in
-    omega arith
-
 -- a turn leaves it so that each list before the stack has failed
 pub failed_before : (P : List Bool → Type 0) (count n : ℕ) (stack full kept new : List Bool) → full ≡ stack ++ replicate n false → length full ≡ count → IsTurnedAt kept full
     → new ≡ kept ++ true ∷ [] → ((v : List Bool) → length v ≡ count → Precedes v stack → P v) → P full → (v : List Bool) → length v ≡ count → Precedes v new → P v
 failed_before P count n stack full kept new e l t f before here v lv h =
-    let size : length v ≡ length kept + suc t.0 = lv ∙ full_length count kept full l t in
+    let size : length v ≡ length kept + suc t.0 = lv ∙ turned_length count kept full l t in
     let turned : Precedes v (kept ++ true ∷ []) = subst (Precedes v) f h in
     elim (Precedes-turned kept t.0 v size turned) [
       | inl below ↦ before v lv (Precedes-push_falses n v stack (subst (Precedes v) (sym t.1 ∙ e) below))
@@ -66,7 +59,7 @@ failed_all P count n stack full e l t before here v lv =
 pub turn_is_nearer : (count n : ℕ) (stack full kept new : List Bool) → full ≡ stack ++ replicate n false → length full ≡ count → IsTurnedAt kept full → new ≡ kept ++ true ∷ []
     → whole_search count - units_up_to count new < whole_search count - units_up_to count stack
 turn_is_nearer count n stack full kept new e l t f =
-    let size : count ≡ length kept + suc t.0 = full_length count kept full l t in
+    let size : count ≡ length kept + suc t.0 = turned_length count kept full l t in
     let at : units_up_to count full ≡ units_up_to count kept + (1 + whole_search t.0) = ap (units_up_to count) t.1 ∙ units_up_to-last_false count t.0 kept size in
     let after : units_up_to count new ≡ units_up_to count kept + (3 + whole_search t.0) = ap (units_up_to count) f ∙ units_up_to-turned count t.0 kept size in
     let from : units_up_to count full ≡ units_up_to count stack + units_up_to (count - length stack) (replicate n false) = ap (units_up_to count) e ∙ units_up_to-append count stack (replicate n false) in

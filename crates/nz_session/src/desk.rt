@@ -8,6 +8,7 @@ ghost use Rattle.nz_spec.specs.Table.{term_in};
 ghost use Rattle.nz_spec.specs.Work.{IsSpent};
 ghost use Rattle.nz_reply.specs.Notes.{noted_list};
 ghost use Rattle.nz_sort.specs.Acts.{error_of};
+ghost use Rattle.nz_sort.specs.Items.{table_numbers};
 ghost use Rattle.nz_session.specs.Told.{IsTold};
 ghost use Rattle.nz_session.specs.Verdicts.{IfSat, OnUnsat, OnSpent};
 ghost use Rattle.nz_term.specs.Values.{value_of};
@@ -19,7 +20,7 @@ use nz_reply::{
     NUMBER_TOO_WIDE, Note, OUT_OF_MEMORY, Reason, Reply, SORT, SYNTAX, SpentList, UNKNOWN_SYMBOL,
 };
 use nz_sexpr::{Tree, What};
-use nz_sort::{Act, Live, Refusal};
+use nz_sort::{Accepted, Act, Live, Refusal};
 use nz_term::{Assign, Head, TermId, Terms, Value};
 use std::alloc::Global;
 
@@ -116,7 +117,7 @@ impl<E: Decide> Desk<E> {
         let decided = decide(
             &mut self.engine,
             &mut self.told,
-            self.live.asserted(),
+            self.live.assertions(),
             &self.terms,
             &mut self.work,
             self.limit,
@@ -236,11 +237,11 @@ fn error_number(refusal: Refusal) -> u8
 fn tell<E: Decide>(
     engine: &mut E,
     told: &mut Option<usize>,
-    asserted: &[TermId],
+    assertions: &[Accepted],
 ) -> Result<(), Memory>
-    requires told { IsTold (E.levels engine.old) told.old asserted.now }
-    ensures told { IsTold (E.levels engine.new) told.new asserted.now }
-    ensures all { OnOk result (E.levels engine.new ≡ asserted.now ∷ []) }
+    requires told { IsTold (E.levels engine.old) told.old (table_numbers assertions.now) }
+    ensures told { IsTold (E.levels engine.new) told.new (table_numbers assertions.now) }
+    ensures all { OnOk result (E.levels engine.new ≡ table_numbers assertions.now ∷ []) }
 {
     let mut count = match *told {
         Some(count) => count,
@@ -250,34 +251,34 @@ fn tell<E: Decide>(
             0
         }
     };
-    while count < asserted.len() {
-        engine.add(asserted[count])?;
+    while count < assertions.len() {
+        engine.add(assertions[count].term)?;
         count += 1;
         *told = Some(count);
     }
     Ok(())
 }
 
-/// Decides whether the asserted terms have a model, with a fresh work list of so many units.
+/// Decides whether the assertions have a model, with a fresh work list of so many units.
 fn decide<E: Decide>(
     engine: &mut E,
     told: &mut Option<usize>,
-    asserted: &[TermId],
+    assertions: &[Accepted],
     terms: &Terms,
     work: &mut Work<Note>,
     limit: u64,
 ) -> Result<Verdict, Stop>
-    requires told { IsTold (E.levels engine.old) told.old asserted.now }
-    requires within { All (λ i. i < length terms.now) asserted.now }
+    requires told { IsTold (E.levels engine.old) told.old (table_numbers assertions.now) }
+    requires within { All (λ i. i < length terms.now) (table_numbers assertions.now) }
     requires names { HasDistinctNames terms.now }
-    ensures told { IsTold (E.levels engine.new) told.new asserted.now }
-    ensures sat { IfOk result (λ v. IfSat v (λ ps. AreModelOf (constants_in_table terms.now) (map (term_in terms.now) asserted.now) (bindings_by terms.now ps))) }
-    ensures unsat { IfOk result (λ v. OnUnsat v (IsUnsatisfiable (constants_in_table terms.now) (map (term_in terms.now) asserted.now))) }
+    ensures told { IsTold (E.levels engine.new) told.new (table_numbers assertions.now) }
+    ensures sat { IfOk result (λ v. IfSat v (λ ps. AreModelOf (constants_in_table terms.now) (map (term_in terms.now) (table_numbers assertions.now)) (bindings_by terms.now ps))) }
+    ensures unsat { IfOk result (λ v. OnUnsat v (IsUnsatisfiable (constants_in_table terms.now) (map (term_in terms.now) (table_numbers assertions.now)))) }
     ensures spent { IfErr result (λ s. OnSpent s (IsSpent (noted_list work.new))) }
     ensures short { IfErr result (λ s. OnSpent s (limit < 3 * 2 ^ length (constants_in_table terms.now))) }
     ensures limit { IfErr result (λ s. OnSpent s (work.new.limit ≡ limit)) }
 {
-    tell(engine, told, asserted)?;
+    tell(engine, told, assertions)?;
     work.reserve(limit)?;
     engine.check(terms, work)
 }

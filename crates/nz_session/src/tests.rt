@@ -153,15 +153,43 @@ fn a_model_outlives_a_check_without_memory(rt: HostRuntime) -> Result<(), Fail> 
 }
 
 #[test]
-fn a_reason_is_shown_until_an_assertion(rt: HostRuntime) -> Result<(), Fail> {
+fn a_reason_is_shown_until_an_assertion_is_accepted(rt: HostRuntime) -> Result<(), Fail> {
     let mut sink = PlainSink::new(rt.alloc(), ROOM)?;
     let script = b"(declare-const a Bool)(declare-const b Bool)(declare-const c Bool)
         (declare-const d Bool)(declare-const e Bool)(declare-const f Bool)(assert (and a false))
-        (check-sat)(get-info :reason-unknown)(assert b)(get-info :reason-unknown)";
+        (check-sat)(get-info :reason-unknown)(assert x)(get-info :reason-unknown)
+        (assert b)(get-info :reason-unknown)";
     let ended = run_script(rt.alloc(), Trial::new(rt.alloc()), script, &mut sink)?;
     assert_eq!(rt; ended.ended, Fed::Going);
-    let wanted =
-        b"unknown\n(:reason-unknown (spent 100))\n(error \"7 no answer to show\")\n";
+    let wanted = b"unknown\n(:reason-unknown (spent 100))\n(error \"2 unknown symbol\")\n\
+        (:reason-unknown (spent 100))\n(error \"7 no answer to show\")\n";
+    assert_eq!(rt; sink.bytes(), wanted.as_slice());
+    Ok(())
+}
+
+#[test]
+fn only_what_was_answered_last_is_shown(rt: HostRuntime) -> Result<(), Fail> {
+    let mut sink = PlainSink::new(rt.alloc(), ROOM)?;
+    let script = b"(get-model)(get-info :reason-unknown)(check-sat)(get-info :reason-unknown)
+        (assert false)(check-sat)(get-model)";
+    let ended = run_script(rt.alloc(), Trial::new(rt.alloc()), script, &mut sink)?;
+    assert_eq!(rt; ended.ended, Fed::Going);
+    let wanted = b"(error \"7 no answer to show\")\n(error \"7 no answer to show\")\nsat\n\
+        (error \"7 no answer to show\")\nunsat\n(error \"7 no answer to show\")\n";
+    assert_eq!(rt; sink.bytes(), wanted.as_slice());
+    Ok(())
+}
+
+#[test]
+fn a_refusal_is_told_by_its_number(rt: HostRuntime) -> Result<(), Fail> {
+    let mut sink = PlainSink::new(rt.alloc(), ROOM)?;
+    let script = b"(declare-const p Bool)(assert q)(assert (not p p))
+        (set-info :size 170141183460469231731687303715884105728)(get-model)(declare-const p Bool)";
+    let ended = run_script(rt.alloc(), Trial::new(rt.alloc()), script, &mut sink)?;
+    assert_eq!(rt; ended.ended, Fed::Going);
+    let wanted = b"(error \"2 unknown symbol\")\n(error \"3 sort\")\n\
+        (error \"5 number too wide\")\n(error \"7 no answer to show\")\n\
+        (error \"9 already declared\")\n";
     assert_eq!(rt; sink.bytes(), wanted.as_slice());
     Ok(())
 }

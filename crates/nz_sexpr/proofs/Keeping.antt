@@ -1,10 +1,9 @@
 -- What is kept of an open command, and the reading whose token ends.
 use Rattle.std.proofs.Common.{◌≡◌, ℕ, ◌+◌, ◌-◌, ◌<◌, ◌^◌, ◌||◌, ◌&&◌, Bool, true, false, not, List, [], ◌∷◌, ◌++◌, length, Option, Some, None, IfSome, is_none, min, refl, sym, ◌∙◌, ap, ap₂, subst, arith}
-use Rattle.std.specs.Prelude.{option_map}
 use Rattle.nz_spec.specs.Tree.{Token, Tree, leaf}
 use Rattle.std.specs.List.{list_all}
 use Rattle.std.proofs.lemmas.List.Folds.{list_all-append}
-use Rattle.nz_spec.specs.Text.{Limits, HasNone, is_literal_byte, Filler, word, string, quoted, token_of, is_blank, is_bad_filler}
+use Rattle.nz_spec.specs.Text.{Limits, HasNone, is_literal_byte, Filler, word, string, quoted, token_of, is_blank}
 use Rattle.nz_spec.specs.Reading.{Part, no_part, in_comment, in_word, in_string, after_quote, in_quoted, Reading, with_trees, with_closed, goes_on, closed, taken, taken_by, read_on}
 use Rattle.nz_sexpr.specs.Words.{token_by}
 use Rattle.nz_sexpr.specs.Part.{part_of, text_of_part, text_after, filler_of, kind_of_part, ends, part_after, begins_here}
@@ -60,7 +59,7 @@ length-with_trees ts (l ∷ ls) = refl
 
 -- ---- A token ends in a command
 
-or-false : (b : Bool) → b || false ≡ b
+pub or-false : (b : Bool) → b || false ≡ b
 or-false true = refl
 or-false false = refl
 

@@ -2,3 +2,4 @@ pub mod Feeding
 pub mod Keeping
 pub mod Runs
 pub mod WordTokens
+pub mod Quiet

@@ -1,13 +1,12 @@
 -- Runs of bytes that go on with what is being read.
-use Rattle.std.proofs.Common.{◌≡◌, ℕ, ◌+◌, ◌<◌, ◌&&◌, ◌==◌, suc, zero, Bool, true, false, if◌then◌else◌, not, List, [], ◌∷◌, ◌++◌, length, get_or, take, drop, refl, sym, ◌∙◌, ap, subst, arith, append_assoc, append-nil, add-zero, Option, Some, None, IfSome, ne_eqb}
-use Rattle.std.specs.List.{list_all}
+use Rattle.std.proofs.Common.{◌≡◌, ℕ, ◌+◌, ◌<◌, suc, zero, Bool, true, false, if◌then◌else◌, List, [], ◌∷◌, ◌++◌, length, get_or, take, refl, sym, ◌∙◌, ap, arith, append_assoc, append-nil, add-zero, ne_eqb}
 use Rattle.std.proofs.lemmas.List.Folds.{list_all-append}
 use Rattle.nz_spec.specs.Tree.{Tree}
-use Rattle.nz_spec.specs.Text.{Limits, Heard, ByteClass, blank_byte, left_byte, right_byte, comment_byte, quote_byte, bar_byte, word_byte, class_of, HasNone, is_line_end, is_quote, is_bar, is_literal_byte, is_quoted_byte, Filler, word, string, quoted}
-use Rattle.nz_spec.specs.Reading.{Part, no_part, in_comment, in_word, in_string, after_quote, in_quoted, Reading, begins_at, begun, goes_on, passed, taken, told_token, next_in, told_in, next_in_word, told_in_word, next_outside, told_outside, told_closed, next, told_at, read_on, told_on}
+use Rattle.nz_spec.specs.Text.{Limits, ByteClass, blank_byte, left_byte, right_byte, comment_byte, quote_byte, bar_byte, word_byte, class_of, HasNone, is_line_end, is_quote, is_bar, is_literal_byte, is_quoted_byte, word, string, quoted}
+use Rattle.nz_spec.specs.Reading.{Part, no_part, in_comment, in_word, in_string, after_quote, in_quoted, Reading, begins_at, begun, goes_on, passed, taken, told_token, next_in, told_in, next_in_word, told_in_word, next_outside, told_outside, next, told_at, read_on, told_on}
 use Rattle.nz_sexpr.specs.Bytes.{is_no_word, ends_word}
-use Rattle.nz_sexpr.specs.Words.{kind_of_word, kind_after, kinds_after}
-use Rattle.nz_sexpr.specs.Part.{part_of, text_of_part, filler_of, ends, part_after, begins_here, text_after}
+use Rattle.nz_sexpr.specs.Words.{kind_after, kinds_after}
+use Rattle.nz_sexpr.specs.Part.{part_of, text_of_part, ends, part_after, begins_here, text_after}
 use Rattle.nz_sexpr.specs.declared.words.WordKind.{WordKind}
 use Rattle.nz_sexpr.specs.declared.words.WordKind.TheVariants as kind
 use Rattle.nz_sexpr.specs.declared.part.Part.TheVariants as part

@@ -1,12 +1,12 @@
 -- Words by their kind: what the machine of kinds says of a word is the token that the word is.
-use Rattle.std.proofs.Common.{◌≡◌, ℕ, ◌==◌, ◌&&◌, ◌||◌, not, Bool, true, false, if◌then◌else◌, List, [], ◌∷◌, ◌++◌, refl, sym, ◌∙◌, ap, ap₂, subst, Option, Some, None, is_none, eqb-true, ne_eqb}
+use Rattle.std.proofs.Common.{◌≡◌, ℕ, ◌==◌, ◌&&◌, not, Bool, true, false, if◌then◌else◌, List, [], ◌∷◌, refl, sym, ◌∙◌, ap, ap₂, subst, Option, Some, None, eqb-true, ne_eqb}
 use Rattle.std.specs.Prelude.{option_map}
 use Rattle.std.specs.List.{list_all}
 use Rattle.nz_spec.specs.Tree.{Token, symbol, keyword, numeral, decimal, hexadecimal, binary, literal, is_digit, is_symbol_byte, is_hexadecimal_digit, is_simple_symbol, is_numeral, is_decimal, is_keyword, is_hexadecimal, is_binary, are_digits, before_point, after_point, word_token}
-use Rattle.nz_spec.specs.Text.{Filler, word, string, quoted, token_of, is_literal_byte, is_quoted_byte}
-use Rattle.nz_spec.specs.Reading.{Part, no_part, in_comment, in_word, in_string, after_quote, in_quoted}
+use Rattle.nz_spec.specs.Text.{string, quoted, token_of, is_literal_byte, is_quoted_byte}
+use Rattle.nz_spec.specs.Reading.{after_quote, in_quoted}
 use Rattle.nz_sexpr.specs.Words.{kind_of_word, kind_after, kinds_after, token_kind, token_by, is_binary_digit}
-use Rattle.nz_sexpr.specs.Part.{part_of, text_of_part, filler_of, kind_where, kind_of_part}
+use Rattle.nz_sexpr.specs.Part.{part_of, kind_where, kind_of_part}
 use Rattle.nz_sexpr.specs.declared.words.WordKind.{WordKind}
 use Rattle.nz_sexpr.specs.declared.words.WordKind.TheVariants as kind
 use Rattle.nz_sexpr.specs.declared.words.TokenKind.{TokenKind}

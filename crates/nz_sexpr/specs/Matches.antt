@@ -1,11 +1,12 @@
 -- The state of the reader, against the text read byte by byte.
-use Rattle.std.specs.Prelude.{◌≡◌, ◌<◌, ◌≤◌, ◌+◌, ◌-◌, ◌^◌, ℕ, List, length, nat_lt, Option, option_map, option_to_list, IfSome}
+use Rattle.std.specs.Prelude.{◌≡◌, ◌<◌, ◌≤◌, ◌+◌, ◌-◌, ◌^◌, ℕ, List, length, Bool, nat_lt, ◌==◌, ◌||◌, if◌then◌else◌, Option, option_map, option_to_list, IfSome}
 use Rattle.nz_spec.specs.Text.{Limits, Heard}
 use Rattle.nz_spec.specs.Kept.{AreToldAs}
 use Rattle.nz_spec.specs.Reading.{Reading}
-use Rattle.nz_sexpr.specs.Part.{part_of, text_of_part}
+use Rattle.nz_sexpr.specs.Part.{part_of, text_of_part, holds_no_token}
 use Rattle.nz_sexpr.specs.Store.{Kept, kept_of}
 use Rattle.nz_sexpr.specs.View.{heard_view}
+use Rattle.nz_sexpr.specs.declared.part.Part.{Part}
 use Rattle.nz_sexpr.specs.declared.scan.Scan.{Scan}
 use Rattle.nz_sexpr.specs.declared.heard.Heard as code
 use Rattle.nz_sexpr.specs.declared.heard.Limits as bounds
@@ -34,6 +35,10 @@ pub record Matches (limits : Limits) (scan : Scan) (s : Reading) : Type 0 where
 -- While fewer than 2^64 bytes were read, count more among them, the new state is that of the reading after this step.
 abbrev pub Follows : Scan → Scan → ℕ → (Reading → Reading) → Type 0
 Follows old new count step = (limits : Limits) (s : Reading) → Matches limits old s → s.at + count < 2 ^ 64 → Matches limits new (step s)
+
+-- with this part and so many lists open, no command and no token outside any ends at a byte at which a run of bytes ends
+abbrev pub is_quiet_at : Part → ℕ → ℕ → Bool
+is_quiet_at p depth byte = if byte == 41 then nat_lt 1 depth else nat_lt 0 depth || holds_no_token p
 
 abbrev pub told : Option code.Heard → List Heard
 told heard = option_to_list (option_map heard_view heard)

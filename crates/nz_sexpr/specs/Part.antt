@@ -63,6 +63,15 @@ keeps_text (part.String c) = true
 keeps_text (part.AfterQuote c) = true
 keeps_text (part.Quoted c) = true
 
+-- no token is being read
+abbrev pub holds_no_token : Part → Bool
+holds_no_token part.Absent = true
+holds_no_token part.Comment = true
+holds_no_token (part.Word k) = false
+holds_no_token (part.String c) = false
+holds_no_token (part.AfterQuote c) = false
+holds_no_token (part.Quoted c) = false
+
 -- the text after a run of the part's bytes
 abbrev pub text_after : Part → List ℕ → List ℕ → List ℕ
 text_after part.Absent text run = text ++ run

@@ -3,7 +3,7 @@ ghost use Rattle.std.specs.Prelude.{◌≡◌, ◌≤◌, ◌<◌, ◌&&◌, Boo
 ghost use Rattle.std.specs.List.{list_all};
 ghost use Rattle.nz_spec.specs.Text.{HasNone, is_literal_byte as literal_byte, is_quoted_byte as quoted_byte};
 ghost use Rattle.nz_sexpr.specs.Bytes.{ends_word};
-ghost use Rattle.nz_sexpr.specs.Part.{ends, part_after, kind_of_part, keeps_text};
+ghost use Rattle.nz_sexpr.specs.Part.{ends, part_after, kind_of_part, keeps_text, holds_no_token};
 
 use crate::bytes::{Kind, is_line_end, is_literal_byte, is_quoted_byte, kind_of};
 use crate::words::{TokenKind, WordKind};
@@ -68,6 +68,13 @@ impl Part {
         ensures { result ≡ keeps_text self }
     {
         !matches!(self, Part::Comment)
+    }
+
+    /// Whether no token is being read.
+    pub(crate) fn is_no_token(self) -> bool
+        ensures { result ≡ holds_no_token self }
+    {
+        matches!(self, Part::Absent | Part::Comment)
     }
 
     /// What token the part is, if it ends here.

@@ -85,6 +85,10 @@ impl Reader {
             self.scan.read_run(&rest[..run]);
             return (run, None);
         }
+        if self.scan.is_quiet(rest[0]) {
+            self.scan.read_quietly(rest[0]);
+            return (1, None);
+        }
         let (heard, owed) = self.scan.read_byte(rest[0]);
         self.owed = owed;
         (1, heard)

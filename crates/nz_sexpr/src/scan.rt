@@ -8,7 +8,7 @@ ghost use Rattle.nz_spec.specs.Tree as text;
 ghost use Rattle.nz_sexpr.specs.Part.{part_of, text_of_part, text_after, filler_of, ends, begins_here};
 ghost use Rattle.nz_sexpr.specs.Store.{Kept, kept_of, Keeps, TakesToken};
 ghost use Rattle.nz_sexpr.specs.View.{what_view};
-ghost use Rattle.nz_sexpr.specs.Matches.{Matches, Follows, Tells, GoesOnBy, EndsWithin, told, limits_view};
+ghost use Rattle.nz_sexpr.specs.Matches.{Matches, Follows, Tells, GoesOnBy, EndsWithin, told, limits_view, is_quiet_at};
 
 use crate::bytes::{Kind, kind_of};
 use crate::heard::{Heard, Limits, What};
@@ -105,6 +105,52 @@ impl Scan {
         }
     }
 
+    /// Whether nothing is heard at this byte, if a run of bytes ends there: no command and no token outside any ends.
+    pub(crate) fn is_quiet(&self, byte: u8) -> bool
+        ensures { result ≡ is_quiet_at self.now.part self.now.depth byte }
+    {
+        if byte == b')' {
+            self.depth > 1
+        } else {
+            self.depth > 0 || self.part.is_no_token()
+        }
+    }
+
+    /// Reads a byte at which a run of bytes ends and nothing is heard.
+    ///
+    /// Most bytes of a script are such: they hand no room for things heard from call to call.
+    pub(crate) fn read_quietly(&mut self, byte: u8)
+        requires ends { ends self.old.part byte ≡ true }
+        requires quiet { is_quiet_at self.old.part self.old.depth byte ≡ true }
+        ensures state { Follows self.old self.new 1 (λ s. next byte s) }
+        ensures heard { Tells self.old 1 [] (λ limits s. told_at limits byte s) }
+        ensures counted { GoesOnBy self.old.at 1 self.new.at }
+    {
+        match self.part {
+            Part::Absent => self.pass_outside(byte),
+            Part::Comment => self.go_on(Part::Absent),
+            Part::Word(_) => self.pass_after_token(byte),
+            Part::String(clean) => self.go_on(Part::AfterQuote(clean)),
+            Part::AfterQuote(clean) if byte == b'"' => self.read_doubled_quote(clean),
+            Part::AfterQuote(_) => self.pass_after_token(byte),
+            Part::Quoted(_) => {
+                self.pass(1);
+                self.end_part();
+            }
+        }
+    }
+
+    /// Reads the byte after a token, where no command ends.
+    fn pass_after_token(&mut self, byte: u8)
+        requires goes_on { byte ≡ 41 → 1 < self.old.depth }
+        ensures state { (limits : Bounds) (s : Reading) → Matches limits self.old s → s.at + 1 < 2 ^ 64 →
+            IfSome (filler_of s.part) (λ f. Matches limits self.new (next_outside (class_of byte) byte (taken f s))) }
+        ensures counted { GoesOnBy self.old.at 1 self.new.at }
+    {
+        self.end_part();
+        self.pass_outside(byte);
+    }
+
     /// Reads a byte at which a run of bytes ends: what is heard, at most two things.
     pub(crate) fn read_byte(&mut self, byte: u8) -> (Option<Heard>, Option<Heard>)
         requires { ends self.old.part byte ≡ true }
@@ -184,13 +230,25 @@ impl Scan {
         ensures counted { self.new.at ≡ self.old.at }
         ensures places { EndsWithin self.old.at self.old.at result }
     {
+        self.end_part();
+        if self.depth == 0 {
+            Some(bad_token(self.from, self.at))
+        } else {
+            None
+        }
+    }
+
+    /// The token that was being read ends, in a command or outside any.
+    fn end_part(&mut self)
+        ensures state { (limits : Bounds) (s : Reading) → Matches limits self.old s → IfSome (filler_of s.part) (λ f. Matches limits self.new (taken f s)) }
+        ensures rest { self.new ≡ record self.old { part = Part.Absent; bad = self.new.bad; store = self.new.store } }
+    {
         let token = self.part.token();
         self.part = Part::Absent;
         if self.depth == 0 {
-            return Some(bad_token(self.from, self.at));
+            return;
         }
         self.take_token(token);
-        None
     }
 
     /// A token of the command ends, of this kind or bad.
@@ -215,32 +273,28 @@ impl Scan {
         ensures counted { GoesOnBy self.old.at 1 self.new.at }
         ensures places { EndsWithin self.old.at self.new.at result }
     {
+        if byte == b')' {
+            return self.close();
+        }
+        self.pass_outside(byte);
+        None
+    }
+
+    /// Reads a byte where no part is open and no command ends.
+    fn pass_outside(&mut self, byte: u8)
+        requires absent { self.old.part ≡ Part.Absent }
+        requires goes_on { byte ≡ 41 → 1 < self.old.depth }
+        ensures state { Follows self.old self.new 1 (λ s. next_outside (class_of byte) byte s) }
+        ensures counted { GoesOnBy self.old.at 1 self.new.at }
+    {
         match kind_of(byte) {
-            Kind::Left => {
-                self.open();
-                None
-            }
-            Kind::Right => self.close(),
-            Kind::Comment => {
-                self.begin(Part::Comment);
-                None
-            }
-            Kind::Quote => {
-                self.begin(Part::String(true));
-                None
-            }
-            Kind::Bar => {
-                self.begin(Part::Quoted(true));
-                None
-            }
-            Kind::Blank => {
-                self.pass(1);
-                None
-            }
-            Kind::Word => {
-                self.read_run([byte].as_slice());
-                None
-            }
+            Kind::Left => self.open(),
+            Kind::Right => self.close_list(),
+            Kind::Comment => self.begin(Part::Comment),
+            Kind::Quote => self.begin(Part::String(true)),
+            Kind::Bar => self.begin(Part::Quoted(true)),
+            Kind::Blank => self.pass(1),
+            Kind::Word => self.read_run([byte].as_slice()),
         }
     }
 

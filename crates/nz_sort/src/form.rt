@@ -3,7 +3,7 @@
 ghost use Rattle.std.specs.Prelude.{◌≡◌, bytes_eq, IfSome, IfNone, Some, None, Bool, false};
 ghost use Rattle.std.specs.List.{list_any};
 ghost use Rattle.nz_sexpr.specs.View.{token_view, view};
-ghost use Rattle.nz_spec.specs.Tree.{leaf, node, trees, no_trees, symbol_name as name_of_symbol};
+ghost use Rattle.nz_spec.specs.Tree.{leaf, node, trees, no_trees};
 ghost use Rattle.nz_spec.specs.Form as form;
 ghost use Rattle.nz_sort.specs.Form.{seen, IsHeadless, IsNotOne, IsNotTwo, IsNotThree};
 
@@ -27,17 +27,6 @@ pub(crate) fn is_one_of(words: &[&[u8]], name: &[u8]) -> bool
 
 // ---- Tokens
 
-/// The name of a token that is a symbol.
-pub(crate) fn symbol_name(token: &Token) -> Option<&Text>
-    ensures name { IfSome result (λ name. name_of_symbol (token_view token.now) ≡ Some name.now) }
-    ensures none { IfNone result (name_of_symbol (token_view token.now) ≡ None) }
-{
-    match token {
-        Token::Symbol(name) => Some(name),
-        _ => None,
-    }
-}
-
 /// The bytes of a token that is a keyword.
 pub(crate) fn keyword_name(token: &Token) -> Option<&Text>
     ensures name { IfSome result (λ name. form.keyword_name (token_view token.now) ≡ Some name.now) }
@@ -53,7 +42,7 @@ pub(crate) fn keyword_name(token: &Token) -> Option<&Text>
 pub(crate) fn is_name(token: &Token) -> bool
     ensures form { result ≡ form.is_name (token_view token.now) }
 {
-    match symbol_name(token) {
+    match token.as_symbol() {
         Some(name) => !is_one_of(&RESERVED_WORDS, name.as_bytes()),
         None => false,
     }
@@ -63,7 +52,7 @@ pub(crate) fn is_name(token: &Token) -> bool
 pub(crate) fn is_symbol(token: &Token, word: &[u8]) -> bool
     ensures form { result ≡ form.is_symbol word.now (token_view token.now) }
 {
-    match symbol_name(token) {
+    match token.as_symbol() {
         Some(name) => name.as_bytes() == word,
         None => false,
     }
@@ -144,7 +133,7 @@ pub(crate) fn symbol_of(tree: &Tree) -> Option<&Text>
     ensures none { IfNone result (form.tree_symbol (view tree.now) ≡ None) }
 {
     match tree {
-        Tree::Word(token) => symbol_name(token),
+        Tree::Word(token) => token.as_symbol(),
         Tree::List(_) => None,
     }
 }
@@ -224,7 +213,7 @@ fn is_attribute_value(tree: &Tree) -> bool
     ensures form { result ≡ form.is_attribute_value (view tree.now) }
 {
     match tree {
-        Tree::Word(token) => !is_keyword(token) && (symbol_name(token).is_none() || is_name(token)),
+        Tree::Word(token) => !is_keyword(token) && (token.as_symbol().is_none() || is_name(token)),
         Tree::List(_) => true,
     }
 }
@@ -246,7 +235,7 @@ fn is_command(list: &[Tree]) -> bool
     let Some((head, arguments)) = headed(list) else {
         return false;
     };
-    match symbol_name(head) {
+    match head.as_symbol() {
         Some(name) => is_name(head) && has_form(command_name(name.as_bytes()), arguments),
         None => false,
     }

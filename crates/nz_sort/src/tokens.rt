@@ -11,6 +11,9 @@ use nz_sexpr::{Token, Tree};
 /// The greatest numerator and the greatest denominator.
 const GREATEST_NUMBER: u128 = 0x7fff_ffff_ffff_ffff_ffff_ffff_ffff_ffff;
 
+/// Up to this number, one more byte leaves 64 bits enough.
+const NARROW_LIMIT: u64 = (u64::MAX - 255) / 10;
+
 /// How many digits a decimal may have after its point.
 pub(crate) const PLACE_LIMIT: usize = 38;
 
@@ -116,6 +119,37 @@ pub(crate) fn around_point(bytes: &[u8]) -> (&[u8], &[u8])
 
 /// The number that the digits spell after those that spell `start`, or none where it is above the greatest.
 pub(crate) fn value_onto(start: u128, digits: &[u8]) -> Option<u128>
+    requires { start ≤ bounds.greatest_number }
+    ensures value { IfSome result (λ value. value ≡ bounds.value_onto start digits.now) }
+    ensures bounded { IfSome result (λ value. value ≤ bounds.greatest_number) }
+    ensures wide { IfNone result (bounds.greatest_number < bounds.value_onto start digits.now) }
+{
+    match u64::try_from(start) {
+        Ok(start) => {
+            let (value, rest) = narrow_value_onto(start, digits);
+            wide_value_onto(u128::from(value), rest)
+        }
+        Err(_) => wide_value_onto(start, digits),
+    }
+}
+
+/// The number that the digits spell after those that spell `start`, as far as 64 bits are sure to hold it, and the digits that are
+/// left. At most nineteen digits leave none.
+fn narrow_value_onto(start: u64, digits: &[u8]) -> (u64, &[u8])
+    ensures value { bounds.value_onto start digits.now ≡ bounds.value_onto result.0 result.1.now }
+{
+    let mut value = start;
+    for (index, byte) in digits.iter().enumerate() {
+        if value > NARROW_LIMIT {
+            return (value, &digits[index..]);
+        }
+        value = 10 * value + u64::from(byte.saturating_sub(b'0'));
+    }
+    (value, &[])
+}
+
+/// The same as `value_onto`, in 128 bits.
+fn wide_value_onto(start: u128, digits: &[u8]) -> Option<u128>
     requires { start ≤ bounds.greatest_number }
     ensures value { IfSome result (λ value. value ≡ bounds.value_onto start digits.now) }
     ensures bounded { IfSome result (λ value. value ≤ bounds.greatest_number) }

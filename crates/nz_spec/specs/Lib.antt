@@ -18,6 +18,7 @@ pub mod Samples
 pub mod Script
 pub mod Table
 pub mod Term
+pub mod TermList
 pub mod Text
 pub mod Texts
 pub mod Told

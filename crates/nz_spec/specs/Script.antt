@@ -6,7 +6,7 @@ use Rattle.nz_spec.specs.Form.{is_one_of, is_name, is_symbol, is_keyword, is_tok
 use Rattle.nz_spec.specs.Bounds.{has_token, have_token, is_zero_token, numeral_value, is_wide_token, is_long_decimal}
 use Rattle.nz_spec.specs.Fraction.{Fraction}
 use Rattle.nz_spec.specs.Tree.{Token, literal, symbol_name, Tree, leaf, node, Trees, no_trees, trees}
-use Rattle.nz_spec.specs.Term.{Sort, bool_sort, Constant, parameter, Term, apply, Terms, no_terms, terms, is_bool, holds_number, Value}
+use Rattle.nz_spec.specs.Term.{Sort, bool_sort, Constant, constant, parameter, Term, apply, Terms, no_terms, terms, is_bool, holds_number, Value}
 use Rattle.nz_spec.specs.Normal.{normal_of}
 use Rattle.nz_spec.specs.Linear.{is_linear}
 use Rattle.nz_spec.specs.Elaboration.{is_operator, is_declared, sort_named, has_sort, placed, Definition, Scope, term_of, terms_of}
@@ -127,6 +127,14 @@ is_wish i = false
 abbrev pub numbers_of : (Item → Bool) → ℕ → List Item → List ℕ
 numbers_of is_of_kind first [] = []
 numbers_of is_of_kind first (i ∷ items) = if is_of_kind i then first ∷ numbers_of is_of_kind (suc first) items else numbers_of is_of_kind (suc first) items
+
+-- the term of an item, if it has one: a constant's own, and else the normal one of what is asserted, sought or wished
+abbrev pub item_terms : Item → List Term
+item_terms (declared c) = apply (constant c) no_terms ∷ []
+item_terms (defined d) = []
+item_terms (asserted t) = normal_of t ∷ []
+item_terms (sought g) = normal_of g.term ∷ []
+item_terms (wished w) = normal_of w.term ∷ []
 
 -- the levels with an item more in the newest
 abbrev pub with_item : List (List Item) → Item → List (List Item)

@@ -1,6 +1,8 @@
-//! Truth values: those of the terms of a table, where its constants are decided.
+//! Truth values and values: those of the terms of a table, where its constants are decided.
 #![tactic(auto)]
 
 mod truth;
+mod value;
 
 pub use truth::{are_true, constant_numbers, evaluate};
+pub use value::{EvalStop, Values, eval};

@@ -1,4 +1,4 @@
-use Rattle.std.proofs.Common.{codes, ◌++◌, refl, subst, List, ℕ}
+use Rattle.std.proofs.Common.{codes, ◌++◌, refl, subst}
 use Rattle.std.proofs.KnownBytes.{Appends-trans}
 use Rattle.nz_spec.specs.Outside.{AddsFrontOf}
 use Rattle.nz_spec.specs.Reply.{symbol_text, sort_text, value_text}

@@ -1,6 +1,7 @@
+use Rattle.nz_sort.specs.Items.{table_numbers}
 use Rattle.nz_session.proofs.Answering.{unsat_in_one_level}
 use Rattle.nz_session.proofs.desk.decide.Goals as goal
 
 pub returns-clause-unsat : goal.returns-clause-unsat
 returns-clause-unsat g c =
-    unsat_in_one_level c.args.terms.now (g.E.Decide.levels c.tell.new.engine) c.args.asserted.now c.check.result c.in_ok-tell.ensures.all c.check.ensures.unsat
+    unsat_in_one_level c.args.terms.now (g.E.Decide.levels c.tell.new.engine) (table_numbers c.args.assertions.now) c.check.result c.in_ok-tell.ensures.all c.check.ensures.unsat

@@ -5,7 +5,7 @@ use Rattle.nz_spec.specs.Transcript.{AreRight}
 use Rattle.nz_reply.specs.declared.reply.Kept as kept
 use Rattle.nz_reply.specs.Replies.{all_kept}
 use Rattle.nz_session.specs.Serve.{IsFront, things_of}
-use Rattle.nz_session.proofs.Feeding.{breaks_off, finished, finish_broken, finish_cut, finish_quiet, writes_nothing}
+use Rattle.nz_session.proofs.Feeding.{breaks_off, finished, finish_broken, finish_cut, finish_quiet, writes_more, writes_nothing}
 use Rattle.nz_session.proofs.session.Session.finish.Goals as goal
 
 pub returns-in-Some-clause-ended : goal.returns-in-Some-clause-ended
@@ -26,6 +26,10 @@ returns-in-Some-clause-cut g c =
     (finish_cut limit bytes (all_kept c.args.self.now.kept.items) c.finish.result
     (c.finish.ensures.heard script_limits bytes (things_of (all_kept c.args.self.now.kept.items)) serves.reads serves.settled fits)
     serves.going.right)
+
+pub returns-in-Some-clause-written : goal.returns-in-Some-clause-written
+returns-in-Some-clause-written g c =
+    λ e. writes_more _ _ _ _ _ _ _ (writes_nothing (all_kept c.args.self.now.kept.items) (g.K.Sink.held c.args.sink.now)) (c.serve.ensures.answered e)
 
 pub returns-in-Some-clause-broken_off : goal.returns-in-Some-clause-broken_off
 returns-in-Some-clause-broken_off g c =

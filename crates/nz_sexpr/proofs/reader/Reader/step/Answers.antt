@@ -20,6 +20,23 @@ returns-then-run-gt0-clause-heard c limits bytes things fits few =
       things = subst (λ o. AreToldAs ((things ++ []) ++ told o) (told_on limits start (bytes ++ run))) (sym c.requires.settled) (subst (λ k. AreToldAs k (told_on limits start (bytes ++ run))) (sym (append-nil (things ++ []))) after);
     }
 
+pub returns-then-is_quiet-clause-heard : goal.returns-then-is_quiet-clause-heard
+returns-then-is_quiet-clause-heard c limits bytes things fits few =
+    let rest : List ℕ = c.args.rest.now in
+    let byte : ℕ = get_or rest 0 0 in
+    let one : take 1 rest ≡ byte ∷ [] = take_one rest c.requires.rest in
+    let before : AreToldAs (things ++ []) (told_on limits start bytes) = subst (λ o. AreToldAs (things ++ told o) (told_on limits start bytes)) c.requires.settled fits.things in
+    let few' : (read_on start bytes).at + 1 < 2 ^ 64 = omega (arith, bytes_read bytes, c.requires.rest) in
+    let none : AreToldAs [] (told_on limits (read_on start bytes) (byte ∷ [])) = subst (AreToldAs []) (sym (append-nil _)) (c.read_quietly.ensures.heard limits (read_on start bytes) fits.state few') in
+    let after : AreToldAs (things ++ []) (told_on limits start (bytes ++ byte ∷ [])) = told_more limits bytes (byte ∷ []) things [] before none in
+    record {
+      state = rw (one, read_on-append start bytes (byte ∷ [])) (c.read_quietly.ensures.state limits (read_on start bytes) fits.state few');
+      things = subst (λ k. AreToldAs ((things ++ []) ++ told c.args.self.now.owed) (told_on limits start (bytes ++ k))) (sym one) (
+          subst (λ o. AreToldAs ((things ++ []) ++ told o) (told_on limits start (bytes ++ byte ∷ []))) (sym c.requires.settled)
+          (subst (λ k. AreToldAs k (told_on limits start (bytes ++ byte ∷ []))) (sym (append-nil (things ++ []))) after)
+          );
+    }
+
 pub returns-clause-heard : goal.returns-clause-heard
 returns-clause-heard c limits bytes things fits few =
     let rest : List ℕ = c.args.rest.now in

@@ -1,7 +1,7 @@
 use Rattle.std.proofs.Common.{◌≡◌, ◌∙◌, ◌++◌, ◌∷◌, [], ℕ, IfSome, true, sym, subst, arith, append-nil, eq-eqb}
-use Rattle.nz_spec.specs.Text.{class_of, is_quote, is_bar}
+use Rattle.nz_spec.specs.Text.{class_of, is_bar}
 use Rattle.nz_spec.specs.Kept.{AreToldAs}
-use Rattle.nz_spec.specs.Reading.{Part, Reading, in_string, goes_on, passed, taken, told_token, next_in, told_in, next_outside}
+use Rattle.nz_spec.specs.Reading.{in_string, goes_on, passed, taken, told_token, next_in, told_in, next_outside}
 use Rattle.nz_sexpr.specs.Bytes.{ends_word}
 use Rattle.nz_sexpr.specs.Part.{filler_of, ends}
 use Rattle.nz_sexpr.specs.Matches.{Matches, told}
