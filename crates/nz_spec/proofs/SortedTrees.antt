@@ -285,7 +285,7 @@ module _ (a : Assignment) (ss : List Sort) where
 
   -- ---- Scopes
 
-  abbrev AreBound : List (List ℕ × Term) → Type 0
+  abbrev pub AreBound : List (List ℕ × Term) → Type 0
   AreBound ps = AllByRecursion (λ (p : List ℕ × Term). IsSorted a ss p.1) ps
 
   pub record IsScope (sc : Scope) : Type 0 where
