@@ -1,23 +1,23 @@
 -- Definitions and assertions stay well sorted, whatever is told.
-use Rattle.std.proofs.Common.{◌≡◌, ℕ, zero, suc, ◌+◌, Bool, true, false, not, ◌&&◌, ◌||◌, List, [], ◌∷◌, ◌++◌, Option, Some, None, refl, sym, ap, ◌∙◌, subst, if◌then◌else◌, arith}
+use Rattle.std.proofs.Common.{◌≡◌, ℕ, suc, ◌+◌, Bool, true, false, not, ◌||◌, List, [], ◌∷◌, ◌++◌, Option, Some, None, refl, sym, ap, subst, if◌then◌else◌, arith}
 use Rattle.std.proofs.lemmas.List.{append_assoc}
 use Rattle.std.specs.Bool.{⊤}
 use Rattle.std.specs.Prelude.{option_and_then, codes}
 use Rattle.std.specs.List.{AllByRecursion}
-use Rattle.nz_spec.specs.Tree.{Token, symbol_name, literal, Tree, leaf, node, Trees, no_trees, trees}
+use Rattle.nz_spec.specs.Tree.{symbol_name, literal, Tree, leaf, node, Trees, no_trees, trees}
 use Rattle.nz_spec.specs.Form.{is_name, is_empty, is_keyword, is_symbol, has_form, CommandName, command_name, assert_name, check_sat_name, declare_const_name, declare_fun_name, define_fun_name, echo_name, exit_name, get_info_name, get_model_name, get_value_name, set_info_name, set_logic_name, set_option_name}
 use Rattle.nz_spec.specs.Bounds.{have_token, is_wide_token, is_long_decimal}
-use Rattle.nz_spec.specs.Term.{Sort, bool_sort, Constant, parameter, Term, Terms, apply, no_terms, terms, sort_of, Assignment, IsOfSort, value_of}
+use Rattle.nz_spec.specs.Term.{Sort, bool_sort, Term, Terms, terms, sort_of, Assignment, IsOfSort, value_of}
 use Rattle.nz_spec.specs.Normal.{normal_of}
 use Rattle.nz_spec.specs.Linear.{is_linear}
-use Rattle.nz_spec.specs.Elaboration.{has_sort, placed, Definition, Scope, term_of, terms_of}
-use Rattle.nz_spec.specs.Script.{State, start, Item, declared, defined, asserted, sought, wished, items_of, constants_in, definitions_in, assertions_in, constants_of, definitions_of, assertions_of, with_item, Command, declare_const, define, assert_term, check_sat, get_model, get_value, get_info, get_levels, get_reason, name_info, version_info, authors_info, error_behavior_info, set_print_success, no_effect, echo, exit, Outcome, accepted, refused, not_taken, passes_limit, takes_command, is_live_name, scope_of, sort_of_tree, is_unknown_sort, any_tree, bound_names, clash, has_clash, have_clash, has_unknown, have_unknown, knows_too, declaration_of, parameter_sorts, sorts_of_trees, parameters_from, body_scope, linear_outcome, definition_by, definition_of, asserted_outcome, assertion_of, all_linear, asked_of, values_of_trees, info_asked, option_set, outcome_by, outcome_named, outcome_of}
-use Rattle.nz_spec.specs.Text.{What, whole, faulty, unclosed, unread}
-use Rattle.nz_spec.specs.Reply.{Reply, quiet, success, sat, unsat, unknown, model, values, info, levels, reason, echoed, unsupported, error, grown, effect, effect_of, after}
+use Rattle.nz_spec.specs.Elaboration.{has_sort, placed, Definition, term_of, terms_of}
+use Rattle.nz_spec.specs.Script.{State, start, Item, declared, defined, asserted, sought, wished, items_of, constants_in, definitions_in, assertions_in, assertions_of, with_item, Command, declare_const, define, assert_term, check_sat, get_value, get_info, get_levels, get_reason, name_info, version_info, authors_info, error_behavior_info, set_print_success, no_effect, Outcome, accepted, refused, not_taken, passes_limit, takes_command, is_live_name, scope_of, sort_of_tree, is_unknown_sort, any_tree, bound_names, clash, has_clash, have_clash, has_unknown, have_unknown, knows_too, declaration_of, parameter_sorts, sorts_of_trees, parameters_from, body_scope, linear_outcome, definition_by, definition_of, asserted_outcome, assertion_of, all_linear, asked_of, values_of_trees, outcome_by, outcome_named, outcome_of}
+use Rattle.nz_spec.specs.Text.{What, whole}
+use Rattle.nz_spec.specs.Reply.{Reply, levels, error, grown, effect, effect_of, after}
 use Rattle.nz_spec.specs.Transcript.{Kept, state_after}
 use Rattle.nz_spec.specs.Sorts.{GivesSorts, HaveTheirSorts, TermsHaveTheirSorts}
-use Rattle.nz_spec.proofs.Sorted.{same_sorts, sort_at, Gives, IsSorted, value_is}
-use Rattle.nz_spec.proofs.SortedTrees.{IfFound, and_then_found, AreBound, IsPlaced, is_placed, IsScope, tree_sorted, trees_sorted}
+use Rattle.nz_spec.proofs.Sorted.{same_sorts, sort_at, IsSorted, value_is}
+use Rattle.nz_spec.proofs.SortedTrees.{IfFound, and_then_found, AreBound, IsPlaced, is_placed, IsScope, tree_sorted}
 
 module _ (a : Assignment) where
   -- a term of sort Bool
@@ -71,11 +71,11 @@ module _ (a : Assignment) where
   grown_sound s i sound new =
       subst (λ items. Given items → AreSound items) (sym (items_with s.levels i))
       (λ given.
-        let before = constants_before (items_of s.levels) i given in
-        record {
-          definitions = definitions_with (items_of s.levels) i (sound before).definitions (new before).definitions;
-          assertions = assertions_with (items_of s.levels) i (sound before).assertions (new before).assertions;
-        })
+      let before = constants_before (items_of s.levels) i given in
+      record {
+        definitions = definitions_with (items_of s.levels) i (sound before).definitions (new before).definitions;
+        assertions = assertions_with (items_of s.levels) i (sound before).assertions (new before).assertions;
+      })
 
   -- ---- Commands
 
@@ -130,7 +130,7 @@ module _ (a : Assignment) where
     definition_by_good name names (Some sorts) (Some sort) body =
         body_good name sorts sort (option_and_then (placed sort) (term_of (body_scope s names sorts) body))
         (and_then_found (IsSorted a sorts) (IsPlaced a sorts sort) (placed sort) (term_of (body_scope s names sorts) body) (is_placed a sorts sort)
-          (tree_sorted a sorts (body_scope s names sorts) body (body_scope_is names sorts)))
+        (tree_sorted a sorts (body_scope s names sorts) body (body_scope_is names sorts)))
     definition_by_good name names (Some sorts) None body = tt
     definition_by_good name names None n body = tt
 
@@ -141,7 +141,7 @@ module _ (a : Assignment) where
         good_if (any_tree is_unknown_sort (parameter_sorts parameters) || is_unknown_sort sort || has_unknown (knows_too names (is_live_name s)) body) (refused 2)
         (if is_live_name s name || clash names || has_clash body then refused 9 else made) tt
         (good_if (is_live_name s name || clash names || has_clash body) (refused 9) made tt
-          (definition_by_good name names (sorts_of_trees (parameter_sorts parameters)) (sort_of_tree sort) body))
+        (definition_by_good name names (sorts_of_trees (parameter_sorts parameters)) (sort_of_tree sort) body))
 
     asserted_by : (b : Bool) (t : Term) → has_sort bool_sort t ≡ b → IsSorted a [] t → IsGood (if b then linear_outcome (is_linear (normal_of t)) (assert_term t) else refused 3)
     asserted_by true t e h = linear_good (is_linear (normal_of t)) (assert_term t) (h, sym (same_sorts bool_sort (sort_of t) e))
@@ -211,8 +211,8 @@ module _ (a : Assignment) where
         let within : Outcome = if passes_limit s name ts || have_token is_long_decimal ts then refused 6 else narrow in
         good_if (not (has_form name ts)) (refused 1) within tt
         (good_if (passes_limit s name ts || have_token is_long_decimal ts) (refused 6) narrow tt
-          (good_if (have_token is_wide_token ts) (refused 5) taken tt
-            (good_if (not (takes_command s name ts)) not_taken (outcome_by s name ts) tt (command_good name ts))))
+        (good_if (have_token is_wide_token ts) (refused 5) taken tt
+        (good_if (not (takes_command s name ts)) not_taken (outcome_by s name ts) tt (command_good name ts))))
 
     headed_good : (m : Option (List ℕ)) (ts : Trees) → IsGood (elim m [ Some name ↦ outcome_named s (command_name name) ts | None ↦ refused 1 ])
     headed_good (Some name) ts = named_good (command_name name) ts
