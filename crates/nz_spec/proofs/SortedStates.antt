@@ -7,13 +7,13 @@ use Rattle.std.specs.List.{AllByRecursion}
 use Rattle.nz_spec.specs.Tree.{symbol_name, literal, Tree, leaf, node, Trees, no_trees, trees}
 use Rattle.nz_spec.specs.Form.{is_name, is_empty, is_keyword, is_symbol, has_form, CommandName, command_name, assert_name, check_sat_name, declare_const_name, declare_fun_name, define_fun_name, echo_name, exit_name, get_info_name, get_model_name, get_value_name, set_info_name, set_logic_name, set_option_name}
 use Rattle.nz_spec.specs.Bounds.{have_token, is_wide_token, is_long_decimal}
-use Rattle.nz_spec.specs.Term.{Sort, bool_sort, Term, Terms, terms, sort_of, Assignment, IsOfSort, value_of}
+use Rattle.nz_spec.specs.Term.{Sort, bool_sort, Term, Terms, sort_of, Assignment, IsOfSort, value_of}
 use Rattle.nz_spec.specs.Normal.{normal_of}
 use Rattle.nz_spec.specs.Linear.{is_linear}
 use Rattle.nz_spec.specs.Elaboration.{has_sort, placed, Definition, term_of, terms_of}
 use Rattle.nz_spec.specs.Script.{State, start, Item, declared, defined, asserted, sought, wished, items_of, constants_in, definitions_in, assertions_in, assertions_of, with_item, Command, declare_const, define, assert_term, check_sat, get_value, get_info, get_levels, get_reason, name_info, version_info, authors_info, error_behavior_info, set_print_success, no_effect, Outcome, accepted, refused, not_taken, passes_limit, takes_command, is_live_name, scope_of, sort_of_tree, is_unknown_sort, any_tree, bound_names, clash, has_clash, have_clash, has_unknown, have_unknown, knows_too, declaration_of, parameter_sorts, sorts_of_trees, parameters_from, body_scope, linear_outcome, definition_by, definition_of, asserted_outcome, assertion_of, all_linear, asked_of, values_of_trees, outcome_by, outcome_named, outcome_of}
 use Rattle.nz_spec.specs.Text.{What, whole}
-use Rattle.nz_spec.specs.Reply.{Reply, levels, error, grown, effect, effect_of, after}
+use Rattle.nz_spec.specs.Reply.{Reply, error, grown, effect, effect_of, after}
 use Rattle.nz_spec.specs.Transcript.{Kept, state_after}
 use Rattle.nz_spec.specs.Sorts.{GivesSorts, HaveTheirSorts, TermsHaveTheirSorts}
 use Rattle.nz_spec.proofs.Sorted.{same_sorts, sort_at, IsSorted, value_is}
