@@ -10,6 +10,7 @@ pub mod Pieces
 pub mod Readings
 pub mod Rounds
 pub mod Sorted
+pub mod SortedStates
 pub mod SortedTrees
 pub mod Tables
 pub mod Tellings

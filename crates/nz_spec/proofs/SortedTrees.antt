@@ -1,11 +1,11 @@
 -- A tree's term is well sorted, in a scope whose constants, definitions and bound terms are.
-use Rattle.std.proofs.Common.{◌≡◌, ℕ, zero, suc, Bool, true, false, not, ◌&&◌, ◌||◌, ◌==◌, List, [], ◌∷◌, ◌++◌, length, Option, Some, None, refl, sym, ap, ◌∙◌, subst, true≢false, if◌then◌else◌, bytes_eq}
+use Rattle.std.proofs.Common.{◌≡◌, ℕ, zero, suc, Bool, true, false, not, ◌&&◌, ◌||◌, ◌==◌, List, [], ◌∷◌, ◌++◌, Option, Some, None, refl, sym, ap, ◌∙◌, true≢false, if◌then◌else◌, bytes_eq}
 use Rattle.std.specs.Bool.{⊤}
 use Rattle.std.specs.Prelude.{nat_lt, nat_eq, option_map, option_and_then, is_some}
 use Rattle.std.specs.List.{AllByRecursion}
 use Rattle.nz_spec.specs.Tree.{Token, symbol, keyword, numeral, decimal, hexadecimal, binary, literal, symbol_name, Tree, leaf, node, Trees, no_trees, trees}
 use Rattle.nz_spec.specs.Form.{TermHead, let_head, name_head, no_head, term_head, tree_symbol}
-use Rattle.nz_spec.specs.Term.{Sort, bool_sort, int_sort, real_sort, Constant, Head, constant, parameter, integer, decimal_number, verum, falsum, negation, conjunction, disjunction, implication, exclusion, equality, distinction, choice, less, at_most, greater, at_least, sum, difference, product, quotient, integer_quotient, modulus, magnitude, to_real, to_int, is_int, head_sort, Term, apply, Terms, no_terms, terms, sort_of, is_bool, Assignment}
+use Rattle.nz_spec.specs.Term.{Sort, bool_sort, int_sort, real_sort, Constant, Head, constant, parameter, verum, falsum, negation, conjunction, disjunction, implication, exclusion, equality, distinction, choice, less, at_most, greater, at_least, sum, difference, product, quotient, integer_quotient, modulus, magnitude, to_real, to_int, is_int, head_sort, Term, apply, Terms, no_terms, terms, sort_of, is_bool, Assignment}
 use Rattle.nz_spec.specs.Elaboration.{Operator, true_operator, false_operator, not_operator, and_operator, or_operator, implies_operator, xor_operator, equals_operator, distinct_operator, ite_operator, at_most_operator, less_operator, at_least_operator, greater_operator, plus_operator, times_operator, minus_operator, over_operator, div_operator, mod_operator, abs_operator, to_real_operator, to_int_operator, is_int_operator, listed, operator_named, are_same_sort, has_sort, is_number_term, all_terms, term_count, as_real, as_reals, number_sort, alike, placed, term_if, over_bools, over_ints, over_reals, over_numbers, over_alike, over_branches, applied, Definition, term_at, instance_node, instance_of, instances_of, terms_onto, all_placed, expansion, Scope, constant_named, definition_named, binding, name_term, application, token_term, bound_onto, term_of, terms_of, let_term, bindings_in, bindings_of, binding_onto, bound_pair}
 use Rattle.nz_spec.proofs.Sorted.{and_first, and_second, and_both, same_sorts, fit, fit_branches, fit_numbers, sort_at, Gives, Stands, IsSorted, AreSorted}
 
@@ -152,10 +152,11 @@ module _ (a : Assignment) (ss : List Sort) where
       → (fit_numbers (number_sort ts) (alike ts) ≡ true → fit (head_for (number_sort ts)) (alike ts) ≡ true) → AreSorted a ss ts → IsTerm (over_numbers takes head_for ts)
   numbers takes head_for ts s k i =
       by_test (takes (term_count ts) && all_terms is_number_term ts) (head_for (number_sort ts)) (alike ts)
-      (λ e.
-        (s,
-          k (numbers_if_alike (all_terms (has_sort int_sort) ts) ts refl (and_second (takes (term_count ts)) (all_terms is_number_term ts) e)),
-          sorted_if_alike (all_terms (has_sort int_sort) ts) ts i))
+      (λ e. (
+        s,
+        k (numbers_if_alike (all_terms (has_sort int_sort) ts) ts refl (and_second (takes (term_count ts)) (all_terms is_number_term ts) e)),
+        sorted_if_alike (all_terms (has_sort int_sort) ts) ts i,
+      ))
 
   alike_terms : (h : Head) (ts : Terms) → Stands a ss h → ((us : Terms) → fit h us ≡ true) → AreSorted a ss ts → IsTerm (over_alike h ts)
   alike_terms h ts s k i =
@@ -177,10 +178,11 @@ module _ (a : Assignment) (ss : List Sort) where
       let us = alike ts in
       let s = number_sort ts in
       let fits = numbers_if_alike whole ts refl eq in
-      let count : (term_count us == 2) ≡ true = ap (λ n. n == 2) (count_alike whole ts) ∙ en in
-      (tt,
+      let count : (term_count us == 2) ≡ true = ap (λ n. n == 2) (count_alike whole ts) ∙ en in (
+        tt,
         and_both (has_sort bool_sort c) ((term_count us == 2) && all_terms (has_sort s) us) eb (and_both (term_count us == 2) (all_terms (has_sort s) us) count (and_second (not (is_bool s)) (all_terms (has_sort s) us) fits)),
-        (i.0, sorted_if_alike whole ts i.1))
+        (i.0, sorted_if_alike whole ts i.1),
+      )
   branches_by true true false false c ts eb en ep eq i = tt
 
   branches : (ts : Terms) → AreSorted a ss ts → IsTerm (over_branches ts)
@@ -285,7 +287,7 @@ module _ (a : Assignment) (ss : List Sort) where
 
   -- ---- Scopes
 
-  abbrev AreBound : List (List ℕ × Term) → Type 0
+  abbrev pub AreBound : List (List ℕ × Term) → Type 0
   AreBound ps = AllByRecursion (λ (p : List ℕ × Term). IsSorted a ss p.1) ps
 
   pub record IsScope (sc : Scope) : Type 0 where

@@ -16,6 +16,7 @@ pub mod Reply
 pub mod Run
 pub mod Samples
 pub mod Script
+pub mod Sorts
 pub mod Table
 pub mod Term
 pub mod TermList

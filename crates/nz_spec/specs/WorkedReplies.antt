@@ -1,14 +1,14 @@
 -- Worked texts: values, trees and replies, byte for byte.
-use Rattle.std.specs.Prelude.{◌≡◌, ℕ, true, List, [], ◌∷◌, map, pos, negsuc, codes}
-use Rattle.nz_spec.specs.Fraction.{whole, over, largest, Sum, Difference, Product, Quotient}
-use Rattle.nz_spec.specs.Term.{bool_sort, int_sort, real_sort, truth, number, whole_number}
+use Rattle.std.specs.Prelude.{◌≡◌, ℕ, true, false, List, [], ◌∷◌, ◌++◌, map, pos, negsuc, Option, Some, codes}
+use Rattle.nz_spec.specs.Fraction.{Fraction, whole, over, largest, Sum, Difference, Product, Quotient}
+use Rattle.nz_spec.specs.Term.{bool_sort, int_sort, real_sort, Value, truth, number, whole_number}
 use Rattle.nz_spec.specs.Script.{Binding, units_spent, name_info, error_behavior_info, Outcome, accepted, get_value}
 use Rattle.nz_spec.specs.Reply.{value_text, wide_text, tree_text, quiet, success, sat, unsat, unknown, model, values, info, levels, reason, echoed, unsupported, error, reply_text, assignment_of, shown_under}
-use Rattle.nz_spec.specs.Samples.{constant_of_sort, tree_in, outcome_in}
+use Rattle.nz_spec.specs.Samples.{constant_of_sort, tree_in, outcome_in, value_in}
 
 -- Values by their sorts. One of sort Real is a quotient in lowest terms, or a decimal where it is whole.
 pub record HasValueTexts : Type 0 where
-  pub truths : map (value_text bool_sort) (truth true ∷ []) ≡ codes "true" ∷ []
+  pub truths : map (value_text bool_sort) (truth true ∷ truth false ∷ []) ≡ codes "true" ∷ codes "false" ∷ []
   pub integers : map (λ n. value_text int_sort (whole_number n)) (pos 7 ∷ negsuc 6 ∷ pos 0 ∷ []) ≡ codes "7" ∷ codes "(- 7)" ∷ codes "0" ∷ []
   pub reals : map (λ q. value_text real_sort (number q)) (whole (pos 2) ∷ whole (negsuc 1) ∷ over (pos 3) 2 ∷ over (negsuc 2) 2 ∷ whole (pos 0) ∷ [])
       ≡ codes "2.0" ∷ codes "(- 2.0)" ∷ codes "(/ 3.0 2.0)" ∷ codes "(- (/ 3.0 2.0))" ∷ codes "0.0" ∷ []
@@ -26,6 +26,20 @@ pub record HasSpellings : Type 0 where
   pub bars : spelled (codes "(|a| |a b| || |1| b|c|)") ≡ codes "(a |a b| || |1| b c)"
   pub tokens : spelled (codes "(#xFf #b01 :k \"a\"\"b\" 0)") ≡ codes "(#xFf #b01 :k \"a\"\"b\" 0)"
   pub nested : spelled (codes "(()(a)((b)))") ≡ codes "(() (a) ((b)))"
+
+-- ---- Texts that are read again
+
+abbrev pub sample_values : List Fraction
+sample_values = whole (pos 2) ∷ whole (negsuc 1) ∷ over (pos 3) 2 ∷ over (negsuc 2) 2 ∷ whole (pos 0) ∷ over (negsuc 0) largest ∷ []
+
+-- the value of a sum of this one term
+abbrev pub value_again : List ℕ → Option Value
+value_again text = value_in (codes "(+ " ++ text ++ codes ")")
+
+-- The text of a value is a term of that value.
+pub record HasReadings : Type 0 where
+  pub reals : map (λ q. value_again (value_text real_sort (number q))) sample_values ≡ map (λ q. Some (number q)) sample_values
+  pub integers : map (λ n. value_again (value_text int_sort (whole_number n))) (pos 7 ∷ negsuc 6 ∷ pos largest ∷ []) ≡ map (λ n. Some (whole_number n)) (pos 7 ∷ negsuc 6 ∷ pos largest ∷ [])
 
 -- ---- Values that are asked for
 

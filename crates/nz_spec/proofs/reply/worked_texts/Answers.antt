@@ -12,6 +12,7 @@ returns c =
     record {
       values = record { truths = refl; integers = refl; reals = refl; wide = refl };
       spellings = record { blanks = refl; bars = refl; tokens = refl; nested = refl };
+      readings = record { reals = refl; integers = refl };
       told = record { integers = refl; negatives = refl; reals = refl; truths = refl; wide_sum = refl; first_wide = refl; both_branches = refl; small = refl; through_truth = refl };
       replies = record { answers = refl; done = refl; no_constants = refl; models = refl; quoted_names = refl; reasons = refl; infos = refl; echoes = refl };
       errors = record { syntax = refl; unknown_symbol = refl; sorts = refl; nonlinear = refl; width = refl; limits = refl; no_answer = refl; below_zero = refl; declared_before = refl; incomplete = refl; memory = refl };
