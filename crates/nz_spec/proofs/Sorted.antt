@@ -6,7 +6,7 @@ use Rattle.std.proofs.Math.Nat.{div-le_self}
 use Rattle.nz_ints.specs.Division.{gcd}
 use Rattle.std.specs.List.{AllByRecursion}
 use Rattle.nz_spec.specs.Fraction.{Fraction, denominator, IsWhole, reduce, ◌+ℚ◌, neg_ℚ, ◌-ℚ◌, ◌*ℚ◌, outcome, exact, Operator, Sum, Difference, Product, Quotient}
-use Rattle.nz_spec.specs.Term.{Sort, bool_sort, int_sort, real_sort, Constant, Head, constant, parameter, integer, decimal_number, verum, falsum, negation, conjunction, disjunction, implication, exclusion, equality, distinction, choice, less, at_most, greater, at_least, sum, difference, product, quotient, integer_quotient, modulus, magnitude, to_real, to_int, is_int, head_sort, Term, apply, Terms, no_terms, terms, sort_of, is_bool, Value, truth, number, Assignment, is_true, number_of, IsOfSort, all_true, some_true, implied, excluded, combined, carried_out, divided, whole_number, default_value, head_value, value_of, values_of}
+use Rattle.nz_spec.specs.Term.{Sort, bool_sort, int_sort, real_sort, Constant, Head, constant, parameter, integer, decimal_number, verum, falsum, negation, conjunction, disjunction, implication, exclusion, equality, distinction, choice, less, at_most, greater, at_least, sum, difference, product, quotient, integer_quotient, modulus, magnitude, to_real, to_int, is_int, head_sort, Term, apply, Terms, no_terms, terms, sort_of, is_bool, Value, truth, number, Assignment, is_true, number_of, IsOfSort, all_true, some_true, implied, excluded, combined, is_undefined, carried_out, divided, whole_number, default_value, head_value, value_of, values_of}
 use Rattle.nz_spec.specs.Elaboration.{are_same_sort, has_sort, all_terms, term_count}
 use Rattle.nz_spec.proofs.FractionArithmetic.{denominator-sum, denominator-product, denominator-neg}
 use Rattle.nz_spec.proofs.FractionLaws.{denominator-reduce, denominator_pos}
@@ -149,12 +149,19 @@ negated_is int_sort (truth b) e i = absurd i
 negated_is int_sort (number q) e i = i
 negated_is real_sort v e i = tt
 
+chosen_is : (b : Bool) (s : Sort) (v w : Value) → IsOfSort s v → IsOfSort s w → IsOfSort s (if b then v else w)
+chosen_is true s v w i j = i
+chosen_is false s v w i j = j
+
+real_carried : (op : Operator) (v w : Value) → IsOfSort real_sort (carried_out op v w)
+real_carried op v w = chosen_is (is_undefined op (number_of w)) real_sort (whole_number (pos 0)) (number (outcome op (number_of v) (number_of w))) tt tt
+
 carried_is : (s : Sort) (op : Operator) → KeepsWhole op → not (is_bool s) ≡ true → (v w : Value) → IsOfSort s v → IsOfSort s w → IsOfSort s (carried_out op v w)
 carried_is bool_sort op k e v w i j = absurd (true≢false (sym e))
 carried_is int_sort op k e (truth b) w i j = absurd i
 carried_is int_sort op k e (number p) (truth b) i j = absurd j
-carried_is int_sort op k e (number p) (number q) i j = k p q i j
-carried_is real_sort op k e v w i j = tt
+carried_is int_sort op k e (number p) (number q) i j = chosen_is (is_undefined op q) int_sort (whole_number (pos 0)) (number (outcome op p q)) refl (k p q i j)
+carried_is real_sort op k e v w i j = real_carried op v w
 
 whole_is : (s : Sort) (n : ℤ) → not (is_bool s) ≡ true → IsOfSort s (whole_number n)
 whole_is bool_sort n e = absurd (true≢false (sym e))
@@ -182,10 +189,6 @@ implied_is : (vs : List Value) → AllByRecursion (IsOfSort bool_sort) vs → Is
 implied_is [] h = tt
 implied_is (v ∷ []) h = h.0
 implied_is (v ∷ w ∷ vs) h = tt
-
-chosen_is : (b : Bool) (s : Sort) (v w : Value) → IsOfSort s v → IsOfSort s w → IsOfSort s (if b then v else w)
-chosen_is true s v w i j = i
-chosen_is false s v w i j = j
 
 real_is : (v : Value) → IsOfSort int_sort v → IsOfSort real_sort v
 real_is (truth b) i = absurd i
@@ -260,7 +263,7 @@ head_is a ss (product r) ts s e h = product_is a r ts e h
 head_is a ss quotient no_terms s e h = tt
 head_is a ss quotient (terms t ts) s e h =
     let all = all_of a real_sort (terms t ts) e h in
-    combined_is real_sort (carried_out Quotient) (λ v w i j. tt) (value_of a t) (values_of a ts) all.0 all.1
+    combined_is real_sort (carried_out Quotient) (λ v w i j. real_carried Quotient v w) (value_of a t) (values_of a ts) all.0 all.1
 head_is a ss integer_quotient no_terms s e h = refl
 head_is a ss integer_quotient (terms t ts) s e h =
     let all = all_of a int_sort (terms t ts) e h in

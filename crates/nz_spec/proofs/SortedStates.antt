@@ -11,7 +11,7 @@ use Rattle.nz_spec.specs.Term.{Sort, bool_sort, Term, Terms, sort_of, Assignment
 use Rattle.nz_spec.specs.Normal.{normal_of}
 use Rattle.nz_spec.specs.Linear.{is_linear}
 use Rattle.nz_spec.specs.Elaboration.{has_sort, placed, Definition, term_of, terms_of}
-use Rattle.nz_spec.specs.Script.{State, start, Item, declared, defined, asserted, sought, wished, items_of, constants_in, definitions_in, assertions_in, assertions_of, with_item, Command, declare_const, define, assert_term, check_sat, get_value, get_info, get_levels, get_reason, name_info, version_info, authors_info, error_behavior_info, set_print_success, no_effect, Outcome, accepted, refused, not_taken, passes_limit, takes_command, is_live_name, scope_of, sort_of_tree, is_unknown_sort, any_tree, bound_names, clash, has_clash, have_clash, has_unknown, have_unknown, knows_too, declaration_of, parameter_sorts, sorts_of_trees, parameters_from, body_scope, linear_outcome, definition_by, definition_of, asserted_outcome, assertion_of, all_linear, asked_of, values_of_trees, outcome_by, outcome_named, outcome_of}
+use Rattle.nz_spec.specs.Script.{State, start, Item, declared, defined, asserted, sought, wished, items_of, constants_in, definitions_in, assertions_in, assertions_of, with_item, Command, declare_const, define, assert_term, check_sat, get_value, get_info, get_levels, get_reason, name_info, version_info, authors_info, error_behavior_info, set_print_success, no_effect, Outcome, accepted, refused, not_taken, passes_limit, takes_command, is_live_name, scope_of, sort_of_tree, is_unknown_sort, any_tree, bound_names, clash, has_clash, have_clash, has_unknown, have_unknown, declaration_of, parameter_sorts, sorts_of_trees, parameters_from, body_scope, linear_outcome, definition_by, definition_of, asserted_outcome, assertion_of, all_linear, asked_of, values_of_trees, outcome_by, outcome_named, outcome_of}
 use Rattle.nz_spec.specs.Text.{What, whole}
 use Rattle.nz_spec.specs.Reply.{Reply, error, grown, effect, effect_of, after}
 use Rattle.nz_spec.specs.Transcript.{Kept, state_after}
@@ -138,7 +138,7 @@ module _ (a : Assignment) where
     definition_good name parameters sort body =
         let names = bound_names parameters in
         let made : Outcome = definition_by s name names (sorts_of_trees (parameter_sorts parameters)) (sort_of_tree sort) body in
-        good_if (any_tree is_unknown_sort (parameter_sorts parameters) || is_unknown_sort sort || has_unknown (knows_too names (is_live_name s)) body) (refused 2)
+        good_if (any_tree is_unknown_sort (parameter_sorts parameters) || is_unknown_sort sort || has_unknown (is_live_name s) names body) (refused 2)
         (if is_live_name s name || clash names || has_clash body then refused 9 else made) tt
         (good_if (is_live_name s name || clash names || has_clash body) (refused 9) made tt
         (definition_by_good name names (sorts_of_trees (parameter_sorts parameters)) (sort_of_tree sort) body))
@@ -154,7 +154,7 @@ module _ (a : Assignment) where
     assertion_good : (t : Tree) → IsGood (assertion_of s t)
     assertion_good t =
         let stated : Outcome = elim (term_of (scope_of s) t) [ Some u ↦ asserted_outcome u | None ↦ refused 3 ] in
-        good_if (has_unknown (is_live_name s) t) (refused 2) (if has_clash t then refused 9 else stated) tt
+        good_if (has_unknown (is_live_name s) [] t) (refused 2) (if has_clash t then refused 9 else stated) tt
         (good_if (has_clash t) (refused 9) stated tt (stated_good (term_of (scope_of s) t) (tree_sorted a [] (scope_of s) t scope_is)))
 
     asked_good : (ts : Trees) (m : Option Terms) → IsGood (elim m [ Some us ↦ linear_outcome (all_linear us) (get_value (asked_of ts us)) | None ↦ refused 3 ])
@@ -164,7 +164,7 @@ module _ (a : Assignment) where
     values_good : (ts : Trees) → IsGood (values_of_trees s ts)
     values_good ts =
         let asked : Outcome = elim (terms_of (scope_of s) ts) [ Some us ↦ linear_outcome (all_linear us) (get_value (asked_of ts us)) | None ↦ refused 3 ] in
-        good_if (have_unknown (is_live_name s) ts) (refused 2) (if have_clash ts then refused 9 else asked) tt
+        good_if (have_unknown (is_live_name s) [] ts) (refused 2) (if have_clash ts then refused 9 else asked) tt
         (good_if (have_clash ts) (refused 9) asked tt (asked_good ts (terms_of (scope_of s) ts)))
 
     named_declaration : (m : Option (List ℕ)) (arguments : Trees) (sort : Tree) → IsGood (elim m [ Some name ↦ declaration_of s name arguments sort | None ↦ refused 1 ])

@@ -1,12 +1,13 @@
 -- A tree's term is well sorted, in a scope whose constants, definitions and bound terms are.
-use Rattle.std.proofs.Common.{◌≡◌, ℕ, zero, suc, Bool, true, false, not, ◌&&◌, ◌||◌, ◌==◌, List, [], ◌∷◌, ◌++◌, Option, Some, None, refl, sym, ap, ◌∙◌, true≢false, if◌then◌else◌, bytes_eq}
+use Rattle.std.proofs.Common.{◌≡◌, ℕ, zero, suc, Bool, true, false, not, ◌&&◌, ◌||◌, ◌==◌, List, [], ◌∷◌, ◌++◌, Option, Some, None, refl, sym, ap, ◌∙◌, true≢false, if◌then◌else◌, bytes_eq, arith, eqb-true, length}
 use Rattle.std.specs.Bool.{⊤}
-use Rattle.std.specs.Prelude.{nat_lt, nat_eq, option_map, option_and_then, is_some}
+use Rattle.std.specs.Prelude.{option_map, option_and_then, is_some}
 use Rattle.std.specs.List.{AllByRecursion}
-use Rattle.nz_spec.specs.Tree.{Token, symbol, keyword, numeral, decimal, hexadecimal, binary, literal, symbol_name, Tree, leaf, node, Trees, no_trees, trees}
+use Rattle.nz_spec.specs.Tree.{Token, symbol, keyword, numeral, decimal, hexadecimal, binary, literal, symbol_name, after_point, Tree, leaf, node, Trees, no_trees, trees}
 use Rattle.nz_spec.specs.Form.{TermHead, let_head, name_head, no_head, term_head, tree_symbol}
-use Rattle.nz_spec.specs.Term.{Sort, bool_sort, int_sort, real_sort, Constant, Head, constant, parameter, verum, falsum, negation, conjunction, disjunction, implication, exclusion, equality, distinction, choice, less, at_most, greater, at_least, sum, difference, product, quotient, integer_quotient, modulus, magnitude, to_real, to_int, is_int, head_sort, Term, apply, Terms, no_terms, terms, sort_of, is_bool, Assignment}
-use Rattle.nz_spec.specs.Elaboration.{Operator, true_operator, false_operator, not_operator, and_operator, or_operator, implies_operator, xor_operator, equals_operator, distinct_operator, ite_operator, at_most_operator, less_operator, at_least_operator, greater_operator, plus_operator, times_operator, minus_operator, over_operator, div_operator, mod_operator, abs_operator, to_real_operator, to_int_operator, is_int_operator, listed, operator_named, are_same_sort, has_sort, is_number_term, all_terms, term_count, as_real, as_reals, number_sort, alike, placed, term_if, over_bools, over_ints, over_reals, over_numbers, over_alike, over_branches, applied, Definition, term_at, instance_node, instance_of, instances_of, terms_onto, all_placed, expansion, Scope, constant_named, definition_named, binding, name_term, application, token_term, bound_onto, term_of, terms_of, let_term, bindings_in, bindings_of, binding_onto, bound_pair}
+use Rattle.nz_spec.specs.Bounds.{digits_value, decimal_digits}
+use Rattle.nz_spec.specs.Term.{Sort, bool_sort, int_sort, real_sort, head_fits, Constant, Head, constant, parameter, integer, decimal_number, conjunction, disjunction, implication, exclusion, choice, sum, difference, product, quotient, integer_quotient, to_real, head_sort, Term, apply, Terms, no_terms, terms, sort_of, is_bool, Assignment}
+use Rattle.nz_spec.specs.Elaboration.{Operator, true_operator, false_operator, not_operator, and_operator, or_operator, implies_operator, xor_operator, equals_operator, distinct_operator, ite_operator, at_most_operator, less_operator, at_least_operator, greater_operator, plus_operator, times_operator, minus_operator, over_operator, div_operator, mod_operator, abs_operator, to_real_operator, to_int_operator, is_int_operator, listed, operator_named, are_same_sort, has_sort, is_number_term, all_terms, term_count, as_real, as_reals, number_sort, alike_sort, takes, Operands, bools, ints, reals, numbers, alike, branches, operands_of, operand_sort, read_at, operator_head, applied, placed, fitting, Definition, term_at, instance_node, instance_of, instances_of, terms_onto, all_placed, expansion, Scope, constant_named, definition_named, binding, name_term, application, token_term, bound_onto, term_of, terms_of, let_term, bindings_in, bindings_of, binding_onto, bound_pair}
 use Rattle.nz_spec.proofs.Sorted.{and_first, and_second, and_both, same_sorts, fit, fit_branches, fit_numbers, sort_at, Gives, Stands, IsSorted, AreSorted}
 
 -- P of what was found, if anything was
@@ -88,6 +89,11 @@ some_same x y e = ap (λ o. elim o [ Some z ↦ z | None ↦ x ]) e
 none_is_not : {A : Type 0} (x : A) → None ≡ Some x → ⊥
 none_is_not x e = true≢false (sym (ap is_some e))
 
+bool_is_no_int : (s : Sort) → are_same_sort bool_sort s ≡ true → are_same_sort int_sort s ≡ true → ⊥
+bool_is_no_int bool_sort e f = true≢false (sym f)
+bool_is_no_int int_sort e f = true≢false (sym e)
+bool_is_no_int real_sort e f = true≢false (sym e)
+
 module _ (a : Assignment) (ss : List Sort) where
   abbrev IsTerm : Option Term → Type 0
   IsTerm o = IfFound (IsSorted a ss) o
@@ -118,102 +124,123 @@ module _ (a : Assignment) (ss : List Sort) where
       (real_sorted_if (has_sort int_sort t) (has_sort real_sort t) t refl refl (and_first (is_number_term t) (all_terms is_number_term ts) e))
       (all_real ts (and_second (is_number_term t) (all_terms is_number_term ts) e))
 
-  -- numbers side by side: well sorted, of one sort of numbers
-  sorted_if_alike : (b : Bool) (ts : Terms) → AreSorted a ss ts → AreSorted a ss (if b then ts else as_reals ts)
-  sorted_if_alike true ts h = h
-  sorted_if_alike false ts h = sorted_reals ts h
-
-  numbers_if_alike : (b : Bool) (ts : Terms) → all_terms (has_sort int_sort) ts ≡ b → all_terms is_number_term ts ≡ true → fit_numbers (if b then int_sort else real_sort) (if b then ts else as_reals ts) ≡ true
-  numbers_if_alike true ts e h = e
-  numbers_if_alike false ts e h = all_real ts h
-
   -- ---- Operators
 
-  by_test : (fits : Bool) (h : Head) (ts : Terms) → (fits ≡ true → IsSorted a ss (apply h ts)) → IsTerm (term_if fits h ts)
-  by_test true h ts k = k refl
-  by_test false h ts k = tt
+  -- what is known of operands that are read at a sort
+  abbrev Reads : Operands → Sort → Terms → Type 0
+  Reads bools s us = all_terms (has_sort bool_sort) us ≡ true
+  Reads ints s us = all_terms (has_sort int_sort) us ≡ true
+  Reads reals s us = all_terms (has_sort real_sort) us ≡ true
+  Reads numbers s us = fit_numbers s us ≡ true
+  Reads alike s us = all_terms (has_sort s) us ≡ true
+  Reads branches s no_terms = ⊥
+  Reads branches s (terms c us) = (has_sort bool_sort c ≡ true) × (all_terms (has_sort s) us ≡ true)
 
-  bools : (takes : ℕ → Bool) (h : Head) (ts : Terms) → Stands a ss h → (all_terms (has_sort bool_sort) ts ≡ true → fit h ts ≡ true) → AreSorted a ss ts → IsTerm (over_bools takes h ts)
-  bools takes h ts s k i =
-      by_test (takes (term_count ts) && all_terms (has_sort bool_sort) ts) h ts
-      (λ e. (s, k (and_second (takes (term_count ts)) (all_terms (has_sort bool_sort) ts) e), i))
+  sorted_read : (s : Sort) (ts : Terms) → AreSorted a ss ts → AreSorted a ss (read_at s ts)
+  sorted_read bool_sort ts h = h
+  sorted_read int_sort ts h = h
+  sorted_read real_sort ts h = sorted_reals ts h
 
-  integers : (takes : ℕ → Bool) (h : Head) (ts : Terms) → Stands a ss h → (all_terms (has_sort int_sort) ts ≡ true → fit h ts ≡ true) → AreSorted a ss ts → IsTerm (over_ints takes h ts)
-  integers takes h ts s k i =
-      by_test (takes (term_count ts) && all_terms (has_sort int_sort) ts) h ts
-      (λ e. (s, k (and_second (takes (term_count ts)) (all_terms (has_sort int_sort) ts) e), i))
+  count_read : (s : Sort) (ts : Terms) → term_count (read_at s ts) ≡ term_count ts
+  count_read bool_sort ts = refl
+  count_read int_sort ts = refl
+  count_read real_sort ts = count_reals ts
 
-  reals : (takes : ℕ → Bool) (h : Head) (ts : Terms) → Stands a ss h → (all_terms (has_sort real_sort) (as_reals ts) ≡ true → fit h (as_reals ts) ≡ true) → AreSorted a ss ts → IsTerm (over_reals takes h ts)
-  reals takes h ts s k i =
-      by_test (takes (term_count ts) && all_terms is_number_term ts) h (as_reals ts)
-      (λ e. (s, k (all_real ts (and_second (takes (term_count ts)) (all_terms is_number_term ts) e)), sorted_reals ts i))
+  -- a sort that is found where a test holds
+  sort_if : (b : Bool) (P : Sort → Type 0) (s : Sort) → (b ≡ true → P s) → IfFound P (if b then Some s else None)
+  sort_if true P s k = k refl
+  sort_if false P s k = tt
 
-  numbers : (takes : ℕ → Bool) (head_for : Sort → Head) (ts : Terms) → Stands a ss (head_for (number_sort ts))
-      → (fit_numbers (number_sort ts) (alike ts) ≡ true → fit (head_for (number_sort ts)) (alike ts) ≡ true) → AreSorted a ss ts → IsTerm (over_numbers takes head_for ts)
-  numbers takes head_for ts s k i =
-      by_test (takes (term_count ts) && all_terms is_number_term ts) (head_for (number_sort ts)) (alike ts)
-      (λ e. (
-        s,
-        k (numbers_if_alike (all_terms (has_sort int_sort) ts) ts refl (and_second (takes (term_count ts)) (all_terms is_number_term ts) e)),
-        sorted_if_alike (all_terms (has_sort int_sort) ts) ts i,
-      ))
+  number_sort_by : (b c : Bool) (P : Sort → Type 0) → (b ≡ true → P int_sort) → (c ≡ true → P real_sort) → IfFound P (if b then Some int_sort else (if c then Some real_sort else None))
+  number_sort_by true c P k l = k refl
+  number_sort_by false true P k l = l refl
+  number_sort_by false false P k l = tt
 
-  alike_terms : (h : Head) (ts : Terms) → Stands a ss h → ((us : Terms) → fit h us ≡ true) → AreSorted a ss ts → IsTerm (over_alike h ts)
-  alike_terms h ts s k i =
-      if_found (IsSorted a ss) (all_terms (has_sort bool_sort) ts) (over_bools (nat_lt 1) h ts) (over_numbers (nat_lt 1) (λ r. h) ts)
-      (bools (nat_lt 1) h ts s (λ e. k ts) i)
-      (numbers (nat_lt 1) (λ r. h) ts s (λ e. k (alike ts)) i)
+  numbers_read : (ts : Terms) → IfFound (λ s. fit_numbers s (read_at s ts) ≡ true) (number_sort ts)
+  numbers_read ts =
+      number_sort_by (all_terms (has_sort int_sort) ts) (all_terms is_number_term ts) (λ s. fit_numbers s (read_at s ts) ≡ true) (λ e. e) (λ e. all_real ts e)
 
-  count_alike : (b : Bool) (ts : Terms) → term_count (if b then ts else as_reals ts) ≡ term_count ts
-  count_alike true ts = refl
-  count_alike false ts = count_reals ts
+  found_weaker : (P Q : Sort → Type 0) (o : Option Sort) → ((s : Sort) → P s → Q s) → IfFound P o → IfFound Q o
+  found_weaker P Q None k h = tt
+  found_weaker P Q (Some s) k h = k s h
 
-  branches_by : (b n p q : Bool) (c : Term) (ts : Terms) → has_sort bool_sort c ≡ b → (term_count ts == 2) ≡ n → all_terms (has_sort bool_sort) ts ≡ p → all_terms is_number_term ts ≡ q → AreSorted a ss (terms c ts)
-      → IsTerm (if not b || not n then None else (if p then Some (apply (choice bool_sort) (terms c ts)) else (if q then Some (apply (choice (number_sort ts)) (terms c (alike ts))) else None)))
-  branches_by false n p q c ts eb en ep eq i = tt
-  branches_by true false p q c ts eb en ep eq i = tt
-  branches_by true true true q c ts eb en ep eq i = (tt, and_both (has_sort bool_sort c) ((term_count ts == 2) && all_terms (has_sort bool_sort) ts) eb (and_both (term_count ts == 2) (all_terms (has_sort bool_sort) ts) en ep), i)
-  branches_by true true false true c ts eb en ep eq i =
-      let whole = all_terms (has_sort int_sort) ts in
-      let us = alike ts in
-      let s = number_sort ts in
-      let fits = numbers_if_alike whole ts refl eq in
-      let count : (term_count us == 2) ≡ true = ap (λ n. n == 2) (count_alike whole ts) ∙ en in (
-        tt,
-        and_both (has_sort bool_sort c) ((term_count us == 2) && all_terms (has_sort s) us) eb (and_both (term_count us == 2) (all_terms (has_sort s) us) count (and_second (not (is_bool s)) (all_terms (has_sort s) us) fits)),
-        (i.0, sorted_if_alike whole ts i.1),
-      )
-  branches_by true true false false c ts eb en ep eq i = tt
+  alike_by : (b : Bool) (o : Option Sort) (ts : Terms) → all_terms (has_sort bool_sort) ts ≡ b → IfFound (λ s. all_terms (has_sort s) (read_at s ts) ≡ true) o
+      → IfFound (λ s. all_terms (has_sort s) (read_at s ts) ≡ true) (if b then Some bool_sort else o)
+  alike_by true o ts e h = e
+  alike_by false o ts e h = h
 
-  branches : (ts : Terms) → AreSorted a ss ts → IsTerm (over_branches ts)
-  branches no_terms i = tt
-  branches (terms c ts) i = branches_by (has_sort bool_sort c) (term_count ts == 2) (all_terms (has_sort bool_sort) ts) (all_terms is_number_term ts) c ts refl refl refl refl i
+  alike_read : (ts : Terms) → IfFound (λ s. all_terms (has_sort s) (read_at s ts) ≡ true) (alike_sort ts)
+  alike_read ts =
+      alike_by (all_terms (has_sort bool_sort) ts) (number_sort ts) ts refl
+      (found_weaker (λ s. fit_numbers s (read_at s ts) ≡ true) (λ s. all_terms (has_sort s) (read_at s ts) ≡ true) (number_sort ts)
+      (λ s e. and_second (not (is_bool s)) (all_terms (has_sort s) (read_at s ts)) e) (numbers_read ts))
+
+  -- a term of sort Bool is read as itself
+  bool_read_by : (b : Bool) (c : Term) → has_sort int_sort c ≡ b → has_sort bool_sort c ≡ true → has_sort bool_sort (if b then apply to_real (terms c no_terms) else c) ≡ true
+  bool_read_by true c e f = absurd (bool_is_no_int (sort_of c) f e)
+  bool_read_by false c e f = f
+
+  branches_read : (s : Sort) (c : Term) (ts : Terms) → has_sort bool_sort c ≡ true → all_terms (has_sort s) (read_at s ts) ≡ true → Reads branches s (read_at s (terms c ts))
+  branches_read bool_sort c ts e h = (e, h)
+  branches_read int_sort c ts e h = (e, h)
+  branches_read real_sort c ts e h = (bool_read_by (has_sort int_sort c) c refl e, h)
+
+  branches_if : (b : Bool) (c : Term) (ts : Terms) → has_sort bool_sort c ≡ b → IfFound (λ s. Reads branches s (read_at s (terms c ts))) (if b then alike_sort ts else None)
+  branches_if true c ts e =
+      found_weaker (λ s. all_terms (has_sort s) (read_at s ts) ≡ true) (λ s. Reads branches s (read_at s (terms c ts))) (alike_sort ts) (λ s h. branches_read s c ts e h) (alike_read ts)
+  branches_if false c ts e = tt
+
+  two_left : (n : ℕ) → (suc n == 3) ≡ true → (n == 2) ≡ true
+  two_left n e = let three : suc n ≡ 3 = eqb-true (suc n) 3 e in let two : n ≡ 2 = omega (arith, three) in ap (λ m. m == 2) two
+
+  -- What operands are read at is of the sorts that their operator takes.
+  operands_read : (k : Operands) (ts : Terms) → IfFound (λ s. Reads k s (read_at s ts)) (operand_sort k ts)
+  operands_read bools ts = sort_if (all_terms (has_sort bool_sort) ts) (λ s. Reads bools s (read_at s ts)) bool_sort (λ e. e)
+  operands_read ints ts = sort_if (all_terms (has_sort int_sort) ts) (λ s. Reads ints s (read_at s ts)) int_sort (λ e. e)
+  operands_read reals ts = sort_if (all_terms is_number_term ts) (λ s. Reads reals s (read_at s ts)) real_sort (λ e. all_real ts e)
+  operands_read numbers ts = numbers_read ts
+  operands_read alike ts = alike_read ts
+  operands_read branches no_terms = tt
+  operands_read branches (terms c ts) = branches_if (has_sort bool_sort c) c ts refl
+
+  -- a head over what is read for it is well sorted
+  head_sorted : (o : Operator) (s : Sort) (us : Terms) → takes o (term_count us) ≡ true → Reads (operands_of o) s us → Stands a ss (operator_head o s) × (fit (operator_head o s) us ≡ true)
+  head_sorted true_operator s us n r = (tt, refl)
+  head_sorted false_operator s us n r = (tt, refl)
+  head_sorted not_operator s us n r = (tt, refl)
+  head_sorted and_operator s us n r = (tt, r)
+  head_sorted or_operator s us n r = (tt, r)
+  head_sorted implies_operator s us n r = (tt, r)
+  head_sorted xor_operator s us n r = (tt, r)
+  head_sorted equals_operator s us n r = (tt, refl)
+  head_sorted distinct_operator s us n r = (tt, refl)
+  head_sorted ite_operator s no_terms n r = absurd r
+  head_sorted ite_operator s (terms c us) n r = (tt, and_both (has_sort bool_sort c) ((term_count us == 2) && all_terms (has_sort s) us) r.0 (and_both (term_count us == 2) (all_terms (has_sort s) us) (two_left (term_count us) n) r.1))
+  head_sorted at_most_operator s us n r = (tt, refl)
+  head_sorted less_operator s us n r = (tt, refl)
+  head_sorted at_least_operator s us n r = (tt, refl)
+  head_sorted greater_operator s us n r = (tt, refl)
+  head_sorted plus_operator s us n r = (tt, r)
+  head_sorted times_operator s us n r = (tt, r)
+  head_sorted minus_operator s us n r = (tt, r)
+  head_sorted over_operator s us n r = (tt, r)
+  head_sorted div_operator s us n r = (tt, r)
+  head_sorted mod_operator s us n r = (tt, refl)
+  head_sorted abs_operator s us n r = (tt, refl)
+  head_sorted to_real_operator s us n r = (tt, r)
+  head_sorted to_int_operator s us n r = (tt, refl)
+  head_sorted is_int_operator s us n r = (tt, refl)
+
+  applied_by : (o : Operator) (ts : Terms) (b : Bool) → takes o (term_count ts) ≡ b → AreSorted a ss ts
+      → IsTerm (if b then option_map (λ s. apply (operator_head o s) (read_at s ts)) (operand_sort (operands_of o) ts) else None)
+  applied_by o ts true e i =
+      map_found (λ s. Reads (operands_of o) s (read_at s ts)) (IsSorted a ss) (λ s. apply (operator_head o s) (read_at s ts)) (operand_sort (operands_of o) ts)
+      (λ s r. let whole = head_sorted o s (read_at s ts) (ap (takes o) (count_read s ts) ∙ e) r in (whole.0, whole.1, sorted_read s ts i))
+      (operands_read (operands_of o) ts)
+  applied_by o ts false e i = tt
 
   operators : (o : Operator) (ts : Terms) → AreSorted a ss ts → IsTerm (applied o ts)
-  operators true_operator ts i = bools (nat_eq 0) verum ts tt (λ e. refl) i
-  operators false_operator ts i = bools (nat_eq 0) falsum ts tt (λ e. refl) i
-  operators not_operator ts i = bools (nat_eq 1) negation ts tt (λ e. refl) i
-  operators and_operator ts i = bools (nat_lt 0) conjunction ts tt (λ e. e) i
-  operators or_operator ts i = bools (nat_lt 0) disjunction ts tt (λ e. e) i
-  operators implies_operator ts i = bools (nat_lt 1) implication ts tt (λ e. e) i
-  operators xor_operator ts i = bools (nat_lt 1) exclusion ts tt (λ e. e) i
-  operators equals_operator ts i = alike_terms equality ts tt (λ us. refl) i
-  operators distinct_operator ts i = alike_terms distinction ts tt (λ us. refl) i
-  operators ite_operator ts i = branches ts i
-  operators less_operator ts i = numbers (nat_lt 1) (λ s. less) ts tt (λ e. refl) i
-  operators at_most_operator ts i = numbers (nat_lt 1) (λ s. at_most) ts tt (λ e. refl) i
-  operators greater_operator ts i = numbers (nat_lt 1) (λ s. greater) ts tt (λ e. refl) i
-  operators at_least_operator ts i = numbers (nat_lt 1) (λ s. at_least) ts tt (λ e. refl) i
-  operators plus_operator ts i = numbers (nat_lt 0) sum ts tt (λ e. e) i
-  operators times_operator ts i = numbers (nat_lt 0) product ts tt (λ e. e) i
-  operators minus_operator ts i = numbers (nat_lt 0) difference ts tt (λ e. e) i
-  operators over_operator ts i = reals (nat_lt 1) quotient ts tt (λ e. e) i
-  operators div_operator ts i = integers (nat_lt 1) integer_quotient ts tt (λ e. e) i
-  operators mod_operator ts i = integers (nat_eq 2) modulus ts tt (λ e. refl) i
-  operators abs_operator ts i = integers (nat_eq 1) magnitude ts tt (λ e. refl) i
-  operators to_real_operator ts i = integers (nat_eq 1) to_real ts tt (λ e. e) i
-  operators to_int_operator ts i = reals (nat_eq 1) to_int ts tt (λ e. refl) i
-  operators is_int_operator ts i = reals (nat_eq 1) is_int ts tt (λ e. refl) i
+  operators o ts i = applied_by o ts (takes o (term_count ts)) refl i
 
   -- ---- Definitions
 
@@ -340,10 +367,13 @@ module _ (a : Assignment) (ss : List Sort) where
       application_by (is_some (listed sc.bound name)) (is_some (constant_named sc.constants name)) (operator_named name) (definition_named sc.definitions name) ts
       (definition_found sc.definitions name g.definitions) h
 
+  fitting_sorted : (h : Head) → Stands a ss h → fit h no_terms ≡ true → IsTerm (fitting h)
+  fitting_sorted h i e = if_found (IsSorted a ss) (head_fits h) (Some (apply h no_terms)) None (i, e, tt) tt
+
   tokens : (sc : Scope) (t : Token) → IsScope sc → IsTerm (token_term sc t)
   tokens sc (symbol name) g = names sc name g
-  tokens sc (numeral bs) g = (tt, refl, tt)
-  tokens sc (decimal bs) g = (tt, refl, tt)
+  tokens sc (numeral bs) g = fitting_sorted (integer (digits_value bs)) tt refl
+  tokens sc (decimal bs) g = fitting_sorted (decimal_number (digits_value (decimal_digits bs)) (length (after_point bs))) tt refl
   tokens sc (keyword bs) g = tt
   tokens sc (hexadecimal bs) g = tt
   tokens sc (binary bs) g = tt

@@ -1,7 +1,7 @@
 -- The terms that trees stand for (SMT-LIB 2.6, sections 3.6 and 4.2.3, and the theories Core and Reals_Ints): names in scope,
 -- sorts, `let` in parallel, and definitions by their bodies.
-use Rattle.std.specs.Prelude.{◌≡◌, ℕ, zero, suc, ◌+◌, ◌&&◌, ◌||◌, ◌==◌, nat_lt, nat_eq, not, Bool, true, false, List, [], ◌∷◌, ◌++◌, length, map, Option, Some, None, option_map, option_and_then, is_some, slice_get, ⊤, codes, bytes_eq, if◌then◌else◌}
-use Rattle.std.specs.List.{AllByRecursion, list_any}
+use Rattle.std.specs.Prelude.{◌≡◌, ℕ, zero, suc, ◌&&◌, ◌||◌, ◌==◌, nat_lt, Bool, true, false, List, [], ◌∷◌, ◌++◌, length, Option, Some, None, option_map, option_and_then, is_some, slice_get, ⊤, codes, bytes_eq, if◌then◌else◌}
+use Rattle.std.specs.List.{AllByRecursion}
 use Rattle.nz_spec.specs.Tree.{Token, symbol, keyword, numeral, decimal, hexadecimal, binary, literal, symbol_name, after_point, Tree, leaf, node, Trees, no_trees, trees}
 use Rattle.nz_spec.specs.Form.{tree_symbol, term_head, name_head, let_head, no_head}
 use Rattle.nz_spec.specs.Bounds.{digits_value, decimal_digits}

@@ -1,7 +1,7 @@
 -- Linear terms: which terms are constant, and which products and divisions are by constants alone.
 -- Source: SMT-LIB 2.6, logics LIRA and QF_LRA (linear arithmetic: products and quotients with a constant). That a constant
 -- term is one whose value, folded from the left, stays among the numbers is this solver's own.
-use Rattle.std.specs.Prelude.{◌≡◌, ℕ, zero, suc, ◌+◌, ◌&&◌, ◌||◌, nat_lt, not, Bool, true, false, List, [], ◌∷◌, Option, Some, None, option_map, pos, if◌then◌else◌}
+use Rattle.std.specs.Prelude.{ℕ, suc, ◌&&◌, ◌||◌, nat_lt, not, Bool, true, false, List, [], ◌∷◌, Option, Some, None, option_map, pos, if◌then◌else◌}
 use Rattle.nz_spec.specs.Fraction.{Fraction, whole, neg_ℚ, Operator, Sum, Difference, Product, Quotient, outcome, is_wide}
 use Rattle.nz_spec.specs.Term.{Head, integer, decimal_number, sum, difference, product, quotient, integer_quotient, modulus, to_real, Term, apply, Terms, no_terms, terms, scaled, is_zero, is_undefined}
 

@@ -1,9 +1,8 @@
 -- Commands and the live state (SMT-LIB 2.6, section 3.9 and chapter 4): what a tree asks for, where it is accepted, and
 -- the stack of levels that the accepted commands leave.
-use Rattle.std.specs.Prelude.{ℕ, ◌&&◌, ◌||◌, ◌+◌, ◌-◌, ◌==◌, zero, suc, not, nat_lt, Bool, true, false, List, [], ◌∷◌, ◌++◌, length, map, Option, Some, None, option_map, option_and_then, is_some, is_none, codes, bytes_eq, if◌then◌else◌}
-use Rattle.std.specs.List.{list_any, list_all}
+use Rattle.std.specs.Prelude.{ℕ, ◌&&◌, ◌||◌, ◌+◌, ◌-◌, suc, not, nat_lt, Bool, true, false, List, [], ◌∷◌, ◌++◌, length, Option, Some, None, option_and_then, is_none, codes, if◌then◌else◌}
 use Rattle.nz_spec.specs.Form.{is_one_of, is_name, is_symbol, is_keyword, is_token, is_one, is_empty, tree_symbol, term_head, name_head, let_head, no_head, has_form, CommandName, command_name, assert_name, assert_soft_name, check_sat_name, check_sat_assuming_name, declare_const_name, declare_fun_name, define_fun_name, echo_name, exit_name, get_info_name, get_model_name, get_objectives_name, get_value_name, maximize_name, minimize_name, pop_name, push_name, reset_name, reset_assertions_name, set_info_name, set_logic_name, set_option_name, other_name}
-use Rattle.nz_spec.specs.Bounds.{has_token, have_token, is_zero_token, numeral_value, is_wide_token, is_long_decimal}
+use Rattle.nz_spec.specs.Bounds.{have_token, is_zero_token, numeral_value, is_wide_token, is_long_decimal}
 use Rattle.nz_spec.specs.Fraction.{Fraction}
 use Rattle.nz_spec.specs.Tree.{Token, literal, symbol_name, Tree, leaf, node, Trees, no_trees, trees}
 use Rattle.nz_spec.specs.Term.{Sort, bool_sort, Constant, constant, parameter, Term, apply, Terms, no_terms, terms, is_bool, holds_number, Value}

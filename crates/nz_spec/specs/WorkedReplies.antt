@@ -1,5 +1,5 @@
 -- Worked texts: values, trees and replies, byte for byte.
-use Rattle.std.specs.Prelude.{◌≡◌, ℕ, true, false, List, [], ◌∷◌, ◌++◌, map, pos, negsuc, Option, Some, codes}
+use Rattle.std.specs.Prelude.{◌≡◌, ℕ, true, false, List, [], ◌∷◌, ◌++◌, map, pos, negsuc, Option, Some, None, codes}
 use Rattle.nz_spec.specs.Fraction.{Fraction, whole, over, largest, Sum, Difference, Product, Quotient}
 use Rattle.nz_spec.specs.Term.{bool_sort, int_sort, real_sort, Value, truth, number, whole_number}
 use Rattle.nz_spec.specs.Script.{Binding, units_spent, name_info, error_behavior_info, Outcome, accepted, get_value}
@@ -30,15 +30,16 @@ pub record HasSpellings : Type 0 where
 -- ---- Texts that are read again
 
 abbrev pub sample_values : List Fraction
-sample_values = whole (pos 2) ∷ whole (negsuc 1) ∷ over (pos 3) 2 ∷ over (negsuc 2) 2 ∷ whole (pos 0) ∷ over (negsuc 0) largest ∷ []
+sample_values = whole (pos 2) ∷ whole (negsuc 1) ∷ over (pos 3) 2 ∷ over (negsuc 2) 2 ∷ whole (pos 0) ∷ over (negsuc 0) 17014118346046923173168730371588410572 ∷ []
 
 -- the value of a sum of this one term
 abbrev pub value_again : List ℕ → Option Value
 value_again text = value_in (codes "(+ " ++ text ++ codes ")")
 
--- The text of a value is a term of that value.
+-- The text of a value is a term of that value, where the digits of each of its decimals make a number.
 pub record HasReadings : Type 0 where
   pub reals : map (λ q. value_again (value_text real_sort (number q))) sample_values ≡ map (λ q. Some (number q)) sample_values
+  pub long : value_again (value_text real_sort (number (over (negsuc 0) largest))) ≡ None
   pub integers : map (λ n. value_again (value_text int_sort (whole_number n))) (pos 7 ∷ negsuc 6 ∷ pos largest ∷ []) ≡ map (λ n. Some (whole_number n)) (pos 7 ∷ negsuc 6 ∷ pos largest ∷ [])
 
 -- ---- Values that are asked for
