@@ -1,5 +1,6 @@
 pub mod Divisions
 pub mod Examples
+pub mod Found
 pub mod FractionArithmetic
 pub mod FractionLaws
 pub mod FractionOrder
@@ -7,7 +8,9 @@ pub mod InfinitesimalLaws
 pub mod Instances
 pub mod Normal
 pub mod Pieces
+pub mod Placed
 pub mod Readings
+pub mod Roots
 pub mod Rounds
 pub mod Sorted
 pub mod SortedStates
@@ -15,3 +18,4 @@ pub mod SortedTrees
 pub mod Tables
 pub mod Tellings
 pub mod Transcripts
+pub mod TreeTerms

@@ -2,6 +2,7 @@
 -- its sort.
 use Rattle.std.proofs.Common.{◌≡◌, ℕ, zero, suc, Bool, true, false, not, ◌&&◌, ◌==◌, List, [], ◌∷◌, Option, Some, None, refl, sym, subst, true≢false, if◌then◌else◌, ℤ, pos, ◌∙◌, ◌*◌, arith, eqb-true, unsigned_abs}
 use Rattle.std.specs.Bool.{⊤}
+use Rattle.std.specs.Prelude.{slice_get}
 use Rattle.std.proofs.Math.Nat.{div-le_self}
 use Rattle.nz_ints.specs.Division.{gcd}
 use Rattle.std.specs.List.{AllByRecursion}
@@ -62,11 +63,6 @@ fit integer_quotient ts = all_terms (has_sort int_sort) ts
 fit to_real ts = all_terms (has_sort int_sort) ts
 fit h ts = true
 
-abbrev pub sort_at : List Sort → ℕ → Option Sort
-sort_at [] i = None
-sort_at (s ∷ ss) zero = Some s
-sort_at (s ∷ ss) (suc i) = sort_at ss i
-
 -- the assignment gives the constant a value of its sort
 abbrev pub Gives : Assignment → Constant → Type 0
 Gives a c = IsOfSort c.sort (a c.name)
@@ -74,7 +70,7 @@ Gives a c = IsOfSort c.sort (a c.name)
 -- a constant has a value of its sort, and a parameter the sort that is listed at its place
 abbrev pub Stands : Assignment → List Sort → Head → Type 0
 Stands a ss (constant c) = Gives a c
-Stands a ss (parameter i s) = sort_at ss i ≡ Some s
+Stands a ss (parameter i s) = slice_get ss i ≡ Some s
 Stands a ss h = ⊤
 
 abbrev mutual

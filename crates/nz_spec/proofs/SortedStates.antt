@@ -2,7 +2,7 @@
 use Rattle.std.proofs.Common.{◌≡◌, ℕ, suc, ◌+◌, Bool, true, false, not, ◌||◌, List, [], ◌∷◌, ◌++◌, Option, Some, None, refl, sym, ap, subst, if◌then◌else◌, arith}
 use Rattle.std.proofs.lemmas.List.{append_assoc}
 use Rattle.std.specs.Bool.{⊤}
-use Rattle.std.specs.Prelude.{option_and_then, codes}
+use Rattle.std.specs.Prelude.{slice_get, option_and_then, codes}
 use Rattle.std.specs.List.{AllByRecursion}
 use Rattle.nz_spec.specs.Tree.{symbol_name, literal, Tree, leaf, node, Trees, no_trees, trees}
 use Rattle.nz_spec.specs.Form.{is_name, is_empty, is_keyword, is_symbol, has_form, CommandName, command_name, assert_name, check_sat_name, declare_const_name, declare_fun_name, define_fun_name, echo_name, exit_name, get_info_name, get_model_name, get_value_name, set_info_name, set_logic_name, set_option_name}
@@ -16,8 +16,11 @@ use Rattle.nz_spec.specs.Text.{What, whole}
 use Rattle.nz_spec.specs.Reply.{Reply, error, grown, effect, effect_of, after}
 use Rattle.nz_spec.specs.Transcript.{Kept, state_after}
 use Rattle.nz_spec.specs.Sorts.{GivesSorts, HaveTheirSorts, TermsHaveTheirSorts}
-use Rattle.nz_spec.proofs.Sorted.{same_sorts, sort_at, IsSorted, value_is}
-use Rattle.nz_spec.proofs.SortedTrees.{IfFound, and_then_found, AreBound, IsPlaced, is_placed, IsScope, tree_sorted}
+use Rattle.nz_spec.proofs.Sorted.{same_sorts, IsSorted, value_is}
+use Rattle.nz_spec.proofs.Found.{IfFound, and_then_found}
+use Rattle.nz_spec.proofs.Placed.{IsPlaced, is_placed}
+use Rattle.nz_spec.proofs.TreeTerms.{AreBound}
+use Rattle.nz_spec.proofs.SortedTrees.{sorted_real, IsSortedScope, tree_sorted}
 
 module _ (a : Assignment) where
   -- a term of sort Bool
@@ -109,27 +112,27 @@ module _ (a : Assignment) where
       (good_if (is_live_name s name) (refused 9) if_none tt (good_if (not (is_empty arguments)) (refused 3) by_sort tt (declared_good name (sort_of_tree sort))))
 
   -- the parameters stand at their places
-  parameters_bound : (rs ss : List Sort) (k : ℕ) (names : List (List ℕ)) → ((j i : ℕ) → i ≡ k + j → sort_at rs i ≡ sort_at ss j) → AreBound a rs (parameters_from k names ss)
+  parameters_bound : (rs ss : List Sort) (k : ℕ) (names : List (List ℕ)) → ((j i : ℕ) → i ≡ k + j → slice_get rs i ≡ slice_get ss j) → AreBound (IsSorted a rs) (parameters_from k names ss)
   parameters_bound rs ss k [] e = tt
   parameters_bound rs [] k (name ∷ names) e = tt
   parameters_bound rs (s ∷ ss) k (name ∷ names) e = ((e 0 k (omega arith), refl, tt), parameters_bound rs ss (suc k) names (λ j i f. e (suc j) i (omega (arith, f))))
 
-  body_good : (name : List ℕ) (sorts : List Sort) (sort : Sort) (m : Option Term) → IfFound (IsPlaced a sorts sort) m
+  body_good : (name : List ℕ) (sorts : List Sort) (sort : Sort) (m : Option Term) → IfFound (IsPlaced (IsSorted a sorts) sort) m
       → IsGood (elim m [ Some t ↦ linear_outcome (is_linear (normal_of t)) (define (record { name = name; parameters = sorts; body = t })) | None ↦ refused 3 ])
   body_good name sorts sort (Some t) h = linear_good (is_linear (normal_of t)) (define (record { name = name; parameters = sorts; body = t })) h.0
   body_good name sorts sort None h = tt
 
   module _ (s : State) (given : Given (items_of s.levels)) (sound : AreSound (items_of s.levels)) where
-    scope_is : IsScope a [] (scope_of s)
+    scope_is : IsSortedScope a [] (scope_of s)
     scope_is = record { constants = given; definitions = sound.definitions; bound = tt }
 
-    body_scope_is : (names : List (List ℕ)) (sorts : List Sort) → IsScope a sorts (body_scope s names sorts)
-    body_scope_is names sorts = record { constants = given; definitions = sound.definitions; bound = parameters_bound sorts sorts 0 names (λ j i e. let f : i ≡ j = omega (arith, e) in ap (sort_at sorts) f) }
+    body_scope_is : (names : List (List ℕ)) (sorts : List Sort) → IsSortedScope a sorts (body_scope s names sorts)
+    body_scope_is names sorts = record { constants = given; definitions = sound.definitions; bound = parameters_bound sorts sorts 0 names (λ j i e. let f : i ≡ j = omega (arith, e) in ap (slice_get sorts) f) }
 
     definition_by_good : (name : List ℕ) (names : List (List ℕ)) (m : Option (List Sort)) (n : Option Sort) (body : Tree) → IsGood (definition_by s name names m n body)
     definition_by_good name names (Some sorts) (Some sort) body =
         body_good name sorts sort (option_and_then (placed sort) (term_of (body_scope s names sorts) body))
-        (and_then_found (IsSorted a sorts) (IsPlaced a sorts sort) (placed sort) (term_of (body_scope s names sorts) body) (is_placed a sorts sort)
+        (and_then_found (IsSorted a sorts) (IsPlaced (IsSorted a sorts) sort) (placed sort) (term_of (body_scope s names sorts) body) (is_placed (IsSorted a sorts) (sorted_real a sorts) sort)
         (tree_sorted a sorts (body_scope s names sorts) body (body_scope_is names sorts)))
     definition_by_good name names (Some sorts) None body = tt
     definition_by_good name names None n body = tt
