@@ -1,6 +1,6 @@
 -- Well sorted terms: the arguments of a head are of the sorts on which the sort of its value rests. Such a term has a value of
 -- its sort.
-use Rattle.std.proofs.Common.{◌≡◌, ℕ, zero, suc, Bool, true, false, not, ◌&&◌, ◌==◌, List, [], ◌∷◌, Option, Some, None, refl, sym, subst, true≢false, if◌then◌else◌, ℤ, pos, ◌∙◌, ◌*◌, arith, eqb-true, unsigned_abs}
+use Rattle.std.proofs.Common.{◌≡◌, ℕ, Bool, true, false, not, ◌&&◌, ◌==◌, List, [], ◌∷◌, Some, refl, sym, subst, true≢false, if◌then◌else◌, ℤ, pos, ◌∙◌, ◌*◌, arith, eqb-true, unsigned_abs}
 use Rattle.std.specs.Bool.{⊤}
 use Rattle.std.specs.Prelude.{slice_get}
 use Rattle.std.proofs.Math.Nat.{div-le_self}

@@ -1,17 +1,14 @@
 -- A tree's term is well sorted, in a scope whose constants, definitions and bound terms are.
-use Rattle.std.proofs.Common.{◌≡◌, ℕ, zero, suc, Bool, true, false, not, ◌&&◌, ◌||◌, ◌==◌, List, [], ◌∷◌, ◌++◌, Option, Some, None, refl, sym, ap, ◌∙◌, true≢false, if◌then◌else◌, bytes_eq, arith, eqb-true, length}
+use Rattle.std.proofs.Common.{◌≡◌, ℕ, suc, Bool, true, false, not, ◌&&◌, ◌||◌, ◌==◌, List, Option, Some, None, refl, sym, ap, ◌∙◌, true≢false, if◌then◌else◌, arith, eqb-true}
 use Rattle.std.specs.Bool.{⊤}
-use Rattle.std.specs.Prelude.{slice_get, option_map, option_and_then, is_some}
-use Rattle.std.specs.List.{AllByRecursion}
-use Rattle.nz_spec.specs.Tree.{Token, symbol, keyword, numeral, decimal, hexadecimal, binary, literal, symbol_name, after_point, Tree, leaf, node, Trees, no_trees, trees}
-use Rattle.nz_spec.specs.Form.{TermHead, let_head, name_head, no_head, term_head, tree_symbol}
-use Rattle.nz_spec.specs.Bounds.{digits_value, decimal_digits}
-use Rattle.nz_spec.specs.Term.{Sort, bool_sort, int_sort, real_sort, head_fits, Constant, Head, constant, parameter, integer, decimal_number, conjunction, disjunction, implication, exclusion, choice, sum, difference, product, quotient, integer_quotient, to_real, head_sort, Term, apply, Terms, no_terms, terms, sort_of, is_bool, Assignment}
-use Rattle.nz_spec.specs.Elaboration.{Operator, true_operator, false_operator, not_operator, and_operator, or_operator, implies_operator, xor_operator, equals_operator, distinct_operator, ite_operator, at_most_operator, less_operator, at_least_operator, greater_operator, plus_operator, times_operator, minus_operator, over_operator, div_operator, mod_operator, abs_operator, to_real_operator, to_int_operator, is_int_operator, listed, operator_named, are_same_sort, has_sort, is_number_term, all_terms, term_count, as_real, as_reals, number_sort, alike_sort, takes, Operands, bools, ints, reals, numbers, alike, branches, operands_of, operand_sort, read_at, operator_head, applied, placed, fitting, Definition, term_at, instance_node, instance_of, instances_of, terms_onto, all_placed, expansion, Scope, constant_named, definition_named, binding, name_term, application, token_term, bound_onto, term_of, terms_of, let_term, bindings_in, bindings_of, binding_onto, bound_pair}
+use Rattle.std.specs.Prelude.{option_map}
+use Rattle.nz_spec.specs.Tree.{Tree}
+use Rattle.nz_spec.specs.Term.{Sort, bool_sort, int_sort, real_sort, Head, constant, parameter, conjunction, disjunction, implication, exclusion, choice, sum, difference, product, quotient, integer_quotient, to_real, head_sort, Term, apply, Terms, no_terms, terms, sort_of, is_bool, Assignment}
+use Rattle.nz_spec.specs.Elaboration.{Operator, true_operator, false_operator, not_operator, and_operator, or_operator, implies_operator, xor_operator, equals_operator, distinct_operator, ite_operator, at_most_operator, less_operator, at_least_operator, greater_operator, plus_operator, times_operator, minus_operator, over_operator, div_operator, mod_operator, abs_operator, to_real_operator, to_int_operator, is_int_operator, are_same_sort, has_sort, is_number_term, all_terms, term_count, as_real, as_reals, number_sort, alike_sort, takes, Operands, bools, ints, reals, numbers, alike, branches, operands_of, operand_sort, read_at, operator_head, applied, Definition, instance_node, instance_of, instances_of, all_placed, expansion, Scope, term_of}
 use Rattle.nz_spec.proofs.Found.{IfFound, map_found}
 use Rattle.nz_spec.proofs.Placed.{HaveSorts, AllAre, IsPlaced, ArePlaced, are_placed, at_place}
 use Rattle.nz_spec.proofs.TreeTerms.{StaysSo, IsScope, tree_found}
-use Rattle.nz_spec.proofs.Sorted.{and_first, and_second, and_both, same_sorts, fit, fit_branches, fit_numbers, Gives, Stands, IsSorted, AreSorted}
+use Rattle.nz_spec.proofs.Sorted.{and_first, and_second, and_both, fit, fit_branches, fit_numbers, Gives, Stands, IsSorted, AreSorted}
 
 -- ---- Conversions
 

@@ -4,7 +4,7 @@ use Rattle.std.specs.List.{AllByRecursion, IsDistinct}
 use Rattle.nz_spec.specs.Term.{Constant, Head, constant_of, Term, Value, Assignment, IsOfSort, IsTrueUnder}
 use Rattle.nz_spec.specs.Table.{Node, term_in}
 use Rattle.nz_spec.specs.Script.{Binding}
-use Rattle.nz_spec.specs.Reply.{assignment_of, Note, atom_note}
+use Rattle.nz_spec.specs.Reply.{assignment_of, ValuesFit, Note, atom_note}
 use Rattle.nz_spec.specs.Work.{DecisionEntry, LearnedEntry, WorkLine, UnitLine, NoteLine}
 
 -- ---- Constants and asserted terms
@@ -46,9 +46,10 @@ pub record Satisfies (cs : List Constant) (ts : List Term) (a : Assignment) : Ty
   pub sorts : AllByRecursion (λ (c : Constant). IsOfSort c.sort (a c.name)) cs
   pub assertions : AllByRecursion (IsTrueUnder a) ts
 
--- The bindings are of these constants, in their order, and satisfy these terms.
+-- The bindings are of these constants, in their order, each to a truth or a number, and satisfy these terms.
 pub record AreModelOf (cs : List Constant) (ts : List Term) (bs : List Binding) : Type 0 where
   pub constants : map (λ (b : Binding). b.constant) bs ≡ cs
+  pub numbers : ValuesFit bs
   pub makes : Satisfies cs ts (assignment_of bs)
 
 -- No assignment does.

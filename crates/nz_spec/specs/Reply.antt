@@ -3,7 +3,7 @@ use Rattle.std.specs.Prelude.{◌≡◌, ℕ, ◌*◌, ◌^◌, ◌<◌, ◌==�
 use Rattle.std.specs.List.{AllByRecursion}
 use Rattle.nz_spec.specs.Fraction.{Fraction, denominator, Operator, Sum, Difference, Product, Quotient, Operation, first_wide}
 use Rattle.nz_spec.specs.Tree.{is_simple_symbol, Token, symbol, keyword, numeral, hexadecimal, binary, literal, decimal as decimal_token, Tree, leaf, node, Trees, no_trees, trees}
-use Rattle.nz_spec.specs.Term.{Sort, bool_sort, int_sort, real_sort, Constant, sort_of, Value, truth, number, Assignment, value_of, IsOfSort, IsTrueUnder}
+use Rattle.nz_spec.specs.Term.{Sort, bool_sort, int_sort, real_sort, Constant, sort_of, Value, truth, number, Assignment, value_of, IsOfSort, ValueFits, IsTrueUnder}
 use Rattle.nz_spec.specs.Normal.{normal_of}
 use Rattle.nz_spec.specs.Operations.{operations_of}
 use Rattle.nz_spec.specs.Text.{What, whole, faulty, unclosed, unread}
@@ -193,9 +193,14 @@ pub record IsModel (s : State) (a : Assignment) : Type 0 where
   pub sorts : AllByRecursion (λ (c : Constant). IsOfSort c.sort (a c.name)) (constants_of s)
   pub assertions : AllByRecursion (IsTrueUnder a) (assertions_of s)
 
--- The bindings are of the live constants, in the order of declaration, and make a model.
+-- what each of the bindings gives its constant fits
+abbrev pub ValuesFit : List Binding → Type 0
+ValuesFit bs = AllByRecursion (λ (b : Binding). ValueFits b.value) bs
+
+-- The bindings are of the live constants, in the order of declaration, each to a truth or a number, and make a model.
 pub record AreModel (s : State) (bs : List Binding) : Type 0 where
   pub constants : map (λ (b : Binding). b.constant) bs ≡ constants_of s
+  pub numbers : ValuesFit bs
   pub makes : IsModel s (assignment_of bs)
 
 -- ---- Which reply is right

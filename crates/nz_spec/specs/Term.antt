@@ -125,6 +125,11 @@ IsOfSort int_sort (number q) = IsWhole q
 IsOfSort real_sort (truth b) = ⊥
 IsOfSort real_sort (number q) = ⊤
 
+-- where the value is a number, it is one of 128 bits, in lowest terms
+abbrev pub ValueFits : Value → Type 0
+ValueFits (truth b) = ⊤
+ValueFits (number q) = IsNumber q
+
 abbrev pub are_equal : Value → Value → Bool
 are_equal (truth true) v = is_true v
 are_equal (truth false) v = not (is_true v)
