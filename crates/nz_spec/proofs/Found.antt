@@ -16,6 +16,10 @@ pub map_found : {A B : Type 0} (P : A → Type 0) (Q : B → Type 0) (f : A → 
 map_found P Q f None k h = tt
 map_found P Q f (Some x) k h = k x h
 
+pub found_weaker : {A : Type 0} (P Q : A → Type 0) (o : Option A) → ((x : A) → P x → Q x) → IfFound P o → IfFound Q o
+found_weaker P Q None k h = tt
+found_weaker P Q (Some x) k h = k x h
+
 pub if_found : {A : Type 0} (P : A → Type 0) (b : Bool) (o p : Option A) → IfFound P o → IfFound P p → IfFound P (if b then o else p)
 if_found P true o p h i = h
 if_found P false o p h i = i

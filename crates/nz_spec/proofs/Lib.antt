@@ -9,6 +9,7 @@ pub mod Instances
 pub mod Normal
 pub mod Pieces
 pub mod Placed
+pub mod ReadOperands
 pub mod Readings
 pub mod Roots
 pub mod Rounds

@@ -1,20 +1,15 @@
 -- A tree's term is well sorted, in a scope whose constants, definitions and bound terms are.
-use Rattle.std.proofs.Common.{◌≡◌, ℕ, suc, Bool, true, false, not, ◌&&◌, ◌||◌, ◌==◌, List, Option, Some, None, refl, sym, ap, ◌∙◌, true≢false, if◌then◌else◌, arith, eqb-true}
+use Rattle.std.proofs.Common.{◌≡◌, ℕ, suc, Bool, true, false, not, ◌&&◌, ◌==◌, List, Option, None, refl, ap, ◌∙◌, if◌then◌else◌, arith, eqb-true}
 use Rattle.std.specs.Bool.{⊤}
 use Rattle.std.specs.Prelude.{option_map}
 use Rattle.nz_spec.specs.Tree.{Tree}
 use Rattle.nz_spec.specs.Term.{Sort, bool_sort, int_sort, real_sort, Head, constant, parameter, conjunction, disjunction, implication, exclusion, choice, sum, difference, product, quotient, integer_quotient, to_real, head_sort, Term, apply, Terms, no_terms, terms, sort_of, is_bool, Assignment}
-use Rattle.nz_spec.specs.Elaboration.{Operator, true_operator, false_operator, not_operator, and_operator, or_operator, implies_operator, xor_operator, equals_operator, distinct_operator, ite_operator, at_most_operator, less_operator, at_least_operator, greater_operator, plus_operator, times_operator, minus_operator, over_operator, div_operator, mod_operator, abs_operator, to_real_operator, to_int_operator, is_int_operator, are_same_sort, has_sort, is_number_term, all_terms, term_count, as_real, as_reals, number_sort, alike_sort, takes, Operands, bools, ints, reals, numbers, alike, branches, operands_of, operand_sort, read_at, operator_head, applied, Definition, instance_node, instance_of, instances_of, all_placed, expansion, Scope, term_of}
+use Rattle.nz_spec.specs.Elaboration.{Operator, true_operator, false_operator, not_operator, and_operator, or_operator, implies_operator, xor_operator, equals_operator, distinct_operator, ite_operator, at_most_operator, less_operator, at_least_operator, greater_operator, plus_operator, times_operator, minus_operator, over_operator, div_operator, mod_operator, abs_operator, to_real_operator, to_int_operator, is_int_operator, has_sort, all_terms, term_count, as_real, as_reals, takes, operands_of, operand_sort, read_at, operator_head, applied, Definition, instance_node, instance_of, instances_of, all_placed, expansion, Scope, term_of}
+use Rattle.nz_spec.proofs.ReadOperands.{Reads, count_read, operands_read}
 use Rattle.nz_spec.proofs.Found.{IfFound, map_found}
 use Rattle.nz_spec.proofs.Placed.{HaveSorts, AllAre, IsPlaced, ArePlaced, are_placed, at_place}
 use Rattle.nz_spec.proofs.TreeTerms.{StaysSo, IsScope, tree_found}
-use Rattle.nz_spec.proofs.Sorted.{and_first, and_second, and_both, fit, fit_branches, fit_numbers, Gives, Stands, IsSorted, AreSorted}
-
--- ---- Conversions
-
-count_reals : (ts : Terms) → term_count (as_reals ts) ≡ term_count ts
-count_reals no_terms = refl
-count_reals (terms t ts) = ap suc (count_reals ts)
+use Rattle.nz_spec.proofs.Sorted.{and_both, fit, fit_branches, fit_numbers, Gives, Stands, IsSorted, AreSorted}
 
 -- ---- Terms of the same sorts
 
@@ -59,10 +54,12 @@ fit_same integer_quotient ts us e = all_same int_sort ts us e
 fit_same to_real ts us e = all_same int_sort ts us e
 fit_same h ts us e = refl
 
-bool_is_no_int : (s : Sort) → are_same_sort bool_sort s ≡ true → are_same_sort int_sort s ≡ true → ⊥
-bool_is_no_int bool_sort e f = true≢false (sym f)
-bool_is_no_int int_sort e f = true≢false (sym e)
-bool_is_no_int real_sort e f = true≢false (sym e)
+-- two of three arguments stand behind the first
+two_left : (n : ℕ) → (suc n == 3) ≡ true → (n == 2) ≡ true
+two_left n e =
+    let three : suc n ≡ 3 = eqb-true (suc n) 3 e in
+    let two : n ≡ 2 = omega (arith, three) in
+    ap (λ m. m == 2) two
 
 module _ (a : Assignment) (ss : List Sort) where
   abbrev IsTerm : Option Term → Type 0
@@ -79,96 +76,12 @@ module _ (a : Assignment) (ss : List Sort) where
   sorted_reals no_terms h = tt
   sorted_reals (terms t ts) h = (sorted_real t h.0, sorted_reals ts h.1)
 
-  real_sorted_if : (b c : Bool) (t : Term) → has_sort int_sort t ≡ b → has_sort real_sort t ≡ c → (b || c) ≡ true → has_sort real_sort (if b then apply to_real (terms t no_terms) else t) ≡ true
-  real_sorted_if true c t e f h = refl
-  real_sorted_if false c t e f h = f ∙ h
-
-  -- what is read as real numbers is of sort Real
-  all_real : (ts : Terms) → all_terms is_number_term ts ≡ true → all_terms (has_sort real_sort) (as_reals ts) ≡ true
-  all_real no_terms e = refl
-  all_real (terms t ts) e =
-      and_both (has_sort real_sort (as_real t)) (all_terms (has_sort real_sort) (as_reals ts))
-      (real_sorted_if (has_sort int_sort t) (has_sort real_sort t) t refl refl (and_first (is_number_term t) (all_terms is_number_term ts) e))
-      (all_real ts (and_second (is_number_term t) (all_terms is_number_term ts) e))
-
   -- ---- Operators
-
-  -- what is known of operands that are read at a sort
-  abbrev Reads : Operands → Sort → Terms → Type 0
-  Reads bools s us = all_terms (has_sort bool_sort) us ≡ true
-  Reads ints s us = all_terms (has_sort int_sort) us ≡ true
-  Reads reals s us = all_terms (has_sort real_sort) us ≡ true
-  Reads numbers s us = fit_numbers s us ≡ true
-  Reads alike s us = all_terms (has_sort s) us ≡ true
-  Reads branches s no_terms = ⊥
-  Reads branches s (terms c us) = (has_sort bool_sort c ≡ true) × (all_terms (has_sort s) us ≡ true)
 
   sorted_read : (s : Sort) (ts : Terms) → AreSorted a ss ts → AreSorted a ss (read_at s ts)
   sorted_read bool_sort ts h = h
   sorted_read int_sort ts h = h
   sorted_read real_sort ts h = sorted_reals ts h
-
-  count_read : (s : Sort) (ts : Terms) → term_count (read_at s ts) ≡ term_count ts
-  count_read bool_sort ts = refl
-  count_read int_sort ts = refl
-  count_read real_sort ts = count_reals ts
-
-  -- a sort that is found where a test holds
-  sort_if : (b : Bool) (P : Sort → Type 0) (s : Sort) → (b ≡ true → P s) → IfFound P (if b then Some s else None)
-  sort_if true P s k = k refl
-  sort_if false P s k = tt
-
-  number_sort_by : (b c : Bool) (P : Sort → Type 0) → (b ≡ true → P int_sort) → (c ≡ true → P real_sort) → IfFound P (if b then Some int_sort else (if c then Some real_sort else None))
-  number_sort_by true c P k l = k refl
-  number_sort_by false true P k l = l refl
-  number_sort_by false false P k l = tt
-
-  numbers_read : (ts : Terms) → IfFound (λ s. fit_numbers s (read_at s ts) ≡ true) (number_sort ts)
-  numbers_read ts =
-      number_sort_by (all_terms (has_sort int_sort) ts) (all_terms is_number_term ts) (λ s. fit_numbers s (read_at s ts) ≡ true) (λ e. e) (λ e. all_real ts e)
-
-  found_weaker : (P Q : Sort → Type 0) (o : Option Sort) → ((s : Sort) → P s → Q s) → IfFound P o → IfFound Q o
-  found_weaker P Q None k h = tt
-  found_weaker P Q (Some s) k h = k s h
-
-  alike_by : (b : Bool) (o : Option Sort) (ts : Terms) → all_terms (has_sort bool_sort) ts ≡ b → IfFound (λ s. all_terms (has_sort s) (read_at s ts) ≡ true) o
-      → IfFound (λ s. all_terms (has_sort s) (read_at s ts) ≡ true) (if b then Some bool_sort else o)
-  alike_by true o ts e h = e
-  alike_by false o ts e h = h
-
-  alike_read : (ts : Terms) → IfFound (λ s. all_terms (has_sort s) (read_at s ts) ≡ true) (alike_sort ts)
-  alike_read ts =
-      alike_by (all_terms (has_sort bool_sort) ts) (number_sort ts) ts refl
-      (found_weaker (λ s. fit_numbers s (read_at s ts) ≡ true) (λ s. all_terms (has_sort s) (read_at s ts) ≡ true) (number_sort ts)
-      (λ s e. and_second (not (is_bool s)) (all_terms (has_sort s) (read_at s ts)) e) (numbers_read ts))
-
-  -- a term of sort Bool is read as itself
-  bool_read_by : (b : Bool) (c : Term) → has_sort int_sort c ≡ b → has_sort bool_sort c ≡ true → has_sort bool_sort (if b then apply to_real (terms c no_terms) else c) ≡ true
-  bool_read_by true c e f = absurd (bool_is_no_int (sort_of c) f e)
-  bool_read_by false c e f = f
-
-  branches_read : (s : Sort) (c : Term) (ts : Terms) → has_sort bool_sort c ≡ true → all_terms (has_sort s) (read_at s ts) ≡ true → Reads branches s (read_at s (terms c ts))
-  branches_read bool_sort c ts e h = (e, h)
-  branches_read int_sort c ts e h = (e, h)
-  branches_read real_sort c ts e h = (bool_read_by (has_sort int_sort c) c refl e, h)
-
-  branches_if : (b : Bool) (c : Term) (ts : Terms) → has_sort bool_sort c ≡ b → IfFound (λ s. Reads branches s (read_at s (terms c ts))) (if b then alike_sort ts else None)
-  branches_if true c ts e =
-      found_weaker (λ s. all_terms (has_sort s) (read_at s ts) ≡ true) (λ s. Reads branches s (read_at s (terms c ts))) (alike_sort ts) (λ s h. branches_read s c ts e h) (alike_read ts)
-  branches_if false c ts e = tt
-
-  two_left : (n : ℕ) → (suc n == 3) ≡ true → (n == 2) ≡ true
-  two_left n e = let three : suc n ≡ 3 = eqb-true (suc n) 3 e in let two : n ≡ 2 = omega (arith, three) in ap (λ m. m == 2) two
-
-  -- What operands are read at is of the sorts that their operator takes.
-  operands_read : (k : Operands) (ts : Terms) → IfFound (λ s. Reads k s (read_at s ts)) (operand_sort k ts)
-  operands_read bools ts = sort_if (all_terms (has_sort bool_sort) ts) (λ s. Reads bools s (read_at s ts)) bool_sort (λ e. e)
-  operands_read ints ts = sort_if (all_terms (has_sort int_sort) ts) (λ s. Reads ints s (read_at s ts)) int_sort (λ e. e)
-  operands_read reals ts = sort_if (all_terms is_number_term ts) (λ s. Reads reals s (read_at s ts)) real_sort (λ e. all_real ts e)
-  operands_read numbers ts = numbers_read ts
-  operands_read alike ts = alike_read ts
-  operands_read branches no_terms = tt
-  operands_read branches (terms c ts) = branches_if (has_sort bool_sort c) c ts refl
 
   -- a head over what is read for it is well sorted
   head_sorted : (o : Operator) (s : Sort) (us : Terms) → takes o (term_count us) ≡ true → Reads (operands_of o) s us → Stands a ss (operator_head o s) × (fit (operator_head o s) us ≡ true)

@@ -28,6 +28,7 @@ pub mod Tree
 pub mod TruthTables
 pub mod Work
 pub mod WorkedLinear
+pub mod WorkedListings
 pub mod WorkedNormals
 pub mod WorkedNumbers
 pub mod WorkedReplies

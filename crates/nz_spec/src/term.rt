@@ -4,6 +4,7 @@ ghost use Rattle.nz_spec.specs.Elaboration.{InstanceKeepsNormal};
 ghost use Rattle.nz_spec.specs.Term.{Divides, DividesOnce};
 ghost use Rattle.nz_spec.specs.TruthTables.{HasNormalTerms, HasPairs, HasTriples};
 ghost use Rattle.nz_spec.specs.WorkedLinear.{HasConstants, HasLinearTerms};
+ghost use Rattle.nz_spec.specs.WorkedListings.{HasListings};
 ghost use Rattle.nz_spec.specs.WorkedNormals.{HasChains, HasGroups};
 ghost use Rattle.nz_spec.specs.WorkedNumbers.{HasArithmetic, HasComparisons, HasDivisions, HasRounding};
 
@@ -48,4 +49,9 @@ pub fn worked_numbers()
 pub fn worked_linear_terms()
     ensures linear { HasLinearTerms }
     ensures constants { HasConstants }
+{}
+
+/// The order in which a term list takes terms, by the definitions alone.
+pub fn worked_listings()
+    ensures listings { HasListings }
 {}
