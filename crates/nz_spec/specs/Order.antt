@@ -1,6 +1,7 @@
 -- The order in which shared terms are taken: what a term is made of comes before it.
-use Rattle.std.specs.Prelude.{◌≡◌, ◌⊎◌, List, [], ◌∷◌, ◌++◌, Contains}
+use Rattle.std.specs.Prelude.{◌≡◌, ◌⊎◌, ℕ, List, [], ◌∷◌, ◌++◌, take, Some, All, Contains, slice_get}
 use Rattle.nz_spec.specs.Term.{Term, apply, Terms, no_terms, terms}
+use Rattle.nz_spec.specs.Table.{Node}
 
 -- The subterms of a term in post-order: those of its arguments, from the left, and then itself.
 abbrev mutual
@@ -17,3 +18,7 @@ AreFirst seen [] list = list ≡ []
 AreFirst seen (t ∷ ts) list =
     (Contains seen t × AreFirst seen ts list)
     ⊎ ((Contains seen t → ⊥) × (rest : List Term) × (list ≡ t ∷ rest) × AreFirst (t ∷ seen) ts rest)
+
+-- In this list of numbers each comes behind the arguments of its node.
+abbrev pub ComeBehindArguments : List Node → List ℕ → Type 0
+ComeBehindArguments ns ids = (k i : ℕ) (n : Node) → slice_get ids k ≡ Some i → slice_get ns i ≡ Some n → All (Contains (take k ids)) n.kids

@@ -35,15 +35,31 @@ in_front xs ys zs w t k =
     ]
 
 -- what is there already adds nothing
-joined : (xs ys zs : List Term) → IsWithin xs zs → IsWithin ys zs → IsWithin (xs ++ ys) zs
+pub joined : (xs ys zs : List Term) → IsWithin xs zs → IsWithin ys zs → IsWithin (xs ++ ys) zs
 joined xs ys zs v w t k =
     elim (Contains-append_cases xs ys t k) [
       | inl l ↦ v t l
       | inr r ↦ w t r
     ]
 
-behind : (xs ys : List Term) → IsWithin ys (xs ++ ys)
+pub behind : (xs ys : List Term) → IsWithin ys (xs ++ ys)
 behind xs ys t k = Contains-append_right xs ys t k
+
+pub ahead : (xs ys : List Term) → IsWithin xs (xs ++ ys)
+ahead xs ys t k = Contains-append_left xs ys t k
+
+-- three lists, in another order
+pub second_first : (xs ys zs : List Term) → IsWithin ((xs ++ ys) ++ zs) (ys ++ (xs ++ zs))
+second_first xs ys zs =
+    joined (xs ++ ys) zs (ys ++ (xs ++ zs))
+    (joined xs ys (ys ++ (xs ++ zs)) (λ t k. behind ys (xs ++ zs) t (ahead xs zs t k)) (ahead ys (xs ++ zs)))
+    (λ t k. behind ys (xs ++ zs) t (behind xs zs t k))
+
+pub first_first : (xs ys zs : List Term) → IsWithin (ys ++ (xs ++ zs)) ((xs ++ ys) ++ zs)
+first_first xs ys zs =
+    joined ys (xs ++ zs) ((xs ++ ys) ++ zs)
+    (λ t k. ahead (xs ++ ys) zs t (behind xs ys t k))
+    (joined xs zs ((xs ++ ys) ++ zs) (λ t k. ahead (xs ++ ys) zs t (ahead xs ys t k)) (behind (xs ++ ys) zs))
 
 -- ---- Terms and their parts
 
@@ -81,7 +97,7 @@ not_part (apply h ts) k = omega (arith, none_larger ts (apply h ts) k, length-ap
 passed_over : (seen ts rest list : List Term) → IsWithin ts seen → AreFirst seen rest list → AreFirst seen (ts ++ rest) list
 passed_over seen [] rest list w h = h
 passed_over seen (t ∷ ts) rest list w h =
-    inl (w t (Contains-append_left (t ∷ []) ts t (0, omega arith, refl)), passed_over seen ts rest list (λ u k. w u (behind (t ∷ []) ts u k)) h)
+    inl (w t (ahead (t ∷ []) ts t (0, omega arith, refl)), passed_over seen ts rest list (λ u k. w u (behind (t ∷ []) ts u k)) h)
 
 -- ---- Steps, the next one first, where each number has a term
 
@@ -136,18 +152,7 @@ module _ (f : ℕ → Term) where
       let own = post_order (f i) in
       let others = post_orders (terms_at f is) in
       ready_entries is (own ++ past) s
-      (ready_same ((own ++ others) ++ past) (others ++ (own ++ past)) s
-      (joined (own ++ others) past (others ++ (own ++ past))
-      (joined own others (others ++ (own ++ past))
-      (λ t k. behind others (own ++ past) t (Contains-append_left own past t k))
-      (λ t k. Contains-append_left others (own ++ past) t k))
-      (λ t k. behind others (own ++ past) t (behind own past t k)))
-      (joined others (own ++ past) ((own ++ others) ++ past)
-      (λ t k. Contains-append_left (own ++ others) past t (behind own others t k))
-      (joined own past ((own ++ others) ++ past)
-      (λ t k. Contains-append_left (own ++ others) past t (Contains-append_left own others t k))
-      (behind (own ++ others) past)))
-      r)
+      (ready_same ((own ++ others) ++ past) (others ++ (own ++ past)) s (second_first own others past) (first_first own others past) r)
 
   orders_of_roots : (is : List ℕ) → post_orders (terms_at f is) ≡ flat_map post_order (map f is)
   orders_of_roots [] = refl
@@ -190,23 +195,12 @@ module _ (f : ℕ → Term) where
         first = λ list k. w.first list (subst (λ l. AreFirst seen l list) same k);
         closed = w.closed;
         ready = ready_entries kids seen (Leave i ∷ s) (
-          λ t k. Contains-append_left inner seen t (subst (λ l. Contains l t) made k),
+          λ t k. ahead inner seen t (subst (λ l. Contains l t) made k),
           λ k. elim (Contains-append_cases inner seen (f i) k) [
             | inl l ↦ not_part (f i) (subst (λ x. Contains x (f i)) (sym made) l)
             | inr r ↦ new r
           ],
-          ready_same ((inner ++ f i ∷ []) ++ seen) (f i ∷ (inner ++ seen)) s
-              (joined (inner ++ f i ∷ []) seen (f i ∷ (inner ++ seen))
-              (joined inner (f i ∷ []) (f i ∷ (inner ++ seen))
-              (λ t k. behind (f i ∷ []) (inner ++ seen) t (Contains-append_left inner seen t k))
-              (λ t k. Contains-append_left (f i ∷ []) (inner ++ seen) t k))
-              (λ t k. behind (f i ∷ []) (inner ++ seen) t (behind inner seen t k)))
-              (joined (f i ∷ []) (inner ++ seen) ((inner ++ f i ∷ []) ++ seen)
-              (λ t k. Contains-append_left (inner ++ f i ∷ []) seen t (behind inner (f i ∷ []) t k))
-              (joined inner seen ((inner ++ f i ∷ []) ++ seen)
-              (λ t k. Contains-append_left (inner ++ f i ∷ []) seen t (Contains-append_left inner (f i ∷ []) t k))
-              (behind (inner ++ f i ∷ []) seen)))
-              around,
+          ready_same ((inner ++ f i ∷ []) ++ seen) (f i ∷ (inner ++ seen)) s (second_first inner (f i ∷ []) seen) (first_first inner (f i ∷ []) seen) around,
         );
       }
 
@@ -216,7 +210,7 @@ module _ (f : ℕ → Term) where
       let t = f i in
       let inside : IsWithin (post_order t) (t ∷ seen) =
       subst (λ l. IsWithin l (t ∷ seen)) (sym (whole t))
-      (joined (parts t) (t ∷ []) (t ∷ seen) (λ u k. behind (t ∷ []) seen u (w.ready.0 u k)) (λ u k. Contains-append_left (t ∷ []) seen u k)) in
+      (joined (parts t) (t ∷ []) (t ∷ seen) (λ u k. behind (t ∷ []) seen u (w.ready.0 u k)) (ahead (t ∷ []) seen)) in
       record {
         first = λ list h. subst (AreFirst [] all) (sym (append_assoc done (t ∷ []) list)) (w.first (t ∷ list) (inr (w.ready.1, list, refl, h)));
         closed = λ u k. elim (Contains-append_cases (t ∷ []) seen u k) [

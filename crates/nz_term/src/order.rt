@@ -1,13 +1,13 @@
 //! The order of shared terms in which what a term is made of comes before it.
-ghost use Rattle.std.specs.Prelude.{◌≡◌, ◌<◌, ◌++◌, [], length, map, flat_map, All, IfOk, OnOk};
+ghost use Rattle.std.specs.Prelude.{◌≡◌, ◌<◌, ◌++◌, [], length, map, flat_map, All, Contains, IfOk, OnOk};
 ghost use Rattle.nz_spec.specs.Table.{term_in};
-ghost use Rattle.nz_spec.specs.Order.{post_order, AreFirst};
+ghost use Rattle.nz_spec.specs.Order.{post_order, AreFirst, ComeBehindArguments};
 ghost use Rattle.nz_term.specs.Steps.{entries, EntersArguments};
 
 use crate::nodes::TermId;
 use crate::terms::Terms;
 use nz_base::Memory;
-use nz_spec::table::one_number;
+use nz_spec::table::{one_number, term_of_node};
 use std::alloc::Global;
 
 // What is left to do of a term.
@@ -42,8 +42,13 @@ pub fn post_order(alloc: Global, terms: &Terms, roots: &[TermId]) -> Result<Vec<
     requires within { All (λ r. r < length terms.now) roots.now }
     ensures order { IfOk result (λ ids. AreFirst [] (flat_map post_order (map (term_in terms.now) roots.now)) (map (term_in terms.now) ids.items)) }
     ensures within { IfOk result (λ ids. All (λ i. i < length terms.now) ids.items) }
+
+    // So each of them can be taken when its arguments are done, and none of the roots is missed.
+    ensures behind { IfOk result (λ ids. ComeBehindArguments terms.now ids.items) }
+    ensures roots { IfOk result (λ ids. All (Contains ids.items) roots.now) }
 {
     one_number();
+    term_of_node();
     let mut steps = Vec::new(alloc);
     enter_each(&mut steps, roots)?;
     let mut is_done = vec![in alloc; false; terms.len()]?;

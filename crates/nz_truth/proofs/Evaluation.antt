@@ -69,7 +69,7 @@ list_any-map v [] = refl
 list_any-map v (k ∷ ks) = ap (λ b. is_true (v k) || b) (list_any-map v ks)
 
 -- the values of arguments that have these truths
-same_values : (f : ℕ → Bool) (v : ℕ → Value) (ks : List ℕ) → AllByRecursion (λ k. f k ≡ is_true (v k)) ks → values_by f ks ≡ map v ks
+pub same_values : (f : ℕ → Bool) (v : ℕ → Value) (ks : List ℕ) → AllByRecursion (λ k. f k ≡ is_true (v k)) ks → values_by f ks ≡ map v ks
 same_values f v [] s = refl
 same_values f v (k ∷ ks) s =
     let one : truth (f k) ≡ v k = ap truth s.0 ∙ truth_of (v k) in
@@ -104,17 +104,24 @@ head_value_truth a choice d f v (c ∷ k ∷ []) e s = refl
 head_value_truth a choice d f v (c ∷ k ∷ l ∷ []) e s = ap (λ b. cond b (f k) (f l)) s.0 ∙ chosen (is_true (v c)) (f k) (f l) (v k) (v l) s.1.0 s.1.1.0
 head_value_truth a choice d f v (c ∷ k ∷ l ∷ m ∷ ms) e s = refl
 
--- a node has the truth of its term where the terms before it have theirs
+-- a node has the truth of its term where its arguments have theirs
+pub node_truth_over : TermOfNode → (ns : List Node) → IsTable ns → (i : ℕ) (n : Node) → slice_get ns i ≡ Some n → (a : Assignment) (decided : Bool) (values : List Bool)
+    → ((c : Constant) → n.head ≡ constant c → decided ≡ is_true (a c.name)) → AllByRecursion (λ k. slice_index_or values k false ≡ is_true (value_of a (term_in ns k))) n.kids
+    → head_truth n.head decided (λ k. slice_index_or values k false) n.kids ≡ is_true (value_of a (term_in ns i))
+node_truth_over law ns t i n at a decided values e over =
+    let term : term_in ns i ≡ apply n.head (terms_at (term_in ns) n.kids) = law ns t i n at in
+    let kids : values_of a (terms_at (term_in ns) n.kids) ≡ map (λ k. value_of a (term_in ns k)) n.kids = values_of_kids a (term_in ns) n.kids in
+    let here : head_truth n.head decided (λ k. slice_index_or values k false) n.kids ≡ is_true (head_value a n.head (map (λ k. value_of a (term_in ns k)) n.kids)) =
+    head_value_truth a n.head decided (λ k. slice_index_or values k false) (λ k. value_of a (term_in ns k)) n.kids e over in
+    here ∙ ap (λ vs. is_true (head_value a n.head vs)) (sym kids) ∙ ap (λ x. is_true (value_of a x)) (sym term)
+
+-- so it has where the terms before it have theirs
 pub node_truth_value : TermOfNode → (ns : List Node) → IsTable ns → (i : ℕ) (n : Node) → slice_get ns i ≡ Some n → (a : Assignment) (decided : Bool) (values : List Bool)
     → ((c : Constant) → n.head ≡ constant c → decided ≡ is_true (a c.name)) → AreTruths ns i a values → All (λ k. k < i) n.kids
     → head_truth n.head decided (λ k. slice_index_or values k false) n.kids ≡ is_true (value_of a (term_in ns i))
 node_truth_value law ns t i n at a decided values e before below =
-    let term : term_in ns i ≡ apply n.head (terms_at (term_in ns) n.kids) = law ns t i n at in
-    let kids : values_of a (terms_at (term_in ns) n.kids) ≡ map (λ k. value_of a (term_in ns k)) n.kids = values_of_kids a (term_in ns) n.kids in
-    let here : head_truth n.head decided (λ k. slice_index_or values k false) n.kids ≡ is_true (head_value a n.head (map (λ k. value_of a (term_in ns k)) n.kids)) =
-    head_value_truth a n.head decided (λ k. slice_index_or values k false) (λ k. value_of a (term_in ns k)) n.kids e
-    (all_below (λ k. slice_index_or values k false ≡ is_true (value_of a (term_in ns k))) i n.kids below before) in
-    here ∙ ap (λ vs. is_true (head_value a n.head vs)) (sym kids) ∙ ap (λ x. is_true (value_of a x)) (sym term)
+    node_truth_over law ns t i n at a decided values e
+    (all_below (λ k. slice_index_or values k false ≡ is_true (value_of a (term_in ns k))) i n.kids below before)
 
 -- ---- Constants
 

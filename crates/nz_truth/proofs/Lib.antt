@@ -1,2 +1,4 @@
+pub mod Assigned
+pub mod Evaluated
 pub mod Evaluation
 pub mod Numbering

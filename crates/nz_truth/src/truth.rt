@@ -12,7 +12,7 @@ use nz_term::{Head, Node, TermId, Terms};
 use std::alloc::{AllocError, Global};
 
 // The truth of a node over that of its arguments; a constant has what was decided.
-fn node_truth(node: &Node, decided: bool, values: &[bool]) -> bool
+pub(crate) fn node_truth(node: &Node, decided: bool, values: &[bool]) -> bool
     requires within { All (λ k. k < length values.now) node.now.kids }
     ensures truth { result ≡ head_truth (head_of node.now.head) decided (λ k. slice_index_or values.now k false) node.now.kids }
 {

@@ -5,6 +5,7 @@ use Rattle.nz_spec.specs.Table.{Node, term_in}
 use Rattle.nz_term.specs.declared.order.Step.{Step}
 use Rattle.nz_term.specs.declared.order.Step.TheVariants.{Enter, Leave}
 use Rattle.nz_term.specs.Steps.{entries, EntersArguments}
+use Rattle.nz_term.proofs.Places.{come_behind, roots_listed}
 use Rattle.nz_term.proofs.Traversal.{effort}
 use Rattle.nz_term.proofs.Walks.{IsWalk, mark_read, none_taken, enters_within, start_walk, finish_walk, skip_walk, enter_walk, leave_walk, skip_less, enter_less, leave_less}
 use Rattle.nz_term.proofs.order.post_order.Goals as goal
@@ -85,3 +86,14 @@ returns-clause-order c =
     let gone = none_taken c.pop.result _ _ c.in_default.not-Some c.pop.ensures.cases in
     let empty = nil_from_length c.loop-step.steps.items (omega (arith, gone.0, c.loop-step.steps.ok.0)) in
     finish_walk c.args.terms.now c.args.roots.now c.loop-step.steps.items c.loop-step.is_done.items c.loop-step.order.items empty c.loop-step.invariant
+
+pub returns-clause-behind : goal.returns-clause-behind
+returns-clause-behind c =
+    let ns = c.args.terms.now in
+    let table = c.len.ensures.table in
+    come_behind ns (c.one_number.ensures.one ns table) c.args.roots.now c.loop-step.order.items c.loop-step.invariant.listed (returns-clause-order c) table c.term_of_node.ensures.node
+
+pub returns-clause-roots : goal.returns-clause-roots
+returns-clause-roots c =
+    let ns = c.args.terms.now in
+    roots_listed ns (c.one_number.ensures.one ns c.len.ensures.table) c.args.roots.now c.loop-step.order.items c.loop-step.invariant.listed (returns-clause-order c) c.requires.within
