@@ -1,4 +1,6 @@
 //! Laws of terms.
+ghost use Rattle.nz_spec.specs.Term.{DecimalsAreNumbers};
+ghost use Rattle.nz_spec.specs.Numerals.{NumeralsAreWhole};
 ghost use Rattle.nz_spec.specs.Normal.{NormalKeepsValue};
 ghost use Rattle.nz_spec.specs.Elaboration.{InstanceKeepsNormal};
 ghost use Rattle.nz_spec.specs.TruthTables.{HasNormalTerms, HasPairs, HasTriples};
@@ -11,6 +13,16 @@ pub fn normal_keeps_value()
 /// Terms may be put for the parameters of a body before or after both are made normal.
 pub fn instance_keeps_normal()
     ensures keeps { InstanceKeepsNormal }
+{}
+
+/// A decimal that fits is a number.
+pub fn decimals_are_numbers()
+    ensures numbers { DecimalsAreNumbers }
+{}
+
+/// A number of no decimal places is the integer that its digits spell.
+pub fn numerals_are_whole()
+    ensures whole { NumeralsAreWhole }
 {}
 
 /// The truth tables of the operators, by the definitions alone.
