@@ -110,6 +110,40 @@ instances_within ns us made ks h =
     All-map (λ k. k < length ns) (slice_index made) ks
     (All-weaker (λ k. IsInstance ns us k (slice_index made k)) (λ k. slice_index made k < length ns) (λ k i. i.within) ks h)
 
+-- the instance of a term of this head over these arguments, by how the head is
+pub argument_instance : (ns : List Node) (us : List ℕ) (id : ℕ) (h : Head) (ks : List ℕ) (a : ℕ) → All (λ u. u < length ns) us → argument_of h us ≡ Some a
+    → term_in ns id ≡ apply h (terms_at (term_in ns) ks) → IsInstance ns us id a
+argument_instance ns us id h ks a within e term =
+    record {
+      within = argument_within (length ns) us h a within e;
+      term = sym (ap (instance_of (terms_at (term_in ns) us)) term ∙ argument_is (term_in ns) us h (terms_at (term_in ns) ks) a e);
+    }
+
+over_instances : (ns : List Node) (us made : List ℕ) (id : ℕ) (h : Head) (ks : List ℕ) → argument_of h us ≡ None → term_in ns id ≡ apply h (terms_at (term_in ns) ks)
+    → All (λ k. IsInstance ns us k (slice_index made k)) ks
+    → apply h (terms_at (term_in ns) (map (slice_index made) ks)) ≡ instance_of (terms_at (term_in ns) us) (term_in ns id)
+over_instances ns us made id h ks e term done =
+    ap (apply h) (instances_are ns us made ks done)
+    ∙ sym (ap (instance_of (terms_at (term_in ns) us)) term ∙ head_stays (term_in ns) us h (terms_at (term_in ns) ks) e)
+
+pub own_instance : (ns : List Node) (us made : List ℕ) (id : ℕ) (h : Head) (ks : List ℕ) → argument_of h us ≡ None → term_in ns id ≡ apply h (terms_at (term_in ns) ks)
+    → id < length ns → All (λ k. IsInstance ns us k (slice_index made k)) ks → map (slice_index made) ks ≡ ks → IsInstance ns us id id
+own_instance ns us made id h ks e term below done same =
+    record {
+      within = below;
+      term = term ∙ ap (λ l. apply h (terms_at (term_in ns) l)) (sym same) ∙ over_instances ns us made id h ks e term done;
+    }
+
+pub made_instance : (ns new : List Node) → Grows ns new → (us made : List ℕ) (id : ℕ) (h : Head) (ks : List ℕ) (m : ℕ) → All (λ u. u < length ns) us → argument_of h us ≡ None
+    → term_in ns id ≡ apply h (terms_at (term_in ns) ks) → id < length ns → All (λ k. IsInstance ns us k (slice_index made k)) ks → m < length new
+    → term_in new m ≡ apply h (terms_at (term_in ns) (map (slice_index made) ks)) → IsInstance new us id m
+made_instance ns new g us made id h ks m arguments e term below done within is =
+    record {
+      within = within;
+      term = is ∙ over_instances ns us made id h ks e term done ∙ ap (λ vs. instance_of vs (term_in ns id)) (sym (terms_kept ns new g us arguments))
+          ∙ ap (instance_of (terms_at (term_in new) us)) (sym (term_kept ns new g id below));
+    }
+
 -- An instance stays one when the table grows.
 pub instance_kept : (old new : List Node) → Grows old new → (us : List ℕ) → All (λ u. u < length old) us → (id made : ℕ) → id < length old
     → IsInstance old us id made → IsInstance new us id made

@@ -7,7 +7,7 @@
 mod assign;
 mod facts;
 mod heads;
-mod instance;
+mod instances;
 mod nodes;
 mod order;
 mod terms;
@@ -16,7 +16,7 @@ mod tests;
 
 pub use assign::{Assign, Value};
 pub use heads::{Constant, Head, Sort};
-pub use instance::instance;
+pub use instances::instance;
 pub use nodes::{Ids, Node, TermId};
 pub use order::post_order;
 pub use terms::Terms;

@@ -1,6 +1,6 @@
 use Rattle.std.proofs.Common.{◌≡◌, map, take}
 use Rattle.std.specs.Prelude.{slice_index}
-use Rattle.nz_term.proofs.instance.listed.Given as goal
+use Rattle.nz_term.proofs.instances.listed.Given as goal
 
 -- what is listed for those so far
 abbrev pub invariant-loop-id : goal.invariant-loop-id
