@@ -1,3 +1,4 @@
+pub mod Decimals
 pub mod Divisions
 pub mod Examples
 pub mod Found

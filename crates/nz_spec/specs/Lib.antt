@@ -8,6 +8,7 @@ pub mod Infinitesimal
 pub mod Kept
 pub mod Linear
 pub mod Normal
+pub mod Numerals
 pub mod Operations
 pub mod Order
 pub mod Outside

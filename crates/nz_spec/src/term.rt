@@ -1,4 +1,6 @@
 //! Laws of terms.
+ghost use Rattle.nz_spec.specs.Term.{DecimalsAreNumbers};
+ghost use Rattle.nz_spec.specs.Numerals.{NumeralsAreWhole};
 ghost use Rattle.nz_spec.specs.Normal.{NormalKeepsValue};
 ghost use Rattle.nz_spec.specs.Elaboration.{InstanceKeepsNormal};
 ghost use Rattle.nz_spec.specs.Term.{Divides, DividesOnce};
@@ -22,6 +24,16 @@ pub fn instance_keeps_normal()
 pub fn divides()
     ensures divides { Divides }
     ensures once { DividesOnce }
+{}
+
+/// A decimal that fits is a number.
+pub fn decimals_are_numbers()
+    ensures numbers { DecimalsAreNumbers }
+{}
+
+/// A number of no decimal places is the integer that its digits spell.
+pub fn numerals_are_whole()
+    ensures whole { NumeralsAreWhole }
 {}
 
 /// The truth tables of the operators, by the definitions alone.

@@ -18,7 +18,7 @@ use Rattle.nz_term.proofs.Keys.{once}
 -- ---- Places in a list that grows
 
 -- an element keeps its place
-kept : {X : Type 0} (xs ys : List X) (i : ℕ) (x : X) → slice_get xs i ≡ Some x → slice_get (xs ++ ys) i ≡ Some x
+pub kept : {X : Type 0} (xs ys : List X) (i : ℕ) (x : X) → slice_get xs i ≡ Some x → slice_get (xs ++ ys) i ≡ Some x
 kept [] ys i x at = cc
 kept (z ∷ zs) ys zero x at = at
 kept (z ∷ zs) ys (suc i) x at = kept zs ys i x at

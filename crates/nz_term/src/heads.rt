@@ -1,4 +1,9 @@
 //! What a term is of: an operator of the theories Core and Reals_Ints (SMT-LIB 2.6), a declared constant, or a number.
+ghost use Rattle.std.specs.Prelude.{◌≡◌};
+ghost use Rattle.nz_spec.specs.Term.{head_sort};
+ghost use Rattle.nz_term.specs.Constants.{sort_of};
+ghost use Rattle.nz_term.specs.Heads.{head_of};
+
 use nz_base::Text;
 
 /// A sort.
@@ -57,4 +62,23 @@ pub enum Head {
     ToReal,
     ToInt,
     IsInt,
+}
+
+impl Head {
+    /// The sort of a term of this head.
+    pub fn sort(&self) -> Sort
+        ensures sort { sort_of result ≡ head_sort (head_of self.now) }
+    {
+        match self {
+            Head::Constant(constant) => constant.sort,
+            Head::Parameter(_, sort)
+            | Head::Ite(sort)
+            | Head::Sum(sort)
+            | Head::Difference(sort)
+            | Head::Product(sort) => *sort,
+            Head::Integer(_) | Head::Div | Head::Mod | Head::Abs | Head::ToInt => Sort::Int,
+            Head::Decimal(_, _) | Head::Quotient | Head::ToReal => Sort::Real,
+            _ => Sort::Bool,
+        }
+    }
 }

@@ -1,14 +1,17 @@
 //! The table of shared terms.
 ghost use Rattle.std.specs.Prelude.{◌≡◌, ℕ, ◌<◌, ◌==◌, ◌⊎◌, [], ◌∷◌, ◌++◌, length, take, All, Some, IsTrue, IfOk, OnOk, OnErr, IsOkAnd, option_map, slice_get};
-ghost use Rattle.nz_spec.specs.Term.{apply, head_fits};
+ghost use Rattle.nz_spec.specs.Linear.{constant_value, is_linear};
+ghost use Rattle.nz_spec.specs.Term.{apply, head_fits, holds_number};
 ghost use Rattle.nz_spec.specs.Table.{IsTable, HasOneNumberEach, term_in, terms_at};
 ghost use Rattle.nz_term.specs.Heads.{head_of};
 ghost use Rattle.nz_term.specs.Nodes.{node_of, node_with};
 
+use crate::facts::{Fact, fact_over};
 use crate::heads::Head;
 use crate::nodes::{Ids, Node, TermId};
 use indexmap::IndexSet;
 use nz_base::Memory;
+use nz_frac::Frac;
 use std::alloc::Global;
 use std::marker::Model;
 
@@ -16,19 +19,22 @@ use std::marker::Model;
 #[derive(Debug, Drop)]
 pub struct Terms {
     nodes: IndexSet<Node>,
+    // What is known of each term, in order.
+    facts: Vec<Fact>,
 }
 
 impl Model for Terms {
     ghost use Rattle.std.specs.Prelude.{List, map};
-    ghost use Rattle.nz_spec.specs.Table.{Node, IsTable};
+    ghost use Rattle.nz_spec.specs.Table.{Node};
 
     ghost Value = { List Node };
 
+    ghost use Rattle.nz_term.specs.Facts.{IsKnown};
     ghost use Rattle.nz_term.specs.Nodes.{node_of};
 
     ghost view = { λ t. map node_of t.nodes.keys };
 
-    ghost invariant = { λ t. IsTable (map node_of t.nodes.keys) };
+    ghost invariant = { λ t. IsKnown (map node_of t.nodes.keys) t.facts.items };
 }
 
 impl Terms {
@@ -38,6 +44,7 @@ impl Terms {
     {
         Ok(Terms {
             nodes: IndexSet::new(alloc),
+            facts: Vec::new(alloc),
         })
     }
 
@@ -56,7 +63,13 @@ impl Terms {
         ensures unchanged { OnErr result (self.new ≡ self.old) }
     {
         let kids = Ids::from_slice(*self.nodes.allocator(), kids)?;
-        let (id, _) = self.nodes.insert_full(Node { head, kids })?;
+        let fact = fact_over(self.facts.as_slice(), &head, kids.as_slice());
+        self.facts.push(fact)?;
+        let inserted = self.nodes.insert_full(Node { head, kids });
+
+        // Where no node was put last, nor does the fact stay.
+        self.facts.truncate(self.nodes.len());
+        let (id, _) = inserted?;
         Ok(id)
     }
 
@@ -92,7 +105,7 @@ impl Terms {
         ensures len { result ≡ length self.now }
         ensures table { IsTable self.now }
     {
-        self.nodes.len()
+        self.facts.len()
     }
 
     /// Whether there is no term.
@@ -115,5 +128,30 @@ impl Terms {
         ensures table { IsTable self.new }
     {
         self.nodes.truncate(mark);
+        self.facts.truncate(mark);
+    }
+
+    /// The value of a constant term; none where an operation in it leaves the numbers, and for a term that isn't constant.
+    pub fn constant(&self, id: TermId) -> Option<Frac>
+        requires within { id < length self.now }
+        ensures constant { result ≡ constant_value (term_in self.now id) }
+    {
+        self.facts[id].constant()
+    }
+
+    /// Whether the term is linear.
+    pub fn is_linear(&self, id: TermId) -> bool
+        requires within { id < length self.now }
+        ensures linear { result ≡ is_linear (term_in self.now id) }
+    {
+        self.facts[id].is_linear()
+    }
+
+    /// Whether the term, or one that it is made of, is of sort `Int` or `Real`.
+    pub fn holds_number(&self, id: TermId) -> bool
+        requires within { id < length self.now }
+        ensures holds { result ≡ holds_number (term_in self.now id) }
+    {
+        self.facts[id].holds_number()
     }
 }
