@@ -1,5 +1,5 @@
 -- What elaboration makes of trees: terms in the table.
-use Rattle.std.specs.Prelude.{◌≡◌, ℕ, ◌<◌, ◌+◌, suc, List, [], ◌∷◌, length, All, Option, Some, None, option_and_then}
+use Rattle.std.specs.Prelude.{◌≡◌, ℕ, ◌<◌, ◌+◌, suc, List, [], ◌∷◌, length, All, Option, Some, None, option_and_then, ⊤}
 use Rattle.nz_spec.specs.Tree.{Tree, leaf, node, Trees, no_trees, trees}
 use Rattle.nz_spec.specs.Term.{Sort, Term, Terms}
 use Rattle.nz_spec.specs.Normal.{normals_of}
@@ -33,6 +33,11 @@ pub record Binds (sc : Scope) (bs : Trees) (ns : List Node) (frame : List (List 
   pub pairs : List (List ℕ × Term)
   pub are : bindings_of sc bs ≡ Some pairs
   pub same : (name : List ℕ) → SameTerm ns (bound_in frame name) (listed pairs name)
+
+-- a tree that is a token
+abbrev pub IsWord : Tree → Type 0
+IsWord (leaf t) = ⊤
+IsWord (node ts) = ⊥
 
 -- a name over the terms of these trees
 abbrev pub application_of : Scope → List ℕ → Trees → Option Term

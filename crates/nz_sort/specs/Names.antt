@@ -1,9 +1,10 @@
 -- Names in scope, as the code keeps them: live names with what they stand for, and frames of bound names, the outermost first.
 use Rattle.std.specs.Prelude.{◌≡◌, ℕ, List, [], ◌∷◌, map, Option, Some, None, ⊤, bytes_eq, if◌then◌else◌}
+use Rattle.std.specs.List.{AllByRecursion}
 use Rattle.nz_spec.specs.Term as spec
 use Rattle.nz_spec.specs.Term.{Constant, constant, Term, apply, no_terms}
 use Rattle.nz_spec.specs.Table.{Node}
-use Rattle.nz_spec.specs.Elaboration.{listed, constant_named, definition_named, Scope}
+use Rattle.nz_spec.specs.Elaboration.{listed, constant_named, definition_named, Scope, RootFits}
 use Rattle.nz_spec.specs.Elaboration as terms
 use Rattle.nz_term.specs.Constants.{sort_of}
 use Rattle.nz_sort.specs.declared.typed.Typed.{Typed}
@@ -48,7 +49,8 @@ SameNamed ns (Some (kinds.Definition d)) None (Some e) = IsDefined ns d e
 SameNamed ns None None None = ⊤
 SameNamed ns n c e = ⊥
 
--- What the names stand for in the table is what they stand for in the scope.
+-- What the names stand for in the table is what they stand for in the scope, whose definitions are no parameters, or ones that fit.
 pub record IsScope (ns : List Node) (entries : List (List ℕ × code.Named)) (frames : List (List (List ℕ × Typed))) (sc : Scope) : Type 0 where
   pub bound : (name : List ℕ) → SameTerm ns (bound_by frames name) (listed sc.bound name)
   pub live : (name : List ℕ) → SameNamed ns (named_by entries name) (constant_named sc.constants name) (definition_named sc.definitions name)
+  pub fits : AllByRecursion (λ (d : terms.Definition). RootFits d.parameters d.body) sc.definitions

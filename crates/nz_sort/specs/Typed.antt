@@ -2,10 +2,10 @@
 use Rattle.std.specs.Prelude.{◌≡◌, ℕ, ◌<◌, List, [], ◌∷◌, ◌++◌, length, All, Some, None, ⊤}
 use Rattle.std.specs.List.{AllByRecursion}
 use Rattle.nz_spec.specs.Term as spec
-use Rattle.nz_spec.specs.Term.{Head, constant_of, Term, Terms, no_terms, terms}
+use Rattle.nz_spec.specs.Term.{bool_sort, int_sort, real_sort, Head, constant_of, Term, Terms, no_terms, terms}
 use Rattle.nz_spec.specs.Normal.{normal_of, normals_of}
 use Rattle.nz_spec.specs.Table.{Node, term_in, terms_at}
-use Rattle.nz_spec.specs.Elaboration.{Operator, applied, read_at}
+use Rattle.nz_spec.specs.Elaboration.{Operator, applied, as_real, read_at}
 use Rattle.nz_term.specs.Constants.{sort_of}
 use Rattle.nz_sort.specs.declared.typed.Typed.{Typed}
 
@@ -47,6 +47,12 @@ pub record HasApplied (o : Operator) (ts : Terms) (ns : List Node) (x : Typed) :
 abbrev pub terms_before : (ℕ → Term) → List ℕ → Terms → Terms
 terms_before term_at [] others = others
 terms_before term_at (i ∷ is) others = terms (term_at i) (terms_before term_at is others)
+
+-- an argument, read at a sort
+abbrev pub read_term : spec.Sort → Term → Term
+read_term bool_sort t = t
+read_term int_sort t = t
+read_term real_sort t = as_real t
 
 -- The numbers are those of the normal terms of these arguments, read at this sort.
 pub record HasRead (s : spec.Sort) (ts : Terms) (ns : List Node) (ids : List ℕ) : Type 0 where

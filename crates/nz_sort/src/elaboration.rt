@@ -1,5 +1,5 @@
 //! Elaboration: the normal term of a tree, made in the table.
-ghost use Rattle.std.specs.Prelude.{◌≡◌, ℕ, ◌≤◌, ◌<◌, ◌⊎◌, List, ◌++◌, length, map, Option, None, IfOk, OnOk, IfSome, IfNone, IsErrOf};
+ghost use Rattle.std.specs.Prelude.{◌≡◌, ℕ, ◌≤◌, ◌<◌, ◌⊎◌, All, List, ◌++◌, length, map, Option, None, IfOk, OnOk, IfSome, IfNone, IsErrOf};
 ghost use Rattle.nz_sexpr.specs.View.{token_view, view};
 ghost use Rattle.nz_spec.specs.Tree.{leaf, node, trees, no_trees, symbol, after_point};
 ghost use Rattle.nz_spec.specs.Bounds.{digits_value, decimal_digits, greatest_number, place_limit};
@@ -11,11 +11,11 @@ ghost use Rattle.nz_term.specs.Constants.{sort_of};
 ghost use Rattle.nz_sort.specs.Form.{seen};
 ghost use Rattle.nz_sort.specs.Names.{IsScope, IsDefined};
 ghost use Rattle.nz_sort.specs.Typed.{Grows, IsTyped, AreTyped};
-ghost use Rattle.nz_sort.specs.Elaborate.{StandsAs, StandAs, Binds, Places, application_of};
+ghost use Rattle.nz_sort.specs.Elaborate.{StandsAs, StandAs, Binds, IsWord, Places, application_of};
 
 use crate::apply::{apply, as_real};
 use crate::form::term::{TermHead, term_head};
-use crate::form::{headed, pair, symbol_name, symbol_of};
+use crate::form::{headed, pair, symbol_of};
 use crate::names::{Bindings, Definition, Named, Names, bound_term};
 use crate::normal::make;
 use crate::operators::operator_of;
@@ -23,6 +23,9 @@ use crate::tokens::{PLACE_LIMIT, around_point, value_onto};
 use crate::typed::{ElaborateError, Typed};
 use nz_base::Text;
 use nz_sexpr::{Token, Tree};
+use nz_spec::elaboration::expansions_keep_sort;
+use nz_spec::table::{term_stays, terms_stay};
+use nz_spec::term::instance_keeps_normal;
 use nz_term::{Head, Sort, TermId, Terms, instance};
 use std::alloc::Global;
 
@@ -69,7 +72,7 @@ fn list_term(
     };
     match term_head(head) {
         TermHead::Let => let_term(alloc, names, frames, terms, arguments),
-        TermHead::Name => match symbol_name(head) {
+        TermHead::Name => match head.as_symbol() {
             Some(name) => application(alloc, names, frames, terms, name, arguments),
             None => Err(ElaborateError::Sort),
         },
@@ -91,6 +94,7 @@ pub(crate) fn elaborate_all(
     ensures found { IfOk result (λ xs. (sc : Scope) → IsScope terms.old names.now frames.old.items sc → StandAs (terms_of sc (seen trees.now)) terms.new xs.items) }
     ensures refused { IsErrOf result ElaborateError.Sort → (sc : Scope) → IsScope terms.old names.now frames.old.items sc → terms_of sc (seen trees.now) ≡ None }
 {
+    term_stays();
     let mut found = Vec::with_capacity(alloc, trees.len())?;
     for tree in trees {
         let term = elaborate(alloc, names, frames, terms, tree)?;
@@ -114,6 +118,7 @@ fn application(
     ensures found { IfOk result (λ x. (sc : Scope) → IsScope terms.old names.now frames.old.items sc → StandsAs (application_of sc name.now (seen trees.now)) terms.new x) }
     ensures refused { IsErrOf result ElaborateError.Sort → (sc : Scope) → IsScope terms.old names.now frames.old.items sc → application_of sc name.now (seen trees.now) ≡ None }
 {
+    term_stays();
     let arguments = elaborate_all(alloc, names, frames, terms, trees)?;
     apply_name(alloc, names, frames, terms, name, arguments.as_slice())
 }
@@ -155,6 +160,14 @@ fn expand(
     ensures found { IfOk result (λ x. (d : SpecDefinition) → IsDefined terms.old definition.now d → RootFits d.parameters d.body → (ts : spec.Terms) → AreTyped terms.old arguments.now ts → StandsAs (expansion d ts) terms.new x) }
     ensures refused { IsErrOf result ElaborateError.Sort → (d : SpecDefinition) → IsDefined terms.old definition.now d → (ts : spec.Terms) → AreTyped terms.old arguments.now ts → expansion d ts ≡ None }
 {
+    term_stays();
+    instance_keeps_normal();
+    expansions_keep_sort();
+
+    // The body of a definition of another table has a number that isn't in this one.
+    if definition.body.id >= terms.len() {
+        return Err(ElaborateError::Sort);
+    }
     let kids = place_all(alloc, terms, definition.parameters.as_slice(), arguments)?;
     let id = instance(alloc, terms, definition.body.id, kids.as_slice())?;
     Ok(Typed {
@@ -171,15 +184,22 @@ fn place_all(
     arguments: &[Typed],
 ) -> Result<Vec<TermId>, ElaborateError>
     ensures grows { Grows terms.old terms.new }
+    ensures within { IfOk result (λ ids. All (λ i. i < length terms.new) ids.items) }
     ensures placed { IfOk result (λ ids. (ts : spec.Terms) → AreTyped terms.old arguments.now ts → Places (map sort_of sorts.now) ts terms.new ids.items) }
     ensures refused { IsErrOf result ElaborateError.Sort → (ts : spec.Terms) → AreTyped terms.old arguments.now ts → all_placed (map sort_of sorts.now) ts ≡ None }
 {
+    term_stays();
     if sorts.len() != arguments.len() {
         return Err(ElaborateError::Sort);
     }
     let mut ids = Vec::with_capacity(alloc, sorts.len())?;
     for i in 0..sorts.len() {
         let id = place(terms, sorts[i], arguments[i])?;
+
+        // An argument of another table has a number that isn't in this one.
+        if id >= terms.len() {
+            return Err(ElaborateError::Sort);
+        }
         ids.push(id)?;
     }
     Ok(ids)
@@ -218,10 +238,14 @@ fn let_term(
     ensures found { IfOk result (λ x. (sc : Scope) → IsScope terms.old names.now frames.old.items sc → StandsAs (spec_let_term sc (seen trees.now)) terms.new x) }
     ensures refused { IsErrOf result ElaborateError.Sort → (sc : Scope) → IsScope terms.old names.now frames.old.items sc → spec_let_term sc (seen trees.now) ≡ None }
 {
-    let Some((Tree::List(bindings), body)) = pair(trees) else {
+    term_stays();
+    let Some((bindings, body)) = pair(trees) else {
         return Err(ElaborateError::Sort);
     };
-    let frame = bind_all(alloc, names, frames, terms, bindings.as_slice())?;
+    let Some(bindings) = trees_of(bindings) else {
+        return Err(ElaborateError::Sort);
+    };
+    let frame = bind_all(alloc, names, frames, terms, bindings)?;
     frames.push(frame)?;
     let term = elaborate(alloc, names, frames, terms, body)?;
     frames.pop();
@@ -242,15 +266,28 @@ fn bind_all(
     ensures bound { IfOk result (λ frame. (sc : Scope) → IsScope terms.old names.now frames.old.items sc → Binds sc (seen trees.now) terms.new frame) }
     ensures refused { IsErrOf result ElaborateError.Sort → (sc : Scope) → IsScope terms.old names.now frames.old.items sc → bindings_of sc (seen trees.now) ≡ None }
 {
+    term_stays();
     let mut frame = Bindings::new(alloc);
     for tree in trees {
-        let Some((name, tree)) = binding(tree) else {
+        let Some((name, value)) = binding(tree) else {
             return Err(ElaborateError::Sort);
         };
-        let term = elaborate(alloc, names, frames, terms, tree)?;
-        frame.insert(Text::from_slice(alloc, name.as_bytes())?, term)?;
+        let term = elaborate(alloc, names, frames, terms, value)?;
+        let name = Text::from_slice(alloc, name.as_bytes())?;
+        frame.insert(name, term)?;
     }
     Ok(frame)
+}
+
+/// The trees of a tree that is a list.
+fn trees_of(tree: &Tree) -> Option<&[Tree]>
+    ensures trees { IfSome result (λ list. view tree.now ≡ node (seen list.now)) }
+    ensures none { IfNone result (IsWord (view tree.now)) }
+{
+    match tree {
+        Tree::Word(_) => None,
+        Tree::List(list) => Some(list.as_slice()),
+    }
 }
 
 /// The name and the term of a binding.
@@ -258,10 +295,7 @@ fn binding(tree: &Tree) -> Option<(&Text, &Tree)>
     ensures binding { IfSome result (λ p. view tree.now ≡ node (trees (leaf (symbol p.0.now)) (trees (view p.1.now) no_trees))) }
     ensures none { IfNone result ((sc : Scope) (ps : Option (List (List ℕ × spec.Term))) → binding_onto sc (view tree.now) ps ≡ None) }
 {
-    let Tree::List(list) = tree else {
-        return None;
-    };
-    let (first, term) = pair(list.as_slice())?;
+    let (first, term) = pair(trees_of(tree)?)?;
     let name = symbol_of(first)?;
     Some((name, term))
 }

@@ -107,6 +107,8 @@ enum Grouping {
 
 fn head_of_grouping(grouping: Grouping) -> Head
     ensures head { head_of result ≡ grouping_head grouping }
+    ensures operator { IsOperator (head_of result) }
+    ensures fits { IsTrue (head_fits (head_of result)) }
 {
     match grouping {
         Grouping::Xor => Head::Xor,
@@ -168,8 +170,8 @@ fn chained(
 {
     let mut links = Vec::with_capacity(alloc, kids.len())?;
     for i in 0..kids.len().saturating_sub(1) {
-        let link = linked(terms, link, kids[i], kids[i + 1])?;
-        links.push(link)?;
+        let made = linked(terms, link, kids[i], kids[i + 1])?;
+        links.push(made)?;
     }
     joined(terms, Head::And, links.as_slice())
 }

@@ -79,9 +79,9 @@ const OPERATORS: [(&[u8], Operator); 24] = [
 pub(crate) fn operator_of(name: &[u8]) -> Option<Operator>
     ensures named { option_map operator_meaning result ≡ operator_named name.now }
 {
-    for (word, operator) in OPERATORS {
-        if name == word {
-            return Some(operator);
+    for (word, operator) in &OPERATORS {
+        if name == *word {
+            return Some(*operator);
         }
     }
     None

@@ -1,4 +1,6 @@
 //! Terms of the table with their sorts, and why a tree has none.
+ghost use Rattle.std.specs.Prelude.{◌≡◌};
+
 use nz_base::Memory;
 use nz_term::{Sort, TermId};
 use std::alloc::{AllocError, AllocFailed};
