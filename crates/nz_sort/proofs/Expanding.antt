@@ -89,13 +89,15 @@ each_placed_kept stays old new g [] ts (i ∷ is) e = absurd e
 each_placed_kept stays old new g (s ∷ ss) no_terms is e = absurd e
 each_placed_kept stays old new g (s ∷ ss) (terms t ts) [] e = absurd e
 each_placed_kept stays old new g (s ∷ ss) (terms t ts) (i ∷ is) e =
-    let first = e.0 in
-    (record {
-      term = first.term;
-      is = first.is;
-      within = omega (arith, first.within, longer old new g);
-      normal = term_kept stays old new g i first.within ∙ first.normal;
-    }, each_placed_kept stays old new g ss ts is e.1)
+    let first = e.0 in (
+      record {
+        term = first.term;
+        is = first.is;
+        within = omega (arith, first.within, longer old new g);
+        normal = term_kept stays old new g i first.within ∙ first.normal;
+      },
+      each_placed_kept stays old new g ss ts is e.1,
+    )
 
 pub each_placed_push : (ns : List Node) (ss : List spec.Sort) (ts : Terms) (is : List ℕ) (s : spec.Sort) (t : Term) (id : ℕ) → EachPlaced ns ss ts is
     → term_at ts (length ss) ≡ Some t → IsPlaced ns s t id → EachPlaced ns (ss ++ s ∷ []) ts (is ++ id ∷ [])

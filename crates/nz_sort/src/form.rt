@@ -96,7 +96,7 @@ fn is_keyword(token: &Token) -> bool
 }
 
 /// The keyword is this one.
-fn is_this_keyword(token: &Token, word: &[u8]) -> bool
+pub(crate) fn is_this_keyword(token: &Token, word: &[u8]) -> bool
     ensures keyword { result ≡ form.is_keyword word.now (token_view token.now) }
 {
     match keyword_name(token) {
@@ -167,7 +167,7 @@ pub(crate) fn pair(list: &[Tree]) -> Option<(&Tree, &Tree)>
 }
 
 /// The three trees.
-fn triple(list: &[Tree]) -> Option<(&Tree, &Tree, &Tree)>
+pub(crate) fn triple(list: &[Tree]) -> Option<(&Tree, &Tree, &Tree)>
     ensures three { IfSome result (λ p. seen list.now ≡ trees (view p.0.now) (trees (view p.1.now) (trees (view p.2.now) no_trees))) }
     ensures none { IfNone result (IsNotThree (seen list.now)) }
 {

@@ -4,9 +4,12 @@
 #![tactic(auto)]
 
 mod apply;
+mod commands;
 mod elaboration;
 mod form;
+mod items;
 mod limits;
+mod live;
 mod names;
 mod normal;
 mod operators;
@@ -14,9 +17,15 @@ mod refusal;
 mod scope;
 mod sorts;
 mod taken;
+#[cfg(test)]
+mod tests;
 mod tokens;
 mod typed;
 
+pub use commands::{Act, Info};
 pub use form::is_of_form;
+pub use items::{Accepted, Direction, Goal, Wish};
+pub use live::Live;
 pub use refusal::Refusal;
 pub use tokens::{TokenTest, has_token};
+pub use typed::Typed;

@@ -216,10 +216,12 @@ fn faults_of_let(
     frames.push(frame)?;
     let inside = faults_of_all(alloc, names, frames, body)?;
     frames.pop();
-    Ok(outside.and(inside).and(Faults {
-        unknown: false,
-        clash,
-    }))
+    Ok(
+        outside.and(inside).and(Faults {
+            unknown: false,
+            clash,
+        }),
+    )
 }
 
 /// Of the bindings of a `let`, all read outside it.

@@ -1,0 +1,112 @@
+-- How the code takes a command apart, and what it adds.
+use Rattle.std.specs.Prelude.{◌≡◌, ℕ, ◌||◌, ◌+◌, ◌<◌, not, Bool, true, false, List, [], ◌∷◌, ◌++◌, length, map, Option, Some, None, option_and_then, slice_get, ◌⊎◌, ⊤, if◌then◌else◌}
+use Rattle.nz_spec.specs.Tree.{Token, symbol_name, Tree, leaf, node, Trees}
+use Rattle.nz_spec.specs.Term.{Sort, is_bool, Constant, constant, Term, Terms, apply, no_terms, holds_number}
+use Rattle.nz_spec.specs.Normal.{normal_of}
+use Rattle.nz_spec.specs.Table.{Node, term_in}
+use Rattle.nz_spec.specs.Linear.{is_linear}
+use Rattle.nz_spec.specs.Form.{CommandName, is_name, is_empty}
+use Rattle.nz_spec.specs.Elaboration.{Definition as SpecDefinition, Scope, RootFits, placed, term_of, terms_of}
+use Rattle.nz_spec.specs.Script.{State, Command, declare_const, Outcome, accepted, refused, outcome_by, any_tree, is_unknown_sort, sort_of_tree, parameter_sorts, bound_names, clash, has_unknown, has_clash, body_scope, scope_of}
+use Rattle.nz_spec.specs.Reply.{Reply, effect}
+use Rattle.nz_term.specs.Constants.{sort_of}
+use Rattle.nz_sort.specs.declared.typed.Typed.{Typed}
+use Rattle.nz_sort.specs.declared.names.Definition.{Definition}
+use Rattle.nz_sort.specs.declared.names.Named.{Named}
+use Rattle.nz_sort.specs.declared.names.Named.TheVariants as kinds
+use Rattle.nz_sort.specs.Live.{Standing, IsLive, Ask, Asks}
+
+-- ---- Names
+
+-- the token may be a name, and is this one
+pub record IsNamed (t : Token) (word : List ℕ) : Type 0 where
+  pub free : is_name t ≡ true
+  pub name : symbol_name t ≡ Some word
+
+-- a tree that is a list
+abbrev pub IsList : Tree → Type 0
+IsList (leaf t) = ⊥
+IsList (node ts) = ⊤
+
+-- ---- Commands that leave what stands
+
+-- The command of these arguments is accepted, asks this, and leaves the live items.
+pub record AsksOnly (name : CommandName) (arguments : Trees) (ask : Ask) : Type 0 where
+  pub command : Command
+  pub is : (s : State) → outcome_by s name arguments ≡ accepted command
+  pub asks : (ns : List Node) → Asks ns ask arguments command
+  pub keeps : (s : State) (reply : Reply) → (effect s command reply).levels ≡ s.levels
+
+-- ---- Symbols
+
+-- the error of a term whose symbols aren't all in scope, and then of names that clash
+abbrev pub fault_error : Bool → Bool → Option ℕ
+fault_error true clashes = Some 2
+fault_error false true = Some 9
+fault_error false false = None
+
+-- ---- Declarations
+
+-- what becomes of a declaration by this name, of these arguments and this sort, where the name is live or an operator's, or not
+abbrev pub declaration_where : Bool → List ℕ → Trees → Tree → Outcome
+declaration_where is_live name arguments sort =
+    if any_tree is_unknown_sort arguments || is_unknown_sort sort then refused 2
+    else (if is_live then refused 9
+    else (if not (is_empty arguments) then refused 3
+    else elim (sort_of_tree sort) [ Some is ↦ accepted (declare_const (record { name = name; sort = is })) | None ↦ refused 3 ]))
+
+-- the constant of a name and a sort
+abbrev pub constant_of : List ℕ → Sort → Constant
+constant_of name sort = record { name = name; sort = sort }
+
+-- ---- Definitions
+
+-- a symbol or a sort of the definition isn't in scope
+abbrev pub is_unknown_in : (List ℕ → Bool) → Trees → Tree → Tree → Bool
+is_unknown_in is_live parameters sort body =
+    any_tree is_unknown_sort (parameter_sorts parameters) || is_unknown_sort sort || has_unknown is_live (bound_names parameters) body
+
+-- the term of the body, where one of this sort is wanted
+abbrev pub body_of : State → Trees → List Sort → Sort → Tree → Option Term
+body_of s parameters sorts sort body = option_and_then (placed sort) (term_of (body_scope s (bound_names parameters) sorts) body)
+
+-- ---- What is added
+
+-- what stands with a constant more
+abbrev pub with_constant : Standing → List ℕ → Typed → Standing
+with_constant before name term =
+    record before {
+      names = before.names ++ (name, kinds.Constant term) ∷ [];
+      constants = before.constants ++ record { number = before.count; term = term.id } ∷ [];
+      accepted = before.accepted ++ term.id ∷ [];
+      count = before.count + 1;
+      holds_numbers = before.holds_numbers || not (is_bool (sort_of term.sort));
+    }
+
+-- what stands with a definition more
+abbrev pub with_definition : Standing → List ℕ → Definition → Standing
+with_definition before name definition =
+    record before {
+      names = before.names ++ (name, kinds.Definition definition) ∷ [];
+      count = before.count + 1;
+    }
+
+-- what stands with an assertion more
+abbrev pub with_assertion : Standing → ℕ → Bool → Standing
+with_assertion before id holds =
+    record before {
+      assertions = before.assertions ++ record { number = before.count; term = id } ∷ [];
+      asserted = before.asserted ++ id ∷ [];
+      accepted = before.accepted ++ id ∷ [];
+      count = before.count + 1;
+      holds_numbers = before.holds_numbers || holds;
+    }
+
+-- The table and what stands have this constant more.
+pub record HasAdded (name : List ℕ) (sort : Sort) (old new : List Node) (before after : Standing) : Type 0 where
+  pub added : Typed
+  pub stands : after ≡ with_constant before name added
+  pub sort : sort_of added.sort ≡ sort
+  pub node : slice_get new added.id ≡ Some (record { head = constant (constant_of name sort); kids = [] })
+  pub grown : (new ≡ old) ⊎ (new ≡ old ++ record { head = constant (constant_of name sort); kids = [] } ∷ [])
+  pub term : term_in new added.id ≡ apply (constant (constant_of name sort)) no_terms

@@ -1,0 +1,572 @@
+//! The live state: what becomes of a command, and what it leaves.
+ghost use Rattle.std.specs.Prelude.{◌≡◌, ◌<◌, ◌+◌, ◌&&◌, ℕ, List, [], length, map, take, OnOk, OnErr, IfOk, IfErr, IfSome, None, ◌||◌, IsErrOf, Bool, false, option_map, is_some};
+ghost use Rattle.nz_sexpr.specs.View.{view};
+ghost use Rattle.nz_spec.specs.Tree.{Trees, no_trees};
+ghost use Rattle.nz_spec.specs.Bounds.{is_long_decimal, have_token as some_token};
+ghost use Rattle.nz_spec.specs.Table.{Node, term_in};
+ghost use Rattle.nz_spec.specs.Term as spec;
+ghost use Rattle.nz_spec.specs.Term.{Sort as SpecSort, holds_number};
+ghost use Rattle.nz_spec.specs.Linear.{is_linear as is_linear_term};
+ghost use Rattle.nz_spec.specs.Elaboration.{term_of, terms_of, listed};
+ghost use Rattle.nz_spec.specs.Form.{assert_name, declare_const_name, declare_fun_name, define_fun_name, get_value_name};
+ghost use Rattle.nz_spec.specs.Script.{State, Outcome, accepted, refused, outcome_of, outcome_named, outcome_by, passes_limit as beyond_limit, pushed_levels, start, declare_const, declaration_of, definition_of, scope_of, bound_names, parameters_from, all_linear, clash, has_clash};
+ghost use Rattle.nz_term.specs.Constants.{sort_of};
+ghost use Rattle.nz_sort.specs.Form.{seen, command_meaning};
+ghost use Rattle.nz_sort.specs.Names.{named_by, bound_in, SameTerm};
+ghost use Rattle.nz_sort.specs.Typed.{Grows, IsTyped, AreTyped};
+ghost use Rattle.nz_sort.specs.Elaborate.{StandsAs, StandAs};
+ghost use Rattle.nz_sort.specs.Faults.{AreLive, is_listed};
+ghost use Rattle.nz_sort.specs.Items.{table_numbers};
+ghost use Rattle.nz_sort.specs.Live.{IsLive, Leaves, IsCarriedOut, IfSkipped, changed, show_values, standing_of};
+ghost use Rattle.nz_sort.specs.Acts.{asked, error_of};
+ghost use Rattle.nz_sort.specs.Commands.{declaration_where, constant_of, is_unknown_in, fault_error, body_of, HasAdded, with_constant, with_definition, with_assertion};
+
+use crate::commands::{
+    Act, Definiens, asked_trees, declared_constant, declared_function, defined, echo_act, info_act,
+    name_and_arguments, option_act,
+};
+use crate::elaboration::{elaborate, elaborate_all, place};
+use crate::form::command::{CommandName, has_form};
+use crate::form::only;
+use crate::items::{Accepted, Goal, Wish};
+use crate::limits::passes_limit;
+use crate::names::{Bindings, Definition, Named, Names};
+use crate::refusal::Refusal;
+use crate::scope::{Faults, faults_of, faults_of_all, first_name, is_declared, names_of_all};
+use crate::sorts::{
+    has_unknown_parameter_sort, has_unknown_sort, is_unknown_sort, sort_of_tree,
+    sorts_of_parameters,
+};
+use crate::taken::takes_command;
+use crate::tokens::{TokenTest, have_token};
+use crate::typed::{ElaborateError, Typed};
+use nz_base::{Memory, Text};
+use nz_sexpr::Tree;
+use nz_term::{Constant, Head, Sort, TermId, Terms};
+use std::alloc::Global;
+use std::marker::Model;
+
+/// The live state. A contract sees what stands in it: its names, and its items by kind, in the order of acceptance.
+///
+/// No command brings a goal, a wish or a level yet.
+#[derive(Drop)]
+pub struct Live {
+    alloc: Global,
+    names: Names,
+    constants: Vec<Accepted>,
+    assertions: Vec<Accepted>,
+    goals: Vec<Goal>,
+    wishes: Vec<Wish>,
+    /// The terms of the items that have one, of all kinds.
+    accepted: Vec<TermId>,
+    /// How many items there are, definitions among them. It is the number of the next.
+    count: usize,
+    holds_numbers: bool,
+}
+
+impl Model for Live {
+    ghost use Rattle.nz_sort.specs.Live.{Standing, standing_of};
+
+    ghost Value = { Standing };
+
+    ghost view = { λ l. standing_of l.names l.constants.items l.assertions.items l.goals.items l.wishes.items l.accepted.items l.count l.holds_numbers };
+}
+
+impl Live {
+    /// The live state of the start: no item and no level. Takes no memory.
+    pub fn new(alloc: Global) -> Live
+        ensures start { result ≡ standing_of [] [] [] [] [] [] 0 false }
+        ensures live { IsLive [] result start }
+    {
+        Live {
+            alloc,
+            names: Names::new(alloc),
+            constants: Vec::new(alloc),
+            assertions: Vec::new(alloc),
+            goals: Vec::new(alloc),
+            wishes: Vec::new(alloc),
+            accepted: Vec::new(alloc),
+            count: 0,
+            holds_numbers: false,
+        }
+    }
+
+    /// The live constants, in the order of declaration.
+    pub fn constants(&self) -> &[Accepted]
+        ensures constants { result.now ≡ self.now.constants }
+    {
+        self.constants.as_slice()
+    }
+
+    /// The live assertions.
+    pub fn assertions(&self) -> &[Accepted]
+        ensures assertions { result.now ≡ self.now.assertions }
+        ensures terms { table_numbers result.now ≡ self.now.asserted }
+    {
+        self.assertions.as_slice()
+    }
+
+    /// The live goals.
+    pub fn goals(&self) -> &[Goal]
+        ensures goals { result.now ≡ self.now.goals }
+    {
+        self.goals.as_slice()
+    }
+
+    /// The live wishes.
+    pub fn wishes(&self) -> &[Wish]
+        ensures wishes { result.now ≡ self.now.wishes }
+    {
+        self.wishes.as_slice()
+    }
+
+    /// How many levels were pushed.
+    pub fn levels(&self) -> usize
+        ensures levels { (ns : List Node) (s : State) → IsLive ns self.now s → result ≡ pushed_levels s }
+    {
+        0
+    }
+
+    /// Carries out what a command changes in the live state, and answers what it asks. Whether the last answer has a model or a
+    /// reason to show is the session's to say.
+    ///
+    /// # Errors
+    ///
+    /// The first rule that the command breaks, and `Memory`. Then the live state and the table are as before, and so they are
+    /// after `Unsupported`.
+    pub fn command(&mut self, terms: &mut Terms, tree: &Tree) -> Result<Act, Refusal>
+        ensures accepted { IfOk result (λ act. (s : State) → IsLive terms.old self.old s → IsCarriedOut s (view tree.now) (asked act) terms.new self.new) }
+        ensures refused { IfErr result (λ refusal. IfSome (error_of refusal) (λ n. (s : State) → IsLive terms.old self.old s → outcome_of s (view tree.now) ≡ refused n)) }
+        ensures unchanged_terms { OnErr result (terms.new ≡ terms.old) }
+        ensures unchanged { OnErr result (self.new ≡ self.old) }
+        ensures skipped_terms { IfOk result (λ act. IfSkipped (asked act) (terms.new ≡ terms.old)) }
+        ensures skipped { IfOk result (λ act. IfSkipped (asked act) (self.new ≡ self.old)) }
+        ensures front { take (length self.old.asserted) self.new.asserted ≡ self.old.asserted }
+    {
+        let Some((name, arguments)) = name_and_arguments(tree) else {
+            return Err(Refusal::Syntax);
+        };
+        let mark = terms.mark();
+        match self.named(terms, name, arguments) {
+            Ok(act) => Ok(act),
+            Err(refusal) => {
+                terms.cut(mark);
+                Err(refusal)
+            }
+        }
+    }
+
+    /// The rules in their order: the form, the limits, the width of numbers, what the program takes, and then the names, the
+    /// sorts and what is linear. After an error the table may have grown, and so after those below.
+    fn named(
+        &mut self,
+        terms: &mut Terms,
+        name: CommandName,
+        arguments: &[Tree],
+    ) -> Result<Act, Refusal>
+        ensures accepted { IfOk result (λ act. (s : State) → IsLive terms.old self.old s → Leaves s (seen arguments.now) (outcome_named s (command_meaning name) (seen arguments.now)) (asked act) terms.new self.new) }
+        ensures refused { IfErr result (λ refusal. IfSome (error_of refusal) (λ n. (s : State) → IsLive terms.old self.old s → outcome_named s (command_meaning name) (seen arguments.now) ≡ refused n)) }
+        ensures kept { take (length terms.old) terms.new ≡ terms.old }
+        ensures unchanged { OnErr result (self.new ≡ self.old) }
+        ensures skipped_terms { IfOk result (λ act. IfSkipped (asked act) (terms.new ≡ terms.old)) }
+        ensures skipped { IfOk result (λ act. IfSkipped (asked act) (self.new ≡ self.old)) }
+        ensures front { take (length self.old.asserted) self.new.asserted ≡ self.old.asserted }
+    {
+        if !has_form(name, arguments) {
+            return Err(Refusal::Syntax);
+        }
+        if self.passes_limit(name, arguments) {
+            return Err(Refusal::Limit);
+        }
+        if have_token(arguments, TokenTest::Wide) {
+            return Err(Refusal::TooWide);
+        }
+        if !takes_command(self.holds_numbers, name, arguments) {
+            return Ok(Act::Unsupported);
+        }
+        self.carry_out(terms, name, arguments)
+    }
+
+    /// The command goes beyond a limit: its own, or that of the places of a decimal.
+    fn passes_limit(&self, name: CommandName, arguments: &[Tree]) -> bool
+        ensures limit { (ns : List Node) (s : State) → IsLive ns self.now s → result ≡ (beyond_limit s (command_meaning name) (seen arguments.now) || some_token is_long_decimal (seen arguments.now)) }
+    {
+        passes_limit(self.constants.len(), name, arguments)
+            || have_token(arguments, TokenTest::LongDecimal)
+    }
+
+    /// Carries out a command that the program takes, over arguments of its form.
+    fn carry_out(
+        &mut self,
+        terms: &mut Terms,
+        name: CommandName,
+        arguments: &[Tree],
+    ) -> Result<Act, Refusal>
+        ensures accepted { IfOk result (λ act. (s : State) → IsLive terms.old self.old s → Leaves s (seen arguments.now) (outcome_by s (command_meaning name) (seen arguments.now)) (asked act) terms.new self.new) }
+        ensures refused { IfErr result (λ refusal. IfSome (error_of refusal) (λ n. (s : State) → IsLive terms.old self.old s → outcome_by s (command_meaning name) (seen arguments.now) ≡ refused n)) }
+        ensures kept { take (length terms.old) terms.new ≡ terms.old }
+        ensures unchanged { OnErr result (self.new ≡ self.old) }
+        ensures skipped_terms { IfOk result (λ act. IfSkipped (asked act) (terms.new ≡ terms.old)) }
+        ensures skipped { IfOk result (λ act. IfSkipped (asked act) (self.new ≡ self.old)) }
+        ensures front { take (length self.old.asserted) self.new.asserted ≡ self.old.asserted }
+    {
+        match name {
+            CommandName::DeclareConst => match self.declare_constant(terms, arguments) {
+                Ok(()) => Ok(Act::Changed),
+                Err(refusal) => Err(refusal),
+            },
+            CommandName::DeclareFun => match self.declare_function(terms, arguments) {
+                Ok(()) => Ok(Act::Changed),
+                Err(refusal) => Err(refusal),
+            },
+            CommandName::DefineFun => match self.define_function(terms, arguments) {
+                Ok(()) => Ok(Act::Changed),
+                Err(refusal) => Err(refusal),
+            },
+            CommandName::Assert => match self.assert_term(terms, arguments) {
+                Ok(()) => Ok(Act::Changed),
+                Err(refusal) => Err(refusal),
+            },
+            CommandName::GetValue => match self.asked_values(terms, arguments) {
+                Ok(values) => Ok(Act::ShowValues(values)),
+                Err(refusal) => Err(refusal),
+            },
+            CommandName::CheckSat => Ok(Act::Check),
+            CommandName::GetModel => Ok(Act::ShowModel),
+            CommandName::GetInfo => match info_act(arguments) {
+                Some(act) => Ok(act),
+                None => Err(Refusal::Syntax),
+            },
+            CommandName::SetOption => match option_act(arguments) {
+                Some(act) => Ok(act),
+                None => Err(Refusal::Syntax),
+            },
+            CommandName::SetInfo => Ok(Act::Nothing),
+            CommandName::SetLogic => Ok(Act::Nothing),
+            CommandName::Echo => match echo_act(arguments) {
+                Some(act) => Ok(act),
+                None => Err(Refusal::Syntax),
+            },
+            CommandName::Exit => Ok(Act::Leave),
+            _ => Err(Refusal::Syntax),
+        }
+    }
+
+    // ---- Declarations
+
+    /// Declares a constant.
+    fn declare_constant(&mut self, terms: &mut Terms, arguments: &[Tree]) -> Result<(), Refusal>
+        ensures accepted { OnOk result ((s : State) → IsLive terms.old self.old s → Leaves s (seen arguments.now) (outcome_by s declare_const_name (seen arguments.now)) changed terms.new self.new) }
+        ensures refused { IfErr result (λ refusal. IfSome (error_of refusal) (λ n. (s : State) → IsLive terms.old self.old s → outcome_by s declare_const_name (seen arguments.now) ≡ refused n)) }
+        ensures kept { take (length terms.old) terms.new ≡ terms.old }
+        ensures unchanged { OnErr result (self.new ≡ self.old) }
+        ensures front { take (length self.old.asserted) self.new.asserted ≡ self.old.asserted }
+    {
+        let Some((name, sort)) = declared_constant(arguments) else {
+            return Err(Refusal::Syntax);
+        };
+        self.declare(terms, name, &[], sort)
+    }
+
+    /// Declares a function, which is a constant where it has no arguments.
+    fn declare_function(&mut self, terms: &mut Terms, arguments: &[Tree]) -> Result<(), Refusal>
+        ensures accepted { OnOk result ((s : State) → IsLive terms.old self.old s → Leaves s (seen arguments.now) (outcome_by s declare_fun_name (seen arguments.now)) changed terms.new self.new) }
+        ensures refused { IfErr result (λ refusal. IfSome (error_of refusal) (λ n. (s : State) → IsLive terms.old self.old s → outcome_by s declare_fun_name (seen arguments.now) ≡ refused n)) }
+        ensures kept { take (length terms.old) terms.new ≡ terms.old }
+        ensures unchanged { OnErr result (self.new ≡ self.old) }
+        ensures front { take (length self.old.asserted) self.new.asserted ≡ self.old.asserted }
+    {
+        let Some((name, sorts, sort)) = declared_function(arguments) else {
+            return Err(Refusal::Syntax);
+        };
+        self.declare(terms, name, sorts, sort)
+    }
+
+    /// Declares a constant of this name and sort, where it has no arguments.
+    fn declare(
+        &mut self,
+        terms: &mut Terms,
+        name: &Text,
+        sorts: &[Tree],
+        sort: &Tree,
+    ) -> Result<(), Refusal>
+        ensures accepted { OnOk result ((s : State) (arguments : Trees) → IsLive terms.old self.old s → Leaves s arguments (declaration_of s name.now (seen sorts.now) (view sort.now)) changed terms.new self.new) }
+        ensures refused { IfErr result (λ refusal. IfSome (error_of refusal) (λ n. (s : State) → IsLive terms.old self.old s → declaration_of s name.now (seen sorts.now) (view sort.now) ≡ refused n)) }
+        ensures kept { take (length terms.old) terms.new ≡ terms.old }
+        ensures unchanged { OnErr result (self.new ≡ self.old) }
+        ensures front { take (length self.old.asserted) self.new.asserted ≡ self.old.asserted }
+    {
+        match declared_sort(&self.names, name, sorts, sort) {
+            Err(refusal) => Err(refusal),
+            Ok(sort) => match self.add_constant(terms, name, sort) {
+                Ok(()) => Ok(()),
+                Err(Memory) => Err(Refusal::Memory),
+            },
+        }
+    }
+
+    /// Adds a constant of a name that isn't there yet to the table and to what stands.
+    fn add_constant(&mut self, terms: &mut Terms, name: &Text, sort: Sort) -> Result<(), Memory>
+        requires fresh { named_by self.old.names name.now ≡ None }
+        ensures added { OnOk result (HasAdded name.now (sort_of sort) terms.old terms.new self.old self.new) }
+        ensures kept { take (length terms.old) terms.new ≡ terms.old }
+        ensures unchanged { OnErr result (self.new ≡ self.old) }
+    {
+        let constant = Constant {
+            name: Text::from_slice(self.alloc, name.as_bytes())?,
+            sort,
+        };
+        let key = Text::from_slice(self.alloc, name.as_bytes())?;
+        let id = terms.make(Head::Constant(constant), &[])?;
+        self.keep_constant(key, Typed { id, sort })
+    }
+
+    /// Keeps a constant of a name that isn't there yet.
+    fn keep_constant(&mut self, name: Text, term: Typed) -> Result<(), Memory>
+        requires fresh { named_by self.old.names name ≡ None }
+        ensures kept { OnOk result (self.new ≡ with_constant self.old name term) }
+        ensures unchanged { OnErr result (self.new ≡ self.old) }
+    {
+        let number = self.count;
+        let count = next_count(number)?;
+        self.constants.reserve(1)?;
+        self.accepted.reserve(1)?;
+        self.names.insert(name, Named::Constant(term))?;
+        self.constants.push_reserved(Accepted {
+            number,
+            term: term.id,
+        });
+        self.accepted.push_reserved(term.id);
+        self.count = count;
+        self.holds_numbers = self.holds_numbers || term.sort != Sort::Bool;
+        Ok(())
+    }
+
+    // ---- Definitions
+
+    /// Defines a name.
+    fn define_function(&mut self, terms: &mut Terms, arguments: &[Tree]) -> Result<(), Refusal>
+        ensures accepted { OnOk result ((s : State) → IsLive terms.old self.old s → Leaves s (seen arguments.now) (outcome_by s define_fun_name (seen arguments.now)) changed terms.new self.new) }
+        ensures refused { IfErr result (λ refusal. IfSome (error_of refusal) (λ n. (s : State) → IsLive terms.old self.old s → outcome_by s define_fun_name (seen arguments.now) ≡ refused n)) }
+        ensures kept { take (length terms.old) terms.new ≡ terms.old }
+        ensures unchanged { OnErr result (self.new ≡ self.old) }
+        ensures front { take (length self.old.asserted) self.new.asserted ≡ self.old.asserted }
+    {
+        let Some(definiens) = defined(arguments) else {
+            return Err(Refusal::Syntax);
+        };
+        check_faults(self.definition_faults(definiens)?)?;
+        let Some(parameters) = sorts_of_parameters(self.alloc, definiens.parameters)? else {
+            return Err(Refusal::Sort);
+        };
+        let Some(sort) = sort_of_tree(definiens.sort) else {
+            return Err(Refusal::Sort);
+        };
+        let body = self.body(terms, definiens, parameters.as_slice(), sort)?;
+        if !is_linear(terms, body.id) {
+            return Err(Refusal::NotLinear);
+        }
+        let name = Text::from_slice(self.alloc, definiens.name.as_bytes())?;
+        self.keep_definition(name, Definition { parameters, body })?;
+        Ok(())
+    }
+
+    /// What is wrong with the symbols and the names of a definition.
+    fn definition_faults(&self, definiens: Definiens) -> Result<Faults, Memory>
+        ensures unknown { IfOk result (λ f. (is_live : List ℕ → Bool) → AreLive self.now.names is_live → f.unknown ≡ is_unknown_in is_live (seen definiens.parameters.now) (view definiens.sort.now) (view definiens.body.now)) }
+        ensures clash { IfOk result (λ f. f.clash ≡ (is_listed self.now.names definiens.name.now || clash (bound_names (seen definiens.parameters.now)) || has_clash (view definiens.body.now))) }
+    {
+        let (bound, clash) = names_of_all(self.alloc, definiens.parameters)?;
+        let mut frames = vec![in self.alloc; bound]?;
+        let of_body = faults_of(self.alloc, &self.names, &mut frames, definiens.body)?;
+        Ok(Faults {
+            unknown: has_unknown_parameter_sort(definiens.parameters)
+                || is_unknown_sort(definiens.sort)
+                || of_body.unknown,
+            clash: is_declared(&self.names, definiens.name) || clash || of_body.clash,
+        })
+    }
+
+    /// The term of the body of a definition, where one of this sort is wanted.
+    fn body(
+        &self,
+        terms: &mut Terms,
+        definiens: Definiens,
+        sorts: &[Sort],
+        sort: Sort,
+    ) -> Result<Typed, ElaborateError>
+        ensures grows { Grows terms.old terms.new }
+        ensures found { IfOk result (λ x. (s : State) → IsLive terms.old self.now s → StandsAs (body_of s (seen definiens.parameters.now) (map sort_of sorts.now) (sort_of sort) (view definiens.body.now)) terms.new x) }
+        ensures refused { IsErrOf result ElaborateError.Sort → (s : State) → IsLive terms.old self.now s → body_of s (seen definiens.parameters.now) (map sort_of sorts.now) (sort_of sort) (view definiens.body.now) ≡ None }
+    {
+        let frame = bind_parameters(self.alloc, terms, definiens.parameters, sorts)?;
+        let mut frames = vec![in self.alloc; frame]?;
+        let term = elaborate(self.alloc, &self.names, &mut frames, terms, definiens.body)?;
+        let id = place(terms, sort, term)?;
+        Ok(Typed { id, sort })
+    }
+
+    /// Keeps a definition of a name that isn't there yet.
+    fn keep_definition(&mut self, name: Text, definition: Definition) -> Result<(), Memory>
+        requires fresh { named_by self.old.names name ≡ None }
+        ensures kept { OnOk result (self.new ≡ with_definition self.old name definition) }
+        ensures unchanged { OnErr result (self.new ≡ self.old) }
+    {
+        let count = next_count(self.count)?;
+        self.names.insert(name, Named::Definition(definition))?;
+        self.count = count;
+        Ok(())
+    }
+
+    // ---- Assertions
+
+    /// Asserts the term of a tree.
+    fn assert_term(&mut self, terms: &mut Terms, arguments: &[Tree]) -> Result<(), Refusal>
+        ensures accepted { OnOk result ((s : State) → IsLive terms.old self.old s → Leaves s (seen arguments.now) (outcome_by s assert_name (seen arguments.now)) changed terms.new self.new) }
+        ensures refused { IfErr result (λ refusal. IfSome (error_of refusal) (λ n. (s : State) → IsLive terms.old self.old s → outcome_by s assert_name (seen arguments.now) ≡ refused n)) }
+        ensures kept { take (length terms.old) terms.new ≡ terms.old }
+        ensures unchanged { OnErr result (self.new ≡ self.old) }
+        ensures front { take (length self.old.asserted) self.new.asserted ≡ self.old.asserted }
+    {
+        let Some(tree) = only(arguments) else {
+            return Err(Refusal::Syntax);
+        };
+        let mut bound = Vec::new(self.alloc);
+        check_faults(faults_of(self.alloc, &self.names, &mut bound, tree)?)?;
+        let mut frames = Vec::new(self.alloc);
+        let term = elaborate(self.alloc, &self.names, &mut frames, terms, tree)?;
+        if term.sort != Sort::Bool {
+            return Err(Refusal::Sort);
+        }
+        if !is_linear(terms, term.id) {
+            return Err(Refusal::NotLinear);
+        }
+        self.keep_assertion(term.id, holds_number(terms, term.id))?;
+        Ok(())
+    }
+
+    /// Keeps the assertion of a term, which holds a number or doesn't.
+    fn keep_assertion(&mut self, term: TermId, holds_number: bool) -> Result<(), Memory>
+        ensures kept { OnOk result (self.new ≡ with_assertion self.old term holds_number) }
+        ensures unchanged { OnErr result (self.new ≡ self.old) }
+    {
+        let number = self.count;
+        let count = next_count(number)?;
+        self.assertions.reserve(1)?;
+        self.accepted.push(term)?;
+        self.assertions.push_reserved(Accepted { number, term });
+        self.count = count;
+        self.holds_numbers = self.holds_numbers || holds_number;
+        Ok(())
+    }
+
+    // ---- Values
+
+    /// The terms whose values are asked for.
+    fn asked_values(&self, terms: &mut Terms, arguments: &[Tree]) -> Result<Vec<Typed>, Refusal>
+        ensures accepted { IfOk result (λ xs. (s : State) → IsLive terms.old self.now s → Leaves s (seen arguments.now) (outcome_by s get_value_name (seen arguments.now)) (show_values xs.items) terms.new self.now) }
+        ensures refused { IfErr result (λ refusal. IfSome (error_of refusal) (λ n. (s : State) → IsLive terms.old self.now s → outcome_by s get_value_name (seen arguments.now) ≡ refused n)) }
+        ensures kept { take (length terms.old) terms.new ≡ terms.old }
+    {
+        let Some(trees) = asked_trees(arguments) else {
+            return Err(Refusal::Syntax);
+        };
+        let mut bound = Vec::new(self.alloc);
+        check_faults(faults_of_all(self.alloc, &self.names, &mut bound, trees)?)?;
+        let mut frames = Vec::new(self.alloc);
+        let values = elaborate_all(self.alloc, &self.names, &mut frames, terms, trees)?;
+        if !are_linear(terms, values.as_slice()) {
+            return Err(Refusal::NotLinear);
+        }
+        Ok(values)
+    }
+}
+
+/// The count after this one. As many items as would leave none find no memory.
+fn next_count(count: usize) -> Result<usize, Memory>
+    ensures next { IfOk result (λ next. next ≡ count + 1) }
+{
+    match count.checked_add(1) {
+        Some(next) => Ok(next),
+        None => Err(Memory),
+    }
+}
+
+/// The sort of a constant of this name, where it is declared.
+fn declared_sort(names: &Names, name: &Text, sorts: &[Tree], sort: &Tree) -> Result<Sort, Refusal>
+    ensures accepted { IfOk result (λ found. declaration_where (is_listed names.now name.now) name.now (seen sorts.now) (view sort.now) ≡ accepted (declare_const (constant_of name.now (sort_of found)))) }
+    ensures fresh { OnOk result (named_by names.now name.now ≡ None) }
+    ensures refused { IfErr result (λ refusal. IfSome (error_of refusal) (λ n. declaration_where (is_listed names.now name.now) name.now (seen sorts.now) (view sort.now) ≡ refused n)) }
+{
+    if has_unknown_sort(sorts) || is_unknown_sort(sort) {
+        return Err(Refusal::UnknownSymbol);
+    }
+    if is_declared(names, name) {
+        return Err(Refusal::Declared);
+    }
+    if !sorts.is_empty() {
+        return Err(Refusal::Sort);
+    }
+    match sort_of_tree(sort) {
+        Some(found) => Ok(found),
+        None => Err(Refusal::Sort),
+    }
+}
+
+/// The rules on the symbols of a term: that they are in scope, and then that no names clash.
+fn check_faults(faults: Faults) -> Result<(), Refusal>
+    ensures none { OnOk result (fault_error faults.unknown faults.clash ≡ None) }
+    ensures refused { IfErr result (λ refusal. fault_error faults.unknown faults.clash ≡ error_of refusal) }
+{
+    if faults.unknown {
+        return Err(Refusal::UnknownSymbol);
+    }
+    if faults.clash {
+        return Err(Refusal::Declared);
+    }
+    Ok(())
+}
+
+/// The parameters of a definition, each with the term that stands for it in the body.
+fn bind_parameters(
+    alloc: Global,
+    terms: &mut Terms,
+    parameters: &[Tree],
+    sorts: &[Sort],
+) -> Result<Bindings, Memory>
+    ensures grows { Grows terms.old terms.new }
+    ensures bound { IfOk result (λ frame. (name : List ℕ) → SameTerm terms.new (bound_in frame name) (listed (parameters_from 0 (bound_names (seen parameters.now)) (map sort_of sorts.now)) name)) }
+{
+    let mut frame = Bindings::new(alloc);
+    let mut place = 0;
+    for parameter in parameters {
+        if let (Some(name), Some(sort)) = (first_name(parameter), sorts.get(place)) {
+            let id = terms.make(Head::Parameter(place, *sort), &[])?;
+            let term = Typed { id, sort: *sort };
+            frame.insert(Text::from_slice(alloc, name.as_bytes())?, term)?;
+            place += 1;
+        }
+    }
+    Ok(frame)
+}
+
+/// Whether the term of a number is linear. A number that isn't in the table is that of no linear term.
+fn is_linear(terms: &Terms, id: TermId) -> bool
+    ensures linear { id < length terms.now → result ≡ is_linear_term (term_in terms.now id) }
+{
+    id < terms.len() && terms.is_linear(id)
+}
+
+/// Whether all of these terms are linear.
+fn are_linear(terms: &Terms, list: &[Typed]) -> bool
+    ensures linear { (ts : spec.Terms) → AreTyped terms.now list.now ts → result ≡ all_linear ts }
+{
+    list.iter().all(|term| is_linear(terms, term.id))
+}
+
+/// Whether the term of a number, or one that it is made of, is a number. A number that isn't in the table is that of no such term.
+fn holds_number(terms: &Terms, id: TermId) -> bool
+    ensures holds { id < length terms.now → result ≡ spec.holds_number (term_in terms.now id) }
+{
+    id < terms.len() && terms.holds_number(id)
+}
