@@ -1,8 +1,11 @@
+pub mod Accepting
 pub mod Digits
 pub mod Elaborating
 pub mod Expanding
 pub mod Forming
+pub mod Living
 pub mod NameTerms
+pub mod Ruling
 pub mod ScopeTerms
 pub mod Staying
 pub mod Zeros
