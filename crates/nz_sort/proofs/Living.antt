@@ -158,7 +158,7 @@ one_definition_more ns None None None false e k h is = tt
 same_name : (names : List (List ℕ × named.Named)) (name other : List ℕ) → named_by names name ≡ None → bytes_eq other name ≡ true → named_by names other ≡ None
 same_name [] name other fresh e = refl
 same_name (p ∷ ps) name other fresh e =
-    let equal : bytes_eq other p.0 ≡ bytes_eq name p.0 = nat_list_eq_equiv.respects other name p.0 e in
+    let equal : bytes_eq other p.0 ≡ bytes_eq name p.0 = nat_list_eq_equiv.congr other name p.0 e in
     (elim (bytes_eq name p.0) as (λ b. cond b (Some p.1) (named_by ps name) ≡ None → bytes_eq other p.0 ≡ b → cond (bytes_eq other p.0) (Some p.1) (named_by ps other) ≡ None) [
       | true ↦ λ none f. cc
       | false ↦ λ none f. ap (λ b. cond b (Some p.1) (named_by ps other)) f ∙ same_name ps name other none e
