@@ -1,18 +1,18 @@
 -- The live state after commands.
-use Rattle.std.proofs.Common.{◌||◌, ◌-◌, ◌≡◌, ◌⊎◌, inl, inr, ℕ, zero, suc, ◌<◌, List, [], ◌∷◌, ◌++◌, length, map, take, Option, None, Some, is_some, Bool, true, false, not, cond, bytes_eq, slice_get, All, refl, sym, ap, ◌∙◌, append_assoc, append-nil, length-append, subst, arith}
+use Rattle.std.proofs.Common.{◌||◌, ◌&&◌, ◌+◌, ◌-◌, option_and_then, ◌≡◌, ◌⊎◌, inl, inr, ℕ, zero, suc, ◌<◌, List, [], ◌∷◌, ◌++◌, length, map, take, Option, None, Some, is_some, Bool, true, false, not, cond, bytes_eq, slice_get, All, refl, sym, ap, ◌∙◌, append_assoc, append-nil, length-append, subst, arith}
 use Rattle.std.proofs.lemmas.Grind.{flat_map-append}
 use Rattle.std.proofs.lemmas.List.{map-append, length-map}
 use Rattle.std.proofs.lemmas.Option.{slice_get_within}
 use Rattle.std.specs.Cmp.Lexicographic.{nat_list_eq_equiv}
 use Rattle.std.specs.List.{AllByRecursion, IsDistinct}
-use Rattle.nz_spec.specs.Tree.{Tree, Trees}
-use Rattle.nz_spec.specs.Term.{Sort, Constant, Head, constant, parameter, integer, decimal_number, verum, falsum, negation, conjunction, disjunction, implication, exclusion, equality, distinction, choice, less, at_most, greater, at_least, sum, difference, product, quotient, integer_quotient, modulus, magnitude, to_real, to_int, is_int, Term, Terms, no_terms, terms, apply, holds_number}
+use Rattle.nz_spec.specs.Tree.{Tree, node, Trees, no_trees, trees}
+use Rattle.nz_spec.specs.Term.{Sort, bool_sort, int_sort, real_sort, Constant, Head, constant, parameter, integer, decimal_number, verum, falsum, negation, conjunction, disjunction, implication, exclusion, equality, distinction, choice, less, at_most, greater, at_least, sum, difference, product, quotient, integer_quotient, modulus, magnitude, to_real, to_int, is_int, Term, Terms, no_terms, terms, apply, holds_number}
 use Rattle.nz_spec.specs.Normal.{normal_of}
 use Rattle.nz_spec.specs.Table.{Node, term_in, TermStays}
 use Rattle.nz_spec.specs.Linear.{is_linear}
 use Rattle.nz_spec.specs.Decide.{constants_of_head, constants_in_table}
-use Rattle.nz_spec.specs.Elaboration.{Definition, RootFits, Scope, constant_named, definition_named, is_operator, is_declared, listed}
-use Rattle.nz_spec.specs.Script.{State, Item, declared, defined, asserted, items_of, constants_in, definitions_in, assertions_in, constants_of, definitions_of, assertions_of, with_item, is_live_name, scope_of, body_scope, parameters_from, Command, declare_const, define, assert_term, get_value, asked_of, all_linear, Outcome, accepted, refused, declaration_of}
+use Rattle.nz_spec.specs.Elaboration.{Definition, RootFits, TermFits, term_of, terms_of, has_sort, are_same_sort, placed, constant_named, definition_named, is_operator, is_declared, listed}
+use Rattle.nz_spec.specs.Script.{State, Item, declared, defined, asserted, items_of, constants_in, definitions_in, assertions_in, constants_of, definitions_of, assertions_of, with_item, is_live_name, scope_of, body_scope, parameters_from, Command, declare_const, define, assert_term, get_value, asked_of, all_linear, Outcome, accepted, refused, declaration_of, has_unknown, have_unknown, has_clash, have_clash, clash, bound_names, parameter_sorts, sorts_of_trees, sort_of_tree, linear_outcome, asserted_outcome, assertion_of, values_of_trees, definition_by, definition_of}
 use Rattle.nz_spec.specs.Reply.{Reply, effect, grown}
 use Rattle.nz_term.specs.Constants.{sort_of}
 use Rattle.nz_sort.specs.declared.typed.Typed.{Typed}
@@ -23,8 +23,10 @@ use Rattle.nz_sort.specs.Names.{named_by, bound_in, SameTerm, SameNamed, IsDefin
 use Rattle.nz_sort.specs.Typed.{IsOperator, Grows, IsTyped, AreTyped}
 use Rattle.nz_sort.specs.Faults.{is_listed, AreLive}
 use Rattle.nz_sort.specs.Items.{table_numbers, StandForAll}
-use Rattle.nz_sort.specs.Live.{Standing, HasItems, IsLive, AreNamesOf, DefinitionsFit, IsAccepted, Ask, Asks, changed}
-use Rattle.nz_sort.specs.Commands.{AsksOnly, declaration_where, constant_of, HasAdded, with_constant, with_definition, with_assertion}
+use Rattle.nz_sort.specs.Live.{Standing, HasItems, IsLive, AreNamesOf, DefinitionsFit, IsAccepted, Ask, Asks, changed, show_values}
+use Rattle.nz_sort.specs.Commands.{declaration_where, fault_error, is_unknown_in, body_of, constant_of, HasAdded, with_constant, with_definition, with_assertion}
+use Rattle.nz_sort.specs.Elaborate.{StandsAs, StandAs}
+use Rattle.nz_sort.proofs.Ruling.{past_faults, at_fault}
 use Rattle.nz_sort.proofs.Accepting.{constants_in-append, definitions_in-append, assertions_in-append, stand_longer, stand_last, has_constant, has_definition, has_assertion, items_kept}
 
 -- ---- Items
@@ -424,3 +426,193 @@ live_grown stays old new standing s g live =
       items = items_kept stays old new g.more standing (items_of s.levels) g.all live.items;
       unpushed = live.unpushed;
     }
+
+-- ---- The rules on a term that is asserted
+
+-- a term without faults is asserted by what it stands for
+known_assertion : (s : State) (tree : Tree) → fault_error (has_unknown (is_live_name s) [] tree) (has_clash tree) ≡ None
+    → assertion_of s tree ≡ elim (term_of (scope_of s) tree) [ Some u ↦ asserted_outcome u | None ↦ refused 3 ]
+known_assertion s tree known =
+    past_faults (has_unknown (is_live_name s) [] tree) (has_clash tree) (elim (term_of (scope_of s) tree) [ Some u ↦ asserted_outcome u | None ↦ refused 3 ]) known
+
+by_term : (s : State) (tree : Tree) (t : Term) → fault_error (has_unknown (is_live_name s) [] tree) (has_clash tree) ≡ None → term_of (scope_of s) tree ≡ Some t
+    → assertion_of s tree ≡ asserted_outcome t
+by_term s tree t known is = known_assertion s tree known ∙ ap (λ (o : Option Term). elim o [ Some u ↦ asserted_outcome u | None ↦ refused 3 ]) is
+
+by_sort : (t : Term) (b : Bool) → has_sort bool_sort t ≡ b → asserted_outcome t ≡ cond b (linear_outcome (is_linear (normal_of t)) (assert_term t)) (refused 3)
+by_sort t b e = ap (λ c. cond c (linear_outcome (is_linear (normal_of t)) (assert_term t)) (refused 3)) e
+
+pub leaves_asserted : TermStays → (old new : List Node) (before : Standing) (s : State) (arguments : Trees) (tree : Tree) (x : Typed) (holds : Bool) → IsLive old before s
+    → Grows old new → fault_error (has_unknown (is_live_name s) [] tree) (has_clash tree) ≡ None → StandsAs (term_of (scope_of s) tree) new x → sort_of x.sort ≡ bool_sort
+    → is_linear (term_in new x.id) ≡ true → holds ≡ holds_number (term_in new x.id) → IsAccepted s arguments (assertion_of s tree) changed new (with_assertion before x.id holds)
+leaves_asserted stays old new before s arguments tree x holds live g known found bool linear number =
+    let t = found.term in
+    record {
+      command = assert_term t;
+      is = by_term s tree t known found.is ∙ by_sort t true (ap (are_same_sort bool_sort) (sym found.typed.sort ∙ bool))
+          ∙ ap (λ b. linear_outcome b (assert_term t)) (ap is_linear (sym found.typed.normal) ∙ linear);
+      asks = tt;
+      live = λ reply. live_asserted stays old new before s t x holds live g found.typed (number ∙ ap holds_number found.typed.normal);
+    }
+
+pub faulty_assertion : (s : State) (tree : Tree) (n : ℕ) → fault_error (has_unknown (is_live_name s) [] tree) (has_clash tree) ≡ Some n → assertion_of s tree ≡ refused n
+faulty_assertion s tree n fault =
+    at_fault (has_unknown (is_live_name s) [] tree) (has_clash tree) (elim (term_of (scope_of s) tree) [ Some u ↦ asserted_outcome u | None ↦ refused 3 ]) n fault
+
+pub untyped_assertion : (s : State) (tree : Tree) → fault_error (has_unknown (is_live_name s) [] tree) (has_clash tree) ≡ None → term_of (scope_of s) tree ≡ None → assertion_of s tree ≡ refused 3
+untyped_assertion s tree known none = known_assertion s tree known ∙ ap (λ (o : Option Term). elim o [ Some u ↦ asserted_outcome u | None ↦ refused 3 ]) none
+
+pub missorted_assertion : (s : State) (tree : Tree) (ns : List Node) (x : Typed) → fault_error (has_unknown (is_live_name s) [] tree) (has_clash tree) ≡ None
+    → StandsAs (term_of (scope_of s) tree) ns x → are_same_sort bool_sort (sort_of x.sort) ≡ false → assertion_of s tree ≡ refused 3
+missorted_assertion s tree ns x known found other =
+    by_term s tree found.term known found.is ∙ by_sort found.term false (ap (are_same_sort bool_sort) (sym found.typed.sort) ∙ other)
+
+pub nonlinear_assertion : (s : State) (tree : Tree) (ns : List Node) (x : Typed) → fault_error (has_unknown (is_live_name s) [] tree) (has_clash tree) ≡ None
+    → StandsAs (term_of (scope_of s) tree) ns x → sort_of x.sort ≡ bool_sort → is_linear (term_in ns x.id) ≡ false → assertion_of s tree ≡ refused 4
+nonlinear_assertion s tree ns x known found bool crooked =
+    by_term s tree found.term known found.is ∙ by_sort found.term true (ap (are_same_sort bool_sort) (sym found.typed.sort ∙ bool))
+    ∙ ap (λ b. linear_outcome b (assert_term found.term)) (ap is_linear (sym found.typed.normal) ∙ crooked)
+
+-- ---- The rules on terms whose values are asked for
+
+values_by : Trees → Option Terms → Outcome
+values_by ts (Some us) = linear_outcome (all_linear us) (get_value (asked_of ts us))
+values_by ts None = refused 3
+
+known_values : (s : State) (ts : Trees) (o : Option Terms) → fault_error (have_unknown (is_live_name s) [] ts) (have_clash ts) ≡ None → terms_of (scope_of s) ts ≡ o
+    → values_of_trees s ts ≡ values_by ts o
+known_values s ts o known is =
+    past_faults (have_unknown (is_live_name s) [] ts) (have_clash ts)
+    (elim (terms_of (scope_of s) ts) [ Some us ↦ linear_outcome (all_linear us) (get_value (asked_of ts us)) | None ↦ refused 3 ]) known
+    ∙ ap (λ (p : Option Terms). elim p [ Some us ↦ linear_outcome (all_linear us) (get_value (asked_of ts us)) | None ↦ refused 3 ]) is
+    ∙ (elim o as (λ (p : Option Terms). elim p [ Some us ↦ linear_outcome (all_linear us) (get_value (asked_of ts us)) | None ↦ refused 3 ] ≡ values_by ts p) [
+      | Some us ↦ refl
+      | None ↦ refl
+    ])
+
+pub leaves_values : TermStays → (old new : List Node) (standing : Standing) (s : State) (arguments ts : Trees) (xs : List Typed) → IsLive old standing s → Grows old new
+    → arguments ≡ trees (node ts) no_trees → fault_error (have_unknown (is_live_name s) [] ts) (have_clash ts) ≡ None → (found : StandAs (terms_of (scope_of s) ts) new xs)
+    → all_linear found.terms ≡ true → IsAccepted s arguments (values_of_trees s ts) (show_values xs) new standing
+leaves_values stays old new standing s arguments ts xs live g only known found linear =
+    record {
+      command = get_value (asked_of ts found.terms);
+      is = known_values s ts (Some found.terms) known found.are ∙ ap (λ b. linear_outcome b (get_value (asked_of ts found.terms))) linear;
+      asks = record { list = ts; terms = found.terms; only = only; typed = found.typed; is = refl };
+      live = λ reply. live_grown stays old new standing s g live;
+    }
+
+pub faulty_values : (s : State) (ts : Trees) (n : ℕ) → fault_error (have_unknown (is_live_name s) [] ts) (have_clash ts) ≡ Some n → values_of_trees s ts ≡ refused n
+faulty_values s ts n fault =
+    at_fault (have_unknown (is_live_name s) [] ts) (have_clash ts)
+    (elim (terms_of (scope_of s) ts) [ Some us ↦ linear_outcome (all_linear us) (get_value (asked_of ts us)) | None ↦ refused 3 ]) n fault
+
+pub untyped_values : (s : State) (ts : Trees) → fault_error (have_unknown (is_live_name s) [] ts) (have_clash ts) ≡ None → terms_of (scope_of s) ts ≡ None → values_of_trees s ts ≡ refused 3
+untyped_values s ts known none = known_values s ts None known none
+
+pub nonlinear_values : (s : State) (ts : Trees) (ns : List Node) (xs : List Typed) → fault_error (have_unknown (is_live_name s) [] ts) (have_clash ts) ≡ None
+    → (found : StandAs (terms_of (scope_of s) ts) ns xs) → all_linear found.terms ≡ false → values_of_trees s ts ≡ refused 4
+nonlinear_values s ts ns xs known found crooked =
+    known_values s ts (Some found.terms) known found.are ∙ ap (λ b. linear_outcome b (get_value (asked_of ts found.terms))) crooked
+
+-- ---- The rules on a definition
+
+-- the parameters of a definition fit its sorts
+parameters_fit : (total : List Sort) (i : ℕ) (names : List (List ℕ)) (sorts : List Sort) → ((j : ℕ) (s : Sort) → slice_get sorts j ≡ Some s → slice_get total (i + j) ≡ Some s)
+    → AllByRecursion (λ (p : List ℕ × Term). RootFits total p.1) (parameters_from i names sorts)
+parameters_fit total i [] sorts h = tt
+parameters_fit total i (name ∷ names) [] h = tt
+parameters_fit total i (name ∷ names) (s ∷ sorts) h =
+    let here : i + 0 ≡ i = omega arith in
+    (subst (λ j. slice_get total j ≡ Some s) here (h 0 s refl),
+    parameters_fit total (suc i) names sorts (λ j t at. let next : i + suc j ≡ suc i + j = omega arith in subst (λ k. slice_get total k ≡ Some t) next (h (suc j) t at)))
+
+-- a term that is placed at a sort is itself or a number read as Real
+placed_fits : (total : List Sort) (s : Sort) (t u : Term) (same real int : Bool) → cond same (Some t) (cond (real && int) (Some (cond int (apply to_real (terms t no_terms)) t)) None) ≡ Some u
+    → RootFits total t → RootFits total u
+placed_fits total s t u true real int e h = let is : t ≡ u = cc in subst (RootFits total) is h
+placed_fits total s t u false true true e h = let is : apply to_real (terms t no_terms) ≡ u = cc in subst (RootFits total) is tt
+placed_fits total s t u false true false e h = cc
+placed_fits total s t u false false int e h = cc
+
+body_fits : TermFits → (s : State) (parameters : Trees) (sorts : List Sort) (sort : Sort) (body : Tree) (t : Term) → DefinitionsFit (definitions_of s)
+    → body_of s parameters sorts sort body ≡ Some t → RootFits sorts t
+body_fits fit s parameters sorts sort body t definitions is =
+    (elim (term_of (body_scope s (bound_names parameters) sorts) body) as (λ (o : Option Term). term_of (body_scope s (bound_names parameters) sorts) body ≡ o → option_and_then (placed sort) o ≡ Some t → RootFits sorts t) [
+      | Some u ↦ λ e found.
+          placed_fits sorts sort u t (has_sort sort u) (are_same_sort sort real_sort) (has_sort int_sort u) found
+          (fit sorts (body_scope s (bound_names parameters) sorts)
+          (record { bound = parameters_fit sorts 0 (bound_names parameters) sorts (λ j k at. at); definitions = definitions }) body u e)
+      | None ↦ λ e found. cc
+    ]) refl is
+
+known_definition : (s : State) (name : List ℕ) (parameters : Trees) (sort body : Tree)
+    → fault_error (is_unknown_in (is_live_name s) parameters sort body) (is_live_name s name || clash (bound_names parameters) || has_clash body) ≡ None
+    → definition_of s name parameters sort body ≡ definition_by s name (bound_names parameters) (sorts_of_trees (parameter_sorts parameters)) (sort_of_tree sort) body
+known_definition s name parameters sort body known =
+    past_faults (is_unknown_in (is_live_name s) parameters sort body) (is_live_name s name || clash (bound_names parameters) || has_clash body)
+    (definition_by s name (bound_names parameters) (sorts_of_trees (parameter_sorts parameters)) (sort_of_tree sort) body) known
+
+pub faulty_definition : (s : State) (name : List ℕ) (parameters : Trees) (sort body : Tree) (n : ℕ)
+    → fault_error (is_unknown_in (is_live_name s) parameters sort body) (is_live_name s name || clash (bound_names parameters) || has_clash body) ≡ Some n
+    → definition_of s name parameters sort body ≡ refused n
+faulty_definition s name parameters sort body n fault =
+    at_fault (is_unknown_in (is_live_name s) parameters sort body) (is_live_name s name || clash (bound_names parameters) || has_clash body)
+    (definition_by s name (bound_names parameters) (sorts_of_trees (parameter_sorts parameters)) (sort_of_tree sort) body) n fault
+
+definition_sorted : (s : State) (name : List ℕ) (parameters : Trees) (tree body : Tree) (sorts : List Sort) (sort : Sort)
+    → fault_error (is_unknown_in (is_live_name s) parameters tree body) (is_live_name s name || clash (bound_names parameters) || has_clash body) ≡ None
+    → sorts_of_trees (parameter_sorts parameters) ≡ Some sorts → sort_of_tree tree ≡ Some sort
+    → definition_of s name parameters tree body ≡ definition_by s name (bound_names parameters) (Some sorts) (Some sort) body
+definition_sorted s name parameters tree body sorts sort known e f =
+    known_definition s name parameters tree body known
+    ∙ ap (λ o. definition_by s name (bound_names parameters) o (sort_of_tree tree) body) e
+    ∙ ap (λ o. definition_by s name (bound_names parameters) (Some sorts) o body) f
+
+pub leaves_defined : TermStays → TermFits → (old new : List Node) (before : Standing) (s : State) (arguments : Trees) (name : List ℕ) (parameters : Trees) (tree body : Tree)
+    (d : code.Definition) (sorts : List Sort) (sort : Sort) → IsLive old before s → Grows old new
+    → fault_error (is_unknown_in (is_live_name s) parameters tree body) (is_live_name s name || clash (bound_names parameters) || has_clash body) ≡ None
+    → sorts_of_trees (parameter_sorts parameters) ≡ Some sorts → sort_of_tree tree ≡ Some sort → map sort_of d.parameters.items ≡ sorts
+    → StandsAs (body_of s parameters sorts sort body) new d.body → is_linear (term_in new d.body.id) ≡ true
+    → IsAccepted s arguments (definition_of s name parameters tree body) changed new (with_definition before name d)
+leaves_defined stays fit old new before s arguments name parameters tree body d sorts sort live g known e f same found linear =
+    let k : Definition = record { name = name; parameters = sorts; body = found.term } in
+    record {
+      command = define k;
+      is = definition_sorted s name parameters tree body sorts sort known e f
+          ∙ ap (λ (o : Option Term). elim o [ Some t ↦ linear_outcome (is_linear (normal_of t)) (define (record { name = name; parameters = sorts; body = t })) | None ↦ refused 3 ]) found.is
+          ∙ ap (λ b. linear_outcome b (define k)) (ap is_linear (sym found.typed.normal) ∙ linear);
+      asks = tt;
+      live = λ reply. live_defined stays old new before s d k live g (record { parameters = same; body = found.typed })
+          (body_fits fit s parameters sorts sort body found.term live.fits found.is);
+    }
+
+pub untyped_definition : (s : State) (name : List ℕ) (parameters : Trees) (tree body : Tree) (sorts : List Sort) (sort : Sort)
+    → fault_error (is_unknown_in (is_live_name s) parameters tree body) (is_live_name s name || clash (bound_names parameters) || has_clash body) ≡ None
+    → sorts_of_trees (parameter_sorts parameters) ≡ Some sorts → sort_of_tree tree ≡ Some sort → body_of s parameters sorts sort body ≡ None
+    → definition_of s name parameters tree body ≡ refused 3
+untyped_definition s name parameters tree body sorts sort known e f none =
+    definition_sorted s name parameters tree body sorts sort known e f
+    ∙ ap (λ (o : Option Term). elim o [ Some t ↦ linear_outcome (is_linear (normal_of t)) (define (record { name = name; parameters = sorts; body = t })) | None ↦ refused 3 ]) none
+
+pub nonlinear_definition : (s : State) (name : List ℕ) (parameters : Trees) (tree body : Tree) (sorts : List Sort) (sort : Sort) (ns : List Node) (x : Typed)
+    → fault_error (is_unknown_in (is_live_name s) parameters tree body) (is_live_name s name || clash (bound_names parameters) || has_clash body) ≡ None
+    → sorts_of_trees (parameter_sorts parameters) ≡ Some sorts → sort_of_tree tree ≡ Some sort → StandsAs (body_of s parameters sorts sort body) ns x
+    → is_linear (term_in ns x.id) ≡ false → definition_of s name parameters tree body ≡ refused 4
+nonlinear_definition s name parameters tree body sorts sort ns x known e f found crooked =
+    definition_sorted s name parameters tree body sorts sort known e f
+    ∙ ap (λ (o : Option Term). elim o [ Some t ↦ linear_outcome (is_linear (normal_of t)) (define (record { name = name; parameters = sorts; body = t })) | None ↦ refused 3 ]) found.is
+    ∙ ap (λ b. linear_outcome b (define (record { name = name; parameters = sorts; body = found.term }))) (ap is_linear (sym found.typed.normal) ∙ crooked)
+
+-- where the sorts of parameters, or that of the body, are none
+unsorted : (s : State) (name : List ℕ) (names : List (List ℕ)) (o : Option (List Sort)) (p : Option Sort) (body : Tree) → (o ≡ None) ⊎ (p ≡ None) → definition_by s name names o p body ≡ refused 3
+unsorted s name names None p body h = refl
+unsorted s name names (Some ss) None body h = refl
+unsorted s name names (Some ss) (Some k) body (inl e) = cc
+unsorted s name names (Some ss) (Some k) body (inr e) = cc
+
+pub unsorted_definition : (s : State) (name : List ℕ) (parameters : Trees) (tree body : Tree)
+    → fault_error (is_unknown_in (is_live_name s) parameters tree body) (is_live_name s name || clash (bound_names parameters) || has_clash body) ≡ None
+    → (sorts_of_trees (parameter_sorts parameters) ≡ None) ⊎ (sort_of_tree tree ≡ None) → definition_of s name parameters tree body ≡ refused 3
+unsorted_definition s name parameters tree body known none =
+    known_definition s name parameters tree body known
+    ∙ unsorted s name (bound_names parameters) (sorts_of_trees (parameter_sorts parameters)) (sort_of_tree tree) body none

@@ -5,7 +5,6 @@ ghost use Rattle.nz_spec.specs.Tree.{Trees, no_trees};
 ghost use Rattle.nz_spec.specs.Bounds.{is_long_decimal, have_token as some_token};
 ghost use Rattle.nz_spec.specs.Table.{Node, term_in};
 ghost use Rattle.nz_spec.specs.Term as spec;
-ghost use Rattle.nz_spec.specs.Term.{Sort as SpecSort, holds_number};
 ghost use Rattle.nz_spec.specs.Linear.{is_linear as is_linear_term};
 ghost use Rattle.nz_spec.specs.Elaboration.{term_of, terms_of, listed};
 ghost use Rattle.nz_spec.specs.Form.{assert_name, declare_const_name, declare_fun_name, define_fun_name, get_value_name};
@@ -446,8 +445,8 @@ impl Live {
     }
 
     /// Keeps the assertion of a term, which holds a number or doesn't.
-    fn keep_assertion(&mut self, term: TermId, holds_number: bool) -> Result<(), Memory>
-        ensures kept { OnOk result (self.new ≡ with_assertion self.old term holds_number) }
+    fn keep_assertion(&mut self, term: TermId, holds: bool) -> Result<(), Memory>
+        ensures kept { OnOk result (self.new ≡ with_assertion self.old term holds) }
         ensures unchanged { OnErr result (self.new ≡ self.old) }
     {
         let number = self.count;
@@ -456,7 +455,7 @@ impl Live {
         self.accepted.push(term)?;
         self.assertions.push_reserved(Accepted { number, term });
         self.count = count;
-        self.holds_numbers = self.holds_numbers || holds_number;
+        self.holds_numbers = self.holds_numbers || holds;
         Ok(())
     }
 
@@ -538,13 +537,13 @@ fn bind_parameters(
     ensures bound { IfOk result (λ frame. (name : List ℕ) → SameTerm terms.new (bound_in frame name) (listed (parameters_from 0 (bound_names (seen parameters.now)) (map sort_of sorts.now)) name)) }
 {
     let mut frame = Bindings::new(alloc);
-    let mut place = 0;
+    let mut index = 0;
     for parameter in parameters {
-        if let (Some(name), Some(sort)) = (first_name(parameter), sorts.get(place)) {
-            let id = terms.make(Head::Parameter(place, *sort), &[])?;
+        if let (Some(name), Some(sort)) = (first_name(parameter), sorts.get(index)) {
+            let id = terms.make(Head::Parameter(index, *sort), &[])?;
             let term = Typed { id, sort: *sort };
             frame.insert(Text::from_slice(alloc, name.as_bytes())?, term)?;
-            place += 1;
+            index += 1;
         }
     }
     Ok(frame)
