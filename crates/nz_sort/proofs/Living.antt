@@ -11,8 +11,9 @@ use Rattle.nz_spec.specs.Normal.{normal_of}
 use Rattle.nz_spec.specs.Table.{Node, term_in, TermStays}
 use Rattle.nz_spec.specs.Linear.{is_linear}
 use Rattle.nz_spec.specs.Decide.{constants_of_head, constants_in_table}
+use Rattle.nz_spec.specs.Form.{CommandName}
 use Rattle.nz_spec.specs.Elaboration.{Definition, RootFits, TermFits, term_of, terms_of, has_sort, are_same_sort, placed, constant_named, definition_named, is_operator, is_declared, listed}
-use Rattle.nz_spec.specs.Script.{State, Item, declared, defined, asserted, items_of, constants_in, definitions_in, assertions_in, constants_of, definitions_of, assertions_of, with_item, is_live_name, scope_of, body_scope, parameters_from, Command, declare_const, define, assert_term, get_value, asked_of, all_linear, Outcome, accepted, refused, declaration_of, has_unknown, have_unknown, has_clash, have_clash, clash, bound_names, parameter_sorts, sorts_of_trees, sort_of_tree, linear_outcome, asserted_outcome, assertion_of, values_of_trees, definition_by, definition_of}
+use Rattle.nz_spec.specs.Script.{State, Item, declared, defined, asserted, items_of, constants_in, definitions_in, assertions_in, constants_of, definitions_of, assertions_of, with_item, is_live_name, scope_of, body_scope, parameters_from, Command, declare_const, define, assert_term, check_sat, get_model, get_value, no_effect, exit, outcome_by, asked_of, all_linear, Outcome, accepted, refused, declaration_of, has_unknown, have_unknown, has_clash, have_clash, clash, bound_names, parameter_sorts, sorts_of_trees, sort_of_tree, linear_outcome, asserted_outcome, assertion_of, values_of_trees, definition_by, definition_of}
 use Rattle.nz_spec.specs.Reply.{Reply, effect, grown}
 use Rattle.nz_term.specs.Constants.{sort_of}
 use Rattle.nz_sort.specs.declared.typed.Typed.{Typed}
@@ -22,9 +23,10 @@ use Rattle.nz_sort.specs.declared.names.Named.TheVariants as kinds
 use Rattle.nz_sort.specs.Names.{named_by, bound_in, SameTerm, SameNamed, IsDefined, IsScope}
 use Rattle.nz_sort.specs.Typed.{IsOperator, Grows, IsTyped, AreTyped}
 use Rattle.nz_sort.specs.Faults.{is_listed, AreLive}
+use Rattle.nz_sort.specs.declared.items.Accepted.{Accepted}
 use Rattle.nz_sort.specs.Items.{table_numbers, StandForAll}
-use Rattle.nz_sort.specs.Live.{Standing, HasItems, IsLive, AreNamesOf, DefinitionsFit, IsAccepted, Ask, Asks, changed, show_values}
-use Rattle.nz_sort.specs.Commands.{declaration_where, fault_error, is_unknown_in, body_of, constant_of, HasAdded, with_constant, with_definition, with_assertion}
+use Rattle.nz_sort.specs.Live.{Standing, HasItems, IsLive, AreNamesOf, DefinitionsFit, IsAccepted, Leaves, IfSkipped, Ask, Asks, changed, check, show_model, show_values, show_reason, show_info, show_levels, print_success, nothing, echo, leave, unsupported}
+use Rattle.nz_sort.specs.Commands.{AsksOnly, declaration_where, fault_error, is_unknown_in, body_of, constant_of, HasAdded, with_constant, with_definition, with_assertion}
 use Rattle.nz_sort.specs.Elaborate.{StandsAs, StandAs}
 use Rattle.nz_sort.proofs.Ruling.{past_faults, at_fault}
 use Rattle.nz_sort.proofs.Accepting.{constants_in-append, definitions_in-append, assertions_in-append, stand_longer, stand_last, has_constant, has_definition, has_assertion, items_kept}
@@ -47,6 +49,12 @@ assertions_with levels i = ap assertions_in (items_of-with_item levels i) ∙ as
 pushed_with : (levels : List (List Item)) (i : Item) → length (with_item levels i) - 1 ≡ length levels - 1
 pushed_with [] i = refl
 pushed_with (items ∷ older) i = refl
+
+-- there are as many constants as live ones
+pub as_many : (ns : List Node) (standing : Standing) (s : State) → IsLive ns standing s → length standing.constants ≡ length (constants_of s)
+as_many ns standing s live =
+    sym (length-map (table_numbers standing.constants) (term_in ns) ∙ length-map standing.constants (λ (a : Accepted). a.term))
+    ∙ ap length live.items.constants.terms.terms ∙ length-map (constants_of s) (λ (c : Constant). apply (constant c) no_terms)
 
 -- ---- Names and what they stand for
 
@@ -271,6 +279,26 @@ differ_from_unnamed (c ∷ cs) name h =
       | true ↦ λ e. cc
       | false ↦ λ e. (refl, differ_from_unnamed cs name e)
     ]) h
+
+-- ---- Tables that are kept
+
+take_front : (xs ys : List Node) → take (length xs) (xs ++ ys) ≡ xs
+take_front [] ys = refl
+take_front (x ∷ xs) ys = ap (λ l. x ∷ l) (take_front xs ys)
+
+pub kept_where_grown : (old new : List Node) → Grows old new → take (length old) new ≡ old
+kept_where_grown old new g = ap (take (length old)) g.all ∙ take_front old g.more
+
+pub kept_where_same : (ns : List Node) → take (length ns) ns ≡ ns
+kept_where_same ns = kept_where_grown ns ns (record { more = []; all = sym (append-nil ns); operators = tt })
+
+pub kept_with_one : (old new : List Node) (n : Node) → (new ≡ old) ⊎ (new ≡ old ++ n ∷ []) → take (length old) new ≡ old
+kept_with_one old new n (inl e) = ap (take (length old)) e ∙ kept_where_same old
+kept_with_one old new n (inr e) = ap (take (length old)) e ∙ take_front old (n ∷ [])
+
+-- a table that is cut back to what was kept
+pub cut_back : (old new cut : List Node) (mark : ℕ) → mark ≡ length old → cut ≡ take mark new → take (length old) new ≡ old → cut ≡ old
+cut_back old new cut mark m c kept = c ∙ ap (λ n. take n new) m ∙ kept
 
 -- ---- What a declaration leaves
 
@@ -616,3 +644,54 @@ pub unsorted_definition : (s : State) (name : List ℕ) (parameters : Trees) (tr
 unsorted_definition s name parameters tree body known none =
     known_definition s name parameters tree body known
     ∙ unsorted s name (bound_names parameters) (sorts_of_trees (parameter_sorts parameters)) (sort_of_tree tree) body none
+
+-- ---- What asks and changes nothing
+
+pub leaves_checked : (ns : List Node) (standing : Standing) (s : State) (arguments : Trees) → IsLive ns standing s → IsAccepted s arguments (accepted check_sat) check ns standing
+leaves_checked ns standing s arguments live = leaves_asked ns standing s (accepted check_sat) arguments check check_sat refl refl (λ reply. refl) live
+
+pub leaves_model : (ns : List Node) (standing : Standing) (s : State) (arguments : Trees) → IsLive ns standing s → IsAccepted s arguments (accepted get_model) show_model ns standing
+leaves_model ns standing s arguments live = leaves_asked ns standing s (accepted get_model) arguments show_model get_model refl refl (λ reply. refl) live
+
+pub leaves_unheeded : (ns : List Node) (standing : Standing) (s : State) (arguments : Trees) → IsLive ns standing s → IsAccepted s arguments (accepted no_effect) nothing ns standing
+leaves_unheeded ns standing s arguments live = leaves_asked ns standing s (accepted no_effect) arguments nothing no_effect refl refl (λ reply. refl) live
+
+pub leaves_left : (ns : List Node) (standing : Standing) (s : State) (arguments : Trees) → IsLive ns standing s → IsAccepted s arguments (accepted exit) leave ns standing
+leaves_left ns standing s arguments live = leaves_asked ns standing s (accepted exit) arguments leave exit refl refl (λ reply. refl) live
+
+-- an accepted command leaves what its ask says
+leaves_by : (s : State) (arguments : Trees) (outcome : Outcome) (ask : Ask) (ns : List Node) (standing : Standing) (c : Command) → Asks ns ask arguments c
+    → IsAccepted s arguments outcome ask ns standing → Leaves s arguments outcome ask ns standing
+leaves_by s arguments outcome changed ns standing c asks h = h
+leaves_by s arguments outcome check ns standing c asks h = h
+leaves_by s arguments outcome show_model ns standing c asks h = h
+leaves_by s arguments outcome (show_values xs) ns standing c asks h = h
+leaves_by s arguments outcome show_reason ns standing c asks h = h
+leaves_by s arguments outcome (show_info i) ns standing c asks h = h
+leaves_by s arguments outcome show_levels ns standing c asks h = h
+leaves_by s arguments outcome (print_success b) ns standing c asks h = h
+leaves_by s arguments outcome nothing ns standing c asks h = h
+leaves_by s arguments outcome echo ns standing c asks h = h
+leaves_by s arguments outcome leave ns standing c asks h = h
+leaves_by s arguments outcome unsupported ns standing c asks h = absurd asks
+
+pub leaves_only : (ns : List Node) (standing : Standing) (s : State) (name : CommandName) (arguments : Trees) (ask : Ask) → AsksOnly name arguments ask → IsLive ns standing s
+    → Leaves s arguments (outcome_by s name arguments) ask ns standing
+leaves_only ns standing s name arguments ask h live =
+    leaves_by s arguments (outcome_by s name arguments) ask ns standing h.command (h.asks ns)
+    (leaves_asked ns standing s (outcome_by s name arguments) arguments ask h.command (h.is s) (h.asks ns) (h.keeps s) live)
+
+-- what holds, holds where the command isn't taken
+pub if_skipped : {P : Type 0} (ask : Ask) → P → IfSkipped ask P
+if_skipped changed p = tt
+if_skipped check p = tt
+if_skipped show_model p = tt
+if_skipped (show_values xs) p = tt
+if_skipped show_reason p = tt
+if_skipped (show_info i) p = tt
+if_skipped show_levels p = tt
+if_skipped (print_success b) p = tt
+if_skipped nothing p = tt
+if_skipped echo p = tt
+if_skipped leave p = tt
+if_skipped unsupported p = p

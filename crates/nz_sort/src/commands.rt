@@ -178,6 +178,7 @@ pub(crate) fn asked_trees(arguments: &[Tree]) -> Option<&[Tree]>
 }
 
 /// What a `get-info` asks.
+#[tactic(auto, using(crate::proofs::Ruling::asks_no_info))]
 pub(crate) fn info_act(arguments: &[Tree]) -> Option<Act>
     ensures asks { IfSome result (λ act. AsksOnly get_info_name (seen arguments.now) (asked act)) }
     ensures none { IfNone result ((s : State) → outcome_by s get_info_name (seen arguments.now) ≡ refused 1) }
@@ -208,6 +209,7 @@ fn info_by(key: &Token) -> Act
 }
 
 /// What a `set-option` asks.
+#[tactic(auto, using(crate::proofs::Ruling::sets_no_option, crate::proofs::Ruling::sets_no_key, crate::proofs::Ruling::sets_no_value))]
 pub(crate) fn option_act(arguments: &[Tree]) -> Option<Act>
     ensures asks { IfSome result (λ act. AsksOnly set_option_name (seen arguments.now) (asked act)) }
     ensures none { IfNone result ((s : State) → outcome_by s set_option_name (seen arguments.now) ≡ refused 1) }
@@ -241,6 +243,7 @@ fn word_of(tree: &Tree) -> Option<&Token>
 }
 
 /// What an `echo` asks.
+#[tactic(auto, using(crate::proofs::Ruling::echoes_nothing))]
 pub(crate) fn echo_act(arguments: &[Tree]) -> Option<Act>
     ensures asks { IfSome result (λ act. AsksOnly echo_name (seen arguments.now) (asked act)) }
     ensures none { IfNone result ((s : State) → outcome_by s echo_name (seen arguments.now) ≡ refused 1) }

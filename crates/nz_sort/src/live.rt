@@ -41,6 +41,8 @@ use crate::tokens::{TokenTest, have_token};
 use crate::typed::{ElaborateError, Typed};
 use nz_base::{Memory, Text};
 use nz_sexpr::Tree;
+use nz_spec::elaboration::terms_fit;
+use nz_spec::table::term_stays;
 use nz_term::{Constant, Head, Sort, TermId, Terms};
 use std::alloc::Global;
 use std::marker::Model;
@@ -133,6 +135,7 @@ impl Live {
     ///
     /// The first rule that the command breaks, and `Memory`. Then the live state and the table are as before, and so they are
     /// after `Unsupported`.
+    #[tactic(auto, using(crate::proofs::Living::cut_back))]
     pub fn command(&mut self, terms: &mut Terms, tree: &Tree) -> Result<Act, Refusal>
         ensures accepted { IfOk result (λ act. (s : State) → IsLive terms.old self.old s → IsCarriedOut s (view tree.now) (asked act) terms.new self.new) }
         ensures refused { IfErr result (λ refusal. IfSome (error_of refusal) (λ n. (s : State) → IsLive terms.old self.old s → outcome_of s (view tree.now) ≡ refused n)) }
@@ -157,6 +160,7 @@ impl Live {
 
     /// The rules in their order: the form, the limits, the width of numbers, what the program takes, and then the names, the
     /// sorts and what is linear. After an error the table may have grown, and so after those below.
+    #[tactic(auto, using(crate::proofs::Living::kept_where_same))]
     fn named(
         &mut self,
         terms: &mut Terms,
@@ -195,6 +199,7 @@ impl Live {
     }
 
     /// Carries out a command that the program takes, over arguments of its form.
+    #[tactic(auto, using(crate::proofs::Living::kept_where_same, crate::proofs::Living::leaves_checked, crate::proofs::Living::leaves_model, crate::proofs::Living::leaves_unheeded, crate::proofs::Living::leaves_left, crate::proofs::Living::leaves_only, crate::proofs::Living::if_skipped))]
     fn carry_out(
         &mut self,
         terms: &mut Terms,
@@ -254,6 +259,7 @@ impl Live {
     // ---- Declarations
 
     /// Declares a constant.
+    #[tactic(auto, using(crate::proofs::Living::kept_where_same))]
     fn declare_constant(&mut self, terms: &mut Terms, arguments: &[Tree]) -> Result<(), Refusal>
         ensures accepted { OnOk result ((s : State) → IsLive terms.old self.old s → Leaves s (seen arguments.now) (outcome_by s declare_const_name (seen arguments.now)) changed terms.new self.new) }
         ensures refused { IfErr result (λ refusal. IfSome (error_of refusal) (λ n. (s : State) → IsLive terms.old self.old s → outcome_by s declare_const_name (seen arguments.now) ≡ refused n)) }
@@ -268,6 +274,7 @@ impl Live {
     }
 
     /// Declares a function, which is a constant where it has no arguments.
+    #[tactic(auto, using(crate::proofs::Living::kept_where_same))]
     fn declare_function(&mut self, terms: &mut Terms, arguments: &[Tree]) -> Result<(), Refusal>
         ensures accepted { OnOk result ((s : State) → IsLive terms.old self.old s → Leaves s (seen arguments.now) (outcome_by s declare_fun_name (seen arguments.now)) changed terms.new self.new) }
         ensures refused { IfErr result (λ refusal. IfSome (error_of refusal) (λ n. (s : State) → IsLive terms.old self.old s → outcome_by s declare_fun_name (seen arguments.now) ≡ refused n)) }
@@ -282,6 +289,7 @@ impl Live {
     }
 
     /// Declares a constant of this name and sort, where it has no arguments.
+    #[tactic(auto, using(crate::proofs::Living::kept_where_same))]
     fn declare(
         &mut self,
         terms: &mut Terms,
@@ -295,6 +303,7 @@ impl Live {
         ensures unchanged { OnErr result (self.new ≡ self.old) }
         ensures front { take (length self.old.asserted) self.new.asserted ≡ self.old.asserted }
     {
+        term_stays();
         match declared_sort(&self.names, name, sorts, sort) {
             Err(refusal) => Err(refusal),
             Ok(sort) => match self.add_constant(terms, name, sort) {
@@ -305,6 +314,7 @@ impl Live {
     }
 
     /// Adds a constant of a name that isn't there yet to the table and to what stands.
+    #[tactic(auto, using(crate::proofs::Living::kept_where_same, crate::proofs::Living::kept_with_one))]
     fn add_constant(&mut self, terms: &mut Terms, name: &Text, sort: Sort) -> Result<(), Memory>
         requires fresh { named_by self.old.names name.now ≡ None }
         ensures added { OnOk result (HasAdded name.now (sort_of sort) terms.old terms.new self.old self.new) }
@@ -344,6 +354,7 @@ impl Live {
     // ---- Definitions
 
     /// Defines a name.
+    #[tactic(auto, using(crate::proofs::Living::kept_where_same, crate::proofs::Living::kept_where_grown))]
     fn define_function(&mut self, terms: &mut Terms, arguments: &[Tree]) -> Result<(), Refusal>
         ensures accepted { OnOk result ((s : State) → IsLive terms.old self.old s → Leaves s (seen arguments.now) (outcome_by s define_fun_name (seen arguments.now)) changed terms.new self.new) }
         ensures refused { IfErr result (λ refusal. IfSome (error_of refusal) (λ n. (s : State) → IsLive terms.old self.old s → outcome_by s define_fun_name (seen arguments.now) ≡ refused n)) }
@@ -351,6 +362,8 @@ impl Live {
         ensures unchanged { OnErr result (self.new ≡ self.old) }
         ensures front { take (length self.old.asserted) self.new.asserted ≡ self.old.asserted }
     {
+        term_stays();
+        terms_fit();
         let Some(definiens) = defined(arguments) else {
             return Err(Refusal::Syntax);
         };
@@ -398,6 +411,7 @@ impl Live {
         ensures found { IfOk result (λ x. (s : State) → IsLive terms.old self.now s → StandsAs (body_of s (seen definiens.parameters.now) (map sort_of sorts.now) (sort_of sort) (view definiens.body.now)) terms.new x) }
         ensures refused { IsErrOf result ElaborateError.Sort → (s : State) → IsLive terms.old self.now s → body_of s (seen definiens.parameters.now) (map sort_of sorts.now) (sort_of sort) (view definiens.body.now) ≡ None }
     {
+        term_stays();
         let frame = bind_parameters(self.alloc, terms, definiens.parameters, sorts)?;
         let mut frames = vec![in self.alloc; frame]?;
         let term = elaborate(self.alloc, &self.names, &mut frames, terms, definiens.body)?;
@@ -420,6 +434,7 @@ impl Live {
     // ---- Assertions
 
     /// Asserts the term of a tree.
+    #[tactic(auto, using(crate::proofs::Living::kept_where_same, crate::proofs::Living::kept_where_grown))]
     fn assert_term(&mut self, terms: &mut Terms, arguments: &[Tree]) -> Result<(), Refusal>
         ensures accepted { OnOk result ((s : State) → IsLive terms.old self.old s → Leaves s (seen arguments.now) (outcome_by s assert_name (seen arguments.now)) changed terms.new self.new) }
         ensures refused { IfErr result (λ refusal. IfSome (error_of refusal) (λ n. (s : State) → IsLive terms.old self.old s → outcome_by s assert_name (seen arguments.now) ≡ refused n)) }
@@ -427,6 +442,7 @@ impl Live {
         ensures unchanged { OnErr result (self.new ≡ self.old) }
         ensures front { take (length self.old.asserted) self.new.asserted ≡ self.old.asserted }
     {
+        term_stays();
         let Some(tree) = only(arguments) else {
             return Err(Refusal::Syntax);
         };
@@ -462,11 +478,13 @@ impl Live {
     // ---- Values
 
     /// The terms whose values are asked for.
+    #[tactic(auto, using(crate::proofs::Living::kept_where_same, crate::proofs::Living::kept_where_grown))]
     fn asked_values(&self, terms: &mut Terms, arguments: &[Tree]) -> Result<Vec<Typed>, Refusal>
         ensures accepted { IfOk result (λ xs. (s : State) → IsLive terms.old self.now s → Leaves s (seen arguments.now) (outcome_by s get_value_name (seen arguments.now)) (show_values xs.items) terms.new self.now) }
         ensures refused { IfErr result (λ refusal. IfSome (error_of refusal) (λ n. (s : State) → IsLive terms.old self.now s → outcome_by s get_value_name (seen arguments.now) ≡ refused n)) }
         ensures kept { take (length terms.old) terms.new ≡ terms.old }
     {
+        term_stays();
         let Some(trees) = asked_trees(arguments) else {
             return Err(Refusal::Syntax);
         };
@@ -536,6 +554,7 @@ fn bind_parameters(
     ensures grows { Grows terms.old terms.new }
     ensures bound { IfOk result (λ frame. (name : List ℕ) → SameTerm terms.new (bound_in frame name) (listed (parameters_from 0 (bound_names (seen parameters.now)) (map sort_of sorts.now)) name)) }
 {
+    term_stays();
     let mut frame = Bindings::new(alloc);
     let mut index = 0;
     for parameter in parameters {
