@@ -18,7 +18,7 @@ use Rattle.nz_spec.specs.Reply.{Reply, effect, grown}
 use Rattle.nz_term.specs.Constants.{sort_of}
 use Rattle.nz_sort.specs.declared.typed.Typed.{Typed}
 use Rattle.nz_sort.specs.declared.names.Definition as code
-use Rattle.nz_sort.specs.declared.names.Named as named
+use Rattle.nz_sort.specs.declared.names.Named as naming
 use Rattle.nz_sort.specs.declared.names.Named.TheVariants as kinds
 use Rattle.nz_sort.specs.Names.{named_by, bound_in, SameTerm, SameNamed, IsDefined, IsScope}
 use Rattle.nz_sort.specs.Typed.{IsOperator, Grows, IsTyped, AreTyped}
@@ -58,7 +58,7 @@ as_many ns standing s live =
 
 -- ---- Names and what they stand for
 
-named_together : (ns : List Node) (o : Option named.Named) (c : Option Constant) (d : Option Definition) → SameNamed ns o c d → is_some o ≡ (is_some c || is_some d)
+named_together : (ns : List Node) (o : Option naming.Named) (c : Option Constant) (d : Option Definition) → SameNamed ns o c d → is_some o ≡ (is_some c || is_some d)
 named_together ns (Some (kinds.Constant x)) (Some c) d h = refl
 named_together ns (Some (kinds.Constant x)) None d h = absurd h
 named_together ns (Some (kinds.Definition e)) (Some c) d h = absurd h
@@ -69,12 +69,12 @@ named_together ns None None (Some d) h = absurd h
 named_together ns None None None h = refl
 
 -- the names that are listed are the live ones
-pub are_live : (ns : List Node) (names : List (List ℕ × named.Named)) (s : State) → AreNamesOf ns names s → AreLive names (is_live_name s)
+pub are_live : (ns : List Node) (names : List (List ℕ × naming.Named)) (s : State) → AreNamesOf ns names s → AreLive names (is_live_name s)
 are_live ns names s h =
     λ name. ap (λ b. is_operator name || b) (named_together ns (named_by names name) (constant_named (constants_of s) name) (definition_named (definitions_of s) name) (h name))
 
 -- a name that isn't listed is that of no constant, and of no definition
-no_constant : (ns : List Node) (o : Option named.Named) (c : Option Constant) (d : Option Definition) → SameNamed ns o c d → o ≡ None → c ≡ None
+no_constant : (ns : List Node) (o : Option naming.Named) (c : Option Constant) (d : Option Definition) → SameNamed ns o c d → o ≡ None → c ≡ None
 no_constant ns (Some n) c d h e = cc
 no_constant ns None (Some c) d h e = absurd h
 no_constant ns None None d h e = refl
@@ -93,7 +93,7 @@ typed_stays : TermStays → (ns more : List Node) (x : Typed) (t : Term) → IsT
 typed_stays stays ns more x t h =
     record { within = omega (arith, h.within, length-append ns more); normal = stays ns more x.id h.within ∙ h.normal; sort = h.sort }
 
-same_stays : TermStays → (ns more : List Node) (o : Option named.Named) (c : Option Constant) (d : Option Definition) → SameNamed ns o c d → SameNamed (ns ++ more) o c d
+same_stays : TermStays → (ns more : List Node) (o : Option naming.Named) (c : Option Constant) (d : Option Definition) → SameNamed ns o c d → SameNamed (ns ++ more) o c d
 same_stays stays ns more (Some (kinds.Constant x)) (Some c) d h = typed_stays stays ns more x (apply (constant c) no_terms) h
 same_stays stays ns more (Some (kinds.Constant x)) None d h = absurd h
 same_stays stays ns more (Some (kinds.Definition e)) (Some c) d h = absurd h
@@ -103,7 +103,7 @@ same_stays stays ns more None (Some c) d h = absurd h
 same_stays stays ns more None None (Some d) h = absurd h
 same_stays stays ns more None None None h = tt
 
-names_stay : TermStays → (old new more : List Node) (names : List (List ℕ × named.Named)) (s : State) → new ≡ old ++ more → AreNamesOf old names s → AreNamesOf new names s
+names_stay : TermStays → (old new more : List Node) (names : List (List ℕ × naming.Named)) (s : State) → new ≡ old ++ more → AreNamesOf old names s → AreNamesOf new names s
 names_stay stays old new more names s e h =
     subst (λ ns. AreNamesOf ns names s) (sym e)
     (λ name. same_stays stays old more (named_by names name) (constant_named (constants_of s) name) (definition_named (definitions_of s) name) (h name))
@@ -139,7 +139,7 @@ definition_last (e ∷ ds) d other =
       | false ↦ definition_last ds d other
     ]
 
-one_constant_more : (ns : List Node) (o : Option named.Named) (c : Option Constant) (d : Option Definition) (b : Bool) (x : Typed) (k : Constant) → SameNamed ns o c d
+one_constant_more : (ns : List Node) (o : Option naming.Named) (c : Option Constant) (d : Option Definition) (b : Bool) (x : Typed) (k : Constant) → SameNamed ns o c d
     → (b ≡ true → o ≡ None) → IsTyped ns x (apply (constant k) no_terms) → SameNamed ns (or_last o b (kinds.Constant x)) (or_last c b k) d
 one_constant_more ns (Some (kinds.Constant y)) (Some c) d b x k h fresh typed = h
 one_constant_more ns (Some (kinds.Constant y)) None d b x k h fresh typed = absurd h
@@ -152,7 +152,7 @@ one_constant_more ns None None (Some d) b x k h fresh typed = absurd h
 one_constant_more ns None None None true x k h fresh typed = typed
 one_constant_more ns None None None false x k h fresh typed = tt
 
-one_definition_more : (ns : List Node) (o : Option named.Named) (c : Option Constant) (d : Option Definition) (b : Bool) (e : code.Definition) (k : Definition) → SameNamed ns o c d
+one_definition_more : (ns : List Node) (o : Option naming.Named) (c : Option Constant) (d : Option Definition) (b : Bool) (e : code.Definition) (k : Definition) → SameNamed ns o c d
     → IsDefined ns e k → SameNamed ns (or_last o b (kinds.Definition e)) c (or_last d b k)
 one_definition_more ns (Some (kinds.Constant x)) (Some c) d b e k h is = h
 one_definition_more ns (Some (kinds.Constant x)) None d b e k h is = absurd h
@@ -165,7 +165,7 @@ one_definition_more ns None None None true e k h is = is
 one_definition_more ns None None None false e k h is = tt
 
 -- a name that is this one has what is listed with this one
-same_name : (names : List (List ℕ × named.Named)) (name other : List ℕ) → named_by names name ≡ None → bytes_eq other name ≡ true → named_by names other ≡ None
+same_name : (names : List (List ℕ × naming.Named)) (name other : List ℕ) → named_by names name ≡ None → bytes_eq other name ≡ true → named_by names other ≡ None
 same_name [] name other fresh e = refl
 same_name (p ∷ ps) name other fresh e =
     let equal : bytes_eq other p.0 ≡ bytes_eq name p.0 = nat_list_eq_equiv.congr other name p.0 e in
@@ -174,7 +174,7 @@ same_name (p ∷ ps) name other fresh e =
       | false ↦ λ none f. ap (λ b. cond b (Some p.1) (named_by ps other)) f ∙ same_name ps name other none e
     ]) fresh equal
 
-names_with_constant : (ns : List Node) (names : List (List ℕ × named.Named)) (s t : State) (k : Constant) (x : Typed) → AreNamesOf ns names s → named_by names k.name ≡ None
+names_with_constant : (ns : List Node) (names : List (List ℕ × naming.Named)) (s t : State) (k : Constant) (x : Typed) → AreNamesOf ns names s → named_by names k.name ≡ None
     → IsTyped ns x (apply (constant k) no_terms) → constants_of t ≡ constants_of s ++ k ∷ [] → definitions_of t ≡ definitions_of s → AreNamesOf ns (names ++ (k.name, kinds.Constant x) ∷ []) t
 names_with_constant ns names s t k x h fresh typed more same = λ other.
     let swap : bytes_eq k.name other ≡ bytes_eq other k.name = nat_list_eq_equiv.symm k.name other in
@@ -186,7 +186,7 @@ names_with_constant ns names s t k x h fresh typed more same = λ other.
     (one_constant_more ns (named_by names other) (constant_named (constants_of s) other) (definition_named (definitions_of s) other) (bytes_eq other k.name) x k (h other)
     (λ e. same_name names k.name other fresh e) typed)))
 
-names_with_definition : (ns : List Node) (names : List (List ℕ × named.Named)) (s t : State) (k : Definition) (e : code.Definition) → AreNamesOf ns names s
+names_with_definition : (ns : List Node) (names : List (List ℕ × naming.Named)) (s t : State) (k : Definition) (e : code.Definition) → AreNamesOf ns names s
     → IsDefined ns e k → constants_of t ≡ constants_of s → definitions_of t ≡ definitions_of s ++ k ∷ [] → AreNamesOf ns (names ++ (k.name, kinds.Definition e) ∷ []) t
 names_with_definition ns names s t k e h is same more = λ other.
     let swap : bytes_eq k.name other ≡ bytes_eq other k.name = nat_list_eq_equiv.symm k.name other in
@@ -334,7 +334,7 @@ live_declared stays old new before after s name sort live fresh h =
     subst (λ standing. IsLive new standing more) (sym h.stands)
     (record {
       named = names_with_constant new before.names s more c x (names_stay stays old new (one ∷ []) before.names s longer live.named) fresh
-          (record { within = within; normal = h.term; sort = h.sort }) later same;
+          (record { within = within; normal = h.term; sort = h.sorted }) later same;
       fits = subst DefinitionsFit (sym same) live.fits;
       constants = table ∙ sym later;
       distinct = subst (IsDistinct bytes_eq) (sym (ap (map (λ (d : Constant). d.name)) table ∙ map-append (λ (d : Constant). d.name) (constants_of s) (c ∷ []))) distinct;
@@ -342,7 +342,7 @@ live_declared stays old new before after s name sort live fresh h =
       terms = stand.terms ∙ ap (map normal_of) (sym (assertions_with s.levels (declared c) ∙ append-nil (assertions_of s)));
       items =
           subst (HasItems new (with_constant before name x)) (sym (items_of-with_item s.levels (declared c)))
-          (has_constant stays old new (one ∷ []) before (items_of s.levels) c x longer live.items within h.term h.sort);
+          (has_constant stays old new (one ∷ []) before (items_of s.levels) c x longer live.items within h.term h.sorted);
       unpushed = pushed_with s.levels (declared c) ∙ live.unpushed;
     })
 
@@ -390,7 +390,7 @@ live_defined stays old new before s d e live g is fit =
 
 -- ---- What an assertion leaves
 
-names_same : (ns : List Node) (names : List (List ℕ × named.Named)) (s t : State) → constants_of t ≡ constants_of s → definitions_of t ≡ definitions_of s → AreNamesOf ns names s → AreNamesOf ns names t
+names_same : (ns : List Node) (names : List (List ℕ × naming.Named)) (s t : State) → constants_of t ≡ constants_of s → definitions_of t ≡ definitions_of s → AreNamesOf ns names s → AreNamesOf ns names t
 names_same ns names s t c d h = λ name.
     subst (λ cs. SameNamed ns (named_by names name) (constant_named cs name) (definition_named (definitions_of t) name)) (sym c)
     (subst (λ ds. SameNamed ns (named_by names name) (constant_named (constants_of s) name) (definition_named ds name)) (sym d) (h name))

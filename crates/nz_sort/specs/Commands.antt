@@ -106,7 +106,7 @@ with_assertion before id holds =
 pub record HasAdded (name : List ℕ) (sort : Sort) (old new : List Node) (before after : Standing) : Type 0 where
   pub added : Typed
   pub stands : after ≡ with_constant before name added
-  pub sort : sort_of added.sort ≡ sort
+  pub sorted : sort_of added.sort ≡ sort
   pub node : slice_get new added.id ≡ Some (record { head = constant (constant_of name sort); kids = [] })
   pub grown : (new ≡ old) ⊎ (new ≡ old ++ record { head = constant (constant_of name sort); kids = [] } ∷ [])
   pub term : term_in new added.id ≡ apply (constant (constant_of name sort)) no_terms
