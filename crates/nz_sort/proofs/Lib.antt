@@ -1,4 +1,5 @@
 pub mod Accepting
+pub mod Asking
 pub mod Digits
 pub mod Elaborating
 pub mod Expanding

@@ -550,9 +550,10 @@ parameters_fit : (total : List Sort) (i : ℕ) (names : List (List ℕ)) (sorts 
 parameters_fit total i [] sorts h = tt
 parameters_fit total i (name ∷ names) [] h = tt
 parameters_fit total i (name ∷ names) (s ∷ sorts) h =
-    let here : i + 0 ≡ i = omega arith in
-    (subst (λ j. slice_get total j ≡ Some s) here (h 0 s refl),
-    parameters_fit total (suc i) names sorts (λ j t at. let next : i + suc j ≡ suc i + j = omega arith in subst (λ k. slice_get total k ≡ Some t) next (h (suc j) t at)))
+    let here : i + 0 ≡ i = omega arith in (
+      subst (λ j. slice_get total j ≡ Some s) here (h 0 s refl),
+      parameters_fit total (suc i) names sorts (λ j t at. let next : i + suc j ≡ suc i + j = omega arith in subst (λ k. slice_get total k ≡ Some t) next (h (suc j) t at)),
+    )
 
 -- a term that is placed at a sort is itself or a number read as Real
 placed_fits : (total : List Sort) (s : Sort) (t u : Term) (same real int : Bool) → cond same (Some t) (cond (real && int) (Some (cond int (apply to_real (terms t no_terms)) t)) None) ≡ Some u

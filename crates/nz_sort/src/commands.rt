@@ -190,6 +190,7 @@ pub(crate) fn info_act(arguments: &[Tree]) -> Option<Act>
 }
 
 /// What a `get-info` of this key asks.
+#[tactic(auto, using(crate::proofs::Asking::asks_name, crate::proofs::Asking::asks_version, crate::proofs::Asking::asks_authors, crate::proofs::Asking::asks_behavior, crate::proofs::Asking::asks_levels, crate::proofs::Asking::asks_reason))]
 fn info_by(key: &Token) -> Act
     ensures asks { AsksOnly get_info_name (trees (leaf (token_view key.now)) no_trees) (asked result) }
 {
@@ -221,6 +222,7 @@ pub(crate) fn option_act(arguments: &[Tree]) -> Option<Act>
 }
 
 /// What a `set-option` of this key and this value asks.
+#[tactic(auto, using(crate::proofs::Asking::sets_success, crate::proofs::Asking::sets_nothing))]
 fn option_by(key: &Token, value: &Token) -> Act
     ensures asks { AsksOnly set_option_name (trees (leaf (token_view key.now)) (trees (leaf (token_view value.now)) no_trees)) (asked result) }
 {
@@ -243,7 +245,7 @@ fn word_of(tree: &Tree) -> Option<&Token>
 }
 
 /// What an `echo` asks.
-#[tactic(auto, using(crate::proofs::Ruling::echoes_nothing))]
+#[tactic(auto, using(crate::proofs::Ruling::echoes_nothing, crate::proofs::Asking::echoes))]
 pub(crate) fn echo_act(arguments: &[Tree]) -> Option<Act>
     ensures asks { IfSome result (λ act. AsksOnly echo_name (seen arguments.now) (asked act)) }
     ensures none { IfNone result ((s : State) → outcome_by s echo_name (seen arguments.now) ≡ refused 1) }
