@@ -220,8 +220,8 @@ fn outcomes(alloc: Global, commands: &[&str]) -> Result<Vec<&'static str>, Fail>
     Ok(words)
 }
 
-fn word_of(result: &Result<Act, Refusal>) -> &'static str {
-    match result {
+fn word_of(outcome: &Result<Act, Refusal>) -> &'static str {
+    match outcome {
         Ok(Act::Changed) => "changed",
         Ok(Act::Check) => "check",
         Ok(Act::ShowModel) => "model",
