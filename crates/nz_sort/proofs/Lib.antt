@@ -6,7 +6,12 @@ pub mod Expanding
 pub mod Forming
 pub mod Living
 pub mod NameTerms
+pub mod Naming
 pub mod Ruling
 pub mod ScopeTerms
+pub mod Scoping
+pub mod Sizes
+pub mod SortTrees
 pub mod Staying
+pub mod Taking
 pub mod Zeros
