@@ -147,12 +147,14 @@ error_text n =
     if n == 1 then codes "(error \"1 syntax\")"
     else (if n == 2 then codes "(error \"2 unknown symbol\")"
     else (if n == 3 then codes "(error \"3 sort\")"
+    else (if n == 4 then codes "(error \"4 not linear\")"
     else (if n == 5 then codes "(error \"5 number too wide\")"
     else (if n == 6 then codes "(error \"6 limit\")"
     else (if n == 7 then codes "(error \"7 no answer to show\")"
+    else (if n == 8 then codes "(error \"8 pop below zero\")"
     else (if n == 9 then codes "(error \"9 already declared\")"
     else (if n == 10 then codes "(error \"10 incomplete command\")"
-    else codes "(error \"11 out of memory\")")))))))
+    else codes "(error \"11 out of memory\")")))))))))
 
 -- why a check wasn't decided
 abbrev pub reason_text : Reason → List ℕ
