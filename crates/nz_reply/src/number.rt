@@ -14,7 +14,11 @@ use nz_frac::Frac;
 use nz_term::Sort;
 
 /// Writes a number as its sort spells it; of no sort of numbers, as an operand.
-pub(crate) fn write_number<K: Sink>(sink: &mut K, sort: Sort, number: Frac) -> Result<(), WriteFault>
+pub(crate) fn write_number<K: Sink>(
+    sink: &mut K,
+    sort: Sort,
+    number: Frac,
+) -> Result<(), WriteFault>
     ensures whole { OnOk result (Appends (K.held sink.old) (K.held sink.new) (number_text (sort_of sort) number)) }
     ensures front { OnErr result (AddsFrontOf (K.held sink.old) (K.held sink.new) (number_text (sort_of sort) number)) }
     ensures later { K.faults sink.old ≤ K.faults sink.new }
@@ -50,7 +54,11 @@ fn write_integer<K: Sink>(sink: &mut K, number: Frac) -> Result<(), WriteFault>
 }
 
 /// Writes a number by its numerator and denominator, each with these bytes behind its digits; the denominator 1 is left out.
-fn write_quotient<K: Sink>(sink: &mut K, number: Frac, point: &'static [u8]) -> Result<(), WriteFault>
+fn write_quotient<K: Sink>(
+    sink: &mut K,
+    number: Frac,
+    point: &'static [u8],
+) -> Result<(), WriteFault>
     ensures whole { OnOk result (Appends (K.held sink.old) (K.held sink.new) (signed_text number.numerator (quotient_text point.now (unsigned_abs number.numerator) (denominator number)))) }
     ensures front { OnErr result (AddsFrontOf (K.held sink.old) (K.held sink.new) (signed_text number.numerator (quotient_text point.now (unsigned_abs number.numerator) (denominator number)))) }
     ensures later { K.faults sink.old ≤ K.faults sink.new }

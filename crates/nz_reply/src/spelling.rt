@@ -62,7 +62,11 @@ fn write_part<K: Sink>(sink: &mut K, part: &Part) -> Result<(), WriteFault>
 }
 
 /// Writes a value of this sort.
-pub(crate) fn write_value<K: Sink>(sink: &mut K, sort: Sort, value: &Value) -> Result<(), WriteFault>
+pub(crate) fn write_value<K: Sink>(
+    sink: &mut K,
+    sort: Sort,
+    value: &Value,
+) -> Result<(), WriteFault>
     ensures whole { OnOk result (Appends (K.held sink.old) (K.held sink.new) (value_text (sort_of sort) (value_of value.now))) }
     ensures front { OnErr result (AddsFrontOf (K.held sink.old) (K.held sink.new) (value_text (sort_of sort) (value_of value.now))) }
     ensures later { K.faults sink.old ≤ K.faults sink.new }

@@ -58,7 +58,10 @@ fn constant(alloc: Global, name: &[u8], sort: Sort) -> Result<Constant, Memory> 
 
 #[test]
 fn values_are_told_behind_their_terms(rt: HostRuntime) -> Result<(), Fail> {
-    let what = heard_in(rt.alloc(), b"(get-value (p (+ |a b| x 1.50) (f \"\"\"\" :k #xF)))");
+    let what = heard_in(
+        rt.alloc(),
+        b"(get-value (p (+ |a b| x 1.50) (f \"\"\"\" :k #xF)))",
+    );
     let reply = values(
         rt.alloc(),
         &[
@@ -103,7 +106,10 @@ fn operations_that_leave_the_numbers_are_told(rt: HostRuntime) -> Result<(), Fai
         })],
     )?;
     let sink = written(rt.alloc(), &what, &reply)?;
-    assert_eq!(rt; sink.bytes(), b"((() (wide add 3 (- (/ 1 2)))))\n".as_slice());
+    assert_eq!(rt;
+        sink.bytes(),
+        b"((() (wide add 3 (- (/ 1 2)))))\n".as_slice()
+    );
     Ok(())
 }
 
@@ -152,7 +158,10 @@ fn replies_of_one_line_are_told(rt: HostRuntime) -> Result<(), Fail> {
 #[test]
 fn a_sink_without_room_is_told(rt: HostRuntime) -> Result<(), Fail> {
     let mut sink = PlainSink::new(rt.alloc(), 5)?;
-    assert_eq!(rt; write_reply(&mut sink, &What::Unread, &Reply::Unsupported), Err(WriteFault));
+    assert_eq!(rt;
+        write_reply(&mut sink, &What::Unread, &Reply::Unsupported),
+        Err(WriteFault)
+    );
     assert_eq!(rt; sink.bytes(), b"unsup".as_slice());
     assert_eq!(rt; write_text(&mut sink, b""), Ok(()));
     Ok(())

@@ -174,7 +174,11 @@ fn write_pairs<K: Sink>(sink: &mut K, trees: &[Tree], shows: &[Shown]) -> Result
 }
 
 /// Writes the pairs, each behind a space.
-fn write_later_pairs<K: Sink>(sink: &mut K, trees: &[Tree], shows: &[Shown]) -> Result<(), WriteFault>
+fn write_later_pairs<K: Sink>(
+    sink: &mut K,
+    trees: &[Tree],
+    shows: &[Shown],
+) -> Result<(), WriteFault>
     ensures whole { OnOk result (Appends (K.held sink.old) (K.held sink.new) (later_texts (map shown_pair_text (with_shown (seen trees.now) (map shown_of shows.now))))) }
     ensures front { OnErr result (AddsFrontOf (K.held sink.old) (K.held sink.new) (later_texts (map shown_pair_text (with_shown (seen trees.now) (map shown_of shows.now))))) }
     ensures later { K.faults sink.old ≤ K.faults sink.new }
@@ -197,7 +201,10 @@ fn write_pair<K: Sink>(sink: &mut K, tree: &Tree, shown: &Shown) -> Result<(), W
     ensures later { K.faults sink.old ≤ K.faults sink.new }
     ensures fault { OnErr result (HasRisen K.last (K.faults sink.old) (K.faults sink.new)) }
 {
-    if let Err(fault) = write_spelled(sink, &[Part::Text(b"("), Part::Tree(tree), Part::Text(b" ")]) {
+    if let Err(fault) = write_spelled(
+        sink,
+        &[Part::Text(b"("), Part::Tree(tree), Part::Text(b" ")],
+    ) {
         return Err(fault);
     }
     if let Err(fault) = write_shown(sink, shown) {
