@@ -14,8 +14,8 @@ pub returns : goal.returns
 returns c =
     record {
       numbers = λ ns ts typed.
-        let each : c.all.result ≡ list_all (λ (x : Typed). is_number_sort (sort_of x.sort)) c.args.arguments.now =
-        all_from_yields_List (λ (x : Typed). is_number_sort (sort_of x.sort)) _ _ c.all.result c.all.ensures.ran (YieldsList-from_slice c.args.arguments.now cc)
-        (λ x b q k. search (rules, tests)) in
-        each ∙ sorts_typed is_number_sort ns c.args.arguments.now ts typed;
+          let each : c.all.result ≡ list_all (λ (x : Typed). is_number_sort (sort_of x.sort)) c.args.arguments.now =
+          all_from_yields_List (λ (x : Typed). is_number_sort (sort_of x.sort)) _ _ c.all.result c.all.ensures.ran (YieldsList-from_slice c.args.arguments.now cc)
+          (λ x b q k. search (rules, tests)) in
+          each ∙ sorts_typed is_number_sort ns c.args.arguments.now ts typed;
     }

@@ -13,8 +13,8 @@ pub returns : goal.returns
 returns c =
     record {
       sort = λ ns ts typed.
-        let each : c.all.result ≡ list_all (λ (x : Typed). are_same_sort (sort_of c.args.sort) (sort_of x.sort)) c.args.arguments.now =
-        all_from_yields_List (λ (x : Typed). are_same_sort (sort_of c.args.sort) (sort_of x.sort)) _ _ c.all.result c.all.ensures.ran (YieldsList-from_slice c.args.arguments.now cc)
-        (λ x b q k. search (rules, tests)) in
-        each ∙ sorts_typed (are_same_sort (sort_of c.args.sort)) ns c.args.arguments.now ts typed;
+          let each : c.all.result ≡ list_all (λ (x : Typed). are_same_sort (sort_of c.args.sort) (sort_of x.sort)) c.args.arguments.now =
+          all_from_yields_List (λ (x : Typed). are_same_sort (sort_of c.args.sort) (sort_of x.sort)) _ _ c.all.result c.all.ensures.ran (YieldsList-from_slice c.args.arguments.now cc)
+          (λ x b q k. search (rules, tests)) in
+          each ∙ sorts_typed (are_same_sort (sort_of c.args.sort)) ns c.args.arguments.now ts typed;
     }
