@@ -1,8 +1,13 @@
+pub mod Applying
 pub mod Digits
 pub mod Elaborating
 pub mod Expanding
 pub mod Forming
+pub mod Growing
+pub mod ListTerms
 pub mod NameTerms
+pub mod Normalizing
+pub mod Operating
 pub mod ScopeTerms
 pub mod Staying
 pub mod Zeros

@@ -206,11 +206,7 @@ fn place_all(
 }
 
 /// A term where one of this sort is wanted.
-pub(crate) fn place(
-    terms: &mut Terms,
-    sort: Sort,
-    term: Typed,
-) -> Result<TermId, ElaborateError>
+pub(crate) fn place(terms: &mut Terms, sort: Sort, term: Typed) -> Result<TermId, ElaborateError>
     ensures grows { Grows terms.old terms.new }
     ensures placed { IfOk result (λ id. (t : spec.Term) → IsTyped terms.old term t → StandsAs (placed (sort_of sort) t) terms.new (record { id = id; sort = sort })) }
     ensures refused { IsErrOf result ElaborateError.Sort → (ns : List Node) (t : spec.Term) → IsTyped ns term t → placed (sort_of sort) t ≡ None }
