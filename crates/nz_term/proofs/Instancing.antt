@@ -206,5 +206,5 @@ module _ (old : List Node) (us order : List ℕ) (arguments : All (λ u. u < len
       (subst (All (λ i. IsInstance now us i (slice_index made i))) (take_all count order all) w.done) there in (
         i.within,
         i.term ∙ ap (λ vs. instance_of vs (term_in now body)) (terms_kept old now w.grows us arguments)
-        ∙ ap (instance_of (terms_at (term_in old) us)) (term_kept old now w.grows body below),
+            ∙ ap (instance_of (terms_at (term_in old) us)) (term_kept old now w.grows body below),
       )
