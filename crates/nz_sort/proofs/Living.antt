@@ -1,7 +1,6 @@
 -- The live state after commands.
-use Rattle.std.proofs.Common.{◌||◌, ◌-◌, ◌≡◌, ◌⊎◌, inl, inr, ℕ, zero, suc, ◌<◌, List, [], ◌∷◌, ◌++◌, length, map, Option, None, Some, is_some, Bool, true, false, not, cond, bytes_eq, slice_get, All, refl, sym, ap, ◌∙◌, append_assoc, append-nil, length-append, subst, arith, codes}
+use Rattle.std.proofs.Common.{◌||◌, ◌-◌, ◌≡◌, ◌⊎◌, inl, inr, ℕ, zero, suc, ◌<◌, List, [], ◌∷◌, ◌++◌, length, map, Option, None, Some, is_some, Bool, true, false, not, cond, bytes_eq, slice_get, refl, sym, ap, ◌∙◌, append_assoc, append-nil, length-append, subst, arith, codes}
 use Rattle.std.proofs.lemmas.Grind.{flat_map-append}
-use Rattle.std.proofs.lemmas.List.Elements.{All-head, All-tail, All-append, All-cons, All-nil, All-weaker}
 use Rattle.std.proofs.lemmas.List.{map-append}
 use Rattle.std.proofs.lemmas.Option.{slice_get_within}
 use Rattle.std.specs.Cmp.Lexicographic.{nat_list_eq_equiv}
@@ -16,7 +15,6 @@ use Rattle.nz_spec.specs.Script.{State, Item, declared, asserted, items_of, cons
 use Rattle.nz_spec.proofs.Tables.{term_stays}
 use Rattle.nz_sort.specs.Names.{number_named, AreNamesOf}
 use Rattle.nz_sort.specs.Elaborate.{IsOperator, Grows}
-use Rattle.nz_sort.specs.Items.{StandForAll}
 use Rattle.nz_sort.specs.Live.{Standing, HasItems, IsLive, IsAccepted, changed, check}
 use Rattle.nz_sort.specs.Commands.{is_listed, is_unlisted, bool_constant, declaration_by, HasAdded, HasAsserted, with_constant, with_assertion}
 use Rattle.nz_sort.proofs.Accepting.{constants_in-append, assertions_in-append, stand_longer, stand_last, has_constant, has_assertion}

@@ -1,5 +1,5 @@
 -- The live state, as the code keeps it: names and items, with their numbers in the table of terms.
-use Rattle.std.specs.Prelude.{◌≡◌, ℕ, ◌<◌, List, [], length, map, All, ⊤}
+use Rattle.std.specs.Prelude.{◌≡◌, ℕ, ◌<◌, List, length, map, All, ⊤}
 use Rattle.nz_spec.specs.Tree.{Tree}
 use Rattle.nz_spec.specs.Term.{normal_of}
 use Rattle.nz_spec.specs.Table.{Node, term_in}

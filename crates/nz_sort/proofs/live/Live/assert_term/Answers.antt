@@ -1,4 +1,4 @@
-use Rattle.std.proofs.Common.{◌≡◌, ◌∙◌, ap, Bool, true, false, Err, sym, subst}
+use Rattle.std.proofs.Common.{◌∙◌, ap, Err, sym, subst}
 use Rattle.nz_sexpr.specs.View.{view}
 use Rattle.nz_spec.specs.Bounds.{has_token}
 use Rattle.nz_spec.specs.Form.{assert_name}
