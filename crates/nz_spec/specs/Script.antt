@@ -1,6 +1,6 @@
 -- Commands and the live state (SMT-LIB 2.6, section 3.9 and chapter 4): what a tree asks for, where it is accepted, and
 -- the stack of levels that the accepted commands leave.
-use Rattle.std.specs.Prelude.{ℕ, ◌&&◌, ◌||◌, ◌+◌, ◌-◌, ◌==◌, suc, not, nat_lt, Bool, true, false, List, [], ◌∷◌, ◌++◌, length, Option, Some, None, option_map, option_and_then, is_some, codes, bytes_eq, if◌then◌else◌}
+use Rattle.std.specs.Prelude.{ℕ, ◌&&◌, ◌||◌, ◌+◌, ◌-◌, ◌==◌, suc, not, nat_lt, Bool, true, false, List, [], ◌∷◌, ◌++◌, length, Option, Some, None, option_map, option_and_then, is_some, is_none, codes, bytes_eq, if◌then◌else◌}
 use Rattle.nz_spec.specs.Form.{is_one_of, is_name, is_symbol, is_keyword, is_number_token, is_token, is_one, has_form, CommandName, command_name, assert_name, assert_soft_name, check_sat_name, check_sat_assuming_name, declare_const_name, declare_fun_name, define_fun_name, echo_name, exit_name, get_info_name, get_model_name, get_objectives_name, get_value_name, maximize_name, minimize_name, pop_name, push_name, reset_name, reset_assertions_name, set_info_name, set_logic_name, set_option_name, other_name}
 use Rattle.nz_spec.specs.Bounds.{has_token, have_token, is_zero_token, numeral_value, is_wide_token, is_long_decimal}
 use Rattle.nz_spec.specs.Fraction.{Fraction}
@@ -167,12 +167,18 @@ wishes_in (asserted t ∷ items) = wishes_in items
 wishes_in (sought g ∷ items) = wishes_in items
 wishes_in (wished w ∷ items) = w ∷ wishes_in items
 
--- the live constants in the order of declaration, and the live assertions
+-- the live constants in the order of declaration, and the live assertions, goals and wishes
 abbrev pub constants_of : State → List Constant
 constants_of s = constants_in (items_of s.levels)
 
 abbrev pub assertions_of : State → List Term
 assertions_of s = assertions_in (items_of s.levels)
+
+abbrev pub goals_of : State → List Goal
+goals_of s = goals_in (items_of s.levels)
+
+abbrev pub wishes_of : State → List Wish
+wishes_of s = wishes_in (items_of s.levels)
 
 -- an item's kind
 abbrev pub is_constant : Item → Bool
