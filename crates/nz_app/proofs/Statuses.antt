@@ -1,8 +1,6 @@
 -- The words of the command line, and the status of what was kept.
-use Rattle.std.proofs.Common.{ℕ, ◌<◌, ◌≤◌, List, [], ◌∷◌, length, get_or, map, Bool, true, false, ◌||◌, IsTrue, String, string_bytes, bytes_eq, codes, refl, sym, ap, ◌∙◌, zero, suc, ◌≡◌, arith}
+use Rattle.std.proofs.Common.{ℕ, ◌<◌, List, [], ◌∷◌, length, get_or, Bool, true, false, ◌||◌, refl, sym, ap, ◌∙◌, zero, suc, ◌≡◌, arith}
 use Rattle.std.specs.List.{list_any}
-use Rattle.std.specs.declared.alloc.Global.{Global}
-use Rattle.std.proofs.lemmas.Slice.Eq.{bytes_eq-Decides}
 use Rattle.nz_spec.specs.Transcript.{Kept}
 use Rattle.nz_reply.specs.declared.reply.Kept as kept
 use Rattle.nz_reply.specs.Replies.{all_kept, kept_of}

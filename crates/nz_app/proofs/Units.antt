@@ -1,8 +1,8 @@
 -- What `clap` found, as units of work.
 use Rattle.std.proofs.Common.{◌≡◌, ℕ, List, Option, Some, None, Result, Ok, Err, true, refl, sym, ◌∙◌, ap}
-use Rattle.std.specs.Prelude.{option_map, option_and_then, unwrap_or, codes}
+use Rattle.std.specs.Prelude.{option_map, unwrap_or, codes}
 use Rattle.std.specs.Str.Parse.{ParsesUnsigned}
-use Rattle.clap.specs.Words.{Row, Text, ReadsOne, found_of, one_of, one_text, rows_of}
+use Rattle.clap.specs.Words.{Row, Text, ReadsOne, one_of, one_text, rows_of}
 use Rattle.clap.specs.Faults.{is_simple_and_free}
 use Rattle.clap.proofs.OnLiterals.{clap_on_literals}
 use Rattle.clap.proofs.WalkLemmas.{one_text-rows}

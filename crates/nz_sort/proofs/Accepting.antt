@@ -15,7 +15,7 @@ use Rattle.nz_sort.specs.declared.names.Definition.{Definition}
 use Rattle.nz_sort.specs.declared.items.Accepted.{Accepted}
 use Rattle.nz_sort.specs.declared.items.Goal.{Goal}
 use Rattle.nz_sort.specs.declared.items.Wish.{Wish}
-use Rattle.nz_sort.specs.Items.{table_numbers, StandForAll, AreItems, AreConstants, AreAssertions, AreGoals, AreWishes, direction_of}
+use Rattle.nz_sort.specs.Items.{table_numbers, StandForAll, AreItems, AreGoals, AreWishes}
 use Rattle.nz_sort.specs.Live.{Standing, HasItems}
 use Rattle.nz_sort.specs.Commands.{with_constant, with_definition, with_assertion}
 

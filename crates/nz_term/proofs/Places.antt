@@ -1,5 +1,5 @@
 -- Where terms stand in their order: behind their parts.
-use Rattle.std.proofs.Common.{◌≡◌, inl, inr, ℕ, zero, suc, ◌<◌, List, [], ◌∷◌, ◌++◌, length, map, take, get_or, refl, sym, ap, subst, ◌∙◌, arith, append_assoc}
+use Rattle.std.proofs.Common.{◌≡◌, inl, inr, ℕ, zero, suc, ◌<◌, List, [], ◌∷◌, ◌++◌, length, map, take, get_or, sym, ap, subst, ◌∙◌, arith, append_assoc}
 use Rattle.std.specs.Prelude.{All, Contains, flat_map, Some, slice_get, option_map, ⊤}
 use Rattle.std.specs.List.{take-map}
 use Rattle.std.proofs.lemmas.List.Elements.{All-take, Contains-append_left, Contains-append_right, Contains-append_cases, Contains-push}

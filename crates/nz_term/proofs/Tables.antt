@@ -7,7 +7,7 @@ use Rattle.std.specs.List.{IsDistinct, list_any}
 use Rattle.indexmap.specs.IndexSet.{insert_key}
 use Rattle.nz_spec.specs.Term.{apply, head_fits}
 use Rattle.nz_spec.specs.Table as table
-use Rattle.nz_spec.specs.Table.{IsTable, HasOneNumberEach, term_in, terms_at}
+use Rattle.nz_spec.specs.Table.{IsTable, term_in, terms_at}
 use Rattle.nz_spec.proofs.Tables as laws
 use Rattle.nz_term.specs.declared.nodes.Node.{Node}
 use Rattle.nz_term.specs.Nodes.{node_of}

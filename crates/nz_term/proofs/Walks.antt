@@ -1,10 +1,10 @@
 -- The state of the loop that puts terms into their order: its stack, its marks and the numbers so far.
-use Rattle.std.proofs.Common.{◌≡◌, ◌≢◌, inl, inr, ℕ, zero, suc, ◌+◌, ◌*◌, ◌<◌, Bool, true, false, List, [], ◌∷◌, ◌++◌, length, map, reverse, replicate, set, slice_index_or, get_or, All, refl, sym, ap, subst, ◌∙◌, arith, true≢false, length-append, length-set, get_or-set_same, get_or-set_other}
+use Rattle.std.proofs.Common.{◌≡◌, inl, inr, ℕ, zero, suc, ◌<◌, Bool, true, false, List, [], ◌∷◌, ◌++◌, length, map, reverse, replicate, set, slice_index_or, get_or, All, refl, sym, ap, subst, ◌∙◌, arith, true≢false, length-append, length-set, get_or-set_same, get_or-set_other}
 use Rattle.std.specs.Prelude.{◌↔◌, Contains, flat_map, MatchOption, Option, Some, None, ⊤}
 use Rattle.std.proofs.lemmas.Bool.Decides.{eqb_tells}
 use Rattle.std.proofs.lemmas.List.{get_or_read, length-replicate, map-append, reverse-append, reverse-reverse}
 use Rattle.std.proofs.lemmas.List.Elements.{Contains-append_left, Contains-append_right, Contains-append_cases, All-push, All-nil}
-use Rattle.nz_spec.specs.Term.{Term, apply}
+use Rattle.nz_spec.specs.Term.{Term}
 use Rattle.nz_spec.specs.Table.{Node, term_in, terms_at, HasOneNumberEach}
 use Rattle.nz_spec.specs.Order.{post_order, post_orders, AreFirst}
 use Rattle.nz_term.specs.declared.order.Step.{Step}
@@ -204,6 +204,3 @@ module _ (ns : List Node) (roots : List ℕ) where
         ap length both,
         length-append inner (f i ∷ []),
       )
-
-  pub leave_less : (steps : List Step) (i : ℕ) → effort (term_in ns) (reverse steps) < effort (term_in ns) (reverse (steps ++ Leave i ∷ []))
-  leave_less steps i = omega (arith, ap (effort (term_in ns)) (on_top steps (Leave i)))

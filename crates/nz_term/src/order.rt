@@ -38,6 +38,7 @@ fn enter_arguments(steps: &mut Vec<Step>, terms: &Terms, id: TermId) -> Result<(
 }
 
 /// The terms of these roots with all that they are made of, each once, in post-order: arguments come before, from the left.
+/// Takes time in proportion to these terms and their arguments, however deeply they nest.
 pub fn post_order(alloc: Global, terms: &Terms, roots: &[TermId]) -> Result<Vec<TermId>, Memory>
     requires within { All (λ r. r < length terms.now) roots.now }
     ensures order { IfOk result (λ ids. AreFirst [] (flat_map post_order (map (term_in terms.now) roots.now)) (map (term_in terms.now) ids.items)) }

@@ -1,6 +1,8 @@
 //! Truth values and values: those of the terms of a table, where its constants are decided.
 #![tactic(auto)]
 
+#[cfg(test)]
+mod tests;
 mod truth;
 mod value;
 

@@ -104,7 +104,12 @@ fn values_at(alloc: Global, ids: &[TermId], truths: &[bool]) -> Result<Values, A
 
 /// The values of these roots, where the constants have the values that `assign` gives their numbers, and `false` where it
 /// gives none. Each shared term is evaluated once.
-pub fn eval(alloc: Global, terms: &Terms, roots: &[TermId], assign: &Assign) -> Result<Values, EvalStop>
+pub fn eval(
+    alloc: Global,
+    terms: &Terms,
+    roots: &[TermId],
+    assign: &Assign,
+) -> Result<Values, EvalStop>
     requires within { All (λ r. r < length terms.now) roots.now }
     requires distinct { HasDistinctNames terms.now }
     ensures values { IfOk result (λ vs. vs ≡ map (λ r. value_of (assignment_by terms.now assign.now) (term_in terms.now r)) roots.now) }

@@ -1,8 +1,5 @@
-use Rattle.std.proofs.Common.{◌≡◌, ◌∙◌, ap, sym, map, string_bytes, [], rules}
-use Rattle.clap.specs.Words.{subcommand_of, subcommand_rows_of}
+use Rattle.std.proofs.Common.{◌∙◌, ap, sym, map, string_bytes}
 use Rattle.clap.specs.Faults.{fault_of, is_simple_and_free}
-use Rattle.clap.specs.Simple.{is_simple}
-use Rattle.nz_app.specs.Words.{AreUnits, AreUnitsBy, nuz_command, work_of}
 use Rattle.nz_app.proofs.Units.{is_simple_command}
 use Rattle.nz_app.proofs.words.units_of.Goals as goal
 

@@ -1,13 +1,13 @@
 -- The stack leads to the order, step by step.
-use Rattle.std.proofs.Common.{◌≡◌, ℕ, ◌<◌, List, ◌++◌, ◌∷◌, [], length, reverse, replicate, Bool, true, false, set, slice_index_or, sym, ap, subst, ◌∙◌, arith}
+use Rattle.std.proofs.Common.{◌≡◌, ℕ, ◌<◌, List, ◌++◌, ◌∷◌, [], reverse, replicate, Bool, true, false, set, slice_index_or, sym, ap, subst, ◌∙◌, arith}
 use Rattle.std.proofs.lemmas.List.{nil_from_length}
 use Rattle.nz_spec.specs.Table.{Node, term_in}
 use Rattle.nz_term.specs.declared.order.Step.{Step}
-use Rattle.nz_term.specs.declared.order.Step.TheVariants.{Enter, Leave}
+use Rattle.nz_term.specs.declared.order.Step.TheVariants.{Enter}
 use Rattle.nz_term.specs.Steps.{entries, EntersArguments}
 use Rattle.nz_term.proofs.Places.{come_behind, roots_listed}
 use Rattle.nz_term.proofs.Traversal.{effort}
-use Rattle.nz_term.proofs.Walks.{IsWalk, mark_read, none_taken, enters_within, start_walk, finish_walk, skip_walk, enter_walk, leave_walk, skip_less, enter_less, leave_less}
+use Rattle.nz_term.proofs.Walks.{IsWalk, mark_read, none_taken, enters_within, start_walk, finish_walk, skip_walk, enter_walk, leave_walk, skip_less, enter_less}
 use Rattle.nz_term.proofs.order.post_order.Goals as goal
 
 pub loop-step-init : goal.loop-step-init

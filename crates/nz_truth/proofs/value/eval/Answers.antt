@@ -1,11 +1,10 @@
 -- The terms have their truth one after another, and so the roots in the end.
-use Rattle.std.proofs.Common.{◌≡◌, ◌<◌, [], ◌∷◌, ◌++◌, length, take, set, get_or, slice_index_or, false, Some, slice_get, sym, ap, subst, ◌∙◌, arith}
+use Rattle.std.proofs.Common.{◌≡◌, ◌<◌, length, set, get_or, slice_index_or, false, Some, slice_get, sym, ap, subst, ◌∙◌, arith}
 use Rattle.std.specs.Prelude.{All, Contains}
 use Rattle.std.proofs.lemmas.List.{get_or_read, take_all, take_more}
 use Rattle.std.proofs.lemmas.Option.{slice_get-get_or, slice_get_within}
 use Rattle.nz_spec.specs.Table.{assignment_by}
 use Rattle.nz_spec.specs.Order.{ComeBehindArguments}
-use Rattle.nz_term.specs.Heads.{head_of}
 use Rattle.nz_term.specs.Nodes.{node_of}
 use Rattle.nz_truth.specs.Truths.{values_by, head_truth}
 use Rattle.nz_truth.proofs.Evaluated.{IsEvaluated, before_all, one_more, after_all}
