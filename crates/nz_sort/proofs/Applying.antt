@@ -1,6 +1,6 @@
 -- Operators over arguments that are in the table.
-use Rattle.std.proofs.Common.{◌≡◌, ℕ, suc, ◌+◌, ◌<◌, ◌≤◌, Bool, true, false, ◌&&◌, ◌||◌, List, [], ◌∷◌, ◌++◌, length, drop, get_or, All, Option, Some, None, refl, sym, ap, ◌∙◌, subst, arith, add-one, true≢false}
-use Rattle.std.specs.Prelude.{nat_lt, option_map}
+use Rattle.std.proofs.Common.{◌≡◌, ℕ, suc, ◌+◌, ◌<◌, ◌≤◌, Bool, true, false, ◌&&◌, ◌||◌, List, [], ◌∷◌, ◌++◌, length, drop, get_or, All, Some, None, refl, sym, ap, ◌∙◌, subst, arith, add-one, true≢false}
+use Rattle.std.specs.Prelude.{nat_lt}
 use Rattle.std.specs.List.{list_all}
 use Rattle.std.proofs.Math.Seq.{drop-cons}
 use Rattle.std.proofs.lemmas.Bool.{lt-ltb, ltb-true}
@@ -11,11 +11,11 @@ use Rattle.nz_spec.specs.Term as spec
 use Rattle.nz_spec.specs.Term.{Sort, bool_sort, int_sort, real_sort, Term, apply, Terms, no_terms, terms, head_sort}
 use Rattle.nz_spec.specs.Normal.{normal_of, normals_of, normal_node}
 use Rattle.nz_spec.specs.Table.{Node, term_in, terms_at}
-use Rattle.nz_spec.specs.Elaboration.{Operator, Operands, are_same_sort, all_terms, has_sort, is_number_term, term_count, takes, operands_of, operand_sort, operator_head, read_at, as_real, as_reals, applied}
+use Rattle.nz_spec.specs.Elaboration.{Operator, Operands, are_same_sort, all_terms, term_count, takes, operands_of, operand_sort, operator_head, read_at, applied}
 use Rattle.nz_term.specs.Constants.{sort_of}
 use Rattle.nz_sort.specs.declared.typed.Typed.{Typed}
 use Rattle.nz_sort.specs.Typed.{Grows, StandsFor, IsTyped, AreTyped, HasApplied, HasRead, read_term, terms_before}
-use Rattle.nz_sort.proofs.Growing.{longer, term_kept, grows_more, push_within, next_term, before-none}
+use Rattle.nz_sort.proofs.Growing.{longer, term_kept, next_term, before-none}
 
 -- ---- Arguments and their terms
 

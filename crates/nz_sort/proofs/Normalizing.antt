@@ -7,7 +7,7 @@ use Rattle.nz_spec.specs.Term.{Head, negation, disjunction, equality, Term, appl
 use Rattle.nz_spec.specs.Normal.{negated, paired, implication_of, grouped_onto, neighbours_of, disequations_onto, disequations_of}
 use Rattle.nz_spec.specs.Table.{Node, term_in, terms_at}
 use Rattle.nz_sort.specs.Typed.{Grows, StandsFor, terms_before}
-use Rattle.nz_sort.proofs.Growing.{term_kept, terms_kept, within_kept, before-none, grows_more, next_term}
+use Rattle.nz_sort.proofs.Growing.{term_kept, terms_kept, before-none, grows_more, next_term}
 
 -- ---- Terms of one argument, and of two
 
