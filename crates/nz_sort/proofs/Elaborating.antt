@@ -88,8 +88,8 @@ pub record BindsSome (sc : Scope) (bs : List Tree) (ns : List Node) (frame : Lis
   pub are : AreBindings sc bs pairs
   pub same : (name : List ℕ) → SameTerm ns (bound_in frame name) (listed pairs name)
 
-pub binds_none : (sc : Scope) (ns : List Node) → BindsSome sc [] ns []
-binds_none sc ns = record { pairs = []; are = tt; same = λ name. tt }
+pub binds_start : (sc : Scope) (ns : List Node) → BindsSome sc [] ns []
+binds_start sc ns = record { pairs = []; are = tt; same = λ name. tt }
 
 bindings_push : (sc : Scope) (bs : List Tree) (ps : List (List ℕ × Term)) (b : Tree) (p : List ℕ × Term) → AreBindings sc bs ps → IsBinding sc b p
     → AreBindings sc (bs ++ b ∷ []) (ps ++ p ∷ [])

@@ -1,10 +1,12 @@
 pub mod Applying
+pub mod Decimals
 pub mod Digits
 pub mod Elaborating
 pub mod Expanding
 pub mod Forming
 pub mod Growing
 pub mod ListTerms
+pub mod Looping
 pub mod NameTerms
 pub mod Normalizing
 pub mod Operating
