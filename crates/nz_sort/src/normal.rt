@@ -158,12 +158,7 @@ fn linked(terms: &mut Terms, link: Link, left: TermId, right: TermId) -> Result<
 }
 
 // A conjunction of what is said of each term and the next.
-fn chained(
-    alloc: Global,
-    terms: &mut Terms,
-    link: Link,
-    kids: &[TermId],
-) -> Result<TermId, Memory>
+fn chained(alloc: Global, terms: &mut Terms, link: Link, kids: &[TermId]) -> Result<TermId, Memory>
     requires within { All (λ k. k < length terms.old) kids.now }
     ensures grows { Grows terms.old terms.new }
     ensures made { IfOk result (λ id. StandsFor terms.new id (chained_by (link_pair link) (terms_at (term_in terms.old) kids.now))) }

@@ -93,11 +93,8 @@ pub(crate) fn takes(operator: Operator, count: usize) -> bool
 {
     match operator {
         Operator::True | Operator::False => count == 0,
-        Operator::Not
-        | Operator::Abs
-        | Operator::ToReal
-        | Operator::ToInt
-        | Operator::IsInt => count == 1,
+        Operator::Not | Operator::Abs | Operator::ToReal | Operator::ToInt | Operator::IsInt =>
+            count == 1,
         Operator::Mod => count == 2,
         Operator::Ite => count == 3,
         Operator::And | Operator::Or | Operator::Plus | Operator::Times | Operator::Minus => {
