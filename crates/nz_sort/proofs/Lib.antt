@@ -8,8 +8,13 @@ pub mod Growing
 pub mod ListTerms
 pub mod Looping
 pub mod NameTerms
+pub mod Naming
 pub mod Normalizing
 pub mod Operating
 pub mod ScopeTerms
+pub mod Scoping
+pub mod Sizes
+pub mod SortTrees
 pub mod Staying
+pub mod Taking
 pub mod Zeros

@@ -1,5 +1,6 @@
 -- What the code looks for in the symbols of a term.
-use Rattle.std.specs.Prelude.{◌≡◌, ℕ, ◌||◌, Bool, false, List, [], ◌∷◌, is_some}
+use Rattle.std.specs.Prelude.{◌≡◌, ℕ, ◌||◌, Bool, List, is_some}
+use Rattle.std.specs.List.{list_any}
 use Rattle.nz_spec.specs.Form.{is_one_of}
 use Rattle.nz_spec.specs.Elaboration.{is_operator}
 use Rattle.nz_sort.specs.declared.names.Named.{Named}
@@ -15,8 +16,7 @@ AreLive entries is_live = (name : List ℕ) → is_listed entries name ≡ is_li
 
 -- a name of one of the frames
 abbrev pub is_in_frame : List (List (List ℕ)) → List ℕ → Bool
-is_in_frame [] name = false
-is_in_frame (frame ∷ frames) name = is_one_of frame name || is_in_frame frames name
+is_in_frame frames name = list_any (λ frame. is_one_of frame name) frames
 
 -- the frames have just these names
 abbrev pub AreBound : List (List (List ℕ)) → List (List ℕ) → Type 0

@@ -111,9 +111,10 @@ impl Bindings {
     pub(crate) fn insert(&mut self, name: Text, term: Typed) -> Result<(), Memory>
         ensures bound { OnOk result ((other : List ℕ) → bound_in self.new other ≡ first_of (bound_in self.old other) (bound_in ((name, term) ∷ []) other)) }
     {
-        if self.entries.get(&name).is_none() {
-            self.entries.insert(name, term)?;
+        if self.entries.get(&name).is_some() {
+            return Ok(());
         }
+        self.entries.insert(name, term)?;
         Ok(())
     }
 }

@@ -3,12 +3,13 @@ ghost use Rattle.std.specs.Prelude.{◌≡◌, ℕ, ◌||◌, List, [], Bool, fa
 ghost use Rattle.nz_sexpr.specs.View.{token_view, view};
 ghost use Rattle.nz_spec.specs.Tree.{node};
 ghost use Rattle.nz_spec.specs.Form.{is_one_of};
+ghost use Rattle.nz_spec.specs.Elaboration.{is_operator};
 ghost use Rattle.nz_spec.specs.Script.{bound_name, bound_names, names_bound, clash, is_unknown, has_unknown, have_unknown, has_unknown_in_let, has_unknown_bound, have_unknown_bound, has_unknown_pair, has_unknown_second, has_clash, have_clash, has_clash_in_let, has_clash_bound, have_clash_bound, has_clash_pair, has_clash_second};
 ghost use Rattle.nz_sort.specs.Form.{seen, IsHeadless};
 ghost use Rattle.nz_sort.specs.Faults.{is_listed, is_in_frame, AreLive, AreBound};
 
 use crate::form::term::{TermHead, term_head};
-use crate::form::{headed, symbol_name, symbol_of};
+use crate::form::{headed, symbol_of};
 use crate::names::Names;
 use crate::operators::operator_of;
 use indexmap::IndexSet;
@@ -136,8 +137,8 @@ pub(crate) fn faults_of_all(
 fn is_unknown_symbol(names: &Names, frames: &Vec<NameSet>, token: &Token) -> bool
     ensures unknown { (is_live : List ℕ → Bool) (bound : List (List ℕ)) → AreLive names.now is_live → AreBound frames.now.items bound → result ≡ is_unknown is_live bound (token_view token.now) }
 {
-    match symbol_name(token) {
-        Some(name) => !is_bound(frames, name) && !is_declared(names, name),
+    match token.as_symbol() {
+        Some(name) => !(is_bound(frames, name) || is_declared(names, name)),
         None => false,
     }
 }
@@ -166,12 +167,12 @@ fn faults_of_list(
     match term_head(head) {
         TermHead::Let => faults_of_let(alloc, names, frames, arguments),
         TermHead::Name => {
-            let unknown = is_unknown_symbol(names, frames, head);
-            let faults = faults_of_all(alloc, names, frames, arguments)?;
-            Ok(faults.and(Faults {
-                unknown,
+            let of_head = Faults {
+                unknown: is_unknown_symbol(names, frames, head),
                 clash: false,
-            }))
+            };
+            let of_arguments = faults_of_all(alloc, names, frames, arguments)?;
+            Ok(of_head.and(of_arguments))
         }
         TermHead::Other => faults_of_all(alloc, names, frames, arguments),
     }
@@ -216,10 +217,11 @@ fn faults_of_let(
     frames.push(frame)?;
     let inside = faults_of_all(alloc, names, frames, body)?;
     frames.pop();
-    Ok(outside.and(inside).and(Faults {
+    let of_names = Faults {
         unknown: false,
         clash,
-    }))
+    };
+    Ok(of_names.and(outside).and(inside))
 }
 
 /// Of the bindings of a `let`, all read outside it.
@@ -313,12 +315,23 @@ pub(crate) fn names_of_all(alloc: Global, lists: &[Tree]) -> Result<(NameSet, bo
     let mut names = NameSet::new(alloc);
     let mut clash = false;
     for list in lists {
-        if let Some(name) = first_name(list) {
-            let is_new = names.insert(Text::from_slice(alloc, name.as_bytes())?)?;
-            clash = clash || !is_new || operator_of(name.as_bytes()).is_some();
-        }
+        let Some(name) = first_name(list) else {
+            continue;
+        };
+        let clashes = add_name(alloc, &mut names, name)?;
+        clash |= clashes;
     }
     Ok((names, clash))
+}
+
+/// Adds a name, and answers whether it clashes: it was there, or it is that of an operator.
+fn add_name(alloc: Global, names: &mut NameSet, name: &Text) -> Result<bool, Memory>
+    ensures clash { IfOk result (λ clashes. clashes ≡ (is_one_of names.old name.now || is_operator name.now)) }
+    ensures added { OnOk result ((other : List ℕ) → is_one_of names.new other ≡ (is_one_of names.old other || bytes_eq name.now other)) }
+{
+    let is_operator = operator_of(name.as_bytes()).is_some();
+    let is_new = names.insert(Text::from_slice(alloc, name.as_bytes())?)?;
+    Ok(!is_new || is_operator)
 }
 
 /// The name that stands first in a list.

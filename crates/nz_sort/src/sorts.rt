@@ -68,18 +68,32 @@ fn parameter_sort(parameter: &Tree) -> Option<&Tree>
     list.as_slice().get(1)
 }
 
+/// Whether the sort of a parameter is by a name that no sort has.
+fn is_of_unknown_sort(parameter: &Tree) -> bool
+    ensures unknown { result ≡ script.is_unknown_sort (script.second_tree (script.trees_of (view parameter.now))) }
+{
+    match parameter_sort(parameter) {
+        Some(sort) => is_unknown_sort(sort),
+        None => false,
+    }
+}
+
 /// Whether the sort of one of the parameters is by a name that no sort has.
 pub(crate) fn has_unknown_parameter_sort(parameters: &[Tree]) -> bool
     ensures unknown { result ≡ script.any_tree script.is_unknown_sort (script.parameter_sorts (seen parameters.now)) }
 {
     for parameter in parameters {
-        if let Some(sort) = parameter_sort(parameter) {
-            if is_unknown_sort(sort) {
-                return true;
-            }
+        if is_of_unknown_sort(parameter) {
+            return true;
         }
     }
     false
+}
+
+fn sort_of_parameter(parameter: &Tree) -> Option<Sort>
+    ensures sort { option_map sort_of result ≡ script.sort_of_tree (script.second_tree (script.trees_of (view parameter.now))) }
+{
+    sort_of_tree(parameter_sort(parameter)?)
 }
 
 /// The sorts of the parameters, or none where one is no sort.
@@ -91,10 +105,10 @@ pub(crate) fn sorts_of_parameters(
 {
     let mut sorts = Vec::with_capacity(alloc, parameters.len())?;
     for parameter in parameters {
-        let Some(sort) = parameter_sort(parameter).and_then(sort_of_tree) else {
-            return Ok(None);
-        };
-        sorts.push(sort)?;
+        match sort_of_parameter(parameter) {
+            Some(sort) => sorts.push(sort)?,
+            None => return Ok(None),
+        }
     }
     Ok(Some(sorts))
 }

@@ -1,5 +1,7 @@
 //! What the program takes: commands of these names, over such arguments.
 ghost use Rattle.std.specs.Prelude.{◌≡◌, codes};
+ghost use Rattle.std.specs.List.{list_any};
+ghost use Rattle.nz_sexpr.specs.View.{view};
 ghost use Rattle.nz_spec.specs.Form as form;
 ghost use Rattle.nz_spec.specs.Script as script;
 ghost use Rattle.nz_sort.specs.Form.{seen, command_meaning};
@@ -54,9 +56,15 @@ fn takes_info(arguments: &[Tree]) -> bool
     ensures taken { result ≡ script.takes_info (seen arguments.now) }
 {
     match only(arguments) {
-        Some(key) => INFOS.iter().any(|info| is_keyword_tree(key, info)),
+        Some(key) => is_one_of_keywords(key, &INFOS),
         None => false,
     }
+}
+
+fn is_one_of_keywords(key: &Tree, words: &[&[u8]]) -> bool
+    ensures listed { result ≡ list_any (λ word. form.is_token (form.is_keyword word.now) (view key.now)) words.now }
+{
+    words.iter().any(|word| is_keyword_tree(key, *word))
 }
 
 /// The option is known; of the priorities of goals only `lex`.
