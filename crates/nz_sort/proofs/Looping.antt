@@ -14,7 +14,8 @@ use Rattle.nz_sort.specs.Typed.{Grows}
 use Rattle.nz_sort.specs.Names.{bound_in, first_of, IsScope}
 use Rattle.nz_sort.specs.Elaborate.{StandsAs}
 use Rattle.nz_sort.proofs.ScopeTerms.{scope_kept}
-use Rattle.nz_sort.proofs.Elaborating.{EachStands, each_kept, each_push, map_round, map_next, terms_refused, BindsSome, binds_push, bindings_refused, unbound}
+use Rattle.nz_sort.proofs.Sizes.{map_round}
+use Rattle.nz_sort.proofs.Elaborating.{EachStands, each_kept, each_push, map_next, terms_refused, BindsSome, binds_push, bindings_refused, unbound}
 
 -- the scope, in a table that has grown, with frames that are as they were
 pub scope_here : TermStays → (start old : List Node) (names : List (List ℕ × named.Named)) (frames inner : List (List (List ℕ × Typed))) (sc : Scope)

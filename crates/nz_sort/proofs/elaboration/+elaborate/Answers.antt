@@ -4,8 +4,9 @@ use Rattle.std.proofs.lemmas.Result.{err_from_is_err_and}
 use Rattle.nz_sexpr.specs.View.{view}
 use Rattle.nz_sort.specs.Elaborate.{tree_size, trees_size}
 use Rattle.nz_sort.specs.Form.{seen}
-use Rattle.nz_sort.proofs.Staying.{grows_more}
-use Rattle.nz_sort.proofs.Elaborating.{EachStands, all_from_each, item_smaller}
+use Rattle.nz_sort.proofs.Growing.{grows_more}
+use Rattle.nz_sort.proofs.Sizes.{item_smaller}
+use Rattle.nz_sort.proofs.Elaborating.{EachStands, all_from_each}
 use Rattle.nz_sort.proofs.Looping.{each_next, each_none}
 use Rattle.nz_sort.proofs.elaboration.+elaborate.Goals as goal
 
