@@ -1,4 +1,4 @@
--- Lemmas of elaboration: trees one after another, and their sizes.
+-- Lemmas of elaboration: trees one after another.
 use Rattle.std.specs.Prelude.{⊤}
 use Rattle.std.proofs.Common.{◌≡◌, ℕ, ◌<◌, ◌+◌, zero, suc, List, [], ◌∷◌, ◌++◌, length, map, take, drop, get_or, Option, None, Some, true, false, bytes_eq, cond, refl, subst, sym, ap, ◌∙◌, arith}
 use Rattle.std.proofs.lemmas.List.{map_more}
@@ -12,7 +12,7 @@ use Rattle.nz_sort.specs.declared.typed.Typed.{Typed}
 use Rattle.nz_sort.specs.Form.{IsHeadless, IsNotTwo, IsNotOne}
 use Rattle.nz_sort.specs.Typed.{Grows, IsTyped, AreTyped}
 use Rattle.nz_sort.specs.Names.{bound_in, first_of, SameTerm}
-use Rattle.nz_sort.specs.Elaborate.{StandsAs, StandAs, Binds, IsWord, tree_size, trees_size}
+use Rattle.nz_sort.specs.Elaborate.{StandsAs, StandAs, Binds, IsWord}
 use Rattle.nz_sort.proofs.Staying.{typed_kept}
 use Rattle.nz_sort.proofs.ScopeTerms.{same_kept, same_some, first_term, listed_append, same_first}
 
@@ -59,13 +59,6 @@ pub terms_refused : (sc : Scope) (ts : List Tree) (t : Tree) (more : List Tree) 
 terms_refused sc [] t more e = ap (λ o. terms_onto o (terms_of sc (trees_from more))) e
 terms_refused sc (u ∷ us) t more e = ap (terms_onto (term_of sc u)) (terms_refused sc us t more e) ∙ onto_none (term_of sc u)
 
--- a list of trees round one of its items
-pub map_round : {X : Type 0} (f : X → Tree) (xs : List X) (i : ℕ) (x : X) → i < length xs → x ≡ get_or xs i x
-    → map f (take i xs) ++ f x ∷ map f (drop (suc i) xs) ≡ map f xs
-map_round f [] i x below is = absurd (omega (arith, below))
-map_round f (y ∷ ys) zero x below is = ap (λ z. f z ∷ map f ys) is
-map_round f (y ∷ ys) (suc i) x below is = ap (λ l. f y ∷ l) (map_round f ys i x (omega (arith, below)) is)
-
 pub map_next : {X : Type 0} (f : X → Tree) (xs : List X) (i : ℕ) (x : X) → i < length xs → x ≡ get_or xs i x
     → map f (take (i + 1) xs) ≡ map f (take i xs) ++ f x ∷ []
 map_next f xs i x below is = map_more f xs i x below ∙ ap (λ z. map f (take i xs) ++ f z ∷ []) (sym is)
@@ -88,8 +81,8 @@ pub record BindsSome (sc : Scope) (bs : List Tree) (ns : List Node) (frame : Lis
   pub are : AreBindings sc bs pairs
   pub same : (name : List ℕ) → SameTerm ns (bound_in frame name) (listed pairs name)
 
-pub binds_none : (sc : Scope) (ns : List Node) → BindsSome sc [] ns []
-binds_none sc ns = record { pairs = []; are = tt; same = λ name. tt }
+pub binds_start : (sc : Scope) (ns : List Node) → BindsSome sc [] ns []
+binds_start sc ns = record { pairs = []; are = tt; same = λ name. tt }
 
 bindings_push : (sc : Scope) (bs : List Tree) (ps : List (List ℕ × Term)) (b : Tree) (p : List ℕ × Term) → AreBindings sc bs ps → IsBinding sc b p
     → AreBindings sc (bs ++ b ∷ []) (ps ++ p ∷ [])
@@ -179,13 +172,3 @@ symbol_leaf (leaf (hexadecimal bs)) name e = cc
 symbol_leaf (leaf (binary bs)) name e = cc
 symbol_leaf (leaf (literal bs)) name e = cc
 symbol_leaf (node ts) name e = cc
-
--- ---- Sizes
-
-tree_smaller : (before : List Tree) (t : Tree) (more : List Tree) → tree_size t < trees_size (trees_from (before ++ t ∷ more))
-tree_smaller [] t more = omega arith
-tree_smaller (u ∷ us) t more = omega (arith, tree_smaller us t more)
-
-pub item_smaller : {X : Type 0} (f : X → Tree) (xs : List X) (i : ℕ) (x : X) → i < length xs → x ≡ get_or xs i x → tree_size (f x) < trees_size (trees_from (map f xs))
-item_smaller f xs i x below is =
-    omega (arith, tree_smaller (map f (take i xs)) (f x) (map f (drop (suc i) xs)), ap (λ l. trees_size (trees_from l)) (map_round f xs i x below is))

@@ -15,7 +15,8 @@ use Rattle.nz_sort.specs.declared.names.Definition as code
 use Rattle.nz_sort.specs.Typed.{Grows, StandsFor, IsTyped, AreTyped}
 use Rattle.nz_sort.specs.Names.{IsDefined}
 use Rattle.nz_sort.specs.Elaborate.{StandsAs, Places}
-use Rattle.nz_sort.proofs.Staying.{longer, term_kept, typed_kept}
+use Rattle.nz_sort.proofs.Growing.{longer}
+use Rattle.nz_sort.proofs.Staying.{term_kept}
 
 -- ---- One argument
 

@@ -1,6 +1,7 @@
 pub mod Accepting
 pub mod Applying
 pub mod Asking
+pub mod Decimals
 pub mod Digits
 pub mod Elaborating
 pub mod Expanding
@@ -8,6 +9,7 @@ pub mod Forming
 pub mod Growing
 pub mod ListTerms
 pub mod Living
+pub mod Looping
 pub mod NameTerms
 pub mod Naming
 pub mod Normalizing

@@ -5,7 +5,7 @@ use Rattle.nz_spec.specs.Reading.{trees_from}
 use Rattle.nz_sort.specs.Elaborate.{tree_size, trees_size}
 
 -- a list of trees round one of its items
-map_round : {X : Type 0} (f : X → Tree) (xs : List X) (i : ℕ) (x : X) → i < length xs → x ≡ get_or xs i x
+pub map_round : {X : Type 0} (f : X → Tree) (xs : List X) (i : ℕ) (x : X) → i < length xs → x ≡ get_or xs i x
     → map f (take i xs) ++ f x ∷ map f (drop (suc i) xs) ≡ map f xs
 map_round f [] i x below is = absurd (omega (arith, below))
 map_round f (y ∷ ys) zero x below is = ap (λ z. f z ∷ map f ys) is

@@ -1,34 +1,10 @@
 -- Lemmas of a table that grows: what stood for a term stands for it still.
-use Rattle.std.proofs.Common.{◌≡◌, ℕ, ◌<◌, ◌≤◌, ◌+◌, List, [], ◌∷◌, ◌++◌, length, All, refl, sym, ap, ◌∙◌, append_assoc, append-nil, length-append, arith}
-use Rattle.std.proofs.lemmas.List.Elements.{All-weaker}
-use Rattle.std.specs.List.{AllByRecursion}
+use Rattle.std.proofs.Common.{◌≡◌, ℕ, ◌<◌, List, [], ◌∷◌, length, ap, ◌∙◌, arith}
 use Rattle.nz_spec.specs.Term.{Term, Terms, no_terms, terms}
 use Rattle.nz_spec.specs.Table.{Node, term_in, TermStays}
 use Rattle.nz_sort.specs.declared.typed.Typed.{Typed}
-use Rattle.nz_sort.specs.Typed.{IsOperator, Grows, IsTyped, AreTyped}
-
-pub grows_none : (ns : List Node) → Grows ns ns
-grows_none ns = record { more = []; all = sym (append-nil ns); operators = tt }
-
-operators-append : (xs ys : List Node) → AllByRecursion (λ (n : Node). IsOperator n.head) xs → AllByRecursion (λ (n : Node). IsOperator n.head) ys
-    → AllByRecursion (λ (n : Node). IsOperator n.head) (xs ++ ys)
-operators-append [] ys a b = b
-operators-append (x ∷ xs) ys a b = (a.0, operators-append xs ys a.1 b)
-
-pub grows_more : (old mid new : List Node) → Grows old mid → Grows mid new → Grows old new
-grows_more old mid new g h =
-    record {
-      more = g.more ++ h.more;
-      all = h.all ∙ ap (λ l. l ++ h.more) g.all ∙ append_assoc old g.more h.more;
-      operators = operators-append g.more h.more g.operators h.operators;
-    }
-
-pub longer : (old new : List Node) → Grows old new → length old ≤ length new
-longer old new g = omega (arith, ap length g.all, length-append old g.more)
-
-pub within_kept : (old new : List Node) → Grows old new → (ids : List ℕ) → All (λ i. i < length old) ids → All (λ i. i < length new) ids
-within_kept old new g ids a =
-    All-weaker (λ i. i < length old) (λ i. i < length new) (λ i below. omega (arith, below, longer old new g)) ids a
+use Rattle.nz_sort.specs.Typed.{Grows, IsTyped, AreTyped}
+use Rattle.nz_sort.proofs.Growing.{longer}
 
 pub term_kept : TermStays → (old new : List Node) → Grows old new → (i : ℕ) → i < length old → term_in new i ≡ term_in old i
 term_kept stays old new g i below = ap (λ l. term_in l i) g.all ∙ stays old g.more i below
