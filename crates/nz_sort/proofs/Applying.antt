@@ -1,15 +1,17 @@
 -- Operators over arguments that are in the table.
-use Rattle.std.proofs.Common.{◌≡◌, ℕ, suc, ◌+◌, ◌<◌, ◌≤◌, Bool, true, false, ◌&&◌, ◌||◌, List, [], ◌∷◌, ◌++◌, length, drop, get_or, All, Option, Some, None, refl, sym, ap, ◌∙◌, subst, arith, add-one}
+use Rattle.std.proofs.Common.{◌≡◌, ℕ, suc, ◌+◌, ◌<◌, ◌≤◌, Bool, true, false, ◌&&◌, ◌||◌, List, [], ◌∷◌, ◌++◌, length, drop, get_or, All, Option, Some, None, refl, sym, ap, ◌∙◌, subst, arith, add-one, true≢false}
 use Rattle.std.specs.Prelude.{nat_lt, option_map}
 use Rattle.std.specs.List.{list_all}
 use Rattle.std.proofs.Math.Seq.{drop-cons}
-use Rattle.std.proofs.lemmas.Bool.{lt-ltb}
+use Rattle.std.proofs.lemmas.Bool.{lt-ltb, ltb-true}
 use Rattle.std.proofs.lemmas.List.{drop_all}
+use Rattle.std.proofs.lemmas.List.Elements.{All-get_or, All-weaker}
+use Rattle.std.proofs.lemmas.List.Sums.{AllPass-from_list_all}
 use Rattle.nz_spec.specs.Term as spec
 use Rattle.nz_spec.specs.Term.{Sort, bool_sort, int_sort, real_sort, Term, apply, Terms, no_terms, terms, head_sort}
 use Rattle.nz_spec.specs.Normal.{normal_of, normals_of, normal_node}
 use Rattle.nz_spec.specs.Table.{Node, term_in, terms_at}
-use Rattle.nz_spec.specs.Elaboration.{Operator, are_same_sort, all_terms, has_sort, is_number_term, term_count, takes, operands_of, operand_sort, operator_head, read_at, as_real, as_reals, applied}
+use Rattle.nz_spec.specs.Elaboration.{Operator, Operands, are_same_sort, all_terms, has_sort, is_number_term, term_count, takes, operands_of, operand_sort, operator_head, read_at, as_real, as_reals, applied}
 use Rattle.nz_term.specs.Constants.{sort_of}
 use Rattle.nz_sort.specs.declared.typed.Typed.{Typed}
 use Rattle.nz_sort.specs.Typed.{Grows, StandsFor, IsTyped, AreTyped, HasApplied, HasRead, read_term, terms_before}
@@ -34,6 +36,9 @@ within_typed ns (x ∷ xs) no_terms a = absurd a
 within_typed ns (x ∷ xs) (terms t ts) a =
     let here : nat_lt x.id (length ns) ≡ true = lt-ltb x.id (length ns) a.0.within in
     rw (here, within_typed ns xs ts a.1) refl
+
+abbrev pub is_number_sort : Sort → Bool
+is_number_sort s = are_same_sort int_sort s || are_same_sort real_sort s
 
 -- a test of the sorts is one of the sorts of the terms
 pub sorts_typed : (test : Sort → Bool) (ns : List Node) (xs : List Typed) (ts : Terms) → AreTyped ns xs ts
@@ -104,12 +109,18 @@ reads s old mid new x left ids items id (terms t us) ts g h within read e a whol
           ∙ whole;
     }
 
+pub item_within : (old mid : List Node) (x z : Typed) (xs : List Typed) (i : ℕ) → Grows old mid → i < length xs → All (λ (y : Typed). y.id < length old) xs → x ≡ get_or xs i z
+    → x.id < length mid
+item_within old mid x z xs i g below within is =
+    let there : x.id < length old = subst (λ (y : Typed). y.id < length old) (sym is) (All-get_or (λ (y : Typed). y.id < length old) xs i z below within) in
+    omega (arith, there, longer old mid g)
+
 -- one argument more
-pub reading_next : (s : Sort) (old mid new : List Node) (x : Typed) (xs : List Typed) (ids items : List ℕ) (i id : ℕ) (ts : Terms) → Grows old mid → Grows mid new
-    → i < length xs → x ≡ get_or xs i x → All (λ j. j < length mid) ids → ((t : Term) → IsTyped mid x t → StandsFor new id (normal_of (read_term s t)))
+pub reading_next : (s : Sort) (old mid new : List Node) (x z : Typed) (xs : List Typed) (ids items : List ℕ) (i id : ℕ) (ts : Terms) → Grows old mid → Grows mid new
+    → i < length xs → x ≡ get_or xs i z → All (λ j. j < length mid) ids → ((t : Term) → IsTyped mid x t → StandsFor new id (normal_of (read_term s t)))
     → items ≡ ids ++ id ∷ [] → IsReading s old mid (drop i xs) ids ts → IsReading s old new (drop (i + 1) xs) items ts
-reading_next s old mid new x xs ids items i id ts g h below is within read e reading =
-    let cut : drop i xs ≡ x ∷ drop (i + 1) xs = drop-cons xs i x below ∙ ap (λ y. y ∷ drop (suc i) xs) (sym is) ∙ ap (λ n. x ∷ drop n xs) (sym (add-one i)) in
+reading_next s old mid new x z xs ids items i id ts g h below is within read e reading =
+    let cut : drop i xs ≡ x ∷ drop (i + 1) xs = drop-cons xs i z below ∙ ap (λ y. y ∷ drop (suc i) xs) (sym is) ∙ ap (λ n. x ∷ drop n xs) (sym (add-one i)) in
     reads s old mid new x (drop (i + 1) xs) ids items id reading.rest ts g h within read e (subst (λ l. AreTyped old l reading.rest) cut reading.typed) reading.whole
 
 -- nothing is left
@@ -123,3 +134,30 @@ pub reading_ends : (s : Sort) (old new : List Node) (xs : List Typed) (ids : Lis
     → IsReading s old new (drop i xs) ids ts → HasRead s ts new ids
 reading_ends s old new xs ids i ts above within reading =
     read_all s old new ids reading.rest ts within (subst (λ l. AreTyped old l reading.rest) (drop_all i xs above) reading.typed) reading.whole
+
+-- ---- An operator over such arguments
+
+pub below_all : (n m : ℕ) (xs : List Typed) → list_all (λ (x : Typed). nat_lt x.id n) xs ≡ true → n ≡ m → All (λ (x : Typed). x.id < m) xs
+below_all n m xs h same =
+    All-weaker (λ (x : Typed). nat_lt x.id n ≡ true) (λ (x : Typed). x.id < m) (λ (x : Typed) k. omega (arith, ltb-true x.id n k, same)) xs
+    (AllPass-from_list_all (λ (x : Typed). nat_lt x.id n) xs h)
+
+-- none of them is outside the table
+pub refused_outside : (o : Operator) (n : ℕ) (ns : List Node) (xs : List Typed) (ts : Terms) → list_all (λ (x : Typed). nat_lt x.id n) xs ≡ false → n ≡ length ns → AreTyped ns xs ts
+    → applied o ts ≡ None
+refused_outside o n ns xs ts h same a =
+    absurd (true≢false (sym (within_typed ns xs ts a) ∙ ap (λ m. list_all (λ (x : Typed). nat_lt x.id m) xs) (sym same) ∙ h))
+
+pub refused_count : (o : Operator) (ns : List Node) (xs : List Typed) (ts : Terms) → takes o (length xs) ≡ false → AreTyped ns xs ts → applied o ts ≡ None
+refused_count o ns xs ts h a = applied_no_count o ts (ap (takes o) (sym (count_typed ns xs ts a)) ∙ h)
+
+pub refused_operands : (o : Operator) (k : Operands) (ns : List Node) (xs : List Typed) (ts : Terms) → takes o (length xs) ≡ true → k ≡ operands_of o
+    → None ≡ operand_sort k ts → AreTyped ns xs ts → applied o ts ≡ None
+refused_operands o k ns xs ts h same none a =
+    applied_no_operands o ts (ap (takes o) (sym (count_typed ns xs ts a)) ∙ h) (ap (λ j. operand_sort j ts) (sym same) ∙ sym none)
+
+pub applied_to : (o : Operator) (k : Operands) (s : Sort) (ns mid new : List Node) (xs : List Typed) (ids : List ℕ) (x : Typed) (ts : Terms) → takes o (length xs) ≡ true
+    → k ≡ operands_of o → Some s ≡ operand_sort k ts → HasRead s ts mid ids → StandsFor new x.id (normal_node (operator_head o s) (terms_at (term_in mid) ids))
+    → sort_of x.sort ≡ head_sort (operator_head o s) → AreTyped ns xs ts → HasApplied o ts new x
+applied_to o k s ns mid new xs ids x ts h same operands read made sort a =
+    applied_makes o s ts mid new ids x (ap (takes o) (sym (count_typed ns xs ts a)) ∙ h) (ap (λ j. operand_sort j ts) (sym same) ∙ sym operands) read made sort

@@ -1,12 +1,16 @@
 pub mod Accepting
+pub mod Applying
 pub mod Asking
 pub mod Digits
 pub mod Elaborating
 pub mod Expanding
 pub mod Forming
+pub mod Growing
 pub mod Living
 pub mod NameTerms
 pub mod Naming
+pub mod Normalizing
+pub mod Operating
 pub mod Ruling
 pub mod ScopeTerms
 pub mod Scoping

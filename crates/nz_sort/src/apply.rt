@@ -2,7 +2,7 @@
 ghost use Rattle.std.specs.Prelude.{◌≡◌, ◌<◌, List, length, nat_lt, All, IfOk, IsErrOf, None, option_map};
 ghost use Rattle.std.specs.List.{list_all};
 ghost use Rattle.nz_spec.specs.Term as spec;
-ghost use Rattle.nz_spec.specs.Elaboration.{are_same_sort, applied, all_terms, has_sort, is_number_term, operand_sort as spec_operand_sort, number_sort as spec_number_sort, alike_sort as spec_alike_sort, branches, operator_head, as_real as spec_as_real};
+ghost use Rattle.nz_spec.specs.Elaboration.{applied, all_terms, has_sort, is_number_term, operand_sort as spec_operand_sort, number_sort as spec_number_sort, alike_sort as spec_alike_sort, branches, operator_head, as_real as spec_as_real};
 ghost use Rattle.nz_spec.specs.Term.{head_sort};
 ghost use Rattle.nz_spec.specs.Normal.{normal_of};
 ghost use Rattle.nz_spec.specs.Table.{Node};
@@ -72,7 +72,6 @@ fn operand_sort(operands: Operands, arguments: &[Typed]) -> Option<Sort>
 }
 
 fn have_sort(sort: Sort, arguments: &[Typed]) -> bool
-    ensures each { result ≡ list_all (λ x. are_same_sort (sort_of sort) (sort_of x.sort)) arguments.now }
     ensures sort { (ns : List Node) (ts : spec.Terms) → AreTyped ns arguments.now ts → result ≡ all_terms (has_sort (sort_of sort)) ts }
 {
     arguments.iter().all(|argument| argument.sort == sort)
