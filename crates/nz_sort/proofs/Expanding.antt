@@ -101,14 +101,14 @@ each_placed_kept stays old new g (s ∷ ss) (terms t ts) (i ∷ is) e =
 
 pub each_placed_push : (ns : List Node) (ss : List spec.Sort) (ts : Terms) (is : List ℕ) (s : spec.Sort) (t : Term) (id : ℕ) → EachPlaced ns ss ts is
     → term_at ts (length ss) ≡ Some t → IsPlaced ns s t id → EachPlaced ns (ss ++ s ∷ []) ts (is ++ id ∷ [])
-each_placed_push ns [] no_terms [] s t id e at p = cc
-each_placed_push ns [] (terms u us) [] s t id e at p =
+each_placed_push ns [] no_terms [] s t id e here p = cc
+each_placed_push ns [] (terms u us) [] s t id e here p =
     let same : u ≡ t = cc in
     (subst (λ v. IsPlaced ns s v id) (sym same) p, tt)
-each_placed_push ns [] ts (i ∷ is) s t id e at p = absurd e
-each_placed_push ns (r ∷ rs) no_terms is s t id e at p = absurd e
-each_placed_push ns (r ∷ rs) (terms u us) [] s t id e at p = absurd e
-each_placed_push ns (r ∷ rs) (terms u us) (i ∷ is) s t id e at p = (e.0, each_placed_push ns rs us is s t id e.1 at p)
+each_placed_push ns [] ts (i ∷ is) s t id e here p = absurd e
+each_placed_push ns (r ∷ rs) no_terms is s t id e here p = absurd e
+each_placed_push ns (r ∷ rs) (terms u us) [] s t id e here p = absurd e
+each_placed_push ns (r ∷ rs) (terms u us) (i ∷ is) s t id e here p = (e.0, each_placed_push ns rs us is s t id e.1 here p)
 
 pub all_placed_each : (ns : List Node) (ss : List spec.Sort) (ts : Terms) (is : List ℕ) → EachPlaced ns ss ts is → length ss ≡ term_count ts → Places ss ts ns is
 all_placed_each ns [] no_terms [] e n = record { terms = no_terms; are = refl; within = All-nil (λ i. i < length ns); normal = refl }
@@ -133,14 +133,14 @@ terms_onto-none (Some t) = refl
 -- none are placed where one isn't
 pub all_placed_none : (before after : List spec.Sort) (s : spec.Sort) (ts : Terms) (t : Term) → term_at ts (length before) ≡ Some t → placed s t ≡ None
     → all_placed (before ++ s ∷ after) ts ≡ None
-all_placed_none [] after s no_terms t at none = refl
-all_placed_none [] after s (terms u us) t at none =
+all_placed_none [] after s no_terms t here none = refl
+all_placed_none [] after s (terms u us) t here none =
     let same : u ≡ t = cc in
-    let here : placed s u ≡ None = ap (placed s) same ∙ none in
-    ap (λ o. terms_onto o (all_placed after us)) here
-all_placed_none (r ∷ rs) after s no_terms t at none = refl
-all_placed_none (r ∷ rs) after s (terms u us) t at none =
-    ap (terms_onto (placed r u)) (all_placed_none rs after s us t at none) ∙ terms_onto-none (placed r u)
+    let unplaced : placed s u ≡ None = ap (placed s) same ∙ none in
+    ap (λ o. terms_onto o (all_placed after us)) unplaced
+all_placed_none (r ∷ rs) after s no_terms t here none = refl
+all_placed_none (r ∷ rs) after s (terms u us) t here none =
+    ap (terms_onto (placed r u)) (all_placed_none rs after s us t here none) ∙ terms_onto-none (placed r u)
 
 -- nor where there are more or fewer of them
 pub all_placed_count : (ss : List spec.Sort) (ts : Terms) → (length ss ≡ term_count ts → ⊥) → all_placed ss ts ≡ None
@@ -159,18 +159,18 @@ typed_count ns (x ∷ xs) (terms t ts) p = ap suc (typed_count ns xs ts p.1)
 -- the term of an argument
 pub record IsTermAt (ns : List Node) (ts : Terms) (i : ℕ) (x : Typed) : Type 0 where
   pub term : Term
-  pub at : term_at ts i ≡ Some term
+  pub is : term_at ts i ≡ Some term
   pub typed : IsTyped ns x term
 
 pub typed_at : (ns : List Node) (xs : List Typed) (ts : Terms) (i : ℕ) (x : Typed) → AreTyped ns xs ts → slice_get xs i ≡ Some x → IsTermAt ns ts i x
-typed_at ns [] ts i x p at = cc
-typed_at ns (y ∷ ys) no_terms i x p at = absurd p
-typed_at ns (y ∷ ys) (terms t ts) zero x p at =
+typed_at ns [] ts i x p here = cc
+typed_at ns (y ∷ ys) no_terms i x p here = absurd p
+typed_at ns (y ∷ ys) (terms t ts) zero x p here =
     let same : y ≡ x = cc in
-    record { term = t; at = refl; typed = subst (λ z. IsTyped ns z t) same p.0 }
-typed_at ns (y ∷ ys) (terms t ts) (suc i) x p at =
-    let rest : IsTermAt ns ts i x = typed_at ns ys ts i x p.1 at in
-    record { term = rest.term; at = rest.at; typed = rest.typed }
+    record { term = t; is = refl; typed = subst (λ z. IsTyped ns z t) same p.0 }
+typed_at ns (y ∷ ys) (terms t ts) (suc i) x p here =
+    let rest : IsTermAt ns ts i x = typed_at ns ys ts i x p.1 here in
+    record { term = rest.term; is = rest.is; typed = rest.typed }
 
 -- ---- Bodies
 

@@ -6,6 +6,7 @@ pub mod Elaborating
 pub mod Expanding
 pub mod Forming
 pub mod Growing
+pub mod ListTerms
 pub mod Living
 pub mod NameTerms
 pub mod Naming

@@ -58,7 +58,7 @@ pub name_constant : (ns : List Node) (names : List (List ℕ × named.Named)) (f
 name_constant ns names frames name x free o e sc s =
     let found : IsConstant ns (constant_named sc.constants name) x = constant_found ns names frames sc name x s e in
     let unbound : listed sc.bound name ≡ None = bound_none ns names frames sc name s free in
-    record { term = apply (constant found.constant) no_terms; is = rw (unbound, o, found.is) refl; typed = found.typed }
+    record { term = apply (constant found.found) no_terms; is = rw (unbound, o, found.is) refl; typed = found.typed }
 
 pub name_expanded : (r : Result Typed ElaborateError) (old new : List Node) (names : List (List ℕ × named.Named)) (frames : List (List (List ℕ × Typed))) (name : List ℕ) (d : code.Definition)
     → bound_by frames name ≡ None → operator_named name ≡ None → named_by names name ≡ Some (kinds.Definition d)
@@ -67,10 +67,10 @@ pub name_expanded : (r : Result Typed ElaborateError) (old new : List Node) (nam
 name_expanded (Err e) old new names frames name d free o is found = tt
 name_expanded (Ok x) old new names frames name d free o is found = λ sc s.
     (let there : IsDefinition old (constant_named sc.constants name) (definition_named sc.definitions name) d = definition_found old names frames sc name d s is in
-    let fits : RootFits there.definition.parameters there.definition.body = named_fits sc.definitions name there.definition s.fits there.is in
+    let fits : RootFits there.found.parameters there.found.body = named_fits sc.definitions name there.found s.fits there.is in
     subst (λ p. StandsAs p new x)
-    (sym (name_definition sc name there.definition (bound_none old names frames sc name s free) o there.other there.is))
-    (found there.definition there.defined fits no_terms tt))
+    (sym (name_definition sc name there.found (bound_none old names frames sc name s free) o there.other there.is))
+    (found there.found there.defined fits no_terms tt))
 
 pub name_not_expanded : (old : List Node) (names : List (List ℕ × named.Named)) (frames : List (List (List ℕ × Typed))) (name : List ℕ) (d : code.Definition)
     → bound_by frames name ≡ None → operator_named name ≡ None → named_by names name ≡ Some (kinds.Definition d)
@@ -78,7 +78,7 @@ pub name_not_expanded : (old : List Node) (names : List (List ℕ × named.Named
     → (sc : Scope) → IsScope old names frames sc → name_term sc name ≡ None
 name_not_expanded old names frames name d free o is none sc s =
     let there : IsDefinition old (constant_named sc.constants name) (definition_named sc.definitions name) d = definition_found old names frames sc name d s is in
-    name_definition sc name there.definition (bound_none old names frames sc name s free) o there.other there.is ∙ none there.definition there.defined no_terms tt
+    name_definition sc name there.found (bound_none old names frames sc name s free) o there.other there.is ∙ none there.found there.defined no_terms tt
 
 pub name_unknown : (ns : List Node) (names : List (List ℕ × named.Named)) (frames : List (List (List ℕ × Typed))) (name : List ℕ)
     → bound_by frames name ≡ None → operator_named name ≡ None → named_by names name ≡ None
@@ -86,7 +86,7 @@ pub name_unknown : (ns : List Node) (names : List (List ℕ × named.Named)) (fr
 name_unknown ns names frames name free o e sc s =
     let neither : IsUnnamed (constant_named sc.constants name) (definition_named sc.definitions name) = unnamed ns names frames sc name s e in
     let unbound : listed sc.bound name ≡ None = bound_none ns names frames sc name s free in
-    rw (unbound, o, neither.constant, neither.definition) refl
+    rw (unbound, o, neither.no_constant, neither.no_definition) refl
 
 -- ---- A name over arguments
 
@@ -127,10 +127,10 @@ pub definition_expanded : (r : Result Typed ElaborateError) (old new : List Node
 definition_expanded (Err e) old new names frames name d xs free o is found = tt
 definition_expanded (Ok x) old new names frames name d xs free o is found = λ sc s ts p.
     (let there : IsDefinition old (constant_named sc.constants name) (definition_named sc.definitions name) d = definition_found old names frames sc name d s is in
-    let fits : RootFits there.definition.parameters there.definition.body = named_fits sc.definitions name there.definition s.fits there.is in
+    let fits : RootFits there.found.parameters there.found.body = named_fits sc.definitions name there.found s.fits there.is in
     subst (λ q. StandsAs q new x)
-    (sym (definition_application sc name there.definition ts (bound_none old names frames sc name s free) o there.other there.is))
-    (found there.definition there.defined fits ts p))
+    (sym (definition_application sc name there.found ts (bound_none old names frames sc name s free) o there.other there.is))
+    (found there.found there.defined fits ts p))
 
 pub definition_not_expanded : (old : List Node) (names : List (List ℕ × named.Named)) (frames : List (List (List ℕ × Typed))) (name : List ℕ) (d : code.Definition) (xs : List Typed)
     → bound_by frames name ≡ None → operator_named name ≡ None → named_by names name ≡ Some (kinds.Definition d)
@@ -138,7 +138,7 @@ pub definition_not_expanded : (old : List Node) (names : List (List ℕ × named
     → (sc : Scope) → IsScope old names frames sc → (ts : Terms) → AreTyped old xs ts → application sc name ts ≡ None
 definition_not_expanded old names frames name d xs free o is none sc s ts p =
     let there : IsDefinition old (constant_named sc.constants name) (definition_named sc.definitions name) d = definition_found old names frames sc name d s is in
-    definition_application sc name there.definition ts (bound_none old names frames sc name s free) o there.other there.is ∙ none there.definition there.defined ts p
+    definition_application sc name there.found ts (bound_none old names frames sc name s free) o there.other there.is ∙ none there.found there.defined ts p
 
 pub constant_applied : (ns : List Node) (names : List (List ℕ × named.Named)) (frames : List (List (List ℕ × Typed))) (name : List ℕ) (x : Typed)
     → bound_by frames name ≡ None → operator_named name ≡ None → named_by names name ≡ Some (kinds.Constant x)
@@ -154,4 +154,4 @@ pub unknown_applied : (ns : List Node) (names : List (List ℕ × named.Named)) 
 unknown_applied ns names frames name free o e sc s ts =
     let neither : IsUnnamed (constant_named sc.constants name) (definition_named sc.definitions name) = unnamed ns names frames sc name s e in
     let unbound : listed sc.bound name ≡ None = bound_none ns names frames sc name s free in
-    rw (unbound, o, neither.constant, neither.definition) refl
+    rw (unbound, o, neither.no_constant, neither.no_definition) refl

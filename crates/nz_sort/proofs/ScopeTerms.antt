@@ -61,33 +61,33 @@ bound_none ns names frames sc name s e = same_none ns (listed sc.bound name) (su
 
 -- a live name is that of a constant
 pub record IsConstant (ns : List Node) (c : Option Constant) (x : Typed) : Type 0 where
-  pub constant : Constant
-  pub is : c ≡ Some constant
-  pub typed : IsTyped ns x (apply (constant constant) no_terms)
+  pub found : Constant
+  pub is : c ≡ Some found
+  pub typed : IsTyped ns x (apply (constant found) no_terms)
 
 -- a live name is that of a definition
 pub record IsDefinition (ns : List Node) (c : Option Constant) (d : Option Definition) (e : code.Definition) : Type 0 where
-  pub definition : Definition
-  pub is : d ≡ Some definition
+  pub found : Definition
+  pub is : d ≡ Some found
   pub other : c ≡ None
-  pub defined : IsDefined ns e definition
+  pub defined : IsDefined ns e found
 
 -- a name is that of neither
 pub record IsUnnamed (c : Option Constant) (d : Option Definition) : Type 0 where
-  pub constant : c ≡ None
-  pub definition : d ≡ None
+  pub no_constant : c ≡ None
+  pub no_definition : d ≡ None
 
 same_constant : (ns : List Node) (x : Typed) (c : Option Constant) (d : Option Definition) → SameNamed ns (Some (kinds.Constant x)) c d → IsConstant ns c x
 same_constant ns x None d s = absurd s
-same_constant ns x (Some c) d s = record { constant = c; is = refl; typed = s }
+same_constant ns x (Some c) d s = record { found = c; is = refl; typed = s }
 
 same_definition : (ns : List Node) (e : code.Definition) (c : Option Constant) (d : Option Definition) → SameNamed ns (Some (kinds.Definition e)) c d → IsDefinition ns c d e
 same_definition ns e None None s = absurd s
-same_definition ns e None (Some d) s = record { definition = d; is = refl; other = refl; defined = s }
+same_definition ns e None (Some d) s = record { found = d; is = refl; other = refl; defined = s }
 same_definition ns e (Some c) d s = absurd s
 
 same_unnamed : (ns : List Node) (c : Option Constant) (d : Option Definition) → SameNamed ns None c d → IsUnnamed c d
-same_unnamed ns None None s = record { constant = refl; definition = refl }
+same_unnamed ns None None s = record { no_constant = refl; no_definition = refl }
 same_unnamed ns None (Some d) s = absurd s
 same_unnamed ns (Some c) d s = absurd s
 
