@@ -123,11 +123,12 @@ fn decimal(digits: u128, places: usize) -> Option<Frac>
 }
 
 /// A power of ten, up to that of the most places that a decimal has.
+#[tactic(auto, using(crate::proofs::Numbers::power_below))]
 fn power_of_ten(places: usize) -> i128
     requires fits { places ≤ place_limit }
     ensures power { result ≡ pos (10 ^ places) }
 {
-    10_i128.pow(places as u32)
+    10_u128.pow(places as u32) as i128
 }
 
 /// The negation of one constant, or the difference of several, from the left.
@@ -172,6 +173,7 @@ fn step(op: Op, left: Frac, right: Frac) -> Option<Frac>
 }
 
 /// Whether a number is zero.
+#[tactic(auto, using(crate::proofs::Numbers::is_not_zero))]
 fn is_zero(number: Frac) -> bool
     ensures zero { result ≡ is_zero number }
     ensures nonzero { result ≡ false → number.numerator ≢ pos 0 }
