@@ -79,7 +79,7 @@ length-terms ts (n ∷ ns) =
     omega (arith, length-terms (with_term ts n) ns, length-append ts (one ∷ []))
 
 -- what nodes add behind the terms that are there
-added : List Term → List Node → List Term
+abbrev added : List Term → List Node → List Term
 added ts [] = []
 added ts (n ∷ ns) = apply n.head (terms_at (listed_term ts) n.kids) ∷ added (with_term ts n) ns
 

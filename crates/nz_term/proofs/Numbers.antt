@@ -1,11 +1,12 @@
--- Numbers of facts: powers of ten, and zero.
-use Rattle.std.proofs.Common.{◌≡◌, ℕ, suc, ◌^◌, ◌<◌, ◌≤◌, false, pos, ◌*ℤ◌, sym, ap, ◌∙◌, arith, true≢false}
+-- Numbers of facts: powers of ten, zero, and decimals.
+use Rattle.std.proofs.Common.{◌≡◌, ℕ, suc, ◌^◌, ◌<◌, ◌≤◌, false, ℤ, pos, ◌*ℤ◌, unsigned_abs, Option, Some, None, sym, ap, subst, ◌∙◌, arith, true≢false}
+use Rattle.std.specs.Prelude.{◌≢◌, ◌↔◌, IsSome, IfSome}
 use Rattle.std.proofs.Math.IntN.{zero-*ℤ}
-use Rattle.std.proofs.Math.Nat.{pow-le-pow_right}
+use Rattle.std.proofs.Math.Nat.{one-le-pow, pow-le-pow_right}
 use Rattle.std.proofs.lemmas.Bool.Decides.{Decides-int_eq}
 use Rattle.nz_spec.specs.Bounds.{place_limit}
-use Rattle.nz_spec.specs.Fraction.{Fraction, denominator, fraction_eq}
-use Rattle.nz_spec.specs.Term.{is_zero}
+use Rattle.nz_spec.specs.Fraction.{Fraction, IsNumber, denominator, fraction_eq, ratio}
+use Rattle.nz_spec.specs.Term.{is_zero, scaled}
 
 -- one of so few places fits
 pub power_below : (places : ℕ) → places ≤ place_limit → 10 ^ places < 2 ^ 127
@@ -19,3 +20,13 @@ unfolding fraction_eq denominator
 is_not_zero q e z =
     let same : q.numerator *ℤ pos 1 ≡ pos 0 *ℤ pos (suc q.below) = ap (λ n. n *ℤ pos 1) z ∙ zero-*ℤ (pos 1) ∙ sym (zero-*ℤ (pos (suc q.below))) in
     true≢false (sym ((Decides-int_eq (q.numerator *ℤ pos 1) (pos 0 *ℤ pos (suc q.below))).1 same) ∙ e)
+
+-- a decimal that is a number, as it is made of its digits and its power of ten
+pub of_is : (o : Option Fraction) (num den : ℤ) (n p : ℕ) → (IsSome o ↔ ((den ≢ pos 0) × IsNumber (ratio num den))) → IfSome o (λ q. q ≡ ratio num den)
+    → num ≡ pos n → den ≡ pos (10 ^ p) → IsNumber (scaled n p) → o ≡ Some (scaled n p)
+of_is (Some q) num den n p some value over under number = ap Some (value ∙ ap (λ z. ratio z den) over ∙ ap (ratio (pos n)) under)
+of_is None num den n p some value over under number =
+    let one : 1 ≤ 10 ^ p = one-le-pow p 10 (omega arith) in
+    let nonzero : den ≢ pos 0 = λ z. (let none : 10 ^ p ≡ 0 = ap unsigned_abs (sym under ∙ z) in omega arith) in
+    let is : IsNumber (ratio num den) = subst (λ z. IsNumber (ratio z den)) (sym over) (subst (λ z. IsNumber (ratio (pos n) z)) (sym under) number) in
+    absurd (true≢false (sym (some.1 (nonzero, is))))

@@ -1,5 +1,5 @@
 -- What is known of a term over those of a table.
-use Rattle.std.proofs.Common.{◌≡◌, ◌<◌, List, length, map, All, sym, ap, subst, ◌∙◌}
+use Rattle.std.proofs.Common.{◌≡◌, ◌<◌, [], length, map, All, sym, ap, subst, ◌∙◌}
 use Rattle.std.specs.Prelude.{fold}
 use Rattle.nz_spec.specs.Term.{apply}
 use Rattle.nz_spec.specs.Table.{term_in, terms_at, with_term}

@@ -19,68 +19,65 @@ pub returns-in_err-kids-clause-one_number : goal.returns-in_err-kids-clause-one_
 returns-in_err-kids-clause-one_number c = subst HasOneNumberEach c.self.view_is (one_number _ c.self.invariant.table)
 
 pub returns-in_err-push-clause-one_number : goal.returns-in_err-push-clause-one_number
-returns-in_err-push-clause-one_number c = subst HasOneNumberEach c.self.view_is (one_number _ c.self.invariant.table)
+returns-in_err-push-clause-one_number c = one_number _ c.self.invariant.table
 
-pub put-requires : goal.put-requires
-put-requires c = record {
-  table = c.self.invariant.table;
-  within = subst (λ l. All (λ i. i < length l) c.in_ok-kids.kids) (sym c.self.view_is) (subst (All (λ i. i < length c.args.self.now)) (sym c.in_ok-kids.ensures.ids) c.requires.within);
-  fits = c.requires.fits;
-}
+pub put-made-requires-clause-within : goal.put-made-requires-clause-within
+put-made-requires-clause-within c =
+    subst (λ l. All (λ i. i < length l) c.in_ok-kids.kids) (sym c.self.view_is) (subst (All (λ i. i < length c.args.self.now)) (sym c.in_ok-kids.ensures.ids) c.requires.within)
 
 pub invariant_of-self-2 : goal.invariant_of-self-2
 invariant_of-self-2 c =
     let before = map node_of c.self.inside.nodes.keys in
-    let after = map node_of c.put.new.nodes.keys in
+    let after = map node_of c.put-made.new.nodes.keys in
     let facts = c.self.inside.facts.items in
     let node : Node = record { head = c.args.head; kids = c.in_ok-kids.kids } in
-    let fact : c.known.result ≡ fact_of (apply (head_of c.args.head) (terms_at (term_in before) c.in_ok-kids.kids)) =
-    c.known.ensures.known
+    let fact : c.known-fact.result ≡ fact_of (apply (head_of c.args.head) (terms_at (term_in before) c.in_ok-kids.kids)) =
+    c.known-fact.ensures.known
     ∙ ap (λ l. fact_of (apply (head_of c.args.head) (terms_at (term_in l) c.args.kids.now))) (sym c.self.view_is)
     ∙ ap (λ ks. fact_of (apply (head_of c.args.head) (terms_at (term_in before) ks))) (sym c.in_ok-kids.ensures.ids) in
     record {
-      table = c.put.ensures.table;
+      table = c.put-made.ensures.table;
       facts =
           c.truncate.ensures.items
           ∙ ap (take c.len.result) c.in_ok-push.ensures.items
-          ∙ ap (λ n. take n (facts ++ c.known.result ∷ [])) (c.len.ensures.len ∙ sym (length-map c.put.new.nodes.keys node_of))
-          ∙ facts_made before (node_of node) after facts c.known.result c.self.invariant fact c.put.ensures.goes_on;
+          ∙ ap (λ n. take n (facts ++ c.known-fact.result ∷ [])) (c.len.ensures.len ∙ sym (length-map c.put-made.new.nodes.keys node_of))
+          ∙ facts_made before (node_of node) after facts c.known-fact.result c.self.invariant fact c.put-made.ensures.goes_on;
     }
 
 pub returns-clause-node : goal.returns-clause-node
 returns-clause-node c =
-    subst (λ ks. IfOk c.put.result (λ id. slice_get (map node_of c.put.new.nodes.keys) id ≡ Some (node_with c.args.head ks))) c.in_ok-kids.ensures.ids c.put.ensures.node
+    subst (λ ks. IfOk c.put-made.result (λ id. slice_get (map node_of c.put-made.new.nodes.keys) id ≡ Some (node_with c.args.head ks))) c.in_ok-kids.ensures.ids c.put-made.ensures.node
 
 pub returns-clause-term : goal.returns-clause-term
 returns-clause-term c =
     let before = map node_of c.self.inside.nodes.keys in
-    let after = map node_of c.put.new.nodes.keys in
+    let after = map node_of c.put-made.new.nodes.keys in
     let node : Node = record { head = c.args.head; kids = c.in_ok-kids.kids } in
     let within : All (λ i. i < length before) node.kids =
     subst (λ l. All (λ i. i < length l) node.kids) (sym c.self.view_is) (subst (All (λ i. i < length c.args.self.now)) (sym c.in_ok-kids.ensures.ids) c.requires.within) in
-    IfOk-weaker c.put.result (λ id. slice_get after id ≡ Some (node_of node))
+    IfOk-weaker c.put-made.result (λ id. slice_get after id ≡ Some (node_of node))
     (λ id. term_in after id ≡ apply (head_of c.args.head) (terms_at (term_in c.args.self.now) c.args.kids.now))
     (
     λ id at.
-    made_term before (node_of node) after id c.put.ensures.table c.put.ensures.goes_on within at
+    made_term before (node_of node) after id c.put-made.ensures.table c.put-made.ensures.goes_on within at
     ∙ ap (λ l. apply (head_of c.args.head) (terms_at (term_in l) node.kids)) c.self.view_is
     ∙ ap (λ ks. apply (head_of c.args.head) (terms_at (term_in c.args.self.now) ks)) c.in_ok-kids.ensures.ids
     )
-    c.put.ensures.node
+    c.put-made.ensures.node
 
 pub returns-clause-grown : goal.returns-clause-grown
 returns-clause-grown c =
-    let after = map node_of c.put.new.nodes.keys in
-    on_ok c.put.result (
+    let after = map node_of c.put-made.new.nodes.keys in
+    on_ok c.put-made.result (
     subst (λ l. GoesOn l (node_with c.args.head c.args.kids.now) after) c.self.view_is
-    (subst (λ ks. GoesOn (map node_of c.self.inside.nodes.keys) (node_with c.args.head ks) after) c.in_ok-kids.ensures.ids c.put.ensures.goes_on)
+    (subst (λ ks. GoesOn (map node_of c.self.inside.nodes.keys) (node_with c.args.head ks) after) c.in_ok-kids.ensures.ids c.put-made.ensures.goes_on)
     )
 
 pub returns-clause-one_number : goal.returns-clause-one_number
-returns-clause-one_number c = one_number _ c.put.ensures.table
+returns-clause-one_number c = one_number _ c.put-made.ensures.table
 
 pub returns-clause-table : goal.returns-clause-table
-returns-clause-table c = c.put.ensures.table
+returns-clause-table c = c.put-made.ensures.table
 
 pub returns-clause-unchanged : goal.returns-clause-unchanged
-returns-clause-unchanged c = on_err_weaker c.put.result (λ e. ap (map node_of) e ∙ c.self.view_is) c.put.ensures.unchanged
+returns-clause-unchanged c = on_err_weaker c.put-made.result (λ e. ap (map node_of) e ∙ c.self.view_is) c.put-made.ensures.unchanged
