@@ -6,4 +6,4 @@ use Rattle.nz_term.proofs.facts.folded_on.Given as goal
 
 abbrev pub invariant-loop-kid : goal.invariant-loop-kid
 invariant-loop-kid l =
-    folded (operator_of l.op) l.value (constants_at l.facts (drop l.kid-index l.kids)) ≡ folded (operator_of l.op) l.first (constants_at l.facts l.kids)
+    folded (operator_of l.op) l.value (constants_at l.facts (drop l.kid-index l.kids)) ≡ folded (operator_of l.op) l.fn.first (constants_at l.facts l.kids)
