@@ -89,6 +89,7 @@ impl Terms {
         ensures node { slice_get self.now id ≡ Some (node_of result.now) }
         ensures term { term_in self.now id ≡ apply (head_of result.now.head) (terms_at (term_in self.now) result.now.kids) }
         ensures before { All (λ k. k < id) result.now.kids }
+        ensures fits { IsTrue (head_fits (head_of result.now.head)) }
     {
         &self.nodes.as_slice()[id]
     }
