@@ -1,18 +1,17 @@
 -- What is known of terms, as tables grow and are cut.
-use Rattle.std.proofs.Common.{◌≡◌, inl, inr, ℕ, zero, suc, ◌+◌, ◌<◌, ◌≤◌, ◌&&◌, ◌||◌, Bool, true, false, not, List, [], ◌∷◌, ◌++◌, length, map, take, drop, get_or, Option, Some, None, refl, sym, ap, subst, ◌∙◌, arith, pos, ◌*ℤ◌, true≢false, append_assoc, append-nil, length-append, length-take}
+use Rattle.std.proofs.Common.{◌≡◌, inl, inr, ℕ, zero, suc, ◌+◌, ◌<◌, ◌≤◌, ◌&&◌, ◌||◌, Bool, true, false, not, List, [], ◌∷◌, ◌++◌, length, map, take, drop, get_or, Option, Some, None, refl, sym, ap, subst, ◌∙◌, arith, append_assoc, append-nil, length-append, length-take}
 use Rattle.std.specs.Prelude.{◌⊎◌, fold, slice_index_or}
-use Rattle.std.proofs.Math.IntN.{zero-*ℤ}
 use Rattle.std.proofs.lemmas.Bool.{cases_lt}
-use Rattle.std.proofs.lemmas.Bool.Decides.{Decides-int_eq}
 use Rattle.std.proofs.lemmas.List.{at_drop_more, get_or_read, map-append, length-map, take-map, take-append-drop, take_all, take_at}
 use Rattle.std.proofs.lemmas.List.Sums.{fold-append}
-use Rattle.nz_spec.specs.Fraction.{Fraction, Operator, denominator, fraction_eq}
-use Rattle.nz_spec.specs.Term.{Head, falsum, head_sort, is_bool, is_zero, Term, apply, Terms, no_terms, terms, holds_number, hold_number}
+use Rattle.nz_spec.specs.Fraction.{Fraction, Operator}
+use Rattle.nz_spec.specs.Term.{Head, falsum, head_sort, is_bool, Term, apply, Terms, no_terms, terms, holds_number, hold_number}
 use Rattle.nz_spec.specs.Linear.{constant_value, constant_values, head_constant, folded, are_divisors, is_linear_node, is_linear, are_linear}
 use Rattle.nz_spec.specs.Table.{Node, terms_at, listed_term, with_term, term_in, IsTable}
 use Rattle.nz_term.specs.declared.facts.Fact.{Fact}
 use Rattle.nz_term.specs.Facts.{fact_with, fact_of, constant_in, fact_at, constants_at, are_linear_at, hold_number_at, is_divisor, IsKnown}
-use Rattle.nz_term.proofs.Tables.{GoesOn, front_table}
+use Rattle.nz_term.specs.Growth.{GoesOn}
+use Rattle.nz_term.proofs.Tables.{front_table}
 
 -- ---- What is listed for a number
 
@@ -80,7 +79,7 @@ length-terms ts (n ∷ ns) =
     omega (arith, length-terms (with_term ts n) ns, length-append ts (one ∷ []))
 
 -- what nodes add behind the terms that are there
-added : List Term → List Node → List Term
+abbrev added : List Term → List Node → List Term
 added ts [] = []
 added ts (n ∷ ns) = apply n.head (terms_at (listed_term ts) n.kids) ∷ added (with_term ts n) ns
 
@@ -96,8 +95,8 @@ length-known ns fs k =
 
 -- the facts after a node is looked up or put last: what was put last is taken back where no node was
 pub facts_made : (ns : List Node) (n : Node) (new : List Node) (fs : List Fact) (f : Fact) → IsKnown ns fs
-    → f ≡ fact_of (apply n.head (terms_at (listed_term (fold with_term [] ns)) n.kids)) → GoesOn ns n new
-    → take (length new) (fs ++ f ∷ []) ≡ map fact_of (fold with_term [] new)
+    → f ≡ fact_of (apply n.head (terms_at (term_in ns) n.kids)) → GoesOn ns n new → take (length new) (fs ++ f ∷ []) ≡ map fact_of (fold with_term [] new)
+unfolding term_in
 facts_made ns n new fs f k is grown =
     let ts = fold with_term [] ns in
     let one = apply n.head (terms_at (listed_term ts) n.kids) in
@@ -111,6 +110,12 @@ facts_made ns n new fs f k is grown =
           ∙ ap (λ l. l ++ f ∷ []) k.facts ∙ ap (λ x. map fact_of ts ++ x ∷ []) is ∙ sym (map-append fact_of ts (one ∷ []))
           ∙ ap (map fact_of) (sym (fold-append with_term [] ns (n ∷ []))) ∙ ap (λ l. map fact_of (fold with_term [] l)) (sym more)
     ]
+
+-- what is known of a term over those of a table, by the list of its terms
+pub over_table : (ns : List Node) (h : Head) (is : List ℕ) (f : Fact) → f ≡ fact_of (apply h (terms_at (listed_term (fold with_term [] ns)) is))
+    → f ≡ fact_of (apply h (terms_at (term_in ns) is))
+unfolding term_in
+over_table ns h is f e = e
 
 -- the front of a table
 front_terms : (ns : List Node) (m : ℕ) → take m (fold with_term [] ns) ≡ fold with_term [] (take m ns)
@@ -159,9 +164,3 @@ folded_none op (c ∷ cs) = folded_none op cs
 pub divisors_next : (c : Option Fraction) (cs : List (Option Fraction)) → are_divisors (c ∷ cs) ≡ (is_divisor c && are_divisors cs)
 divisors_next None cs = refl
 divisors_next (Some q) cs = refl
-
-pub is_not_zero : (q : Fraction) → is_zero q ≡ false → q.numerator ≡ pos 0 → ⊥
-unfolding fraction_eq denominator
-is_not_zero q e z =
-    let same : q.numerator *ℤ pos 1 ≡ pos 0 *ℤ pos (suc q.below) = ap (λ n. n *ℤ pos 1) z ∙ zero-*ℤ (pos 1) ∙ sym (zero-*ℤ (pos (suc q.below))) in
-    true≢false (sym ((Decides-int_eq (q.numerator *ℤ pos 1) (pos 0 *ℤ pos (suc q.below))).1 same) ∙ e)

@@ -2,7 +2,7 @@
 use Rattle.std.proofs.Common.{◌≡◌, ℕ, zero, suc, ◌<◌, ◌⊎◌, inl, inr, Bool, true, false, cond, List, [], ◌∷◌, ◌++◌, length, map, take, drop, Some, All, slice_get, refl, sym, ap, subst, ◌∙◌, arith}
 use Rattle.std.proofs.lemmas.List.{map-append, take-append-drop}
 use Rattle.std.proofs.lemmas.Option.{slice_get-map}
-use Rattle.std.specs.Prelude.{option_map, IsTrue}
+use Rattle.std.specs.Prelude.{option_map, IsTrue, OnOk, Result, Ok, Err}
 use Rattle.std.specs.List.{IsDistinct, list_any}
 use Rattle.indexmap.specs.IndexSet.{insert_key}
 use Rattle.nz_spec.specs.Term.{apply, head_fits}
@@ -10,6 +10,7 @@ use Rattle.nz_spec.specs.Table as table
 use Rattle.nz_spec.specs.Table.{IsTable, term_in, terms_at}
 use Rattle.nz_spec.proofs.Tables as laws
 use Rattle.nz_term.specs.declared.nodes.Node.{Node}
+use Rattle.nz_term.specs.Growth.{GoesOn}
 use Rattle.nz_term.specs.Nodes.{node_of}
 use Rattle.nz_term.specs.contracts.nodes.NodePartialEq.TheImpl as nodes
 use Rattle.nz_term.proofs.Equality.{same_node, tells_nodes}
@@ -48,10 +49,6 @@ front_table ns m t =
 grown_fits : (ns : List table.Node) (n : table.Node) → IsTable ns → IsTrue (head_fits n.head)
     → (i : ℕ) (m : table.Node) → slice_get (ns ++ n ∷ []) i ≡ Some m → IsTrue (head_fits m.head)
 grown_fits ns n t fits i m at = elim (came ns n i m at) [ inl there ↦ t.fits i m there | inr last ↦ subst (λ x. IsTrue (head_fits x.head)) last.1 fits ]
-
--- how a table goes on: the node was there, or it is put last
-abbrev pub GoesOn : List table.Node → table.Node → List table.Node → Type 0
-GoesOn ns n new = (new ≡ ns) ⊎ (new ≡ ns ++ n ∷ [])
 
 grown_before : (ns : List table.Node) (n : table.Node) → IsTable ns → All (λ k. k < length ns) n.kids
     → (i : ℕ) (m : table.Node) → slice_get (ns ++ n ∷ []) i ≡ Some m → All (λ k. k < i) m.kids
@@ -109,3 +106,8 @@ pub made_node : (new : List Node) (k : Node) (id : ℕ) → (stored : Node) × (
     → slice_get (map node_of new) id ≡ Some (node_of k)
 made_node new k id found =
     slice_get-map node_of new id ∙ ap (option_map node_of) found.1 ∙ ap Some (sym (same_node k found.0 found.2))
+
+-- what holds in any case holds after a success
+pub on_ok : {T E P : Type 0} (r : Result T E) → P → OnOk r P
+on_ok (Ok x) p = p
+on_ok (Err e) p = tt

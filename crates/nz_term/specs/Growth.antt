@@ -1,8 +1,12 @@
--- Tables that grow by nodes of operators and numbers alone.
-use Rattle.std.specs.Prelude.{◌≡◌, List, ◌++◌, Some, None, ⊤}
+-- Tables that grow.
+use Rattle.std.specs.Prelude.{◌≡◌, ◌⊎◌, List, [], ◌∷◌, ◌++◌, Some, None, ⊤}
 use Rattle.std.specs.List.{AllByRecursion}
 use Rattle.nz_spec.specs.Term.{Head, constant_of}
 use Rattle.nz_spec.specs.Table.{Node}
+
+-- how a table goes on: the node was there, or it is put last
+abbrev pub GoesOn : List Node → Node → List Node → Type 0
+GoesOn ns n new = (new ≡ ns) ⊎ (new ≡ ns ++ n ∷ [])
 
 -- the head is that of an operator or a number, and no constant
 abbrev pub IsOperator : Head → Type 0

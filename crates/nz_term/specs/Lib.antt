@@ -4,5 +4,6 @@ pub mod Growth
 pub mod Heads
 pub mod Instances
 pub mod Nodes
+pub mod Parts
 pub mod Steps
 pub mod Values

@@ -2,7 +2,7 @@
 ghost use Rattle.std.specs.Prelude.{◌≡◌, ◌≢◌, ◌^◌, ◌<◌, ◌≤◌, ◌&&◌, ◌||◌, List, length, map, All, IsTrue, Some, false, not, pos};
 ghost use Rattle.nz_spec.specs.Bounds.{place_limit};
 ghost use Rattle.nz_spec.specs.Fraction.{exceeds, whole};
-ghost use Rattle.nz_spec.specs.Linear.{are_divisors, divides_by_constants, folded_step, head_constant, is_linear_node, variable_count};
+ghost use Rattle.nz_spec.specs.Linear.{are_divisors, divides_by_constants, folded, folded_step, head_constant, is_linear_node, variable_count};
 ghost use Rattle.nz_spec.specs.Table.{listed_term, terms_at};
 ghost use Rattle.nz_spec.specs.Term.{Term, apply, bool_sort, decimal_number, difference, head_fits, head_sort, is_bool, is_zero, scaled};
 ghost use Rattle.nz_term.specs.Facts.{are_linear_at, constant_in, constants_at, fact_at, fact_of, fact_with, folded_all, hold_number_at, is_divisor, operator_of};
@@ -119,15 +119,24 @@ fn decimal(digits: u128, places: usize) -> Option<Frac>
     ensures number { result ≡ Some (scaled digits places) }
 {
     decimals_are_numbers();
-    Frac::of(digits as i128, power_of_ten(places))
+    Frac::of(signed(digits), power_of_ten(places))
+}
+
+/// The same number.
+fn signed(number: u128) -> i128
+    requires fits { number < 2 ^ 127 }
+    ensures same { result ≡ pos number }
+{
+    number as i128
 }
 
 /// A power of ten, up to that of the most places that a decimal has.
+#[tactic(auto, using(crate::proofs::Numbers::power_below))]
 fn power_of_ten(places: usize) -> i128
     requires fits { places ≤ place_limit }
     ensures power { result ≡ pos (10 ^ places) }
 {
-    10_i128.pow(places as u32)
+    10_u128.pow(places as u32) as i128
 }
 
 /// The negation of one constant, or the difference of several, from the left.
@@ -146,17 +155,40 @@ fn folded(op: Op, facts: &[Fact], kids: &[TermId]) -> Option<Frac>
     requires within { All (λ k. k < length facts.now) kids.now }
     ensures folded { result ≡ folded_all (operator_of op) (constants_at facts.now kids.now) }
 {
-    let (first, others) = kids.split_first()?;
-    let mut value = known(facts, *first).constant()?;
-    for kid in others {
-        value = step(op, value, known(facts, *kid).constant()?)?;
+    match kids.split_first() {
+        Some((first, others)) => folded_on(op, known(facts, *first).constant(), facts, others),
+        None => None,
     }
-    Some(value)
+}
+
+/// An operation over a constant and those of these terms, from the left; none where one is no constant.
+fn folded_on(op: Op, first: Option<Frac>, facts: &[Fact], kids: &[TermId]) -> Option<Frac>
+    requires within { All (λ k. k < length facts.now) kids.now }
+    ensures folded { result ≡ folded (operator_of op) first (constants_at facts.now kids.now) }
+{
+    let mut value = first;
+    for kid in kids {
+        value = step(op, value, known(facts, *kid).constant());
+    }
+    value
+}
+
+/// An operation on two terms that are constants where they have a value.
+fn step(op: Op, left: Option<Frac>, right: Option<Frac>) -> Option<Frac>
+    ensures step { result ≡ folded_step (operator_of op) left right }
+{
+    match left {
+        Some(left) => match right {
+            Some(right) => operation(op, left, right),
+            None => None,
+        },
+        None => None,
+    }
 }
 
 /// An operation on two constants, where its value is a number; none where it would divide by zero.
-fn step(op: Op, left: Frac, right: Frac) -> Option<Frac>
-    ensures step { result ≡ folded_step (operator_of op) (Some left) (Some right) }
+fn operation(op: Op, left: Frac, right: Frac) -> Option<Frac>
+    ensures operation { result ≡ folded_step (operator_of op) (Some left) (Some right) }
 {
     match op {
         Op::Add => left.add(right).ok(),
@@ -172,6 +204,7 @@ fn step(op: Op, left: Frac, right: Frac) -> Option<Frac>
 }
 
 /// Whether a number is zero.
+#[tactic(auto, using(crate::proofs::Numbers::is_not_zero))]
 fn is_zero(number: Frac) -> bool
     ensures zero { result ≡ is_zero number }
     ensures nonzero { result ≡ false → number.numerator ≢ pos 0 }

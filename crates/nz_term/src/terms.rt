@@ -1,8 +1,10 @@
 //! The table of shared terms.
-ghost use Rattle.std.specs.Prelude.{◌≡◌, ℕ, ◌<◌, ◌==◌, ◌⊎◌, [], ◌∷◌, ◌++◌, length, take, All, Some, IsTrue, IfOk, OnOk, OnErr, IsOkAnd, option_map, slice_get};
+ghost use Rattle.std.specs.Prelude.{◌≡◌, ℕ, ◌<◌, ◌==◌, ◌⊎◌, [], ◌∷◌, ◌++◌, length, map, take, All, Some, IsTrue, IfOk, OnOk, OnErr, IsOkAnd, option_map, slice_get};
 ghost use Rattle.nz_spec.specs.Linear.{constant_value, is_linear};
 ghost use Rattle.nz_spec.specs.Term.{apply, head_fits, holds_number};
 ghost use Rattle.nz_spec.specs.Table.{IsTable, HasOneNumberEach, term_in, terms_at};
+ghost use Rattle.nz_term.specs.Facts.{fact_of};
+ghost use Rattle.nz_term.specs.Growth.{GoesOn};
 ghost use Rattle.nz_term.specs.Heads.{head_of};
 ghost use Rattle.nz_term.specs.Nodes.{node_of, node_with};
 
@@ -62,15 +64,23 @@ impl Terms {
         ensures table { IsTable self.new }
         ensures unchanged { OnErr result (self.new ≡ self.old) }
     {
+        let fact = self.known(&head, kids);
         let kids = Ids::from_slice(*self.nodes.allocator(), kids)?;
-        let fact = fact_over(self.facts.as_slice(), &head, kids.as_slice());
         self.facts.push(fact)?;
-        let inserted = self.nodes.insert_full(Node { head, kids });
+        let made = put(&mut self.nodes, Node { head, kids });
 
         // Where no node was put last, nor does the fact stay.
         self.facts.truncate(self.nodes.len());
-        let (id, _) = inserted?;
-        Ok(id)
+        made
+    }
+
+    /// What is known of the term of this head over the terms of these numbers.
+    fn known(&self, head: &Head, kids: &[TermId]) -> Fact
+        requires within { All (λ k. k < length self.now) kids.now }
+        requires fits { IsTrue (head_fits (head_of head.now)) }
+        ensures known { result ≡ fact_of (apply (head_of head.now) (terms_at (term_in self.now) kids.now)) }
+    {
+        fact_over(self.facts.as_slice(), head, kids)
     }
 
     /// The node of a number.
@@ -79,6 +89,7 @@ impl Terms {
         ensures node { slice_get self.now id ≡ Some (node_of result.now) }
         ensures term { term_in self.now id ≡ apply (head_of result.now.head) (terms_at (term_in self.now) result.now.kids) }
         ensures before { All (λ k. k < id) result.now.kids }
+        ensures fits { IsTrue (head_fits (head_of result.now.head)) }
     {
         &self.nodes.as_slice()[id]
     }
@@ -154,4 +165,18 @@ impl Terms {
     {
         self.facts[id].holds_number()
     }
+}
+
+/// The number of a node, which is put last where it isn't there.
+fn put(nodes: &mut IndexSet<Node>, node: Node) -> Result<TermId, Memory>
+    requires table { IsTable (map node_of nodes.old.keys) }
+    requires within { All (λ k. k < length (map node_of nodes.old.keys)) node.kids }
+    requires fits { IsTrue (head_fits (head_of node.head)) }
+    ensures goes_on { GoesOn (map node_of nodes.old.keys) (node_of node) (map node_of nodes.new.keys) }
+    ensures table { IsTable (map node_of nodes.new.keys) }
+    ensures node { IfOk result (λ id. slice_get (map node_of nodes.new.keys) id ≡ Some (node_of node)) }
+    ensures unchanged { OnErr result (nodes.new.keys ≡ nodes.old.keys) }
+{
+    let (id, _) = nodes.insert_full(node)?;
+    Ok(id)
 }

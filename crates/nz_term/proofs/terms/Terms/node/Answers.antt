@@ -29,3 +29,6 @@ returns-clause-term c =
 
 pub returns-clause-before : goal.returns-clause-before
 returns-clause-before c = c.self.invariant.table.before c.args.id (node_of c.index-as_slice-id.result) (stands c)
+
+pub returns-clause-fits : goal.returns-clause-fits
+returns-clause-fits c = c.self.invariant.table.fits c.args.id (node_of c.index-as_slice-id.result) (stands c)

@@ -1,9 +1,0 @@
--- What is folded so far, and then over what is left, is what comes of all.
-use Rattle.std.proofs.Common.{◌≡◌, Some, drop}
-use Rattle.nz_spec.specs.Linear.{folded}
-use Rattle.nz_term.specs.Facts.{constants_at, folded_all, operator_of}
-use Rattle.nz_term.proofs.facts.folded.Given as goal
-
-abbrev pub invariant-loop-kid : goal.invariant-loop-kid
-invariant-loop-kid l =
-    folded (operator_of l.op) (Some l.value) (constants_at l.facts (drop l.kid-index l.others)) ≡ folded_all (operator_of l.op) (constants_at l.facts l.kids)
