@@ -1,3 +1,7 @@
 pub mod Copying
 pub mod Models
+pub mod Numerals
+pub mod Pairs
+pub mod Quotes
+pub mod Spaces
 pub mod Writing

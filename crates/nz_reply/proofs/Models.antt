@@ -1,5 +1,5 @@
--- The texts of symbols, bindings and models.
-use Rattle.std.proofs.Common.{◌≡◌, ℕ, ◌+◌, ◌≤◌, ◌<◌, List, [], ◌∷◌, ◌++◌, length, get_or, take, drop, map, flat_map, Option, suc, Bool, false, codes, if◌then◌else◌, sym, ap, ◌∙◌, subst, append_assoc, append-nil, take-append-drop}
+-- The texts of symbols and models.
+use Rattle.std.proofs.Common.{◌≡◌, ℕ, ◌+◌, ◌≤◌, ◌<◌, List, [], ◌∷◌, ◌++◌, length, get_or, take, drop, map, flat_map, Option, suc, Bool, true, false, codes, if◌then◌else◌, sym, ap, ◌∙◌, subst, append_assoc, take-append-drop}
 use Rattle.std.proofs.lemmas.List.{take_all, take_more, flat_map_more, map-append}
 use Rattle.std.proofs.lemmas.Grind.{flat_map-append}
 use Rattle.std.proofs.Math.Seq.{drop-cons}
@@ -7,8 +7,7 @@ use Rattle.std.specs.Io.KnownBytes.{Appends}
 use Rattle.std.proofs.KnownBytes.{Appends-trans}
 use Rattle.nz_spec.specs.Outside.{AddsFrontOf}
 use Rattle.nz_spec.specs.Tree.{is_simple_symbol}
-use Rattle.nz_spec.specs.Script as script
-use Rattle.nz_spec.specs.Reply.{binding_text, sort_text, symbol_text, value_text}
+use Rattle.nz_spec.specs.Reply.{binding_text, symbol_text}
 use Rattle.nz_reply.specs.declared.reply.Binding.{Binding}
 use Rattle.nz_reply.specs.Bindings.{binding_of}
 use Rattle.nz_reply.proofs.Writing.{front_behind, front_within}
@@ -57,22 +56,7 @@ last_front old mid new front last bs i h w f =
     front_behind old mid new (front ++ bindings_text bs) last
     (subst (λ (l : List Binding). Appends old mid (front ++ bindings_text l)) (take_all i bs h) w) f
 
--- ---- Symbols and bindings
+-- ---- Symbols
 
 pub symbol_text-quoted : (name : List ℕ) → is_simple_symbol name ≡ false → ((124 ∷ []) ++ name) ++ (124 ∷ []) ≡ symbol_text name
 symbol_text-quoted name e = ap (λ (simple : Bool). if simple then name else 124 ∷ name ++ 124 ∷ []) (sym e)
-
--- what follows the symbol in a binding's text
-abbrev pub rest_of_binding : List ℕ → List ℕ → List ℕ
-rest_of_binding sort value = codes " () " ++ (sort ++ (codes " " ++ (value ++ (codes ")\n" ++ []))))
-
-regrouped : (x a b c d e : List ℕ) → x ++ (a ++ (b ++ (c ++ (d ++ (e ++ []))))) ≡ ((((x ++ a) ++ b) ++ c) ++ d) ++ e
-regrouped x a b c d e = simp (append_assoc, append-nil)
-
-pub binding_text-parts : (b : script.Binding) (sort value : List ℕ) → sort ≡ sort_text b.constant.sort → value ≡ value_text b.value
-    → (codes "(define-fun " ++ symbol_text b.constant.name) ++ rest_of_binding sort value ≡ binding_text b
-binding_text-parts b sort value e f =
-    let opened : List ℕ = codes "(define-fun " ++ symbol_text b.constant.name in
-    ap (λ s. opened ++ rest_of_binding s value) e
-    ∙ ap (λ v. opened ++ rest_of_binding (sort_text b.constant.sort) v) f
-    ∙ regrouped opened (codes " () ") (sort_text b.constant.sort) (codes " ") (value_text b.value) (codes ")\n")

@@ -4,7 +4,9 @@ use Rattle.std.proofs.lemmas.List.{take-append-le, length-append}
 use Rattle.std.specs.Borrow.{Bor}
 use Rattle.std.specs.Prelude.{OnOk, OnErr}
 use Rattle.nz_reply.specs.Parts.{parts_text}
-use Rattle.std.proofs.Common.{◌≡◌, ℕ, ◌+◌, ◌≤◌, ◌<◌, length, get_or, add-one, List, [], ◌++◌, take, drop, Option, None, Some, Result, Ok, Err, refl, sym, ap, ◌∙◌, append_assoc, arith, subst, append-nil}
+use Rattle.nz_reply.specs.Spelling.{part_text, spelled}
+use Rattle.nz_reply.specs.declared.spelling.Part.{Part}
+use Rattle.std.proofs.Common.{◌≡◌, ℕ, ◌+◌, ◌≤◌, ◌<◌, length, get_or, add-one, List, [], ◌∷◌, ◌++◌, take, drop, Option, None, Some, Result, Ok, Err, refl, sym, ap, ◌∙◌, append_assoc, arith, subst, append-nil}
 use Rattle.std.specs.Io.KnownBytes.{Appends, Keeps}
 use Rattle.std.proofs.KnownBytes.{Appends-nil, Appends-trans}
 use Rattle.nz_spec.specs.Outside.{AddsFrontOf, HasRisen}
@@ -71,15 +73,42 @@ pub parts_text-next : (ps : List (Bor (List ℕ))) (i : ℕ) (d : Bor (List ℕ)
     → parts_text (drop i ps) ≡ (get_or ps i d).now ++ parts_text (drop (i + 1) ps)
 parts_text-next ps i d h = rw (add-one, drop-cons ps i d) refl
 
--- fronts of three texts, one behind another
-pub front_first : (a b : Option (List ℕ)) (t1 t2 t3 : List ℕ) → AddsFrontOf a b t1 → AddsFrontOf a b ((t1 ++ t2) ++ t3)
-front_first a b t1 t2 t3 f = front_within a b (t1 ++ t2) t3 (front_within a b t1 t2 f)
+pub spelled-next : (ps : List Part) (i : ℕ) (d : Part) → i < length ps → spelled (drop i ps) ≡ part_text (get_or ps i d) ++ spelled (drop (i + 1) ps)
+spelled-next ps i d h = rw (add-one, drop-cons ps i d) refl
 
-pub front_second : (a b c : Option (List ℕ)) (t1 t2 t3 : List ℕ) → Appends a b t1 → AddsFrontOf b c t2 → AddsFrontOf a c ((t1 ++ t2) ++ t3)
-front_second a b c t1 t2 t3 p f = front_within a c (t1 ++ t2) t3 (front_behind a b c t1 t2 p f)
+-- a text behind a space is written behind those before it
+pub written_later : (old mid next new : Option (List ℕ)) (before middle after now : ℕ) (bytes rest text later : List ℕ)
+    → HasWrittenTo old mid before middle bytes rest → rest ≡ (32 ∷ []) ++ (text ++ later) → Appends mid next (32 ∷ []) → middle ≤ after → Appends next new text → after ≤ now
+    → HasWrittenTo old new before now bytes later
+written_later old mid next new before middle after now bytes rest text later h e p l q m =
+    written_text old next new before after now bytes (text ++ later) text later (written_text old mid next before middle after bytes rest (32 ∷ []) (text ++ later) h e p l) refl q m
 
-pub front_third : (a b c d : Option (List ℕ)) (t1 t2 t3 : List ℕ) → Appends a b t1 → Appends b c t2 → AddsFrontOf c d t3 → AddsFrontOf a d ((t1 ++ t2) ++ t3)
-front_third a b c d t1 t2 t3 p q f = front_behind a c d (t1 ++ t2) t3 (Appends-trans a b c t1 t2 p q) f
+-- a front of a text behind a space is a front of all
+pub front_of_later : (old mid next new : Option (List ℕ)) (before middle after : ℕ) (bytes rest text later : List ℕ)
+    → HasWrittenTo old mid before middle bytes rest → rest ≡ (32 ∷ []) ++ (text ++ later) → Appends mid next (32 ∷ []) → middle ≤ after → AddsFrontOf next new text
+    → AddsFrontOf old new bytes
+front_of_later old mid next new before middle after bytes rest text later h e p l f =
+    front_of_all old next new before after bytes (text ++ later) text later (written_text old mid next before middle after bytes rest (32 ∷ []) (text ++ later) h e p l) refl f
+
+-- three texts, one behind another, and fronts of them
+pub three_texts : (a b c d : Option (List ℕ)) (t1 t2 t3 all : List ℕ) → (t1 ++ t2) ++ t3 ≡ all → Appends a b t1 → Appends b c t2 → Appends c d t3 → Appends a d all
+three_texts a b c d t1 t2 t3 all e p q r = subst (Appends a d) e (Appends-trans a c d (t1 ++ t2) t3 (Appends-trans a b c t1 t2 p q) r)
+
+pub front_first : (a b : Option (List ℕ)) (t1 t2 t3 all : List ℕ) → (t1 ++ t2) ++ t3 ≡ all → AddsFrontOf a b t1 → AddsFrontOf a b all
+front_first a b t1 t2 t3 all e f = subst (AddsFrontOf a b) e (front_within a b (t1 ++ t2) t3 (front_within a b t1 t2 f))
+
+pub front_second : (a b c : Option (List ℕ)) (t1 t2 t3 all : List ℕ) → (t1 ++ t2) ++ t3 ≡ all → Appends a b t1 → AddsFrontOf b c t2 → AddsFrontOf a c all
+front_second a b c t1 t2 t3 all e p f = subst (AddsFrontOf a c) e (front_within a c (t1 ++ t2) t3 (front_behind a b c t1 t2 p f))
+
+pub front_third : (a b c d : Option (List ℕ)) (t1 t2 t3 all : List ℕ) → (t1 ++ t2) ++ t3 ≡ all → Appends a b t1 → Appends b c t2 → AddsFrontOf c d t3 → AddsFrontOf a d all
+front_third a b c d t1 t2 t3 all e p q f = subst (AddsFrontOf a d) e (front_behind a c d (t1 ++ t2) t3 (Appends-trans a b c t1 t2 p q) f)
+
+-- what a call wrote, by another name
+pub whole_as : {A E : Type 0} (r : Result A E) (a b : Option (List ℕ)) (text all : List ℕ) → text ≡ all → OnOk r (Appends a b text) → OnOk r (Appends a b all)
+whole_as r a b text all e w = subst (λ (t : List ℕ). OnOk r (Appends a b t)) e w
+
+pub front_as : {A E : Type 0} (r : Result A E) (a b : Option (List ℕ)) (text all : List ℕ) → text ≡ all → OnErr r (AddsFrontOf a b text) → OnErr r (AddsFrontOf a b all)
+front_as r a b text all e f = subst (λ (t : List ℕ). OnErr r (AddsFrontOf a b t)) e f
 
 -- what a call wrote, behind a text
 pub whole_behind : {A E : Type 0} (r : Result A E) (a b c : Option (List ℕ)) (text next all : List ℕ) → text ++ next ≡ all → Appends a b text

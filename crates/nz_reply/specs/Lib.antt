@@ -1,6 +1,11 @@
 pub mod Bindings
+pub mod Infos
 pub mod Journals
 pub mod Notes
 pub mod Parts
 pub mod Reasons
 pub mod Replies
+pub mod Signs
+pub mod Spelling
+pub mod Trees
+pub mod Values

@@ -1,11 +1,14 @@
 -- What replies and their causes are.
 use Rattle.std.specs.Prelude.{List, map}
 use Rattle.nz_spec.specs.Reply as spec
+use Rattle.nz_spec.specs.Text as script
 use Rattle.nz_spec.specs.Transcript as transcript
 use Rattle.nz_spec.specs.Work.{WorkList}
 use Rattle.nz_sexpr.specs.View.{heard_view}
+use Rattle.nz_reply.specs.Infos.{info_of}
 use Rattle.nz_reply.specs.Notes.{noted_line}
 use Rattle.nz_reply.specs.Reasons.{reason_of}
+use Rattle.nz_reply.specs.Values.{asked_trees, with_shown}
 use Rattle.nz_reply.specs.declared.reply.Reply.{Reply}
 use Rattle.nz_reply.specs.declared.reply.Reply.TheVariants as reply
 use Rattle.nz_reply.specs.declared.reply.Cause.{Cause}
@@ -13,15 +16,21 @@ use Rattle.nz_reply.specs.declared.reply.Cause.TheVariants as cause
 use Rattle.nz_reply.specs.declared.reply.Kept.{Kept}
 use Rattle.nz_reply.specs.declared.reply.SpentList.{SpentList}
 
-abbrev pub reply_of : Reply → spec.Reply
-reply_of reply.Quiet = spec.quiet
-reply_of (reply.Sat bindings) = spec.sat bindings
-reply_of reply.Unsat = spec.unsat
-reply_of (reply.Unknown reason) = spec.unknown (reason_of reason)
-reply_of (reply.Model bindings) = spec.model bindings
-reply_of (reply.Reason reason) = spec.reason (reason_of reason)
-reply_of reply.Unsupported = spec.unsupported
-reply_of (reply.Error number) = spec.error number
+-- What a reply to this thing heard is: the terms whose values it tells stand in the command.
+abbrev pub reply_of : script.What → Reply → spec.Reply
+reply_of what reply.Quiet = spec.quiet
+reply_of what reply.Success = spec.success
+reply_of what (reply.Sat bindings) = spec.sat bindings
+reply_of what reply.Unsat = spec.unsat
+reply_of what (reply.Unknown reason) = spec.unknown (reason_of reason)
+reply_of what (reply.Model bindings) = spec.model bindings
+reply_of what (reply.Values shows) = spec.values (with_shown (asked_trees what) shows)
+reply_of what (reply.Info info) = spec.info (info_of info)
+reply_of what (reply.Levels count) = spec.levels count
+reply_of what (reply.Reason reason) = spec.reason (reason_of reason)
+reply_of what (reply.Echo text) = spec.echoed text
+reply_of what reply.Unsupported = spec.unsupported
+reply_of what (reply.Error number) = spec.error number
 
 abbrev pub spent_of : SpentList → WorkList spec.Note
 spent_of s = record { lines = map noted_line s.work; limit = s.limit }
@@ -31,7 +40,7 @@ cause_of cause.Plain = spec.plain
 cause_of (cause.Spent list) = spec.spent (spent_of list)
 
 abbrev pub kept_of : Kept → transcript.Kept
-kept_of k = record { heard = heard_view k.heard; reply = reply_of k.reply; cause = cause_of k.cause }
+kept_of k = let heard = heard_view k.heard in record { heard = heard; reply = reply_of heard.what k.reply; cause = cause_of k.cause }
 
 abbrev pub all_kept : List Kept → List transcript.Kept
 all_kept ks = map kept_of ks

@@ -11,6 +11,9 @@ pub const UNKNOWN_SYMBOL: u8 = 2;
 /// The number of the error for a term or a sort that isn't well formed over its parts.
 pub const SORT: u8 = 3;
 
+/// The number of the error for a term whose unknowns are multiplied with one another.
+pub const NOT_LINEAR: u8 = 4;
+
 /// The number of the error for a number that the program can't hold.
 pub const NUMBER_TOO_WIDE: u8 = 5;
 
@@ -19,6 +22,9 @@ pub const LIMIT: u8 = 6;
 
 /// The number of the error for a command that asks to see what the last answer doesn't have.
 pub const NO_ANSWER: u8 = 7;
+
+/// The number of the error for a command that takes more levels away than there are.
+pub const POP_BELOW_ZERO: u8 = 8;
 
 /// The number of the error for a declaration of a name that there is.
 pub const ALREADY_DECLARED: u8 = 9;
@@ -39,12 +45,16 @@ pub fn error_text(number: u8) -> &'static [u8]
         b"(error \"2 unknown symbol\")\n"
     } else if number == SORT {
         b"(error \"3 sort\")\n"
+    } else if number == NOT_LINEAR {
+        b"(error \"4 not linear\")\n"
     } else if number == NUMBER_TOO_WIDE {
         b"(error \"5 number too wide\")\n"
     } else if number == LIMIT {
         b"(error \"6 limit\")\n"
     } else if number == NO_ANSWER {
         b"(error \"7 no answer to show\")\n"
+    } else if number == POP_BELOW_ZERO {
+        b"(error \"8 pop below zero\")\n"
     } else if number == ALREADY_DECLARED {
         b"(error \"9 already declared\")\n"
     } else if number == INCOMPLETE_COMMAND {

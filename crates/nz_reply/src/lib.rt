@@ -2,14 +2,22 @@
 #![tactic(auto)]
 
 mod errors;
+mod number;
 mod reply;
+mod spelling;
+mod symbol;
+#[cfg(test)]
+mod tests;
+mod text;
+mod tree;
 mod write;
 
 pub use errors::{
-    ALREADY_DECLARED, INCOMPLETE_COMMAND, LIMIT, NO_ANSWER, NUMBER_TOO_WIDE, OUT_OF_MEMORY, SORT,
-    SYNTAX, UNKNOWN_SYMBOL,
+    ALREADY_DECLARED, INCOMPLETE_COMMAND, LIMIT, NO_ANSWER, NOT_LINEAR, NUMBER_TOO_WIDE,
+    OUT_OF_MEMORY, POP_BELOW_ZERO, SORT, SYNTAX, UNKNOWN_SYMBOL,
 };
 pub use reply::{
-    Binding, Bindings, Cause, Journal, Kept, Note, Reason, Reply, SpentList, write_reply,
+    Binding, Bindings, Cause, Info, Journal, Kept, Note, Reason, Reply, Shown, Shows, SpentList,
 };
+pub use text::write_reply;
 pub use write::{WriteFault, write_parts, write_text};

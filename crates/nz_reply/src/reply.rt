@@ -1,20 +1,11 @@
-//! Replies: what they hold, and their texts (SMT-LIB 2.6, section 4.2).
-ghost use Rattle.std.specs.Prelude.{◌≡◌, ◌≤◌, [], ◌∷◌, ◌++◌, length, map, IfOk, OnOk, OnErr};
-ghost use Rattle.std.specs.Io.KnownBytes.{Appends};
-ghost use Rattle.nz_spec.specs.Outside.{AddsFrontOf, HasRisen};
-ghost use Rattle.nz_spec.specs.Reply.{binding_text, model as model_reply, reason as reason_reply, reply_text, sort_text, symbol_text, value_text};
-ghost use Rattle.nz_spec.specs.Script.{units_spent};
+//! Replies: what they hold, why they are what they are, and the journal of what was kept.
+ghost use Rattle.std.specs.Prelude.{◌≡◌, [], ◌∷◌, ◌++◌, map, IfOk, OnOk, OnErr};
 ghost use Rattle.nz_reply.specs.Bindings.{binding_of};
-ghost use Rattle.nz_reply.specs.Reasons.{reason_of};
-ghost use Rattle.nz_reply.specs.Replies.{reply_of};
-ghost use Rattle.nz_term.specs.Constants.{sort_of};
-ghost use Rattle.nz_term.specs.Values.{value_of};
+ghost use Rattle.nz_reply.specs.Values.{shown_of};
 
-use crate::errors::error_text;
-use crate::write::{WriteFault, write_parts, write_text};
-use itoa::Buffer;
-use nz_base::{Lines, Memory, Sink};
-use nz_sexpr::{Heard, is_simple_symbol};
+use nz_base::{Lines, Memory, Text};
+use nz_frac::Wide;
+use nz_sexpr::Heard;
 use nz_term::{Constant, Sort, TermId, Value};
 use std::alloc::Global;
 use std::marker::Model;
@@ -62,6 +53,13 @@ impl Bindings {
         Ok(())
     }
 
+    /// The entries in their order.
+    pub(crate) fn as_slice(&self) -> &[Binding]
+        ensures entries { map binding_of result.now ≡ self.now }
+    {
+        self.bindings.as_slice()
+    }
+
     /// The same bindings once more.
     pub fn copy(&self, alloc: Global) -> Result<Bindings, Memory>
         ensures same { IfOk result (λ copy. copy ≡ self.now) }
@@ -78,6 +76,72 @@ impl Bindings {
     }
 }
 
+/// What is told of a term's value.
+#[derive(Clone, Copy, Debug)]
+pub enum Shown {
+    /// The value, and the term's sort.
+    Value(Sort, Value),
+    /// The first operation that left the numbers.
+    Wide(Wide),
+}
+
+/// What is told of the terms that were asked for, in the order in which they were. A contract sees it as a list.
+#[derive(Debug, Drop)]
+pub struct Shows {
+    shows: Vec<Shown>,
+}
+
+impl Model for Shows {
+    ghost use Rattle.std.specs.Prelude.{List, map};
+    ghost use Rattle.nz_spec.specs.Reply as spec;
+
+    ghost Value = { List spec.Shown };
+
+    ghost use Rattle.nz_reply.specs.Values.{shown_of};
+
+    ghost view = { λ s. map shown_of s.shows.items };
+}
+
+impl Shows {
+    /// Nothing is told yet. Takes no memory.
+    pub fn new(alloc: Global) -> Shows
+        ensures empty { result ≡ [] }
+    {
+        Shows {
+            shows: Vec::new(alloc),
+        }
+    }
+
+    /// Puts what is told of one term at the end.
+    ///
+    /// # Errors
+    ///
+    /// `Memory` where there is none; the list is as before.
+    pub fn push(&mut self, shown: Shown) -> Result<(), Memory>
+        ensures grown { OnOk result (self.new ≡ self.old ++ shown_of shown ∷ []) }
+        ensures unchanged { OnErr result (self.new ≡ self.old) }
+    {
+        self.shows.push(shown)?;
+        Ok(())
+    }
+
+    /// The entries in their order.
+    pub(crate) fn as_slice(&self) -> &[Shown]
+        ensures entries { map shown_of result.now ≡ self.now }
+    {
+        self.shows.as_slice()
+    }
+}
+
+/// What `get-info` tells whatever was said before.
+#[derive(Clone, Copy, Debug, PartialEq, Eq)]
+pub enum Info {
+    Name,
+    Version,
+    Authors,
+    ErrorBehavior,
+}
+
 /// Why a check wasn't decided.
 #[derive(Clone, Copy, Debug, PartialEq, Eq)]
 pub enum Reason {
@@ -90,6 +154,8 @@ pub enum Reason {
 pub enum Reply {
     /// Nothing is written.
     Quiet,
+    /// The command was carried out, and has nothing else to tell.
+    Success,
     /// With the model that was found.
     Sat(Bindings),
     Unsat,
@@ -97,8 +163,16 @@ pub enum Reply {
     Unknown(Reason),
     /// The model of the last answer.
     Model(Bindings),
+    /// The values of the terms that the command asks for. The terms themselves stand in the command, which is kept
+    /// beside the reply.
+    Values(Shows),
+    Info(Info),
+    /// How many levels were pushed.
+    Levels(usize),
     /// The reason of the last answer.
     Reason(Reason),
+    /// The text of a string literal.
+    Echo(Text),
     /// The program doesn't take the command.
     Unsupported,
     /// An error, by its number.
@@ -157,126 +231,5 @@ impl Journal {
         ensures entries { all_kept result.now ≡ journal_of self.now }
     {
         self.kept.as_slice()
-    }
-}
-
-/// Writes the text of a reply. Takes no memory.
-///
-/// # Errors
-///
-/// `WriteFault` only where the sink's count of faults rose. Then a front of the text was written.
-pub fn write_reply<K: Sink>(sink: &mut K, reply: &Reply) -> Result<(), WriteFault>
-    ensures whole { OnOk result (Appends (K.held sink.old) (K.held sink.new) (reply_text (reply_of reply.now))) }
-    ensures front { OnErr result (AddsFrontOf (K.held sink.old) (K.held sink.new) (reply_text (reply_of reply.now))) }
-    ensures later { K.faults sink.old ≤ K.faults sink.new }
-    ensures fault { OnErr result (HasRisen K.last (K.faults sink.old) (K.faults sink.new)) }
-{
-    match reply {
-        Reply::Quiet => write_text(sink, b""),
-        Reply::Sat(_) => write_text(sink, b"sat\n"),
-        Reply::Unsat => write_text(sink, b"unsat\n"),
-        Reply::Unknown(_) => write_text(sink, b"unknown\n"),
-        Reply::Model(bindings) => write_model(sink, &bindings.bindings),
-        Reply::Reason(reason) => write_reason(sink, *reason),
-        Reply::Unsupported => write_text(sink, b"unsupported\n"),
-        Reply::Error(number) => write_text(sink, error_text(*number)),
-    }
-}
-
-fn write_model<K: Sink>(sink: &mut K, bindings: &Vec<Binding>) -> Result<(), WriteFault>
-    ensures whole { OnOk result (Appends (K.held sink.old) (K.held sink.new) (reply_text (model_reply (map binding_of bindings.now.items)))) }
-    ensures front { OnErr result (AddsFrontOf (K.held sink.old) (K.held sink.new) (reply_text (model_reply (map binding_of bindings.now.items)))) }
-    ensures later { K.faults sink.old ≤ K.faults sink.new }
-    ensures fault { OnErr result (HasRisen K.last (K.faults sink.old) (K.faults sink.new)) }
-{
-    if let Err(fault) = write_text(sink, b"(\n") {
-        return Err(fault);
-    }
-    for binding in bindings {
-        if let Err(fault) = write_binding(sink, binding) {
-            return Err(fault);
-        }
-    }
-    if let Err(fault) = write_text(sink, b")\n") {
-        return Err(fault);
-    }
-    Ok(())
-}
-
-fn write_reason<K: Sink>(sink: &mut K, reason: Reason) -> Result<(), WriteFault>
-    ensures whole { OnOk result (Appends (K.held sink.old) (K.held sink.new) (reply_text (reason_reply (reason_of reason)))) }
-    ensures front { OnErr result (AddsFrontOf (K.held sink.old) (K.held sink.new) (reply_text (reason_reply (reason_of reason)))) }
-    ensures later { K.faults sink.old ≤ K.faults sink.new }
-    ensures fault { OnErr result (HasRisen K.last (K.faults sink.old) (K.faults sink.new)) }
-{
-    match reason {
-        Reason::UnitsSpent(units) => write_units_spent(sink, units),
-    }
-}
-
-fn write_units_spent<K: Sink>(sink: &mut K, units: u64) -> Result<(), WriteFault>
-    ensures whole { OnOk result (Appends (K.held sink.old) (K.held sink.new) (reply_text (reason_reply (units_spent units)))) }
-    ensures front { OnErr result (AddsFrontOf (K.held sink.old) (K.held sink.new) (reply_text (reason_reply (units_spent units)))) }
-    ensures later { K.faults sink.old ≤ K.faults sink.new }
-    ensures fault { OnErr result (HasRisen K.last (K.faults sink.old) (K.faults sink.new)) }
-{
-    let mut digits = Buffer::new();
-    let number = digits.format(units).as_bytes();
-    write_parts(sink, &[b"(:reason-unknown (spent ", number, b"))\n"])
-}
-
-fn write_binding<K: Sink>(sink: &mut K, binding: &Binding) -> Result<(), WriteFault>
-    ensures whole { OnOk result (Appends (K.held sink.old) (K.held sink.new) (binding_text (binding_of binding.now))) }
-    ensures front { OnErr result (AddsFrontOf (K.held sink.old) (K.held sink.new) (binding_text (binding_of binding.now))) }
-    ensures later { K.faults sink.old ≤ K.faults sink.new }
-    ensures fault { OnErr result (HasRisen K.last (K.faults sink.old) (K.faults sink.new)) }
-{
-    if let Err(fault) = write_text(sink, b"(define-fun ") {
-        return Err(fault);
-    }
-    if let Err(fault) = write_symbol(sink, binding.constant.name.as_bytes()) {
-        return Err(fault);
-    }
-    let sort = sort_name(binding.constant.sort);
-    let value = value_name(binding.value);
-    write_parts(sink, &[b" () ", sort, b" ", value, b")\n"])
-}
-
-/// Writes a symbol as it is spelled: between bars, where it is no simple symbol.
-fn write_symbol<K: Sink>(sink: &mut K, name: &[u8]) -> Result<(), WriteFault>
-    ensures whole { OnOk result (Appends (K.held sink.old) (K.held sink.new) (symbol_text name.now)) }
-    ensures front { OnErr result (AddsFrontOf (K.held sink.old) (K.held sink.new) (symbol_text name.now)) }
-    ensures later { K.faults sink.old ≤ K.faults sink.new }
-    ensures fault { OnErr result (HasRisen K.last (K.faults sink.old) (K.faults sink.new)) }
-{
-    if is_simple_symbol(name) {
-        return write_text(sink, name);
-    }
-    if let Err(fault) = write_text(sink, b"|") {
-        return Err(fault);
-    }
-    if let Err(fault) = write_text(sink, name) {
-        return Err(fault);
-    }
-    if let Err(fault) = write_text(sink, b"|") {
-        return Err(fault);
-    }
-    Ok(())
-}
-
-fn sort_name(sort: Sort) -> &'static [u8]
-    ensures name { result.now ≡ sort_text (sort_of sort) }
-{
-    match sort {
-        Sort::Bool => b"Bool",
-    }
-}
-
-fn value_name(value: Value) -> &'static [u8]
-    ensures name { result.now ≡ value_text (value_of value) }
-{
-    match value {
-        Value::Truth(true) => b"true",
-        Value::Truth(false) => b"false",
     }
 }

@@ -1,20 +1,100 @@
--- Names and the numbers of their constants.
-use Rattle.std.proofs.Common.{◌≡◌, ℕ, List, [], ◌∷◌, ◌++◌, None, Some, true, false, cond, bytes_eq, refl, ap}
+-- Names and what is listed with them.
+use Rattle.std.proofs.Common.{◌≡◌, ℕ, Bool, List, [], ◌∷◌, ◌++◌, Option, None, Some, IfSome, IfNone, option_copied, is_some, Bor, true, false, cond, bytes_eq, reverse, refl, sym, ap, ◌∙◌}
+use Rattle.std.proofs.lemmas.Bool.{true≢false, false≢true}
+use Rattle.std.proofs.lemmas.List.{reverse-append}
 use Rattle.std.specs.Map.{lookup}
+use Rattle.std.specs.Cmp.Lexicographic.{nat_list_eq_equiv}
 use Rattle.indexmap.specs.IndexMap.{insert_entry}
-use Rattle.nz_sort.specs.Names.{number_named}
+use Rattle.nz_spec.specs.Elaboration.{listed}
+use Rattle.nz_sort.specs.declared.typed.Typed.{Typed}
+use Rattle.nz_sort.specs.Names.{bound_in, bound_by, first_of}
 
 -- the map finds what is listed
-pub lookup-named : (ps : List (List ℕ × ℕ)) (name : List ℕ) → lookup (bytes_eq name) ps ≡ number_named ps name
-lookup-named [] name = refl
-lookup-named (p ∷ ps) name = ap (cond (bytes_eq name p.0) (Some p.1)) (lookup-named ps name)
+pub lookup-listed : {A : Type 0} (ps : List (List ℕ × A)) (name : List ℕ) → lookup (bytes_eq name) ps ≡ listed ps name
+lookup-listed [] name = refl
+lookup-listed (p ∷ ps) name = ap (cond (bytes_eq name p.0) (Some p.1)) (lookup-listed ps name)
 
 -- a name that isn't there goes last
-pub insert_entry-named : (ps : List (List ℕ × ℕ)) (name : List ℕ) (id : ℕ) → number_named ps name ≡ None
-    → insert_entry bytes_eq ps name id ≡ ps ++ (name, id) ∷ []
-insert_entry-named [] name id h = refl
-insert_entry-named (p ∷ ps) name id h =
-    (elim (bytes_eq name p.0) as (λ b. cond b (Some p.1) (number_named ps name) ≡ None → cond b ((p.0, id) ∷ ps) (p ∷ insert_entry bytes_eq ps name id) ≡ p ∷ (ps ++ (name, id) ∷ [])) [
+pub insert_entry-listed : {A : Type 0} (ps : List (List ℕ × A)) (name : List ℕ) (x : A) → listed ps name ≡ None
+    → insert_entry bytes_eq ps name x ≡ ps ++ (name, x) ∷ []
+insert_entry-listed [] name x h = refl
+insert_entry-listed (p ∷ ps) name x h =
+    (elim (bytes_eq name p.0) as (λ b. cond b (Some p.1) (listed ps name) ≡ None → cond b ((p.0, x) ∷ ps) (p ∷ insert_entry bytes_eq ps name x) ≡ p ∷ (ps ++ (name, x) ∷ [])) [
       | true ↦ λ e. cc
-      | false ↦ λ e. ap (λ l. p ∷ l) (insert_entry-named ps name id e)
+      | false ↦ λ e. ap (λ l. p ∷ l) (insert_entry-listed ps name x e)
     ]) h
+
+-- two equal names have the same listed
+same_listed : {A : Type 0} (ps : List (List ℕ × A)) (a b : List ℕ) → bytes_eq a b ≡ true → listed ps a ≡ listed ps b
+same_listed [] a b e = refl
+same_listed (p ∷ ps) a b e =
+    ap (λ c. cond c (Some p.1) (listed ps a)) (nat_list_eq_equiv.congr a b p.0 e) ∙ ap (cond (bytes_eq b p.0) (Some p.1)) (same_listed ps a b e)
+
+-- ---- Bindings
+
+first_none : (o : Option Typed) → first_of o None ≡ o
+first_none None = refl
+first_none (Some x) = refl
+
+-- what is bound already stays
+pub bound_kept : (ps : List (List ℕ × Typed)) (name : List ℕ) (x y : Typed) → listed ps name ≡ Some y → (other : List ℕ)
+    → bound_in ps other ≡ first_of (bound_in ps other) (bound_in ((name, x) ∷ []) other)
+bound_kept ps name x y h other =
+    (elim (bytes_eq other name) as (λ b. (b ≡ true → listed ps other ≡ listed ps name) → listed ps other ≡ first_of (listed ps other) (cond b (Some x) None)) [
+      | true ↦ λ same. (let found : listed ps other ≡ Some y = same refl ∙ h in rw found refl)
+      | false ↦ λ same. sym (first_none (listed ps other))
+    ]) (same_listed ps other name)
+
+-- a name that isn't bound is bound last
+pub bound_added : (ps : List (List ℕ × Typed)) (name : List ℕ) (x : Typed) (other : List ℕ)
+    → bound_in (ps ++ (name, x) ∷ []) other ≡ first_of (bound_in ps other) (bound_in ((name, x) ∷ []) other)
+bound_added [] name x other = refl
+bound_added (p ∷ ps) name x other =
+    elim (bytes_eq other p.0) as (λ b. cond b (Some p.1) (listed (ps ++ (name, x) ∷ []) other) ≡ first_of (cond b (Some p.1) (listed ps other)) (listed ((name, x) ∷ []) other)) [
+      | true ↦ refl
+      | false ↦ bound_added ps name x other
+    ]
+
+-- ---- Frames
+
+-- the term of a name by the first of the frames that has it
+abbrev pub innermost : List ℕ → List (List (List ℕ × Typed)) → Option Typed
+innermost name [] = None
+innermost name (frame ∷ frames) = first_of (bound_in frame name) (innermost name frames)
+
+first_grouped : (a b c : Option Typed) → first_of (first_of a b) c ≡ first_of a (first_of b c)
+first_grouped None b c = refl
+first_grouped (Some x) b c = refl
+
+innermost-push : (name : List ℕ) (frames : List (List (List ℕ × Typed))) (frame : List (List ℕ × Typed))
+    → innermost name (frames ++ frame ∷ []) ≡ first_of (innermost name frames) (bound_in frame name)
+innermost-push name [] frame = first_none (bound_in frame name)
+innermost-push name (f ∷ fs) frame =
+    ap (first_of (bound_in f name)) (innermost-push name fs frame) ∙ sym (first_grouped (bound_in f name) (innermost name fs) (bound_in frame name))
+
+-- the frames from the last one on
+pub bound-reverse : (frames : List (List (List ℕ × Typed))) (name : List ℕ) → bound_by frames name ≡ innermost name (reverse frames)
+bound-reverse [] name = refl
+bound-reverse (frame ∷ frames) name =
+    ap (λ o. first_of o (bound_in frame name)) (bound-reverse frames name) ∙ sym (innermost-push name (reverse frames) frame)
+    ∙ ap (innermost name) (sym (reverse-append (frame ∷ []) frames))
+
+-- ---- What a look-up answers
+
+pub found_listed : {A : Type 0} (o : Option (Bor A)) (ps : List (List ℕ × A)) (name : List ℕ) → option_copied o ≡ listed ps name → IfSome o (λ n. listed ps name ≡ Some n.now)
+found_listed None ps name e = tt
+found_listed (Some n) ps name e = sym e
+
+pub none_listed : {A : Type 0} (o : Option (Bor A)) (ps : List (List ℕ × A)) (name : List ℕ) → option_copied o ≡ listed ps name → IfNone o (listed ps name ≡ None)
+none_listed None ps name e = sym e
+none_listed (Some n) ps name e = tt
+
+-- where the look-up finds a name, it is bound already
+pub bound_there : (o : Option (Bor Typed)) (ps : List (List ℕ × Typed)) (name : List ℕ) (x : Typed) → option_copied o ≡ listed ps name → is_some o ≡ true
+    → (other : List ℕ) → bound_in ps other ≡ first_of (bound_in ps other) (bound_in ((name, x) ∷ []) other)
+bound_there None ps name x e there = absurd (false≢true there)
+bound_there (Some y) ps name x e there = bound_kept ps name x y.now (sym e)
+
+pub not_there : {A : Type 0} (o : Option (Bor A)) (ps : List (List ℕ × A)) (name : List ℕ) → option_copied o ≡ listed ps name → is_some o ≡ false → listed ps name ≡ None
+not_there None ps name e there = sym e
+not_there (Some y) ps name e there = absurd (true≢false there)

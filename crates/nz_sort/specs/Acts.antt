@@ -1,25 +1,49 @@
 -- What the acts of the code ask, and the errors that its refusals are.
-use Rattle.std.specs.Prelude.{ℕ, Option, Some, None}
-use Rattle.nz_sort.specs.Live.{Ask, changed, check, show_model, show_reason, leave, unsupported}
-use Rattle.nz_sort.specs.declared.live.Act.{Act}
-use Rattle.nz_sort.specs.declared.live.Act.TheVariants.{Changed, Check, ShowModel, ShowReason, Leave, Unsupported}
+use Rattle.std.specs.Prelude.{◌≡◌, ℕ, Option, Some, None}
+use Rattle.nz_spec.specs.Script as script
+use Rattle.nz_spec.specs.Script.{name_info, version_info, authors_info, error_behavior_info}
+use Rattle.nz_sort.specs.Live.{Ask, changed, check, show_model, show_values, show_reason, show_info, show_levels, print_success, nothing, echo, leave, unsupported}
+use Rattle.nz_sort.specs.declared.commands.Act.{Act}
+use Rattle.nz_sort.specs.declared.commands.Act.TheVariants.{Changed, Check, ShowModel, ShowValues, ShowReason, ShowInfo, ShowLevels, PrintSuccess, Nothing, Echo, Leave, Unsupported}
+use Rattle.nz_sort.specs.declared.commands.Info.{Info}
+use Rattle.nz_sort.specs.declared.commands.Info.TheVariants.{Name, Version, Authors, ErrorBehavior}
 use Rattle.nz_sort.specs.declared.refusal.Refusal.{Refusal}
-use Rattle.nz_sort.specs.declared.refusal.Refusal.TheVariants.{Syntax, UnknownSymbol, Sort, TooWide, Limit, Declared, Memory}
+use Rattle.nz_sort.specs.declared.refusal.Refusal.TheVariants as refusals
+use Rattle.nz_sort.specs.declared.typed.ElaborateError as elaborate
+use Rattle.nz_sort.specs.declared.typed.ElaborateError.TheVariants as elaborates
+
+abbrev pub info_meaning : Info → script.Info
+info_meaning Name = name_info
+info_meaning Version = version_info
+info_meaning Authors = authors_info
+info_meaning ErrorBehavior = error_behavior_info
 
 abbrev pub asked : Act → Ask
 asked Changed = changed
 asked Check = check
 asked ShowModel = show_model
+asked (ShowValues v) = show_values v.items
 asked ShowReason = show_reason
+asked (ShowInfo i) = show_info (info_meaning i)
+asked ShowLevels = show_levels
+asked (PrintSuccess b) = print_success b
+asked Nothing = nothing
+asked Echo = echo
 asked Leave = leave
 asked Unsupported = unsupported
 
 -- the number of the error that a refusal is; want of memory is no rule's
 abbrev pub error_of : Refusal → Option ℕ
-error_of Syntax = Some 1
-error_of UnknownSymbol = Some 2
-error_of Sort = Some 3
-error_of TooWide = Some 5
-error_of Limit = Some 6
-error_of Declared = Some 9
-error_of Memory = None
+error_of refusals.Syntax = Some 1
+error_of refusals.UnknownSymbol = Some 2
+error_of refusals.Sort = Some 3
+error_of refusals.NotLinear = Some 4
+error_of refusals.TooWide = Some 5
+error_of refusals.Limit = Some 6
+error_of refusals.Declared = Some 9
+error_of refusals.Memory = None
+
+-- the refusal of a command whose term isn't elaborated
+abbrev pub refusal_by : elaborate.ElaborateError → Refusal
+refusal_by elaborates.Sort = refusals.Sort
+refusal_by elaborates.Memory = refusals.Memory

@@ -1,77 +1,112 @@
--- How the code takes a command apart.
-use Rattle.std.specs.Prelude.{◌≡◌, ℕ, ◌||◌, not, Bool, true, false, List, [], ◌∷◌, ◌++◌, length, Some, None, is_some, codes, bytes_eq, slice_get, ◌⊎◌, if◌then◌else◌}
-use Rattle.nz_spec.specs.Tree.{Token, symbol_name, Tree, leaf, node}
-use Rattle.nz_spec.specs.Term.{bool_sort, Constant, constant, apply, no_terms}
+-- How the code takes a command apart, and what it adds.
+use Rattle.std.specs.Prelude.{◌≡◌, ℕ, ◌||◌, ◌+◌, ◌<◌, not, Bool, true, false, List, [], ◌∷◌, ◌++◌, length, map, Option, Some, None, option_and_then, slice_get, ◌⊎◌, ⊤, if◌then◌else◌}
+use Rattle.nz_spec.specs.Tree.{Token, symbol_name, Tree, leaf, node, Trees}
+use Rattle.nz_spec.specs.Term.{Sort, is_bool, Constant, constant, Term, Terms, apply, no_terms, holds_number}
+use Rattle.nz_spec.specs.Normal.{normal_of}
 use Rattle.nz_spec.specs.Table.{Node, term_in}
-use Rattle.nz_spec.specs.Form.{is_one_of, is_name, is_symbol}
-use Rattle.nz_spec.specs.Script.{operators, number_operators, Outcome, accepted, refused, declare_const}
-use Rattle.nz_sort.specs.Names.{number_named}
-use Rattle.nz_sort.specs.Elaborate.{Elaborates}
-use Rattle.nz_sort.specs.Live.{Standing}
+use Rattle.nz_spec.specs.Linear.{is_linear}
+use Rattle.nz_spec.specs.Form.{CommandName, is_name, is_empty}
+use Rattle.nz_spec.specs.Elaboration.{Definition as SpecDefinition, Scope, RootFits, placed, term_of, terms_of}
+use Rattle.nz_spec.specs.Script.{State, Command, declare_const, Outcome, accepted, refused, outcome_by, any_tree, is_unknown_sort, sort_of_tree, parameter_sorts, bound_names, clash, has_unknown, has_clash, body_scope, scope_of}
+use Rattle.nz_spec.specs.Reply.{Reply, effect}
+use Rattle.nz_term.specs.Constants.{sort_of}
+use Rattle.nz_sort.specs.declared.typed.Typed.{Typed}
+use Rattle.nz_sort.specs.declared.names.Definition.{Definition}
+use Rattle.nz_sort.specs.declared.names.Named.{Named}
+use Rattle.nz_sort.specs.declared.names.Named.TheVariants as kinds
+use Rattle.nz_sort.specs.Live.{Standing, IsLive, Ask, Asks}
 
--- ---- Names in scope, where these names stand
-
--- a listed name, or an operator
-abbrev pub is_listed : List (List ℕ × ℕ) → List ℕ → Bool
-is_listed names name = is_one_of operators name || is_some (number_named names name)
-
--- a symbol that is neither
-abbrev pub is_unlisted : List (List ℕ × ℕ) → Token → Bool
-is_unlisted names t = elim (symbol_name t) [ Some name ↦ not (is_listed names name) | None ↦ false ]
-
--- the constant of a name
-abbrev pub bool_constant : List ℕ → Constant
-bool_constant name = record { name = name; sort = bool_sort }
-
--- what becomes of a declaration by this name, of this sort
-abbrev pub declaration_by : List (List ℕ × ℕ) → List ℕ → Tree → Outcome
-declaration_by names name (leaf sort) =
-    if not (is_symbol (codes "Bool") sort) then refused 2
-    else (if is_listed names name then refused 9
-    else accepted (declare_const (bool_constant name)))
-declaration_by names name (node ts) = if is_listed names name then refused 9 else refused 3
-
--- ---- Symbols
+-- ---- Names
 
 -- the token may be a name, and is this one
 pub record IsNamed (t : Token) (word : List ℕ) : Type 0 where
   pub free : is_name t ≡ true
   pub name : symbol_name t ≡ Some word
 
--- a symbol that only terms over numbers have, or `let`
-abbrev pub is_number_symbol : Token → Bool
-is_number_symbol t = elim (symbol_name t) [ Some name ↦ is_one_of number_operators name || bytes_eq name (codes "let") | None ↦ false ]
+-- a tree that is a list
+abbrev pub IsList : Tree → Type 0
+IsList (leaf t) = ⊥
+IsList (node ts) = ⊤
+
+-- ---- Commands that leave what stands
+
+-- The command of these arguments is accepted, asks this, and leaves the live items.
+pub record AsksOnly (name : CommandName) (arguments : Trees) (ask : Ask) : Type 0 where
+  pub command : Command
+  pub is : (s : State) → outcome_by s name arguments ≡ accepted command
+  pub asks : (ns : List Node) → Asks ns ask arguments command
+  pub keeps : (s : State) (reply : Reply) → (effect s command reply).levels ≡ s.levels
+
+-- ---- Symbols
+
+-- the error of a term whose symbols aren't all in scope, and then of names that clash
+abbrev pub fault_error : Bool → Bool → Option ℕ
+fault_error true clashes = Some 2
+fault_error false true = Some 9
+fault_error false false = None
+
+-- ---- Declarations
+
+-- what becomes of a declaration by this name, of these arguments and this sort, where the name is live or an operator's, or not
+abbrev pub declaration_where : Bool → List ℕ → Trees → Tree → Outcome
+declaration_where is_live name arguments sort =
+    if any_tree is_unknown_sort arguments || is_unknown_sort sort then refused 2
+    else (if is_live then refused 9
+    else (if not (is_empty arguments) then refused 3
+    else elim (sort_of_tree sort) [ Some is ↦ accepted (declare_const (record { name = name; sort = is })) | None ↦ refused 3 ]))
+
+-- the constant of a name and a sort
+abbrev pub constant_of : List ℕ → Sort → Constant
+constant_of name sort = record { name = name; sort = sort }
+
+-- ---- Definitions
+
+-- a symbol or a sort of the definition isn't in scope
+abbrev pub is_unknown_in : (List ℕ → Bool) → Trees → Tree → Tree → Bool
+is_unknown_in is_live parameters sort body =
+    any_tree is_unknown_sort (parameter_sorts parameters) || is_unknown_sort sort || has_unknown is_live (bound_names parameters) body
+
+-- the term of the body, where one of this sort is wanted
+abbrev pub body_of : State → Trees → List Sort → Sort → Tree → Option Term
+body_of s parameters sorts sort body = option_and_then (placed sort) (term_of (body_scope s (bound_names parameters) sorts) body)
 
 -- ---- What is added
 
--- what stands with a constant more, of this number in the table
-abbrev pub with_constant : Standing → List ℕ → ℕ → Standing
-with_constant before name id =
+-- what stands with a constant more
+abbrev pub with_constant : Standing → List ℕ → Typed → Standing
+with_constant before name term =
     record before {
-      names = before.names ++ (name, id) ∷ [];
-      constants = before.constants ++ record { number = length before.accepted; term = id } ∷ [];
-      accepted = before.accepted ++ id ∷ [];
+      names = before.names ++ (name, kinds.Constant term) ∷ [];
+      constants = before.constants ++ record { number = before.count; term = term.id } ∷ [];
+      accepted = before.accepted ++ term.id ∷ [];
+      count = before.count + 1;
+      holds_numbers = before.holds_numbers || not (is_bool (sort_of term.sort));
+    }
+
+-- what stands with a definition more
+abbrev pub with_definition : Standing → List ℕ → Definition → Standing
+with_definition before name definition =
+    record before {
+      names = before.names ++ (name, kinds.Definition definition) ∷ [];
+      count = before.count + 1;
     }
 
 -- what stands with an assertion more
-abbrev pub with_assertion : Standing → ℕ → Standing
-with_assertion before id =
+abbrev pub with_assertion : Standing → ℕ → Bool → Standing
+with_assertion before id holds =
     record before {
-      assertions = before.assertions ++ record { number = length before.accepted; term = id } ∷ [];
+      assertions = before.assertions ++ record { number = before.count; term = id } ∷ [];
       asserted = before.asserted ++ id ∷ [];
       accepted = before.accepted ++ id ∷ [];
+      count = before.count + 1;
+      holds_numbers = before.holds_numbers || holds;
     }
 
 -- The table and what stands have this constant more.
-pub record HasAdded (c : Constant) (old new : List Node) (before after : Standing) : Type 0 where
-  pub id : ℕ
-  pub stands : after ≡ with_constant before c.name id
-  pub node : slice_get new id ≡ Some (record { head = constant c; kids = [] })
-  pub grown : (new ≡ old) ⊎ (new ≡ old ++ record { head = constant c; kids = [] } ∷ [])
-  pub term : term_in new id ≡ apply (constant c) no_terms
-
--- What stands has the assertion of the term of this tree more.
-pub record HasAsserted (cs : List Constant) (tree : Tree) (ns : List Node) (before after : Standing) : Type 0 where
-  pub id : ℕ
-  pub stands : after ≡ with_assertion before id
-  pub term : Elaborates cs tree ns id
+pub record HasAdded (name : List ℕ) (sort : Sort) (old new : List Node) (before after : Standing) : Type 0 where
+  pub added : Typed
+  pub stands : after ≡ with_constant before name added
+  pub sorted : sort_of added.sort ≡ sort
+  pub node : slice_get new added.id ≡ Some (record { head = constant (constant_of name sort); kids = [] })
+  pub grown : (new ≡ old) ⊎ (new ≡ old ++ record { head = constant (constant_of name sort); kids = [] } ∷ [])
+  pub term : term_in new added.id ≡ apply (constant (constant_of name sort)) no_terms

@@ -1,67 +1,47 @@
 -- What elaboration makes of trees: terms in the table.
-use Rattle.std.specs.Prelude.{◌≡◌, ℕ, ◌<◌, ◌+◌, suc, List, [], ◌∷◌, ◌++◌, length, All, Option, Some, None, ⊤}
-use Rattle.std.specs.List.{AllByRecursion}
-use Rattle.nz_spec.specs.Tree.{symbol_name, Tree, leaf, node, Trees, no_trees, trees}
-use Rattle.nz_spec.specs.Reading.{trees_from}
-use Rattle.nz_spec.specs.Term.{Constant, Head, constant, verum, falsum, negation, conjunction, disjunction, implication, exclusion, equality, distinction, choice, Term, Terms, terms, normal_of, normals_of}
+use Rattle.std.specs.Prelude.{◌≡◌, ℕ, ◌<◌, ◌+◌, suc, List, [], ◌∷◌, length, All, Option, Some, None, option_and_then, ⊤}
+use Rattle.nz_spec.specs.Tree.{Tree, leaf, node, Trees, no_trees, trees}
+use Rattle.nz_spec.specs.Term.{Sort, Term, Terms}
+use Rattle.nz_spec.specs.Normal.{normals_of}
 use Rattle.nz_spec.specs.Table.{Node, term_in, terms_at}
-use Rattle.nz_spec.specs.Script.{term_of, terms_of}
+use Rattle.nz_spec.specs.Elaboration.{Scope, terms_of, application, bindings_of, all_placed, listed}
+use Rattle.nz_sort.specs.declared.typed.Typed.{Typed}
+use Rattle.nz_sort.specs.Typed.{IsTyped, AreTyped}
+use Rattle.nz_sort.specs.Names.{bound_in, SameTerm}
 
--- the name of a tree that is a symbol
-abbrev pub name_of : Tree → Option (List ℕ)
-name_of (leaf t) = symbol_name t
-name_of (node ts) = None
-
--- the head is an operator, and no constant
-abbrev pub IsOperator : Head → Type 0
-IsOperator (constant c) = ⊥
-IsOperator verum = ⊤
-IsOperator falsum = ⊤
-IsOperator negation = ⊤
-IsOperator conjunction = ⊤
-IsOperator disjunction = ⊤
-IsOperator implication = ⊤
-IsOperator exclusion = ⊤
-IsOperator equality = ⊤
-IsOperator distinction = ⊤
-IsOperator choice = ⊤
-
--- The table has grown by nodes of operators.
-pub record Grows (old new : List Node) : Type 0 where
-  pub more : List Node
-  pub all : new ≡ old ++ more
-  pub operators : AllByRecursion (λ (n : Node). IsOperator n.head) more
-
--- the terms of these numbers, and then others
-abbrev pub terms_before : (ℕ → Term) → List ℕ → Terms → Terms
-terms_before term_at [] others = others
-terms_before term_at (i ∷ is) others = terms (term_at i) (terms_before term_at is others)
-
--- The number is that of this term.
-pub record StandsFor (ns : List Node) (id : ℕ) (t : Term) : Type 0 where
-  pub within : id < length ns
-  pub term : term_in ns id ≡ t
-
--- The tree has a term, where these constants are live, and the number is that of its normal term.
-pub record Elaborates (cs : List Constant) (tree : Tree) (ns : List Node) (id : ℕ) : Type 0 where
+-- There is a term, and this is its normal one, with its sort.
+pub record StandsAs (o : Option Term) (ns : List Node) (x : Typed) : Type 0 where
   pub term : Term
-  pub stands : term_of cs tree ≡ Some term
-  pub within : id < length ns
-  pub normal : term_in ns id ≡ normal_of term
+  pub is : o ≡ Some term
+  pub typed : IsTyped ns x term
 
--- the trees, one for one
-abbrev pub EachElaborates : List Constant → List Node → List Tree → List ℕ → Type 0
-EachElaborates cs ns [] [] = ⊤
-EachElaborates cs ns (t ∷ ts) (i ∷ is) = Elaborates cs t ns i × EachElaborates cs ns ts is
-EachElaborates cs ns [] (i ∷ is) = ⊥
-EachElaborates cs ns (t ∷ ts) [] = ⊥
+-- There are terms, and these are theirs, one for one.
+pub record StandAs (o : Option Terms) (ns : List Node) (xs : List Typed) : Type 0 where
+  pub terms : Terms
+  pub are : o ≡ Some terms
+  pub typed : AreTyped ns xs terms
 
--- The trees have terms, and the numbers are those of their normal terms.
-pub record ElaboratesAll (cs : List Constant) (ts : List Tree) (ns : List Node) (ids : List ℕ) : Type 0 where
-  pub arguments : Terms
-  pub stands : terms_of cs (trees_from ts) ≡ Some arguments
+-- There are terms where these sorts are wanted, and these are the numbers of their normal ones.
+pub record Places (ss : List Sort) (ts : Terms) (ns : List Node) (ids : List ℕ) : Type 0 where
+  pub terms : Terms
+  pub are : all_placed ss ts ≡ Some terms
   pub within : All (λ i. i < length ns) ids
-  pub normal : terms_at (term_in ns) ids ≡ normals_of arguments
+  pub normal : terms_at (term_in ns) ids ≡ normals_of terms
+
+-- There are bindings, and the frame gives each name the term that they give it.
+pub record Binds (sc : Scope) (bs : Trees) (ns : List Node) (frame : List (List ℕ × Typed)) : Type 0 where
+  pub pairs : List (List ℕ × Term)
+  pub are : bindings_of sc bs ≡ Some pairs
+  pub same : (name : List ℕ) → SameTerm ns (bound_in frame name) (listed pairs name)
+
+-- a tree that is a token
+abbrev pub IsWord : Tree → Type 0
+IsWord (leaf t) = ⊤
+IsWord (node ts) = ⊥
+
+-- a name over the terms of these trees
+abbrev pub application_of : Scope → List ℕ → Trees → Option Term
+application_of sc name ts = option_and_then (application sc name) (terms_of sc ts)
 
 -- ---- A measure
 

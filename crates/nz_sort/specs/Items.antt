@@ -1,6 +1,7 @@
 -- The live items, as the code keeps them: by their numbers in the order of acceptance and in the table of terms.
 use Rattle.std.specs.Prelude.{◌≡◌, ℕ, ◌<◌, List, length, map, All}
-use Rattle.nz_spec.specs.Term.{Constant, constant, Term, apply, no_terms, normal_of}
+use Rattle.nz_spec.specs.Term.{Constant, constant, Term, apply, no_terms}
+use Rattle.nz_spec.specs.Normal.{normal_of}
 use Rattle.nz_spec.specs.Table.{Node, term_in}
 use Rattle.nz_spec.specs.Script as script
 use Rattle.nz_sort.specs.declared.items.Accepted.{Accepted}

@@ -1,190 +1,389 @@
-//! Elaboration: the term of a tree, made in the table.
-ghost use Rattle.std.specs.Prelude.{◌≡◌, ◌<◌, ℕ, List, [], ◌∷◌, length, map, All, None, Some, IfOk, IfSome, OnSome, IfNone, IsErrOf, OnOk, true, false};
-ghost use Rattle.nz_sexpr.specs.View.{view};
-ghost use Rattle.nz_spec.specs.Tree.{leaf, node, symbol};
-ghost use Rattle.nz_spec.specs.Reading.{trees_from};
-ghost use Rattle.nz_spec.specs.Term.{Constant, normal_node};
-ghost use Rattle.nz_spec.specs.Table.{term_in, terms_at};
-ghost use Rattle.nz_spec.specs.Script.{term_of, terms_of, takes as may_take};
-ghost use Rattle.nz_sort.specs.Names.{AreNamesOf};
-ghost use Rattle.nz_sort.specs.Elaborate.{Grows, StandsFor, Elaborates, ElaboratesAll, name_of};
-ghost use Rattle.nz_sort.specs.Operators.{operator_head, Splits};
+//! Elaboration: the normal term of a tree, made in the table.
+ghost use Rattle.std.specs.Prelude.{◌≡◌, ℕ, ◌≤◌, ◌<◌, ◌⊎◌, All, List, ◌++◌, length, map, Option, None, IfOk, OnOk, IfSome, IfNone, IsErrOf};
+ghost use Rattle.nz_sexpr.specs.View.{token_view, view};
+ghost use Rattle.nz_spec.specs.Tree.{leaf, node, trees, no_trees, symbol, after_point};
+ghost use Rattle.nz_spec.specs.Bounds.{digits_value, decimal_digits, greatest_number, place_limit};
+ghost use Rattle.nz_spec.specs.Term as spec;
+ghost use Rattle.nz_spec.specs.Term.{integer, decimal_number};
+ghost use Rattle.nz_spec.specs.Table.{Node};
+ghost use Rattle.nz_spec.specs.Elaboration.{Definition as SpecDefinition, Scope, RootFits, term_of, terms_of, token_term as spec_token_term, name_term as spec_name_term, application as spec_application, let_term as spec_let_term, bindings_of, binding_onto, expansion, placed, all_placed, fitting};
+ghost use Rattle.nz_term.specs.Constants.{sort_of};
+ghost use Rattle.nz_sort.specs.Form.{seen};
+ghost use Rattle.nz_sort.specs.Names.{IsScope, IsDefined};
+ghost use Rattle.nz_sort.specs.Typed.{Grows, IsTyped, AreTyped};
+ghost use Rattle.nz_sort.specs.Elaborate.{StandsAs, StandAs, Binds, IsWord, Places, application_of};
 
-use crate::names::Names;
-use crate::normal::normal_term;
-use crate::operators::{Operator, operator_of, takes};
-use nz_base::{Memory, Text};
-use nz_sexpr::Tree;
-use nz_term::{Head, TermId, Terms};
-use std::alloc::{AllocError, AllocFailed, Global};
+use crate::apply::{apply, as_real};
+use crate::form::term::{TermHead, term_head};
+use crate::form::{headed, pair, symbol_of};
+use crate::names::{Bindings, Definition, Named, Names, bound_term};
+use crate::normal::make;
+use crate::operators::operator_of;
+use crate::tokens::{PLACE_LIMIT, around_point, value_onto};
+use crate::typed::{ElaborateError, Typed};
+use nz_base::Text;
+use nz_sexpr::{Token, Tree};
+use nz_spec::elaboration::expansions_keep_sort;
+use nz_spec::table::{term_stays, terms_stay};
+use nz_spec::term::instance_keeps_normal;
+use nz_term::{Head, Sort, TermId, Terms, instance};
+use std::alloc::Global;
 
-/// Why a tree isn't elaborated.
-#[derive(Clone, Copy, Debug, PartialEq, Eq)]
-pub enum ElaborateError {
-    /// It has no term.
-    Sort,
-    /// There was no memory for it.
-    Memory,
-}
-
-impl From<Memory> for ElaborateError {
-    ghost use Rattle.nz_sort.specs.declared.elaboration.ElaborateError.TheVariants as errors;
-
-    ghost from_gives = { λ _ r. r ≡ errors.Memory };
-
-    fn from(_memory: Memory) -> ElaborateError {
-        ElaborateError::Memory
-    }
-}
-
-impl From<AllocError> for ElaborateError {
-    ghost use Rattle.nz_sort.specs.declared.elaboration.ElaborateError.TheVariants as errors;
-
-    ghost from_gives = { λ _ r. r ≡ errors.Memory };
-
-    fn from(_error: AllocError) -> ElaborateError {
-        ElaborateError::Memory
-    }
-}
-
-impl<T: Drop> From<AllocFailed<T>> for ElaborateError {
-    ghost use Rattle.nz_sort.specs.declared.elaboration.ElaborateError.TheVariants as errors;
-
-    ghost from_gives = { λ _ r. r ≡ errors.Memory };
-
-    fn from(_error: AllocFailed<T>) -> ElaborateError {
-        ElaborateError::Memory
-    }
-}
-
-/// The number of the term that a symbol alone stands for: a truth value or a live constant.
-fn atom(names: &Names, terms: &mut Terms, name: &Text) -> Result<TermId, ElaborateError>
-    ensures grows { Grows terms.old terms.new }
-    ensures found { IfOk result (λ id. (cs : List Constant) → AreNamesOf terms.old names.now cs → Elaborates cs (leaf (symbol name.now)) terms.new id) }
-    ensures refused { IsErrOf result ElaborateError.Sort → (cs : List Constant) → AreNamesOf terms.old names.now cs → term_of cs (leaf (symbol name.now)) ≡ None }
-{
-    if name.as_bytes() == b"true".as_slice() {
-        return Ok(terms.make(Head::True, &[])?);
-    }
-    if name.as_bytes() == b"false".as_slice() {
-        return Ok(terms.make(Head::False, &[])?);
-    }
-    names.get(name).ok_or(ElaborateError::Sort)
-}
-
-/// The name of a tree that is a symbol.
-pub(crate) fn symbol_of(tree: &Tree) -> Option<&Text>
-    ensures name { IfSome result (λ name. view tree.now ≡ leaf (symbol name.now)) }
-    ensures none { IfNone result (name_of (view tree.now) ≡ None) }
-{
-    match tree {
-        Tree::Word(token) => token.as_symbol(),
-        Tree::List(_) => None,
-    }
-}
-
-/// The trees of an operation: its operator, and its arguments.
-#[tactic(auto, using(crate::proofs::Nameless::nameless_term))]
-fn split(trees: &[Tree]) -> Option<(Operator, &[Tree])>
-    ensures operation { IfSome result (λ p. Splits (map view trees.now) p.0 (map view p.1.now)) }
-    ensures none { IfNone result ((cs : List Constant) → term_of cs (node (trees_from (map view trees.now))) ≡ None) }
-{
-    let (first, arguments) = trees.split_first()?;
-    let name = symbol_of(first)?;
-    let operator = operator_of(name.as_bytes())?;
-    Some((operator, arguments))
-}
-
-/// The number of the normal term of a tree, made in the table where it isn't there.
+/// The normal term of a tree, where these names are in scope.
 ///
 /// # Errors
 ///
 /// `Sort` exactly where the tree has no term. After an error the table may have grown: cut it back.
 #[cycle(elaborate)]
-pub fn elaborate(
+pub(crate) fn elaborate(
     alloc: Global,
     names: &Names,
+    frames: &mut Vec<Bindings>,
     terms: &mut Terms,
     tree: &Tree,
-) -> Result<TermId, ElaborateError>
+) -> Result<Typed, ElaborateError>
     ensures grows { Grows terms.old terms.new }
-    ensures found { IfOk result (λ id. (cs : List Constant) → AreNamesOf terms.old names.now cs → Elaborates cs (view tree.now) terms.new id) }
-    ensures refused { IsErrOf result ElaborateError.Sort → (cs : List Constant) → AreNamesOf terms.old names.now cs → term_of cs (view tree.now) ≡ None }
+    ensures frames { OnOk result (frames.new.items ≡ frames.old.items) }
+    ensures found { IfOk result (λ x. (sc : Scope) → IsScope terms.old names.now frames.old.items sc → StandsAs (term_of sc (view tree.now)) terms.new x) }
+    ensures refused { IsErrOf result ElaborateError.Sort → (sc : Scope) → IsScope terms.old names.now frames.old.items sc → term_of sc (view tree.now) ≡ None }
 {
     match tree {
-        Tree::Word(token) => match token.as_symbol() {
-            Some(name) => atom(names, terms, name),
-            None => Err(ElaborateError::Sort),
-        },
-        Tree::List(list) => operation(alloc, names, terms, list.as_slice()),
+        Tree::Word(token) => token_term(alloc, names, frames, terms, token),
+        Tree::List(list) => list_term(alloc, names, frames, terms, list.as_slice()),
     }
 }
 
-/// The number of the normal term of a list of trees.
+/// The term of a list of trees: a `let`, or a name over arguments.
 #[cycle(elaborate)]
-fn operation(
+fn list_term(
     alloc: Global,
     names: &Names,
+    frames: &mut Vec<Bindings>,
     terms: &mut Terms,
     trees: &[Tree],
-) -> Result<TermId, ElaborateError>
+) -> Result<Typed, ElaborateError>
     ensures grows { Grows terms.old terms.new }
-    ensures found { IfOk result (λ id. (cs : List Constant) → AreNamesOf terms.old names.now cs → Elaborates cs (node (trees_from (map view trees.now))) terms.new id) }
-    ensures refused { IsErrOf result ElaborateError.Sort → (cs : List Constant) → AreNamesOf terms.old names.now cs → term_of cs (node (trees_from (map view trees.now))) ≡ None }
+    ensures frames { OnOk result (frames.new.items ≡ frames.old.items) }
+    ensures found { IfOk result (λ x. (sc : Scope) → IsScope terms.old names.now frames.old.items sc → StandsAs (term_of sc (node (seen trees.now))) terms.new x) }
+    ensures refused { IsErrOf result ElaborateError.Sort → (sc : Scope) → IsScope terms.old names.now frames.old.items sc → term_of sc (node (seen trees.now)) ≡ None }
 {
-    let Some((operator, arguments)) = split(trees) else {
+    let Some((head, arguments)) = headed(trees) else {
         return Err(ElaborateError::Sort);
     };
-    match elaborate_all(alloc, names, terms, arguments) {
-        Err(error) => Err(error),
-        Ok(kids) => apply(alloc, terms, operator, kids.as_slice()),
+    match term_head(head) {
+        TermHead::Let => let_term(alloc, names, frames, terms, arguments),
+        TermHead::Name => match head.as_symbol() {
+            Some(name) => application(alloc, names, frames, terms, name, arguments),
+            None => Err(ElaborateError::Sort),
+        },
+        TermHead::Other => Err(ElaborateError::Sort),
     }
 }
 
-/// The operator over its arguments, where it takes so many.
-fn apply(
-    alloc: Global,
-    terms: &mut Terms,
-    operator: Operator,
-    kids: &[TermId],
-) -> Result<TermId, ElaborateError>
-    requires within { All (λ k. k < length terms.old) kids.now }
-    ensures grows { Grows terms.old terms.new }
-    ensures taken { OnOk result (may_take (operator_head operator) (length kids.now) ≡ true) }
-    ensures made { IfOk result (λ id. StandsFor terms.new id (normal_node (operator_head operator) (terms_at (term_in terms.old) kids.now))) }
-    ensures refused { IsErrOf result ElaborateError.Sort → may_take (operator_head operator) (length kids.now) ≡ false }
-{
-    if !takes(operator, kids.len()) {
-        return Err(ElaborateError::Sort);
-    }
-    Ok(normal_term(alloc, terms, operator, kids)?)
-}
-
-/// The numbers of the normal terms of the trees, in order.
+/// The terms of the trees, in order.
 #[cycle(elaborate)]
-fn elaborate_all(
+pub(crate) fn elaborate_all(
     alloc: Global,
     names: &Names,
+    frames: &mut Vec<Bindings>,
     terms: &mut Terms,
     trees: &[Tree],
+) -> Result<Vec<Typed>, ElaborateError>
+    ensures grows { Grows terms.old terms.new }
+    ensures frames { OnOk result (frames.new.items ≡ frames.old.items) }
+    ensures found { IfOk result (λ xs. (sc : Scope) → IsScope terms.old names.now frames.old.items sc → StandAs (terms_of sc (seen trees.now)) terms.new xs.items) }
+    ensures refused { IsErrOf result ElaborateError.Sort → (sc : Scope) → IsScope terms.old names.now frames.old.items sc → terms_of sc (seen trees.now) ≡ None }
+{
+    term_stays();
+    let mut found = Vec::with_capacity(alloc, trees.len())?;
+    for tree in trees {
+        let term = elaborate(alloc, names, frames, terms, tree)?;
+        found.push(term)?;
+    }
+    Ok(found)
+}
+
+/// A name over the terms of these trees.
+#[cycle(elaborate)]
+fn application(
+    alloc: Global,
+    names: &Names,
+    frames: &mut Vec<Bindings>,
+    terms: &mut Terms,
+    name: &Text,
+    trees: &[Tree],
+) -> Result<Typed, ElaborateError>
+    ensures grows { Grows terms.old terms.new }
+    ensures frames { OnOk result (frames.new.items ≡ frames.old.items) }
+    ensures found { IfOk result (λ x. (sc : Scope) → IsScope terms.old names.now frames.old.items sc → StandsAs (application_of sc name.now (seen trees.now)) terms.new x) }
+    ensures refused { IsErrOf result ElaborateError.Sort → (sc : Scope) → IsScope terms.old names.now frames.old.items sc → application_of sc name.now (seen trees.now) ≡ None }
+{
+    term_stays();
+    let arguments = elaborate_all(alloc, names, frames, terms, trees)?;
+    apply_name(alloc, names, frames, terms, name, arguments.as_slice())
+}
+
+/// A name over these arguments: an operator, or a definition. No bound name and no constant takes any.
+fn apply_name(
+    alloc: Global,
+    names: &Names,
+    frames: &Vec<Bindings>,
+    terms: &mut Terms,
+    name: &Text,
+    arguments: &[Typed],
+) -> Result<Typed, ElaborateError>
+    ensures grows { Grows terms.old terms.new }
+    ensures found { IfOk result (λ x. (sc : Scope) → IsScope terms.old names.now frames.now.items sc → (ts : spec.Terms) → AreTyped terms.old arguments.now ts → StandsAs (spec_application sc name.now ts) terms.new x) }
+    ensures refused { IsErrOf result ElaborateError.Sort → (sc : Scope) → IsScope terms.old names.now frames.now.items sc → (ts : spec.Terms) → AreTyped terms.old arguments.now ts → spec_application sc name.now ts ≡ None }
+{
+    if bound_term(frames, name).is_some() {
+        return Err(ElaborateError::Sort);
+    }
+    if let Some(operator) = operator_of(name.as_bytes()) {
+        return apply(alloc, terms, operator, arguments);
+    }
+    match names.get(name) {
+        Some(Named::Definition(definition)) => expand(alloc, terms, definition, arguments),
+        Some(Named::Constant(_)) => Err(ElaborateError::Sort),
+        None => Err(ElaborateError::Sort),
+    }
+}
+
+/// The body of a definition, with the arguments for its parameters.
+fn expand(
+    alloc: Global,
+    terms: &mut Terms,
+    definition: &Definition,
+    arguments: &[Typed],
+) -> Result<Typed, ElaborateError>
+    ensures grows { Grows terms.old terms.new }
+    ensures found { IfOk result (λ x. (d : SpecDefinition) → IsDefined terms.old definition.now d → RootFits d.parameters d.body → (ts : spec.Terms) → AreTyped terms.old arguments.now ts → StandsAs (expansion d ts) terms.new x) }
+    ensures refused { IsErrOf result ElaborateError.Sort → (d : SpecDefinition) → IsDefined terms.old definition.now d → (ts : spec.Terms) → AreTyped terms.old arguments.now ts → expansion d ts ≡ None }
+{
+    term_stays();
+    instance_keeps_normal();
+    expansions_keep_sort();
+
+    // The body of a definition of another table has a number that isn't in this one.
+    if definition.body.id >= terms.len() {
+        return Err(ElaborateError::Sort);
+    }
+    let kids = place_all(alloc, terms, definition.parameters.as_slice(), arguments)?;
+    let id = instance(alloc, terms, definition.body.id, kids.as_slice())?;
+    Ok(Typed {
+        id,
+        sort: definition.body.sort,
+    })
+}
+
+/// The arguments where these sorts are wanted, as many of them.
+fn place_all(
+    alloc: Global,
+    terms: &mut Terms,
+    sorts: &[Sort],
+    arguments: &[Typed],
 ) -> Result<Vec<TermId>, ElaborateError>
     ensures grows { Grows terms.old terms.new }
-    ensures found { IfOk result (λ ids. (cs : List Constant) → AreNamesOf terms.old names.now cs → ElaboratesAll cs (map view trees.now) terms.new ids.items) }
     ensures within { IfOk result (λ ids. All (λ i. i < length terms.new) ids.items) }
-    ensures refused { IsErrOf result ElaborateError.Sort → (cs : List Constant) → AreNamesOf terms.old names.now cs → terms_of cs (trees_from (map view trees.now)) ≡ None }
+    ensures placed { IfOk result (λ ids. (ts : spec.Terms) → AreTyped terms.old arguments.now ts → Places (map sort_of sorts.now) ts terms.new ids.items) }
+    ensures refused { IsErrOf result ElaborateError.Sort → (ts : spec.Terms) → AreTyped terms.old arguments.now ts → all_placed (map sort_of sorts.now) ts ≡ None }
 {
-    let mut ids = Vec::with_capacity(alloc, trees.len())?;
-    for tree in trees {
-        match elaborate(alloc, names, terms, tree) {
-            Err(error) => return Err(error),
-            Ok(id) => {
-                // Names that were made for another table have numbers that aren't in this one.
-                if id >= terms.len() {
-                    return Err(ElaborateError::Sort);
-                }
-                ids.push(id)?;
-            }
+    term_stays();
+    if sorts.len() != arguments.len() {
+        return Err(ElaborateError::Sort);
+    }
+    let mut ids = Vec::with_capacity(alloc, sorts.len())?;
+    for i in 0..sorts.len() {
+        let id = place(terms, sorts[i], arguments[i])?;
+
+        // An argument of another table has a number that isn't in this one.
+        if id >= terms.len() {
+            return Err(ElaborateError::Sort);
         }
+        ids.push(id)?;
     }
     Ok(ids)
+}
+
+/// A term where one of this sort is wanted.
+pub(crate) fn place(terms: &mut Terms, sort: Sort, term: Typed) -> Result<TermId, ElaborateError>
+    ensures grows { Grows terms.old terms.new }
+    ensures placed { IfOk result (λ id. (t : spec.Term) → IsTyped terms.old term t → StandsAs (placed (sort_of sort) t) terms.new (record { id = id; sort = sort })) }
+    ensures refused { IsErrOf result ElaborateError.Sort → (ns : List Node) (t : spec.Term) → IsTyped ns term t → placed (sort_of sort) t ≡ None }
+{
+    if term.sort == sort {
+        return Ok(term.id);
+    }
+    if sort == Sort::Real && term.sort == Sort::Int {
+        return Ok(as_real(terms, term)?);
+    }
+    Err(ElaborateError::Sort)
+}
+
+/// The body of a `let`, under its bindings.
+#[cycle(elaborate)]
+fn let_term(
+    alloc: Global,
+    names: &Names,
+    frames: &mut Vec<Bindings>,
+    terms: &mut Terms,
+    trees: &[Tree],
+) -> Result<Typed, ElaborateError>
+    ensures grows { Grows terms.old terms.new }
+    ensures frames { OnOk result (frames.new.items ≡ frames.old.items) }
+    ensures found { IfOk result (λ x. (sc : Scope) → IsScope terms.old names.now frames.old.items sc → StandsAs (spec_let_term sc (seen trees.now)) terms.new x) }
+    ensures refused { IsErrOf result ElaborateError.Sort → (sc : Scope) → IsScope terms.old names.now frames.old.items sc → spec_let_term sc (seen trees.now) ≡ None }
+{
+    term_stays();
+    let Some((bindings, body)) = pair(trees) else {
+        return Err(ElaborateError::Sort);
+    };
+    let Some(bindings) = trees_of(bindings) else {
+        return Err(ElaborateError::Sort);
+    };
+    let frame = bind_all(alloc, names, frames, terms, bindings)?;
+    frames.push(frame)?;
+    let term = elaborate(alloc, names, frames, terms, body)?;
+    frames.pop();
+    Ok(term)
+}
+
+/// The bindings of a `let`, all read in the scope outside it.
+#[cycle(elaborate)]
+fn bind_all(
+    alloc: Global,
+    names: &Names,
+    frames: &mut Vec<Bindings>,
+    terms: &mut Terms,
+    trees: &[Tree],
+) -> Result<Bindings, ElaborateError>
+    ensures grows { Grows terms.old terms.new }
+    ensures frames { OnOk result (frames.new.items ≡ frames.old.items) }
+    ensures bound { IfOk result (λ frame. (sc : Scope) → IsScope terms.old names.now frames.old.items sc → Binds sc (seen trees.now) terms.new frame) }
+    ensures refused { IsErrOf result ElaborateError.Sort → (sc : Scope) → IsScope terms.old names.now frames.old.items sc → bindings_of sc (seen trees.now) ≡ None }
+{
+    term_stays();
+    let mut frame = Bindings::new(alloc);
+    for tree in trees {
+        let Some((name, value)) = binding(tree) else {
+            return Err(ElaborateError::Sort);
+        };
+        let term = elaborate(alloc, names, frames, terms, value)?;
+        let name = Text::from_slice(alloc, name.as_bytes())?;
+        frame.insert(name, term)?;
+    }
+    Ok(frame)
+}
+
+/// The trees of a tree that is a list.
+fn trees_of(tree: &Tree) -> Option<&[Tree]>
+    ensures trees { IfSome result (λ list. view tree.now ≡ node (seen list.now)) }
+    ensures none { IfNone result (IsWord (view tree.now)) }
+{
+    match tree {
+        Tree::Word(_) => None,
+        Tree::List(list) => Some(list.as_slice()),
+    }
+}
+
+/// The name and the term of a binding.
+fn binding(tree: &Tree) -> Option<(&Text, &Tree)>
+    ensures binding { IfSome result (λ p. view tree.now ≡ node (trees (leaf (symbol p.0.now)) (trees (view p.1.now) no_trees))) }
+    ensures none { IfNone result ((sc : Scope) (ps : Option (List (List ℕ × spec.Term))) → binding_onto sc (view tree.now) ps ≡ None) }
+{
+    let (first, term) = pair(trees_of(tree)?)?;
+    let name = symbol_of(first)?;
+    Some((name, term))
+}
+
+/// The term of a token: of a name, a numeral or a decimal.
+fn token_term(
+    alloc: Global,
+    names: &Names,
+    frames: &Vec<Bindings>,
+    terms: &mut Terms,
+    token: &Token,
+) -> Result<Typed, ElaborateError>
+    ensures grows { Grows terms.old terms.new }
+    ensures found { IfOk result (λ x. (sc : Scope) → IsScope terms.old names.now frames.now.items sc → StandsAs (spec_token_term sc (token_view token.now)) terms.new x) }
+    ensures refused { IsErrOf result ElaborateError.Sort → (sc : Scope) → IsScope terms.old names.now frames.now.items sc → spec_token_term sc (token_view token.now) ≡ None }
+{
+    match token {
+        Token::Symbol(name) => name_term(alloc, names, frames, terms, name),
+        Token::Numeral(digits) => numeral(terms, digits.as_bytes()),
+        Token::Decimal(bytes) => decimal(terms, bytes.as_bytes()),
+        _ => Err(ElaborateError::Sort),
+    }
+}
+
+/// What a name alone stands for: a bound term, a truth value, a constant, or a definition without parameters.
+fn name_term(
+    alloc: Global,
+    names: &Names,
+    frames: &Vec<Bindings>,
+    terms: &mut Terms,
+    name: &Text,
+) -> Result<Typed, ElaborateError>
+    ensures grows { Grows terms.old terms.new }
+    ensures found { IfOk result (λ x. (sc : Scope) → IsScope terms.old names.now frames.now.items sc → StandsAs (spec_name_term sc name.now) terms.new x) }
+    ensures refused { IsErrOf result ElaborateError.Sort → (sc : Scope) → IsScope terms.old names.now frames.now.items sc → spec_name_term sc name.now ≡ None }
+{
+    if let Some(term) = bound_term(frames, name) {
+        return Ok(term);
+    }
+    if let Some(operator) = operator_of(name.as_bytes()) {
+        return apply(alloc, terms, operator, &[]);
+    }
+    match names.get(name) {
+        Some(Named::Constant(term)) => Ok(*term),
+        Some(Named::Definition(definition)) => expand(alloc, terms, definition, &[]),
+        None => Err(ElaborateError::Sort),
+    }
+}
+
+/// The term of a numeral that is a number.
+fn numeral(terms: &mut Terms, digits: &[u8]) -> Result<Typed, ElaborateError>
+    ensures grows { Grows terms.old terms.new }
+    ensures found { IfOk result (λ x. StandsAs (fitting (integer (digits_value digits.now))) terms.new x) }
+    ensures refused { IsErrOf result ElaborateError.Sort → fitting (integer (digits_value digits.now)) ≡ None }
+{
+    let Some(value) = value_onto(0, digits) else {
+        return Err(ElaborateError::Sort);
+    };
+    let id = make(terms, Head::Integer(value), &[])?;
+    Ok(Typed {
+        id,
+        sort: Sort::Int,
+    })
+}
+
+/// The term of a decimal that is a number.
+fn decimal(terms: &mut Terms, bytes: &[u8]) -> Result<Typed, ElaborateError>
+    ensures grows { Grows terms.old terms.new }
+    ensures found { IfOk result (λ x. StandsAs (fitting (decimal_number (digits_value (decimal_digits bytes.now)) (length (after_point bytes.now)))) terms.new x) }
+    ensures refused { IsErrOf result ElaborateError.Sort → fitting (decimal_number (digits_value (decimal_digits bytes.now)) (length (after_point bytes.now))) ≡ None }
+{
+    let (front, places) = around_point(bytes);
+    let Some(digits) = decimal_digits_value(front, places) else {
+        return Err(ElaborateError::Sort);
+    };
+    let id = make(terms, Head::Decimal(digits, places.len()), &[])?;
+    Ok(Typed {
+        id,
+        sort: Sort::Real,
+    })
+}
+
+/// The number that the digits before and after a point spell, or none where they or their places go beyond the bounds.
+fn decimal_digits_value(front: &[u8], places: &[u8]) -> Option<u128>
+    ensures value { IfSome result (λ n. n ≡ digits_value (front.now ++ places.now)) }
+    ensures bounded { IfSome result (λ n. n ≤ greatest_number) }
+    ensures short { IfSome result (λ n. length places.now ≤ place_limit) }
+    ensures none { IfNone result ((greatest_number < digits_value (front.now ++ places.now)) ⊎ (place_limit < length places.now)) }
+{
+    if places.len() > PLACE_LIMIT {
+        return None;
+    }
+    let start = value_onto(0, front)?;
+    value_onto(start, places)
 }

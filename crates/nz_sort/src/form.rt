@@ -8,7 +8,7 @@ ghost use Rattle.nz_spec.specs.Form as form;
 ghost use Rattle.nz_sort.specs.Form.{seen, IsHeadless, IsNotOne, IsNotTwo, IsNotThree};
 
 pub(crate) mod command;
-mod term;
+pub(crate) mod term;
 
 use command::{command_name, has_form};
 use nz_base::Text;
@@ -95,7 +95,37 @@ fn is_keyword(token: &Token) -> bool
     }
 }
 
+/// The keyword is this one.
+pub(crate) fn is_this_keyword(token: &Token, word: &[u8]) -> bool
+    ensures keyword { result ≡ form.is_keyword word.now (token_view token.now) }
+{
+    match keyword_name(token) {
+        Some(name) => name.as_bytes() == word,
+        None => false,
+    }
+}
+
 // ---- Trees
+
+/// The tree is this keyword.
+pub(crate) fn is_keyword_tree(tree: &Tree, word: &[u8]) -> bool
+    ensures keyword { result ≡ form.is_token (form.is_keyword word.now) (view tree.now) }
+{
+    match tree {
+        Tree::Word(token) => is_this_keyword(token, word),
+        Tree::List(_) => false,
+    }
+}
+
+/// The tree is this symbol.
+pub(crate) fn is_symbol_tree(tree: &Tree, word: &[u8]) -> bool
+    ensures symbol { result ≡ form.is_token (form.is_symbol word.now) (view tree.now) }
+{
+    match tree {
+        Tree::Word(token) => is_symbol(token, word),
+        Tree::List(_) => false,
+    }
+}
 
 /// The name of a tree that is a symbol.
 pub(crate) fn symbol_of(tree: &Tree) -> Option<&Text>
@@ -137,7 +167,7 @@ pub(crate) fn pair(list: &[Tree]) -> Option<(&Tree, &Tree)>
 }
 
 /// The three trees.
-fn triple(list: &[Tree]) -> Option<(&Tree, &Tree, &Tree)>
+pub(crate) fn triple(list: &[Tree]) -> Option<(&Tree, &Tree, &Tree)>
     ensures three { IfSome result (λ p. seen list.now ≡ trees (view p.0.now) (trees (view p.1.now) (trees (view p.2.now) no_trees))) }
     ensures none { IfNone result (IsNotThree (seen list.now)) }
 {

@@ -3,6 +3,8 @@
 //! A term is made in the one table of terms, whose numbers the live state keeps. A refused command leaves both as they were.
 #![tactic(auto)]
 
+mod apply;
+mod commands;
 mod elaboration;
 mod form;
 mod items;
@@ -13,15 +15,17 @@ mod normal;
 mod operators;
 mod refusal;
 mod scope;
+mod sorts;
 mod taken;
 #[cfg(test)]
 mod tests;
 mod tokens;
+mod typed;
 
-pub use elaboration::{ElaborateError, elaborate};
+pub use commands::{Act, Info};
 pub use form::is_of_form;
 pub use items::{Accepted, Direction, Goal, Wish};
-pub use live::{Act, Live};
-pub use names::Names;
+pub use live::Live;
 pub use refusal::Refusal;
 pub use tokens::{TokenTest, has_token};
+pub use typed::Typed;

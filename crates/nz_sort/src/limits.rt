@@ -7,8 +7,7 @@ ghost use Rattle.nz_spec.specs.Script as script;
 ghost use Rattle.nz_sort.specs.Form.{seen, command_meaning};
 
 use crate::form::command::{CommandName, attribute};
-use crate::form::headed;
-use crate::taken::is_keyword_tree;
+use crate::form::{headed, is_keyword_tree};
 use crate::tokens::{around_point, value_onto};
 use nz_sexpr::{Token, Tree};
 

@@ -1,53 +1,51 @@
 //! The live state: what becomes of a command, and what it leaves.
-ghost use Rattle.std.specs.Prelude.{◌≡◌, ◌<◌, ℕ, List, [], length, map, take, All, OnOk, OnErr, IfOk, IfErr, IfSome, IfNone, None, ◌||◌, IsErrOf, false};
-ghost use Rattle.nz_sexpr.specs.View.{token_view, view};
-ghost use Rattle.nz_spec.specs.Tree.{node};
+ghost use Rattle.std.specs.Prelude.{◌≡◌, ◌<◌, ◌+◌, ◌&&◌, ℕ, List, [], length, map, take, OnOk, OnErr, IfOk, IfErr, IfSome, None, ◌||◌, IsErrOf, Bool, false, option_map, is_some};
+ghost use Rattle.nz_sexpr.specs.View.{view};
+ghost use Rattle.nz_spec.specs.Tree.{Trees, no_trees};
 ghost use Rattle.nz_spec.specs.Bounds.{is_long_decimal, have_token as some_token};
 ghost use Rattle.nz_spec.specs.Table.{Node, term_in};
-ghost use Rattle.nz_spec.specs.TermList.{IsTermList};
-ghost use Rattle.nz_spec.specs.Form.{assert_name, declare_const_name, is_name as may_be_name};
 ghost use Rattle.nz_spec.specs.Term as spec;
-ghost use Rattle.nz_spec.specs.Script.{State, accepted, refused, outcome_of, outcome_named, outcome_by, passes_limit as beyond_limit, pushed_levels, start, declaration_of, declare_const, term_of};
+ghost use Rattle.nz_spec.specs.Linear.{is_linear as is_linear_term};
+ghost use Rattle.nz_spec.specs.Elaboration.{term_of, terms_of, listed};
+ghost use Rattle.nz_spec.specs.Form.{assert_name, declare_const_name, declare_fun_name, define_fun_name, get_value_name};
+ghost use Rattle.nz_spec.specs.Script.{State, Outcome, accepted, refused, outcome_of, outcome_named, outcome_by, passes_limit as beyond_limit, pushed_levels, start, declare_const, declaration_of, definition_of, scope_of, bound_names, parameters_from, all_linear, clash, has_clash};
+ghost use Rattle.nz_term.specs.Constants.{sort_of};
 ghost use Rattle.nz_sort.specs.Form.{seen, command_meaning};
-ghost use Rattle.nz_sort.specs.Names.{number_named, AreNamesOf};
-ghost use Rattle.nz_sort.specs.Elaborate.{Grows};
+ghost use Rattle.nz_sort.specs.Names.{named_by, bound_in, SameTerm};
+ghost use Rattle.nz_sort.specs.Typed.{Grows, IsTyped, AreTyped};
+ghost use Rattle.nz_sort.specs.Elaborate.{StandsAs, StandAs};
+ghost use Rattle.nz_sort.specs.Faults.{AreLive, is_listed};
 ghost use Rattle.nz_sort.specs.Items.{table_numbers};
-ghost use Rattle.nz_sort.specs.Live.{IsLive, Leaves, IsCarriedOut, IfSkipped, changed, standing_of};
+ghost use Rattle.nz_sort.specs.Live.{IsLive, Leaves, IsCarriedOut, IfSkipped, changed, show_values, standing_of};
 ghost use Rattle.nz_sort.specs.Acts.{asked, error_of};
-ghost use Rattle.nz_sort.specs.Commands.{IsNamed, declaration_by, bool_constant, HasAdded, HasAsserted, with_constant, with_assertion};
+ghost use Rattle.nz_sort.specs.Commands.{declaration_where, constant_of, is_unknown_in, fault_error, body_of, HasAdded, with_constant, with_definition, with_assertion};
 
-use crate::elaboration::{ElaborateError, elaborate};
-use crate::form::command::{CommandName, command_name, has_form};
-use crate::form::{headed, is_name, is_symbol, only, pair, symbol_of};
+use crate::commands::{
+    Act, Definiens, asked_trees, declared_constant, declared_function, defined, echo_act, info_act,
+    name_and_arguments, option_act,
+};
+use crate::elaboration::{elaborate, elaborate_all, place};
+use crate::form::command::{CommandName, has_form};
+use crate::form::only;
 use crate::items::{Accepted, Goal, Wish};
 use crate::limits::passes_limit;
-use crate::names::Names;
+use crate::names::{Bindings, Definition, Named, Names};
 use crate::refusal::Refusal;
-use crate::scope::{has_unknown_symbol, is_declared};
+use crate::scope::{Faults, faults_of, faults_of_all, first_name, is_declared, names_of_all};
+use crate::sorts::{
+    has_unknown_parameter_sort, has_unknown_sort, is_unknown_sort, sort_of_tree,
+    sorts_of_parameters,
+};
 use crate::taken::takes_command;
 use crate::tokens::{TokenTest, have_token};
+use crate::typed::{ElaborateError, Typed};
 use nz_base::{Memory, Text};
-use nz_sexpr::{Token, Tree};
-use nz_term::{Constant, Head, Sort, TermId, Terms, post_order};
+use nz_sexpr::Tree;
+use nz_spec::elaboration::terms_fit;
+use nz_spec::table::term_stays;
+use nz_term::{Constant, Head, Sort, TermId, Terms};
 use std::alloc::Global;
 use std::marker::Model;
-
-/// What a command that isn't refused asks of the session.
-#[derive(Clone, Copy, Debug, PartialEq, Eq)]
-pub enum Act {
-    /// Nothing: it only changed the live state.
-    Changed,
-    /// Whether the live assertions have a model.
-    Check,
-    /// The model of the last answer.
-    ShowModel,
-    /// The reason of the last answer.
-    ShowReason,
-    /// The end of the session.
-    Leave,
-    /// To be told that the program doesn't take it: it changed nothing.
-    Unsupported,
-}
 
 /// The live state. A contract sees what stands in it: its names, and its items by kind, in the order of acceptance.
 ///
@@ -60,8 +58,11 @@ pub struct Live {
     assertions: Vec<Accepted>,
     goals: Vec<Goal>,
     wishes: Vec<Wish>,
-    /// The terms of the items of all kinds. An item's number is its place here.
+    /// The terms of the items that have one, of all kinds.
     accepted: Vec<TermId>,
+    /// How many items there are, definitions among them. It is the number of the next.
+    count: usize,
+    holds_numbers: bool,
 }
 
 impl Model for Live {
@@ -69,13 +70,13 @@ impl Model for Live {
 
     ghost Value = { Standing };
 
-    ghost view = { λ l. standing_of l.names l.constants.items l.assertions.items l.goals.items l.wishes.items l.accepted.items };
+    ghost view = { λ l. standing_of l.names l.constants.items l.assertions.items l.goals.items l.wishes.items l.accepted.items l.count l.holds_numbers };
 }
 
 impl Live {
     /// The live state of the start: no item and no level. Takes no memory.
     pub fn new(alloc: Global) -> Live
-        ensures start { result ≡ standing_of [] [] [] [] [] [] }
+        ensures start { result ≡ standing_of [] [] [] [] [] [] 0 false }
         ensures live { IsLive [] result start }
     {
         Live {
@@ -86,6 +87,8 @@ impl Live {
             goals: Vec::new(alloc),
             wishes: Vec::new(alloc),
             accepted: Vec::new(alloc),
+            count: 0,
+            holds_numbers: false,
         }
     }
 
@@ -125,28 +128,6 @@ impl Live {
         0
     }
 
-    /// The terms of the live state, by which they are numbered: those of its items, in the order of acceptance, and then the
-    /// assumed ones. Each comes once, and behind all that it is made of.
-    ///
-    /// # Errors
-    ///
-    /// `Memory`.
-    pub fn term_list(
-        &self,
-        alloc: Global,
-        terms: &Terms,
-        assumed: &[TermId],
-    ) -> Result<Vec<TermId>, Memory>
-        requires live { (s : State) × IsLive terms.now self.now s }
-        requires within { All (λ i. i < length terms.now) assumed.now }
-        ensures list { IfOk result (λ ids. (s : State) → IsLive terms.now self.now s → IsTermList s (map (term_in terms.now) assumed.now) (map (term_in terms.now) ids.items)) }
-        ensures within { IfOk result (λ ids. All (λ i. i < length terms.now) ids.items) }
-    {
-        let mut roots = Vec::from_slice(alloc, self.accepted.as_slice())?;
-        roots.extend_from_slice(assumed)?;
-        post_order(alloc, terms, roots.as_slice())
-    }
-
     /// Carries out what a command changes in the live state, and answers what it asks. Whether the last answer has a model or a
     /// reason to show is the session's to say.
     ///
@@ -154,6 +135,7 @@ impl Live {
     ///
     /// The first rule that the command breaks, and `Memory`. Then the live state and the table are as before, and so they are
     /// after `Unsupported`.
+    #[tactic(auto, using(crate::proofs::Living::cut_back))]
     pub fn command(&mut self, terms: &mut Terms, tree: &Tree) -> Result<Act, Refusal>
         ensures accepted { IfOk result (λ act. (s : State) → IsLive terms.old self.old s → IsCarriedOut s (view tree.now) (asked act) terms.new self.new) }
         ensures refused { IfErr result (λ refusal. IfSome (error_of refusal) (λ n. (s : State) → IsLive terms.old self.old s → outcome_of s (view tree.now) ≡ refused n)) }
@@ -166,19 +148,28 @@ impl Live {
         let Some((name, arguments)) = name_and_arguments(tree) else {
             return Err(Refusal::Syntax);
         };
-        self.named(terms, name, arguments)
+        let mark = terms.mark();
+        match self.named(terms, name, arguments) {
+            Ok(act) => Ok(act),
+            Err(refusal) => {
+                terms.cut(mark);
+                Err(refusal)
+            }
+        }
     }
 
-    /// The rules in their order: the form, the limits, the width of numbers, what the program takes, and then the names and sorts.
+    /// The rules in their order: the form, the limits, the width of numbers, what the program takes, and then the names, the
+    /// sorts and what is linear. After an error the table may have grown, and so after those below.
+    #[tactic(auto, using(crate::proofs::Living::kept_where_same))]
     fn named(
         &mut self,
         terms: &mut Terms,
         name: CommandName,
         arguments: &[Tree],
     ) -> Result<Act, Refusal>
-        ensures accepted { IfOk result (λ act. (s : State) → IsLive terms.old self.old s → Leaves s (outcome_named s (command_meaning name) (seen arguments.now)) (asked act) terms.new self.new) }
+        ensures accepted { IfOk result (λ act. (s : State) → IsLive terms.old self.old s → Leaves s (seen arguments.now) (outcome_named s (command_meaning name) (seen arguments.now)) (asked act) terms.new self.new) }
         ensures refused { IfErr result (λ refusal. IfSome (error_of refusal) (λ n. (s : State) → IsLive terms.old self.old s → outcome_named s (command_meaning name) (seen arguments.now) ≡ refused n)) }
-        ensures unchanged_terms { OnErr result (terms.new ≡ terms.old) }
+        ensures kept { take (length terms.old) terms.new ≡ terms.old }
         ensures unchanged { OnErr result (self.new ≡ self.old) }
         ensures skipped_terms { IfOk result (λ act. IfSkipped (asked act) (terms.new ≡ terms.old)) }
         ensures skipped { IfOk result (λ act. IfSkipped (asked act) (self.new ≡ self.old)) }
@@ -193,7 +184,7 @@ impl Live {
         if have_token(arguments, TokenTest::Wide) {
             return Err(Refusal::TooWide);
         }
-        if !takes_command(name, arguments) {
+        if !takes_command(self.holds_numbers, name, arguments) {
             return Ok(Act::Unsupported);
         }
         self.carry_out(terms, name, arguments)
@@ -203,28 +194,36 @@ impl Live {
     fn passes_limit(&self, name: CommandName, arguments: &[Tree]) -> bool
         ensures limit { (ns : List Node) (s : State) → IsLive ns self.now s → result ≡ (beyond_limit s (command_meaning name) (seen arguments.now) || some_token is_long_decimal (seen arguments.now)) }
     {
-        passes_limit(self.names.len(), name, arguments)
+        passes_limit(self.constants.len(), name, arguments)
             || have_token(arguments, TokenTest::LongDecimal)
     }
 
     /// Carries out a command that the program takes, over arguments of its form.
-    #[tactic(auto, using(crate::proofs::Living::leaves_checked))]
+    #[tactic(auto, using(crate::proofs::Living::kept_where_same, crate::proofs::Living::leaves_checked, crate::proofs::Living::leaves_model, crate::proofs::Living::leaves_unheeded, crate::proofs::Living::leaves_left, crate::proofs::Living::leaves_only, crate::proofs::Living::if_skipped))]
     fn carry_out(
         &mut self,
         terms: &mut Terms,
         name: CommandName,
         arguments: &[Tree],
     ) -> Result<Act, Refusal>
-        ensures accepted { IfOk result (λ act. (s : State) → IsLive terms.old self.old s → Leaves s (outcome_by s (command_meaning name) (seen arguments.now)) (asked act) terms.new self.new) }
+        ensures accepted { IfOk result (λ act. (s : State) → IsLive terms.old self.old s → Leaves s (seen arguments.now) (outcome_by s (command_meaning name) (seen arguments.now)) (asked act) terms.new self.new) }
         ensures refused { IfErr result (λ refusal. IfSome (error_of refusal) (λ n. (s : State) → IsLive terms.old self.old s → outcome_by s (command_meaning name) (seen arguments.now) ≡ refused n)) }
-        ensures unchanged_terms { OnErr result (terms.new ≡ terms.old) }
+        ensures kept { take (length terms.old) terms.new ≡ terms.old }
         ensures unchanged { OnErr result (self.new ≡ self.old) }
         ensures skipped_terms { IfOk result (λ act. IfSkipped (asked act) (terms.new ≡ terms.old)) }
         ensures skipped { IfOk result (λ act. IfSkipped (asked act) (self.new ≡ self.old)) }
         ensures front { take (length self.old.asserted) self.new.asserted ≡ self.old.asserted }
     {
         match name {
-            CommandName::DeclareConst => match self.declare(terms, arguments) {
+            CommandName::DeclareConst => match self.declare_constant(terms, arguments) {
+                Ok(()) => Ok(Act::Changed),
+                Err(refusal) => Err(refusal),
+            },
+            CommandName::DeclareFun => match self.declare_function(terms, arguments) {
+                Ok(()) => Ok(Act::Changed),
+                Err(refusal) => Err(refusal),
+            },
+            CommandName::DefineFun => match self.define_function(terms, arguments) {
                 Ok(()) => Ok(Act::Changed),
                 Err(refusal) => Err(refusal),
             },
@@ -232,207 +231,360 @@ impl Live {
                 Ok(()) => Ok(Act::Changed),
                 Err(refusal) => Err(refusal),
             },
+            CommandName::GetValue => match self.asked_values(terms, arguments) {
+                Ok(values) => Ok(Act::ShowValues(values)),
+                Err(refusal) => Err(refusal),
+            },
             CommandName::CheckSat => Ok(Act::Check),
             CommandName::GetModel => Ok(Act::ShowModel),
-            CommandName::GetInfo => Ok(Act::ShowReason),
+            CommandName::GetInfo => match info_act(arguments) {
+                Some(act) => Ok(act),
+                None => Err(Refusal::Syntax),
+            },
+            CommandName::SetOption => match option_act(arguments) {
+                Some(act) => Ok(act),
+                None => Err(Refusal::Syntax),
+            },
+            CommandName::SetInfo => Ok(Act::Nothing),
+            CommandName::SetLogic => Ok(Act::Nothing),
+            CommandName::Echo => match echo_act(arguments) {
+                Some(act) => Ok(act),
+                None => Err(Refusal::Syntax),
+            },
             CommandName::Exit => Ok(Act::Leave),
             _ => Err(Refusal::Syntax),
         }
     }
 
+    // ---- Declarations
+
     /// Declares a constant.
-    fn declare(&mut self, terms: &mut Terms, arguments: &[Tree]) -> Result<(), Refusal>
-        ensures accepted { OnOk result ((s : State) → IsLive terms.old self.old s → Leaves s (outcome_by s declare_const_name (seen arguments.now)) changed terms.new self.new) }
+    #[tactic(auto, using(crate::proofs::Living::kept_where_same))]
+    fn declare_constant(&mut self, terms: &mut Terms, arguments: &[Tree]) -> Result<(), Refusal>
+        ensures accepted { OnOk result ((s : State) → IsLive terms.old self.old s → Leaves s (seen arguments.now) (outcome_by s declare_const_name (seen arguments.now)) changed terms.new self.new) }
         ensures refused { IfErr result (λ refusal. IfSome (error_of refusal) (λ n. (s : State) → IsLive terms.old self.old s → outcome_by s declare_const_name (seen arguments.now) ≡ refused n)) }
-        ensures unchanged_terms { OnErr result (terms.new ≡ terms.old) }
+        ensures kept { take (length terms.old) terms.new ≡ terms.old }
         ensures unchanged { OnErr result (self.new ≡ self.old) }
         ensures front { take (length self.old.asserted) self.new.asserted ≡ self.old.asserted }
     {
-        let Some((name, sort)) = declared(arguments) else {
+        let Some((name, sort)) = declared_constant(arguments) else {
             return Err(Refusal::Syntax);
         };
-        match declaration_refusal(&self.names, name, sort) {
-            Some(refusal) => Err(refusal),
-            None => {
-                let mark = terms.mark();
-                match self.add_constant(terms, name) {
-                    Ok(()) => Ok(()),
-                    Err(Memory) => {
-                        terms.cut(mark);
-                        Err(Refusal::Memory)
-                    }
-                }
-            }
+        self.declare(terms, name, &[], sort)
+    }
+
+    /// Declares a function, which is a constant where it has no arguments.
+    #[tactic(auto, using(crate::proofs::Living::kept_where_same))]
+    fn declare_function(&mut self, terms: &mut Terms, arguments: &[Tree]) -> Result<(), Refusal>
+        ensures accepted { OnOk result ((s : State) → IsLive terms.old self.old s → Leaves s (seen arguments.now) (outcome_by s declare_fun_name (seen arguments.now)) changed terms.new self.new) }
+        ensures refused { IfErr result (λ refusal. IfSome (error_of refusal) (λ n. (s : State) → IsLive terms.old self.old s → outcome_by s declare_fun_name (seen arguments.now) ≡ refused n)) }
+        ensures kept { take (length terms.old) terms.new ≡ terms.old }
+        ensures unchanged { OnErr result (self.new ≡ self.old) }
+        ensures front { take (length self.old.asserted) self.new.asserted ≡ self.old.asserted }
+    {
+        let Some((name, sorts, sort)) = declared_function(arguments) else {
+            return Err(Refusal::Syntax);
+        };
+        self.declare(terms, name, sorts, sort)
+    }
+
+    /// Declares a constant of this name and sort, where it has no arguments.
+    #[tactic(auto, using(crate::proofs::Living::kept_where_same))]
+    fn declare(
+        &mut self,
+        terms: &mut Terms,
+        name: &Text,
+        sorts: &[Tree],
+        sort: &Tree,
+    ) -> Result<(), Refusal>
+        ensures accepted { OnOk result ((s : State) (arguments : Trees) → IsLive terms.old self.old s → Leaves s arguments (declaration_of s name.now (seen sorts.now) (view sort.now)) changed terms.new self.new) }
+        ensures refused { IfErr result (λ refusal. IfSome (error_of refusal) (λ n. (s : State) → IsLive terms.old self.old s → declaration_of s name.now (seen sorts.now) (view sort.now) ≡ refused n)) }
+        ensures kept { take (length terms.old) terms.new ≡ terms.old }
+        ensures unchanged { OnErr result (self.new ≡ self.old) }
+        ensures front { take (length self.old.asserted) self.new.asserted ≡ self.old.asserted }
+    {
+        term_stays();
+        match declared_sort(&self.names, name, sorts, sort) {
+            Err(refusal) => Err(refusal),
+            Ok(sort) => match self.add_constant(terms, name, sort) {
+                Ok(()) => Ok(()),
+                Err(Memory) => Err(Refusal::Memory),
+            },
         }
     }
 
-    /// Adds a constant of a name that isn't there yet to the table and to what stands. After an error the table may have grown.
-    fn add_constant(&mut self, terms: &mut Terms, name: &Text) -> Result<(), Memory>
-        requires fresh { number_named self.old.names name.now ≡ None }
-        ensures added { OnOk result (HasAdded (bool_constant name.now) terms.old terms.new self.old self.new) }
-        ensures front { take (length terms.old) terms.new ≡ terms.old }
+    /// Adds a constant of a name that isn't there yet to the table and to what stands.
+    #[tactic(auto, using(crate::proofs::Living::kept_where_same, crate::proofs::Living::kept_with_one))]
+    fn add_constant(&mut self, terms: &mut Terms, name: &Text, sort: Sort) -> Result<(), Memory>
+        requires fresh { named_by self.old.names name.now ≡ None }
+        ensures added { OnOk result (HasAdded name.now (sort_of sort) terms.old terms.new self.old self.new) }
+        ensures kept { take (length terms.old) terms.new ≡ terms.old }
         ensures unchanged { OnErr result (self.new ≡ self.old) }
     {
         let constant = Constant {
             name: Text::from_slice(self.alloc, name.as_bytes())?,
-            sort: Sort::Bool,
+            sort,
         };
         let key = Text::from_slice(self.alloc, name.as_bytes())?;
         let id = terms.make(Head::Constant(constant), &[])?;
-        self.keep_constant(key, id)
+        self.keep_constant(key, Typed { id, sort })
     }
 
     /// Keeps a constant of a name that isn't there yet.
-    fn keep_constant(&mut self, name: Text, term: TermId) -> Result<(), Memory>
-        requires fresh { number_named self.old.names name ≡ None }
+    fn keep_constant(&mut self, name: Text, term: Typed) -> Result<(), Memory>
+        requires fresh { named_by self.old.names name ≡ None }
         ensures kept { OnOk result (self.new ≡ with_constant self.old name term) }
         ensures unchanged { OnErr result (self.new ≡ self.old) }
     {
-        let number = self.accepted.len();
+        let number = self.count;
+        let count = next_count(number)?;
         self.constants.reserve(1)?;
         self.accepted.reserve(1)?;
-        self.names.insert(name, term)?;
-        self.constants.push_reserved(Accepted { number, term });
-        self.accepted.push_reserved(term);
+        self.names.insert(name, Named::Constant(term))?;
+        self.constants.push_reserved(Accepted {
+            number,
+            term: term.id,
+        });
+        self.accepted.push_reserved(term.id);
+        self.count = count;
+        self.holds_numbers = self.holds_numbers || term.sort != Sort::Bool;
         Ok(())
     }
 
-    /// Asserts the term of a tree.
-    #[tactic(auto, using(crate::proofs::Ruling::asserts_nothing))]
-    fn assert_term(&mut self, terms: &mut Terms, arguments: &[Tree]) -> Result<(), Refusal>
-        ensures accepted { OnOk result ((s : State) → IsLive terms.old self.old s → Leaves s (outcome_by s assert_name (seen arguments.now)) changed terms.new self.new) }
-        ensures refused { IfErr result (λ refusal. IfSome (error_of refusal) (λ n. (s : State) → IsLive terms.old self.old s → outcome_by s assert_name (seen arguments.now) ≡ refused n)) }
-        ensures unchanged_terms { OnErr result (terms.new ≡ terms.old) }
+    // ---- Definitions
+
+    /// Defines a name.
+    #[tactic(auto, using(crate::proofs::Living::kept_where_same, crate::proofs::Living::kept_where_grown))]
+    fn define_function(&mut self, terms: &mut Terms, arguments: &[Tree]) -> Result<(), Refusal>
+        ensures accepted { OnOk result ((s : State) → IsLive terms.old self.old s → Leaves s (seen arguments.now) (outcome_by s define_fun_name (seen arguments.now)) changed terms.new self.new) }
+        ensures refused { IfErr result (λ refusal. IfSome (error_of refusal) (λ n. (s : State) → IsLive terms.old self.old s → outcome_by s define_fun_name (seen arguments.now) ≡ refused n)) }
+        ensures kept { take (length terms.old) terms.new ≡ terms.old }
         ensures unchanged { OnErr result (self.new ≡ self.old) }
         ensures front { take (length self.old.asserted) self.new.asserted ≡ self.old.asserted }
     {
+        term_stays();
+        terms_fit();
+        let Some(definiens) = defined(arguments) else {
+            return Err(Refusal::Syntax);
+        };
+        check_faults(self.definition_faults(definiens)?)?;
+        let Some(parameters) = sorts_of_parameters(self.alloc, definiens.parameters)? else {
+            return Err(Refusal::Sort);
+        };
+        let Some(sort) = sort_of_tree(definiens.sort) else {
+            return Err(Refusal::Sort);
+        };
+        let body = self.body(terms, definiens, parameters.as_slice(), sort)?;
+        if !is_linear(terms, body.id) {
+            return Err(Refusal::NotLinear);
+        }
+        let name = Text::from_slice(self.alloc, definiens.name.as_bytes())?;
+        self.keep_definition(name, Definition { parameters, body })?;
+        Ok(())
+    }
+
+    /// What is wrong with the symbols and the names of a definition.
+    fn definition_faults(&self, definiens: Definiens) -> Result<Faults, Memory>
+        ensures unknown { IfOk result (λ f. (is_live : List ℕ → Bool) → AreLive self.now.names is_live → f.unknown ≡ is_unknown_in is_live (seen definiens.parameters.now) (view definiens.sort.now) (view definiens.body.now)) }
+        ensures clash { IfOk result (λ f. f.clash ≡ (is_listed self.now.names definiens.name.now || clash (bound_names (seen definiens.parameters.now)) || has_clash (view definiens.body.now))) }
+    {
+        let (bound, clash) = names_of_all(self.alloc, definiens.parameters)?;
+        let mut frames = vec![in self.alloc; bound]?;
+        let of_body = faults_of(self.alloc, &self.names, &mut frames, definiens.body)?;
+        Ok(Faults {
+            unknown: has_unknown_parameter_sort(definiens.parameters)
+                || is_unknown_sort(definiens.sort)
+                || of_body.unknown,
+            clash: is_declared(&self.names, definiens.name) || clash || of_body.clash,
+        })
+    }
+
+    /// The term of the body of a definition, where one of this sort is wanted.
+    fn body(
+        &self,
+        terms: &mut Terms,
+        definiens: Definiens,
+        sorts: &[Sort],
+        sort: Sort,
+    ) -> Result<Typed, ElaborateError>
+        ensures grows { Grows terms.old terms.new }
+        ensures found { IfOk result (λ x. (s : State) → IsLive terms.old self.now s → StandsAs (body_of s (seen definiens.parameters.now) (map sort_of sorts.now) (sort_of sort) (view definiens.body.now)) terms.new x) }
+        ensures refused { IsErrOf result ElaborateError.Sort → (s : State) → IsLive terms.old self.now s → body_of s (seen definiens.parameters.now) (map sort_of sorts.now) (sort_of sort) (view definiens.body.now) ≡ None }
+    {
+        term_stays();
+        let frame = bind_parameters(self.alloc, terms, definiens.parameters, sorts)?;
+        let mut frames = vec![in self.alloc; frame]?;
+        let term = elaborate(self.alloc, &self.names, &mut frames, terms, definiens.body)?;
+        let id = place(terms, sort, term)?;
+        Ok(Typed { id, sort })
+    }
+
+    /// Keeps a definition of a name that isn't there yet.
+    fn keep_definition(&mut self, name: Text, definition: Definition) -> Result<(), Memory>
+        requires fresh { named_by self.old.names name ≡ None }
+        ensures kept { OnOk result (self.new ≡ with_definition self.old name definition) }
+        ensures unchanged { OnErr result (self.new ≡ self.old) }
+    {
+        let count = next_count(self.count)?;
+        self.names.insert(name, Named::Definition(definition))?;
+        self.count = count;
+        Ok(())
+    }
+
+    // ---- Assertions
+
+    /// Asserts the term of a tree.
+    #[tactic(auto, using(crate::proofs::Living::kept_where_same, crate::proofs::Living::kept_where_grown))]
+    fn assert_term(&mut self, terms: &mut Terms, arguments: &[Tree]) -> Result<(), Refusal>
+        ensures accepted { OnOk result ((s : State) → IsLive terms.old self.old s → Leaves s (seen arguments.now) (outcome_by s assert_name (seen arguments.now)) changed terms.new self.new) }
+        ensures refused { IfErr result (λ refusal. IfSome (error_of refusal) (λ n. (s : State) → IsLive terms.old self.old s → outcome_by s assert_name (seen arguments.now) ≡ refused n)) }
+        ensures kept { take (length terms.old) terms.new ≡ terms.old }
+        ensures unchanged { OnErr result (self.new ≡ self.old) }
+        ensures front { take (length self.old.asserted) self.new.asserted ≡ self.old.asserted }
+    {
+        term_stays();
         let Some(tree) = only(arguments) else {
             return Err(Refusal::Syntax);
         };
-        if has_unknown_symbol(&self.names, tree) {
-            return Err(Refusal::UnknownSymbol);
+        let mut bound = Vec::new(self.alloc);
+        check_faults(faults_of(self.alloc, &self.names, &mut bound, tree)?)?;
+        let mut frames = Vec::new(self.alloc);
+        let term = elaborate(self.alloc, &self.names, &mut frames, terms, tree)?;
+        if term.sort != Sort::Bool {
+            return Err(Refusal::Sort);
         }
-        let mark = terms.mark();
-        match self.add_assertion(terms, tree) {
-            Ok(()) => Ok(()),
-            Err(ElaborateError::Sort) => {
-                terms.cut(mark);
-                Err(Refusal::Sort)
-            }
-            Err(ElaborateError::Memory) => {
-                terms.cut(mark);
-                Err(Refusal::Memory)
-            }
+        if !is_linear(terms, term.id) {
+            return Err(Refusal::NotLinear);
         }
+        self.keep_assertion(term.id, holds_number(terms, term.id))?;
+        Ok(())
     }
 
-    /// Adds the term of a tree to the table and to what is asserted. After an error the table may have grown.
-    fn add_assertion(&mut self, terms: &mut Terms, tree: &Tree) -> Result<(), ElaborateError>
-        ensures grows { Grows terms.old terms.new }
-        ensures added { OnOk result ((cs : List spec.Constant) → AreNamesOf terms.old self.old.names cs → HasAsserted cs (view tree.now) terms.new self.old self.new) }
-        ensures refused { IsErrOf result ElaborateError.Sort → (cs : List spec.Constant) → AreNamesOf terms.old self.old.names cs → term_of cs (view tree.now) ≡ None }
-        ensures unchanged { OnErr result (self.new ≡ self.old) }
-        ensures front { take (length self.old.asserted) self.new.asserted ≡ self.old.asserted }
-    {
-        match elaborate(self.alloc, &self.names, terms, tree) {
-            Err(error) => Err(error),
-            Ok(term) => {
-                self.keep_assertion(term)?;
-                Ok(())
-            }
-        }
-    }
-
-    /// Keeps the assertion of a term.
-    fn keep_assertion(&mut self, term: TermId) -> Result<(), Memory>
-        ensures kept { OnOk result (self.new ≡ with_assertion self.old term) }
+    /// Keeps the assertion of a term, which holds a number or doesn't.
+    fn keep_assertion(&mut self, term: TermId, holds: bool) -> Result<(), Memory>
+        ensures kept { OnOk result (self.new ≡ with_assertion self.old term holds) }
         ensures unchanged { OnErr result (self.new ≡ self.old) }
     {
-        let number = self.accepted.len();
+        let number = self.count;
+        let count = next_count(number)?;
         self.assertions.reserve(1)?;
         self.accepted.push(term)?;
         self.assertions.push_reserved(Accepted { number, term });
+        self.count = count;
+        self.holds_numbers = self.holds_numbers || holds;
         Ok(())
     }
-}
 
-/// The name that a command begins with, and the trees after it.
-fn name_and_arguments(tree: &Tree) -> Option<(CommandName, &[Tree])>
-    ensures command { IfSome result (λ p. (s : State) → outcome_of s (view tree.now) ≡ outcome_named s (command_meaning p.0) (seen p.1.now)) }
-    ensures none { IfNone result ((s : State) → outcome_of s (view tree.now) ≡ refused 1) }
-{
-    match trees_of(tree) {
-        Some(list) => named_list(list),
-        None => None,
-    }
-}
+    // ---- Values
 
-/// The trees of a list.
-fn trees_of(tree: &Tree) -> Option<&[Tree]>
-    ensures list { IfSome result (λ list. view tree.now ≡ node (seen list.now)) }
-    ensures none { IfNone result ((s : State) → outcome_of s (view tree.now) ≡ refused 1) }
-{
-    match tree {
-        Tree::Word(_) => None,
-        Tree::List(list) => Some(list.as_slice()),
-    }
-}
-
-/// The name that the trees of a list begin with, and those after it.
-#[tactic(auto, using(crate::proofs::Ruling::headless, crate::proofs::Ruling::nameless, crate::proofs::Ruling::named))]
-fn named_list(list: &[Tree]) -> Option<(CommandName, &[Tree])>
-    ensures command { IfSome result (λ p. (s : State) → outcome_of s (node (seen list.now)) ≡ outcome_named s (command_meaning p.0) (seen p.1.now)) }
-    ensures none { IfNone result ((s : State) → outcome_of s (node (seen list.now)) ≡ refused 1) }
-{
-    let (head, arguments) = headed(list)?;
-    let name = name_of(head)?;
-    Some((command_name(name.as_bytes()), arguments))
-}
-
-/// The name that a token is.
-fn name_of(token: &Token) -> Option<&Text>
-    ensures name { IfSome result (λ name. IsNamed (token_view token.now) name.now) }
-    ensures none { IfNone result (may_be_name (token_view token.now) ≡ false) }
-{
-    if is_name(token) {
-        token.as_symbol()
-    } else {
-        None
-    }
-}
-
-/// The name and the sort of a constant that is declared.
-#[tactic(auto, using(crate::proofs::Ruling::declares_nothing, crate::proofs::Ruling::declares_no_name, crate::proofs::Ruling::declares))]
-fn declared(arguments: &[Tree]) -> Option<(&Text, &Tree)>
-    ensures declaration { IfSome result (λ p. (s : State) → outcome_by s declare_const_name (seen arguments.now) ≡ declaration_of s p.0.now (view p.1.now)) }
-    ensures none { IfNone result ((s : State) → outcome_by s declare_const_name (seen arguments.now) ≡ refused 1) }
-{
-    let (first, sort) = pair(arguments)?;
-    let name = symbol_of(first)?;
-    Some((name, sort))
-}
-
-/// Why no constant is declared by this name, of this sort.
-fn declaration_refusal(names: &Names, name: &Text, sort: &Tree) -> Option<Refusal>
-    ensures refused { IfSome result (λ refusal. IfSome (error_of refusal) (λ n. declaration_by names.now name.now (view sort.now) ≡ refused n)) }
-    ensures accepted { IfNone result (declaration_by names.now name.now (view sort.now) ≡ accepted (declare_const (bool_constant name.now))) }
-    ensures fresh { IfNone result (number_named names.now name.now ≡ None) }
-{
-    match sort {
-        Tree::Word(token) => {
-            if !is_symbol(token, b"Bool") {
-                return Some(Refusal::UnknownSymbol);
-            }
-            if is_declared(names, name) {
-                return Some(Refusal::Declared);
-            }
-            None
+    /// The terms whose values are asked for.
+    #[tactic(auto, using(crate::proofs::Living::kept_where_same, crate::proofs::Living::kept_where_grown))]
+    fn asked_values(&self, terms: &mut Terms, arguments: &[Tree]) -> Result<Vec<Typed>, Refusal>
+        ensures accepted { IfOk result (λ xs. (s : State) → IsLive terms.old self.now s → Leaves s (seen arguments.now) (outcome_by s get_value_name (seen arguments.now)) (show_values xs.items) terms.new self.now) }
+        ensures refused { IfErr result (λ refusal. IfSome (error_of refusal) (λ n. (s : State) → IsLive terms.old self.now s → outcome_by s get_value_name (seen arguments.now) ≡ refused n)) }
+        ensures kept { take (length terms.old) terms.new ≡ terms.old }
+    {
+        term_stays();
+        let Some(trees) = asked_trees(arguments) else {
+            return Err(Refusal::Syntax);
+        };
+        let mut bound = Vec::new(self.alloc);
+        check_faults(faults_of_all(self.alloc, &self.names, &mut bound, trees)?)?;
+        let mut frames = Vec::new(self.alloc);
+        let values = elaborate_all(self.alloc, &self.names, &mut frames, terms, trees)?;
+        if !are_linear(terms, values.as_slice()) {
+            return Err(Refusal::NotLinear);
         }
-        Tree::List(_) => {
-            if is_declared(names, name) {
-                return Some(Refusal::Declared);
-            }
-            Some(Refusal::Sort)
+        Ok(values)
+    }
+}
+
+/// The count after this one. As many items as would leave none find no memory.
+fn next_count(count: usize) -> Result<usize, Memory>
+    ensures next { IfOk result (λ next. next ≡ count + 1) }
+{
+    match count.checked_add(1) {
+        Some(next) => Ok(next),
+        None => Err(Memory),
+    }
+}
+
+/// The sort of a constant of this name, where it is declared.
+fn declared_sort(names: &Names, name: &Text, sorts: &[Tree], sort: &Tree) -> Result<Sort, Refusal>
+    ensures accepted { IfOk result (λ found. declaration_where (is_listed names.now name.now) name.now (seen sorts.now) (view sort.now) ≡ accepted (declare_const (constant_of name.now (sort_of found)))) }
+    ensures fresh { OnOk result (named_by names.now name.now ≡ None) }
+    ensures refused { IfErr result (λ refusal. IfSome (error_of refusal) (λ n. declaration_where (is_listed names.now name.now) name.now (seen sorts.now) (view sort.now) ≡ refused n)) }
+{
+    if has_unknown_sort(sorts) || is_unknown_sort(sort) {
+        return Err(Refusal::UnknownSymbol);
+    }
+    if is_declared(names, name) {
+        return Err(Refusal::Declared);
+    }
+    if !sorts.is_empty() {
+        return Err(Refusal::Sort);
+    }
+    match sort_of_tree(sort) {
+        Some(found) => Ok(found),
+        None => Err(Refusal::Sort),
+    }
+}
+
+/// The rules on the symbols of a term: that they are in scope, and then that no names clash.
+fn check_faults(faults: Faults) -> Result<(), Refusal>
+    ensures none { OnOk result (fault_error faults.unknown faults.clash ≡ None) }
+    ensures refused { IfErr result (λ refusal. fault_error faults.unknown faults.clash ≡ error_of refusal) }
+{
+    if faults.unknown {
+        return Err(Refusal::UnknownSymbol);
+    }
+    if faults.clash {
+        return Err(Refusal::Declared);
+    }
+    Ok(())
+}
+
+/// The parameters of a definition, each with the term that stands for it in the body.
+fn bind_parameters(
+    alloc: Global,
+    terms: &mut Terms,
+    parameters: &[Tree],
+    sorts: &[Sort],
+) -> Result<Bindings, Memory>
+    ensures grows { Grows terms.old terms.new }
+    ensures bound { IfOk result (λ frame. (name : List ℕ) → SameTerm terms.new (bound_in frame name) (listed (parameters_from 0 (bound_names (seen parameters.now)) (map sort_of sorts.now)) name)) }
+{
+    term_stays();
+    let mut frame = Bindings::new(alloc);
+    let mut index = 0;
+    for parameter in parameters {
+        if let (Some(name), Some(sort)) = (first_name(parameter), sorts.get(index)) {
+            let id = terms.make(Head::Parameter(index, *sort), &[])?;
+            let term = Typed { id, sort: *sort };
+            frame.insert(Text::from_slice(alloc, name.as_bytes())?, term)?;
+            index += 1;
         }
     }
+    Ok(frame)
+}
+
+/// Whether the term of a number is linear. A number that isn't in the table is that of no linear term.
+fn is_linear(terms: &Terms, id: TermId) -> bool
+    ensures linear { id < length terms.now → result ≡ is_linear_term (term_in terms.now id) }
+{
+    id < terms.len() && terms.is_linear(id)
+}
+
+/// Whether all of these terms are linear.
+fn are_linear(terms: &Terms, list: &[Typed]) -> bool
+    ensures linear { (ts : spec.Terms) → AreTyped terms.now list.now ts → result ≡ all_linear ts }
+{
+    list.iter().all(|term| is_linear(terms, term.id))
+}
+
+/// Whether the term of a number, or one that it is made of, is a number. A number that isn't in the table is that of no such term.
+fn holds_number(terms: &Terms, id: TermId) -> bool
+    ensures holds { id < length terms.now → result ≡ spec.holds_number (term_in terms.now id) }
+{
+    id < terms.len() && terms.holds_number(id)
 }

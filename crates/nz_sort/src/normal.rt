@@ -1,43 +1,64 @@
-//! Normal terms, made in the table from the numbers of their arguments: of the operators only not, and, or, `xor` and `=` of
-//! two arguments, and ite.
-ghost use Rattle.std.specs.Prelude.{◌≡◌, ◌<◌, length, All, IfOk, OnOk, true};
-ghost use Rattle.nz_spec.specs.Term.{Terms as Arguments, apply, joined_by, disequations_onto, normal_node};
+//! Normal terms, made in the table from the numbers of their arguments: what is chained, pairwise or grouped is written out.
+ghost use Rattle.std.specs.Prelude.{◌≡◌, ◌<◌, length, All, IfOk, OnOk, IsTrue, true};
+ghost use Rattle.nz_spec.specs.Term.{Terms as Arguments, apply, conjunction, head_fits};
+ghost use Rattle.nz_spec.specs.Normal.{joined_by, disequations_onto, disequations_of, normal_node, grouped_by, chained_by, implication_of};
+ghost use Rattle.nz_spec.specs.Elaboration.{operator_head};
 ghost use Rattle.nz_spec.specs.Table.{term_in, terms_at};
+ghost use Rattle.nz_term.specs.Constants.{sort_of};
 ghost use Rattle.nz_term.specs.Heads.{head_of};
-ghost use Rattle.nz_sort.specs.Elaborate.{Grows, StandsFor, IsOperator, terms_before};
-ghost use Rattle.nz_sort.specs.Operators.{operator_head};
+ghost use Rattle.nz_sort.specs.Typed.{Grows, StandsFor, IsOperator, terms_before};
+ghost use Rattle.nz_sort.specs.Operators.{operator_meaning};
+ghost use Rattle.nz_sort.specs.Links.{grouping_head, link_pair};
 
 use crate::operators::Operator;
 use nz_base::Memory;
-use nz_term::{Head, TermId, Terms};
+use nz_term::{Head, Sort, TermId, Terms};
 use std::alloc::Global;
 
-/// The number of the normal term of an operator over these arguments, whose terms are normal.
-pub fn normal_term(
+/// The number of the normal term of an operator over these arguments, whose terms are normal and are read at this sort.
+pub(crate) fn normal_term(
     alloc: Global,
     terms: &mut Terms,
     operator: Operator,
+    sort: Sort,
     kids: &[TermId],
 ) -> Result<TermId, Memory>
     requires within { All (λ k. k < length terms.old) kids.now }
     ensures grows { Grows terms.old terms.new }
-    ensures made { IfOk result (λ id. StandsFor terms.new id (normal_node (operator_head operator) (terms_at (term_in terms.old) kids.now))) }
+    ensures made { IfOk result (λ id. StandsFor terms.new id (normal_node (operator_head (operator_meaning operator) (sort_of sort)) (terms_at (term_in terms.old) kids.now))) }
 {
     match operator {
+        Operator::True => make(terms, Head::True, kids),
+        Operator::False => make(terms, Head::False, kids),
         Operator::Not => make(terms, Head::Not, kids),
         Operator::And => joined(terms, Head::And, kids),
         Operator::Or => joined(terms, Head::Or, kids),
         Operator::Implies => implication(terms, kids),
-        Operator::Xor => exclusion(terms, kids),
-        Operator::Equal => chained(alloc, terms, kids),
+        Operator::Xor => grouped(terms, Grouping::Xor, kids),
+        Operator::Equals => chained(alloc, terms, Link::Equal, kids),
         Operator::Distinct => distinct(alloc, terms, kids),
-        Operator::Ite => make(terms, Head::Ite, kids),
+        Operator::Ite => make(terms, Head::Ite(sort), kids),
+        Operator::Less => chained(alloc, terms, Link::Less, kids),
+        Operator::AtMost => chained(alloc, terms, Link::AtMost, kids),
+        Operator::Greater => chained(alloc, terms, Link::Greater, kids),
+        Operator::AtLeast => chained(alloc, terms, Link::AtLeast, kids),
+        Operator::Plus => joined(terms, Head::Sum(sort), kids),
+        Operator::Times => joined(terms, Head::Product(sort), kids),
+        Operator::Minus => make(terms, Head::Difference(sort), kids),
+        Operator::Over => grouped(terms, Grouping::Quotient, kids),
+        Operator::Div => grouped(terms, Grouping::Div, kids),
+        Operator::Mod => make(terms, Head::Mod, kids),
+        Operator::Abs => make(terms, Head::Abs, kids),
+        Operator::ToReal => make(terms, Head::ToReal, kids),
+        Operator::ToInt => make(terms, Head::ToInt, kids),
+        Operator::IsInt => make(terms, Head::IsInt, kids),
     }
 }
 
-// The number of the term of this operator over these arguments.
-fn make(terms: &mut Terms, head: Head, kids: &[TermId]) -> Result<TermId, Memory>
+/// The number of the term of this operator over these arguments.
+pub(crate) fn make(terms: &mut Terms, head: Head, kids: &[TermId]) -> Result<TermId, Memory>
     requires operator { IsOperator (head_of head) }
+    requires fits { IsTrue (head_fits (head_of head)) }
     requires within { All (λ k. k < length terms.old) kids.now }
     ensures grows { Grows terms.old terms.new }
     ensures made { IfOk result (λ id. StandsFor terms.new id (apply (head_of head) (terms_at (term_in terms.old) kids.now))) }
@@ -45,9 +66,10 @@ fn make(terms: &mut Terms, head: Head, kids: &[TermId]) -> Result<TermId, Memory
     terms.make(head, kids)
 }
 
-// A conjunction or a disjunction; of one term it is that term.
+// An operator over one term stands for that term.
 fn joined(terms: &mut Terms, head: Head, kids: &[TermId]) -> Result<TermId, Memory>
     requires operator { IsOperator (head_of head) }
+    requires fits { IsTrue (head_fits (head_of head)) }
     requires within { All (λ k. k < length terms.old) kids.now }
     ensures grows { Grows terms.old terms.new }
     ensures made { IfOk result (λ id. StandsFor terms.new id (joined_by (head_of head) (terms_at (term_in terms.old) kids.now))) }
@@ -62,7 +84,7 @@ fn joined(terms: &mut Terms, head: Head, kids: &[TermId]) -> Result<TermId, Memo
 fn implication(terms: &mut Terms, kids: &[TermId]) -> Result<TermId, Memory>
     requires within { All (λ k. k < length terms.old) kids.now }
     ensures grows { Grows terms.old terms.new }
-    ensures made { IfOk result (λ id. StandsFor terms.new id (normal_node (operator_head Operator.Implies) (terms_at (term_in terms.old) kids.now))) }
+    ensures made { IfOk result (λ id. StandsFor terms.new id (implication_of (terms_at (term_in terms.old) kids.now))) }
 {
     let Some(last) = kids.last() else {
         return make(terms, Head::True, &[]);
@@ -75,41 +97,85 @@ fn implication(terms: &mut Terms, kids: &[TermId]) -> Result<TermId, Memory>
     Ok(conclusion)
 }
 
-// Exclusions of two, from the left.
-fn exclusion(terms: &mut Terms, kids: &[TermId]) -> Result<TermId, Memory>
+// An operator that is written in pairs, from the left.
+#[derive(Clone, Copy)]
+enum Grouping {
+    Xor,
+    Quotient,
+    Div,
+}
+
+fn head_of_grouping(grouping: Grouping) -> Head
+    ensures head { head_of result ≡ grouping_head grouping }
+    ensures operator { IsOperator (head_of result) }
+    ensures fits { IsTrue (head_fits (head_of result)) }
+{
+    match grouping {
+        Grouping::Xor => Head::Xor,
+        Grouping::Quotient => Head::Quotient,
+        Grouping::Div => Head::Div,
+    }
+}
+
+fn grouped(terms: &mut Terms, grouping: Grouping, kids: &[TermId]) -> Result<TermId, Memory>
     requires within { All (λ k. k < length terms.old) kids.now }
     ensures grows { Grows terms.old terms.new }
-    ensures made { IfOk result (λ id. StandsFor terms.new id (normal_node (operator_head Operator.Xor) (terms_at (term_in terms.old) kids.now))) }
+    ensures made { IfOk result (λ id. StandsFor terms.new id (grouped_by (grouping_head grouping) (terms_at (term_in terms.old) kids.now))) }
 {
     let Some(first) = kids.first() else {
-        return make(terms, Head::False, &[]);
+        return make(terms, head_of_grouping(grouping), &[]);
     };
     let mut left = *first;
     for i in 1..kids.len() {
-        left = make(terms, Head::Xor, &[left, kids[i]])?;
+        left = make(terms, head_of_grouping(grouping), &[left, kids[i]])?;
     }
     Ok(left)
 }
 
-// Each term equals the next.
-fn chained(alloc: Global, terms: &mut Terms, kids: &[TermId]) -> Result<TermId, Memory>
+// What a chain says of each term and the next.
+#[derive(Clone, Copy)]
+enum Link {
+    Equal,
+    Less,
+    AtMost,
+    Greater,
+    AtLeast,
+}
+
+fn linked(terms: &mut Terms, link: Link, left: TermId, right: TermId) -> Result<TermId, Memory>
+    requires left { left < length terms.old }
+    requires right { right < length terms.old }
+    ensures grows { Grows terms.old terms.new }
+    ensures made { IfOk result (λ id. StandsFor terms.new id (link_pair link (term_in terms.old left) (term_in terms.old right))) }
+{
+    match link {
+        Link::Equal => make(terms, Head::Equal, &[left, right]),
+        Link::Less => make(terms, Head::Less, &[left, right]),
+        Link::AtMost => make(terms, Head::AtMost, &[left, right]),
+        Link::Greater => make(terms, Head::Less, &[right, left]),
+        Link::AtLeast => make(terms, Head::AtMost, &[right, left]),
+    }
+}
+
+// A conjunction of what is said of each term and the next.
+fn chained(alloc: Global, terms: &mut Terms, link: Link, kids: &[TermId]) -> Result<TermId, Memory>
     requires within { All (λ k. k < length terms.old) kids.now }
     ensures grows { Grows terms.old terms.new }
-    ensures made { IfOk result (λ id. StandsFor terms.new id (normal_node (operator_head Operator.Equal) (terms_at (term_in terms.old) kids.now))) }
+    ensures made { IfOk result (λ id. StandsFor terms.new id (chained_by (link_pair link) (terms_at (term_in terms.old) kids.now))) }
 {
-    let mut equations = Vec::with_capacity(alloc, kids.len())?;
+    let mut links = Vec::with_capacity(alloc, kids.len())?;
     for i in 0..kids.len().saturating_sub(1) {
-        let equation = make(terms, Head::Equal, &[kids[i], kids[i + 1]])?;
-        equations.push(equation)?;
+        let made = linked(terms, link, kids[i], kids[i + 1])?;
+        links.push(made)?;
     }
-    joined(terms, Head::And, equations.as_slice())
+    joined(terms, Head::And, links.as_slice())
 }
 
 // No two terms are equal.
 fn distinct(alloc: Global, terms: &mut Terms, kids: &[TermId]) -> Result<TermId, Memory>
     requires within { All (λ k. k < length terms.old) kids.now }
     ensures grows { Grows terms.old terms.new }
-    ensures made { IfOk result (λ id. StandsFor terms.new id (normal_node (operator_head Operator.Distinct) (terms_at (term_in terms.old) kids.now))) }
+    ensures made { IfOk result (λ id. StandsFor terms.new id (joined_by conjunction (disequations_of (terms_at (term_in terms.old) kids.now)))) }
 {
     let mut disequations = Vec::with_capacity(alloc, pair_count(kids.len()))?;
     for i in 0..kids.len() {

@@ -3,7 +3,7 @@ ghost use Rattle.std.specs.Prelude.{IfOk};
 ghost use Rattle.nz_spec.specs.Script.{State};
 ghost use Rattle.nz_sort.specs.Live.{IsLive};
 
-use crate::{Accepted, Live, TokenTest, has_token, is_of_form};
+use crate::{Accepted, Act, Live, Refusal, TokenTest, has_token, is_of_form};
 use nz_base::{Memory, Text};
 use nz_sexpr::{Token, Tree, TreeList};
 use nz_term::Terms;
@@ -108,8 +108,6 @@ fn refuses_what_is_not(rt: HostRuntime) -> Result<(), Fail> {
 #[test]
 fn tells_numbers(rt: HostRuntime) -> Result<(), Fail> {
     let commands = [
-        ("f x :a", TokenTest::OfNumberTerm, false),
-        ("f ( x ( 0.0 ) )", TokenTest::OfNumberTerm, true),
         (
             "f 170141183460469231731687303715884105727",
             TokenTest::Wide,
@@ -211,18 +209,154 @@ fn nothing_is_sought_or_wished_yet(rt: HostRuntime) -> Result<(), Fail> {
     Ok(())
 }
 
+/// What comes of each of the commands in turn, told in one word.
+fn outcomes(alloc: Global, commands: &[&str]) -> Result<Vec<&'static str>, Fail> {
+    let mut live = Live::new(alloc);
+    let mut terms = Terms::new(alloc)?;
+    let mut words = Vec::new(alloc);
+    for command in commands {
+        words.push(word_of(&live.command(&mut terms, &list(alloc, command)?)))?;
+    }
+    Ok(words)
+}
+
+fn word_of(outcome: &Result<Act, Refusal>) -> &'static str {
+    match outcome {
+        Ok(Act::Changed) => "changed",
+        Ok(Act::Check) => "check",
+        Ok(Act::ShowModel) => "model",
+        Ok(Act::ShowValues(_)) => "values",
+        Ok(Act::ShowReason) => "reason",
+        Ok(Act::ShowInfo(_)) => "info",
+        Ok(Act::ShowLevels) => "levels",
+        Ok(Act::PrintSuccess(true)) => "talk",
+        Ok(Act::PrintSuccess(false)) => "hush",
+        Ok(Act::Nothing) => "nothing",
+        Ok(Act::Echo) => "echo",
+        Ok(Act::Leave) => "leave",
+        Ok(Act::Unsupported) => "unsupported",
+        Err(Refusal::Syntax) => "1",
+        Err(Refusal::UnknownSymbol) => "2",
+        Err(Refusal::Sort) => "3",
+        Err(Refusal::NotLinear) => "4",
+        Err(Refusal::TooWide) => "5",
+        Err(Refusal::Limit) => "6",
+        Err(Refusal::Declared) => "9",
+        Err(Refusal::Memory) => "11",
+    }
+}
+
 #[test]
-fn terms_are_listed_once(rt: HostRuntime) -> Result<(), Fail> {
+fn declares_and_defines(rt: HostRuntime) -> Result<(), Fail> {
     let commands = [
-        "declare-const p Bool",
-        "declare-const q Bool",
-        "assert ( or ( not q ) p )",
-        "assert q",
-        "declare-const r Bool",
+        "declare-const x Int",
+        "declare-fun y ( ) Real",
+        "declare-const x Bool",
+        "declare-const z Word",
+        "declare-fun f ( Int ) Real",
+        "declare-const z ( Array Int )",
+        "define-fun d ( ( a Int ) ) Real ( + a y )",
+        "define-fun d ( ) Int 1",
+        "define-fun e ( ( a Int ) ( a Int ) ) Int a",
+        "define-fun e ( ( a Int ) ( b Int ) ) Int ( * a b )",
+        "define-fun e ( ( a Int ) ) Int ( + a c )",
+        "define-fun e ( ( a Int ) ) Bool a",
+        "define-fun e ( ( a Int ) ( b Real ) ) Real ( ite ( < a b ) a b )",
+        "assert ( < ( d x ) ( e x y ) )",
+        "assert ( d y )",
+        "check-sat",
     ];
-    let (live, terms) = after(rt.alloc(), &commands)?;
-    assert_eq!(rt; terms.len(), 5);
-    let listed = live.term_list(rt.alloc(), &terms, &[2, 4])?;
-    assert_eq!(rt; listed.as_slice(), [0, 1, 2, 3, 4].as_slice());
+    let want = [
+        "changed",
+        "changed",
+        "9",
+        "2",
+        "3",
+        "3",
+        "changed",
+        "9",
+        "9",
+        "4",
+        "2",
+        "3",
+        "changed",
+        "changed",
+        "3",
+        "unsupported",
+    ];
+    assert_eq!(rt;
+        outcomes(rt.alloc(), &commands)?.as_slice(),
+        want.as_slice()
+    );
+    Ok(())
+}
+
+#[test]
+fn asserts_linear_terms(rt: HostRuntime) -> Result<(), Fail> {
+    let commands = [
+        "declare-const x Int",
+        "assert ( let ( ( y ( + x 1 ) ) ( z 2 ) ) ( < ( * y z ) x ) )",
+        "assert ( let ( ( y x ) ) ( < ( * y x ) 1 ) )",
+        "assert ( let ( ( y x ) ( y 1 ) ) ( < y 1 ) )",
+        "assert ( let ( ( y z ) ( y 1 ) ) ( < y 1 ) )",
+        "assert ( = 1 ( div x 0 ) )",
+        "assert ( + x 1 )",
+        "assert ( < x 170141183460469231731687303715884105728 )",
+        "assert ( < x 0.000000000000000000000000000000000000001 )",
+    ];
+    let want = ["changed", "changed", "4", "9", "2", "4", "3", "5", "6"];
+    assert_eq!(rt;
+        outcomes(rt.alloc(), &commands)?.as_slice(),
+        want.as_slice()
+    );
+    Ok(())
+}
+
+#[test]
+fn asks_of_the_session(rt: HostRuntime) -> Result<(), Fail> {
+    let commands = [
+        "set-logic QF_LRA",
+        "set-option :print-success true",
+        "set-option :print-success false",
+        "set-option :produce-models true",
+        "set-option :opt.priority pareto",
+        "set-info :status sat",
+        "get-info :name",
+        "get-info :assertion-stack-levels",
+        "get-info :reason-unknown",
+        "get-info :all-statistics",
+        "get-value ( true ( and true false ) )",
+        "get-value ( x )",
+        "get-model",
+        "echo \"a",
+        "push 1",
+        "check-sat",
+        "exit",
+        "exit now",
+    ];
+    let want = [
+        "nothing",
+        "talk",
+        "hush",
+        "nothing",
+        "unsupported",
+        "nothing",
+        "info",
+        "levels",
+        "reason",
+        "unsupported",
+        "values",
+        "2",
+        "model",
+        "echo",
+        "unsupported",
+        "check",
+        "leave",
+        "1",
+    ];
+    assert_eq!(rt;
+        outcomes(rt.alloc(), &commands)?.as_slice(),
+        want.as_slice()
+    );
     Ok(())
 }

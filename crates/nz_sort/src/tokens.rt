@@ -6,7 +6,6 @@ ghost use Rattle.nz_spec.specs.Bounds as bounds;
 ghost use Rattle.nz_sort.specs.Form.{seen};
 ghost use Rattle.nz_sort.specs.Tokens.{meaning_of};
 
-use crate::taken::is_of_number_term;
 use nz_sexpr::{Token, Tree};
 
 /// The greatest numerator and the greatest denominator.
@@ -16,7 +15,7 @@ const GREATEST_NUMBER: u128 = 0x7fff_ffff_ffff_ffff_ffff_ffff_ffff_ffff;
 const NARROW_LIMIT: u64 = (u64::MAX - 255) / 10;
 
 /// How many digits a decimal may have after its point.
-const PLACE_LIMIT: usize = 38;
+pub(crate) const PLACE_LIMIT: usize = 38;
 
 /// What is asked of a token.
 #[derive(Clone, Copy, Debug, PartialEq, Eq)]
@@ -25,8 +24,6 @@ pub enum TokenTest {
     Wide,
     /// A decimal of too many places.
     LongDecimal,
-    /// A token that only terms over numbers, or a `let`, have.
-    OfNumberTerm,
 }
 
 /// Whether some token of the tree, at any depth, meets the test.
@@ -59,7 +56,6 @@ fn meets(token: &Token, test: TokenTest) -> bool
     match test {
         TokenTest::Wide => is_wide(token),
         TokenTest::LongDecimal => is_long_decimal(token),
-        TokenTest::OfNumberTerm => is_of_number_term(token),
     }
 }
 

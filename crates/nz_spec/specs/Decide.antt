@@ -1,27 +1,17 @@
 -- What a search answers to a check: over the constants of a table of terms, and the terms that are asserted by level.
 use Rattle.std.specs.Prelude.{◌≡◌, ℕ, ◌+◌, ◌<◌, List, [], ◌∷◌, ◌++◌, length, map, flat_map, Option, Some, None, ⊤, All, bytes_eq, slice_get}
 use Rattle.std.specs.List.{AllByRecursion, IsDistinct}
-use Rattle.nz_spec.specs.Term.{Constant, Head, constant, verum, falsum, negation, conjunction, disjunction, implication, exclusion, equality, distinction, choice, Term, Value, Assignment, IsOfSort, IsTrueUnder}
+use Rattle.nz_spec.specs.Term.{Constant, Head, constant_of, Term, Value, Assignment, IsOfSort, IsTrueUnder}
 use Rattle.nz_spec.specs.Table.{Node, term_in}
 use Rattle.nz_spec.specs.Script.{Binding}
-use Rattle.nz_spec.specs.Reply.{assignment_of, Note, atom_note}
+use Rattle.nz_spec.specs.Reply.{assignment_of, ValuesFit, Note, atom_note}
 use Rattle.nz_spec.specs.Work.{DecisionEntry, LearnedEntry, WorkLine, UnitLine, NoteLine}
 
 -- ---- Constants and asserted terms
 
 -- the constant that a head is, if it is one
 abbrev pub constants_of_head : Head → List Constant
-constants_of_head (constant c) = c ∷ []
-constants_of_head verum = []
-constants_of_head falsum = []
-constants_of_head negation = []
-constants_of_head conjunction = []
-constants_of_head disjunction = []
-constants_of_head implication = []
-constants_of_head exclusion = []
-constants_of_head equality = []
-constants_of_head distinction = []
-constants_of_head choice = []
+constants_of_head h = elim (constant_of h) [ Some c ↦ c ∷ [] | None ↦ [] ]
 
 -- the constants of a table, in its order
 abbrev pub constants_in_table : List Node → List Constant
@@ -56,9 +46,10 @@ pub record Satisfies (cs : List Constant) (ts : List Term) (a : Assignment) : Ty
   pub sorts : AllByRecursion (λ (c : Constant). IsOfSort c.sort (a c.name)) cs
   pub assertions : AllByRecursion (IsTrueUnder a) ts
 
--- The bindings are of these constants, in their order, and satisfy these terms.
+-- The bindings are of these constants, in their order, each to a truth or a number, and satisfy these terms.
 pub record AreModelOf (cs : List Constant) (ts : List Term) (bs : List Binding) : Type 0 where
   pub constants : map (λ (b : Binding). b.constant) bs ≡ cs
+  pub numbers : ValuesFit bs
   pub makes : Satisfies cs ts (assignment_of bs)
 
 -- No assignment does.

@@ -1,6 +1,6 @@
 -- The order in which shared terms are taken: what a term is made of comes before it.
 use Rattle.std.specs.Prelude.{◌≡◌, ◌⊎◌, ℕ, List, [], ◌∷◌, ◌++◌, take, Some, All, Contains, slice_get}
-use Rattle.nz_spec.specs.Term.{Term, apply, Terms, no_terms, terms}
+use Rattle.nz_spec.specs.Term.{Head, integer_quotient, modulus, to_int, is_int, Term, apply, Terms, no_terms, terms}
 use Rattle.nz_spec.specs.Table.{Node}
 
 -- The subterms of a term in post-order: those of its arguments, from the left, and then itself.
@@ -11,6 +11,22 @@ abbrev mutual
   pub post_orders : Terms → List Term
   post_orders no_terms = []
   post_orders (terms t ts) = post_order t ++ post_orders ts
+
+-- What a term list has besides what a term is made of: the quotient with the remainder that it leaves, and the rounded
+-- number with the test whether rounding changes it.
+abbrev pub companions : Head → Terms → List Term
+companions modulus ts = apply integer_quotient ts ∷ []
+companions is_int ts = apply to_int ts ∷ []
+companions h ts = []
+
+-- The same order, where the companions of a term come just before it.
+abbrev mutual
+  pub listing_order : Term → List Term
+  listing_order (apply h ts) = listing_orders ts ++ companions h ts ++ apply h ts ∷ []
+
+  pub listing_orders : Terms → List Term
+  listing_orders no_terms = []
+  listing_orders (terms t ts) = listing_order t ++ listing_orders ts
 
 -- The list has each of these terms once, where it stands first, but none of those that were seen before.
 abbrev pub AreFirst : (seen all list : List Term) → Type 0

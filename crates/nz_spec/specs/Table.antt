@@ -1,7 +1,7 @@
 -- A table of shared terms: a list of nodes, the oldest first, each with the places of its arguments in the list.
 -- A place is the number of the term that stands there.
-use Rattle.std.specs.Prelude.{◌≡◌, ℕ, ◌<◌, ◌≤◌, ◌==◌, Bool, false, List, [], ◌∷◌, ◌++◌, length, take, Option, Some, None, All, fold, slice_get, slice_index_or, bytes_eq, unwrap_or, if◌then◌else◌}
-use Rattle.nz_spec.specs.Term.{Head, constant, verum, falsum, negation, conjunction, disjunction, implication, exclusion, equality, distinction, choice, Term, apply, Terms, no_terms, terms, Value, truth, Assignment}
+use Rattle.std.specs.Prelude.{◌≡◌, ℕ, ◌<◌, ◌≤◌, ◌==◌, Bool, false, IsTrue, List, [], ◌∷◌, ◌++◌, length, take, Option, Some, None, All, fold, slice_get, slice_index_or, bytes_eq, unwrap_or, if◌then◌else◌}
+use Rattle.nz_spec.specs.Term.{Head, falsum, constant_of, head_fits, Term, apply, Terms, no_terms, terms, Value, truth, Assignment}
 
 pub record Node : Type 0 where
   pub head : Head
@@ -24,10 +24,11 @@ with_term ts n = ts ++ apply n.head (terms_at (listed_term ts) n.kids) ∷ []
 unfoldable pub term_in : List Node → ℕ → Term
 term_in ns i = listed_term (fold with_term [] ns) i
 
--- Arguments come before the node, and no node stands twice.
+-- Arguments come before the node, no node stands twice, and what is spelled as a number is one.
 pub record IsTable (ns : List Node) : Type 0 where
   pub before : (i : ℕ) (n : Node) → slice_get ns i ≡ Some n → All (λ k. k < i) n.kids
   pub once : (i j : ℕ) (n : Node) → slice_get ns i ≡ Some n → slice_get ns j ≡ Some n → i ≡ j
+  pub fits : (i : ℕ) (n : Node) → slice_get ns i ≡ Some n → IsTrue (head_fits n.head)
 
 -- Equal terms have equal numbers.
 abbrev pub HasOneNumberEach : List Node → Type 0
@@ -58,17 +59,7 @@ TermsStay = (ns more : List Node) (is : List ℕ) → All (λ i. i < length ns) 
 
 -- the head is the constant of this name
 abbrev pub is_constant_named : Head → List ℕ → Bool
-is_constant_named (constant c) name = bytes_eq c.name name
-is_constant_named verum name = false
-is_constant_named falsum name = false
-is_constant_named negation name = false
-is_constant_named conjunction name = false
-is_constant_named disjunction name = false
-is_constant_named implication name = false
-is_constant_named exclusion name = false
-is_constant_named equality name = false
-is_constant_named distinction name = false
-is_constant_named choice name = false
+is_constant_named h name = elim (constant_of h) [ Some c ↦ bytes_eq c.name name | None ↦ false ]
 
 abbrev pub is_named : Option Node → List ℕ → Bool
 is_named None name = false

@@ -1,18 +1,25 @@
--- Terms, sorts and values (SMT-LIB 2.6, section 3.6, terms, and theory Core).
-use Rattle.std.specs.Prelude.{◌≡◌, ℕ, ◌&&◌, ◌||◌, Bool, true, false, not, IsTrue, List, [], ◌∷◌, ⊤, if◌then◌else◌}
+-- Terms, sorts and values (SMT-LIB 2.6, section 3.6, terms, and the theories Core and Reals_Ints).
+use Rattle.std.specs.Prelude.{◌≡◌, ℕ, suc, ◌^◌, ◌&&◌, ◌||◌, Bool, true, false, not, IsTrue, nat_le, List, [], ◌∷◌, ℤ, pos, negsuc, ◌+ℤ◌, ◌*ℤ◌, neg_ℤ, ◌≤ℤ◌, ◌<ℤ◌, unsigned_abs, ⊤, Option, Some, None, if◌then◌else◌}
 use Rattle.std.specs.List.{list_all, list_any}
+use Rattle.nz_spec.specs.Fraction.{Fraction, whole, IsWhole, IsNumber, ratio, fraction_eq, fraction_le, fraction_lt, neg_ℚ, floor, floor_div, Operator, Sum, Difference, Product, Quotient, outcome, exceeds}
+use Rattle.nz_spec.specs.Bounds.{place_limit}
 
 pub data Sort : Type 0 where
   bool_sort : Sort
+  int_sort : Sort
+  real_sort : Sort
 
 -- a declared constant
 pub record Constant : Type 0 where
   pub name : List ℕ
   pub sort : Sort
 
--- What a term is of: an operator, or a constant.
+-- What a term is of: an operator, a constant, or a number.
 pub data Head : Type 0 where
   constant : Constant → Head
+  parameter : ℕ → Sort → Head  -- of a definition, by its place; it stands in the definition's body alone
+  integer : ℕ → Head  -- a numeral
+  decimal_number : ℕ → ℕ → Head  -- a decimal: its digits as one number, and how many stand after the point
   verum : Head  -- true
   falsum : Head  -- false
   negation : Head  -- not
@@ -22,7 +29,49 @@ pub data Head : Type 0 where
   exclusion : Head  -- xor
   equality : Head  -- =
   distinction : Head  -- distinct
-  choice : Head  -- ite
+  choice : Sort → Head  -- ite, over branches of this sort
+  less : Head  -- <
+  at_most : Head  -- <=
+  greater : Head  -- >
+  at_least : Head  -- >=
+  sum : Sort → Head  -- +, over Int or over Real
+  difference : Sort → Head  -- -, of one argument too
+  product : Sort → Head  -- *
+  quotient : Head  -- /
+  integer_quotient : Head  -- div
+  modulus : Head  -- mod
+  magnitude : Head  -- abs
+  to_real : Head
+  to_int : Head
+  is_int : Head
+
+abbrev pub constant_of : Head → Option Constant
+constant_of (constant c) = Some c
+constant_of h = None
+
+-- A numeral is a number where it is at most M; a decimal where its digits are, and at most 38 of them stand after the point.
+abbrev pub head_fits : Head → Bool
+head_fits (integer n) = not (exceeds n)
+head_fits (decimal_number n places) = not (exceeds n) && nat_le places place_limit
+head_fits h = true
+
+-- the sort of a term, which its head tells
+abbrev pub head_sort : Head → Sort
+head_sort (constant c) = c.sort
+head_sort (parameter i s) = s
+head_sort (integer n) = int_sort
+head_sort (decimal_number n places) = real_sort
+head_sort (choice s) = s
+head_sort (sum s) = s
+head_sort (difference s) = s
+head_sort (product s) = s
+head_sort quotient = real_sort
+head_sort integer_quotient = int_sort
+head_sort modulus = int_sort
+head_sort magnitude = int_sort
+head_sort to_real = real_sort
+head_sort to_int = int_sort
+head_sort h = bool_sort
 
 mutual
   pub data Term : Type 0 where
@@ -32,10 +81,28 @@ mutual
     no_terms : Terms
     terms : Term → Terms → Terms
 
+abbrev pub sort_of : Term → Sort
+sort_of (apply h ts) = head_sort h
+
+abbrev pub is_bool : Sort → Bool
+is_bool bool_sort = true
+is_bool s = false
+
+-- the term, or one that it is made of, is of sort Int or Real
+abbrev mutual
+  pub holds_number : Term → Bool
+  holds_number (apply h ts) = not (is_bool (head_sort h)) || hold_number ts
+
+  pub hold_number : Terms → Bool
+  hold_number no_terms = false
+  hold_number (terms t ts) = holds_number t || hold_number ts
+
 -- ---- Values
 
+-- A value of sort Int is a fraction too, a whole one.
 pub data Value : Type 0 where
   truth : Bool → Value
+  number : Fraction → Value
 
 -- what each constant stands for, by its name
 abbrev pub Assignment : Type 0
@@ -43,53 +110,174 @@ Assignment = List ℕ → Value
 
 abbrev pub is_true : Value → Bool
 is_true (truth b) = b
+is_true (number q) = false
+
+abbrev pub number_of : Value → Fraction
+number_of (truth b) = whole (pos 0)
+number_of (number q) = q
 
 -- the value is one of the sort
 abbrev pub IsOfSort : Sort → Value → Type 0
 IsOfSort bool_sort (truth b) = ⊤
+IsOfSort bool_sort (number q) = ⊥
+IsOfSort int_sort (truth b) = ⊥
+IsOfSort int_sort (number q) = IsWhole q
+IsOfSort real_sort (truth b) = ⊥
+IsOfSort real_sort (number q) = ⊤
+
+-- where the value is a number, it is one of 128 bits, in lowest terms
+abbrev pub ValueFits : Value → Type 0
+ValueFits (truth b) = ⊤
+ValueFits (number q) = IsNumber q
 
 abbrev pub are_equal : Value → Value → Bool
 are_equal (truth true) v = is_true v
 are_equal (truth false) v = not (is_true v)
+are_equal (number q) v = fraction_eq q (number_of v)
+
+abbrev pub is_less : Value → Value → Bool
+is_less v w = fraction_lt (number_of v) (number_of w)
+
+abbrev pub is_at_most : Value → Value → Bool
+is_at_most v w = fraction_le (number_of v) (number_of w)
+
+-- `and` and `or` of one value are that value
+abbrev pub all_true : List Value → Value
+all_true [] = truth true
+all_true (v ∷ []) = v
+all_true (v ∷ w ∷ vs) = truth (list_all is_true (v ∷ w ∷ vs))
+
+abbrev pub some_true : List Value → Value
+some_true [] = truth false
+some_true (v ∷ []) = v
+some_true (v ∷ w ∷ vs) = truth (list_any is_true (v ∷ w ∷ vs))
 
 -- `=>` groups to the right: what comes before the last implies it, one after another
-abbrev pub implies : List Value → Bool
-implies [] = true
-implies (v ∷ []) = is_true v
-implies (v ∷ w ∷ vs) = not (is_true v) || implies (w ∷ vs)
+abbrev pub implied : List Value → Value
+implied [] = truth true
+implied (v ∷ []) = v
+implied (v ∷ w ∷ vs) = truth (not (is_true v) || is_true (implied (w ∷ vs)))
 
--- `xor` groups to the left
-abbrev pub differs_from : Value → List Value → Value
-differs_from v [] = v
-differs_from v (w ∷ ws) = differs_from (truth (not (are_equal v w))) ws
+-- `xor` of two
+abbrev pub excluded : Value → Value → Value
+excluded v w = truth (not (are_equal v w))
 
--- `=` is chainable: each value equals the next
-abbrev pub are_chained : List Value → Bool
-are_chained [] = true
-are_chained (v ∷ []) = true
-are_chained (v ∷ w ∷ vs) = are_equal v w && are_chained (w ∷ vs)
+-- `=` and the comparisons are chainable: each value is so to the next
+abbrev pub are_chained : (Value → Value → Bool) → List Value → Bool
+are_chained related [] = true
+are_chained related (v ∷ []) = true
+are_chained related (v ∷ w ∷ vs) = related v w && are_chained related (w ∷ vs)
 
 -- `distinct` is pairwise: no two values are equal
 abbrev pub are_distinct : List Value → Bool
 are_distinct [] = true
 are_distinct (v ∷ vs) = not (list_any (are_equal v) vs) && are_distinct vs
 
+-- a value with the others, one after another, from the left
+abbrev pub combined : (Value → Value → Value) → Value → List Value → Value
+combined f v [] = v
+combined f v (w ∷ ws) = combined f (f v w) ws
+
+abbrev pub whole_number : ℤ → Value
+whole_number n = number (whole n)
+
+abbrev pub is_zero : Fraction → Bool
+is_zero q = fraction_eq q (whole (pos 0))
+
+-- a quotient by 0 is no operation
+abbrev pub is_undefined : Operator → Fraction → Bool
+is_undefined Quotient q = is_zero q
+is_undefined op q = false
+
+-- an operation on two numbers, of any size; a quotient by 0, which no linear term has, is 0
+abbrev pub carried_out : Operator → Value → Value → Value
+carried_out op v w = if is_undefined op (number_of w) then whole_number (pos 0) else number (outcome op (number_of v) (number_of w))
+
+-- `div` and `mod` by n other than 0: of m the q and the r with m = n*q + r and 0 <= r < |n|
+unfoldable pub div_of : ℤ → ℤ → ℤ
+div_of m (pos n) = floor_div m n
+div_of m (negsuc n) = neg_ℤ (floor_div m (suc n))
+
+unfoldable pub mod_of : ℤ → ℤ → ℤ
+mod_of m n = m +ℤ neg_ℤ (n *ℤ div_of m n)
+
+pub record IsDivision (m n q r : ℤ) : Type 0 where
+  pub whole_of : m ≡ n *ℤ q +ℤ r
+  pub at_least_zero : pos 0 ≤ℤ r
+  pub below : r <ℤ pos (unsigned_abs n)
+
+-- `div_of` and `mod_of` compute these, and no other two numbers are so.
+abbrev pub Divides : Type 0
+Divides = (m n : ℤ) → (n ≡ pos 0 → ⊥) → IsDivision m n (div_of m n) (mod_of m n)
+
+abbrev pub DividesOnce : Type 0
+DividesOnce = (m n q r : ℤ) → IsDivision m n q r → (q ≡ div_of m n) × (r ≡ mod_of m n)
+
+-- the integer that a value of sort Int is
+abbrev pub integer_of : Value → ℤ
+integer_of v = floor (number_of v)
+
+abbrev pub divided : Value → Value → Value
+divided v w = whole_number (div_of (integer_of v) (integer_of w))
+
+-- a number of so many decimal places
+abbrev pub scaled : ℕ → ℕ → Fraction
+scaled digits places = ratio (pos digits) (pos (10 ^ places))
+
+-- A decimal that fits is a number.
+abbrev pub DecimalsAreNumbers : Type 0
+DecimalsAreNumbers = (digits places : ℕ) → IsTrue (head_fits (decimal_number digits places)) → IsNumber (scaled digits places)
+
+-- what a parameter stands for where nothing is put in its place
+abbrev pub default_value : Sort → Value
+default_value bool_sort = truth false
+default_value int_sort = whole_number (pos 0)
+default_value real_sort = whole_number (pos 0)
+
 -- what an operator makes of the values of its arguments
 abbrev pub head_value : Assignment → Head → List Value → Value
 head_value a (constant c) vs = a c.name
+head_value a (parameter i s) vs = default_value s
+head_value a (integer n) vs = whole_number (pos n)
+head_value a (decimal_number n places) vs = number (scaled n places)
 head_value a verum vs = truth true
 head_value a falsum vs = truth false
 head_value a negation [] = truth false
 head_value a negation (v ∷ vs) = truth (not (is_true v))
-head_value a conjunction vs = truth (list_all is_true vs)
-head_value a disjunction vs = truth (list_any is_true vs)
-head_value a implication vs = truth (implies vs)
+head_value a conjunction vs = all_true vs
+head_value a disjunction vs = some_true vs
+head_value a implication vs = implied vs
 head_value a exclusion [] = truth false
-head_value a exclusion (v ∷ vs) = differs_from v vs
-head_value a equality vs = truth (are_chained vs)
+head_value a exclusion (v ∷ vs) = combined excluded v vs
+head_value a equality vs = truth (are_chained are_equal vs)
 head_value a distinction vs = truth (are_distinct vs)
-head_value a choice (c ∷ v ∷ w ∷ []) = if is_true c then v else w
-head_value a choice vs = truth false
+head_value a (choice s) (c ∷ v ∷ w ∷ []) = if is_true c then v else w
+head_value a (choice s) vs = truth false
+head_value a less vs = truth (are_chained is_less vs)
+head_value a at_most vs = truth (are_chained is_at_most vs)
+head_value a greater vs = truth (are_chained (λ v w. is_less w v) vs)
+head_value a at_least vs = truth (are_chained (λ v w. is_at_most w v) vs)
+head_value a (sum s) [] = whole_number (pos 0)
+head_value a (sum s) (v ∷ vs) = combined (carried_out Sum) v vs
+head_value a (difference s) [] = whole_number (pos 0)
+head_value a (difference s) (v ∷ []) = number (neg_ℚ (number_of v))
+head_value a (difference s) (v ∷ w ∷ vs) = combined (carried_out Difference) v (w ∷ vs)
+head_value a (product s) [] = whole_number (pos 1)
+head_value a (product s) (v ∷ vs) = combined (carried_out Product) v vs
+head_value a quotient [] = whole_number (pos 1)
+head_value a quotient (v ∷ vs) = combined (carried_out Quotient) v vs
+head_value a integer_quotient [] = whole_number (pos 1)
+head_value a integer_quotient (v ∷ vs) = combined divided v vs
+head_value a modulus (v ∷ w ∷ []) = whole_number (mod_of (integer_of v) (integer_of w))
+head_value a modulus vs = whole_number (pos 0)
+head_value a magnitude (v ∷ []) = whole_number (pos (unsigned_abs (integer_of v)))
+head_value a magnitude vs = whole_number (pos 0)
+head_value a to_real (v ∷ []) = v
+head_value a to_real vs = whole_number (pos 0)
+head_value a to_int (v ∷ []) = whole_number (integer_of v)
+head_value a to_int vs = whole_number (pos 0)
+head_value a is_int (v ∷ []) = truth (fraction_eq (number_of v) (whole (integer_of v)))
+head_value a is_int vs = truth false
 
 -- the value of a term under an assignment
 abbrev mutual
@@ -102,70 +290,3 @@ abbrev mutual
 
 abbrev pub IsTrueUnder : Assignment → Term → Type 0
 IsTrueUnder a t = IsTrue (is_true (value_of a t))
-
--- ---- Normal terms: of the operators only not, and, or, xor and = of two arguments, and ite
-
-abbrev pub negated : Term → Term
-negated t = apply negation (terms t no_terms)
-
-abbrev pub paired : Head → Term → Term → Term
-paired h t u = apply h (terms t (terms u no_terms))
-
--- `=>` by `or` and `not`
-abbrev pub implication_of : Terms → Term
-implication_of no_terms = apply verum no_terms
-implication_of (terms t no_terms) = t
-implication_of (terms t (terms u ts)) = paired disjunction (negated t) (implication_of (terms u ts))
-
--- `xor` by pairs, from the left
-abbrev pub exclusion_onto : Term → Terms → Term
-exclusion_onto t no_terms = t
-exclusion_onto t (terms u ts) = exclusion_onto (paired exclusion t u) ts
-
--- an equation for each term and the next
-abbrev pub equations_of : Terms → Terms
-equations_of no_terms = no_terms
-equations_of (terms t no_terms) = no_terms
-equations_of (terms t (terms u ts)) = terms (paired equality t u) (equations_of (terms u ts))
-
--- the negated equations of one term with each of these, and then others
-abbrev pub disequations_onto : Term → Terms → Terms → Terms
-disequations_onto t no_terms others = others
-disequations_onto t (terms u ts) others = terms (negated (paired equality t u)) (disequations_onto t ts others)
-
--- a negated equation for each two terms, by the place of the first and then of the second
-abbrev pub disequations_of : Terms → Terms
-disequations_of no_terms = no_terms
-disequations_of (terms t ts) = disequations_onto t ts (disequations_of ts)
-
--- a conjunction, or a disjunction, of one term is that term
-abbrev pub joined_by : Head → Terms → Term
-joined_by h (terms t no_terms) = t
-joined_by h ts = apply h ts
-
--- a term of this head over terms that are normal already
-abbrev pub normal_node : Head → Terms → Term
-normal_node (constant c) ts = apply (constant c) ts
-normal_node verum ts = apply verum ts
-normal_node falsum ts = apply falsum ts
-normal_node negation ts = apply negation ts
-normal_node conjunction ts = joined_by conjunction ts
-normal_node disjunction ts = joined_by disjunction ts
-normal_node implication ts = implication_of ts
-normal_node exclusion no_terms = apply falsum no_terms
-normal_node exclusion (terms t ts) = exclusion_onto t ts
-normal_node equality ts = joined_by conjunction (equations_of ts)
-normal_node distinction ts = joined_by conjunction (disequations_of ts)
-normal_node choice ts = apply choice ts
-
-abbrev mutual
-  pub normal_of : Term → Term
-  normal_of (apply h ts) = normal_node h (normals_of ts)
-
-  pub normals_of : Terms → Terms
-  normals_of no_terms = no_terms
-  normals_of (terms t ts) = terms (normal_of t) (normals_of ts)
-
--- A term and its normal term have one value under each assignment.
-abbrev pub NormalKeepsValue : Type 0
-NormalKeepsValue = (a : Assignment) (t : Term) → value_of a (normal_of t) ≡ value_of a t

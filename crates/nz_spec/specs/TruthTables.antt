@@ -1,6 +1,7 @@
 -- Worked values of the operators of the theory Core: columns of truth tables, and normal terms, computed from the definitions.
 use Rattle.std.specs.Prelude.{◌≡◌, Bool, true, false, List, [], ◌∷◌, ◌++◌, map, codes}
-use Rattle.nz_spec.specs.Term.{bool_sort, Head, constant, conjunction, implication, exclusion, equality, distinction, choice, disjunction, Term, apply, no_terms, terms, Value, truth, is_true, head_value, negated, paired, normal_of}
+use Rattle.nz_spec.specs.Term.{bool_sort, Head, constant, conjunction, implication, exclusion, equality, distinction, choice, disjunction, Term, apply, no_terms, terms, Value, truth, is_true, head_value}
+use Rattle.nz_spec.specs.Normal.{negated, paired, normal_of}
 
 -- the values of two, and of three, arguments, the last changing first
 abbrev pub pairs : List (List Value)
@@ -32,7 +33,7 @@ pub record HasTriples : Type 0 where
   pub excludes : column exclusion triples ≡ false ∷ true ∷ true ∷ false ∷ true ∷ false ∷ false ∷ true ∷ []
   pub equals : column equality triples ≡ true ∷ false ∷ false ∷ false ∷ false ∷ false ∷ false ∷ true ∷ []
   pub differs : column distinction triples ≡ false ∷ false ∷ false ∷ false ∷ false ∷ false ∷ false ∷ false ∷ []
-  pub chooses : column choice triples ≡ false ∷ true ∷ false ∷ true ∷ false ∷ false ∷ true ∷ true ∷ []
+  pub chooses : column (choice bool_sort) triples ≡ false ∷ true ∷ false ∷ true ∷ false ∷ false ∷ true ∷ true ∷ []
 
 -- three constants
 abbrev pub a_term : Term

@@ -3,8 +3,11 @@
 //! A definition stands in `specs/`, over plain data. A law is the contract of a function with no body to run.
 #![tactic(auto)]
 
+pub mod elaboration;
 pub mod example;
 pub mod fraction;
+pub mod reply;
+pub mod script;
 pub mod table;
 pub mod term;
 pub mod text;

@@ -1,5 +1,8 @@
 pub mod Equality
+pub mod Instancing
 pub mod Keys
+pub mod Knowledge
+pub mod Numbers
 pub mod Places
 pub mod Tables
 pub mod Traversal

@@ -2,14 +2,15 @@
 use Rattle.std.proofs.Common.{◌≡◌, ℕ, zero, suc, ◌<◌, ◌⊎◌, inl, inr, Bool, true, false, cond, List, [], ◌∷◌, ◌++◌, length, map, take, drop, Some, All, slice_get, refl, sym, ap, subst, ◌∙◌, arith}
 use Rattle.std.proofs.lemmas.List.{map-append, take-append-drop}
 use Rattle.std.proofs.lemmas.Option.{slice_get-map}
-use Rattle.std.specs.Prelude.{option_map}
+use Rattle.std.specs.Prelude.{option_map, IsTrue, OnOk, Result, Ok, Err}
 use Rattle.std.specs.List.{IsDistinct, list_any}
 use Rattle.indexmap.specs.IndexSet.{insert_key}
-use Rattle.nz_spec.specs.Term.{apply}
+use Rattle.nz_spec.specs.Term.{apply, head_fits}
 use Rattle.nz_spec.specs.Table as table
 use Rattle.nz_spec.specs.Table.{IsTable, term_in, terms_at}
 use Rattle.nz_spec.proofs.Tables as laws
 use Rattle.nz_term.specs.declared.nodes.Node.{Node}
+use Rattle.nz_term.specs.Growth.{GoesOn}
 use Rattle.nz_term.specs.Nodes.{node_of}
 use Rattle.nz_term.specs.contracts.nodes.NodePartialEq.TheImpl as nodes
 use Rattle.nz_term.proofs.Equality.{same_node, tells_nodes}
@@ -18,7 +19,7 @@ use Rattle.nz_term.proofs.Keys.{once}
 -- ---- Places in a list that grows
 
 -- an element keeps its place
-kept : {X : Type 0} (xs ys : List X) (i : ℕ) (x : X) → slice_get xs i ≡ Some x → slice_get (xs ++ ys) i ≡ Some x
+pub kept : {X : Type 0} (xs ys : List X) (i : ℕ) (x : X) → slice_get xs i ≡ Some x → slice_get (xs ++ ys) i ≡ Some x
 kept [] ys i x at = cc
 kept (z ∷ zs) ys zero x at = at
 kept (z ∷ zs) ys (suc i) x at = kept zs ys i x at
@@ -42,11 +43,12 @@ front_table ns m t =
     record {
       before = λ i n at. t.before i n (back i n at);
       once = λ i j n at beside. t.once i j n (back i n at) (back j n beside);
+      fits = λ i n at. t.fits i n (back i n at);
     }
 
--- how a table goes on: the node was there, or it is put last
-abbrev pub GoesOn : List table.Node → table.Node → List table.Node → Type 0
-GoesOn ns n new = (new ≡ ns) ⊎ (new ≡ ns ++ n ∷ [])
+grown_fits : (ns : List table.Node) (n : table.Node) → IsTable ns → IsTrue (head_fits n.head)
+    → (i : ℕ) (m : table.Node) → slice_get (ns ++ n ∷ []) i ≡ Some m → IsTrue (head_fits m.head)
+grown_fits ns n t fits i m at = elim (came ns n i m at) [ inl there ↦ t.fits i m there | inr last ↦ subst (λ x. IsTrue (head_fits x.head)) last.1 fits ]
 
 grown_before : (ns : List table.Node) (n : table.Node) → IsTable ns → All (λ k. k < length ns) n.kids
     → (i : ℕ) (m : table.Node) → slice_get (ns ++ n ∷ []) i ≡ Some m → All (λ k. k < i) m.kids
@@ -85,14 +87,18 @@ made_grown ks k new e = by (list_any (node_eq k) ks) refl
     by false gone = inr (ap (map node_of) (e ∙ ap (λ c. cond c ks (ks ++ k ∷ [])) gone) ∙ map-append node_of ks (k ∷ []))
 
 pub made_table : (ks : List Node) (k : Node) (new : List Node) → new ≡ insert_key node_eq ks k → IsDistinct node_eq new
-    → IsTable (map node_of ks) → All (λ i. i < length (map node_of ks)) k.kids → IsTable (map node_of new)
-made_table ks k new e distinct t within =
+    → IsTable (map node_of ks) → All (λ i. i < length (map node_of ks)) k.kids → IsTrue (head_fits (node_of k).head) → IsTable (map node_of new)
+made_table ks k new e distinct t within fits =
     record {
       before = elim (made_grown ks k new e) [
         | inl same ↦ subst (λ l. (i : ℕ) (m : table.Node) → slice_get l i ≡ Some m → All (λ j. j < i) m.kids) (sym same) t.before
         | inr more ↦ subst (λ l. (i : ℕ) (m : table.Node) → slice_get l i ≡ Some m → All (λ j. j < i) m.kids) (sym more) (grown_before (map node_of ks) (node_of k) t within)
       ];
       once = once node_eq node_of tells_nodes new distinct;
+      fits = elim (made_grown ks k new e) [
+        | inl same ↦ subst (λ l. (i : ℕ) (m : table.Node) → slice_get l i ≡ Some m → IsTrue (head_fits m.head)) (sym same) t.fits
+        | inr more ↦ subst (λ l. (i : ℕ) (m : table.Node) → slice_get l i ≡ Some m → IsTrue (head_fits m.head)) (sym more) (grown_fits (map node_of ks) (node_of k) t fits)
+      ];
     }
 
 -- the node at the place where a key equal to it stands
@@ -100,3 +106,8 @@ pub made_node : (new : List Node) (k : Node) (id : ℕ) → (stored : Node) × (
     → slice_get (map node_of new) id ≡ Some (node_of k)
 made_node new k id found =
     slice_get-map node_of new id ∙ ap (option_map node_of) found.1 ∙ ap Some (sym (same_node k found.0 found.2))
+
+-- what holds in any case holds after a success
+pub on_ok : {T E P : Type 0} (r : Result T E) → P → OnOk r P
+on_ok (Ok x) p = p
+on_ok (Err e) p = tt

@@ -5,6 +5,7 @@ ghost use Rattle.nz_term.specs.Values.{value_of, pair_of};
 
 use crate::nodes::TermId;
 use nz_base::Memory;
+use nz_frac::Frac;
 use std::alloc::Global;
 use std::marker::Model;
 
@@ -13,6 +14,8 @@ use std::marker::Model;
 pub enum Value {
     /// Of sort `Bool`.
     Truth(bool),
+    /// Of sort `Int` or `Real`; of sort `Int` it is whole.
+    Number(Frac),
 }
 
 /// Numbers of constants, each with its value, in order. A contract sees them as a list of pairs; by a table they give

@@ -1,10 +1,35 @@
-//! What a term is of: an operator of the theory Core (SMT-LIB 2.6), or a declared constant.
+//! What a term is of: an operator of the theories Core and Reals_Ints (SMT-LIB 2.6), a declared constant, or a number.
+ghost use Rattle.std.specs.Prelude.{◌≡◌, bytes_eq};
+ghost use Rattle.std.specs.Cmp.{on_equiv, on_per, partial_equiv_from_equiv};
+ghost use Rattle.std.specs.Cmp.Lexicographic.{bytes_decides, nat_list_eq_equiv};
+ghost use Rattle.std.specs.Hash.{on_Alike, same_Alike};
+ghost use Rattle.nz_spec.specs.Term.{head_sort};
+ghost use Rattle.nz_term.specs.Constants.{sort_of};
+ghost use Rattle.nz_term.specs.Heads.{head_of};
+ghost use Rattle.nz_term.specs.Parts.{digits_in, fed_of, kind_of, name_in, parts_of, place_in, sort_number};
+
 use nz_base::Text;
+use std::hash::{Hash, Hasher};
 
 /// A sort.
 #[derive(Clone, Copy, Debug, PartialEq, Eq, Hash)]
 pub enum Sort {
     Bool,
+    Int,
+    Real,
+}
+
+impl Sort {
+    /// A number that tells sorts apart.
+    fn number(self) -> u8
+        ensures number { result ≡ sort_number (sort_of self) }
+    {
+        match self {
+            Sort::Bool => 0,
+            Sort::Int => 1,
+            Sort::Real => 2,
+        }
+    }
 }
 
 /// A declared constant. Two of one name and one sort are the same constant.
@@ -14,11 +39,17 @@ pub struct Constant {
     pub sort: Sort,
 }
 
-/// The head of a normal term.
-#[derive(Clone, Debug, Drop, PartialEq, Eq, Hash)]
+/// The head of a normal term. Where an operator is over Int or over Real, its head says which.
+#[derive(Clone, Debug, Drop)]
 pub enum Head {
     /// A constant, which has no arguments.
     Constant(Constant),
+    /// A parameter of a definition, by its place. It stands in the definition's body alone.
+    Parameter(usize, Sort),
+    /// A numeral.
+    Integer(u128),
+    /// A decimal: its digits as one number, and how many of them stand after the point.
+    Decimal(u128, usize),
     True,
     False,
     Not,
@@ -28,6 +59,138 @@ pub enum Head {
     Xor,
     /// Of two arguments.
     Equal,
-    /// Of three arguments: a condition, and a term for each answer.
-    Ite,
+    /// Of three arguments: a condition, and a term of this sort for each answer.
+    Ite(Sort),
+    /// `<`, of two arguments.
+    Less,
+    /// `<=`, of two arguments.
+    AtMost,
+    Sum(Sort),
+    /// Of one argument, its negation.
+    Difference(Sort),
+    Product(Sort),
+    /// `/`, of two arguments.
+    Quotient,
+    /// `div`, of two arguments.
+    Div,
+    /// `mod`, of two arguments.
+    Mod,
+    /// `abs`.
+    Abs,
+    ToReal,
+    ToInt,
+    IsInt,
+}
+
+impl Head {
+    /// The sort of a term of this head.
+    pub fn sort(&self) -> Sort
+        ensures sort { sort_of result ≡ head_sort (head_of self.now) }
+    {
+        match self {
+            Head::Constant(constant) => constant.sort,
+            Head::Parameter(_, sort)
+            | Head::Ite(sort)
+            | Head::Sum(sort)
+            | Head::Difference(sort)
+            | Head::Product(sort) => *sort,
+            Head::Integer(_) | Head::Div | Head::Mod | Head::Abs | Head::ToInt => Sort::Int,
+            Head::Decimal(_, _) | Head::Quotient | Head::ToReal => Sort::Real,
+            _ => Sort::Bool,
+        }
+    }
+
+    /// A number that tells heads apart, whatever they hold.
+    fn kind(&self) -> u8
+        ensures kind { result ≡ kind_of self.now }
+    {
+        match self {
+            Head::Constant(_) => 0,
+            Head::Parameter(_, _) => 1,
+            Head::Integer(_) => 2,
+            Head::Decimal(_, _) => 3,
+            Head::True => 4,
+            Head::False => 5,
+            Head::Not => 6,
+            Head::And => 7,
+            Head::Or => 8,
+            Head::Xor => 9,
+            Head::Equal => 10,
+            Head::Ite(_) => 11,
+            Head::Less => 12,
+            Head::AtMost => 13,
+            Head::Sum(_) => 14,
+            Head::Difference(_) => 15,
+            Head::Product(_) => 16,
+            Head::Quotient => 17,
+            Head::Div => 18,
+            Head::Mod => 19,
+            Head::Abs => 20,
+            Head::ToReal => 21,
+            Head::ToInt => 22,
+            Head::IsInt => 23,
+        }
+    }
+
+    /// The digits of a number; 0 for another head.
+    fn digits(&self) -> u128
+        ensures digits { result ≡ digits_in self.now }
+    {
+        match self {
+            Head::Integer(digits) | Head::Decimal(digits, _) => *digits,
+            _ => 0,
+        }
+    }
+
+    /// The place of a parameter, or how many digits of a decimal stand after the point; 0 for another head.
+    fn place(&self) -> usize
+        ensures place { result ≡ place_in self.now }
+    {
+        match self {
+            Head::Parameter(place, _) | Head::Decimal(_, place) => *place,
+            _ => 0,
+        }
+    }
+
+    /// The name of a constant; nothing for another head.
+    fn name(&self) -> &[u8]
+        ensures name { result.now ≡ name_in self.now }
+    {
+        match self {
+            Head::Constant(constant) => constant.name.as_bytes(),
+            _ => &[],
+        }
+    }
+}
+
+// By hand, since a derived equality of so many variants is a case for each two of them in a proof.
+impl PartialEq for Head {
+    ghost eq = { λ a b. bytes_eq (parts_of a) (parts_of b) };
+
+    ghost laws = { on_per parts_of (partial_equiv_from_equiv nat_list_eq_equiv) };
+
+    fn eq(&self, other: &Head) -> bool {
+        self.kind() == other.kind()
+            && self.sort().number() == other.sort().number()
+            && self.digits() == other.digits()
+            && self.place() == other.place()
+            && self.name() == other.name()
+    }
+}
+
+impl Eq for Head {
+    ghost laws = { on_equiv parts_of nat_list_eq_equiv };
+}
+
+impl Hash for Head {
+    ghost hash_input = { λ h. fed_of (parts_of h) };
+
+    ghost respects_eq = { (on_Alike parts_of (same_Alike fed_of bytes_decides)).fed };
+
+    fn hash<H: Hasher>(&self, state: &mut H) {
+        state.write_u8(self.kind());
+        self.digits().hash(state);
+        self.place().hash(state);
+        self.name().hash(state);
+    }
 }

@@ -5,7 +5,9 @@
 #![tactic(auto)]
 
 mod assign;
+mod facts;
 mod heads;
+mod instances;
 mod nodes;
 mod order;
 mod terms;
@@ -14,6 +16,7 @@ mod tests;
 
 pub use assign::{Assign, Value};
 pub use heads::{Constant, Head, Sort};
+pub use instances::instance;
 pub use nodes::{Ids, Node, TermId};
 pub use order::post_order;
 pub use terms::Terms;

@@ -1,14 +1,19 @@
 //! The table of shared terms.
-ghost use Rattle.std.specs.Prelude.{◌≡◌, ℕ, ◌<◌, ◌==◌, ◌⊎◌, [], ◌∷◌, ◌++◌, length, take, All, Some, IfOk, OnOk, OnErr, IsOkAnd, option_map, slice_get};
-ghost use Rattle.nz_spec.specs.Term.{apply};
+ghost use Rattle.std.specs.Prelude.{◌≡◌, ℕ, ◌<◌, ◌==◌, ◌⊎◌, [], ◌∷◌, ◌++◌, length, map, take, All, Some, IsTrue, IfOk, OnOk, OnErr, IsOkAnd, option_map, slice_get};
+ghost use Rattle.nz_spec.specs.Linear.{constant_value, is_linear};
+ghost use Rattle.nz_spec.specs.Term.{apply, head_fits, holds_number};
 ghost use Rattle.nz_spec.specs.Table.{IsTable, HasOneNumberEach, term_in, terms_at};
+ghost use Rattle.nz_term.specs.Facts.{fact_of};
+ghost use Rattle.nz_term.specs.Growth.{GoesOn};
 ghost use Rattle.nz_term.specs.Heads.{head_of};
 ghost use Rattle.nz_term.specs.Nodes.{node_of, node_with};
 
+use crate::facts::{Fact, fact_over};
 use crate::heads::Head;
 use crate::nodes::{Ids, Node, TermId};
 use indexmap::IndexSet;
 use nz_base::Memory;
+use nz_frac::Frac;
 use std::alloc::Global;
 use std::marker::Model;
 
@@ -16,19 +21,22 @@ use std::marker::Model;
 #[derive(Debug, Drop)]
 pub struct Terms {
     nodes: IndexSet<Node>,
+    // What is known of each term, in order.
+    facts: Vec<Fact>,
 }
 
 impl Model for Terms {
     ghost use Rattle.std.specs.Prelude.{List, map};
-    ghost use Rattle.nz_spec.specs.Table.{Node, IsTable};
+    ghost use Rattle.nz_spec.specs.Table.{Node};
 
     ghost Value = { List Node };
 
+    ghost use Rattle.nz_term.specs.Facts.{IsKnown};
     ghost use Rattle.nz_term.specs.Nodes.{node_of};
 
     ghost view = { λ t. map node_of t.nodes.keys };
 
-    ghost invariant = { λ t. IsTable (map node_of t.nodes.keys) };
+    ghost invariant = { λ t. IsKnown (map node_of t.nodes.keys) t.facts.items };
 }
 
 impl Terms {
@@ -38,13 +46,15 @@ impl Terms {
     {
         Ok(Terms {
             nodes: IndexSet::new(alloc),
+            facts: Vec::new(alloc),
         })
     }
 
     /// The number of the term of this head over the terms of these numbers. A term that is there already has the number
-    /// that it had.
+    /// that it had. A numeral or decimal must be a number.
     pub fn make(&mut self, head: Head, kids: &[TermId]) -> Result<TermId, Memory>
-        requires { All (λ k. k < length self.old) kids.now }
+        requires within { All (λ k. k < length self.old) kids.now }
+        requires fits { IsTrue (head_fits (head_of head)) }
         ensures node { IfOk result (λ id. slice_get self.new id ≡ Some (node_with head kids.now)) }
         ensures term { IfOk result (λ id. term_in self.new id ≡ apply (head_of head) (terms_at (term_in self.old) kids.now)) }
         ensures grown { OnOk result ((self.new ≡ self.old) ⊎ (self.new ≡ self.old ++ node_with head kids.now ∷ [])) }
@@ -54,9 +64,23 @@ impl Terms {
         ensures table { IsTable self.new }
         ensures unchanged { OnErr result (self.new ≡ self.old) }
     {
+        let fact = self.known(&head, kids);
         let kids = Ids::from_slice(*self.nodes.allocator(), kids)?;
-        let (id, _) = self.nodes.insert_full(Node { head, kids })?;
-        Ok(id)
+        self.facts.push(fact)?;
+        let made = put(&mut self.nodes, Node { head, kids });
+
+        // Where no node was put last, nor does the fact stay.
+        self.facts.truncate(self.nodes.len());
+        made
+    }
+
+    /// What is known of the term of this head over the terms of these numbers.
+    fn known(&self, head: &Head, kids: &[TermId]) -> Fact
+        requires within { All (λ k. k < length self.now) kids.now }
+        requires fits { IsTrue (head_fits (head_of head.now)) }
+        ensures known { result ≡ fact_of (apply (head_of head.now) (terms_at (term_in self.now) kids.now)) }
+    {
+        fact_over(self.facts.as_slice(), head, kids)
     }
 
     /// The node of a number.
@@ -65,6 +89,7 @@ impl Terms {
         ensures node { slice_get self.now id ≡ Some (node_of result.now) }
         ensures term { term_in self.now id ≡ apply (head_of result.now.head) (terms_at (term_in self.now) result.now.kids) }
         ensures before { All (λ k. k < id) result.now.kids }
+        ensures fits { IsTrue (head_fits (head_of result.now.head)) }
     {
         &self.nodes.as_slice()[id]
     }
@@ -91,7 +116,7 @@ impl Terms {
         ensures len { result ≡ length self.now }
         ensures table { IsTable self.now }
     {
-        self.nodes.len()
+        self.facts.len()
     }
 
     /// Whether there is no term.
@@ -114,5 +139,44 @@ impl Terms {
         ensures table { IsTable self.new }
     {
         self.nodes.truncate(mark);
+        self.facts.truncate(mark);
     }
+
+    /// The value of a constant term; none where an operation in it leaves the numbers, and for a term that isn't constant.
+    pub fn constant(&self, id: TermId) -> Option<Frac>
+        requires within { id < length self.now }
+        ensures constant { result ≡ constant_value (term_in self.now id) }
+    {
+        self.facts[id].constant()
+    }
+
+    /// Whether the term is linear.
+    pub fn is_linear(&self, id: TermId) -> bool
+        requires within { id < length self.now }
+        ensures linear { result ≡ is_linear (term_in self.now id) }
+    {
+        self.facts[id].is_linear()
+    }
+
+    /// Whether the term, or one that it is made of, is of sort `Int` or `Real`.
+    pub fn holds_number(&self, id: TermId) -> bool
+        requires within { id < length self.now }
+        ensures holds { result ≡ holds_number (term_in self.now id) }
+    {
+        self.facts[id].holds_number()
+    }
+}
+
+/// The number of a node, which is put last where it isn't there.
+fn put(nodes: &mut IndexSet<Node>, node: Node) -> Result<TermId, Memory>
+    requires table { IsTable (map node_of nodes.old.keys) }
+    requires within { All (λ k. k < length (map node_of nodes.old.keys)) node.kids }
+    requires fits { IsTrue (head_fits (head_of node.head)) }
+    ensures goes_on { GoesOn (map node_of nodes.old.keys) (node_of node) (map node_of nodes.new.keys) }
+    ensures table { IsTable (map node_of nodes.new.keys) }
+    ensures node { IfOk result (λ id. slice_get (map node_of nodes.new.keys) id ≡ Some (node_of node)) }
+    ensures unchanged { OnErr result (nodes.new.keys ≡ nodes.old.keys) }
+{
+    let (id, _) = nodes.insert_full(node)?;
+    Ok(id)
 }

@@ -1,8 +1,9 @@
 //! Each public call once on its happy path.
 ghost use Rattle.std.specs.Prelude.{◌<◌, length, IfOk};
 
-use crate::{Assign, Constant, Head, Ids, Sort, TermId, Terms, Value, post_order};
+use crate::{Assign, Constant, Head, Ids, Sort, TermId, Terms, Value, instance, post_order};
 use nz_base::Text;
+use nz_frac::Frac;
 use std::alloc::Global;
 use std::test::Fail;
 
@@ -46,7 +47,7 @@ fn terms_of_different_operators_are_different(rt: HostRuntime) -> Result<(), Fai
     assert_eq!(rt; excluded, 4);
     let equal = terms.make(Head::Equal, &[0, 1])?;
     assert_eq!(rt; equal, 5);
-    let chosen = terms.make(Head::Ite, &[0, 1, 2])?;
+    let chosen = terms.make(Head::Ite(Sort::Bool), &[0, 1, 2])?;
     assert_eq!(rt; chosen, 6);
     assert!(rt; Head::Xor != Head::Equal);
     Ok(())
@@ -143,5 +144,92 @@ fn a_long_chain_needs_no_deep_stack(rt: HostRuntime) -> Result<(), Fail> {
     assert_eq!(rt; order.len(), 100_001);
     assert_eq!(rt; order.first(), Some(&0));
     assert_eq!(rt; order.last(), Some(&100_000));
+    Ok(())
+}
+
+// The table and the number of `(+ x0 (* 2 x0))`, of a parameter.
+fn tripled(alloc: Global) -> Result<(Terms, TermId), Fail>
+    ensures within { IfOk result (λ made. made.1 < length made.0) }
+{
+    let mut terms = Terms::new(alloc)?;
+    let parameter = terms.make(Head::Parameter(0, Sort::Int), &[])?;
+    let two = terms.make(Head::Integer(2), &[])?;
+    let double = terms.make(Head::Product(Sort::Int), &[two, parameter])?;
+    let sum = terms.make(Head::Sum(Sort::Int), &[parameter, double])?;
+    Ok((terms, sum))
+}
+
+// The argument holds the parameter too, which stays in it.
+#[test]
+fn an_argument_is_put_for_a_parameter(rt: HostRuntime) -> Result<(), Fail> {
+    let (mut terms, body) = tripled(rt.alloc())?;
+    let made = instance(rt.alloc(), &mut terms, body, &[body])?;
+    assert_eq!(rt; made, 5);
+    assert_eq!(rt; terms.len(), 6);
+    assert!(rt; made < terms.len());
+    assert_eq!(rt; terms.kids(made), [3, 4].as_slice());
+    Ok(())
+}
+
+#[test]
+fn a_body_without_its_parameters_stays(rt: HostRuntime) -> Result<(), Fail> {
+    let (mut terms, body) = tripled(rt.alloc())?;
+    let made = instance(rt.alloc(), &mut terms, body, &[])?;
+    assert_eq!(rt; made, body);
+    assert_eq!(rt; terms.len(), 4);
+    Ok(())
+}
+
+// The table and the number of `(+ 1.50 2)`.
+fn three_and_a_half(alloc: Global) -> Result<(Terms, TermId), Fail>
+    ensures within { IfOk result (λ made. made.1 < length made.0) }
+{
+    let mut terms = Terms::new(alloc)?;
+    let decimal = terms.make(Head::Decimal(150, 2), &[])?;
+    let two = terms.make(Head::Integer(2), &[])?;
+    let whole = terms.make(Head::ToReal, &[two])?;
+    let sum = terms.make(Head::Sum(Sort::Real), &[decimal, whole])?;
+    Ok((terms, sum))
+}
+
+#[test]
+fn constants_have_their_values(rt: HostRuntime) -> Result<(), Fail> {
+    let (terms, sum) = three_and_a_half(rt.alloc())?;
+    assert!(rt; terms.constant(sum) == Frac::of(7, 2));
+    assert!(rt; terms.is_linear(sum));
+    assert!(rt; terms.holds_number(sum));
+    Ok(())
+}
+
+#[test]
+fn a_parameter_is_no_constant(rt: HostRuntime) -> Result<(), Fail> {
+    let (terms, body) = tripled(rt.alloc())?;
+    assert!(rt; terms.constant(body).is_none());
+    assert!(rt; terms.is_linear(body));
+    assert!(rt; terms.holds_number(body));
+    Ok(())
+}
+
+// The table and the number of `(* x0 x0)`, or of `(/ x0 0)`.
+fn not_linear(alloc: Global, divides: bool) -> Result<(Terms, TermId), Fail>
+    ensures within { IfOk result (λ made. made.1 < length made.0) }
+{
+    let mut terms = Terms::new(alloc)?;
+    let parameter = terms.make(Head::Parameter(0, Sort::Real), &[])?;
+    let zero = terms.make(Head::Decimal(0, 1), &[])?;
+    let made = if divides {
+        terms.make(Head::Quotient, &[parameter, zero])?
+    } else {
+        terms.make(Head::Product(Sort::Real), &[parameter, parameter])?
+    };
+    Ok((terms, made))
+}
+
+#[test]
+fn products_of_variables_and_quotients_by_zero_are_not_linear(rt: HostRuntime) -> Result<(), Fail> {
+    let (terms, square) = not_linear(rt.alloc(), false)?;
+    assert!(rt; !terms.is_linear(square));
+    let (others, quotient) = not_linear(rt.alloc(), true)?;
+    assert!(rt; !others.is_linear(quotient));
     Ok(())
 }

@@ -10,7 +10,7 @@ use nz_sexpr::{Token, Tree};
 
 /// What a list begins with that may be a term.
 #[derive(Clone, Copy, Debug, PartialEq, Eq)]
-enum TermHead {
+pub(crate) enum TermHead {
     /// An operator or another name.
     Name,
     /// `let`.
@@ -19,7 +19,7 @@ enum TermHead {
     Other,
 }
 
-fn term_head(token: &Token) -> TermHead
+pub(crate) fn term_head(token: &Token) -> TermHead
     ensures head { head_meaning result ≡ form.term_head (token_view token.now) }
 {
     if is_symbol(token, b"let".as_slice()) {

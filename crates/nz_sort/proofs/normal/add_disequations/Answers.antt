@@ -1,7 +1,7 @@
 use Rattle.std.proofs.Common.{◌<◌, length, get_or, ◌∙◌, arith}
 use Rattle.std.proofs.lemmas.List.Elements.{All-get_or}
-use Rattle.nz_sort.proofs.Elaborating.{grows_more}
-use Rattle.nz_sort.proofs.Normalizing.{push_within, disequation_next}
+use Rattle.nz_sort.proofs.Growing.{grows_more, push_within}
+use Rattle.nz_sort.proofs.Normalizing.{disequation_next}
 use Rattle.nz_sort.proofs.normal.add_disequations.Goals as goal
 
 pub loop-other-preserved : goal.loop-other-preserved

@@ -1,7 +1,8 @@
 use Rattle.std.proofs.Common.{◌≡◌, ◌<◌, length, drop, All}
-use Rattle.nz_spec.specs.Term.{Terms, disequations_onto}
+use Rattle.nz_spec.specs.Term.{Terms}
+use Rattle.nz_spec.specs.Normal.{disequations_onto}
 use Rattle.nz_spec.specs.Table.{term_in, terms_at}
-use Rattle.nz_sort.specs.Elaborate.{Grows, terms_before}
+use Rattle.nz_sort.specs.Typed.{Grows, terms_before}
 use Rattle.nz_sort.proofs.normal.add_disequations.Given as goal
 
 -- the disequations so far, and those with the others that are left, are the whole, whatever comes behind them

@@ -1,9 +1,10 @@
 use Rattle.std.proofs.Common.{◌≡◌, ◌+◌, ◌-◌, ◌≤◌, length, take, drop, get_or, IfOk, ap, ◌∙◌, subst, arith}
 use Rattle.std.proofs.lemmas.List.{take_rest}
-use Rattle.nz_spec.specs.Term.{conjunction, disequations_onto, disequations_of, joined_by}
+use Rattle.nz_spec.specs.Term.{conjunction}
+use Rattle.nz_spec.specs.Normal.{disequations_onto, disequations_of, joined_by}
 use Rattle.nz_spec.specs.Table.{term_in, terms_at}
-use Rattle.nz_sort.specs.Elaborate.{StandsFor, terms_before}
-use Rattle.nz_sort.proofs.Elaborating.{grows_more}
+use Rattle.nz_sort.specs.Typed.{StandsFor, terms_before}
+use Rattle.nz_sort.proofs.Growing.{grows_more}
 use Rattle.nz_sort.proofs.Normalizing.{disequations_next, disequations_all}
 use Rattle.nz_sort.proofs.normal.distinct.Goals as goal
 

@@ -1,7 +1,7 @@
 use Rattle.std.proofs.Common.{◌≡◌, ◌<◌, length, drop, All}
-use Rattle.nz_spec.specs.Term.{disequations_of}
+use Rattle.nz_spec.specs.Normal.{disequations_of}
 use Rattle.nz_spec.specs.Table.{term_in, terms_at}
-use Rattle.nz_sort.specs.Elaborate.{Grows, terms_before}
+use Rattle.nz_sort.specs.Typed.{Grows, terms_before}
 use Rattle.nz_sort.proofs.normal.distinct.Given as goal
 
 -- the disequations so far, and those of what is left, are the whole

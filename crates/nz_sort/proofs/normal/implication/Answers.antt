@@ -1,9 +1,9 @@
 use Rattle.std.proofs.Common.{◌≡◌, ℕ, suc, ◌-◌, ◌<◌, length, drop, get_or, subst, arith}
 use Rattle.std.proofs.lemmas.List.Elements.{All-get_or}
-use Rattle.nz_spec.specs.Term.{implication_of}
+use Rattle.nz_spec.specs.Normal.{implication_of}
 use Rattle.nz_spec.specs.Table.{term_in, terms_at}
-use Rattle.nz_sort.specs.Elaborate.{StandsFor}
-use Rattle.nz_sort.proofs.Elaborating.{grows_more}
+use Rattle.nz_sort.specs.Typed.{StandsFor}
+use Rattle.nz_sort.proofs.Growing.{grows_more}
 use Rattle.nz_sort.proofs.Normalizing.{implication_next}
 use Rattle.nz_sort.proofs.normal.implication.Goals as goal
 

@@ -1,7 +1,7 @@
 use Rattle.std.proofs.Common.{drop}
-use Rattle.nz_spec.specs.Term.{implication_of}
+use Rattle.nz_spec.specs.Normal.{implication_of}
 use Rattle.nz_spec.specs.Table.{term_in, terms_at}
-use Rattle.nz_sort.specs.Elaborate.{Grows, StandsFor}
+use Rattle.nz_sort.specs.Typed.{Grows, StandsFor}
 use Rattle.nz_sort.proofs.normal.implication.Given as goal
 
 -- what the terms from here on conclude

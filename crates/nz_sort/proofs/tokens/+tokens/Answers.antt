@@ -2,7 +2,7 @@ use Rattle.std.proofs.Common.{◌<◌, arith}
 use Rattle.nz_sexpr.specs.View.{view}
 use Rattle.nz_sort.specs.Elaborate.{tree_size, trees_size}
 use Rattle.nz_sort.specs.Form.{seen}
-use Rattle.nz_sort.proofs.Elaborating.{item_smaller}
+use Rattle.nz_sort.proofs.Sizes.{item_smaller}
 use Rattle.nz_sort.proofs.tokens.+tokens.Goals as goal
 
 pub have_token-has_token-requires : goal.have_token-has_token-requires

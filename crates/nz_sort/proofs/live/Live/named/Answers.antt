@@ -1,8 +1,8 @@
-use Rattle.std.proofs.Common.{◌∙◌, sym, subst}
+use Rattle.std.proofs.Common.{◌∙◌, ap, sym, subst}
 use Rattle.std.proofs.lemmas.Result.{IfOk-weaker, IfErr-weaker}
 use Rattle.nz_sort.specs.Acts.{asked, error_of}
 use Rattle.nz_sort.specs.Form.{seen, command_meaning}
-use Rattle.nz_sort.specs.Live.{Leaves}
+use Rattle.nz_sort.specs.Live.{Standing, Leaves}
 use Rattle.nz_sort.proofs.Ruling.{if_some_weaker, breaks_form, breaks_limit, breaks_width, is_skipped, is_taken}
 use Rattle.nz_sort.proofs.live.Live.named.Goals as goal
 
@@ -26,17 +26,17 @@ returns-then-not-takes_command-clause-accepted c = λ s live.
     record {
       is = is_skipped s (command_meaning c.args.name) (seen c.args.arguments.now)
           (sym c.has_form.ensures.form ∙ c.if-not-has_form.false) (sym (c.passes_limit.ensures.limit _ s live) ∙ c.if-passes_limit.false)
-          (sym c.have_token.ensures.found ∙ c.if-have_token.false) (sym c.takes_command.ensures.taken ∙ c.if-not-takes_command.true);
+          (sym c.have_token.ensures.found ∙ c.if-have_token.false) (sym (c.takes_command.ensures.taken s (live.items.numbers ∙ sym (ap (λ (st : Standing). st.holds_numbers) c.self.view_is))) ∙ c.if-not-takes_command.true);
       live = live;
     }
 
 pub returns-clause-accepted : goal.returns-clause-accepted
 returns-clause-accepted c =
     IfOk-weaker c.carry_out.result _ _
-    (λ act h s live. subst (λ o. Leaves s o (asked act) c.carry_out.new.terms c.carry_out.new.self)
+    (λ act h s live. subst (λ o. Leaves s (seen c.args.arguments.now) o (asked act) c.carry_out.new.terms c.carry_out.new.self)
     (sym (is_taken s (command_meaning c.args.name) (seen c.args.arguments.now)
     (sym c.has_form.ensures.form ∙ c.if-not-has_form.false) (sym (c.passes_limit.ensures.limit _ s live) ∙ c.if-passes_limit.false)
-    (sym c.have_token.ensures.found ∙ c.if-have_token.false) (sym c.takes_command.ensures.taken ∙ c.if-not-takes_command.false)))
+    (sym c.have_token.ensures.found ∙ c.if-have_token.false) (sym (c.takes_command.ensures.taken s (live.items.numbers ∙ sym (ap (λ (st : Standing). st.holds_numbers) c.self.view_is))) ∙ c.if-not-takes_command.false)))
     (h s live))
     c.carry_out.ensures.accepted
 
@@ -46,5 +46,5 @@ returns-clause-refused c =
     (λ refusal h. if_some_weaker (error_of refusal)
     (λ n told s live. is_taken s (command_meaning c.args.name) (seen c.args.arguments.now)
     (sym c.has_form.ensures.form ∙ c.if-not-has_form.false) (sym (c.passes_limit.ensures.limit _ s live) ∙ c.if-passes_limit.false)
-    (sym c.have_token.ensures.found ∙ c.if-have_token.false) (sym c.takes_command.ensures.taken ∙ c.if-not-takes_command.false) ∙ told s live) h)
+    (sym c.have_token.ensures.found ∙ c.if-have_token.false) (sym (c.takes_command.ensures.taken s (live.items.numbers ∙ sym (ap (λ (st : Standing). st.holds_numbers) c.self.view_is))) ∙ c.if-not-takes_command.false) ∙ told s live) h)
     c.carry_out.ensures.refused

@@ -12,7 +12,7 @@ returns-then-passes_limit c =
     record {
       limit = λ ns s live.
           let count : length (constants_of s) ≡ c.len.result =
-          sym (as_many ns c.args.self.now.names (constants_of s) live.named) ∙ sym (ap (λ (st : Standing). length st.names) c.self.view_is) ∙ sym c.len.ensures.count in
+          sym (as_many ns c.args.self.now s live) ∙ sym (ap (λ (st : Standing). length st.constants) c.self.view_is) ∙ sym c.len.ensures.count in
           let own : script.passes_limit s (command_meaning c.args.name) (seen c.args.arguments.now) ≡ true =
           sym (c.passes_limit.ensures.limit s live.unpushed count) ∙ c.if-passes_limit.true in
           c.if-passes_limit.true ∙ sym (ap (λ b. b || have_token is_long_decimal (seen c.args.arguments.now)) own);
@@ -23,7 +23,7 @@ returns-else-passes_limit c =
     record {
       limit = λ ns s live.
           let count : length (constants_of s) ≡ c.len.result =
-          sym (as_many ns c.args.self.now.names (constants_of s) live.named) ∙ sym (ap (λ (st : Standing). length st.names) c.self.view_is) ∙ sym c.len.ensures.count in
+          sym (as_many ns c.args.self.now s live) ∙ sym (ap (λ (st : Standing). length st.constants) c.self.view_is) ∙ sym c.len.ensures.count in
           let own : script.passes_limit s (command_meaning c.args.name) (seen c.args.arguments.now) ≡ false =
           sym (c.passes_limit.ensures.limit s live.unpushed count) ∙ c.if-passes_limit.false in
           c.have_token.ensures.found ∙ sym (ap (λ b. b || have_token is_long_decimal (seen c.args.arguments.now)) own);

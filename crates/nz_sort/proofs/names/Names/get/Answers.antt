@@ -1,10 +1,10 @@
-use Rattle.std.proofs.Common.{◌∙◌, ap}
-use Rattle.nz_sort.specs.Names.{number_named}
-use Rattle.nz_sort.proofs.Naming.{lookup-named}
+use Rattle.std.proofs.Common.{◌≡◌, ◌∙◌, ap, option_copied}
+use Rattle.nz_spec.specs.Elaboration.{listed}
+use Rattle.nz_sort.proofs.Naming.{lookup-listed, found_listed, none_listed}
 use Rattle.nz_sort.proofs.names.Names.get.Goals as goal
 
 pub returns : goal.returns
 returns c =
-    record {
-      number = c.copied.ensures ∙ c.get.ensures.value ∙ lookup-named c.self.inside.ids.entries c.args.name.now ∙ ap (λ ps. number_named ps c.args.name.now) c.self.view_is;
-    }
+    let found : option_copied c.get.result ≡ listed c.args.self.now c.args.name.now =
+    c.get.ensures.value ∙ lookup-listed c.self.inside.entries.entries c.args.name.now ∙ ap (λ ps. listed ps c.args.name.now) c.self.view_is in
+    record { named = found_listed c.get.result c.args.self.now c.args.name.now found; none = none_listed c.get.result c.args.self.now c.args.name.now found }

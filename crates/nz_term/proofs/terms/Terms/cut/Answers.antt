@@ -1,15 +1,19 @@
--- The front of a table is a table.
-use Rattle.std.proofs.Common.{take, map, sym, ap, subst, ◌∙◌}
+-- The front of a table is a table, and what is known of it is the front of what is known.
+use Rattle.std.proofs.Common.{◌≡◌, take, map, sym, ap, subst, ◌∙◌}
 use Rattle.std.specs.List.{take-map}
-use Rattle.nz_spec.specs.Table.{IsTable}
+use Rattle.nz_term.specs.Facts.{IsKnown}
 use Rattle.nz_term.specs.Nodes.{node_of}
-use Rattle.nz_term.proofs.Tables.{front_table}
+use Rattle.nz_term.proofs.Knowledge.{front_known}
 use Rattle.nz_term.proofs.terms.Terms.cut.Goals as goal
 
 pub invariant_of-self : goal.invariant_of-self
 invariant_of-self c =
-    subst IsTable (take-map node_of c.args.mark c.self.inside.nodes.keys ∙ ap (map node_of) (sym c.truncate.ensures.keys))
-    (front_table (map node_of c.self.inside.nodes.keys) c.args.mark c.self.invariant)
+    let mark = c.args.mark in
+    let ns = map node_of c.self.inside.nodes.keys in
+    let nodes : take mark ns ≡ map node_of c.truncate.new.self.keys =
+    take-map node_of mark c.self.inside.nodes.keys ∙ ap (map node_of) (sym c.truncate.ensures.keys) in
+    subst (λ l. IsKnown l c.truncate-2.new.self.items) nodes
+    (subst (IsKnown (take mark ns)) (sym c.truncate-2.ensures.items) (front_known ns c.self.inside.facts.items mark c.self.invariant))
 
 pub returns-clause-front : goal.returns-clause-front
 returns-clause-front c =
@@ -18,4 +22,4 @@ returns-clause-front c =
     ∙ ap (take c.args.mark) c.self.view_is
 
 pub returns-clause-table : goal.returns-clause-table
-returns-clause-table c = invariant_of-self c
+returns-clause-table c = (invariant_of-self c).table

@@ -25,7 +25,10 @@ pub returns-clause-term : goal.returns-clause-term
 returns-clause-term c =
     let n = c.index-as_slice-id.result in
     subst (λ l. term_in l c.args.id ≡ apply (head_of n.head) (terms_at (term_in l) n.kids)) c.self.view_is
-    (term_of_node (map node_of c.self.inside.nodes.keys) c.self.invariant c.args.id (node_of n) (stands c))
+    (term_of_node (map node_of c.self.inside.nodes.keys) c.self.invariant.table c.args.id (node_of n) (stands c))
 
 pub returns-clause-before : goal.returns-clause-before
-returns-clause-before c = c.self.invariant.before c.args.id (node_of c.index-as_slice-id.result) (stands c)
+returns-clause-before c = c.self.invariant.table.before c.args.id (node_of c.index-as_slice-id.result) (stands c)
+
+pub returns-clause-fits : goal.returns-clause-fits
+returns-clause-fits c = c.self.invariant.table.fits c.args.id (node_of c.index-as_slice-id.result) (stands c)

@@ -1,0 +1,43 @@
+-- The texts of terms with what is told of them.
+use Rattle.std.proofs.Common.{◌≡◌, ℕ, ◌+◌, ◌<◌, ◌≤◌, zero, suc, List, [], ◌∷◌, ◌++◌, length, get_or, drop, map, codes, refl, sym, ap, ◌∙◌, append_assoc, arith, drop-cons, add-one, min}
+use Rattle.nz_spec.specs.Reply.{line_feed, list_text, shown_pair_text}
+use Rattle.nz_sexpr.specs.View.{view}
+use Rattle.nz_sexpr.specs.declared.tree.Tree as code
+use Rattle.nz_reply.specs.Trees.{later_texts}
+use Rattle.nz_reply.specs.Values.{seen, shown_of, with_shown}
+use Rattle.nz_reply.specs.declared.reply.Shown.{Shown}
+
+-- the texts of the pairs of these lists
+abbrev pub pair_texts : List code.Tree → List Shown → List (List ℕ)
+pair_texts ts ss = map shown_pair_text (with_shown (seen ts) (map shown_of ss))
+
+abbrev pub pair_text : code.Tree → Shown → List ℕ
+pair_text t s = shown_pair_text (view t, shown_of s)
+
+-- the pairs from a place on: a space, the one there, and the others
+pub pairs_next : (ts : List code.Tree) (ss : List Shown) (i : ℕ) (t : code.Tree) (s : Shown) → i < length ts → i < length ss → t ≡ get_or ts i t → s ≡ get_or ss i s
+    → later_texts (pair_texts (drop i ts) (drop i ss)) ≡ (32 ∷ []) ++ (pair_text t s ++ later_texts (pair_texts (drop (i + 1) ts) (drop (i + 1) ss)))
+pairs_next ts ss i t s below within is it =
+    ap (λ (l : List code.Tree). later_texts (pair_texts l (drop i ss))) (drop-cons ts i t below ∙ ap (λ (u : code.Tree). u ∷ drop (suc i) ts) (sym is))
+    ∙ ap (λ (l : List Shown). later_texts (pair_texts (t ∷ drop (suc i) ts) l)) (drop-cons ss i s within ∙ ap (λ (u : Shown). u ∷ drop (suc i) ss) (sym it))
+    ∙ ap (λ (k : ℕ). 32 ∷ (pair_text t s ++ later_texts (pair_texts (drop k ts) (drop k ss)))) (sym (add-one i))
+
+pairs_of_none : (ts : List code.Tree) → pair_texts ts [] ≡ []
+pairs_of_none [] = refl
+pairs_of_none (t ∷ ts) = refl
+
+-- behind the shorter list there are none
+pub pairs_end : (ts : List code.Tree) (ss : List Shown) (i : ℕ) → min (length ts) (length ss) ≤ i → pair_texts (drop i ts) (drop i ss) ≡ []
+pairs_end [] ss zero h = refl
+pairs_end (t ∷ ts) [] zero h = refl
+pairs_end (t ∷ ts) (s ∷ ss) zero h = absurd (omega (arith, h))
+pairs_end [] ss (suc i) h = refl
+pairs_end (t ∷ ts) [] (suc i) h = pairs_of_none (drop i ts)
+pairs_end (t ∷ ts) (s ∷ ss) (suc i) h = pairs_end ts ss i (omega (arith, h))
+
+-- a pair's text, and that of all
+pub pair_whole : (tree shown : List ℕ) → ((codes "(" ++ (tree ++ (codes " " ++ []))) ++ shown) ++ codes ")" ≡ list_text (tree ∷ shown ∷ [])
+pair_whole tree shown = simp append_assoc
+
+pub values_whole : (text : List ℕ) → (codes "(" ++ text) ++ codes ")\n" ≡ (40 ∷ text ++ 41 ∷ []) ++ line_feed
+values_whole text = simp append_assoc

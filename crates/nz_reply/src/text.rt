@@ -1,0 +1,322 @@
+//! The texts of replies (SMT-LIB 2.6, section 4.2).
+ghost use Rattle.std.specs.Prelude.{◌≡◌, ◌≤◌, map, OnOk, OnErr};
+ghost use Rattle.std.specs.Io.KnownBytes.{Appends};
+ghost use Rattle.nz_spec.specs.Outside.{AddsFrontOf, HasRisen};
+ghost use Rattle.nz_sexpr.specs.View.{view, what_view};
+ghost use Rattle.nz_spec.specs.Reply.{binding_text, echoed, info as info_reply, levels, model as model_reply, operator_text, reason as reason_reply, reply_text, shown_pair_text, shown_text, sort_text, spaced, values, wide_text};
+ghost use Rattle.nz_spec.specs.Script.{units_spent};
+ghost use Rattle.nz_reply.specs.Bindings.{binding_of};
+ghost use Rattle.nz_reply.specs.Infos.{info_of};
+ghost use Rattle.nz_reply.specs.Reasons.{reason_of};
+ghost use Rattle.nz_reply.specs.Replies.{reply_of};
+ghost use Rattle.nz_reply.specs.Trees.{later_texts};
+ghost use Rattle.nz_reply.specs.Values.{asked_by as trees_asked_by, asked_in as trees_asked_in, asked_trees, operation_of, operator_of, seen, shown_of, with_shown};
+ghost use Rattle.nz_term.specs.Constants.{sort_of};
+
+use crate::errors::error_text;
+use crate::reply::{Binding, Info, Reason, Reply, Shown};
+use crate::spelling::{Part, write_spelled, write_value};
+use crate::symbol::write_literal;
+use crate::write::{WriteFault, write_parts, write_text};
+use itoa::Buffer;
+use nz_base::Sink;
+use nz_frac::{Op, Wide};
+use nz_sexpr::{Tree, What};
+use nz_term::{Constant, Sort};
+
+/// Writes the text of a reply to the thing heard, which holds the terms whose values a reply tells. Takes no memory.
+///
+/// # Errors
+///
+/// `WriteFault` only where the sink's count of faults rose. Then a front of the text was written.
+pub fn write_reply<K: Sink>(sink: &mut K, what: &What, reply: &Reply) -> Result<(), WriteFault>
+    ensures whole { OnOk result (Appends (K.held sink.old) (K.held sink.new) (reply_text (reply_of (what_view what.now) reply.now))) }
+    ensures front { OnErr result (AddsFrontOf (K.held sink.old) (K.held sink.new) (reply_text (reply_of (what_view what.now) reply.now))) }
+    ensures later { K.faults sink.old ≤ K.faults sink.new }
+    ensures fault { OnErr result (HasRisen K.last (K.faults sink.old) (K.faults sink.new)) }
+{
+    match reply {
+        Reply::Quiet => write_text(sink, b""),
+        Reply::Success => write_text(sink, b"success\n"),
+        Reply::Sat(_) => write_text(sink, b"sat\n"),
+        Reply::Unsat => write_text(sink, b"unsat\n"),
+        Reply::Unknown(_) => write_text(sink, b"unknown\n"),
+        Reply::Model(bindings) => write_model(sink, bindings.as_slice()),
+        Reply::Values(shows) => write_values(sink, asked(what), shows.as_slice()),
+        Reply::Info(info) => write_text(sink, info_line(*info)),
+        Reply::Levels(count) => write_levels(sink, *count),
+        Reply::Reason(reason) => write_reason(sink, *reason),
+        Reply::Echo(text) => write_echo(sink, text.as_bytes()),
+        Reply::Unsupported => write_text(sink, b"unsupported\n"),
+        Reply::Error(number) => write_text(sink, error_text(*number)),
+    }
+}
+
+// ---- Models
+
+fn write_model<K: Sink>(sink: &mut K, bindings: &[Binding]) -> Result<(), WriteFault>
+    ensures whole { OnOk result (Appends (K.held sink.old) (K.held sink.new) (reply_text (model_reply (map binding_of bindings.now)))) }
+    ensures front { OnErr result (AddsFrontOf (K.held sink.old) (K.held sink.new) (reply_text (model_reply (map binding_of bindings.now)))) }
+    ensures later { K.faults sink.old ≤ K.faults sink.new }
+    ensures fault { OnErr result (HasRisen K.last (K.faults sink.old) (K.faults sink.new)) }
+{
+    if let Err(fault) = write_text(sink, b"(\n") {
+        return Err(fault);
+    }
+    for binding in bindings {
+        if let Err(fault) = write_binding(sink, binding) {
+            return Err(fault);
+        }
+    }
+    if let Err(fault) = write_text(sink, b")\n") {
+        return Err(fault);
+    }
+    Ok(())
+}
+
+fn write_binding<K: Sink>(sink: &mut K, binding: &Binding) -> Result<(), WriteFault>
+    ensures whole { OnOk result (Appends (K.held sink.old) (K.held sink.new) (binding_text (binding_of binding.now))) }
+    ensures front { OnErr result (AddsFrontOf (K.held sink.old) (K.held sink.new) (binding_text (binding_of binding.now))) }
+    ensures later { K.faults sink.old ≤ K.faults sink.new }
+    ensures fault { OnErr result (HasRisen K.last (K.faults sink.old) (K.faults sink.new)) }
+{
+    let Constant { name, sort } = &binding.constant;
+    write_spelled(
+        sink,
+        &[
+            Part::Text(b"(define-fun "),
+            Part::Symbol(name.as_bytes()),
+            Part::Text(b" () "),
+            Part::Text(sort_name(*sort)),
+            Part::Text(b" "),
+            Part::Value(*sort, &binding.value),
+            Part::Text(b")\n"),
+        ],
+    )
+}
+
+fn sort_name(sort: Sort) -> &'static [u8]
+    ensures name { result.now ≡ sort_text (sort_of sort) }
+{
+    match sort {
+        Sort::Bool => b"Bool",
+        Sort::Int => b"Int",
+        Sort::Real => b"Real",
+    }
+}
+
+// ---- Values
+
+/// The trees of the terms that a command asks for.
+fn asked(what: &What) -> &[Tree]
+    ensures asked { seen result.now ≡ asked_trees (what_view what.now) }
+{
+    match what {
+        What::Tree(tree) => asked_by(tree),
+        _ => &[],
+    }
+}
+
+fn asked_by(tree: &Tree) -> &[Tree]
+    ensures asked { seen result.now ≡ trees_asked_by (view tree.now) }
+{
+    match tree {
+        Tree::Word(_) => &[],
+        Tree::List(list) => asked_in(list.as_slice()),
+    }
+}
+
+/// The trees of the list behind the name of a command.
+fn asked_in(list: &[Tree]) -> &[Tree]
+    ensures asked { seen result.now ≡ trees_asked_in (seen list.now) }
+{
+    match list {
+        [_, Tree::List(asked)] => asked.as_slice(),
+        _ => &[],
+    }
+}
+
+/// Writes what is told of the terms, each behind its tree.
+fn write_values<K: Sink>(sink: &mut K, trees: &[Tree], shows: &[Shown]) -> Result<(), WriteFault>
+    ensures whole { OnOk result (Appends (K.held sink.old) (K.held sink.new) (reply_text (values (with_shown (seen trees.now) (map shown_of shows.now))))) }
+    ensures front { OnErr result (AddsFrontOf (K.held sink.old) (K.held sink.new) (reply_text (values (with_shown (seen trees.now) (map shown_of shows.now))))) }
+    ensures later { K.faults sink.old ≤ K.faults sink.new }
+    ensures fault { OnErr result (HasRisen K.last (K.faults sink.old) (K.faults sink.new)) }
+{
+    if let Err(fault) = write_text(sink, b"(") {
+        return Err(fault);
+    }
+    if let Err(fault) = write_pairs(sink, trees, shows) {
+        return Err(fault);
+    }
+    if let Err(fault) = write_text(sink, b")\n") {
+        return Err(fault);
+    }
+    Ok(())
+}
+
+/// Writes the pairs, with a space between neighbours.
+fn write_pairs<K: Sink>(sink: &mut K, trees: &[Tree], shows: &[Shown]) -> Result<(), WriteFault>
+    ensures whole { OnOk result (Appends (K.held sink.old) (K.held sink.new) (spaced (map shown_pair_text (with_shown (seen trees.now) (map shown_of shows.now))))) }
+    ensures front { OnErr result (AddsFrontOf (K.held sink.old) (K.held sink.new) (spaced (map shown_pair_text (with_shown (seen trees.now) (map shown_of shows.now))))) }
+    ensures later { K.faults sink.old ≤ K.faults sink.new }
+    ensures fault { OnErr result (HasRisen K.last (K.faults sink.old) (K.faults sink.new)) }
+{
+    match (trees.split_first(), shows.split_first()) {
+        (Some((tree, trees)), Some((shown, shows))) => {
+            if let Err(fault) = write_pair(sink, tree, shown) {
+                return Err(fault);
+            }
+            write_later_pairs(sink, trees, shows)
+        }
+        _ => write_text(sink, b""),
+    }
+}
+
+/// Writes the pairs, each behind a space.
+fn write_later_pairs<K: Sink>(
+    sink: &mut K,
+    trees: &[Tree],
+    shows: &[Shown],
+) -> Result<(), WriteFault>
+    ensures whole { OnOk result (Appends (K.held sink.old) (K.held sink.new) (later_texts (map shown_pair_text (with_shown (seen trees.now) (map shown_of shows.now))))) }
+    ensures front { OnErr result (AddsFrontOf (K.held sink.old) (K.held sink.new) (later_texts (map shown_pair_text (with_shown (seen trees.now) (map shown_of shows.now))))) }
+    ensures later { K.faults sink.old ≤ K.faults sink.new }
+    ensures fault { OnErr result (HasRisen K.last (K.faults sink.old) (K.faults sink.new)) }
+{
+    for index in 0..trees.len().min(shows.len()) {
+        if let Err(fault) = write_text(sink, b" ") {
+            return Err(fault);
+        }
+        if let Err(fault) = write_pair(sink, &trees[index], &shows[index]) {
+            return Err(fault);
+        }
+    }
+    Ok(())
+}
+
+fn write_pair<K: Sink>(sink: &mut K, tree: &Tree, shown: &Shown) -> Result<(), WriteFault>
+    ensures whole { OnOk result (Appends (K.held sink.old) (K.held sink.new) (shown_pair_text (view tree.now, shown_of shown.now))) }
+    ensures front { OnErr result (AddsFrontOf (K.held sink.old) (K.held sink.new) (shown_pair_text (view tree.now, shown_of shown.now))) }
+    ensures later { K.faults sink.old ≤ K.faults sink.new }
+    ensures fault { OnErr result (HasRisen K.last (K.faults sink.old) (K.faults sink.new)) }
+{
+    if let Err(fault) = write_spelled(
+        sink,
+        &[Part::Text(b"("), Part::Tree(tree), Part::Text(b" ")],
+    ) {
+        return Err(fault);
+    }
+    if let Err(fault) = write_shown(sink, shown) {
+        return Err(fault);
+    }
+    if let Err(fault) = write_text(sink, b")") {
+        return Err(fault);
+    }
+    Ok(())
+}
+
+fn write_shown<K: Sink>(sink: &mut K, shown: &Shown) -> Result<(), WriteFault>
+    ensures whole { OnOk result (Appends (K.held sink.old) (K.held sink.new) (shown_text (shown_of shown.now))) }
+    ensures front { OnErr result (AddsFrontOf (K.held sink.old) (K.held sink.new) (shown_text (shown_of shown.now))) }
+    ensures later { K.faults sink.old ≤ K.faults sink.new }
+    ensures fault { OnErr result (HasRisen K.last (K.faults sink.old) (K.faults sink.new)) }
+{
+    match shown {
+        Shown::Value(sort, value) => write_value(sink, *sort, value),
+        Shown::Wide(wide) => write_wide(sink, wide),
+    }
+}
+
+/// Writes an operation whose result left the numbers.
+fn write_wide<K: Sink>(sink: &mut K, wide: &Wide) -> Result<(), WriteFault>
+    ensures whole { OnOk result (Appends (K.held sink.old) (K.held sink.new) (wide_text (operation_of wide.now))) }
+    ensures front { OnErr result (AddsFrontOf (K.held sink.old) (K.held sink.new) (wide_text (operation_of wide.now))) }
+    ensures later { K.faults sink.old ≤ K.faults sink.new }
+    ensures fault { OnErr result (HasRisen K.last (K.faults sink.old) (K.faults sink.new)) }
+{
+    write_spelled(
+        sink,
+        &[
+            Part::Text(b"(wide "),
+            Part::Text(operator_name(wide.op)),
+            Part::Text(b" "),
+            Part::Operand(wide.a),
+            Part::Text(b" "),
+            Part::Operand(wide.b),
+            Part::Text(b")"),
+        ],
+    )
+}
+
+fn operator_name(op: Op) -> &'static [u8]
+    ensures name { result.now ≡ operator_text (operator_of op) }
+{
+    match op {
+        Op::Add => b"add",
+        Op::Sub => b"sub",
+        Op::Mul => b"mul",
+        Op::Div => b"div",
+    }
+}
+
+// ---- Other replies
+
+fn info_line(info: Info) -> &'static [u8]
+    ensures text { result.now ≡ reply_text (info_reply (info_of info)) }
+{
+    match info {
+        Info::Name => b"(:name \"nuz\")\n",
+        Info::Version => b"(:version \"1\")\n",
+        Info::Authors => b"(:authors \"nuz\")\n",
+        Info::ErrorBehavior => b"(:error-behavior continued-execution)\n",
+    }
+}
+
+fn write_levels<K: Sink>(sink: &mut K, count: usize) -> Result<(), WriteFault>
+    ensures whole { OnOk result (Appends (K.held sink.old) (K.held sink.new) (reply_text (levels count))) }
+    ensures front { OnErr result (AddsFrontOf (K.held sink.old) (K.held sink.new) (reply_text (levels count))) }
+    ensures later { K.faults sink.old ≤ K.faults sink.new }
+    ensures fault { OnErr result (HasRisen K.last (K.faults sink.old) (K.faults sink.new)) }
+{
+    let mut digits = Buffer::new();
+    let number = digits.format(count).as_bytes();
+    write_parts(sink, &[b"(:assertion-stack-levels ", number, b")\n"])
+}
+
+fn write_reason<K: Sink>(sink: &mut K, reason: Reason) -> Result<(), WriteFault>
+    ensures whole { OnOk result (Appends (K.held sink.old) (K.held sink.new) (reply_text (reason_reply (reason_of reason)))) }
+    ensures front { OnErr result (AddsFrontOf (K.held sink.old) (K.held sink.new) (reply_text (reason_reply (reason_of reason)))) }
+    ensures later { K.faults sink.old ≤ K.faults sink.new }
+    ensures fault { OnErr result (HasRisen K.last (K.faults sink.old) (K.faults sink.new)) }
+{
+    match reason {
+        Reason::UnitsSpent(units) => write_units_spent(sink, units),
+    }
+}
+
+fn write_units_spent<K: Sink>(sink: &mut K, units: u64) -> Result<(), WriteFault>
+    ensures whole { OnOk result (Appends (K.held sink.old) (K.held sink.new) (reply_text (reason_reply (units_spent units)))) }
+    ensures front { OnErr result (AddsFrontOf (K.held sink.old) (K.held sink.new) (reply_text (reason_reply (units_spent units)))) }
+    ensures later { K.faults sink.old ≤ K.faults sink.new }
+    ensures fault { OnErr result (HasRisen K.last (K.faults sink.old) (K.faults sink.new)) }
+{
+    let mut digits = Buffer::new();
+    let number = digits.format(units).as_bytes();
+    write_parts(sink, &[b"(:reason-unknown (spent ", number, b"))\n"])
+}
+
+fn write_echo<K: Sink>(sink: &mut K, text: &[u8]) -> Result<(), WriteFault>
+    ensures whole { OnOk result (Appends (K.held sink.old) (K.held sink.new) (reply_text (echoed text.now))) }
+    ensures front { OnErr result (AddsFrontOf (K.held sink.old) (K.held sink.new) (reply_text (echoed text.now))) }
+    ensures later { K.faults sink.old ≤ K.faults sink.new }
+    ensures fault { OnErr result (HasRisen K.last (K.faults sink.old) (K.faults sink.new)) }
+{
+    if let Err(fault) = write_literal(sink, text) {
+        return Err(fault);
+    }
+    if let Err(fault) = write_text(sink, b"\n") {
+        return Err(fault);
+    }
+    Ok(())
+}

@@ -1,0 +1,101 @@
+-- Short texts with what they stand for: the trees and the terms of worked values.
+use Rattle.std.specs.Prelude.{ℕ, false, List, [], ◌∷◌, ◌++◌, map, Option, None, option_map, codes}
+use Rattle.nz_spec.specs.Tree.{Tree, node, no_trees}
+use Rattle.nz_spec.specs.Text.{Heard, What, whole, faulty, unclosed, unread, script_limits}
+use Rattle.nz_spec.specs.Reading.{start, hear_on}
+use Rattle.nz_spec.specs.Term.{Sort, bool_sort, int_sort, real_sort, Constant, Head, constant, parameter, integer, less, quotient, to_real, Term, apply, no_terms, terms, Value, truth, value_of}
+use Rattle.nz_spec.specs.Normal.{paired, normal_of}
+use Rattle.nz_spec.specs.Elaboration.{Definition, Scope, term_of}
+use Rattle.nz_spec.specs.Script.{State, declared, defined, Outcome, outcome_of}
+
+-- ---- Trees
+
+-- the tree of what was heard, if it is one
+abbrev pub heard_tree : What → Tree
+heard_tree (whole t) = t
+heard_tree (faulty n) = node no_trees
+heard_tree unclosed = node no_trees
+heard_tree unread = node no_trees
+
+abbrev pub first_tree : List Heard → Tree
+first_tree [] = node no_trees
+first_tree (h ∷ hs) = heard_tree h.what
+
+-- the tree that is heard first in a text
+abbrev pub tree_in : List ℕ → Tree
+tree_in text = first_tree (hear_on script_limits start text)
+
+-- ---- Constants and terms
+
+abbrev pub constant_of_sort : Sort → List ℕ → Constant
+constant_of_sort s name = record { name = name; sort = s }
+
+-- the Boolean a, the integers x and y, and the real number u
+abbrev pub sample_constants : List Constant
+sample_constants =
+    constant_of_sort bool_sort (codes "a") ∷ constant_of_sort int_sort (codes "x") ∷ constant_of_sort int_sort (codes "y")
+    ∷ constant_of_sort real_sort (codes "u") ∷ []
+
+abbrev pub alone : Head → Term
+alone h = apply h no_terms
+
+abbrev pub over_one : Head → Term → Term
+over_one h t = apply h (terms t no_terms)
+
+abbrev pub a_term : Term
+a_term = alone (constant (constant_of_sort bool_sort (codes "a")))
+
+abbrev pub x_term : Term
+x_term = alone (constant (constant_of_sort int_sort (codes "x")))
+
+abbrev pub y_term : Term
+y_term = alone (constant (constant_of_sort int_sort (codes "y")))
+
+abbrev pub u_term : Term
+u_term = alone (constant (constant_of_sort real_sort (codes "u")))
+
+abbrev pub numeral_term : ℕ → Term
+numeral_term n = alone (integer n)
+
+abbrev pub real_of : Term → Term
+real_of t = over_one to_real t
+
+-- ---- Definitions
+
+-- (define-fun half ((r Real)) Real (/ r 2))
+abbrev pub half : Definition
+half = record { name = codes "half"; parameters = real_sort ∷ []; body = paired quotient (alone (parameter 0 real_sort)) (real_of (numeral_term 2)) }
+
+-- (define-fun above ((y Int)) Bool (< x y)), whose body has the constant x
+abbrev pub above : Definition
+above = record { name = codes "above"; parameters = int_sort ∷ []; body = paired less x_term (alone (parameter 0 int_sort)) }
+
+-- (define-fun below ((x Int) (y Int)) Bool (< x y))
+abbrev pub below : Definition
+below = record { name = codes "below"; parameters = int_sort ∷ int_sort ∷ []; body = paired less (alone (parameter 0 int_sort)) (alone (parameter 1 int_sort)) }
+
+abbrev pub sample_definitions : List Definition
+sample_definitions = half ∷ above ∷ below ∷ []
+
+abbrev pub sample_scope : Scope
+sample_scope = record { constants = sample_constants; definitions = sample_definitions; bound = [] }
+
+-- the term of a text among these, its normal term, and its value where it holds no constant
+abbrev pub term_in : List ℕ → Option Term
+term_in text = term_of sample_scope (tree_in text)
+
+abbrev pub normal_in : List ℕ → Option Term
+normal_in text = option_map normal_of (term_in text)
+
+abbrev pub value_in : List ℕ → Option Value
+value_in text = option_map (value_of (λ name. truth false)) (term_in text)
+
+-- ---- Commands
+
+-- these are declared and defined, and nothing else was done
+abbrev pub sample_state : State
+sample_state = record { levels = (map declared sample_constants ++ map defined sample_definitions) ∷ []; model = None; reason = None; options = record { prints_success = false } }
+
+-- what becomes of the command of a text there
+abbrev pub outcome_in : List ℕ → Outcome
+outcome_in text = outcome_of sample_state (tree_in text)

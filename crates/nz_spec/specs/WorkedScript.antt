@@ -1,0 +1,173 @@
+-- A worked script: what becomes of commands, one at a time, where a few constants and definitions are live.
+use Rattle.std.specs.Prelude.{◌≡◌, ℕ, true, false, List, [], ◌∷◌, map, Some, None, codes}
+use Rattle.nz_spec.specs.Tree.{Tree, leaf, symbol, numeral}
+use Rattle.nz_spec.specs.Term.{bool_sort, int_sort, real_sort, parameter, less, sum, decimal_number}
+use Rattle.nz_spec.specs.Normal.{paired}
+use Rattle.nz_spec.specs.Script.{State, start, declared, asserted, declare_const, define, assert_term, get_model, get_value, get_info, name_info, get_levels, get_reason, set_print_success, no_effect, echo, exit, Outcome, accepted, refused, not_taken, outcome_of}
+use Rattle.nz_spec.specs.Text.{whole}
+use Rattle.nz_spec.specs.Reply.{Reply, quiet, success, unsat, values, error, unsupported, after}
+use Rattle.nz_spec.specs.TruthTables.{of_three}
+use Rattle.nz_spec.specs.Samples.{constant_of_sort, alone, a_term, x_term, u_term, numeral_term, real_of, half, above, below, tree_in, sample_constants, sample_state, outcome_in}
+
+abbrev pub outcomes_in : List (List ℕ) → List Outcome
+outcomes_in texts = map outcome_in texts
+
+-- as many as these texts, each so
+abbrev pub all_end : Outcome → List (List ℕ) → List Outcome
+all_end o texts = map (λ text. o) texts
+
+-- ---- Refused
+
+-- Not of the form of its command: refused as syntax.
+abbrev pub formless : List (List ℕ)
+formless =
+    codes "()" ∷ codes "(1 2)" ∷ codes "((assert) a)" ∷ codes "(let)" ∷ codes "(assert)" ∷ codes "(assert x y)" ∷ codes "(assert ())" ∷
+    codes "(assert (a))" ∷ codes "(assert ((f) x))" ∷ codes "(assert \"a\")" ∷ codes "(assert #b1)" ∷ codes "(assert #xF)" ∷ codes "(assert :k)" ∷
+    codes "(assert (! a :named n))" ∷ codes "(assert (_ a 1))" ∷ codes "(assert (as a Bool))" ∷ codes "(assert (forall ((z Int)) a))" ∷
+    codes "(assert let)" ∷ codes "(assert (let () a))" ∷ codes "(assert (let ((z)) a))" ∷ codes "(assert (let ((1 z)) a))" ∷
+    codes "(declare-const z)" ∷ codes "(declare-const let Int)" ∷ codes "(declare-const 1 Int)" ∷ codes "(declare-fun z Int)" ∷
+    codes "(define-fun g (k) Int 1)" ∷ codes "(set-option :print-success 1)" ∷ codes "(set-option :print-success maybe)" ∷
+    codes "(set-option :opt.priority other)" ∷ codes "(set-option :foo)" ∷ codes "(set-option foo 1)" ∷ codes "(get-info :name 1)" ∷
+    codes "(get-info name)" ∷ codes "(set-info :foo let)" ∷ codes "(set-info :foo :bar)" ∷ codes "(echo a)" ∷ codes "(echo)" ∷
+    codes "(get-value ())" ∷ codes "(get-value x)" ∷ codes "(get-model x)" ∷ codes "(check-sat a)" ∷ codes "(exit 1)" ∷ codes "(push a)" ∷
+    codes "(pop 1 1)" ∷ codes "(assert-soft a :weight x)" ∷ codes "(assert-soft a :weight 1 :weight 2)" ∷ codes "(assert-soft a :dweight 1)" ∷
+    codes "(assert-soft a :id)" ∷ codes "(check-sat-assuming ((and a)))" ∷ codes "(check-sat-assuming a)" ∷ codes "(minimize)" ∷ []
+
+-- A symbol that isn't in scope, also where another rule is broken.
+abbrev pub unknown_names : List (List ℕ)
+unknown_names =
+    codes "(assert q)" ∷ codes "(assert (f x))" ∷ codes "(assert (and a (< q true)))" ∷ codes "(assert (let ((z z)) a))" ∷
+    codes "(assert (let ((z 1)) (let ((w 1) (v w)) a)))" ∷ codes "(assert (and (let ((z a)) z) z))" ∷ codes "(assert (let ((z 1) (z 2)) (< z q)))" ∷
+    codes "(get-value (x q))" ∷ codes "(declare-const z Foo)" ∷ codes "(declare-const x Foo)" ∷ codes "(declare-fun f (Foo) Int)" ∷
+    codes "(declare-fun f (Int Foo) (Array Int))" ∷ codes "(define-fun g () Foo 1)" ∷ codes "(define-fun g ((k Foo)) Int 1)" ∷
+    codes "(define-fun g ((k Int)) Int (+ k l))" ∷ codes "(define-fun g ((k Int)) Int (g k))" ∷ []
+
+-- A name that is declared, or an operator's, is declared again, or one list binds a name twice.
+abbrev pub declared_names : List (List ℕ)
+declared_names =
+    codes "(declare-const x Bool)" ∷ codes "(declare-fun x () Int)" ∷ codes "(declare-fun x (Int) Int)" ∷ codes "(declare-const half Int)" ∷
+    codes "(declare-const and Bool)" ∷ codes "(declare-const <= Bool)" ∷ codes "(declare-const is_int Int)" ∷ codes "(define-fun x () Int 1)" ∷
+    codes "(define-fun half ((r Real)) Real (/ r 2))" ∷ codes "(define-fun true () Bool a)" ∷ codes "(define-fun g ((k Int) (k Int)) Int k)" ∷
+    codes "(define-fun g ((and Int)) Int 1)" ∷ codes "(define-fun g () Int (let ((z 1) (z 2)) z))" ∷ codes "(assert (let ((and true)) and))" ∷
+    codes "(assert (let ((z 1) (z 2)) (+ z 1)))" ∷ codes "(get-value ((let ((z 1) (z 2)) z)))" ∷ []
+
+-- A number of arguments or a sort that doesn't fit; a function; a sort that is a list.
+abbrev pub ill_sorted : List (List ℕ)
+ill_sorted =
+    codes "(assert (+ x 1))" ∷ codes "(assert x)" ∷ codes "(assert (< true 1))" ∷ codes "(assert (x 1))" ∷ codes "(assert (let ((z a)) (z 1)))" ∷
+    codes "(assert and)" ∷ codes "(assert half)" ∷ codes "(assert (half u u))" ∷ codes "(assert (not a a))" ∷ codes "(assert (< true (* x x)))" ∷
+    codes "(get-value (x (not x)))" ∷ codes "(declare-fun f (Int) Int)" ∷ codes "(declare-const z (Array Int Int))" ∷
+    codes "(declare-fun f ((Array Foo)) Int)" ∷ codes "(define-fun g () Bool 1)" ∷ codes "(define-fun g () Int 1.0)" ∷
+    codes "(define-fun g () (Foo) 1)" ∷ codes "(define-fun g ((k (Foo))) Int 1)" ∷ codes "(define-fun g ((k Real)) Int (div k 2))" ∷ []
+
+-- Well sorted, and not linear.
+abbrev pub nonlinear : List (List ℕ)
+nonlinear =
+    codes "(assert (> (* x x) 0))" ∷ codes "(assert (= (half (* x x)) 1))" ∷ codes "(assert (= (/ 1 u) 2))" ∷ codes "(get-value (x (mod 1 0)))" ∷
+    codes "(define-fun g ((k Int) (l Int)) Int (* k l))" ∷ codes "(define-fun g ((k Int)) Int (div 6 k))" ∷ []
+
+-- A number above the greatest, wherever it stands.
+abbrev pub too_wide : List (List ℕ)
+too_wide =
+    codes "(assert (< x 170141183460469231731687303715884105728))" ∷ codes "(assert (< u 17014118346046923173168730371588410572.8))" ∷
+    codes "(set-info :foo 170141183460469231731687303715884105728)" ∷ codes "(set-info :foo (170141183460469231731687303715884105728))" ∷
+    codes "(frob 170141183460469231731687303715884105728)" ∷ codes "(pop 170141183460469231731687303715884105728)" ∷
+    codes "(assert (q 170141183460469231731687303715884105728))" ∷ []
+
+-- Past a limit, also where a number is too wide.
+abbrev pub past_limits : List (List ℕ)
+past_limits =
+    codes "(push 1001)" ∷ codes "(push 170141183460469231731687303715884105728)" ∷ codes "(assert-soft a :weight 0)" ∷
+    codes "(assert-soft a :id g :weight 0.00)" ∷ codes "(assert (< u 0.000000000000000000000000000000000000001))" ∷
+    codes "(frob 0.000000000000000000000000000000000000001)" ∷
+    codes "(frob 0.000000000000000000000000000000000000001 170141183460469231731687303715884105728)" ∷ []
+
+-- What the program doesn't take.
+abbrev pub unsupported_texts : List (List ℕ)
+unsupported_texts =
+    codes "(frob)" ∷ codes "(frob (x) :y \"z\")" ∷ codes "(|check sat|)" ∷ codes "(set-option :opt.priority box)" ∷
+    codes "(set-option :opt.priority pareto)" ∷ codes "(set-option :foo 1)" ∷ codes "(set-option :foo (let))" ∷ codes "(get-info :foo)" ∷
+    codes "(define-sort S () Int)" ∷ []
+
+-- What the program takes and heeds nowhere.
+abbrev pub without_effect : List (List ℕ)
+without_effect =
+    codes "(set-logic QF_LRA)" ∷ codes "(set-logic whatever)" ∷ codes "(set-info :status sat)" ∷ codes "(set-info :foo)" ∷
+    codes "(set-info :foo (a \"b\"))" ∷ codes "(set-option :produce-models true)" ∷ codes "(set-option :produce-models false)" ∷
+    codes "(set-option :opt.priority lex)" ∷ []
+
+-- Of the rules that a command breaks the first decides: the form, the limits, the width of numbers, what isn't taken, names
+-- that aren't in scope, names that are declared, sorts, and what isn't linear.
+pub record HasRefusals : Type 0 where
+  pub syntax : outcomes_in formless ≡ all_end (refused 1) formless
+  pub limits : outcomes_in past_limits ≡ all_end (refused 6) past_limits
+  pub width : outcomes_in too_wide ≡ all_end (refused 5) too_wide
+  pub others : outcomes_in unsupported_texts ≡ all_end not_taken unsupported_texts
+  pub unknown : outcomes_in unknown_names ≡ all_end (refused 2) unknown_names
+  pub known : outcomes_in declared_names ≡ all_end (refused 9) declared_names
+  pub sorts : outcomes_in ill_sorted ≡ all_end (refused 3) ill_sorted
+  pub linear : outcomes_in nonlinear ≡ all_end (refused 4) nonlinear
+
+-- ---- Accepted
+
+-- the same constants, and no definition
+abbrev pub constants_state : State
+constants_state = record sample_state { levels = map declared sample_constants ∷ [] }
+
+-- Declarations, definitions and assertions: the definitions among them are those that the samples of terms go by. A body and
+-- an assertion are linear, and a body of sort Int where a Real is wanted is read as `to_real` of it.
+pub record HasAdditions : Type 0 where
+  pub constants : outcome_in (codes "(declare-const z Real)") ≡ accepted (declare_const (constant_of_sort real_sort (codes "z")))
+  pub functions : outcome_in (codes "(declare-fun |a b| () Bool)") ≡ accepted (declare_const (constant_of_sort bool_sort (codes "a b")))
+  pub sort_names : outcome_in (codes "(declare-const Int Int)") ≡ accepted (declare_const (constant_of_sort int_sort (codes "Int")))
+  pub halves : outcome_of constants_state (tree_in (codes "(define-fun half ((r Real)) Real (/ r 2))")) ≡ accepted (define half)
+  pub over_constant : outcome_of constants_state (tree_in (codes "(define-fun above ((y Int)) Bool (< x y))")) ≡ accepted (define above)
+  pub parameters_hide : outcome_of constants_state (tree_in (codes "(define-fun below ((x Int) (y Int)) Bool (< x y))")) ≡ accepted (define below)
+  pub widened : outcome_in (codes "(define-fun one () Real 1)") ≡ accepted (define (record { name = codes "one"; parameters = []; body = real_of (numeral_term 1) }))
+  pub hides_definition : outcome_in (codes "(define-fun next ((half Int)) Int (+ half 1))")
+      ≡ accepted (define (record { name = codes "next"; parameters = int_sort ∷ []; body = paired (sum int_sort) (alone (parameter 0 int_sort)) (numeral_term 1) }))
+  pub asserts : outcome_in (codes "(assert (< x u 2))") ≡ accepted (assert_term (of_three less (real_of x_term) u_term (real_of (numeral_term 2))))
+  pub vanishes : outcome_in (codes "(assert (let ((z (* x x))) a))") ≡ accepted (assert_term a_term)
+  pub greatest : outcome_in (codes "(assert (< 170141183460469231731687303715884105727 x))") ≡ accepted (assert_term (paired less (numeral_term 170141183460469231731687303715884105727) x_term))
+  pub most_places : outcome_in (codes "(assert (< 0.00000000000000000000000000000000000001 u))") ≡ accepted (assert_term (paired less (alone (decimal_number 1 38)) u_term))
+
+abbrev pub tree_x : Tree
+tree_x = leaf (symbol (codes "x"))
+
+abbrev pub tree_one : Tree
+tree_one = leaf (numeral (codes "1"))
+
+-- Commands that ask or set.
+pub record HasAsking : Type 0 where
+  pub shows : outcome_in (codes "(get-value (x 1))") ≡ accepted (get_value (record { tree = tree_x; term = x_term } ∷ record { tree = tree_one; term = numeral_term 1 } ∷ []))
+  pub models : outcome_in (codes "(get-model)") ≡ accepted get_model
+  pub names : outcome_in (codes "(get-info :name)") ≡ accepted (get_info name_info)
+  pub levels : outcome_in (codes "(get-info :assertion-stack-levels)") ≡ accepted get_levels
+  pub reasons : outcome_in (codes "(get-info :reason-unknown)") ≡ accepted get_reason
+  pub echoes : outcome_in (codes "(echo \"a\"\"b\")") ≡ accepted (echo (codes "a\"b"))
+  pub reports : outcome_in (codes "(set-option :print-success true)") ≡ accepted (set_print_success true)
+  pub is_quiet : outcome_in (codes "(set-option :print-success false)") ≡ accepted (set_print_success false)
+  pub unheeded : outcomes_in without_effect ≡ all_end (accepted no_effect) without_effect
+  pub ends : outcome_in (codes "(exit)") ≡ accepted exit
+
+-- ---- What they leave
+
+-- a state with an answer to show
+abbrev pub answered : State
+answered = record { levels = (declared (constant_of_sort bool_sort (codes "a")) ∷ []) ∷ []; model = Some []; reason = None; options = record { prints_success = false } }
+
+-- the state after the command of a text and its reply
+abbrev pub left_by : State → List ℕ → Reply → State
+left_by s text reply = after s (whole (tree_in text)) reply
+
+-- An accepted addition stands last, and ends the answer; what shows the answer leaves it, and so does whatever is refused.
+pub record HasEffects : Type 0 where
+  pub declares : left_by start (codes "(declare-const x Int)") quiet ≡ record start { levels = (declared (constant_of_sort int_sort (codes "x")) ∷ []) ∷ [] }
+  pub asserts : left_by answered (codes "(assert a)") quiet
+      ≡ record answered { levels = (declared (constant_of_sort bool_sort (codes "a")) ∷ asserted a_term ∷ []) ∷ []; model = None }
+  pub shows : left_by answered (codes "(get-value (a))") (values []) ≡ answered
+  pub refuses : left_by answered (codes "(assert q)") (error 2) ≡ answered
+  pub passes : left_by answered (codes "(frob)") unsupported ≡ answered
+  pub lacks_memory : left_by answered (codes "(assert a)") (error 11) ≡ answered
+  pub denies : left_by answered (codes "(check-sat)") unsat ≡ record answered { model = None }
+  pub sets : left_by answered (codes "(set-option :print-success true)") success ≡ record answered { options = record { prints_success = true } }

@@ -1,0 +1,59 @@
+-- What a table knows of its terms.
+use Rattle.std.specs.Prelude.{◌≡◌, ℕ, List, [], ◌∷◌, map, fold, Bool, false, not, Option, Some, None, is_some, unwrap_or, slice_index_or, pos, if◌then◌else◌}
+use Rattle.std.specs.List.{list_all, list_any}
+use Rattle.nz_spec.specs.Fraction.{Fraction, whole, Operator, Sum, Difference, Product, Quotient}
+use Rattle.nz_spec.specs.Term.{Term, apply, no_terms, falsum, is_zero, holds_number}
+use Rattle.nz_spec.specs.Table.{Node, IsTable, with_term}
+use Rattle.nz_spec.specs.Linear.{constant_value, folded, is_linear}
+use Rattle.nz_frac.specs.declared.frac.Op.{Op}
+use Rattle.nz_frac.specs.declared.frac.Op.TheVariants.{Add, Sub, Mul, Div}
+use Rattle.nz_term.specs.declared.facts.Fact.{Fact}
+
+-- what is known by these three answers; the value of a term that isn't constant is 0
+abbrev pub fact_with : Option Fraction → Bool → Bool → Fact
+fact_with c linear number = record { value = unwrap_or c (whole (pos 0)); is_constant = is_some c; is_linear = linear; holds_number = number }
+
+-- what is known of a term
+abbrev pub fact_of : Term → Fact
+fact_of t = fact_with (constant_value t) (is_linear t) (holds_number t)
+
+-- the value of the term, where it is constant
+abbrev pub constant_in : Fact → Option Fraction
+constant_in f = if f.is_constant then Some f.value else None
+
+-- what is listed for the term of a number; a number past the end stands for `false`
+abbrev pub fact_at : List Fact → ℕ → Fact
+fact_at fs i = slice_index_or fs i (fact_of (apply falsum no_terms))
+
+abbrev pub constants_at : List Fact → List ℕ → List (Option Fraction)
+constants_at fs is = map (λ i. constant_in (fact_at fs i)) is
+
+-- each of these terms is linear
+abbrev pub are_linear_at : List Fact → List ℕ → Bool
+are_linear_at fs is = list_all (λ i. (fact_at fs i).is_linear) is
+
+-- one of these terms is a number, or made of one
+abbrev pub hold_number_at : List Fact → List ℕ → Bool
+hold_number_at fs is = list_any (λ i. (fact_at fs i).holds_number) is
+
+-- what an operation of the code is
+abbrev pub operator_of : Op → Operator
+operator_of Add = Sum
+operator_of Sub = Difference
+operator_of Mul = Product
+operator_of Div = Quotient
+
+-- an operation over all of these constants, from the left
+abbrev pub folded_all : Operator → List (Option Fraction) → Option Fraction
+folded_all op [] = None
+folded_all op (c ∷ cs) = folded op c cs
+
+-- a constant other than zero
+abbrev pub is_divisor : Option Fraction → Bool
+is_divisor None = false
+is_divisor (Some q) = not (is_zero q)
+
+-- The facts are those of the terms of the table, in order.
+pub record IsKnown (ns : List Node) (fs : List Fact) : Type 0 where
+  pub table : IsTable ns
+  pub facts : fs ≡ map fact_of (fold with_term [] ns)

@@ -1,0 +1,322 @@
+//! What is known of a term, by its head and by what is known of its arguments.
+ghost use Rattle.std.specs.Prelude.{◌≡◌, ◌≢◌, ◌^◌, ◌<◌, ◌≤◌, ◌&&◌, ◌||◌, List, length, map, All, IsTrue, Some, false, not, pos};
+ghost use Rattle.nz_spec.specs.Bounds.{place_limit};
+ghost use Rattle.nz_spec.specs.Fraction.{exceeds, whole};
+ghost use Rattle.nz_spec.specs.Linear.{are_divisors, divides_by_constants, folded, folded_step, head_constant, is_linear_node, variable_count};
+ghost use Rattle.nz_spec.specs.Table.{listed_term, terms_at};
+ghost use Rattle.nz_spec.specs.Term.{Term, apply, bool_sort, decimal_number, difference, head_fits, head_sort, is_bool, is_zero, scaled};
+ghost use Rattle.nz_term.specs.Facts.{are_linear_at, constant_in, constants_at, fact_at, fact_of, fact_with, folded_all, hold_number_at, is_divisor, operator_of};
+ghost use Rattle.nz_term.specs.Heads.{head_of};
+
+use crate::heads::{Head, Sort};
+use crate::nodes::TermId;
+use nz_frac::{Frac, Op};
+use nz_spec::term::{decimals_are_numbers, numerals_are_whole};
+
+/// What is known of a term. It takes 48 bytes.
+#[derive(Clone, Copy, Debug)]
+pub struct Fact {
+    // Of a constant term; else 0, so that none takes the room of an `Option`.
+    value: Frac,
+    is_constant: bool,
+    is_linear: bool,
+    holds_number: bool,
+}
+
+impl Fact {
+    /// What is known of a term with these answers.
+    fn new(constant: Option<Frac>, is_linear: bool, holds_number: bool) -> Fact
+        ensures fact { result ≡ fact_with constant is_linear holds_number }
+    {
+        Fact {
+            value: constant.unwrap_or(Frac::whole(0)),
+            is_constant: constant.is_some(),
+            is_linear,
+            holds_number,
+        }
+    }
+
+    /// The value of a constant term; none for another.
+    pub fn constant(&self) -> Option<Frac>
+        ensures constant { result ≡ constant_in self.now }
+    {
+        if self.is_constant {
+            Some(self.value)
+        } else {
+            None
+        }
+    }
+
+    /// Whether the term is linear.
+    pub fn is_linear(&self) -> bool
+        ensures linear { result ≡ self.now.is_linear }
+    {
+        self.is_linear
+    }
+
+    /// Whether the term, or one that it is made of, is of sort `Int` or `Real`.
+    pub fn holds_number(&self) -> bool
+        ensures holds { result ≡ self.now.holds_number }
+    {
+        self.holds_number
+    }
+}
+
+/// What is known of the term of this head over the terms of these numbers, where this is known of all terms.
+pub fn fact_over(facts: &[Fact], head: &Head, kids: &[TermId]) -> Fact
+    requires within { All (λ k. k < length facts.now) kids.now }
+    requires fits { IsTrue (head_fits (head_of head.now)) }
+    ensures fact { (ts : List Term) → facts.now ≡ map fact_of ts → result ≡ fact_of (apply (head_of head.now) (terms_at (listed_term ts) kids.now)) }
+{
+    Fact::new(
+        constant_over(facts, head, kids),
+        is_linear_over(facts, head, kids),
+        holds_number_over(facts, head, kids),
+    )
+}
+
+/// What is known of the term of a number.
+fn known(facts: &[Fact], id: TermId) -> Fact
+    requires within { id < length facts.now }
+    ensures known { result ≡ fact_at facts.now id }
+{
+    facts[id]
+}
+
+/// The value of a head over these terms, where it is a constant term.
+fn constant_over(facts: &[Fact], head: &Head, kids: &[TermId]) -> Option<Frac>
+    requires within { All (λ k. k < length facts.now) kids.now }
+    requires fits { IsTrue (head_fits (head_of head.now)) }
+    ensures constant { result ≡ head_constant (head_of head.now) (constants_at facts.now kids.now) }
+{
+    match head {
+        Head::Integer(n) => integer(*n),
+        Head::Decimal(digits, places) => decimal(*digits, *places),
+        Head::ToReal => match kids {
+            [kid] => known(facts, *kid).constant(),
+            _ => None,
+        },
+        Head::Sum(_) => folded(Op::Add, facts, kids),
+        Head::Difference(_) => difference(facts, kids),
+        Head::Product(_) => folded(Op::Mul, facts, kids),
+        Head::Quotient => folded(Op::Div, facts, kids),
+        _ => None,
+    }
+}
+
+/// The number of a numeral.
+fn integer(n: u128) -> Option<Frac>
+    requires fits { IsTrue (not (exceeds n)) }
+    ensures number { result ≡ Some (whole (pos n)) }
+{
+    numerals_are_whole();
+    decimal(n, 0)
+}
+
+/// The number of a decimal: its digits, and how many of them stand after the point.
+fn decimal(digits: u128, places: usize) -> Option<Frac>
+    requires fits { IsTrue (head_fits (decimal_number digits places)) }
+    ensures number { result ≡ Some (scaled digits places) }
+{
+    decimals_are_numbers();
+    Frac::of(signed(digits), power_of_ten(places))
+}
+
+/// The same number.
+fn signed(number: u128) -> i128
+    requires fits { number < 2 ^ 127 }
+    ensures same { result ≡ pos number }
+{
+    number as i128
+}
+
+/// A power of ten, up to that of the most places that a decimal has.
+#[tactic(auto, using(crate::proofs::Numbers::power_below))]
+fn power_of_ten(places: usize) -> i128
+    requires fits { places ≤ place_limit }
+    ensures power { result ≡ pos (10 ^ places) }
+{
+    10_u128.pow(places as u32) as i128
+}
+
+/// The negation of one constant, or the difference of several, from the left.
+fn difference(facts: &[Fact], kids: &[TermId]) -> Option<Frac>
+    requires within { All (λ k. k < length facts.now) kids.now }
+    ensures difference { result ≡ head_constant (difference bool_sort) (constants_at facts.now kids.now) }
+{
+    match kids {
+        [kid] => Some(known(facts, *kid).constant()?.neg()),
+        _ => folded(Op::Sub, facts, kids),
+    }
+}
+
+/// An operation over the constants of these terms, from the left; none where there are no terms, or one is no constant.
+fn folded(op: Op, facts: &[Fact], kids: &[TermId]) -> Option<Frac>
+    requires within { All (λ k. k < length facts.now) kids.now }
+    ensures folded { result ≡ folded_all (operator_of op) (constants_at facts.now kids.now) }
+{
+    match kids.split_first() {
+        Some((first, others)) => folded_on(op, known(facts, *first).constant(), facts, others),
+        None => None,
+    }
+}
+
+/// An operation over a constant and those of these terms, from the left; none where one is no constant.
+fn folded_on(op: Op, first: Option<Frac>, facts: &[Fact], kids: &[TermId]) -> Option<Frac>
+    requires within { All (λ k. k < length facts.now) kids.now }
+    ensures folded { result ≡ folded (operator_of op) first (constants_at facts.now kids.now) }
+{
+    let mut value = first;
+    for kid in kids {
+        value = step(op, value, known(facts, *kid).constant());
+    }
+    value
+}
+
+/// An operation on two terms that are constants where they have a value.
+fn step(op: Op, left: Option<Frac>, right: Option<Frac>) -> Option<Frac>
+    ensures step { result ≡ folded_step (operator_of op) left right }
+{
+    match left {
+        Some(left) => match right {
+            Some(right) => operation(op, left, right),
+            None => None,
+        },
+        None => None,
+    }
+}
+
+/// An operation on two constants, where its value is a number; none where it would divide by zero.
+fn operation(op: Op, left: Frac, right: Frac) -> Option<Frac>
+    ensures operation { result ≡ folded_step (operator_of op) (Some left) (Some right) }
+{
+    match op {
+        Op::Add => left.add(right).ok(),
+        Op::Sub => left.sub(right).ok(),
+        Op::Mul => left.mul(right).ok(),
+        Op::Div => {
+            if is_zero(right) {
+                return None;
+            }
+            left.div(right).ok()
+        }
+    }
+}
+
+/// Whether a number is zero.
+#[tactic(auto, using(crate::proofs::Numbers::is_not_zero))]
+fn is_zero(number: Frac) -> bool
+    ensures zero { result ≡ is_zero number }
+    ensures nonzero { result ≡ false → number.numerator ≢ pos 0 }
+{
+    number == Frac::whole(0)
+}
+
+/// Whether the term of this head over these terms is linear.
+fn is_linear_over(facts: &[Fact], head: &Head, kids: &[TermId]) -> bool
+    requires within { All (λ k. k < length facts.now) kids.now }
+    ensures linear { result ≡ (is_linear_node (head_of head.now) (constants_at facts.now kids.now) && are_linear_at facts.now kids.now) }
+{
+    is_linear_head(facts, head, kids) && are_linear(facts, kids)
+}
+
+/// Whether a head is linear over these terms, apart from what they are made of.
+fn is_linear_head(facts: &[Fact], head: &Head, kids: &[TermId]) -> bool
+    requires within { All (λ k. k < length facts.now) kids.now }
+    ensures linear { result ≡ is_linear_node (head_of head.now) (constants_at facts.now kids.now) }
+{
+    match head {
+        Head::Product(_) => variables(facts, kids) < 2,
+        Head::Quotient | Head::Div | Head::Mod => divides_by_constants(facts, kids),
+        _ => true,
+    }
+}
+
+/// How many of these terms are no constants.
+fn variables(facts: &[Fact], kids: &[TermId]) -> usize
+    requires within { All (λ k. k < length facts.now) kids.now }
+    ensures count { result ≡ variable_count (constants_at facts.now kids.now) }
+{
+    let mut count: usize = 0;
+    for kid in kids {
+        if known(facts, *kid).constant().is_none() {
+            count += 1;
+        }
+    }
+    count
+}
+
+/// Whether each of these terms but the first is a constant other than zero.
+fn divides_by_constants(facts: &[Fact], kids: &[TermId]) -> bool
+    requires within { All (λ k. k < length facts.now) kids.now }
+    ensures divisors { result ≡ divides_by_constants (constants_at facts.now kids.now) }
+{
+    match kids.split_first() {
+        Some((_, divisors)) => are_divisors(facts, divisors),
+        None => true,
+    }
+}
+
+/// Whether each of these terms is a constant other than zero.
+fn are_divisors(facts: &[Fact], kids: &[TermId]) -> bool
+    requires within { All (λ k. k < length facts.now) kids.now }
+    ensures divisors { result ≡ are_divisors (constants_at facts.now kids.now) }
+{
+    for kid in kids {
+        if !is_divisor(known(facts, *kid)) {
+            return false;
+        }
+    }
+    true
+}
+
+/// Whether the term is a constant other than zero.
+fn is_divisor(fact: Fact) -> bool
+    ensures divisor { result ≡ is_divisor (constant_in fact) }
+{
+    match fact.constant() {
+        Some(value) => !is_zero(value),
+        None => false,
+    }
+}
+
+/// Whether each of these terms is linear.
+fn are_linear(facts: &[Fact], kids: &[TermId]) -> bool
+    requires within { All (λ k. k < length facts.now) kids.now }
+    ensures linear { result ≡ are_linear_at facts.now kids.now }
+{
+    for kid in kids {
+        if !known(facts, *kid).is_linear {
+            return false;
+        }
+    }
+    true
+}
+
+/// Whether the term of this head over these terms, or one that it is made of, is of sort `Int` or `Real`.
+fn holds_number_over(facts: &[Fact], head: &Head, kids: &[TermId]) -> bool
+    requires within { All (λ k. k < length facts.now) kids.now }
+    ensures holds { result ≡ (not (is_bool (head_sort (head_of head.now))) || hold_number_at facts.now kids.now) }
+{
+    is_number(head) || hold_number(facts, kids)
+}
+
+/// Whether a term of this head is of sort `Int` or `Real`.
+fn is_number(head: &Head) -> bool
+    ensures number { result ≡ not (is_bool (head_sort (head_of head.now))) }
+{
+    head.sort() != Sort::Bool
+}
+
+/// Whether one of these terms is of sort `Int` or `Real`, or made of one that is.
+fn hold_number(facts: &[Fact], kids: &[TermId]) -> bool
+    requires within { All (λ k. k < length facts.now) kids.now }
+    ensures hold { result ≡ hold_number_at facts.now kids.now }
+{
+    for kid in kids {
+        if known(facts, *kid).holds_number {
+            return true;
+        }
+    }
+    false
+}

@@ -1,0 +1,102 @@
+//! Instances of definitions: a body with terms for its parameters.
+ghost use Rattle.std.specs.Prelude.{◌≡◌, ◌<◌, length, map, slice_index, All, IfOk, is_some};
+ghost use Rattle.nz_spec.specs.Term.{constant_of};
+ghost use Rattle.nz_spec.specs.Table.{term_in, terms_at};
+ghost use Rattle.nz_spec.specs.Elaboration.{instance_of};
+ghost use Rattle.nz_term.specs.Growth.{Grows};
+ghost use Rattle.nz_term.specs.Heads.{head_of};
+ghost use Rattle.nz_term.specs.Instances.{argument_of, IsInstance, HasInstances};
+
+use crate::heads::Head;
+use crate::nodes::TermId;
+use crate::order::post_order;
+use crate::terms::Terms;
+use nz_base::Memory;
+use nz_spec::table::terms_stay;
+use std::alloc::Global;
+
+/// The term that a definition's body is with these terms for its parameters, made in the table.
+///
+/// A parameter past the end stays. Each shared term of the body is made once, and none where nothing in it changes.
+pub fn instance(
+    alloc: Global,
+    terms: &mut Terms,
+    body: TermId,
+    arguments: &[TermId],
+) -> Result<TermId, Memory>
+    requires body { body < length terms.old }
+    requires within { All (λ k. k < length terms.old) arguments.now }
+    ensures grows { Grows terms.old terms.new }
+    ensures within { IfOk result (λ id. id < length terms.new) }
+    ensures made { IfOk result (λ id. term_in terms.new id ≡ instance_of (terms_at (term_in terms.old) arguments.now) (term_in terms.old body)) }
+{
+    let order = post_order(alloc, terms, &[body])?;
+    let mut made = vec![in alloc; 0; terms.len()]?;
+    for id in &order {
+        let number = node_instance(alloc, terms, *id, arguments, made.as_slice())?;
+        made[*id] = number;
+    }
+    Ok(made[body])
+}
+
+/// The number of the instance of a term, where those of its arguments are made.
+fn node_instance(
+    alloc: Global,
+    terms: &mut Terms,
+    id: TermId,
+    arguments: &[TermId],
+    made: &[TermId],
+) -> Result<TermId, Memory>
+    requires id { id < length terms.old }
+    requires within { All (λ k. k < length terms.old) arguments.now }
+    requires room { id < length made.now }
+    requires done { HasInstances terms.old arguments.now made.now id }
+    ensures grows { Grows terms.old terms.new }
+    ensures made { IfOk result (λ made. IsInstance terms.new arguments.now id made) }
+{
+    let node = terms.node(id);
+    if let Some(argument) = argument(&node.head, arguments) {
+        return Ok(argument);
+    }
+    let kids = node.kids.as_slice();
+    let instances = listed(alloc, made, kids)?;
+    if instances.as_slice() == kids {
+        return Ok(id);
+    }
+
+    // A constant has no arguments that could change; were it to have some, its instance would be a new constant.
+    if is_constant(&node.head) {
+        return Err(Memory);
+    }
+    let head = node.head.clone()?;
+    terms.make(head, instances.as_slice())
+}
+
+/// What is put for a parameter that isn't past the end; nothing for another head.
+fn argument(head: &Head, arguments: &[TermId]) -> Option<TermId>
+    ensures argument { result ≡ argument_of (head_of head.now) arguments.now }
+{
+    match head {
+        Head::Parameter(place, _) => arguments.get(*place).copied(),
+        _ => None,
+    }
+}
+
+/// Whether the head is a declared constant.
+fn is_constant(head: &Head) -> bool
+    ensures constant { result ≡ is_some (constant_of (head_of head.now)) }
+{
+    matches!(head, Head::Constant(_))
+}
+
+/// What is listed for each of these numbers.
+fn listed(alloc: Global, made: &[TermId], ids: &[TermId]) -> Result<Vec<TermId>, Memory>
+    requires within { All (λ k. k < length made.now) ids.now }
+    ensures listed { IfOk result (λ all. all.items ≡ map (slice_index made.now) ids.now) }
+{
+    let mut all = Vec::with_capacity(alloc, ids.len())?;
+    for id in ids {
+        all.push(made[*id])?;
+    }
+    Ok(all)
+}
