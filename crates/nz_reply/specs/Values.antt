@@ -1,28 +1,16 @@
 -- What is told of values, and which trees of a command it is told of.
 use Rattle.std.specs.Prelude.{List, [], ◌∷◌, map}
-use Rattle.nz_spec.specs.Fraction as fraction
 use Rattle.nz_spec.specs.Reply as spec
 use Rattle.nz_spec.specs.Reading.{trees_from}
 use Rattle.nz_spec.specs.Text as script
 use Rattle.nz_spec.specs.Tree.{Tree, leaf, node, Trees, no_trees, trees}
-use Rattle.nz_frac.specs.declared.frac.Op.{Op}
-use Rattle.nz_frac.specs.declared.frac.Op.TheVariants as op
-use Rattle.nz_frac.specs.declared.frac.Wide.{Wide}
+use Rattle.nz_frac.specs.Operations.{operation_of}
 use Rattle.nz_sexpr.specs.View.{view}
 use Rattle.nz_sexpr.specs.declared.tree.Tree as code
 use Rattle.nz_term.specs.Constants.{sort_of}
 use Rattle.nz_term.specs.Values.{value_of}
 use Rattle.nz_reply.specs.declared.reply.Shown.{Shown}
 use Rattle.nz_reply.specs.declared.reply.Shown.TheVariants as shown
-
-abbrev pub operator_of : Op → fraction.Operator
-operator_of op.Add = fraction.Sum
-operator_of op.Sub = fraction.Difference
-operator_of op.Mul = fraction.Product
-operator_of op.Div = fraction.Quotient
-
-abbrev pub operation_of : Wide → fraction.Operation
-operation_of w = record { operator = operator_of w.op; left = w.a; right = w.b }
 
 abbrev pub shown_of : Shown → spec.Shown
 shown_of (shown.Value sort value) = spec.shown_value (sort_of sort) (value_of value)

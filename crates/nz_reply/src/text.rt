@@ -10,7 +10,8 @@ ghost use Rattle.nz_reply.specs.Infos.{info_of};
 ghost use Rattle.nz_reply.specs.Reasons.{reason_of};
 ghost use Rattle.nz_reply.specs.Replies.{reply_of};
 ghost use Rattle.nz_reply.specs.Trees.{later_texts};
-ghost use Rattle.nz_reply.specs.Values.{asked_by as trees_asked_by, asked_in as trees_asked_in, asked_trees, operation_of, operator_of, seen, shown_of, with_shown};
+ghost use Rattle.nz_reply.specs.Values.{asked_by as trees_asked_by, asked_in as trees_asked_in, asked_trees, seen, shown_of, with_shown};
+ghost use Rattle.nz_frac.specs.Operations.{operation_of, operator_of};
 ghost use Rattle.nz_term.specs.Constants.{sort_of};
 
 use crate::errors::error_text;

@@ -1,12 +1,10 @@
 -- What a table knows of its terms.
 use Rattle.std.specs.Prelude.{◌≡◌, ℕ, List, [], ◌∷◌, map, fold, Bool, false, not, Option, Some, None, is_some, unwrap_or, slice_index_or, pos, if◌then◌else◌}
 use Rattle.std.specs.List.{list_all, list_any}
-use Rattle.nz_spec.specs.Fraction.{Fraction, whole, Operator, Sum, Difference, Product, Quotient}
+use Rattle.nz_spec.specs.Fraction.{Fraction, whole, Operator}
 use Rattle.nz_spec.specs.Term.{Term, apply, no_terms, falsum, is_zero, holds_number}
 use Rattle.nz_spec.specs.Table.{Node, IsTable, with_term}
 use Rattle.nz_spec.specs.Linear.{constant_value, folded, is_linear}
-use Rattle.nz_frac.specs.declared.frac.Op.{Op}
-use Rattle.nz_frac.specs.declared.frac.Op.TheVariants.{Add, Sub, Mul, Div}
 use Rattle.nz_term.specs.declared.facts.Fact.{Fact}
 
 -- what is known by these three answers; the value of a term that isn't constant is 0
@@ -35,13 +33,6 @@ are_linear_at fs is = list_all (λ i. (fact_at fs i).is_linear) is
 -- one of these terms is a number, or made of one
 abbrev pub hold_number_at : List Fact → List ℕ → Bool
 hold_number_at fs is = list_any (λ i. (fact_at fs i).holds_number) is
-
--- what an operation of the code is
-abbrev pub operator_of : Op → Operator
-operator_of Add = Sum
-operator_of Sub = Difference
-operator_of Mul = Product
-operator_of Div = Quotient
 
 -- an operation over all of these constants, from the left
 abbrev pub folded_all : Operator → List (Option Fraction) → Option Fraction

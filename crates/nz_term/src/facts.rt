@@ -5,7 +5,8 @@ ghost use Rattle.nz_spec.specs.Fraction.{exceeds, whole};
 ghost use Rattle.nz_spec.specs.Linear.{are_divisors, divides_by_constants, folded, folded_step, head_constant, is_linear_node, variable_count};
 ghost use Rattle.nz_spec.specs.Table.{listed_term, terms_at};
 ghost use Rattle.nz_spec.specs.Term.{Term, apply, bool_sort, decimal_number, difference, head_fits, head_sort, is_bool, is_zero, scaled};
-ghost use Rattle.nz_term.specs.Facts.{are_linear_at, constant_in, constants_at, fact_at, fact_of, fact_with, folded_all, hold_number_at, is_divisor, operator_of};
+ghost use Rattle.nz_term.specs.Facts.{are_linear_at, constant_in, constants_at, fact_at, fact_of, fact_with, folded_all, hold_number_at, is_divisor};
+ghost use Rattle.nz_frac.specs.Operations.{operator_of};
 ghost use Rattle.nz_term.specs.Heads.{head_of};
 
 use crate::heads::{Head, Sort};
