@@ -1,23 +1,13 @@
 -- Terms of the code: the number of a normal term, and the sort of the term that it is the normal one of.
-use Rattle.std.specs.Prelude.{◌≡◌, ℕ, ◌<◌, List, [], ◌∷◌, ◌++◌, length, All, Some, None, ⊤}
-use Rattle.std.specs.List.{AllByRecursion}
+use Rattle.std.specs.Prelude.{◌≡◌, ℕ, ◌<◌, List, [], ◌∷◌, length, All, Some, ⊤}
 use Rattle.nz_spec.specs.Term as spec
-use Rattle.nz_spec.specs.Term.{bool_sort, int_sort, real_sort, Head, constant_of, Term, Terms, no_terms, terms}
+use Rattle.nz_spec.specs.Term.{bool_sort, int_sort, real_sort, Term, Terms, no_terms, terms}
 use Rattle.nz_spec.specs.Normal.{normal_of, normals_of}
 use Rattle.nz_spec.specs.Table.{Node, term_in, terms_at}
 use Rattle.nz_spec.specs.Elaboration.{Operator, applied, as_real, read_at}
 use Rattle.nz_term.specs.Constants.{sort_of}
+pub use Rattle.nz_term.specs.Growth.{IsOperator, Grows}
 use Rattle.nz_sort.specs.declared.typed.Typed.{Typed}
-
--- the head is that of an operator or a number, and no constant
-abbrev pub IsOperator : Head → Type 0
-IsOperator h = elim (constant_of h) [ Some c ↦ ⊥ | None ↦ ⊤ ]
-
--- The table has grown by nodes of operators and numbers.
-pub record Grows (old new : List Node) : Type 0 where
-  pub more : List Node
-  pub all : new ≡ old ++ more
-  pub operators : AllByRecursion (λ (n : Node). IsOperator n.head) more
 
 -- The number is that of this term.
 pub record StandsFor (ns : List Node) (id : ℕ) (t : Term) : Type 0 where
