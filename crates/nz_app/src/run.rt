@@ -161,11 +161,16 @@ fn is_out_of_memory(kept: &Kept) -> bool
     match &kept.reply {
         Reply::Error(number) => *number == OUT_OF_MEMORY,
         Reply::Quiet => false,
+        Reply::Success => false,
         Reply::Sat(_) => false,
         Reply::Unsat => false,
         Reply::Unknown(_) => false,
         Reply::Model(_) => false,
+        Reply::Values(_) => false,
+        Reply::Info(_) => false,
+        Reply::Levels(_) => false,
         Reply::Reason(_) => false,
+        Reply::Echo => false,
         Reply::Unsupported => false,
     }
 }
@@ -188,11 +193,16 @@ fn is_an_error(kept: &Kept) -> bool
     match &kept.reply {
         Reply::Error(_) => true,
         Reply::Quiet => false,
+        Reply::Success => false,
         Reply::Sat(_) => false,
         Reply::Unsat => false,
         Reply::Unknown(_) => false,
         Reply::Model(_) => false,
+        Reply::Values(_) => false,
+        Reply::Info(_) => false,
+        Reply::Levels(_) => false,
         Reply::Reason(_) => false,
+        Reply::Echo => false,
         Reply::Unsupported => false,
     }
 }

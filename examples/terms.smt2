@@ -1,0 +1,5 @@
+(set-logic QF_LIRA)
+(declare-const express Bool)
+(define-fun price ((weight Int)) Int (+ 2 (* (ite express 3 1) weight)))
+(assert express)
+(check-sat)
