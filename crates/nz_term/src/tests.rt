@@ -1,7 +1,9 @@
 //! Each public call once on its happy path.
 ghost use Rattle.std.specs.Prelude.{◌<◌, length, IfOk};
 
-use crate::{Assign, Constant, Head, Ids, Sort, TermId, Terms, Value, instance, post_order};
+use crate::{
+    Assign, Constant, Head, Ids, Sort, TermId, Terms, Value, instance, listing_order, post_order,
+};
 use nz_base::Text;
 use nz_frac::Frac;
 use std::alloc::Global;
@@ -144,6 +146,47 @@ fn a_long_chain_needs_no_deep_stack(rt: HostRuntime) -> Result<(), Fail> {
     assert_eq!(rt; order.len(), 100_001);
     assert_eq!(rt; order.first(), Some(&0));
     assert_eq!(rt; order.last(), Some(&100_000));
+    Ok(())
+}
+
+// The table and the number of `(mod x0 2)`, of a parameter.
+fn remainder(alloc: Global) -> Result<(Terms, TermId), Fail>
+    ensures within { IfOk result (λ made. made.1 < length made.0) }
+{
+    let mut terms = Terms::new(alloc)?;
+    let parameter = terms.make(Head::Parameter(0, Sort::Int), &[])?;
+    let two = terms.make(Head::Integer(2), &[])?;
+    let rest = terms.make(Head::Mod, &[parameter, two])?;
+    Ok((terms, rest))
+}
+
+#[test]
+fn a_quotient_comes_just_before_its_remainder(rt: HostRuntime) -> Result<(), Fail> {
+    let (mut terms, rest) = remainder(rt.alloc())?;
+    let order = listing_order(rt.alloc(), &mut terms, &[rest])?;
+    assert_eq!(rt; order.as_slice(), [0, 1, 3, 2].as_slice());
+    assert_eq!(rt; terms.len(), 4);
+    Ok(())
+}
+
+// The table and the numbers of `(is_int x0)` and `(to_int x0)`, of a parameter.
+fn rounded(alloc: Global) -> Result<(Terms, TermId, TermId), Fail>
+    ensures test { IfOk result (λ made. made.1 < length made.0) }
+    ensures number { IfOk result (λ made. made.2 < length made.0) }
+{
+    let mut terms = Terms::new(alloc)?;
+    let parameter = terms.make(Head::Parameter(0, Sort::Real), &[])?;
+    let test = terms.make(Head::IsInt, &[parameter])?;
+    let number = terms.make(Head::ToInt, &[parameter])?;
+    Ok((terms, test, number))
+}
+
+#[test]
+fn a_rounded_number_is_listed_once(rt: HostRuntime) -> Result<(), Fail> {
+    let (mut terms, test, number) = rounded(rt.alloc())?;
+    let order = listing_order(rt.alloc(), &mut terms, &[test, number])?;
+    assert_eq!(rt; order.as_slice(), [0, 2, 1].as_slice());
+    assert_eq!(rt; terms.len(), 3);
     Ok(())
 }
 

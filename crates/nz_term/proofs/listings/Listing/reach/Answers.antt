@@ -1,0 +1,12 @@
+-- The marks grow with the table.
+use Rattle.std.proofs.Common.{◌≡◌, ◌-◌, ◌++◌, false, replicate, take, vec_len, refl, ap, ◌∙◌}
+use Rattle.nz_term.proofs.Companions.{reach_listing}
+use Rattle.nz_term.proofs.listings.Listing.reach.Goals as goal
+
+pub returns-clause-listed : goal.returns-clause-listed
+returns-clause-listed c =
+    λ ns new all g count w.
+    let marks = c.args.self.now.is_listed.items in
+    let more = c.args.count - vec_len c.args.self.now.is_listed in
+    reach_listing ns new all c.args.self.now _ more g (c.in_ok-resize.ensures.len ∙ count) refl
+    (c.in_ok-resize.ensures.items ∙ ap (λ n. take n marks ++ replicate more false) count) w
