@@ -94,8 +94,8 @@ reach_listing ns new all s t n g room same more w =
       told = λ i below. (
         λ m. subst (λ l. Contains l i) (sym same) (listed i (sym (reads i) ∙ m)),
         λ k.
-        let there : Contains s.ids.items i = subst (λ l. Contains l i) same k in
-        reads i ∙ (w.told i (All-contains (λ j. j < length ns) s.ids.items i w.within there)).1 there,
+            let there : Contains s.ids.items i = subst (λ l. Contains l i) same k in
+            reads i ∙ (w.told i (All-contains (λ j. j < length ns) s.ids.items i w.within there)).1 there,
       );
       room = room;
       within = subst (All (λ i. i < length new)) (sym same) (within_more ns new g s.ids.items w.within);

@@ -56,18 +56,18 @@ behind_these (x ∷ xs) ys zs seen list h f =
       | inl l ↦ inl (
         l.0,
         behind_these xs ys zs seen list
-        (λ now more v w. h now more (joined (x ∷ []) xs now (λ t k. w t (subst (Contains seen) (alone x t k) l.0)) v) w) l.1,
+            (λ now more v w. h now more (joined (x ∷ []) xs now (λ t k. w t (subst (Contains seen) (alone x t k) l.0)) v) w) l.1,
       )
       | inr r ↦ inr (
         r.0,
         r.1,
         r.2,
         behind_these xs ys zs (x ∷ seen) r.1
-        (
-        λ now more v w.
-        h now more (joined (x ∷ []) xs now (λ t k. w t (ahead (x ∷ []) seen t k)) v) (λ t k. w t (behind (x ∷ []) seen t k))
-        )
-        r.3,
+            (
+            λ now more v w.
+            h now more (joined (x ∷ []) xs now (λ t k. w t (ahead (x ∷ []) seen t k)) v) (λ t k. w t (behind (x ∷ []) seen t k))
+            )
+            r.3,
       )
     ]
 

@@ -1,5 +1,5 @@
 //! The order in which a term list has shared terms: that of their parts, with what it has besides these.
-ghost use Rattle.std.specs.Prelude.{◌≡◌, ◌+◌, ◌<◌, ◌≤◌, ◌++◌, [], ◌∷◌, List, length, map, flat_map, All, IfOk, OnOk, option_map};
+ghost use Rattle.std.specs.Prelude.{◌≡◌, ◌<◌, ◌≤◌, ◌++◌, [], ◌∷◌, List, length, map, flat_map, All, IfOk, OnOk, option_map};
 ghost use Rattle.nz_spec.specs.Order.{listing_order, AreFirst};
 ghost use Rattle.nz_spec.specs.Table.{term_in, HasOneNumberEach};
 ghost use Rattle.nz_spec.specs.Table as table;
@@ -13,7 +13,7 @@ use crate::nodes::TermId;
 use crate::order::post_order;
 use crate::terms::Terms;
 use nz_base::Memory;
-use nz_spec::table::{one_number, term_of_node, terms_stay};
+use nz_spec::table::one_number;
 use std::alloc::Global;
 
 /// The terms of these roots with all that they are made of, each once, as a term list has them: in post-order, and just

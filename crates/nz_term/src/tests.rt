@@ -1,5 +1,7 @@
 //! Each public call once on its happy path.
-ghost use Rattle.std.specs.Prelude.{◌<◌, length, IfOk};
+ghost use Rattle.std.specs.Prelude.{◌<◌, length, IfOk, IsTrue};
+ghost use Rattle.nz_spec.specs.Term.{head_fits};
+ghost use Rattle.nz_term.specs.Heads.{head_of};
 
 use crate::{
     Assign, Constant, Head, Ids, Sort, TermId, Terms, Value, instance, listing_order, post_order,
@@ -9,7 +11,9 @@ use nz_frac::Frac;
 use std::alloc::Global;
 use std::test::Fail;
 
-fn bool_constant(alloc: Global, name: &[u8]) -> Result<Head, Fail> {
+fn bool_constant(alloc: Global, name: &[u8]) -> Result<Head, Fail>
+    ensures fits { IfOk result (λ head. IsTrue (head_fits (head_of head))) }
+{
     Ok(Head::Constant(Constant {
         name: Text::from_slice(alloc, name)?,
         sort: Sort::Bool,
@@ -30,11 +34,18 @@ fn clause(alloc: Global) -> Result<(Terms, TermId), Fail> {
 fn equal_terms_have_one_number(rt: HostRuntime) -> Result<(), Fail> {
     let (mut terms, root) = clause(rt.alloc())?;
     assert_eq!(rt; root, 3);
-    assert_eq!(rt; terms.len(), 4);
     let p = terms.make(bool_constant(rt.alloc(), b"p")?, &[])?;
     assert_eq!(rt; p, 0);
+    assert_eq!(rt; terms.len(), 4);
     let again = terms.make(Head::Or, &[0, 2])?;
     assert_eq!(rt; again, 3);
+    Ok(())
+}
+
+#[test]
+fn the_order_of_arguments_matters(rt: HostRuntime) -> Result<(), Fail> {
+    let (mut terms, _) = clause(rt.alloc())?;
+    assert_eq!(rt; terms.len(), 4);
     let swapped = terms.make(Head::Or, &[2, 0])?;
     assert_eq!(rt; swapped, 4);
     assert_eq!(rt; terms.len(), 5);

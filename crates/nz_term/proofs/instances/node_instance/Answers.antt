@@ -70,8 +70,8 @@ returns-clause-made c =
     (there.1 ∙ ap (λ h. apply h (terms_at (term_in old) kids)) same ∙ ap (λ l. apply (head_of n.head) (terms_at (term_in old) l)) listed)
     )
     (both_ok c.make.result
-      (λ id. slice_get new id ≡ Some one)
-      (λ id. term_in new id ≡ apply (head_of c.in_ok-head.head) (terms_at (term_in old) kids))
-      (λ id. (slice_get new id ≡ Some one) × (term_in new id ≡ apply (head_of c.in_ok-head.head) (terms_at (term_in old) kids)))
-      (λ id p q. (p, q)) c.make.ensures.node c.make.ensures.term)
+    (λ id. slice_get new id ≡ Some one)
+    (λ id. term_in new id ≡ apply (head_of c.in_ok-head.head) (terms_at (term_in old) kids))
+    (λ id. (slice_get new id ≡ Some one) × (term_in new id ≡ apply (head_of c.in_ok-head.head) (terms_at (term_in old) kids)))
+    (λ id p q. (p, q)) c.make.ensures.node c.make.ensures.term)
     c.make.ensures.grown
