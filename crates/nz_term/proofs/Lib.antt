@@ -1,4 +1,6 @@
+pub mod Companions
 pub mod Equality
+pub mod Firsts
 pub mod Instancing
 pub mod Keys
 pub mod Knowledge

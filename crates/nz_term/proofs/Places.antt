@@ -106,7 +106,7 @@ module _ (f : ℕ → Term) where
   kids_within (i ∷ kids) (suc j) d below = behind (post_order (f i)) (post_orders (terms_at f kids)) (f (get_or kids j d)) (kids_within kids j d (omega arith))
 
   -- the number of a term that is among the terms of these is one of these
-  number_back : (n : ℕ) → ((i j : ℕ) → i < n → j < n → f i ≡ f j → i ≡ j) → (is : List ℕ) → All (λ i. i < n) is → (i : ℕ) → i < n
+  pub number_back : (n : ℕ) → ((i j : ℕ) → i < n → j < n → f i ≡ f j → i ≡ j) → (is : List ℕ) → All (λ i. i < n) is → (i : ℕ) → i < n
       → Contains (map f is) (f i) → Contains is i
   number_back n one [] below i within k = absurd (none (f i) k)
   number_back n one (j ∷ is) below i within k =

@@ -27,7 +27,7 @@ alone y x k = Contains_one y x k.0 k.1 k.2
     Contains_one y x (suc k) l e = absurd (omega arith)
 
 -- more terms in front of both
-in_front : (xs ys zs : List Term) → IsWithin ys zs → IsWithin (xs ++ ys) (xs ++ zs)
+pub in_front : (xs ys zs : List Term) → IsWithin ys zs → IsWithin (xs ++ ys) (xs ++ zs)
 in_front xs ys zs w t k =
     elim (Contains-append_cases xs ys t k) [
       | inl l ↦ Contains-append_left xs zs t l
@@ -94,7 +94,7 @@ not_part (apply h ts) k = omega (arith, none_larger ts (apply h ts) k, length-ap
 -- ---- Lists that have each term once
 
 -- terms that were seen are passed over
-passed_over : (seen ts rest list : List Term) → IsWithin ts seen → AreFirst seen rest list → AreFirst seen (ts ++ rest) list
+pub passed_over : (seen ts rest list : List Term) → IsWithin ts seen → AreFirst seen rest list → AreFirst seen (ts ++ rest) list
 passed_over seen [] rest list w h = h
 passed_over seen (t ∷ ts) rest list w h =
     inl (w t (ahead (t ∷ []) ts t (0, omega arith, refl)), passed_over seen ts rest list (λ u k. w u (behind (t ∷ []) ts u k)) h)

@@ -45,7 +45,7 @@ below_entries n (i ∷ is) s h b = (h 0 i (omega arith), below_entries n is s (�
 abbrev pub Tell : (ℕ → Term) → ℕ → List Bool → List Term → Type 0
 Tell f n marks seen = (i : ℕ) → i < n → (slice_index_or marks i false ≡ true) ↔ Contains seen (f i)
 
-unmarked : (n i : ℕ) → slice_index_or (replicate n false) i false ≡ true → ⊥
+pub unmarked : (n i : ℕ) → slice_index_or (replicate n false) i false ≡ true → ⊥
 unmarked zero i e = cc
 unmarked (suc n) zero e = cc
 unmarked (suc n) (suc i) e = unmarked n i e

@@ -3,6 +3,7 @@ pub mod Facts
 pub mod Growth
 pub mod Heads
 pub mod Instances
+pub mod Listings
 pub mod Nodes
 pub mod Parts
 pub mod Steps

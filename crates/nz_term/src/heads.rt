@@ -9,6 +9,7 @@ ghost use Rattle.nz_term.specs.Heads.{head_of};
 ghost use Rattle.nz_term.specs.Parts.{digits_in, fed_of, kind_of, name_in, parts_of, place_in, sort_number};
 
 use nz_base::Text;
+use std::alloc::AllocError;
 use std::hash::{Hash, Hasher};
 
 /// A sort.
@@ -33,14 +34,25 @@ impl Sort {
 }
 
 /// A declared constant. Two of one name and one sort are the same constant.
-#[derive(Clone, Debug, Drop, PartialEq, Eq, Hash)]
+#[derive(Debug, Drop, PartialEq, Eq, Hash)]
 pub struct Constant {
     pub name: Text,
     pub sort: Sort,
 }
 
+impl Clone for Constant {
+    ghost is_clone = { λ constant copy. copy ≡ constant };
+
+    fn clone(&self) -> Result<Constant, AllocError> {
+        Ok(Constant {
+            name: self.name.clone()?,
+            sort: self.sort,
+        })
+    }
+}
+
 /// The head of a normal term. Where an operator is over Int or over Real, its head says which.
-#[derive(Clone, Debug, Drop)]
+#[derive(Debug, Drop)]
 pub enum Head {
     /// A constant, which has no arguments.
     Constant(Constant),
@@ -160,6 +172,40 @@ impl Head {
             Head::Constant(constant) => constant.name.as_bytes(),
             _ => &[],
         }
+    }
+}
+
+// By hand, since a derived one says what a clone is by a case for each two variants, and not that it is the head.
+impl Clone for Head {
+    ghost is_clone = { λ head copy. copy ≡ head };
+
+    fn clone(&self) -> Result<Head, AllocError> {
+        Ok(match self {
+            Head::Constant(constant) => Head::Constant(constant.clone()?),
+            Head::Parameter(place, sort) => Head::Parameter(*place, *sort),
+            Head::Integer(digits) => Head::Integer(*digits),
+            Head::Decimal(digits, places) => Head::Decimal(*digits, *places),
+            Head::True => Head::True,
+            Head::False => Head::False,
+            Head::Not => Head::Not,
+            Head::And => Head::And,
+            Head::Or => Head::Or,
+            Head::Xor => Head::Xor,
+            Head::Equal => Head::Equal,
+            Head::Ite(sort) => Head::Ite(*sort),
+            Head::Less => Head::Less,
+            Head::AtMost => Head::AtMost,
+            Head::Sum(sort) => Head::Sum(*sort),
+            Head::Difference(sort) => Head::Difference(*sort),
+            Head::Product(sort) => Head::Product(*sort),
+            Head::Quotient => Head::Quotient,
+            Head::Div => Head::Div,
+            Head::Mod => Head::Mod,
+            Head::Abs => Head::Abs,
+            Head::ToReal => Head::ToReal,
+            Head::ToInt => Head::ToInt,
+            Head::IsInt => Head::IsInt,
+        })
     }
 }
 

@@ -12,7 +12,6 @@ use crate::nodes::TermId;
 use crate::order::post_order;
 use crate::terms::Terms;
 use nz_base::Memory;
-use nz_spec::table::terms_stay;
 use std::alloc::Global;
 
 /// The term that a definition's body is with these terms for its parameters, made in the table.

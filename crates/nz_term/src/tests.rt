@@ -1,13 +1,19 @@
 //! Each public call once on its happy path.
-ghost use Rattle.std.specs.Prelude.{◌<◌, length, IfOk};
+ghost use Rattle.std.specs.Prelude.{◌<◌, length, IfOk, IsTrue};
+ghost use Rattle.nz_spec.specs.Term.{head_fits};
+ghost use Rattle.nz_term.specs.Heads.{head_of};
 
-use crate::{Assign, Constant, Head, Ids, Sort, TermId, Terms, Value, instance, post_order};
+use crate::{
+    Assign, Constant, Head, Ids, Sort, TermId, Terms, Value, instance, listing_order, post_order,
+};
 use nz_base::Text;
 use nz_frac::Frac;
 use std::alloc::Global;
 use std::test::Fail;
 
-fn bool_constant(alloc: Global, name: &[u8]) -> Result<Head, Fail> {
+fn bool_constant(alloc: Global, name: &[u8]) -> Result<Head, Fail>
+    ensures fits { IfOk result (λ head. IsTrue (head_fits (head_of head))) }
+{
     Ok(Head::Constant(Constant {
         name: Text::from_slice(alloc, name)?,
         sort: Sort::Bool,
@@ -28,11 +34,18 @@ fn clause(alloc: Global) -> Result<(Terms, TermId), Fail> {
 fn equal_terms_have_one_number(rt: HostRuntime) -> Result<(), Fail> {
     let (mut terms, root) = clause(rt.alloc())?;
     assert_eq!(rt; root, 3);
-    assert_eq!(rt; terms.len(), 4);
     let p = terms.make(bool_constant(rt.alloc(), b"p")?, &[])?;
     assert_eq!(rt; p, 0);
+    assert_eq!(rt; terms.len(), 4);
     let again = terms.make(Head::Or, &[0, 2])?;
     assert_eq!(rt; again, 3);
+    Ok(())
+}
+
+#[test]
+fn the_order_of_arguments_matters(rt: HostRuntime) -> Result<(), Fail> {
+    let (mut terms, _) = clause(rt.alloc())?;
+    assert_eq!(rt; terms.len(), 4);
     let swapped = terms.make(Head::Or, &[2, 0])?;
     assert_eq!(rt; swapped, 4);
     assert_eq!(rt; terms.len(), 5);
@@ -144,6 +157,47 @@ fn a_long_chain_needs_no_deep_stack(rt: HostRuntime) -> Result<(), Fail> {
     assert_eq!(rt; order.len(), 100_001);
     assert_eq!(rt; order.first(), Some(&0));
     assert_eq!(rt; order.last(), Some(&100_000));
+    Ok(())
+}
+
+// The table and the number of `(mod x0 2)`, of a parameter.
+fn remainder(alloc: Global) -> Result<(Terms, TermId), Fail>
+    ensures within { IfOk result (λ made. made.1 < length made.0) }
+{
+    let mut terms = Terms::new(alloc)?;
+    let parameter = terms.make(Head::Parameter(0, Sort::Int), &[])?;
+    let two = terms.make(Head::Integer(2), &[])?;
+    let rest = terms.make(Head::Mod, &[parameter, two])?;
+    Ok((terms, rest))
+}
+
+#[test]
+fn a_quotient_comes_just_before_its_remainder(rt: HostRuntime) -> Result<(), Fail> {
+    let (mut terms, rest) = remainder(rt.alloc())?;
+    let order = listing_order(rt.alloc(), &mut terms, &[rest])?;
+    assert_eq!(rt; order.as_slice(), [0, 1, 3, 2].as_slice());
+    assert_eq!(rt; terms.len(), 4);
+    Ok(())
+}
+
+// The table and the numbers of `(is_int x0)` and `(to_int x0)`, of a parameter.
+fn rounded(alloc: Global) -> Result<(Terms, TermId, TermId), Fail>
+    ensures test { IfOk result (λ made. made.1 < length made.0) }
+    ensures number { IfOk result (λ made. made.2 < length made.0) }
+{
+    let mut terms = Terms::new(alloc)?;
+    let parameter = terms.make(Head::Parameter(0, Sort::Real), &[])?;
+    let test = terms.make(Head::IsInt, &[parameter])?;
+    let number = terms.make(Head::ToInt, &[parameter])?;
+    Ok((terms, test, number))
+}
+
+#[test]
+fn a_rounded_number_is_listed_once(rt: HostRuntime) -> Result<(), Fail> {
+    let (mut terms, test, number) = rounded(rt.alloc())?;
+    let order = listing_order(rt.alloc(), &mut terms, &[test, number])?;
+    assert_eq!(rt; order.as_slice(), [0, 2, 1].as_slice());
+    assert_eq!(rt; terms.len(), 3);
     Ok(())
 }
 

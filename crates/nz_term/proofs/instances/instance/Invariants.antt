@@ -2,4 +2,4 @@ use Rattle.nz_term.proofs.Instancing.{AreOnWay}
 use Rattle.nz_term.proofs.instances.instance.Given as goal
 
 abbrev pub invariant-loop-id : goal.invariant-loop-id
-invariant-loop-id l = AreOnWay l.fn.terms l.terms l.arguments l.order.items l.made.items l.id-index
+invariant-loop-id l = AreOnWay l.fn.terms l.terms l.arguments l.id-items l.made.items l.id-index

@@ -1,9 +1,15 @@
 -- The instance of a term by how its head and its arguments are.
-use Rattle.std.proofs.Common.{◌≡◌, ◌<◌, length, map, slice_index, All, sym, ap, subst, ◌∙◌}
+use Rattle.std.proofs.Common.{◌≡◌, ◌<◌, [], ◌∷◌, ◌++◌, length, map, slice_get, slice_index, All, Bool, false, Option, Some, None, is_some, sym, ap, subst, ◌∙◌}
+use Rattle.std.specs.Prelude.{◌⊎◌, ⊤, IfOk, Result, Ok, Err}
+use Rattle.std.proofs.lemmas.Option.{slice_get_within}
 use Rattle.std.specs.Cmp.Lexicographic.{bytes_decides}
+use Rattle.nz_spec.specs.Term.{Constant, Head, apply, constant_of}
+use Rattle.nz_spec.specs.Table.{term_in, terms_at}
+use Rattle.nz_term.specs.Growth.{IsOperator}
 use Rattle.nz_term.specs.Heads.{head_of}
-use Rattle.nz_term.specs.Nodes.{node_of}
-use Rattle.nz_term.proofs.Instancing.{argument_instance, own_instance, instances_within}
+use Rattle.nz_term.specs.Instances.{IsInstance}
+use Rattle.nz_term.specs.Nodes.{node_of, node_with}
+use Rattle.nz_term.proofs.Instancing.{argument_instance, grows_by, instances_within, made_instance, own_instance}
 use Rattle.nz_term.proofs.instances.node_instance.Goals as goal
 
 pub returns-in-Some-clause-made : goal.returns-in-Some-clause-made
@@ -29,3 +35,43 @@ make-requires-clause-within c =
     let listed : c.as_slice-2.result.now ≡ map (slice_index made) n.kids =
     c.as_slice-2.ensures.value ∙ c.in_ok-instances.ensures.listed ∙ ap (map (slice_index made)) c.as_slice-kids.ensures.ids in
     subst (All (λ k. k < length ns)) (sym listed) (instances_within ns c.args.arguments.now made n.kids (c.requires.done (node_of n) c.node-node.ensures.node))
+
+operator : (h : Head) → is_some (constant_of h) ≡ false → IsOperator h
+operator h e = by (constant_of h) e
+  where
+    by : (o : Option Constant) → is_some o ≡ false → elim o as (λ x. Type 0) [ Some c ↦ ⊥ | None ↦ ⊤ ]
+    by (Some c) e = cc
+    by None e = tt
+
+both_ok : {T E : Type 0} (r : Result T E) (P Q R : T → Type 0) → ((x : T) → P x → Q x → R x) → IfOk r P → IfOk r Q → IfOk r R
+both_ok (Ok x) P Q R f p q = f x p q
+both_ok (Err e) P Q R f p q = tt
+
+pub returns-clause-made : goal.returns-clause-made
+returns-clause-made c =
+    let n = c.node-node.result.now in
+    let old = c.args.terms.now in
+    let new = c.make.new.self in
+    let made = c.args.made.now in
+    let kids = c.as_slice-2.result.now in
+    let listed : kids ≡ map (slice_index made) n.kids =
+    c.as_slice-2.ensures.value ∙ c.in_ok-instances.ensures.listed ∙ ap (map (slice_index made)) c.as_slice-kids.ensures.ids in
+    let same : head_of c.in_ok-head.head ≡ head_of n.head = ap head_of c.in_ok-head.ensures.cases in
+    let one = node_with c.in_ok-head.head kids in
+    let stays = subst IsOperator (sym same) (operator (head_of n.head) (sym c.if-is_constant.ensures.constant)) in
+    both_ok c.make.result
+    (λ id. (slice_get new id ≡ Some one) × (term_in new id ≡ apply (head_of c.in_ok-head.head) (terms_at (term_in old) kids)))
+    (λ id. (new ≡ old) ⊎ (new ≡ old ++ one ∷ []))
+    (λ id. IsInstance new c.args.arguments.now c.args.id id)
+    (
+    λ id there grown.
+    made_instance old new (grows_by old one new stays grown) c.args.arguments.now made c.args.id (head_of n.head) n.kids id c.requires.within (sym c.in_default.ensures.argument)
+    c.node-node.ensures.term c.requires.id (c.requires.done (node_of n) c.node-node.ensures.node) (slice_get_within new id one there.0)
+    (there.1 ∙ ap (λ h. apply h (terms_at (term_in old) kids)) same ∙ ap (λ l. apply (head_of n.head) (terms_at (term_in old) l)) listed)
+    )
+    (both_ok c.make.result
+    (λ id. slice_get new id ≡ Some one)
+    (λ id. term_in new id ≡ apply (head_of c.in_ok-head.head) (terms_at (term_in old) kids))
+    (λ id. (slice_get new id ≡ Some one) × (term_in new id ≡ apply (head_of c.in_ok-head.head) (terms_at (term_in old) kids)))
+    (λ id p q. (p, q)) c.make.ensures.node c.make.ensures.term)
+    c.make.ensures.grown
