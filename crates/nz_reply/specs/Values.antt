@@ -1,9 +1,9 @@
--- What is told of values, and which trees of a command it is told of.
-use Rattle.std.specs.Prelude.{List, [], ◌∷◌, map}
+-- What is told of values, which trees of a command it is told of, and which text a command repeats.
+use Rattle.std.specs.Prelude.{ℕ, List, [], ◌∷◌, map}
 use Rattle.nz_spec.specs.Reply as spec
 use Rattle.nz_spec.specs.Reading.{trees_from}
 use Rattle.nz_spec.specs.Text as script
-use Rattle.nz_spec.specs.Tree.{Tree, leaf, node, Trees, no_trees, trees}
+use Rattle.nz_spec.specs.Tree.{literal, Tree, leaf, node, Trees, no_trees, trees}
 use Rattle.nz_frac.specs.Operations.{operation_of}
 use Rattle.nz_sexpr.specs.View.{view}
 use Rattle.nz_sexpr.specs.declared.tree.Tree as code
@@ -37,3 +37,16 @@ asked_trees what = no_trees
 abbrev pub with_shown : Trees → List spec.Shown → List (Tree × spec.Shown)
 with_shown (trees t ts) (s ∷ ss) = (t, s) ∷ with_shown ts ss
 with_shown ts ss = []
+
+-- the text that an echo repeats: that of the literal behind its name
+abbrev pub echoed_by_list : Trees → List ℕ
+echoed_by_list (trees k (trees (leaf (literal bs)) no_trees)) = bs
+echoed_by_list ts = []
+
+abbrev pub echoed_by : Tree → List ℕ
+echoed_by (leaf t) = []
+echoed_by (node ts) = echoed_by_list ts
+
+abbrev pub echoed_in : script.What → List ℕ
+echoed_in (script.whole t) = echoed_by t
+echoed_in what = []

@@ -10,7 +10,7 @@ ghost use Rattle.nz_reply.specs.Infos.{info_of};
 ghost use Rattle.nz_reply.specs.Reasons.{reason_of};
 ghost use Rattle.nz_reply.specs.Replies.{reply_of};
 ghost use Rattle.nz_reply.specs.Trees.{later_texts};
-ghost use Rattle.nz_reply.specs.Values.{asked_by as trees_asked_by, asked_in as trees_asked_in, asked_trees, seen, shown_of, with_shown};
+ghost use Rattle.nz_reply.specs.Values.{asked_by as trees_asked_by, asked_in as trees_asked_in, asked_trees, echoed_by, echoed_by_list, echoed_in, seen, shown_of, with_shown};
 ghost use Rattle.nz_frac.specs.Operations.{operation_of, operator_of};
 ghost use Rattle.nz_term.specs.Constants.{sort_of};
 
@@ -22,10 +22,11 @@ use crate::write::{WriteFault, write_parts, write_text};
 use itoa::Buffer;
 use nz_base::Sink;
 use nz_frac::{Op, Wide};
-use nz_sexpr::{Tree, What};
+use nz_sexpr::{Token, Tree, What};
 use nz_term::{Constant, Sort};
 
-/// Writes the text of a reply to the thing heard, which holds the terms whose values a reply tells. Takes no memory.
+/// Writes the text of a reply to the thing heard, which holds the terms whose values a reply tells, and the text that one
+/// repeats. Takes no memory.
 ///
 /// # Errors
 ///
@@ -47,7 +48,7 @@ pub fn write_reply<K: Sink>(sink: &mut K, what: &What, reply: &Reply) -> Result<
         Reply::Info(info) => write_text(sink, info_line(*info)),
         Reply::Levels(count) => write_levels(sink, *count),
         Reply::Reason(reason) => write_reason(sink, *reason),
-        Reply::Echo(text) => write_echo(sink, text.as_bytes()),
+        Reply::Echo => write_echo(sink, repeated(what)),
         Reply::Unsupported => write_text(sink, b"unsupported\n"),
         Reply::Error(number) => write_text(sink, error_text(*number)),
     }
@@ -305,6 +306,35 @@ fn write_units_spent<K: Sink>(sink: &mut K, units: u64) -> Result<(), WriteFault
     let mut digits = Buffer::new();
     let number = digits.format(units).as_bytes();
     write_parts(sink, &[b"(:reason-unknown (spent ", number, b"))\n"])
+}
+
+/// The text that a command repeats.
+fn repeated(what: &What) -> &[u8]
+    ensures text { result.now ≡ echoed_in (what_view what.now) }
+{
+    match what {
+        What::Tree(tree) => repeated_by(tree),
+        _ => b"",
+    }
+}
+
+fn repeated_by(tree: &Tree) -> &[u8]
+    ensures text { result.now ≡ echoed_by (view tree.now) }
+{
+    match tree {
+        Tree::Word(_) => b"",
+        Tree::List(list) => repeated_in(list.as_slice()),
+    }
+}
+
+/// The text of the literal behind the name of a command.
+fn repeated_in(list: &[Tree]) -> &[u8]
+    ensures text { result.now ≡ echoed_by_list (seen list.now) }
+{
+    match list {
+        [_, Tree::Word(Token::Literal(text))] => text.as_bytes(),
+        _ => b"",
+    }
 }
 
 fn write_echo<K: Sink>(sink: &mut K, text: &[u8]) -> Result<(), WriteFault>
