@@ -2,6 +2,7 @@
 use Rattle.std.proofs.Common.{◌≡◌, ◌==◌, ℕ, ℤ, pos, negsuc, unsigned_abs, Bool, true, false, if◌then◌else◌, List, [], ◌++◌, codes, decimal, refl, sym, ap, ◌∙◌, append-nil, append_assoc}
 use Rattle.nz_spec.specs.Reply.{quotient_text, signed_text}
 use Rattle.nz_reply.specs.Signs.{closing_of, opening_of, ratio_text}
+use Rattle.nz_reply.proofs.Writing.{regrouped}
 
 signed : (n : ℤ) (text : List ℕ) → opening_of n ++ (text ++ (closing_of n ++ [])) ≡ signed_text n text
 signed (pos n) text = append-nil text
@@ -18,9 +19,6 @@ signed_two n size point = ap (λ (l : List ℕ). opening_of n ++ l) (sym (append
 pub whole_parts : (n : ℤ) (opening size point closing : List ℕ) → opening ≡ opening_of n → size ≡ decimal (unsigned_abs n) → closing ≡ closing_of n
     → opening ++ (size ++ (point ++ (closing ++ []))) ≡ signed_text n (decimal (unsigned_abs n) ++ point)
 whole_parts n opening size point closing e f h = rw (e, f, h) (signed_two n (decimal (unsigned_abs n)) point)
-
-regrouped : (x a b c d e f : List ℕ) → x ++ (a ++ (b ++ (c ++ (d ++ (e ++ f))))) ≡ (((((x ++ a) ++ b) ++ c) ++ d) ++ e) ++ f
-regrouped x a b c d e f = simp append_assoc
 
 signed_ratio : (n : ℤ) (point : List ℕ) (above below : ℕ)
     → opening_of n ++ (codes "(/ " ++ (decimal above ++ (point ++ (codes " " ++ (decimal below ++ (point ++ (codes ")" ++ (closing_of n ++ [])))))))) ≡ signed_text n (ratio_text point above below)

@@ -1,9 +1,9 @@
 -- What is told of values, which trees of a command it is told of, and which text a command repeats.
-use Rattle.std.specs.Prelude.{ℕ, List, [], ◌∷◌, map}
+use Rattle.std.specs.Prelude.{ℕ, List, [], ◌∷◌, Option, None, Some, map}
 use Rattle.nz_spec.specs.Reply as spec
 use Rattle.nz_spec.specs.Reading.{trees_from}
 use Rattle.nz_spec.specs.Text as script
-use Rattle.nz_spec.specs.Tree.{literal, Tree, leaf, node, Trees, no_trees, trees}
+use Rattle.nz_spec.specs.Tree.{Token, literal, Tree, leaf, node, Trees, no_trees, trees}
 use Rattle.nz_frac.specs.Operations.{operation_of}
 use Rattle.nz_sexpr.specs.View.{view}
 use Rattle.nz_sexpr.specs.declared.tree.Tree as code
@@ -20,33 +20,44 @@ shown_of (shown.Wide wide) = spec.shown_wide (operation_of wide)
 abbrev pub seen : List code.Tree → Trees
 seen list = trees_from (map view list)
 
--- the trees of the terms that a get-value asks for: those of the list behind its name
-abbrev pub asked_in : Trees → Trees
-asked_in (trees k (trees (node ts) no_trees)) = ts
-asked_in ts = no_trees
+-- ---- The argument of a command
 
-abbrev pub asked_by : Tree → Trees
-asked_by (leaf t) = no_trees
-asked_by (node ts) = asked_in ts
+-- the tree that stands alone behind the name of a command
+abbrev pub argument_in : Trees → Option Tree
+argument_in (trees k (trees t no_trees)) = Some t
+argument_in ts = None
+
+abbrev pub argument_by : Tree → Option Tree
+argument_by (leaf t) = None
+argument_by (node ts) = argument_in ts
+
+abbrev pub argument_of : script.What → Option Tree
+argument_of (script.whole t) = argument_by t
+argument_of what = None
+
+-- the trees of the terms that a get-value asks for: those of its argument, a list
+abbrev pub trees_within : Option Tree → Trees
+trees_within (Some (node ts)) = ts
+trees_within t = no_trees
 
 abbrev pub asked_trees : script.What → Trees
-asked_trees (script.whole t) = asked_by t
-asked_trees what = no_trees
+asked_trees what = trees_within (argument_of what)
+
+-- the text that an echo repeats: that of its argument, a literal
+abbrev pub literal_bytes : Token → List ℕ
+literal_bytes (literal bs) = bs
+literal_bytes t = []
+
+abbrev pub text_within : Option Tree → List ℕ
+text_within (Some (leaf t)) = literal_bytes t
+text_within t = []
+
+abbrev pub echoed_in : script.What → List ℕ
+echoed_in what = text_within (argument_of what)
+
+-- ---- Pairs
 
 -- each tree with what is told of its term
 abbrev pub with_shown : Trees → List spec.Shown → List (Tree × spec.Shown)
 with_shown (trees t ts) (s ∷ ss) = (t, s) ∷ with_shown ts ss
 with_shown ts ss = []
-
--- the text that an echo repeats: that of the literal behind its name
-abbrev pub echoed_by_list : Trees → List ℕ
-echoed_by_list (trees k (trees (leaf (literal bs)) no_trees)) = bs
-echoed_by_list ts = []
-
-abbrev pub echoed_by : Tree → List ℕ
-echoed_by (leaf t) = []
-echoed_by (node ts) = echoed_by_list ts
-
-abbrev pub echoed_in : script.What → List ℕ
-echoed_in (script.whole t) = echoed_by t
-echoed_in what = []

@@ -140,7 +140,11 @@ impl Shows {
         ensures grown { OnOk result (self.new ≡ self.old ++ shown_of shown ∷ []) }
         ensures unchanged { OnErr result (self.new ≡ self.old) }
     {
-        self.shows.push(shown)?;
+        let entry = match shown {
+            Shown::Value(sort, value) => Shown::Value(sort, value),
+            Shown::Wide(wide) => Shown::Wide(wide),
+        };
+        self.shows.push(entry)?;
         Ok(())
     }
 
