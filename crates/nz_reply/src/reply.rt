@@ -83,7 +83,7 @@ impl Bindings {
     pub fn copy(&self, alloc: Global) -> Result<Bindings, Memory>
         ensures same { IfOk result (λ copy. copy ≡ self.now) }
     {
-        let mut bindings = Vec::with_capacity(alloc, self.bindings.len())?;
+        let mut bindings = Vec::with_capacity(alloc, self.len())?;
         for binding in &self.bindings {
             let constant = binding.constant.clone()?;
             bindings.push(Binding {
@@ -140,6 +140,7 @@ impl Shows {
         ensures grown { OnOk result (self.new ≡ self.old ++ shown_of shown ∷ []) }
         ensures unchanged { OnErr result (self.new ≡ self.old) }
     {
+        // Made anew of its parts: the proof of the call below needs their types here.
         let entry = match shown {
             Shown::Value(sort, value) => Shown::Value(sort, value),
             Shown::Wide(wide) => Shown::Wide(wide),

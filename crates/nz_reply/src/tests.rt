@@ -99,11 +99,13 @@ fn operations_that_leave_the_numbers_are_told(rt: HostRuntime) -> Result<(), Fai
     let what = heard_in(rt.alloc(), b"(get-value (()))");
     let reply = values(
         rt.alloc(),
-        vec![in rt.alloc(); Shown::Wide(Wide {
-            op: Op::Add,
-            a: number(3, 1),
-            b: number(-1, 2),
-        })]?,
+        vec![in rt.alloc();
+            Shown::Wide(Wide {
+                op: Op::Add,
+                a: number(3, 1),
+                b: number(-1, 2),
+            }),
+        ]?,
     )?;
     let sink = written(rt.alloc(), &what, &reply)?;
     assert_eq!(rt;

@@ -13,24 +13,24 @@ returns-in-Err-clause-front g c =
 pub loop-index-preserved : goal.loop-index-preserved
 loop-index-preserved g c =
     elim c.if-text-index-eq34.branch [
-      then-text-index-eq34+in_default w ↦
-        record {
-          before = omega (arith, w.start-is);
-          written =
-              rw (w.sink-is, w.start-is)
-              (written_text _ _ _ _ _ _ _ _ _ _ c.loop-index.invariant.written
-              (run_ends c.args.text.now c.loop-index.start c.loop-index.index 0 c.loop-index.invariant.before c.loop-index-test.true w.if-text-index-eq34.true)
-              w.in_default.ensures.whole w.write_text.ensures.later);
-        }
-    | else-text-index-eq34 w ↦
-        let plain : (get_or c.args.text.now c.loop-index.index 0 == 34) ≡ false = grind (arith, nat_tests, w.if-text-index-eq34.false) in
-        record {
-          before = omega (arith, w.start-is);
-          written =
-              rw (w.sink-is, w.start-is)
-              (written_as _ _ _ _ _ _ _
-              (run_on c.args.text.now c.loop-index.start c.loop-index.index 0 c.loop-index.invariant.before c.loop-index-test.true plain) c.loop-index.invariant.written);
-        }
+      | then-text-index-eq34+in_default w ↦
+          record {
+            before = omega (arith, w.start-is);
+            written =
+                rw (w.sink-is, w.start-is)
+                (written_text _ _ _ _ _ _ _ _ _ _ c.loop-index.invariant.written
+                (run_ends c.args.text.now c.loop-index.start c.loop-index.index 0 c.loop-index.invariant.before c.loop-index-test.true w.if-text-index-eq34.true)
+                w.in_default.ensures.whole w.write_text.ensures.later);
+          }
+      | else-text-index-eq34 w ↦
+          let plain : (get_or c.args.text.now c.loop-index.index 0 == 34) ≡ false = grind (arith, nat_tests, w.if-text-index-eq34.false) in
+          record {
+            before = omega (arith, w.start-is);
+            written =
+                rw (w.sink-is, w.start-is)
+                (written_as _ _ _ _ _ _ _
+                (run_on c.args.text.now c.loop-index.start c.loop-index.index 0 c.loop-index.invariant.before c.loop-index-test.true plain) c.loop-index.invariant.written);
+          }
     ]
 
 pub returns-clause-front : goal.returns-clause-front
