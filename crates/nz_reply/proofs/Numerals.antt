@@ -8,11 +8,6 @@ signed : (n : ℤ) (text : List ℕ) → opening_of n ++ (text ++ (closing_of n 
 signed (pos n) text = append-nil text
 signed (negsuc n) text = refl
 
--- a text between what stands before it and behind it
-pub signed_parts : (n : ℤ) (opening size closing : List ℕ) → opening ≡ opening_of n → size ≡ decimal (unsigned_abs n) → closing ≡ closing_of n
-    → opening ++ (size ++ (closing ++ [])) ≡ signed_text n (decimal (unsigned_abs n))
-signed_parts n opening size closing e f h = rw (e, f, h) (signed n (decimal (unsigned_abs n)))
-
 signed_two : (n : ℤ) (size point : List ℕ) → opening_of n ++ (size ++ (point ++ (closing_of n ++ []))) ≡ signed_text n (size ++ point)
 signed_two n size point = ap (λ (l : List ℕ). opening_of n ++ l) (sym (append_assoc size point (closing_of n ++ []))) ∙ signed n (size ++ point)
 
@@ -32,9 +27,3 @@ pub ratio_parts : (n : ℤ) (d : ℕ) (opening above point below closing : List 
     → opening ++ (codes "(/ " ++ (above ++ (point ++ (codes " " ++ (below ++ (point ++ (codes ")" ++ (closing ++ [])))))))) ≡ signed_text n (ratio_text point (unsigned_abs n) d)
 ratio_parts n d opening above point below closing e f h k = rw (e, f, h, k) (signed_ratio n point (unsigned_abs n) d)
 
--- the denominator 1 is left out
-pub quotient_of_one : (point : List ℕ) (n d : ℕ) → (d == 1) ≡ true → decimal n ++ point ≡ quotient_text point n d
-quotient_of_one point n d e = ap (λ (one : Bool). if one then decimal n ++ point else ratio_text point n d) (sym e)
-
-pub quotient_of_more : (point : List ℕ) (n d : ℕ) → (d == 1) ≡ false → ratio_text point n d ≡ quotient_text point n d
-quotient_of_more point n d e = ap (λ (one : Bool). if one then decimal n ++ point else ratio_text point n d) (sym e)

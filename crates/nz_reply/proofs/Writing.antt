@@ -18,20 +18,6 @@ pub record HasWrittenTo (old new : Option (List ℕ)) (before now : ℕ) (bytes 
   pub held : Appends old new front
   pub later : before ≤ now
 
-pub written_nothing : (old : Option (List ℕ)) (n : ℕ) (bytes : List ℕ) → HasWrittenTo old old n n bytes bytes
-written_nothing old n bytes = record { front = []; all = refl; held = Appends-nil old; later = omega arith }
-
--- bytes that are kept grow by nothing
-pub Appends-kept : (old mid new : Option (List ℕ)) (bs : List ℕ) → Appends old mid bs → Keeps mid new → Appends old new bs
-Appends-kept None mid new bs p q = tt
-Appends-kept (Some x) None new bs p q = absurd p
-Appends-kept (Some x) (Some y) None bs p q = absurd q
-Appends-kept (Some x) (Some y) (Some z) bs p q = q ∙ p
-
--- a fault since a later moment is one since an earlier one
-pub risen_since : (last before middle now : ℕ) → before ≤ middle → HasRisen last middle now → HasRisen last before now
-risen_since last before middle now l r = omega (arith, l, r)
-
 -- a text is written behind those before it
 pub written_text : (old mid new : Option (List ℕ)) (before middle now : ℕ) (bytes rest text later : List ℕ)
     → HasWrittenTo old mid before middle bytes rest → rest ≡ text ++ later → Appends mid new text → middle ≤ now → HasWrittenTo old new before now bytes later

@@ -27,21 +27,21 @@ abbrev pub argument_in : Trees → Option Tree
 argument_in (trees k (trees t no_trees)) = Some t
 argument_in ts = None
 
-abbrev pub argument_by : Tree → Option Tree
-argument_by (leaf t) = None
-argument_by (node ts) = argument_in ts
-
-abbrev pub argument_of : script.What → Option Tree
-argument_of (script.whole t) = argument_by t
-argument_of what = None
+abbrev pub argument_of : Tree → Option Tree
+argument_of (leaf t) = None
+argument_of (node ts) = argument_in ts
 
 -- the trees of the terms that a get-value asks for: those of its argument, a list
 abbrev pub trees_within : Option Tree → Trees
 trees_within (Some (node ts)) = ts
 trees_within t = no_trees
 
+abbrev pub asked_by : Tree → Trees
+asked_by t = trees_within (argument_of t)
+
 abbrev pub asked_trees : script.What → Trees
-asked_trees what = trees_within (argument_of what)
+asked_trees (script.whole t) = asked_by t
+asked_trees what = no_trees
 
 -- the text that an echo repeats: that of its argument, a literal
 abbrev pub literal_bytes : Token → List ℕ
@@ -52,8 +52,12 @@ abbrev pub text_within : Option Tree → List ℕ
 text_within (Some (leaf t)) = literal_bytes t
 text_within t = []
 
+abbrev pub echoed_by : Tree → List ℕ
+echoed_by t = text_within (argument_of t)
+
 abbrev pub echoed_in : script.What → List ℕ
-echoed_in what = text_within (argument_of what)
+echoed_in (script.whole t) = echoed_by t
+echoed_in what = []
 
 -- ---- Pairs
 

@@ -10,7 +10,7 @@ ghost use Rattle.nz_reply.specs.Infos.{info_of};
 ghost use Rattle.nz_reply.specs.Reasons.{reason_of};
 ghost use Rattle.nz_reply.specs.Replies.{reply_of};
 ghost use Rattle.nz_reply.specs.Trees.{later_texts};
-ghost use Rattle.nz_reply.specs.Values.{argument_by as tree_argument_by, argument_in as tree_argument_in, argument_of, asked_trees, echoed_in, literal_bytes, seen, shown_of, text_within, trees_within, with_shown};
+ghost use Rattle.nz_reply.specs.Values.{argument_in as tree_argument_in, argument_of, asked_by as trees_asked_by, asked_trees, echoed_by, echoed_in, literal_bytes, seen, shown_of, text_within, trees_within, with_shown};
 ghost use Rattle.nz_frac.specs.Operations.{operation_of, operator_of};
 ghost use Rattle.nz_term.specs.Constants.{sort_of};
 
@@ -113,7 +113,16 @@ fn sort_name(sort: Sort) -> &'static [u8]
 fn asked(what: &What) -> &[Tree]
     ensures asked { seen result.now ≡ asked_trees (what_view what.now) }
 {
-    match argument(what) {
+    match what {
+        What::Tree(tree) => asked_by(tree),
+        _ => &[],
+    }
+}
+
+fn asked_by(tree: &Tree) -> &[Tree]
+    ensures asked { seen result.now ≡ trees_asked_by (view tree.now) }
+{
+    match argument(tree) {
         Some(argument) => trees_of(argument),
         None => &[],
     }
@@ -304,7 +313,16 @@ fn write_units_spent<K: Sink>(sink: &mut K, units: u64) -> Result<(), WriteFault
 fn repeated(what: &What) -> &[u8]
     ensures text { result.now ≡ echoed_in (what_view what.now) }
 {
-    match argument(what) {
+    match what {
+        What::Tree(tree) => repeated_by(tree),
+        _ => b"",
+    }
+}
+
+fn repeated_by(tree: &Tree) -> &[u8]
+    ensures text { result.now ≡ echoed_by (view tree.now) }
+{
+    match argument(tree) {
         Some(argument) => text_of(argument),
         None => b"",
     }
@@ -346,19 +364,9 @@ fn write_echo<K: Sink>(sink: &mut K, text: &[u8]) -> Result<(), WriteFault>
 // ---- The argument of a command
 
 /// The tree that stands alone behind the name of a command.
-fn argument(what: &What) -> Option<&Tree>
-    ensures some { IfSome result (λ argument. argument_of (what_view what.now) ≡ Some (view argument.now)) }
-    ensures none { IfNone result (argument_of (what_view what.now) ≡ None) }
-{
-    match what {
-        What::Tree(tree) => argument_by(tree),
-        _ => None,
-    }
-}
-
-fn argument_by(tree: &Tree) -> Option<&Tree>
-    ensures some { IfSome result (λ argument. tree_argument_by (view tree.now) ≡ Some (view argument.now)) }
-    ensures none { IfNone result (tree_argument_by (view tree.now) ≡ None) }
+fn argument(tree: &Tree) -> Option<&Tree>
+    ensures some { IfSome result (λ argument. argument_of (view tree.now) ≡ Some (view argument.now)) }
+    ensures none { IfNone result (argument_of (view tree.now) ≡ None) }
 {
     match tree {
         Tree::Word(_) => None,
