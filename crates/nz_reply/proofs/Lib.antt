@@ -1,3 +1,4 @@
+pub mod Arguments
 pub mod Copying
 pub mod Models
 pub mod Numerals

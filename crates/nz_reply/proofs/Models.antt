@@ -7,10 +7,11 @@ use Rattle.std.specs.Io.KnownBytes.{Appends}
 use Rattle.std.proofs.KnownBytes.{Appends-trans}
 use Rattle.nz_spec.specs.Outside.{AddsFrontOf}
 use Rattle.nz_spec.specs.Tree.{is_simple_symbol}
-use Rattle.nz_spec.specs.Reply.{binding_text, symbol_text}
+use Rattle.nz_spec.specs.Reply.{binding_text, sort_text, symbol_text, value_text}
+use Rattle.nz_spec.specs.Script as script
 use Rattle.nz_reply.specs.declared.reply.Binding.{Binding}
 use Rattle.nz_reply.specs.Bindings.{binding_of}
-use Rattle.nz_reply.proofs.Writing.{front_behind, front_within}
+use Rattle.nz_reply.proofs.Writing.{front_behind, front_within, regrouped}
 
 pub bindings_more : (old mid new : Option (List ℕ)) (front : List ℕ) (bs : List Binding) (i : ℕ) (b : Binding) → i < length bs → b ≡ get_or bs i b
     → Appends old mid (front ++ flat_map binding_text (map binding_of (take i bs))) → Appends mid new (binding_text (binding_of b))
@@ -55,6 +56,13 @@ pub last_front : (old mid new : Option (List ℕ)) (front last : List ℕ) (bs :
 last_front old mid new front last bs i h w f =
     front_behind old mid new (front ++ bindings_text bs) last
     (subst (λ (l : List Binding). Appends old mid (front ++ bindings_text l)) (take_all i bs h) w) f
+
+-- the text of a binding, from its parts
+pub binding_parts : (b : script.Binding) (name sort : List ℕ) → name ≡ b.constant.name → sort ≡ sort_text b.constant.sort
+    → codes "(define-fun " ++ (symbol_text name ++ (codes " () " ++ (sort ++ (codes " " ++ (value_text b.constant.sort b.value ++ (codes ")\n" ++ [])))))) ≡ binding_text b
+binding_parts b name sort e f =
+    rw (e, f)
+    (regrouped (codes "(define-fun ") (symbol_text b.constant.name) (codes " () ") (sort_text b.constant.sort) (codes " ") (value_text b.constant.sort b.value) (codes ")\n"))
 
 -- ---- Symbols
 

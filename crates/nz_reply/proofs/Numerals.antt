@@ -2,15 +2,11 @@
 use Rattle.std.proofs.Common.{◌≡◌, ◌==◌, ℕ, ℤ, pos, negsuc, unsigned_abs, Bool, true, false, if◌then◌else◌, List, [], ◌++◌, codes, decimal, refl, sym, ap, ◌∙◌, append-nil, append_assoc}
 use Rattle.nz_spec.specs.Reply.{quotient_text, signed_text}
 use Rattle.nz_reply.specs.Signs.{closing_of, opening_of, ratio_text}
+use Rattle.nz_reply.proofs.Writing.{regrouped}
 
 signed : (n : ℤ) (text : List ℕ) → opening_of n ++ (text ++ (closing_of n ++ [])) ≡ signed_text n text
 signed (pos n) text = append-nil text
 signed (negsuc n) text = refl
-
--- a text between what stands before it and behind it
-pub signed_parts : (n : ℤ) (opening size closing : List ℕ) → opening ≡ opening_of n → size ≡ decimal (unsigned_abs n) → closing ≡ closing_of n
-    → opening ++ (size ++ (closing ++ [])) ≡ signed_text n (decimal (unsigned_abs n))
-signed_parts n opening size closing e f h = rw (e, f, h) (signed n (decimal (unsigned_abs n)))
 
 signed_two : (n : ℤ) (size point : List ℕ) → opening_of n ++ (size ++ (point ++ (closing_of n ++ []))) ≡ signed_text n (size ++ point)
 signed_two n size point = ap (λ (l : List ℕ). opening_of n ++ l) (sym (append_assoc size point (closing_of n ++ []))) ∙ signed n (size ++ point)
@@ -18,9 +14,6 @@ signed_two n size point = ap (λ (l : List ℕ). opening_of n ++ l) (sym (append
 pub whole_parts : (n : ℤ) (opening size point closing : List ℕ) → opening ≡ opening_of n → size ≡ decimal (unsigned_abs n) → closing ≡ closing_of n
     → opening ++ (size ++ (point ++ (closing ++ []))) ≡ signed_text n (decimal (unsigned_abs n) ++ point)
 whole_parts n opening size point closing e f h = rw (e, f, h) (signed_two n (decimal (unsigned_abs n)) point)
-
-regrouped : (x a b c d e f : List ℕ) → x ++ (a ++ (b ++ (c ++ (d ++ (e ++ f))))) ≡ (((((x ++ a) ++ b) ++ c) ++ d) ++ e) ++ f
-regrouped x a b c d e f = simp append_assoc
 
 signed_ratio : (n : ℤ) (point : List ℕ) (above below : ℕ)
     → opening_of n ++ (codes "(/ " ++ (decimal above ++ (point ++ (codes " " ++ (decimal below ++ (point ++ (codes ")" ++ (closing_of n ++ [])))))))) ≡ signed_text n (ratio_text point above below)
@@ -34,9 +27,3 @@ pub ratio_parts : (n : ℤ) (d : ℕ) (opening above point below closing : List 
     → opening ++ (codes "(/ " ++ (above ++ (point ++ (codes " " ++ (below ++ (point ++ (codes ")" ++ (closing ++ [])))))))) ≡ signed_text n (ratio_text point (unsigned_abs n) d)
 ratio_parts n d opening above point below closing e f h k = rw (e, f, h, k) (signed_ratio n point (unsigned_abs n) d)
 
--- the denominator 1 is left out
-pub quotient_of_one : (point : List ℕ) (n d : ℕ) → (d == 1) ≡ true → decimal n ++ point ≡ quotient_text point n d
-quotient_of_one point n d e = ap (λ (one : Bool). if one then decimal n ++ point else ratio_text point n d) (sym e)
-
-pub quotient_of_more : (point : List ℕ) (n d : ℕ) → (d == 1) ≡ false → ratio_text point n d ≡ quotient_text point n d
-quotient_of_more point n d e = ap (λ (one : Bool). if one then decimal n ++ point else ratio_text point n d) (sym e)

@@ -1,11 +1,14 @@
 -- The texts of terms with what is told of them.
 use Rattle.std.proofs.Common.{◌≡◌, ℕ, ◌+◌, ◌<◌, ◌≤◌, zero, suc, List, [], ◌∷◌, ◌++◌, length, get_or, drop, map, codes, refl, sym, ap, ◌∙◌, append_assoc, arith, drop-cons, add-one, min}
-use Rattle.nz_spec.specs.Reply.{line_feed, list_text, shown_pair_text}
+use Rattle.nz_spec.specs.Fraction.{Operation}
+use Rattle.nz_spec.specs.Reply.{line_feed, list_text, operator_text, plain_text, shown_pair_text, spaced, wide_text}
 use Rattle.nz_sexpr.specs.View.{view}
 use Rattle.nz_sexpr.specs.declared.tree.Tree as code
 use Rattle.nz_reply.specs.Trees.{later_texts}
 use Rattle.nz_reply.specs.Values.{seen, shown_of, with_shown}
 use Rattle.nz_reply.specs.declared.reply.Shown.{Shown}
+use Rattle.nz_reply.proofs.Spaces.{spaced_first}
+use Rattle.nz_reply.proofs.Writing.{regrouped}
 
 -- the texts of the pairs of these lists
 abbrev pub pair_texts : List code.Tree → List Shown → List (List ℕ)
@@ -13,6 +16,14 @@ pair_texts ts ss = map shown_pair_text (with_shown (seen ts) (map shown_of ss))
 
 abbrev pub pair_text : code.Tree → Shown → List ℕ
 pair_text t s = shown_pair_text (view t, shown_of s)
+
+-- the first of the pairs, and then the others, each behind a space
+pub pairs_first : (ts : List code.Tree) (ss : List Shown) (t : code.Tree) (us : List code.Tree) (s : Shown) (rs : List Shown) → ts ≡ t ∷ us → ss ≡ s ∷ rs
+    → pair_text t s ++ later_texts (pair_texts us rs) ≡ spaced (pair_texts ts ss)
+pairs_first ts ss t us s rs e f =
+    spaced_first (pair_text t s) (pair_texts us rs)
+    ∙ ap (λ (l : List code.Tree). spaced (pair_texts l (s ∷ rs))) (sym e)
+    ∙ ap (λ (l : List Shown). spaced (pair_texts ts l)) (sym f)
 
 -- the pairs from a place on: a space, the one there, and the others
 pub pairs_next : (ts : List code.Tree) (ss : List Shown) (i : ℕ) (t : code.Tree) (s : Shown) → i < length ts → i < length ss → t ≡ get_or ts i t → s ≡ get_or ss i s
@@ -41,3 +52,8 @@ pair_whole tree shown = simp append_assoc
 
 pub values_whole : (text : List ℕ) → (codes "(" ++ text) ++ codes ")\n" ≡ (40 ∷ text ++ 41 ∷ []) ++ line_feed
 values_whole text = simp append_assoc
+
+-- the text of an operation, from its parts
+pub wide_parts : (w : Operation) (name : List ℕ) → name ≡ operator_text w.operator
+    → codes "(wide " ++ (name ++ (codes " " ++ (plain_text w.left ++ (codes " " ++ (plain_text w.right ++ (codes ")" ++ [])))))) ≡ wide_text w
+wide_parts w name e = rw e (regrouped (codes "(wide ") (operator_text w.operator) (codes " ") (plain_text w.left) (codes " ") (plain_text w.right) (codes ")"))

@@ -49,10 +49,9 @@ run_of_one bytes index d below =
     run_more bytes index index d (omega arith) below ∙ ap (λ (n : ℕ). take n (drop index bytes) ++ get_or bytes index d ∷ []) none
 
 -- a run ends with a quote, which begins the next one
-pub run_ends : (bytes : List ℕ) (start index d : ℕ) → start ≤ index → index < length bytes → (get_or bytes index d == 34) ≡ true
+pub run_ends : (bytes : List ℕ) (start index d : ℕ) → start ≤ index → index < length bytes → get_or bytes index d ≡ 34
     → rest_of_run bytes start index ≡ run bytes start (index + 1) ++ rest_of_run bytes index (index + 1)
-run_ends bytes start index d before below quote =
-    let is : get_or bytes index d ≡ 34 = grind (arith, nat_tests) in
+run_ends bytes start index d before below is =
     let more : List ℕ = flat_map quoted_byte (drop (index + 1) bytes) in
     let ended : run bytes start (index + 1) ≡ run bytes start index ++ 34 ∷ [] = run_more bytes start index d before below ∙ ap (λ (b : ℕ). run bytes start index ++ b ∷ []) is in
     let begun : run bytes index (index + 1) ≡ 34 ∷ [] = run_of_one bytes index d below ∙ ap (λ (b : ℕ). b ∷ []) is in
@@ -62,8 +61,9 @@ run_ends bytes start index d before below quote =
     ∙ ap (λ (l : List ℕ). run bytes start (index + 1) ++ (l ++ more)) (sym begun)
 
 -- at the end the run is all that is left
-pub run_last : (bytes : List ℕ) (start index : ℕ) → length bytes ≤ index → rest_of_run bytes start index ≡ drop start bytes
+pub run_last : (bytes : List ℕ) (start index : ℕ) → length bytes ≤ index → rest_of_run bytes start index ≡ run bytes start (length bytes)
 run_last bytes start index past =
     ap (λ (l : List ℕ). run bytes start index ++ flat_map quoted_byte l) (drop_all index bytes past)
     ∙ append-nil (run bytes start index)
     ∙ take_all (index - start) (drop start bytes) (omega (arith, past, length-drop start bytes))
+    ∙ sym (take_all (length bytes - start) (drop start bytes) (omega (arith, length-drop start bytes)))

@@ -11,6 +11,10 @@ pub spaced_first : (t : List ℕ) (ts : List (List ℕ)) → t ++ later_texts ts
 spaced_first t [] = append-nil t
 spaced_first t (u ∷ us) = ap (λ (l : List ℕ). t ++ 32 ∷ l) (spaced_first u us)
 
+-- the first of the trees, and then the others, each behind a space
+pub trees_first : (ts : List code.Tree) (t : code.Tree) (us : List code.Tree) → ts ≡ t ∷ us → tree_text (view t) ++ later_texts (tree_texts (seen us)) ≡ spaced (tree_texts (seen ts))
+trees_first ts t us e = spaced_first (tree_text (view t)) (tree_texts (seen us)) ∙ ap (λ (l : List code.Tree). spaced (tree_texts (seen l))) (sym e)
+
 -- the trees from a place on: a space, the one there, and the others
 pub trees_next : (ts : List code.Tree) (i : ℕ) (t : code.Tree) → i < length ts → t ≡ get_or ts i t
     → later_texts (tree_texts (seen (drop i ts))) ≡ (32 ∷ []) ++ (tree_text (view t) ++ later_texts (tree_texts (seen (drop (i + 1) ts))))

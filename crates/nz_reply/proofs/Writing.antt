@@ -6,7 +6,7 @@ use Rattle.std.specs.Prelude.{OnOk, OnErr}
 use Rattle.nz_reply.specs.Parts.{parts_text}
 use Rattle.nz_reply.specs.Spelling.{part_text, spelled}
 use Rattle.nz_reply.specs.declared.spelling.Part.{Part}
-use Rattle.std.proofs.Common.{◌≡◌, ℕ, ◌+◌, ◌≤◌, ◌<◌, length, get_or, add-one, List, [], ◌∷◌, ◌++◌, take, drop, Option, None, Some, Result, Ok, Err, refl, sym, ap, ◌∙◌, append_assoc, arith, subst, append-nil}
+use Rattle.std.proofs.Common.{◌≡◌, ℕ, suc, ◌+◌, ◌≤◌, ◌<◌, length, get_or, add-one, List, [], ◌∷◌, ◌++◌, take, drop, Option, None, Some, Result, Ok, Err, refl, sym, ap, ◌∙◌, append_assoc, arith, subst, append-nil}
 use Rattle.std.specs.Io.KnownBytes.{Appends, Keeps}
 use Rattle.std.proofs.KnownBytes.{Appends-nil, Appends-trans}
 use Rattle.nz_spec.specs.Outside.{AddsFrontOf, HasRisen}
@@ -17,20 +17,6 @@ pub record HasWrittenTo (old new : Option (List ℕ)) (before now : ℕ) (bytes 
   pub all : bytes ≡ front ++ rest
   pub held : Appends old new front
   pub later : before ≤ now
-
-pub written_nothing : (old : Option (List ℕ)) (n : ℕ) (bytes : List ℕ) → HasWrittenTo old old n n bytes bytes
-written_nothing old n bytes = record { front = []; all = refl; held = Appends-nil old; later = omega arith }
-
--- bytes that are kept grow by nothing
-pub Appends-kept : (old mid new : Option (List ℕ)) (bs : List ℕ) → Appends old mid bs → Keeps mid new → Appends old new bs
-Appends-kept None mid new bs p q = tt
-Appends-kept (Some x) None new bs p q = absurd p
-Appends-kept (Some x) (Some y) None bs p q = absurd q
-Appends-kept (Some x) (Some y) (Some z) bs p q = q ∙ p
-
--- a fault since a later moment is one since an earlier one
-pub risen_since : (last before middle now : ℕ) → before ≤ middle → HasRisen last middle now → HasRisen last before now
-risen_since last before middle now l r = omega (arith, l, r)
 
 -- a text is written behind those before it
 pub written_text : (old mid new : Option (List ℕ)) (before middle now : ℕ) (bytes rest text later : List ℕ)
@@ -64,6 +50,16 @@ pub front_of_all : (old mid new : Option (List ℕ)) (before middle : ℕ) (byte
 front_of_all old mid new before middle bytes rest text later h e f =
     subst (AddsFrontOf old new) (sym (h.all ∙ ap (λ r. h.front ++ r) e)) (front_behind old mid new h.front (text ++ later) h.held (front_within mid new text later f))
 
+-- what is left, by another name
+pub written_as : (old new : Option (List ℕ)) (before now : ℕ) (bytes rest later : List ℕ) → rest ≡ later → HasWrittenTo old new before now bytes rest → HasWrittenTo old new before now bytes later
+written_as old new before now bytes rest later e h = subst (HasWrittenTo old new before now bytes) e h
+
+-- what a call wrote of the rest
+pub front_of_rest : {A E : Type 0} (r : Result A E) (old mid new : Option (List ℕ)) (before middle : ℕ) (bytes rest text : List ℕ)
+    → HasWrittenTo old mid before middle bytes rest → rest ≡ text → OnErr r (AddsFrontOf mid new text) → OnErr r (AddsFrontOf old new bytes)
+front_of_rest (Ok x) old mid new before middle bytes rest text h e f = tt
+front_of_rest (Err x) old mid new before middle bytes rest text h e f = front_of_all old mid new before middle bytes rest text [] h (e ∙ sym (append-nil text)) f
+
 -- where nothing is left, all is written
 pub written_all : (old new : Option (List ℕ)) (before now : ℕ) (bytes : List ℕ) → HasWrittenTo old new before now bytes [] → Appends old new bytes
 written_all old new before now bytes h = subst (Appends old new) (sym (h.all ∙ append-nil h.front)) h.held
@@ -73,8 +69,8 @@ pub parts_text-next : (ps : List (Bor (List ℕ))) (i : ℕ) (d : Bor (List ℕ)
     → parts_text (drop i ps) ≡ (get_or ps i d).now ++ parts_text (drop (i + 1) ps)
 parts_text-next ps i d h = rw (add-one, drop-cons ps i d) refl
 
-pub spelled-next : (ps : List Part) (i : ℕ) (d : Part) → i < length ps → spelled (drop i ps) ≡ part_text (get_or ps i d) ++ spelled (drop (i + 1) ps)
-spelled-next ps i d h = rw (add-one, drop-cons ps i d) refl
+pub spelled-next : (ps : List Part) (i : ℕ) (d : Part) → i < length ps → d ≡ get_or ps i d → spelled (drop i ps) ≡ part_text d ++ spelled (drop (i + 1) ps)
+spelled-next ps i d h is = rw (add-one, drop-cons ps i d) (ap (λ (p : Part). part_text p ++ spelled (drop (suc i) ps)) (sym is))
 
 -- a text behind a space is written behind those before it
 pub written_later : (old mid next new : Option (List ℕ)) (before middle after now : ℕ) (bytes rest text later : List ℕ)
@@ -120,3 +116,7 @@ pub part_behind : {A E : Type 0} (r : Result A E) (a b c : Option (List ℕ)) (t
     → OnErr r (AddsFrontOf b c next) → OnErr r (AddsFrontOf a c all)
 part_behind (Ok x) a b c text next all e p f = tt
 part_behind (Err x) a b c text next all e p f = subst (AddsFrontOf a c) e (front_behind a b c text next p f)
+
+-- seven texts one behind another, grouped as definitions group them
+pub regrouped : (x a b c d e f : List ℕ) → x ++ (a ++ (b ++ (c ++ (d ++ (e ++ f))))) ≡ (((((x ++ a) ++ b) ++ c) ++ d) ++ e) ++ f
+regrouped x a b c d e f = simp append_assoc

@@ -8,7 +8,7 @@ use Rattle.nz_sexpr.specs.View.{heard_view}
 use Rattle.nz_reply.specs.Infos.{info_of}
 use Rattle.nz_reply.specs.Notes.{noted_line}
 use Rattle.nz_reply.specs.Reasons.{reason_of}
-use Rattle.nz_reply.specs.Values.{asked_trees, with_shown}
+use Rattle.nz_reply.specs.Values.{asked_trees, echoed_in, with_shown}
 use Rattle.nz_reply.specs.declared.reply.Reply.{Reply}
 use Rattle.nz_reply.specs.declared.reply.Reply.TheVariants as reply
 use Rattle.nz_reply.specs.declared.reply.Cause.{Cause}
@@ -16,7 +16,7 @@ use Rattle.nz_reply.specs.declared.reply.Cause.TheVariants as cause
 use Rattle.nz_reply.specs.declared.reply.Kept.{Kept}
 use Rattle.nz_reply.specs.declared.reply.SpentList.{SpentList}
 
--- What a reply to this thing heard is: the terms whose values it tells stand in the command.
+-- What a reply to this thing heard is: the terms whose values it tells, and the text that it repeats, stand in the command.
 abbrev pub reply_of : script.What → Reply → spec.Reply
 reply_of what reply.Quiet = spec.quiet
 reply_of what reply.Success = spec.success
@@ -28,7 +28,7 @@ reply_of what (reply.Values shows) = spec.values (with_shown (asked_trees what) 
 reply_of what (reply.Info info) = spec.info (info_of info)
 reply_of what (reply.Levels count) = spec.levels count
 reply_of what (reply.Reason reason) = spec.reason (reason_of reason)
-reply_of what (reply.Echo text) = spec.echoed text
+reply_of what reply.Echo = spec.echoed (echoed_in what)
 reply_of what reply.Unsupported = spec.unsupported
 reply_of what (reply.Error number) = spec.error number
 

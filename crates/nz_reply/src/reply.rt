@@ -1,9 +1,10 @@
 //! Replies: what they hold, why they are what they are, and the journal of what was kept.
-ghost use Rattle.std.specs.Prelude.{◌≡◌, [], ◌∷◌, ◌++◌, map, IfOk, OnOk, OnErr};
+ghost use Rattle.std.specs.Prelude.{◌≡◌, [], ◌∷◌, ◌++◌, length, map, option_map, slice_get, None, Some, IfNone, IfOk, IfSome, OnOk, OnErr};
 ghost use Rattle.nz_reply.specs.Bindings.{binding_of};
 ghost use Rattle.nz_reply.specs.Values.{shown_of};
+ghost use Rattle.nz_term.specs.Values.{value_of};
 
-use nz_base::{Lines, Memory, Text};
+use nz_base::{Lines, Memory};
 use nz_frac::Wide;
 use nz_sexpr::Heard;
 use nz_term::{Constant, Sort, TermId, Value};
@@ -53,6 +54,24 @@ impl Bindings {
         Ok(())
     }
 
+    /// How many bindings there are.
+    pub fn len(&self) -> usize
+        ensures len { result ≡ length self.now }
+    {
+        self.bindings.len()
+    }
+
+    /// What the constant at this place stands for; nothing behind the end.
+    pub fn value(&self, index: usize) -> Option<Value>
+        ensures some { IfSome result (λ v. option_map (λ b. b.value) (slice_get self.now index) ≡ Some (value_of v)) }
+        ensures none { IfNone result (slice_get self.now index ≡ None) }
+    {
+        match self.bindings.get(index) {
+            Some(binding) => Some(binding.value),
+            None => None,
+        }
+    }
+
     /// The entries in their order.
     pub(crate) fn as_slice(&self) -> &[Binding]
         ensures entries { map binding_of result.now ≡ self.now }
@@ -64,7 +83,7 @@ impl Bindings {
     pub fn copy(&self, alloc: Global) -> Result<Bindings, Memory>
         ensures same { IfOk result (λ copy. copy ≡ self.now) }
     {
-        let mut bindings = Vec::with_capacity(alloc, self.bindings.len())?;
+        let mut bindings = Vec::with_capacity(alloc, self.len())?;
         for binding in &self.bindings {
             let constant = binding.constant.clone()?;
             bindings.push(Binding {
@@ -77,7 +96,7 @@ impl Bindings {
 }
 
 /// What is told of a term's value.
-#[derive(Clone, Copy, Debug)]
+#[derive(Debug, Drop)]
 pub enum Shown {
     /// The value, and the term's sort.
     Value(Sort, Value),
@@ -121,7 +140,12 @@ impl Shows {
         ensures grown { OnOk result (self.new ≡ self.old ++ shown_of shown ∷ []) }
         ensures unchanged { OnErr result (self.new ≡ self.old) }
     {
-        self.shows.push(shown)?;
+        // Made anew of its parts: the proof of the call below needs their types here.
+        let entry = match shown {
+            Shown::Value(sort, value) => Shown::Value(sort, value),
+            Shown::Wide(wide) => Shown::Wide(wide),
+        };
+        self.shows.push(entry)?;
         Ok(())
     }
 
@@ -171,8 +195,8 @@ pub enum Reply {
     Levels(usize),
     /// The reason of the last answer.
     Reason(Reason),
-    /// The text of a string literal.
-    Echo(Text),
+    /// The text that the command repeats. It stands in the command, as the terms of `Values` do.
+    Echo,
     /// The program doesn't take the command.
     Unsupported,
     /// An error, by its number.

@@ -43,10 +43,10 @@ fn number(numerator: i64, denominator: i64) -> Frac {
 }
 
 /// The reply that tells these of the terms of a command.
-fn values(alloc: Global, shown: &[Shown]) -> Result<Reply, Memory> {
+fn values(alloc: Global, shown: Vec<Shown>) -> Result<Reply, Memory> {
     let mut shows = Shows::new(alloc);
     for one in shown {
-        shows.push(*one)?;
+        shows.push(one)?;
     }
     Ok(Reply::Values(shows))
 }
@@ -64,11 +64,11 @@ fn values_are_told_behind_their_terms(rt: HostRuntime) -> Result<(), Fail> {
     );
     let reply = values(
         rt.alloc(),
-        &[
+        vec![in rt.alloc();
             Shown::Value(Sort::Bool, Value::Truth(true)),
             Shown::Value(Sort::Int, Value::Number(number(-7, 1))),
             Shown::Value(Sort::Real, Value::Number(number(3, 2))),
-        ],
+        ]?,
     )?;
     let sink = written(rt.alloc(), &what, &reply)?;
     let text = b"((p true) ((+ |a b| x 1.50) (- 7)) ((f \"\"\"\" :k #xF) (/ 3.0 2.0)))\n";
@@ -81,12 +81,12 @@ fn numbers_are_spelled_by_their_sort(rt: HostRuntime) -> Result<(), Fail> {
     let what = heard_in(rt.alloc(), b"(get-value (a b c d))");
     let reply = values(
         rt.alloc(),
-        &[
+        vec![in rt.alloc();
             Shown::Value(Sort::Int, Value::Number(number(7, 1))),
             Shown::Value(Sort::Real, Value::Number(number(2, 1))),
             Shown::Value(Sort::Real, Value::Number(number(-2, 1))),
             Shown::Value(Sort::Real, Value::Number(number(-3, 2))),
-        ],
+        ]?,
     )?;
     let sink = written(rt.alloc(), &what, &reply)?;
     let text = b"((a 7) (b 2.0) (c (- 2.0)) (d (- (/ 3.0 2.0))))\n";
@@ -99,11 +99,13 @@ fn operations_that_leave_the_numbers_are_told(rt: HostRuntime) -> Result<(), Fai
     let what = heard_in(rt.alloc(), b"(get-value (()))");
     let reply = values(
         rt.alloc(),
-        &[Shown::Wide(Wide {
-            op: Op::Add,
-            a: number(3, 1),
-            b: number(-1, 2),
-        })],
+        vec![in rt.alloc();
+            Shown::Wide(Wide {
+                op: Op::Add,
+                a: number(3, 1),
+                b: number(-1, 2),
+            }),
+        ]?,
     )?;
     let sink = written(rt.alloc(), &what, &reply)?;
     assert_eq!(rt;
@@ -132,26 +134,47 @@ fn a_model_is_told(rt: HostRuntime) -> Result<(), Fail> {
 }
 
 /// The texts of the replies of one line, one after another.
-fn write_lines(sink: &mut PlainSink, echo: Text) -> Result<(), WriteFault> {
-    let what = What::Unread;
-    write_reply(sink, &what, &Reply::Quiet)?;
-    write_reply(sink, &what, &Reply::Success)?;
-    write_reply(sink, &what, &Reply::Info(Info::Name))?;
-    write_reply(sink, &what, &Reply::Info(Info::ErrorBehavior))?;
-    write_reply(sink, &what, &Reply::Levels(2))?;
-    write_reply(sink, &what, &Reply::Reason(Reason::UnitsSpent(9)))?;
-    write_reply(sink, &what, &Reply::Echo(echo))?;
-    write_reply(sink, &what, &Reply::Error(4))
+fn write_lines(sink: &mut PlainSink, what: &What) -> Result<(), WriteFault> {
+    write_reply(sink, what, &Reply::Quiet)?;
+    write_reply(sink, what, &Reply::Success)?;
+    write_reply(sink, what, &Reply::Info(Info::Name))?;
+    write_reply(sink, what, &Reply::Info(Info::ErrorBehavior))?;
+    write_reply(sink, what, &Reply::Levels(2))?;
+    write_reply(sink, what, &Reply::Reason(Reason::UnitsSpent(9)))?;
+    write_reply(sink, what, &Reply::Echo)?;
+    write_reply(sink, what, &Reply::Error(4))
 }
 
 #[test]
 fn replies_of_one_line_are_told(rt: HostRuntime) -> Result<(), Fail> {
     let mut sink = PlainSink::new(rt.alloc(), ROOM)?;
-    let echo = Text::from_slice(rt.alloc(), b"say \"a\"")?;
-    assert!(rt; write_lines(&mut sink, echo).is_ok());
+    let what = heard_in(rt.alloc(), b"(echo \"say \"\"a\"\"\")");
+    assert!(rt; write_lines(&mut sink, &what).is_ok());
     let text = b"success\n(:name \"nuz\")\n(:error-behavior continued-execution)\n\
         (:assertion-stack-levels 2)\n(:reason-unknown (spent 9))\n\"say \"\"a\"\"\"\n(error \"4 not linear\")\n";
     assert_eq!(rt; sink.bytes(), text.as_slice());
+    Ok(())
+}
+
+#[test]
+fn a_command_without_a_text_repeats_none(rt: HostRuntime) -> Result<(), Fail> {
+    let what = heard_in(rt.alloc(), b"(echo a)");
+    let sink = written(rt.alloc(), &what, &Reply::Echo)?;
+    assert_eq!(rt; sink.bytes(), b"\"\"\n".as_slice());
+    Ok(())
+}
+
+#[test]
+fn bindings_have_their_values(rt: HostRuntime) -> Result<(), Fail> {
+    let mut bindings = Bindings::new(rt.alloc());
+    assert_eq!(rt; bindings.len(), 0);
+    bindings.push(Binding {
+        constant: constant(rt.alloc(), b"p", Sort::Bool)?,
+        value: Value::Truth(true),
+    })?;
+    assert_eq!(rt; bindings.len(), 1);
+    assert_eq!(rt; bindings.value(0), Some(Value::Truth(true)));
+    assert_eq!(rt; bindings.value(1), None);
     Ok(())
 }
 

@@ -1,8 +1,8 @@
 //! The texts of replies (SMT-LIB 2.6, section 4.2).
-ghost use Rattle.std.specs.Prelude.{◌≡◌, ◌≤◌, map, OnOk, OnErr};
+ghost use Rattle.std.specs.Prelude.{◌≡◌, ◌≤◌, map, None, Some, IfNone, IfSome, OnOk, OnErr};
 ghost use Rattle.std.specs.Io.KnownBytes.{Appends};
 ghost use Rattle.nz_spec.specs.Outside.{AddsFrontOf, HasRisen};
-ghost use Rattle.nz_sexpr.specs.View.{view, what_view};
+ghost use Rattle.nz_sexpr.specs.View.{token_view, view, what_view};
 ghost use Rattle.nz_spec.specs.Reply.{binding_text, echoed, info as info_reply, levels, model as model_reply, operator_text, reason as reason_reply, reply_text, shown_pair_text, shown_text, sort_text, spaced, values, wide_text};
 ghost use Rattle.nz_spec.specs.Script.{units_spent};
 ghost use Rattle.nz_reply.specs.Bindings.{binding_of};
@@ -10,7 +10,7 @@ ghost use Rattle.nz_reply.specs.Infos.{info_of};
 ghost use Rattle.nz_reply.specs.Reasons.{reason_of};
 ghost use Rattle.nz_reply.specs.Replies.{reply_of};
 ghost use Rattle.nz_reply.specs.Trees.{later_texts};
-ghost use Rattle.nz_reply.specs.Values.{asked_by as trees_asked_by, asked_in as trees_asked_in, asked_trees, seen, shown_of, with_shown};
+ghost use Rattle.nz_reply.specs.Values.{argument_in as tree_argument_in, argument_of, asked_by as trees_asked_by, asked_trees, echoed_by, echoed_in, literal_bytes, seen, shown_of, text_within, trees_within, with_shown};
 ghost use Rattle.nz_frac.specs.Operations.{operation_of, operator_of};
 ghost use Rattle.nz_term.specs.Constants.{sort_of};
 
@@ -22,10 +22,11 @@ use crate::write::{WriteFault, write_parts, write_text};
 use itoa::Buffer;
 use nz_base::Sink;
 use nz_frac::{Op, Wide};
-use nz_sexpr::{Tree, What};
+use nz_sexpr::{Token, Tree, What};
 use nz_term::{Constant, Sort};
 
-/// Writes the text of a reply to the thing heard, which holds the terms whose values a reply tells. Takes no memory.
+/// Writes the text of a reply to the thing heard, which holds the terms whose values a reply tells, and the text that one
+/// repeats. Takes no memory.
 ///
 /// # Errors
 ///
@@ -47,7 +48,7 @@ pub fn write_reply<K: Sink>(sink: &mut K, what: &What, reply: &Reply) -> Result<
         Reply::Info(info) => write_text(sink, info_line(*info)),
         Reply::Levels(count) => write_levels(sink, *count),
         Reply::Reason(reason) => write_reason(sink, *reason),
-        Reply::Echo(text) => write_echo(sink, text.as_bytes()),
+        Reply::Echo => write_echo(sink, repeated(what)),
         Reply::Unsupported => write_text(sink, b"unsupported\n"),
         Reply::Error(number) => write_text(sink, error_text(*number)),
     }
@@ -121,19 +122,18 @@ fn asked(what: &What) -> &[Tree]
 fn asked_by(tree: &Tree) -> &[Tree]
     ensures asked { seen result.now ≡ trees_asked_by (view tree.now) }
 {
-    match tree {
-        Tree::Word(_) => &[],
-        Tree::List(list) => asked_in(list.as_slice()),
+    match argument(tree) {
+        Some(argument) => trees_of(argument),
+        None => &[],
     }
 }
 
-/// The trees of the list behind the name of a command.
-fn asked_in(list: &[Tree]) -> &[Tree]
-    ensures asked { seen result.now ≡ trees_asked_in (seen list.now) }
+fn trees_of(tree: &Tree) -> &[Tree]
+    ensures trees { seen result.now ≡ trees_within (Some (view tree.now)) }
 {
-    match list {
-        [_, Tree::List(asked)] => asked.as_slice(),
-        _ => &[],
+    match tree {
+        Tree::Word(_) => &[],
+        Tree::List(list) => list.as_slice(),
     }
 }
 
@@ -186,10 +186,12 @@ fn write_later_pairs<K: Sink>(
     ensures fault { OnErr result (HasRisen K.last (K.faults sink.old) (K.faults sink.new)) }
 {
     for index in 0..trees.len().min(shows.len()) {
+        let tree = &trees[index];
+        let shown = &shows[index];
         if let Err(fault) = write_text(sink, b" ") {
             return Err(fault);
         }
-        if let Err(fault) = write_pair(sink, &trees[index], &shows[index]) {
+        if let Err(fault) = write_pair(sink, tree, shown) {
             return Err(fault);
         }
     }
@@ -307,6 +309,43 @@ fn write_units_spent<K: Sink>(sink: &mut K, units: u64) -> Result<(), WriteFault
     write_parts(sink, &[b"(:reason-unknown (spent ", number, b"))\n"])
 }
 
+/// The text that a command repeats.
+fn repeated(what: &What) -> &[u8]
+    ensures text { result.now ≡ echoed_in (what_view what.now) }
+{
+    match what {
+        What::Tree(tree) => repeated_by(tree),
+        _ => b"",
+    }
+}
+
+fn repeated_by(tree: &Tree) -> &[u8]
+    ensures text { result.now ≡ echoed_by (view tree.now) }
+{
+    match argument(tree) {
+        Some(argument) => text_of(argument),
+        None => b"",
+    }
+}
+
+fn text_of(tree: &Tree) -> &[u8]
+    ensures text { result.now ≡ text_within (Some (view tree.now)) }
+{
+    match tree {
+        Tree::Word(token) => literal_of(token),
+        Tree::List(_) => b"",
+    }
+}
+
+fn literal_of(token: &Token) -> &[u8]
+    ensures bytes { result.now ≡ literal_bytes (token_view token.now) }
+{
+    match token {
+        Token::Literal(text) => text.as_bytes(),
+        _ => b"",
+    }
+}
+
 fn write_echo<K: Sink>(sink: &mut K, text: &[u8]) -> Result<(), WriteFault>
     ensures whole { OnOk result (Appends (K.held sink.old) (K.held sink.new) (reply_text (echoed text.now))) }
     ensures front { OnErr result (AddsFrontOf (K.held sink.old) (K.held sink.new) (reply_text (echoed text.now))) }
@@ -320,4 +359,27 @@ fn write_echo<K: Sink>(sink: &mut K, text: &[u8]) -> Result<(), WriteFault>
         return Err(fault);
     }
     Ok(())
+}
+
+// ---- The argument of a command
+
+/// The tree that stands alone behind the name of a command.
+fn argument(tree: &Tree) -> Option<&Tree>
+    ensures some { IfSome result (λ argument. argument_of (view tree.now) ≡ Some (view argument.now)) }
+    ensures none { IfNone result (argument_of (view tree.now) ≡ None) }
+{
+    match tree {
+        Tree::Word(_) => None,
+        Tree::List(list) => argument_in(list.as_slice()),
+    }
+}
+
+fn argument_in(list: &[Tree]) -> Option<&Tree>
+    ensures some { IfSome result (λ argument. tree_argument_in (seen list.now) ≡ Some (view argument.now)) }
+    ensures none { IfNone result (tree_argument_in (seen list.now) ≡ None) }
+{
+    match list {
+        [_, argument] => Some(argument),
+        _ => None,
+    }
 }

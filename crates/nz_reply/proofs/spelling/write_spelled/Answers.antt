@@ -3,8 +3,8 @@ use Rattle.nz_reply.proofs.spelling.write_spelled.Goals as goal
 
 pub returns-in-Err-clause-front : goal.returns-in-Err-clause-front
 returns-in-Err-clause-front g c =
-    front_of_all _ _ _ _ _ _ _ _ _ c.loop-part.invariant (spelled-next c.args.parts.now c.loop-part.part-index _ c.loop-part-test.true) c.in-Err.ensures.front
+    front_of_all _ _ _ _ _ _ _ _ _ c.loop-part.invariant (spelled-next c.args.parts.now c.loop-part.part-index c.part-item.result c.loop-part-test.true c.part-item.is) c.in-Err.ensures.front
 
 pub loop-part-preserved : goal.loop-part-preserved
 loop-part-preserved g c =
-    written_text _ _ _ _ _ _ _ _ _ _ c.loop-part.invariant (spelled-next c.args.parts.now c.loop-part.part-index _ c.loop-part-test.true) c.in_default.ensures.whole c.write_part.ensures.later
+    written_text _ _ _ _ _ _ _ _ _ _ c.loop-part.invariant (spelled-next c.args.parts.now c.loop-part.part-index c.part-item.result c.loop-part-test.true c.part-item.is) c.in_default.ensures.whole c.write_part.ensures.later

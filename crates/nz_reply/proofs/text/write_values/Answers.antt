@@ -1,4 +1,4 @@
-use Rattle.std.proofs.Common.{codes}
+use Rattle.std.proofs.Common.{◌++◌, codes}
 use Rattle.nz_spec.specs.Reply.{list_text, line_feed, spaced}
 use Rattle.nz_reply.proofs.Pairs.{pair_texts, values_whole}
 use Rattle.nz_reply.proofs.Writing.{front_first, front_second, front_third, three_texts}

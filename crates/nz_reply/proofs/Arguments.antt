@@ -1,0 +1,11 @@
+-- The argument of a command.
+use Rattle.std.proofs.Common.{◌≡◌, List, [], ◌∷◌, length, None, refl}
+use Rattle.nz_sexpr.specs.declared.tree.Tree as code
+use Rattle.nz_reply.specs.Values.{argument_in, seen}
+
+-- a list of another length than two has none
+pub no_argument : (ts : List code.Tree) → (length ts ≡ 2 → ⊥) → argument_in (seen ts) ≡ None
+no_argument [] h = refl
+no_argument (t ∷ []) h = refl
+no_argument (t ∷ u ∷ []) h = absurd (h refl)
+no_argument (t ∷ u ∷ v ∷ vs) h = refl
