@@ -1,5 +1,7 @@
 -- Sorts by their trees, and those of parameters, one after another.
-use Rattle.std.proofs.Common.{◌≡◌, ℕ, ◌<◌, ◌≤◌, ◌+◌, List, [], ◌∷◌, ◌++◌, length, map, drop, get_or, slice_get, Bor, Option, Some, None, IfSome, IfNone, option_copied, option_map, option_and_then, is_none, refl, sym, ap, ◌∙◌}
+use Rattle.std.proofs.Common.{◌≡◌, ℕ, ◌<◌, ◌≤◌, ◌+◌, List, [], ◌∷◌, ◌++◌, length, map, drop, get_or, Bor, Option, Some, None, IfSome, IfNone, option_map, option_and_then, is_none, refl, sym, ap, ◌∙◌, arith}
+use Rattle.std.specs.Option.{MatchOption}
+use Rattle.std.specs.List.{HoldsAt}
 use Rattle.std.proofs.lemmas.List.{at_drop_more, at_drop_all}
 use Rattle.nz_sexpr.specs.declared.tree.Tree as code
 use Rattle.nz_sexpr.specs.View.{view}
@@ -24,17 +26,19 @@ unknown_by_sort k None e = ap is_none e
 unknown_by_sort k (Some s) e = ap is_none e
 
 -- the second tree of a list
-pub second_some : (ts : List code.Tree) (o : Option (Bor code.Tree)) → option_copied o ≡ slice_get ts 1 → IfSome o (λ t. second_tree (seen ts) ≡ view t.now)
-second_some ts None e = tt
-second_some [] (Some t) e = cc
-second_some (x ∷ []) (Some t) e = cc
-second_some (x ∷ y ∷ ts) (Some t) e = (let same : y ≡ t.now = cc in ap view same)
+pub second_some : (ts : List code.Tree) (o : Option (Bor code.Tree)) → MatchOption o (length ts ≤ 1) (λ t. (1 < length ts) × HoldsAt (λ y. t.now ≡ y) ts 1)
+    → IfSome o (λ t. second_tree (seen ts) ≡ view t.now)
+second_some ts None h = tt
+second_some [] (Some t) h = absurd (omega (arith, h.0))
+second_some (x ∷ []) (Some t) h = absurd (omega (arith, h.0))
+second_some (x ∷ y ∷ ts) (Some t) h = ap view (sym (h.1 x))
 
-pub second_none : (ts : List code.Tree) (o : Option (Bor code.Tree)) → option_copied o ≡ slice_get ts 1 → IfNone o (second_tree (seen ts) ≡ node no_trees)
-second_none ts (Some t) e = tt
-second_none [] None e = refl
-second_none (x ∷ []) None e = refl
-second_none (x ∷ y ∷ ts) None e = cc
+pub second_none : (ts : List code.Tree) (o : Option (Bor code.Tree)) → MatchOption o (length ts ≤ 1) (λ t. (1 < length ts) × HoldsAt (λ y. t.now ≡ y) ts 1)
+    → IfNone o (second_tree (seen ts) ≡ node no_trees)
+second_none ts (Some t) h = tt
+second_none [] None h = refl
+second_none (x ∷ []) None h = refl
+second_none (x ∷ y ∷ ts) None h = absurd (omega (arith, h))
 
 -- ---- One after another
 

@@ -81,7 +81,7 @@ faults_behind_list-returns-in-Some-clause-unknown t c =
     let ts = seen c.args.trees.now in
     let others = seen c.in-Some.others.now in
     tells_same c.args.names.now c.args.frames.now.items (λ is_live bound. have_unknown is_live bound others) (λ is_live bound. has_unknown is_live bound (node ts))
-    (unknown_behind ts (view c.in-Some.field-0-0.now) others c.requires.headless (ap seen c.in-Some.ensures.cases)) c.faults_of_all.result c.faults_of_all.ensures.unknown
+    (unknown_behind ts (view c.in-Some.field-0-0.now) others c.requires.headless (ap seen c.in-Some.ensures.cases.0)) c.faults_of_all.result c.faults_of_all.ensures.unknown
 
 pub faults_of_list-returns-in-Let-clause-unknown : goal.faults_of_list-returns-in-Let-clause-unknown
 faults_of_list-returns-in-Let-clause-unknown t c =
@@ -113,7 +113,7 @@ faults_of_let-returns-clause-unknown t c = λ is_live bound live framed.
     subst (λ frames. AreBound frames (names_bound bindings ++ bound))
     (sym (c.in_ok-push.ensures.items ∙ ap (λ frames. frames ++ c.in_ok-frame.frame ∷ []) c.in_ok-outside.ensures.frames))
     (bound-push c.args.frames.now.items bound c.in_ok-frame.frame (names_bound bindings) framed c.in_ok-frame.ensures.names) in
-    unknown_in_let is_live bound (seen c.args.trees.now) bindings (seen c.in-Some.body.now) (ap seen c.in-Some.ensures.cases)
+    unknown_in_let is_live bound (seen c.args.trees.now) bindings (seen c.in-Some.body.now) (ap seen c.in-Some.ensures.cases.0)
     c.in_ok-outside.outside.unknown c.in_ok-inside.inside.unknown c.and-2.result.unknown
     (c.in_ok-outside.ensures.unknown is_live bound live framed) (c.in_ok-inside.ensures.unknown is_live (names_bound bindings ++ bound) live around)
     (c.and-2.ensures.unknown ∙ ap (λ b. b || c.in_ok-inside.inside.unknown) c.and.ensures.unknown))
