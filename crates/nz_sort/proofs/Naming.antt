@@ -1,5 +1,5 @@
 -- Names and what is listed with them.
-use Rattle.std.proofs.Common.{◌≡◌, ◌<◌, ◌+◌, ℕ, length, drop, get_or, Bor, Bool, List, [], ◌∷◌, ◌++◌, Option, None, Some, IfSome, IfNone, option_copied, is_some, true, false, cond, bytes_eq, reverse, refl, sym, ap, ◌∙◌}
+use Rattle.std.proofs.Common.{◌≡◌, ◌<◌, ◌+◌, ℕ, length, drop, get_or, Bor, List, [], ◌∷◌, ◌++◌, Option, None, Some, IfSome, IfNone, option_copied, is_some, true, false, cond, bytes_eq, reverse, refl, sym, ap, ◌∙◌}
 use Rattle.std.proofs.lemmas.Bool.{true≢false, false≢true}
 use Rattle.std.proofs.lemmas.List.{reverse-append, at_drop_more, length_push}
 use Rattle.std.specs.Map.{lookup}

@@ -1,4 +1,4 @@
-use Rattle.std.proofs.Common.{◌≡◌, List, ◌++◌, ◌∷◌, [], None, true, option_copied, sym, ◌∙◌, ap}
+use Rattle.std.proofs.Common.{◌≡◌, ◌++◌, ◌∷◌, [], None, option_copied, ◌∙◌, ap}
 use Rattle.nz_spec.specs.Elaboration.{listed}
 use Rattle.nz_sort.specs.Names.{bound_in}
 use Rattle.nz_sort.proofs.Naming.{lookup-listed, insert_entry-listed, bound_there, bound_added, not_there}
