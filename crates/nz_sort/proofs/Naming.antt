@@ -1,7 +1,7 @@
 -- Names and what is listed with them.
-use Rattle.std.proofs.Common.{◌≡◌, ℕ, Bool, List, [], ◌∷◌, ◌++◌, Option, None, Some, IfSome, IfNone, option_copied, is_some, Bor, true, false, cond, bytes_eq, reverse, refl, sym, ap, ◌∙◌}
+use Rattle.std.proofs.Common.{◌≡◌, ◌<◌, ◌+◌, ℕ, length, drop, get_or, Bor, List, [], ◌∷◌, ◌++◌, Option, None, Some, IfSome, IfNone, option_copied, is_some, true, false, cond, bytes_eq, reverse, refl, sym, ap, ◌∙◌}
 use Rattle.std.proofs.lemmas.Bool.{true≢false, false≢true}
-use Rattle.std.proofs.lemmas.List.{reverse-append}
+use Rattle.std.proofs.lemmas.List.{reverse-append, at_drop_more, length_push}
 use Rattle.std.specs.Map.{lookup}
 use Rattle.std.specs.Cmp.Lexicographic.{nat_list_eq_equiv}
 use Rattle.indexmap.specs.IndexMap.{insert_entry}
@@ -78,6 +78,24 @@ bound-reverse [] name = refl
 bound-reverse (frame ∷ frames) name =
     ap (λ o. first_of o (bound_in frame name)) (bound-reverse frames name) ∙ sym (innermost-push name (reverse frames) frame)
     ∙ ap (innermost name) (sym (reverse-append (frame ∷ []) frames))
+
+-- where a frame has the name, and where it hasn't
+pub innermost_found : (name : List ℕ) (all : List (List (List ℕ × Typed))) (yielded : List (Bor (List (List ℕ × Typed)))) (frame : Bor (List (List ℕ × Typed))) (x : Typed)
+    → length yielded < length all → frame.now ≡ get_or all (length yielded) frame.now → bound_in frame.now name ≡ Some x
+    → (whole : Option Typed) → whole ≡ innermost name (drop (length yielded) all) → Some x ≡ whole
+innermost_found name all yielded frame x below is here whole before =
+    sym (before ∙ at_drop_more (innermost name) all (length yielded) frame.now below
+    ∙ ap (λ f. first_of (bound_in f name) (innermost name (drop (length yielded + 1) all))) (sym is)
+    ∙ ap (λ o. first_of o (innermost name (drop (length yielded + 1) all))) here)
+
+pub innermost_next : (name : List ℕ) (all : List (List (List ℕ × Typed))) (yielded : List (Bor (List (List ℕ × Typed)))) (frame : Bor (List (List ℕ × Typed)))
+    → length yielded < length all → frame.now ≡ get_or all (length yielded) frame.now → bound_in frame.now name ≡ None
+    → (whole : Option Typed) → whole ≡ innermost name (drop (length yielded) all) → whole ≡ innermost name (drop (length (yielded ++ frame ∷ [])) all)
+innermost_next name all yielded frame below is here whole before =
+    before ∙ at_drop_more (innermost name) all (length yielded) frame.now below
+    ∙ ap (λ f. first_of (bound_in f name) (innermost name (drop (length yielded + 1) all))) (sym is)
+    ∙ ap (λ o. first_of o (innermost name (drop (length yielded + 1) all))) here
+    ∙ ap (λ n. innermost name (drop n all)) (sym (length_push yielded frame))
 
 -- ---- What a look-up answers
 

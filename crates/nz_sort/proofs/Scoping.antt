@@ -1,16 +1,19 @@
 -- Lemmas of the symbols of a term.
-use Rattle.std.proofs.Common.{◌≡◌, ℕ, ◌<◌, ◌≤◌, ◌+◌, ◌-◌, zero, suc, ◌||◌, Bool, true, false, cond, List, [], ◌∷◌, ◌++◌, length, take, drop, get_or, Option, Some, None, bytes_eq, refl, sym, ap, ◌∙◌, arith, length-append}
+use Rattle.std.proofs.Common.{◌≡◌, ℕ, ◌<◌, ◌≤◌, ◌+◌, ◌-◌, zero, suc, ◌||◌, Bool, true, false, cond, List, [], ◌∷◌, ◌++◌, length, take, drop, get_or, Option, Some, None, bytes_eq, Result, IfOk, refl, subst, sym, ap, ◌∙◌, arith, length-append}
 use Rattle.std.proofs.lemmas.List.{at_drop_more, at_drop_all}
 use Rattle.std.proofs.lemmas.List.Folds.{list_any-append}
+use Rattle.std.proofs.lemmas.Result.{IfOk-weaker}
 use Rattle.std.specs.Cmp.Lexicographic.{nat_list_eq_equiv}
 use Rattle.nz_sexpr.specs.declared.tree.Tree as code
 use Rattle.nz_sexpr.specs.View.{view}
-use Rattle.nz_spec.specs.Form.{is_one_of}
+use Rattle.nz_spec.specs.Form.{is_one_of, TermHead, term_head, let_head, name_head, no_head}
 use Rattle.nz_spec.specs.Elaboration.{is_operator}
-use Rattle.nz_spec.specs.Tree.{Tree, Trees, trees}
-use Rattle.nz_spec.specs.Script.{bound_name, bound_names, names_bound, clash, have_unknown, has_unknown_in_let, has_unknown_bound, have_clash, has_clash_in_let, has_clash_bound}
-use Rattle.nz_sort.specs.Faults.{is_in_frame, AreBound}
-use Rattle.nz_sort.specs.Form.{seen}
+use Rattle.nz_spec.specs.Tree.{Token, Tree, leaf, node, Trees, trees}
+use Rattle.nz_spec.specs.Script.{bound_name, bound_names, names_bound, clash, is_unknown, has_unknown, have_unknown, has_unknown_in_let, has_unknown_bound, have_clash, has_clash_in_let, has_clash_bound}
+use Rattle.nz_sort.specs.declared.names.Named.{Named}
+use Rattle.nz_sort.specs.declared.scope.Faults.{Faults}
+use Rattle.nz_sort.specs.Faults.{is_in_frame, AreLive, AreBound}
+use Rattle.nz_sort.specs.Form.{seen, IsHeadless}
 
 or_none : (a : Bool) → (a || false) ≡ a
 or_none true = refl
@@ -126,6 +129,12 @@ pub names_stay : (ts : List code.Tree) (i : ℕ) (t : code.Tree) → i < length 
 names_stay ts i t below is h =
     at_drop_more (λ us. bound_names (seen us)) ts i t below ∙ no_name_first (view (get_or ts i t)) (seen (drop (i + 1) ts)) (ap (λ u. bound_name (view u)) (sym is) ∙ h)
 
+pub names_start : (earlier names : List (List ℕ)) → earlier ≡ [] → (name : List ℕ) → is_one_of names name ≡ (is_one_of earlier name || is_one_of names name)
+names_start earlier names none name = sym (ap (λ es. is_one_of es name || is_one_of names name) none)
+
+pub clash_start : (earlier names : List (List ℕ)) → earlier ≡ [] → clash names ≡ (false || clash_after earlier names)
+clash_start earlier names none = sym (ap (λ b. b || clash names) (ap (λ es. meets es names) none ∙ meets_none names))
+
 pub names_next : (all earlier later rest : List (List ℕ)) (name : List ℕ) → ((other : List ℕ) → is_one_of all other ≡ (is_one_of earlier other || is_one_of (name ∷ rest) other))
     → ((other : List ℕ) → is_one_of later other ≡ (is_one_of earlier other || bytes_eq name other)) → (other : List ℕ)
     → is_one_of all other ≡ (is_one_of later other || is_one_of rest other)
@@ -138,6 +147,45 @@ names_all all names h other = sym (h other ∙ or_none (is_one_of names other))
 
 pub clash_all : (whole found : Bool) (names : List (List ℕ)) → whole ≡ (found || clash_after names []) → found ≡ whole
 clash_all whole found names h = sym (h ∙ or_none found)
+
+-- ---- Lists
+
+-- this is found of the symbols of trees where these names are live and these frames bind
+abbrev pub Tells : List (List ℕ × Named) → List (List (List ℕ)) → ((List ℕ → Bool) → List (List ℕ) → Bool) → Faults → Type 0
+Tells entries frames test found = (is_live : List ℕ → Bool) (bound : List (List ℕ)) → AreLive entries is_live → AreBound frames bound → found.unknown ≡ test is_live bound
+
+pub tells_same : {E : Type 0} (entries : List (List ℕ × Named)) (frames : List (List (List ℕ))) (old new : (List ℕ → Bool) → List (List ℕ) → Bool)
+    → ((is_live : List ℕ → Bool) (bound : List (List ℕ)) → new is_live bound ≡ old is_live bound)
+    → (r : Result Faults E) → IfOk r (Tells entries frames old) → IfOk r (Tells entries frames new)
+tells_same entries frames old new same r h =
+    IfOk-weaker r (Tells entries frames old) (Tells entries frames new) (λ found g is_live bound live framed. g is_live bound live framed ∙ sym (same is_live bound)) h
+
+-- a list that begins with no token
+pub unknown_behind : (ts : Trees) (t : Tree) (us : Trees) → IsHeadless ts → ts ≡ trees t us
+    → (is_live : List ℕ → Bool) (bound : List (List ℕ)) → has_unknown is_live bound (node ts) ≡ have_unknown is_live bound us
+unknown_behind ts (leaf k) us h is is_live bound = absurd (subst IsHeadless is h)
+unknown_behind ts (node inner) us h is is_live bound = ap (λ x. has_unknown is_live bound (node x)) is
+
+-- one that begins with a token, by what the token is at the head of a term
+abbrev pub unknown_by : TermHead → Token → Trees → (List ℕ → Bool) → List (List ℕ) → Bool
+unknown_by let_head k us is_live bound = has_unknown_in_let is_live bound us
+unknown_by name_head k us is_live bound = is_unknown is_live bound k || have_unknown is_live bound us
+unknown_by no_head k us is_live bound = have_unknown is_live bound us
+
+unknown_at : (head : TermHead) (k : Token) (us : Trees) (is_live : List ℕ → Bool) (bound : List (List ℕ))
+    → elim head [
+      | let_head ↦ has_unknown_in_let is_live bound us
+      | name_head ↦ is_unknown is_live bound k || have_unknown is_live bound us
+      | no_head ↦ have_unknown is_live bound us
+    ] ≡ unknown_by head k us is_live bound
+unknown_at let_head k us is_live bound = refl
+unknown_at name_head k us is_live bound = refl
+unknown_at no_head k us is_live bound = refl
+
+pub unknown_headed : (ts : Trees) (k : Token) (us : Trees) (head : TermHead) → ts ≡ trees (leaf k) us → head ≡ term_head k
+    → (is_live : List ℕ → Bool) (bound : List (List ℕ)) → has_unknown is_live bound (node ts) ≡ unknown_by head k us is_live bound
+unknown_headed ts k us head is of is_live bound =
+    ap (λ x. has_unknown is_live bound (node x)) is ∙ unknown_at (term_head k) k us is_live bound ∙ ap (λ h. unknown_by h k us is_live bound) (sym of)
 
 -- ---- A `let`
 

@@ -1,6 +1,8 @@
 -- Sorts by their trees, and those of parameters, one after another.
-use Rattle.std.proofs.Common.{◌≡◌, ℕ, ◌<◌, ◌+◌, List, [], ◌∷◌, ◌++◌, length, map, drop, get_or, slice_get, Bor, Option, Some, None, IfSome, IfNone, option_copied, option_map, option_and_then, is_none, refl, sym, ap, ◌∙◌}
-use Rattle.std.proofs.lemmas.List.{at_drop_more}
+use Rattle.std.proofs.Common.{◌≡◌, ℕ, ◌<◌, ◌≤◌, ◌+◌, List, [], ◌∷◌, ◌++◌, length, map, drop, get_or, Bor, Option, Some, None, IfSome, IfNone, option_map, option_and_then, is_none, refl, sym, ap, ◌∙◌, arith}
+use Rattle.std.specs.Option.{MatchOption}
+use Rattle.std.specs.List.{HoldsAt}
+use Rattle.std.proofs.lemmas.List.{at_drop_more, at_drop_all}
 use Rattle.nz_sexpr.specs.declared.tree.Tree as code
 use Rattle.nz_sexpr.specs.View.{view}
 use Rattle.nz_spec.specs.Tree.{Token, Tree, leaf, node, no_trees}
@@ -24,17 +26,19 @@ unknown_by_sort k None e = ap is_none e
 unknown_by_sort k (Some s) e = ap is_none e
 
 -- the second tree of a list
-pub second_some : (ts : List code.Tree) (o : Option (Bor code.Tree)) → option_copied o ≡ slice_get ts 1 → IfSome o (λ t. second_tree (seen ts) ≡ view t.now)
-second_some ts None e = tt
-second_some [] (Some t) e = cc
-second_some (x ∷ []) (Some t) e = cc
-second_some (x ∷ y ∷ ts) (Some t) e = (let same : y ≡ t.now = cc in ap view same)
+pub second_some : (ts : List code.Tree) (o : Option (Bor code.Tree)) → MatchOption o (length ts ≤ 1) (λ t. (1 < length ts) × HoldsAt (λ y. t.now ≡ y) ts 1)
+    → IfSome o (λ t. second_tree (seen ts) ≡ view t.now)
+second_some ts None h = tt
+second_some [] (Some t) h = absurd (omega (arith, h.0))
+second_some (x ∷ []) (Some t) h = absurd (omega (arith, h.0))
+second_some (x ∷ y ∷ ts) (Some t) h = ap view (sym (h.1 x))
 
-pub second_none : (ts : List code.Tree) (o : Option (Bor code.Tree)) → option_copied o ≡ slice_get ts 1 → IfNone o (second_tree (seen ts) ≡ node no_trees)
-second_none ts (Some t) e = tt
-second_none [] None e = refl
-second_none (x ∷ []) None e = refl
-second_none (x ∷ y ∷ ts) None e = cc
+pub second_none : (ts : List code.Tree) (o : Option (Bor code.Tree)) → MatchOption o (length ts ≤ 1) (λ t. (1 < length ts) × HoldsAt (λ y. t.now ≡ y) ts 1)
+    → IfNone o (second_tree (seen ts) ≡ node no_trees)
+second_none ts (Some t) h = tt
+second_none [] None h = refl
+second_none (x ∷ []) None h = refl
+second_none (x ∷ y ∷ ts) None h = absurd (omega (arith, h))
 
 -- ---- One after another
 
@@ -73,13 +77,13 @@ map-push [] x = refl
 map-push (y ∷ ys) x = ap (λ l. sort_of y ∷ l) (map-push ys x)
 
 -- one parameter's sort more
-pub sorts_next : (whole : Option (List spec.Sort)) (ss : List Sort) (ps : List code.Tree) (i : ℕ) (p : code.Tree) (s : Sort) → i < length ps → p ≡ get_or ps i p
+pub sorts_next : (whole : Option (List spec.Sort)) (ss more : List Sort) (ps : List code.Tree) (i : ℕ) (p : code.Tree) (s : Sort) → more ≡ ss ++ s ∷ [] → i < length ps → p ≡ get_or ps i p
     → whole ≡ sorts_before (map sort_of ss) (sorts_of_trees (parameter_sorts (seen (drop i ps))))
     → Some (sort_of s) ≡ sort_of_tree (second_tree (trees_of (view p)))
-    → whole ≡ sorts_before (map sort_of (ss ++ s ∷ [])) (sorts_of_trees (parameter_sorts (seen (drop (i + 1) ps))))
-sorts_next whole ss ps i p s below is before here =
+    → whole ≡ sorts_before (map sort_of more) (sorts_of_trees (parameter_sorts (seen (drop (i + 1) ps))))
+sorts_next whole ss more ps i p s pushed below is before here =
     before ∙ ap (sorts_before (map sort_of ss)) (sorts_turn ps i p below is ∙ ap (λ o. sorts_onto o (sorts_from (drop (i + 1) ps))) (sym here))
-    ∙ sorts_push (map sort_of ss) (sort_of s) (sorts_from (drop (i + 1) ps)) ∙ ap (λ l. sorts_before l (sorts_from (drop (i + 1) ps))) (sym (map-push ss s))
+    ∙ sorts_push (map sort_of ss) (sort_of s) (sorts_from (drop (i + 1) ps)) ∙ ap (λ l. sorts_before l (sorts_from (drop (i + 1) ps))) (sym (map-push ss s) ∙ ap (map sort_of) (sym pushed))
 
 -- a parameter of no sort
 pub sorts_stop : (whole : Option (List spec.Sort)) (ss : List Sort) (ps : List code.Tree) (i : ℕ) (p : code.Tree) → i < length ps → p ≡ get_or ps i p
@@ -90,5 +94,6 @@ sorts_stop whole ss ps i p below is before here =
     ∙ sorts_refused (map sort_of ss))
 
 -- all of them
-pub sorts_done : (whole : Option (List spec.Sort)) (ss : List Sort) → whole ≡ sorts_before (map sort_of ss) (Some []) → Some (map sort_of ss) ≡ whole
-sorts_done whole ss e = sym (e ∙ sorts_end (map sort_of ss))
+pub sorts_done : (whole : Option (List spec.Sort)) (ss : List Sort) (ps : List code.Tree) (i : ℕ) → length ps ≤ i
+    → whole ≡ sorts_before (map sort_of ss) (sorts_of_trees (parameter_sorts (seen (drop i ps)))) → Some (map sort_of ss) ≡ whole
+sorts_done whole ss ps i past before = sym (before ∙ ap (sorts_before (map sort_of ss)) (at_drop_all sorts_from ps i past) ∙ sorts_end (map sort_of ss))

@@ -1,7 +1,7 @@
 -- Lemmas of what the program takes.
 use Rattle.std.proofs.Common.{◌≡◌, ◌||◌, ℕ, Bool, true, false, List, [], ◌∷◌, codes, refl}
 use Rattle.std.specs.List.{list_any}
-use Rattle.nz_spec.specs.Tree.{Token, Tree, leaf, node}
+use Rattle.nz_spec.specs.Tree.{Tree, leaf, node}
 use Rattle.nz_spec.specs.Form.{is_token, is_keyword}
 
 -- the keys of the infos that the program tells

@@ -57,15 +57,22 @@ pub(crate) fn has_unknown_sort(trees: &[Tree]) -> bool
     false
 }
 
+fn second(trees: &[Tree]) -> Option<&Tree>
+    ensures tree { IfSome result (λ tree. script.second_tree (seen trees.now) ≡ view tree.now) }
+    ensures none { IfNone result (script.second_tree (seen trees.now) ≡ node no_trees) }
+{
+    trees.get(1)
+}
+
 /// The sort of a parameter: the second tree of its list.
 fn parameter_sort(parameter: &Tree) -> Option<&Tree>
     ensures sort { IfSome result (λ tree. script.second_tree (script.trees_of (view parameter.now)) ≡ view tree.now) }
     ensures none { IfNone result (script.second_tree (script.trees_of (view parameter.now)) ≡ node no_trees) }
 {
-    let Tree::List(list) = parameter else {
-        return None;
-    };
-    list.as_slice().get(1)
+    match parameter {
+        Tree::Word(_) => None,
+        Tree::List(list) => second(list.as_slice()),
+    }
 }
 
 /// Whether the sort of a parameter is by a name that no sort has.
