@@ -1,6 +1,6 @@
 -- The texts of numbers, from their parts.
-use Rattle.std.proofs.Common.{◌≡◌, ◌==◌, ℕ, ℤ, pos, negsuc, unsigned_abs, Bool, true, false, if◌then◌else◌, List, [], ◌++◌, codes, decimal, refl, sym, ap, ◌∙◌, append-nil, append_assoc}
-use Rattle.nz_spec.specs.Reply.{quotient_text, signed_text}
+use Rattle.std.proofs.Common.{◌≡◌, ℕ, ℤ, pos, negsuc, unsigned_abs, List, [], ◌++◌, codes, decimal, refl, sym, ap, ◌∙◌, append-nil, append_assoc}
+use Rattle.nz_spec.specs.Reply.{signed_text}
 use Rattle.nz_reply.specs.Signs.{closing_of, opening_of, ratio_text}
 use Rattle.nz_reply.proofs.Writing.{regrouped}
 
@@ -26,4 +26,3 @@ signed_ratio n point above below =
 pub ratio_parts : (n : ℤ) (d : ℕ) (opening above point below closing : List ℕ) → opening ≡ opening_of n → above ≡ decimal (unsigned_abs n) → below ≡ decimal d → closing ≡ closing_of n
     → opening ++ (codes "(/ " ++ (above ++ (point ++ (codes " " ++ (below ++ (point ++ (codes ")" ++ (closing ++ [])))))))) ≡ signed_text n (ratio_text point (unsigned_abs n) d)
 ratio_parts n d opening above point below closing e f h k = rw (e, f, h, k) (signed_ratio n point (unsigned_abs n) d)
-

@@ -1,7 +1,6 @@
 -- A text with each quote twice, run by run.
-use Rattle.std.proofs.Common.{◌≡◌, ℕ, ◌+◌, ◌-◌, ◌<◌, ◌≤◌, ◌==◌, suc, Bool, true, false, List, [], ◌∷◌, ◌++◌, length, get_or, take, drop, flat_map, if◌then◌else◌, refl, sym, ap, ◌∙◌, append-nil, append_assoc, arith, drop-cons, add-one}
+use Rattle.std.proofs.Common.{◌≡◌, ℕ, ◌+◌, ◌-◌, ◌<◌, ◌≤◌, ◌==◌, Bool, false, List, [], ◌∷◌, ◌++◌, length, get_or, take, drop, flat_map, if◌then◌else◌, refl, sym, ap, ◌∙◌, append-nil, append_assoc, arith, drop-cons, add-one}
 use Rattle.std.proofs.lemmas.List.{take_more, get_or-drop, length-drop, take_all, drop_all}
-use Rattle.std.proofs.lemmas.Bool.Decides.{nat_tests}
 use Rattle.nz_spec.specs.Reply.{quoted_byte}
 
 -- the run from its start up to a place

@@ -6,10 +6,10 @@ use Rattle.std.specs.Prelude.{OnOk, OnErr}
 use Rattle.nz_reply.specs.Parts.{parts_text}
 use Rattle.nz_reply.specs.Spelling.{part_text, spelled}
 use Rattle.nz_reply.specs.declared.spelling.Part.{Part}
-use Rattle.std.proofs.Common.{◌≡◌, ℕ, suc, ◌+◌, ◌≤◌, ◌<◌, length, get_or, add-one, List, [], ◌∷◌, ◌++◌, take, drop, Option, None, Some, Result, Ok, Err, refl, sym, ap, ◌∙◌, append_assoc, arith, subst, append-nil}
-use Rattle.std.specs.Io.KnownBytes.{Appends, Keeps}
-use Rattle.std.proofs.KnownBytes.{Appends-nil, Appends-trans}
-use Rattle.nz_spec.specs.Outside.{AddsFrontOf, HasRisen}
+use Rattle.std.proofs.Common.{◌≡◌, ℕ, suc, ◌+◌, ◌≤◌, ◌<◌, length, get_or, add-one, List, [], ◌∷◌, ◌++◌, take, drop, Option, Result, Ok, Err, refl, sym, ap, ◌∙◌, append_assoc, arith, subst, append-nil}
+use Rattle.std.specs.Io.KnownBytes.{Appends}
+use Rattle.std.proofs.KnownBytes.{Appends-trans}
+use Rattle.nz_spec.specs.Outside.{AddsFrontOf}
 
 -- A front of the bytes was written, and this is the rest.
 pub record HasWrittenTo (old new : Option (List ℕ)) (before now : ℕ) (bytes rest : List ℕ) : Type 0 where

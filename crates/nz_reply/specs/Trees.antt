@@ -1,5 +1,5 @@
 -- How lists of trees are written, and how large they are.
-use Rattle.std.specs.Prelude.{ℕ, suc, ◌+◌, List, [], ◌∷◌, ◌++◌, flat_map}
+use Rattle.std.specs.Prelude.{ℕ, suc, ◌+◌, List, ◌∷◌, flat_map}
 use Rattle.nz_spec.specs.Tree.{Tree, leaf, node, Trees, no_trees, trees}
 
 -- texts, each behind a space

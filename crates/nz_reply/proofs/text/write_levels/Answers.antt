@@ -1,4 +1,4 @@
-use Rattle.std.proofs.Common.{◌≡◌, ◌++◌, ℕ, List, codes, decimal, ap, ◌∙◌}
+use Rattle.std.proofs.Common.{◌++◌, ℕ, List, codes, ap, ◌∙◌}
 use Rattle.nz_spec.specs.Reply.{levels, reply_text}
 use Rattle.nz_reply.proofs.Writing.{front_as, whole_as}
 use Rattle.nz_reply.proofs.text.write_levels.Goals as goal
