@@ -1,17 +1,17 @@
 -- Term lists, made one term after another in a table that grows.
-use Rattle.std.proofs.Common.{◌≡◌, inl, inr, ℕ, zero, suc, ◌+◌, ◌<◌, ◌≤◌, Bool, true, false, List, [], ◌∷◌, ◌++◌, length, map, take, replicate, set, slice_index, slice_index_or, Some, None, refl, sym, ap, subst, ◌∙◌, arith, true≢false, append_assoc, append-nil, length-set, get_or-set_same, get_or-set_other}
-use Rattle.std.specs.Prelude.{◌⊎◌, ◌↔◌, All, Contains, flat_map, IsTrue, Option, option_map}
+use Rattle.std.proofs.Common.{◌≡◌, inl, inr, ℕ, zero, suc, ◌+◌, ◌<◌, ◌≤◌, Bool, true, false, List, [], ◌∷◌, ◌++◌, length, map, take, replicate, set, slice_index, slice_index_or, refl, sym, ap, subst, ◌∙◌, arith, true≢false, append_assoc, append-nil, length-set, get_or-set_same, get_or-set_other}
+use Rattle.std.specs.Prelude.{◌↔◌, All, Contains, flat_map}
 use Rattle.std.proofs.lemmas.Bool.{cases_lt}
 use Rattle.std.proofs.lemmas.Bool.Decides.{eqb_tells}
 use Rattle.std.proofs.lemmas.Grind.{flat_map-append}
 use Rattle.std.proofs.lemmas.List.{get_or_past, length-replicate, map-append, take_all, take_more}
 use Rattle.std.proofs.lemmas.List.Elements.{All-contains, All-push, All-nil, Contains-append_left, Contains-append_right, Contains-append_cases}
-use Rattle.nz_spec.specs.Term.{Head, modulus, is_int, Term, apply, Terms, no_terms, terms, head_fits}
+use Rattle.nz_spec.specs.Term.{Term, apply, Terms, no_terms, terms}
 use Rattle.nz_spec.specs.Table.{Node, term_in, HasOneNumberEach}
 use Rattle.nz_spec.specs.Order.{post_order, post_orders, companions, listing_order, listing_orders, AreFirst}
 use Rattle.nz_term.specs.declared.listings.Listing.{Listing}
-use Rattle.nz_term.specs.Growth.{Grows, IsOperator}
-use Rattle.nz_term.specs.Listings.{companion_head, companions_of, with_companions, AreCompanions, IsListing}
+use Rattle.nz_term.specs.Growth.{Grows}
+use Rattle.nz_term.specs.Listings.{with_companions, IsListing}
 use Rattle.nz_term.proofs.Firsts.{again, anew, spread}
 use Rattle.nz_term.proofs.Instancing.{grows_longer, grows_not, grows_on, term_kept, within_more}
 use Rattle.nz_term.proofs.Places.{number_back}

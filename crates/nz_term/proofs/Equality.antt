@@ -1,12 +1,10 @@
 -- What the equality of nodes says: two are equal exactly where they are the same node.
-use Rattle.std.proofs.Common.{◌≡◌, ℕ, zero, suc, List, [], ◌∷◌, true, true≢false, refl, sym, ap, ◌∙◌, ◌&&◌}
+use Rattle.std.proofs.Common.{◌≡◌, ℕ, zero, suc, List, [], ◌∷◌, true, refl, sym, ap, ◌∙◌, ◌&&◌}
 use Rattle.std.specs.Prelude.{slice_index_or, bytes_eq}
 use Rattle.std.specs.Cmp.{first_so, second_so}
 use Rattle.std.proofs.lemmas.Slice.Eq.{bytes_eq-Decides}
 use Rattle.nz_spec.specs.Term as spec
 use Rattle.nz_spec.specs.Term.{bool_sort, int_sort, real_sort, constant, parameter, integer, decimal_number, verum, falsum, negation, conjunction, disjunction, exclusion, equality, choice, less, at_most, sum, difference, product, quotient, integer_quotient, modulus, magnitude, to_real, to_int, is_int}
-use Rattle.nz_term.specs.declared.heads.Sort.TheVariants as sorts
-use Rattle.nz_term.specs.declared.heads.Sort.{Sort}
 use Rattle.nz_term.specs.declared.heads.Head.{Head}
 use Rattle.nz_term.specs.declared.heads.Head.TheVariants.{Constant, Parameter, Integer, Decimal, True, False, Not, And, Or, Xor, Equal, Ite, Less, AtMost, Sum, Difference, Product, Quotient, Div, Mod, Abs, ToReal, ToInt, IsInt}
 use Rattle.nz_term.specs.declared.nodes.Node.{Node}
@@ -14,7 +12,7 @@ use Rattle.nz_term.specs.contracts.heads.HeadPartialEq.TheImpl as heads
 use Rattle.nz_term.specs.contracts.nodes.NodePartialEq.TheImpl as nodes
 use Rattle.nz_term.specs.Constants.{sort_of}
 use Rattle.nz_term.specs.Heads.{head_of}
-use Rattle.nz_term.specs.Nodes.{node_of, node_with}
+use Rattle.nz_term.specs.Nodes.{node_of}
 use Rattle.nz_term.specs.Parts.{parts_of, sort_number}
 
 -- ---- A head from its numbers

@@ -5,8 +5,8 @@ use Rattle.std.proofs.lemmas.Bool.Decides.{eqb_tells}
 use Rattle.std.proofs.lemmas.List.{take_all}
 use Rattle.std.proofs.lemmas.List.Elements.{All-more, All-contains, All-weaker, All-take, All-append, All-map, All-from_recursion, recursion_from_All, All-head, All-tail}
 use Rattle.std.proofs.lemmas.Option.{none-some, same_Some, slice_get-get_or, slice_get_within, get_or_from_slice_get}
-use Rattle.nz_spec.specs.Term.{Head, constant, parameter, integer, decimal_number, verum, falsum, negation, conjunction, disjunction, implication, exclusion, equality, distinction, choice, less, at_most, greater, at_least, sum, difference, product, quotient, integer_quotient, modulus, magnitude, to_real, to_int, is_int, constant_of, Term, apply, Terms, no_terms, terms}
-use Rattle.nz_spec.specs.Elaboration.{term_at, instance_node, instance_of, instances_of}
+use Rattle.nz_spec.specs.Term.{Head, parameter, Term, apply, Terms, terms}
+use Rattle.nz_spec.specs.Elaboration.{term_at, instance_of, instances_of}
 use Rattle.nz_spec.specs.Order.{ComeBehindArguments}
 use Rattle.nz_spec.specs.Table.{Node, term_in, terms_at}
 use Rattle.nz_spec.proofs.Tables.{term_stays, terms_stay}

@@ -1,13 +1,13 @@
 -- What is known of terms, as tables grow and are cut.
-use Rattle.std.proofs.Common.{◌≡◌, inl, inr, ℕ, zero, suc, ◌+◌, ◌<◌, ◌≤◌, ◌&&◌, ◌||◌, Bool, true, false, not, List, [], ◌∷◌, ◌++◌, length, map, take, drop, get_or, Option, Some, None, refl, sym, ap, subst, ◌∙◌, arith, append_assoc, append-nil, length-append, length-take}
-use Rattle.std.specs.Prelude.{◌⊎◌, fold, slice_index_or}
+use Rattle.std.proofs.Common.{◌≡◌, inl, inr, ℕ, zero, suc, ◌+◌, ◌<◌, ◌≤◌, ◌&&◌, ◌||◌, Bool, not, List, [], ◌∷◌, ◌++◌, length, map, take, drop, get_or, Option, Some, None, refl, sym, ap, ◌∙◌, arith, append_assoc, append-nil, length-append, length-take}
+use Rattle.std.specs.Prelude.{fold, slice_index_or}
 use Rattle.std.proofs.lemmas.Bool.{cases_lt}
 use Rattle.std.proofs.lemmas.List.{at_drop_more, get_or_read, map-append, length-map, take-map, take-append-drop, take_all, take_at}
 use Rattle.std.proofs.lemmas.List.Sums.{fold-append}
 use Rattle.nz_spec.specs.Fraction.{Fraction, Operator}
-use Rattle.nz_spec.specs.Term.{Head, falsum, head_sort, is_bool, Term, apply, Terms, no_terms, terms, holds_number, hold_number}
+use Rattle.nz_spec.specs.Term.{Head, falsum, head_sort, is_bool, Term, apply, no_terms, holds_number, hold_number}
 use Rattle.nz_spec.specs.Linear.{constant_value, constant_values, head_constant, folded, are_divisors, is_linear_node, is_linear, are_linear}
-use Rattle.nz_spec.specs.Table.{Node, terms_at, listed_term, with_term, term_in, IsTable}
+use Rattle.nz_spec.specs.Table.{Node, terms_at, listed_term, with_term, term_in}
 use Rattle.nz_term.specs.declared.facts.Fact.{Fact}
 use Rattle.nz_term.specs.Facts.{fact_with, fact_of, constant_in, fact_at, constants_at, are_linear_at, hold_number_at, is_divisor, IsKnown}
 use Rattle.nz_term.specs.Growth.{GoesOn}

@@ -1,5 +1,5 @@
 -- A term is listed behind its companion, or alone.
-use Rattle.std.proofs.Common.{◌≡◌, ◌++◌, [], ◌∷◌, subst}
+use Rattle.std.proofs.Common.{◌++◌, [], ◌∷◌, subst}
 use Rattle.std.proofs.lemmas.Result.{on_ok_weaker}
 use Rattle.nz_spec.specs.Table.{term_in}
 use Rattle.nz_term.specs.Listings.{companions_of, AreCompanions, IsListing}

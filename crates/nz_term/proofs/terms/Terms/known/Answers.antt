@@ -3,7 +3,6 @@ use Rattle.std.proofs.Common.{◌≡◌, ◌<◌, [], length, map, All, sym, ap,
 use Rattle.std.specs.Prelude.{fold}
 use Rattle.nz_spec.specs.Term.{apply}
 use Rattle.nz_spec.specs.Table.{term_in, terms_at, with_term}
-use Rattle.nz_term.specs.declared.facts.Fact.{Fact}
 use Rattle.nz_term.specs.Facts.{fact_of}
 use Rattle.nz_term.specs.Heads.{head_of}
 use Rattle.nz_term.specs.Nodes.{node_of}
