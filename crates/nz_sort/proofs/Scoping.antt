@@ -44,6 +44,10 @@ bound-push frames bound frame names b same =
     in_frame-push frames frame name ∙ ap (λ c. c || is_one_of frame name) (b name) ∙ ap (λ c. is_one_of bound name || c) (same name)
     ∙ or_round (is_one_of bound name) (is_one_of names name) ∙ sym (list_any-append (bytes_eq name) names bound)
 
+-- frames that stay, twice
+pub frames_stay : {first second third : List (List (List ℕ))} → third ≡ second → second ≡ first → third ≡ first
+frames_stay later earlier = later ∙ earlier
+
 -- ---- Names that clash
 
 -- one of these names is one of the earlier ones
