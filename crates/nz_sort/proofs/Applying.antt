@@ -92,9 +92,6 @@ pub record IsReading (s : Sort) (old new : List Node) (left : List Typed) (ids :
   pub typed : AreTyped old left rest
   pub whole : terms_before (term_in new) ids (normals_of (read_at s rest)) ≡ normals_of (read_at s ts)
 
-pub reading_starts : (s : Sort) (old : List Node) (xs : List Typed) (ts : Terms) → AreTyped old xs ts → IsReading s old old xs [] ts
-reading_starts s old xs ts a = record { rest = ts; typed = a; whole = refl }
-
 reads : (s : Sort) (old mid new : List Node) (x : Typed) (left : List Typed) (ids items : List ℕ) (id : ℕ) (rest ts : Terms) → Grows old mid → Grows mid new
     → All (λ i. i < length mid) ids → ((t : Term) → IsTyped mid x t → StandsFor new id (normal_of (read_term s t))) → items ≡ ids ++ id ∷ []
     → AreTyped old (x ∷ left) rest → terms_before (term_in mid) ids (normals_of (read_at s rest)) ≡ normals_of (read_at s ts)

@@ -20,5 +20,4 @@ pub mod Scoping
 pub mod Sizes
 pub mod SortTrees
 pub mod Staying
-pub mod Taking
 pub mod Zeros

@@ -1,5 +1,5 @@
 -- Lemmas of the symbols of a term.
-use Rattle.std.proofs.Common.{◌≡◌, ℕ, ◌<◌, ◌≤◌, ◌+◌, ◌-◌, zero, suc, ◌||◌, Bool, true, false, cond, List, [], ◌∷◌, ◌++◌, length, take, drop, get_or, Option, Some, None, bytes_eq, Result, IfOk, refl, subst, sym, ap, ◌∙◌, arith, length-append}
+use Rattle.std.proofs.Common.{◌≡◌, ℕ, ◌<◌, ◌≤◌, ◌+◌, ◌||◌, Bool, true, false, List, [], ◌∷◌, ◌++◌, length, drop, get_or, Option, Some, None, bytes_eq, Result, IfOk, refl, subst, sym, ap, ◌∙◌}
 use Rattle.std.proofs.lemmas.List.{at_drop_more, at_drop_all}
 use Rattle.std.proofs.lemmas.List.Folds.{list_any-append}
 use Rattle.std.proofs.lemmas.Result.{IfOk-weaker}
@@ -9,7 +9,7 @@ use Rattle.nz_sexpr.specs.View.{view}
 use Rattle.nz_spec.specs.Form.{is_one_of, TermHead, term_head, let_head, name_head, no_head}
 use Rattle.nz_spec.specs.Elaboration.{is_operator}
 use Rattle.nz_spec.specs.Tree.{Token, Tree, leaf, node, Trees, trees}
-use Rattle.nz_spec.specs.Script.{bound_name, bound_names, names_bound, clash, is_unknown, has_unknown, have_unknown, has_unknown_in_let, has_unknown_bound, have_clash, has_clash_in_let, has_clash_bound}
+use Rattle.nz_spec.specs.Script.{bound_name, bound_names, names_bound, clash, is_unknown, has_unknown, have_unknown, has_unknown_in_let, has_unknown_bound}
 use Rattle.nz_sort.specs.declared.names.Named.{Named}
 use Rattle.nz_sort.specs.declared.scope.Faults.{Faults}
 use Rattle.nz_sort.specs.Faults.{is_in_frame, AreLive, AreBound}
@@ -43,6 +43,10 @@ bound-push frames bound frame names b same =
     λ name.
     in_frame-push frames frame name ∙ ap (λ c. c || is_one_of frame name) (b name) ∙ ap (λ c. is_one_of bound name || c) (same name)
     ∙ or_round (is_one_of bound name) (is_one_of names name) ∙ sym (list_any-append (bytes_eq name) names bound)
+
+-- frames that stay, twice
+pub frames_stay : {first second third : List (List (List ℕ))} → third ≡ second → second ≡ first → third ≡ first
+frames_stay later earlier = later ∙ earlier
 
 -- ---- Names that clash
 
@@ -105,29 +109,16 @@ pub found_all : {X : Type 0} (any : List X → Bool) (xs : List X) (i : ℕ) →
 found_all any xs i past none whole found before =
     sym (before ∙ ap (λ b. found || b) (at_drop_all any xs i past ∙ none) ∙ or_none found)
 
-pub added_or : (here before : Bool) → cond here true before ≡ (before || here)
-added_or true true = refl
-added_or true false = refl
-added_or false before = sym (or_none before)
-
 -- ---- Names that are bound together
 
 name_first : (b : Tree) (bs : Trees) (name : List ℕ) → bound_name b ≡ Some name → bound_names (trees b bs) ≡ name ∷ bound_names bs
 name_first b bs name h = ap (λ (o : Option (List ℕ)). elim o [ Some n ↦ n ∷ bound_names bs | None ↦ bound_names bs ]) h
 
-no_name_first : (b : Tree) (bs : Trees) → bound_name b ≡ None → bound_names (trees b bs) ≡ bound_names bs
-no_name_first b bs h = ap (λ (o : Option (List ℕ)). elim o [ Some n ↦ n ∷ bound_names bs | None ↦ bound_names bs ]) h
-
--- the names from a list on that has one, and from one that has none
+-- the names from a list on that has one
 pub names_turn : (ts : List code.Tree) (i : ℕ) (t : code.Tree) (name : List ℕ) → i < length ts → t ≡ get_or ts i t → bound_name (view t) ≡ Some name
     → bound_names (seen (drop i ts)) ≡ name ∷ bound_names (seen (drop (i + 1) ts))
 names_turn ts i t name below is h =
     at_drop_more (λ us. bound_names (seen us)) ts i t below ∙ name_first (view (get_or ts i t)) (seen (drop (i + 1) ts)) name (ap (λ u. bound_name (view u)) (sym is) ∙ h)
-
-pub names_stay : (ts : List code.Tree) (i : ℕ) (t : code.Tree) → i < length ts → t ≡ get_or ts i t → bound_name (view t) ≡ None
-    → bound_names (seen (drop i ts)) ≡ bound_names (seen (drop (i + 1) ts))
-names_stay ts i t below is h =
-    at_drop_more (λ us. bound_names (seen us)) ts i t below ∙ no_name_first (view (get_or ts i t)) (seen (drop (i + 1) ts)) (ap (λ u. bound_name (view u)) (sym is) ∙ h)
 
 pub names_start : (earlier names : List (List ℕ)) → earlier ≡ [] → (name : List ℕ) → is_one_of names name ≡ (is_one_of earlier name || is_one_of names name)
 names_start earlier names none name = sym (ap (λ es. is_one_of es name || is_one_of names name) none)
@@ -141,12 +132,6 @@ pub names_next : (all earlier later rest : List (List ℕ)) (name : List ℕ) �
 names_next all earlier later rest name before more other =
     before other ∙ ap (λ b. is_one_of earlier other || (b || is_one_of rest other)) (nat_list_eq_equiv.symm other name)
     ∙ sym (or_grouped (is_one_of earlier other) (bytes_eq name other) (is_one_of rest other)) ∙ ap (λ b. b || is_one_of rest other) (sym (more other))
-
-pub names_all : (all names : List (List ℕ)) → ((other : List ℕ) → is_one_of all other ≡ (is_one_of names other || false)) → (other : List ℕ) → is_one_of names other ≡ is_one_of all other
-names_all all names h other = sym (h other ∙ or_none (is_one_of names other))
-
-pub clash_all : (whole found : Bool) (names : List (List ℕ)) → whole ≡ (found || clash_after names []) → found ≡ whole
-clash_all whole found names h = sym (h ∙ or_none found)
 
 -- ---- Lists
 
@@ -194,20 +179,3 @@ pub unknown_in_let : (is_live : List ℕ → Bool) (bound : List (List ℕ)) (ts
     → found ≡ (outside || inside) → found ≡ has_unknown_in_let is_live bound ts
 unknown_in_let is_live bound ts b us is outside inside found o i joined =
     joined ∙ ap (λ x. x || inside) o ∙ ap (λ x. has_unknown_bound is_live bound b || x) i ∙ ap (has_unknown_in_let is_live bound) (sym is)
-
-pub clash_in_let : (ts : Trees) (b : Tree) (us : Trees) → ts ≡ trees b us
-    → (of_names outside inside found : Bool) → of_names ≡ clash (names_bound b) → outside ≡ has_clash_bound b → inside ≡ have_clash us
-    → found ≡ ((of_names || outside) || inside) → found ≡ has_clash_in_let ts
-clash_in_let ts b us is of_names outside inside found n o i joined =
-    joined ∙ ap (λ x. (x || outside) || inside) n ∙ ap (λ x. (clash (names_bound b) || x) || inside) o
-    ∙ ap (λ x. (clash (names_bound b) || has_clash_bound b) || x) i ∙ ap has_clash_in_let (sym is)
-
--- what was pushed last is taken off
-take_front : {X : Type 0} (xs : List X) (x : X) (n : ℕ) → n ≡ length xs → take n (xs ++ x ∷ []) ≡ xs
-take_front [] x zero e = refl
-take_front [] x (suc n) e = absurd (omega (arith, e))
-take_front (y ∷ ys) x zero e = absurd (omega (arith, e))
-take_front (y ∷ ys) x (suc n) e = ap (λ l. y ∷ l) (take_front ys x n (omega (arith, e)))
-
-pub popped : {X : Type 0} (xs : List X) (x : X) (ys zs : List X) → ys ≡ xs ++ x ∷ [] → zs ≡ take (length ys - 1) ys → zs ≡ xs
-popped xs x ys zs e r = r ∙ ap (λ l. take (length l - 1) l) e ∙ take_front xs x (length (xs ++ x ∷ []) - 1) (omega (arith, length-append xs (x ∷ [])))

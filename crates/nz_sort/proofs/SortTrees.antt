@@ -1,29 +1,16 @@
 -- Sorts by their trees, and those of parameters, one after another.
-use Rattle.std.proofs.Common.{◌≡◌, ℕ, ◌<◌, ◌≤◌, ◌+◌, List, [], ◌∷◌, ◌++◌, length, map, drop, get_or, Bor, Option, Some, None, IfSome, IfNone, option_map, option_and_then, is_none, refl, sym, ap, ◌∙◌, arith}
+use Rattle.std.proofs.Common.{◌≡◌, ℕ, ◌<◌, ◌≤◌, ◌+◌, List, [], ◌∷◌, ◌++◌, length, map, drop, get_or, Bor, Option, Some, None, IfSome, IfNone, refl, sym, ap, ◌∙◌, arith}
 use Rattle.std.specs.Option.{MatchOption}
 use Rattle.std.specs.List.{HoldsAt}
 use Rattle.std.proofs.lemmas.List.{at_drop_more, at_drop_all}
 use Rattle.nz_sexpr.specs.declared.tree.Tree as code
 use Rattle.nz_sexpr.specs.View.{view}
-use Rattle.nz_spec.specs.Tree.{Token, Tree, leaf, node, no_trees}
-use Rattle.nz_spec.specs.Form.{tree_symbol}
+use Rattle.nz_spec.specs.Tree.{Tree, node, no_trees}
 use Rattle.nz_spec.specs.Term as spec
-use Rattle.nz_spec.specs.Elaboration.{sort_named}
-use Rattle.nz_spec.specs.Script.{sort_of_tree, is_unknown_sort, second_tree, trees_of, sorts_onto, sorts_of_trees, parameter_sorts}
+use Rattle.nz_spec.specs.Script.{sort_of_tree, second_tree, trees_of, sorts_onto, sorts_of_trees, parameter_sorts}
 use Rattle.nz_term.specs.declared.heads.Sort.{Sort}
 use Rattle.nz_term.specs.Constants.{sort_of}
 use Rattle.nz_sort.specs.Form.{seen}
-
--- ---- Trees
-
-pub sort_by_symbol : (t : Tree) → option_and_then sort_named (tree_symbol t) ≡ sort_of_tree t
-sort_by_symbol (leaf k) = refl
-sort_by_symbol (node ts) = refl
-
--- a token's sort is unknown where it names none
-pub unknown_by_sort : (k : Token) (o : Option Sort) → option_map sort_of o ≡ sort_of_tree (leaf k) → is_none o ≡ is_unknown_sort (leaf k)
-unknown_by_sort k None e = ap is_none e
-unknown_by_sort k (Some s) e = ap is_none e
 
 -- the second tree of a list
 pub second_some : (ts : List code.Tree) (o : Option (Bor code.Tree)) → MatchOption o (length ts ≤ 1) (λ t. (1 < length ts) × HoldsAt (λ y. t.now ≡ y) ts 1)

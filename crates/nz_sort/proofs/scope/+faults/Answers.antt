@@ -6,7 +6,7 @@ use Rattle.nz_spec.specs.Script.{names_bound, is_unknown, has_unknown, has_unkno
 use Rattle.nz_sort.specs.Elaborate.{tree_size, trees_size}
 use Rattle.nz_sort.specs.Faults.{AreBound}
 use Rattle.nz_sort.specs.Form.{seen}
-use Rattle.nz_sort.proofs.Scoping.{found_next, found_all, tells_same, unknown_behind, unknown_headed, bound-push, unknown_in_let}
+use Rattle.nz_sort.proofs.Scoping.{frames_stay, found_next, found_all, tells_same, unknown_behind, unknown_headed, bound-push, unknown_in_let}
 use Rattle.nz_sort.proofs.Sizes.{item_smaller}
 use Rattle.nz_sort.proofs.scope.+faults.Goals as goal
 
@@ -26,7 +26,7 @@ pub faults_of_all-loop-tree-preserved : goal.faults_of_all-loop-tree-preserved
 faults_of_all-loop-tree-preserved t c =
     let before = c.loop-tree.invariant in
     record {
-      frames = c.in_ok-faults.ensures.frames ∙ before.frames;
+      frames = frames_stay c.in_ok-faults.ensures.frames before.frames;
       unknown = λ is_live bound live framed.
           found_next (λ ts. have_unknown is_live bound (seen ts)) (λ u. has_unknown is_live bound (view u)) c.args.trees.now c.loop-tree.tree-index c.tree-item.result
           c.loop-tree-test.true c.tree-item.is (λ u us. refl) _ c.loop-tree.found.unknown c.in_ok-faults.faults.unknown c.and-found.result.unknown
@@ -53,7 +53,7 @@ pub faults_of_pairs-loop-pair-preserved : goal.faults_of_pairs-loop-pair-preserv
 faults_of_pairs-loop-pair-preserved t c =
     let before = c.loop-pair.invariant in
     record {
-      frames = c.in_ok-faults.ensures.frames ∙ before.frames;
+      frames = frames_stay c.in_ok-faults.ensures.frames before.frames;
       unknown = λ is_live bound live framed.
           found_next (λ ts. have_unknown_bound is_live bound (seen ts)) (λ u. has_unknown_pair is_live bound (view u)) c.args.pairs.now c.loop-pair.pair-index c.pair-item.result
           c.loop-pair-test.true c.pair-item.is (λ u us. refl) _ c.loop-pair.found.unknown c.in_ok-faults.faults.unknown c.and-found.result.unknown
@@ -111,7 +111,7 @@ faults_of_let-returns-clause-unknown t c = λ is_live bound live framed.
     (let bindings = view c.in-Some.bindings.now in
     let around : AreBound c.push.new.self.items (names_bound bindings ++ bound) =
     subst (λ frames. AreBound frames (names_bound bindings ++ bound))
-    (sym (c.in_ok-push.ensures.items ∙ ap (λ frames. frames ++ c.in_ok-frame.frame ∷ []) c.in_ok-outside.ensures.frames))
+    (sym (frames_stay c.in_ok-push.ensures.items (ap (λ frames. frames ++ c.in_ok-frame.frame ∷ []) c.in_ok-outside.ensures.frames)))
     (bound-push c.args.frames.now.items bound c.in_ok-frame.frame (names_bound bindings) framed c.in_ok-frame.ensures.names) in
     unknown_in_let is_live bound (seen c.args.trees.now) bindings (seen c.in-Some.body.now) (ap seen c.in-Some.ensures.cases.0)
     c.in_ok-outside.outside.unknown c.in_ok-inside.inside.unknown c.and-2.result.unknown
