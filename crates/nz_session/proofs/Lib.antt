@@ -5,8 +5,11 @@ pub mod Fronts
 pub mod Growth
 pub mod Leveling
 pub mod Noting
+pub mod Numberless
+pub mod Orders
 pub mod SearchOrder
 pub mod SearchUnits
 pub mod Serving
 pub mod TableBindings
 pub mod Trials
+pub mod Valuing

@@ -46,7 +46,7 @@ module _ {E : Type 0} (levels : E → List (List ℕ)) (grows : TranscriptGrows)
 -- ---- Where the sink failed
 
 -- the reply was kept, and a front of its text was written
-pub answered_in_part : (ks : List code.Kept) (h : Heard) (a : Answer) (b c : Option (List ℕ)) → AddsFrontOf b c (reply_text (reply_of a.reply))
+pub answered_in_part : (ks : List code.Kept) (h : Heard) (a : Answer) (b c : Option (List ℕ)) → AddsFrontOf b c (reply_text (reply_of (what_view h.what) a.reply))
     → AnswersInPart (heard_view h) (all_kept ks) (all_kept (ks ++ kept_answer h a ∷ [])) b c
 answered_in_part ks h a b c f =
     let new : List Kept = all_kept (ks ++ kept_answer h a ∷ []) in
@@ -55,7 +55,7 @@ answered_in_part ks h a b c f =
     record {
       later = [];
       heard = sym (append-nil (things_of new) ∙ things);
-      text = reply_text (reply_of a.reply);
+      text = reply_text (reply_of (what_view h.what) a.reply);
       begins = last_reply (kept_of (kept_answer h a)) (all_kept-append ks (kept_answer h a)) refl;
       written = f;
     }

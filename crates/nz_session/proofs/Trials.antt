@@ -1,36 +1,42 @@
 -- A trial of all stacks of decisions: what each turn leaves, and what it finds in the end.
 use Rattle.std.proofs.Common.{◌≡◌, ℕ, suc, ◌+◌, ◌-◌, ◌<◌, ◌≤◌, Bool, true, false, List, [], ◌∷◌, ◌++◌, length, map, inl, inr, refl, sym, ap, subst, ◌∙◌, arith, replicate, length-append, slice_index_or}
-use Rattle.std.specs.Prelude.{All}
+use Rattle.std.specs.Prelude.{All, Contains}
 use Rattle.std.specs.List.{list_all, AllByRecursion}
 use Rattle.std.proofs.lemmas.Bool.{and_parts, and_from, both_ways}
 use Rattle.std.proofs.lemmas.List.{length-replicate}
 use Rattle.std.proofs.lemmas.List.Elements.{All-head, All-tail}
-use Rattle.nz_spec.specs.Term.{Assignment, IsTrueUnder}
+use Rattle.nz_spec.specs.Term.{Assignment, is_true, value_of, IsTrueUnder}
 use Rattle.nz_spec.specs.Table.{Node, term_in}
-use Rattle.nz_spec.specs.Decide.{asserted_numbers}
 use Rattle.nz_session.specs.Search.{Precedes, IsTurnedAt, whole_search, units_up_to}
-use Rattle.nz_truth.specs.Truths.{AreTruths, GivesTruths, MakesTrue}
+use Rattle.nz_spec.specs.Decide.{constants_in_table}
+use Rattle.nz_spec.specs.Sorts.{GivesSorts}
+use Rattle.nz_truth.specs.Truths.{GivesTruths}
+use Rattle.nz_session.specs.Levels.{AreTrueUnder}
 use Rattle.nz_session.proofs.SearchOrder.{all_true_last, Precedes-turned, Precedes-push_falses}
 use Rattle.nz_session.proofs.SearchUnits.{turned_length, units_up_to-append, units_up_to-le, units_up_to-last_false, units_up_to-turned}
 
 -- ---- The terms of these numbers
 
+-- the truth values of the terms of this order are those under the assignment
+abbrev pub HaveTruths : List Node → List ℕ → Assignment → List Bool → Type 0
+HaveTruths ns order a values = (i : ℕ) → Contains order i → slice_index_or values i false ≡ is_true (value_of a (term_in ns i))
+
 -- where their truth values are true, the assignment makes them true
-pub true_terms : (ns : List Node) (a : Assignment) (values : List Bool) (ids : List ℕ) → AreTruths ns (length ns) a values → All (λ i. i < length ns) ids
+pub true_terms : (ns : List Node) (a : Assignment) (values : List Bool) (order ids : List ℕ) → HaveTruths ns order a values → All (Contains order) ids
     → list_all (λ i. slice_index_or values i false) ids ≡ true → AllByRecursion (IsTrueUnder a) (map (term_in ns) ids)
-true_terms ns a values [] h known t = tt
-true_terms ns a values (i ∷ is) h known t =
+true_terms ns a values order [] h known t = tt
+true_terms ns a values order (i ∷ is) h known t =
     let both = and_parts (slice_index_or values i false) (list_all (λ j. slice_index_or values j false) is) t in
-    let within : i < length ns = All-head (λ j. j < length ns) i is known in
-    (sym (h i within) ∙ both.0, true_terms ns a values is h (All-tail (λ j. j < length ns) i is known) both.1)
+    let reached : Contains order i = All-head (Contains order) i is known in
+    (sym (h i reached) ∙ both.0, true_terms ns a values order is h (All-tail (Contains order) i is known) both.1)
 
 -- and the other way round
-pub true_values : (ns : List Node) (a : Assignment) (values : List Bool) (ids : List ℕ) → AreTruths ns (length ns) a values → All (λ i. i < length ns) ids
+pub true_values : (ns : List Node) (a : Assignment) (values : List Bool) (order ids : List ℕ) → HaveTruths ns order a values → All (Contains order) ids
     → AllByRecursion (IsTrueUnder a) (map (term_in ns) ids) → list_all (λ i. slice_index_or values i false) ids ≡ true
-true_values ns a values [] h known t = refl
-true_values ns a values (i ∷ is) h known t =
-    let within : i < length ns = All-head (λ j. j < length ns) i is known in
-    and_from _ _ (h i within ∙ t.0) (true_values ns a values is h (All-tail (λ j. j < length ns) i is known) t.1)
+true_values ns a values order [] h known t = refl
+true_values ns a values order (i ∷ is) h known t =
+    let reached : Contains order i = All-head (Contains order) i is known in
+    and_from _ _ (h i reached ∙ t.0) (true_values ns a values order is h (All-tail (Contains order) i is known) t.1)
 
 -- ---- Turns
 
@@ -69,15 +75,15 @@ turn_is_nearer count n stack full kept new e l t f =
 
 -- ---- What has failed
 
--- no assignment that gives the constants these truth values makes every asserted term true
-abbrev pub HasFailed : List Node → List (List ℕ) → List Bool → Type 0
-HasFailed ns levels v = (a : Assignment) → GivesTruths ns v a → MakesTrue ns levels a → ⊥
+-- no assignment of values of their sorts that gives the constants these truth values makes every asserted term true
+abbrev pub HasFailed : List Node → List ℕ → List Bool → Type 0
+HasFailed ns asserted v = (a : Assignment) → GivesTruths ns v a → GivesSorts a (constants_in_table ns) → AreTrueUnder ns asserted a → ⊥
 
 -- decisions have failed where the truth of some asserted term is `false`
-pub failed_here : (ns : List Node) (levels : List (List ℕ)) (values full : List Bool) → ((a : Assignment) → GivesTruths ns full a → AreTruths ns (length ns) a values)
-    → All (λ i. i < length ns) (asserted_numbers levels) → list_all (λ i. slice_index_or values i false) (asserted_numbers levels) ≡ false → HasFailed ns levels full
-failed_here ns levels values full h known f =
-    λ a g m. both_ways (list_all (λ i. slice_index_or values i false) (asserted_numbers levels)) f (true_values ns a values (asserted_numbers levels) (h a g) known m)
+pub failed_here : (ns : List Node) (order asserted : List ℕ) (values full : List Bool) → ((a : Assignment) → GivesTruths ns full a → GivesSorts a (constants_in_table ns) → HaveTruths ns order a values)
+    → All (Contains order) asserted → list_all (λ i. slice_index_or values i false) asserted ≡ false → HasFailed ns asserted full
+failed_here ns order asserted values full h known f =
+    λ a g s m. both_ways (list_all (λ i. slice_index_or values i false) asserted) f (true_values ns a values order asserted (h a g s) known m)
 
 -- decisions filled up with `false` are as many as the constants
 pub filled_length : (count : ℕ) (stack full : List Bool) → full ≡ stack ++ replicate (count - length stack) false → length stack ≤ count → length full ≡ count

@@ -4,4 +4,5 @@ pub mod Search
 pub mod SearchNotes
 pub mod Serve
 pub mod Told
+pub mod Valued
 pub mod Verdicts

@@ -24,8 +24,11 @@ pub enum Stop {
 
 /// A search that decides whether the asserted terms can all be true. They are asserted by levels.
 pub trait Decide: Drop {
-    ghost use Rattle.std.specs.Prelude.{◌≡◌, ℕ, ◌-◌, ◌*◌, ◌^◌, ◌<◌, ◌≤◌, List, [], ◌∷◌, ◌++◌, length, take, OnOk, OnErr, IfOk, IfErr};
-    ghost use Rattle.nz_spec.specs.Decide.{constants_in_table, HasDistinctNames, AreInTable, with_number, asserted_terms, AreModelOf, bindings_by, IsUnsatisfiable, AtomsAreNoted};
+    ghost use Rattle.std.specs.Prelude.{◌≡◌, ℕ, ◌-◌, ◌*◌, ◌^◌, ◌<◌, ◌≤◌, false, List, [], ◌∷◌, ◌++◌, length, take, All, OnOk, OnErr, IfOk, IfErr};
+    ghost use Rattle.std.specs.List.{AllByRecursion};
+    ghost use Rattle.nz_spec.specs.Term.{bool_sort, holds_number};
+    ghost use Rattle.nz_spec.specs.Table.{term_in};
+    ghost use Rattle.nz_spec.specs.Decide.{constants_in_table, HasDistinctNames, AreInTable, asserted_numbers, with_number, asserted_terms, AreModelOf, bindings_by, IsUnsatisfiable, AtomsAreNoted};
     ghost use Rattle.nz_spec.specs.Work.{IsSpent};
     ghost use Rattle.nz_reply.specs.Notes.{noted_list};
     ghost use Rattle.nz_session.specs.Verdicts.{IfSat, OnUnsat, OnSpent};
@@ -67,6 +70,10 @@ pub trait Decide: Drop {
         requires known { AreInTable terms.now (levels self.old) }
         requires names { HasDistinctNames terms.now }
         requires no_steps { work.old.lines ≡ [] }
+
+        // Nothing is over numbers.
+        requires truths { All (λ i. holds_number (term_in terms.now i) ≡ false) (asserted_numbers (levels self.old)) }
+        requires bools { AllByRecursion (λ c. c.sort ≡ bool_sort) (constants_in_table terms.now) }
         ensures sat { IfOk result (λ v. IfSat v (λ ps. AreModelOf (constants_in_table terms.now) (asserted_terms terms.now (levels self.old)) (bindings_by terms.now ps))) }
         ensures unsat { IfOk result (λ v. OnUnsat v (IsUnsatisfiable (constants_in_table terms.now) (asserted_terms terms.now (levels self.old)))) }
 

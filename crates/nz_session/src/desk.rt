@@ -1,26 +1,38 @@
 //! The desk: what a command acts on, and the answer to it.
 ghost use Rattle.std.specs.Prelude.{◌≡◌, ◌<◌, ◌*◌, ◌^◌, ℕ, [], ◌∷◌, ◌++◌, length, map, slice_get, All, IfOk, IfErr, IfSome, IfNone, OnOk, false};
+ghost use Rattle.std.specs.List.{AllByRecursion};
 ghost use Rattle.nz_sexpr.specs.View.{view, what_view};
+ghost use Rattle.nz_spec.specs.Text as text;
 ghost use Rattle.nz_spec.specs.Text.{whole};
+ghost use Rattle.nz_spec.specs.Term as term;
+ghost use Rattle.nz_spec.specs.Term.{bool_sort, holds_number};
 ghost use Rattle.nz_spec.specs.Decide.{constants_in_table, HasDistinctNames, AreModelOf, IsUnsatisfiable, bindings_at, bindings_by};
-ghost use Rattle.nz_spec.specs.Script.{State};
-ghost use Rattle.nz_spec.specs.Table.{term_in};
+ghost use Rattle.nz_spec.specs.Script.{State, Command, items_of, items_hold_numbers};
+ghost use Rattle.nz_spec.specs.Reply.{done as done_by};
+ghost use Rattle.nz_spec.specs.Table.{IsTable, term_in};
 ghost use Rattle.nz_spec.specs.Work.{IsSpent};
 ghost use Rattle.nz_reply.specs.Notes.{noted_list};
-ghost use Rattle.nz_sort.specs.Acts.{error_of};
+ghost use Rattle.nz_reply.specs.Infos.{info_of};
+ghost use Rattle.nz_reply.specs.Replies.{reply_of};
+ghost use Rattle.nz_sort.specs.Acts.{error_of, info_meaning};
 ghost use Rattle.nz_sort.specs.Items.{table_numbers};
+ghost use Rattle.nz_sort.specs.Live.{AsksValues, arguments_of};
+ghost use Rattle.nz_sort.specs.Typed.{AreTyped};
 ghost use Rattle.nz_session.specs.Told.{IsTold};
 ghost use Rattle.nz_session.specs.Verdicts.{IfSat, OnUnsat, OnSpent};
 ghost use Rattle.nz_term.specs.Values.{value_of};
 
 use crate::decide::{Decide, Stop, Verdict};
+use crate::values::values_shown;
 use nz_base::{Memory, Work};
 use nz_reply::{
-    ALREADY_DECLARED, Binding, Bindings, Cause, INCOMPLETE_COMMAND, LIMIT, NO_ANSWER,
-    NUMBER_TOO_WIDE, Note, OUT_OF_MEMORY, Reason, Reply, SORT, SYNTAX, SpentList, UNKNOWN_SYMBOL,
+    ALREADY_DECLARED, Binding, Bindings, Cause, INCOMPLETE_COMMAND, Info, LIMIT, NO_ANSWER,
+    NOT_LINEAR, NUMBER_TOO_WIDE, Note, OUT_OF_MEMORY, Reason, Reply, SORT, SYNTAX, SpentList,
+    UNKNOWN_SYMBOL,
 };
 use nz_sexpr::{Tree, What};
-use nz_sort::{Accepted, Act, Live, Refusal};
+use nz_sort::{Accepted, Act, Info as InfoAsked, Live, Refusal, Typed};
+use nz_spec::table::term_of_node;
 use nz_term::{Assign, Head, TermId, Terms, Value};
 use std::alloc::Global;
 
@@ -44,6 +56,7 @@ pub struct Desk<E: Decide> {
     told: Option<usize>,
     work: Work<Note>,
     limit: u64,
+    prints_success: bool,
     model: Option<Bindings>,
     reason: Option<Reason>,
 }
@@ -67,6 +80,7 @@ impl<E: Decide> Desk<E> {
             told: None,
             work: Work::new(alloc)?,
             limit,
+            prints_success: false,
             model: None,
             reason: None,
         })
@@ -95,23 +109,32 @@ impl<E: Decide> Desk<E> {
             Ok(Act::Changed) => {
                 self.model = None;
                 self.reason = None;
-                said(Reply::Quiet)
+                said(done(self.prints_success))
             }
             Ok(Act::Check) => self.check(),
             Ok(Act::ShowModel) => self.show_model(),
+            Ok(Act::ShowValues(asked)) => self.show_values(&asked),
             Ok(Act::ShowReason) => self.show_reason(),
-            Ok(Act::Unsupported) => said(Reply::Unsupported),
+            Ok(Act::ShowInfo(info)) => said(Reply::Info(info_told(info))),
+            Ok(Act::ShowLevels) => said(Reply::Levels(self.live.levels())),
+            Ok(Act::PrintSuccess(prints)) => {
+                self.prints_success = prints;
+                said(done(prints))
+            }
+            Ok(Act::Nothing) => said(done(self.prints_success)),
+            Ok(Act::Echo) => said(Reply::Echo),
             Ok(Act::Leave) => Answer {
-                reply: Reply::Quiet,
+                reply: done(self.prints_success),
                 cause: Cause::Plain,
                 exits: true,
             },
+            Ok(Act::Unsupported) => said(Reply::Unsupported),
         }
     }
 
     /// The answer to `check-sat`.
     fn check(&mut self) -> Answer
-        requires { (limit : ℕ) × (s : State) × Holds E.levels limit self.old s }
+        requires { (limit : ℕ) × (s : State) × Holds E.levels limit self.old s × (items_hold_numbers (items_of s.levels) ≡ false) }
         ensures right { (limit : ℕ) (s : State) (tree : script.Tree) → Holds E.levels limit self.old s → outcome_of s tree ≡ accepted check_sat → IsAnswer E.levels limit s (whole tree) result self.new }
     {
         let decided = decide(
@@ -173,6 +196,25 @@ impl<E: Decide> Desk<E> {
         }
     }
 
+    /// The answer to `get-value` of these terms.
+    fn show_values(&self, asked: &[Typed]) -> Answer
+        requires typed { (terms : term.Terms) × AreTyped self.now.terms asked.now terms }
+        requires distinct { HasDistinctNames self.now.terms }
+        ensures right { (limit : ℕ) (s : State) (tree : script.Tree) (c : Command) → Holds E.levels limit self.now s → outcome_of s tree ≡ accepted c → AsksValues self.now.terms asked.now (arguments_of tree) c → IsAnswer E.levels limit s (whole tree) result self.now }
+    {
+        known_table(&self.terms);
+        term_of_node();
+        match &self.model {
+            None => said(Reply::Error(NO_ANSWER)),
+            Some(model) => {
+                match values_shown(self.alloc, &self.terms, self.live.constants(), model, asked) {
+                    Ok(shows) => said(Reply::Values(shows)),
+                    Err(Memory) => said(Reply::Error(OUT_OF_MEMORY)),
+                }
+            }
+        }
+    }
+
     /// The answer to `get-info` of the reason of the last answer.
     fn show_reason(&self) -> Answer
         ensures right { (limit : ℕ) (s : State) (tree : script.Tree) → Holds E.levels limit self.now s → outcome_of s tree ≡ accepted get_reason → IsAnswer E.levels limit s (whole tree) result self.now }
@@ -195,6 +237,7 @@ impl<E: Decide> Desk<E> {
             told: _,
             work,
             limit: _,
+            prints_success: _,
             model,
             reason: _,
         } = self;
@@ -217,6 +260,29 @@ fn said(reply: Reply) -> Answer
     }
 }
 
+/// The reply to a command that has nothing to tell, where success is told or isn't.
+fn done(prints_success: bool) -> Reply
+    ensures done { (what : text.What) → reply_of what result ≡ done_by (record { prints_success = prints_success }) }
+{
+    if prints_success {
+        Reply::Success
+    } else {
+        Reply::Quiet
+    }
+}
+
+/// The info of a reply that tells the info which a command asks for.
+fn info_told(info: InfoAsked) -> Info
+    ensures info { info_of result ≡ info_meaning info }
+{
+    match info {
+        InfoAsked::Name => Info::Name,
+        InfoAsked::Version => Info::Version,
+        InfoAsked::Authors => Info::Authors,
+        InfoAsked::ErrorBehavior => Info::ErrorBehavior,
+    }
+}
+
 /// The number of the error that tells a refusal.
 fn error_number(refusal: Refusal) -> u8
     ensures told { IfSome (error_of refusal) (λ number. result ≡ number) }
@@ -226,11 +292,19 @@ fn error_number(refusal: Refusal) -> u8
         Refusal::Syntax => SYNTAX,
         Refusal::UnknownSymbol => UNKNOWN_SYMBOL,
         Refusal::Sort => SORT,
+        Refusal::NotLinear => NOT_LINEAR,
         Refusal::TooWide => NUMBER_TOO_WIDE,
         Refusal::Limit => LIMIT,
         Refusal::Declared => ALREADY_DECLARED,
         Refusal::Memory => OUT_OF_MEMORY,
     }
+}
+
+/// Says that the terms of a table are those of its nodes.
+fn known_table(terms: &Terms)
+    ensures table { IsTable terms.now }
+{
+    terms.len();
 }
 
 /// Tells the engine the assertions that it hasn't been told, in its one level.
@@ -271,6 +345,8 @@ fn decide<E: Decide>(
     requires told { IsTold (E.levels engine.old) told.old (table_numbers assertions.now) }
     requires within { All (λ i. i < length terms.now) (table_numbers assertions.now) }
     requires names { HasDistinctNames terms.now }
+    requires truths { All (λ i. holds_number (term_in terms.now i) ≡ false) (table_numbers assertions.now) }
+    requires bools { AllByRecursion (λ c. c.sort ≡ bool_sort) (constants_in_table terms.now) }
     ensures told { IsTold (E.levels engine.new) told.new (table_numbers assertions.now) }
     ensures sat { IfOk result (λ v. IfSat v (λ ps. AreModelOf (constants_in_table terms.now) (map (term_in terms.now) (table_numbers assertions.now)) (bindings_by terms.now ps))) }
     ensures unsat { IfOk result (λ v. OnUnsat v (IsUnsatisfiable (constants_in_table terms.now) (map (term_in terms.now) (table_numbers assertions.now)))) }

@@ -7,6 +7,7 @@ mod session;
 #[cfg(test)]
 mod tests;
 mod trial;
+mod values;
 
 pub use decide::{Decide, Stop, Verdict};
 pub use session::{Fed, Session};

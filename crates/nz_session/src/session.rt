@@ -1,7 +1,7 @@
 //! The session: pieces of a script in, replies out, and all of it kept.
 ghost use Rattle.std.specs.Prelude.{◌≡◌, ◌≤◌, ◌<◌, ◌+◌, ◌^◌, ℕ, List, [], ◌∷◌, ◌++◌, length, IfOk, OnOk, OnErr, ◌⊎◌};
 ghost use Rattle.std.specs.Io.KnownBytes.{Appends, Keeps};
-ghost use Rattle.nz_sexpr.specs.View.{heard_view};
+ghost use Rattle.nz_sexpr.specs.View.{heard_view, what_view};
 ghost use Rattle.nz_spec.specs.Outside.{AddsFrontOf, HasRisen};
 ghost use Rattle.nz_spec.specs.Reply.{error, reply_text};
 ghost use Rattle.nz_spec.specs.Script.{start, State};
@@ -14,7 +14,7 @@ use crate::decide::Decide;
 use crate::desk::{Answer, Desk};
 use nz_base::{Memory, Sink};
 use nz_reply::{Journal, Kept, OUT_OF_MEMORY, Reply, WriteFault, write_reply};
-use nz_sexpr::{Heard, Limits, Reader};
+use nz_sexpr::{Heard, Limits, Reader, What};
 use nz_spec::text::{one_reading, reading_tells_first};
 use nz_spec::transcript::transcript_grows;
 use nz_term::Terms;
@@ -47,14 +47,14 @@ pub struct Session<E: Decide> {
     kept: Vec<Kept>,
 }
 
-/// Writes the text of a reply, and flushes.
-fn show<K: Sink>(sink: &mut K, reply: &Reply) -> Result<(), WriteFault>
-    ensures whole { OnOk result (Appends (K.held sink.old) (K.held sink.new) (reply_text (reply_of reply.now))) }
-    ensures front { OnErr result (AddsFrontOf (K.held sink.old) (K.held sink.new) (reply_text (reply_of reply.now))) }
+/// Writes the text of a reply to a thing heard, and flushes.
+fn show<K: Sink>(sink: &mut K, what: &What, reply: &Reply) -> Result<(), WriteFault>
+    ensures whole { OnOk result (Appends (K.held sink.old) (K.held sink.new) (reply_text (reply_of (what_view what.now) reply.now))) }
+    ensures front { OnErr result (AddsFrontOf (K.held sink.old) (K.held sink.new) (reply_text (reply_of (what_view what.now) reply.now))) }
     ensures later { K.faults sink.old ≤ K.faults sink.new }
     ensures fault { OnErr result (HasRisen K.last (K.faults sink.old) (K.faults sink.new)) }
 {
-    if let Err(fault) = write_reply(sink, reply) {
+    if let Err(fault) = write_reply(sink, what, reply) {
         return Err(fault);
     }
     match sink.flush() {
@@ -71,7 +71,7 @@ fn cut<K: Sink>(sink: &mut K) -> Fed
     ensures later { K.faults sink.old ≤ K.faults sink.new }
     ensures fault { result ≡ Fed.SinkFault → HasRisen K.last (K.faults sink.old) (K.faults sink.new) }
 {
-    match show(sink, &Reply::Error(OUT_OF_MEMORY)) {
+    match show(sink, &What::Unread, &Reply::Error(OUT_OF_MEMORY)) {
         Ok(()) => Fed::Cut,
         Err(WriteFault) => Fed::SinkFault,
     }
@@ -103,7 +103,7 @@ fn serve<E: Decide, K: Sink>(
         cause,
         exits,
     } = desk.answer(&heard.what);
-    let shown = show(sink, &reply);
+    let shown = show(sink, &heard.what, &reply);
     kept.push(Kept {
         heard,
         reply,

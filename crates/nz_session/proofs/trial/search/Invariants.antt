@@ -3,17 +3,19 @@ use Rattle.nz_spec.specs.Term.{Assignment}
 use Rattle.nz_reply.specs.Notes.{noted_list}
 use Rattle.nz_session.specs.Search.{Precedes, whole_search, units_up_to}
 use Rattle.nz_session.specs.SearchNotes.{HasSearched}
-use Rattle.nz_session.specs.Levels.{numbers_by_level}
-use Rattle.nz_truth.specs.Truths.{GivesTruths, MakesTrue}
+use Rattle.nz_session.specs.Levels.{AreTrueUnder}
+use Rattle.nz_spec.specs.Decide.{constants_in_table}
+use Rattle.nz_spec.specs.Sorts.{GivesSorts}
+use Rattle.nz_truth.specs.Truths.{GivesTruths}
 use Rattle.nz_session.proofs.trial.search.Given as goal
 
 -- each list of decisions before the stack makes some assertion false
 abbrev pub invariant-loop-stack : goal.invariant-loop-stack
 invariant-loop-stack l = record {
-  searched : HasSearched l.count l.stack.items (noted_list l.work);
+  searched : HasSearched (length l.constants) l.stack.items (noted_list l.work);
   limit : l.work.limit ≡ l.fn.work.limit;
-  refuted : (v : List Bool) → length v ≡ l.count → Precedes v l.stack.items → (a : Assignment) → GivesTruths l.terms v a → MakesTrue l.terms (numbers_by_level l.levels) a → ⊥;
+  refuted : (v : List Bool) → length v ≡ length l.constants → Precedes v l.stack.items → (a : Assignment) → GivesTruths l.terms v a → GivesSorts a (constants_in_table l.terms) → AreTrueUnder l.terms l.asserted a → ⊥;
 }
 
 abbrev pub decreases-loop-stack : goal.decreases-loop-stack
-decreases-loop-stack l = whole_search l.count - units_up_to l.count l.stack.items
+decreases-loop-stack l = whole_search (length l.constants) - units_up_to (length l.constants) l.stack.items

@@ -1,0 +1,49 @@
+-- The values of terms in a model, by the outcomes that the code computes, and as they are told.
+use Rattle.std.specs.Prelude.{◌≡◌, ℕ, List, [], ◌∷◌, map, Some, None}
+use Rattle.nz_spec.specs.Term as spec
+use Rattle.nz_spec.specs.Term.{Term, Terms, no_terms, terms, Value, Assignment, value_of}
+use Rattle.nz_spec.specs.Normal.{normal_of}
+use Rattle.nz_spec.specs.Fraction.{first_wide}
+use Rattle.nz_spec.specs.Operations.{operations_of}
+use Rattle.nz_spec.specs.Table.{Node, assignment_by}
+use Rattle.nz_spec.specs.Script.{Binding}
+use Rattle.nz_spec.specs.Reply.{Shown, shown_value, shown_wide}
+use Rattle.nz_reply.specs.Values.{shown_of}
+use Rattle.nz_reply.specs.declared.reply.Shown.TheVariants as shows
+use Rattle.nz_term.specs.declared.heads.Sort.{Sort}
+use Rattle.nz_sort.specs.declared.typed.Typed.{Typed}
+use Rattle.nz_sort.specs.Typed.{AreTyped}
+use Rattle.nz_truth.specs.declared.walk.Outcome.{Outcome}
+use Rattle.nz_truth.specs.declared.walk.Outcome.TheVariants as outcome
+
+-- numbers of constants, each with the value that is bound at its place
+abbrev pub valued : List ℕ → List Binding → List (ℕ × Value)
+valued [] bs = []
+valued (i ∷ is) [] = []
+valued (i ∷ is) (b ∷ bs) = (i, b.value) ∷ valued is bs
+
+-- the numbers of terms
+abbrev pub numbers_typed : List Typed → List ℕ
+numbers_typed xs = map (λ (x : Typed). x.id) xs
+
+-- what is told of the outcome of a term of a sort
+abbrev pub outcome_shown : Sort → Outcome → Shown
+outcome_shown sort (outcome.Value v) = shown_of (shows.Value sort v)
+outcome_shown sort (outcome.Wide w) = shown_of (shows.Wide w)
+
+-- so of terms, one for one
+abbrev pub outcomes_shown : List Typed → List Outcome → List Shown
+outcomes_shown (x ∷ xs) (o ∷ os) = outcome_shown x.sort o ∷ outcomes_shown xs os
+outcomes_shown xs os = []
+
+-- what is to be told of a term, and of terms
+abbrev pub term_shown : Assignment → Term → Shown
+term_shown a t = elim (first_wide (operations_of a (normal_of t))) [ Some w ↦ shown_wide w | None ↦ shown_value (spec.sort_of t) (value_of a t) ]
+
+abbrev pub terms_shown : Assignment → Terms → List Shown
+terms_shown a no_terms = []
+terms_shown a (terms t ts) = term_shown a t ∷ terms_shown a ts
+
+-- This is what is to be told of the terms of these numbers, where the constants of these numbers have the values of this model.
+abbrev pub AreShown : List Node → List ℕ → List Binding → List Typed → List Shown → Type 0
+AreShown ns constants model xs shown = (ts : Terms) → AreTyped ns xs ts → shown ≡ terms_shown (assignment_by ns (valued constants model)) ts

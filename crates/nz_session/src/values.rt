@@ -1,0 +1,74 @@
+//! The values of terms in a model, as they are told.
+ghost use Rattle.std.specs.Prelude.{◌≡◌, [], ◌∷◌, ◌++◌, OnOk, IfOk};
+ghost use Rattle.nz_spec.specs.Decide.{HasDistinctNames};
+ghost use Rattle.nz_spec.specs.Term as term;
+ghost use Rattle.nz_reply.specs.Values.{shown_of};
+ghost use Rattle.nz_sort.specs.Items.{table_numbers};
+ghost use Rattle.nz_sort.specs.Typed.{AreTyped};
+ghost use Rattle.nz_session.specs.Valued.{AreShown, numbers_typed, outcome_shown, outcomes_shown, valued};
+
+use nz_base::Memory;
+use nz_reply::{Bindings, Shown, Shows};
+use nz_sort::{Accepted, Typed};
+use nz_term::{Assign, Sort, TermId, Terms, Value};
+use nz_truth::{Outcome, outcomes};
+use std::alloc::Global;
+
+/// What is told of these terms in a model, which binds these constants in their order.
+pub(crate) fn values_shown(
+    alloc: Global,
+    terms: &Terms,
+    constants: &[Accepted],
+    model: &Bindings,
+    asked: &[Typed],
+) -> Result<Shows, Memory>
+    requires typed { (ts : term.Terms) × AreTyped terms.now asked.now ts }
+    requires distinct { HasDistinctNames terms.now }
+    ensures shown { IfOk result (λ shows. AreShown terms.now (table_numbers constants.now) model.now asked.now shows) }
+{
+    let assign = assignment_by(alloc, constants, model)?;
+    let roots = numbers_of(alloc, asked)?;
+    let found = outcomes(alloc, terms, &roots, &assign)?;
+    shows_of(alloc, asked, &found)
+}
+
+/// The constants with the values that a model gives them, place by place.
+fn assignment_by(alloc: Global, constants: &[Accepted], model: &Bindings) -> Result<Assign, Memory>
+    ensures valued { IfOk result (λ ps. ps ≡ valued (table_numbers constants.now) model.now) }
+{
+    let mut assign = Assign::new(alloc)?;
+    for (place, constant) in constants.iter().enumerate() {
+        if let Some(value) = model.value(place) {
+            assign.push(constant.term, value)?;
+        }
+    }
+    Ok(assign)
+}
+
+/// The numbers of terms.
+fn numbers_of(alloc: Global, asked: &[Typed]) -> Result<Vec<TermId>, Memory>
+    ensures numbers { IfOk result (λ ids. ids.items ≡ numbers_typed asked.now) }
+{
+    Ok(asked.iter().map(|typed| typed.id).collect(alloc)?)
+}
+
+/// What is told of the outcomes of terms.
+fn shows_of(alloc: Global, asked: &[Typed], found: &[Outcome]) -> Result<Shows, Memory>
+    ensures shows { IfOk result (λ shows. shows ≡ outcomes_shown asked.now found.now) }
+{
+    let mut shows = Shows::new(alloc);
+    for (typed, outcome) in asked.iter().zip(found) {
+        shows.push(shown(typed.sort, *outcome))?;
+    }
+    Ok(shows)
+}
+
+/// What is told of the outcome of a term of this sort.
+fn shown(sort: Sort, outcome: Outcome) -> Shown
+    ensures shown { shown_of result ≡ outcome_shown sort outcome }
+{
+    match outcome {
+        Outcome::Value(value) => Shown::Value(sort, value),
+        Outcome::Wide(wide) => Shown::Wide(wide),
+    }
+}
