@@ -1,4 +1,4 @@
-pub mod Assigned
-pub mod Evaluated
-pub mod Evaluation
+pub mod Carrying
+pub mod Comparing
+pub mod Gathering
 pub mod Numbering

@@ -29,6 +29,7 @@ pub(crate) fn whole_value(n: i64) -> Value
 }
 
 /// An operation over all arguments, from the left; of none this value.
+#[tactic(auto, unfolding(nz_spec::specs::Fraction::first_wide))]
 pub(crate) fn operated(op: Op, of_none: Value, args: &[Value]) -> Outcome
     ensures outcome { IsOperated (operator_of op) (value_of of_none) (map value_of args.now) result }
 {
@@ -39,6 +40,7 @@ pub(crate) fn operated(op: Op, of_none: Value, args: &[Value]) -> Outcome
 }
 
 /// The negation of one argument, or the difference of several, from the left.
+#[tactic(auto, unfolding(nz_spec::specs::Fraction::first_wide))]
 pub(crate) fn difference(args: &[Value]) -> Outcome
     ensures outcome { (a : Assignment) → (s : Sort) → IsOutcomeOf (head_operations (minus_head s) (map value_of args.now)) (head_value a (minus_head s) (map value_of args.now)) result }
 {
@@ -48,6 +50,7 @@ pub(crate) fn difference(args: &[Value]) -> Outcome
     }
 }
 
+#[tactic(auto, unfolding(nz_spec::specs::Fraction::first_wide))]
 /// An operation of a value with each of the others, from the left, up to the first that leaves the numbers.
 fn operated_on(op: Op, first: &Value, others: &[Value]) -> Outcome
     ensures outcome { IsOutcomeOf (operations_by (operator_of op) (value_of first.now) (map value_of others.now)) (combined (carried_out (operator_of op)) (value_of first.now) (map value_of others.now)) result }
@@ -81,6 +84,7 @@ fn carried_out(op: Op, left: Frac, right: Frac) -> Result<Frac, Wide>
 }
 
 /// Whether a number is zero.
+#[tactic(auto, using(nz_term::proofs::Numbers::is_not_zero))]
 fn is_zero(number: Frac) -> bool
     ensures zero { result ≡ is_zero number }
     ensures nonzero { result ≡ false → number.numerator ≢ pos 0 }

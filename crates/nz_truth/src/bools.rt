@@ -1,5 +1,6 @@
 //! The operators of Core on values. A number counts as `false` where a truth is meant.
 ghost use Rattle.std.specs.Prelude.{◌≡◌, map};
+ghost use Rattle.std.specs.List.{list_all, list_any};
 ghost use Rattle.nz_spec.specs.Term.{Assignment, negation as not_head, conjunction as and_head, disjunction as or_head, exclusion as xor_head, choice as ite_head, Sort, combined, excluded, is_true, head_value};
 ghost use Rattle.nz_term.specs.Values.{value_of};
 
@@ -31,8 +32,9 @@ pub(crate) fn conjunction(args: &[Value]) -> Value
     ensures value { (a : Assignment) → value_of result ≡ head_value a and_head (map value_of args.now) }
 {
     match args {
+        [_, _, ..] => Value::Truth(are_true(args)),
         [only] => *only,
-        _ => Value::Truth(args.iter().all(is_true)),
+        [] => Value::Truth(true),
     }
 }
 
@@ -41,9 +43,24 @@ pub(crate) fn disjunction(args: &[Value]) -> Value
     ensures value { (a : Assignment) → value_of result ≡ head_value a or_head (map value_of args.now) }
 {
     match args {
+        [_, _, ..] => Value::Truth(is_one_true(args)),
         [only] => *only,
-        _ => Value::Truth(args.iter().any(is_true)),
+        [] => Value::Truth(false),
     }
+}
+
+/// Whether each argument is true.
+fn are_true(args: &[Value]) -> bool
+    ensures all { result ≡ list_all (λ v. is_true (value_of v)) args.now }
+{
+    args.iter().all(is_true)
+}
+
+/// Whether one argument is true.
+fn is_one_true(args: &[Value]) -> bool
+    ensures any { result ≡ list_any (λ v. is_true (value_of v)) args.now }
+{
+    args.iter().any(is_true)
 }
 
 /// Whether the first argument, and then the answer, differs from each next argument.
