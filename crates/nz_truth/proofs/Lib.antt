@@ -1,4 +1,5 @@
 pub mod Carrying
 pub mod Comparing
+pub mod Dividing
 pub mod Gathering
 pub mod Numbering
