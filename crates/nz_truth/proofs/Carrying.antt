@@ -7,9 +7,13 @@ use Rattle.nz_frac.specs.declared.frac.Op.TheVariants as op
 use Rattle.nz_frac.specs.declared.frac.Wide.{Wide}
 use Rattle.nz_spec.specs.Fraction.{Fraction, Operator, Sum, Difference, Product, Quotient, Operation, first_wide, is_wide, outcome, whole}
 use Rattle.std.proofs.Math.Seq.{drop-cons}
-use Rattle.nz_spec.specs.Operations.{operation_on, operations_by}
-use Rattle.nz_spec.specs.Term.{Value, carried_out, combined, number, number_of, is_undefined, is_zero, whole_number}
-use Rattle.nz_truth.specs.Outcomes.{IsCarriedOut, IsStopped}
+use Rattle.nz_spec.specs.Operations.{head_operations, operation_on, operations_by}
+use Rattle.nz_spec.specs.Term.{Assignment, Head, Value, carried_out, combined, head_value, number, number_of, is_undefined, is_zero, whole_number}
+use Rattle.nz_term.specs.declared.assign.Value as own
+use Rattle.nz_term.specs.Values.{value_of}
+use Rattle.nz_truth.specs.Outcomes.{IsCarriedOut, IsOutcomeOf, IsStopped}
+use Rattle.nz_truth.specs.declared.walk.Outcome.{Outcome}
+use Rattle.nz_truth.specs.declared.walk.Outcome.TheVariants as outcome
 
 -- the test of an operation that was carried out
 narrow : (b : Bool) → (false ≡ true ↔ IsTrue b) → b ≡ false
@@ -100,3 +104,16 @@ same_stop op v w ws r h =
 pub stop_here : (op : Operator) (v w : Value) (ws : List Value) (x : Wide) → IsStopped op (number_of v) (number_of w) x
     → first_wide (operations_by op v (w ∷ ws)) ≡ Some (operation_of x)
 stop_here op v w ws x h = first_wide-some (operation_on op (number_of v) (number_of w)) (operations_by op (carried_out op v w) ws) (operation_of x) h
+
+-- ---- What a head comes to
+
+-- the outcome is that of another head, which is the same
+pub of_head : (h k : Head) (a : Assignment) (vs : List Value) (o : Outcome) → h ≡ k → IsOutcomeOf (head_operations k vs) (head_value a k vs) o
+    → IsOutcomeOf (head_operations h vs) (head_value a h vs) o
+of_head h k a vs o e is = subst (λ x. IsOutcomeOf (head_operations x vs) (head_value a x vs) o) (sym e) is
+
+-- a head that takes no operation comes to its value
+pub plain : (h k : Head) (a : Assignment) (vs : List Value) (v : own.Value) → h ≡ k → head_operations k vs ≡ [] → value_of v ≡ head_value a k vs
+    → IsOutcomeOf (head_operations h vs) (head_value a h vs) (outcome.Value v)
+unfolding first_wide
+plain h k a vs v e none is = of_head h k a vs (outcome.Value v) e (ap first_wide none, is)

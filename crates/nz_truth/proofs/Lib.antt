@@ -2,4 +2,6 @@ pub mod Carrying
 pub mod Comparing
 pub mod Dividing
 pub mod Gathering
+pub mod Listing
 pub mod Numbering
+pub mod Walking

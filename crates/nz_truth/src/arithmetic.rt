@@ -50,8 +50,8 @@ pub(crate) fn difference(args: &[Value]) -> Outcome
     }
 }
 
-#[tactic(auto, unfolding(nz_spec::specs::Fraction::first_wide))]
 /// An operation of a value with each of the others, from the left, up to the first that leaves the numbers.
+#[tactic(auto, unfolding(nz_spec::specs::Fraction::first_wide))]
 fn operated_on(op: Op, first: &Value, others: &[Value]) -> Outcome
     ensures outcome { IsOutcomeOf (operations_by (operator_of op) (value_of first.now) (map value_of others.now)) (combined (carried_out (operator_of op)) (value_of first.now) (map value_of others.now)) result }
 {

@@ -1,11 +1,12 @@
 //! What a head comes to over the values of its arguments.
-ghost use Rattle.std.specs.Prelude.{◌≡◌, map};
+ghost use Rattle.std.specs.Prelude.{◌≡◌, [], map};
 ghost use Rattle.nz_spec.specs.Operations.{head_operations};
-ghost use Rattle.nz_spec.specs.Term.{Assignment, default_value, head_value};
+ghost use Rattle.nz_spec.specs.Term.{Assignment, are_chained, default_value, head_value, truth};
 ghost use Rattle.nz_term.specs.Constants.{sort_of};
 ghost use Rattle.nz_term.specs.Heads.{head_of};
 ghost use Rattle.nz_term.specs.Values.{value_of};
 ghost use Rattle.nz_truth.specs.Outcomes.{IsGiven, IsOutcomeOf};
+ghost use Rattle.nz_truth.specs.Relations.{relation_of};
 
 use crate::arithmetic::{difference, operated, whole_value};
 use crate::bools::{choice, conjunction, disjunction, exclusion, negation};
@@ -16,6 +17,7 @@ use nz_frac::Op;
 use nz_term::{Head, Sort, Value};
 
 /// What a head comes to; a constant and a number have the value that is given.
+#[tactic(auto, unfolding(nz_spec::specs::Fraction::first_wide))]
 pub(crate) fn outcome_over(head: &Head, given: Value, args: &[Value]) -> Outcome
     ensures outcome { (a : Assignment) → IsGiven a (head_of head.now) (value_of given) → IsOutcomeOf (head_operations (head_of head.now) (map value_of args.now)) (head_value a (head_of head.now) (map value_of args.now)) result }
 {
@@ -48,7 +50,10 @@ pub(crate) fn outcome_over(head: &Head, given: Value, args: &[Value]) -> Outcome
 }
 
 /// Whether each argument stands in the relation to the next.
-fn chain(relation: Relation, args: &[Value]) -> Outcome {
+#[tactic(auto, unfolding(nz_spec::specs::Fraction::first_wide))]
+fn chain(relation: Relation, args: &[Value]) -> Outcome
+    ensures outcome { IsOutcomeOf [] (truth (are_chained (relation_of relation) (map value_of args.now))) result }
+{
     Outcome::Value(Value::Truth(are_chained(relation, args)))
 }
 

@@ -1,5 +1,5 @@
 //! What terms come to, one after another, each behind its arguments.
-ghost use Rattle.std.specs.Prelude.{◌≡◌, ℕ, ◌<◌, length, All, IfOk, OnOk, slice_get, unwrap_or};
+ghost use Rattle.std.specs.Prelude.{◌≡◌, ℕ, ◌<◌, false, length, All, IfOk, OnOk, slice_get, unwrap_or};
 ghost use Rattle.nz_spec.specs.Term as spec;
 ghost use Rattle.nz_spec.specs.Term.{Assignment, apply, truth};
 ghost use Rattle.nz_spec.specs.Table.{Node, term_in, listed_value, assignment_by};
