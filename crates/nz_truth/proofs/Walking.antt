@@ -115,3 +115,23 @@ are_outcomes ns a os (k ∷ ks) h = (h.0, are_outcomes ns a os ks h.1)
 pub known_roots : (ns : List Node) (a : Assignment) (os : List Outcome) (roots : List ℕ) → AreEvaluated ns a roots os → AreKnown ns a roots os
 known_roots ns a os [] h = tt
 known_roots ns a os (r ∷ rs) h = (h r (0, omega arith, refl), known_roots ns a os rs (λ i m. h i (suc m.0, omega (arith, m.1), m.2)))
+
+-- ---- Lists of terms
+
+pub operations_listed : (a : Assignment) (f : ℕ → Term) (ks : List ℕ) → operations_in a (terms_at f ks) ≡ flat_map (λ k. operations_of a (f k)) ks
+operations_listed a f [] = refl
+operations_listed a f (k ∷ ks) = ap (λ xs. operations_of a (f k) ++ xs) (operations_listed a f ks)
+
+pub values_listed : (a : Assignment) (f : ℕ → Term) (ks : List ℕ) → values_of a (terms_at f ks) ≡ map (λ k. value_of a (f k)) ks
+values_listed a f [] = refl
+values_listed a f (k ∷ ks) = ap (λ vs. value_of a (f k) ∷ vs) (values_listed a f ks)
+
+-- the first operation of these terms that leaves the numbers
+pub roots_stop : (ns : List Node) (a : Assignment) (os : List Outcome) (roots : List ℕ) → AreEvaluated ns a roots os
+    → first_wide (flat_map (λ r. operations_of a (term_in ns r)) roots) ≡ option_map operation_of (first_stop (outcomes_at os roots))
+roots_stop ns a os roots h = ap first_wide (sym (operations_listed a (term_in ns) roots)) ∙ stop_is ns a os roots (known_roots ns a os roots h)
+
+-- their values, where none does
+pub roots_values : (ns : List Node) (a : Assignment) (os : List Outcome) (roots : List ℕ) → AreEvaluated ns a roots os → first_stop (outcomes_at os roots) ≡ None
+    → map own.value_of (values_in (outcomes_at os roots)) ≡ map (λ r. value_of a (term_in ns r)) roots
+roots_values ns a os roots h none = values_are ns a os roots (known_roots ns a os roots h) none ∙ values_listed a (term_in ns) roots
