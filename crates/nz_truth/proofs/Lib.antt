@@ -1,5 +1,6 @@
 pub mod Carrying
 pub mod Comparing
+pub mod Deciding
 pub mod Dividing
 pub mod Gathering
 pub mod Listing

@@ -73,7 +73,7 @@ one_above : (i j : ℕ) → (j == i) ≡ (suc j == suc i)
 one_above i j = grind (arith, nat_tests)
 
 -- one number alone is of a constant of a name
-named_once : (ns : List Node) → HasDistinctNames ns → (i : ℕ) (n : Node) (c : Constant) → slice_get ns i ≡ Some n → n.head ≡ constant c
+pub named_once : (ns : List Node) → HasDistinctNames ns → (i : ℕ) (n : Node) (c : Constant) → slice_get ns i ≡ Some n → n.head ≡ constant c
     → (j : ℕ) → is_named (slice_get ns j) c.name ≡ (j == i)
 named_once [] d i n c at e j = cc
 named_once (m ∷ ns) d zero n c at e zero =

@@ -10,7 +10,6 @@ ghost use Rattle.nz_term.specs.Heads.{head_of};
 ghost use Rattle.nz_truth.specs.Numbers.{AreNumbersOf};
 ghost use Rattle.nz_truth.specs.Truths.{GivesTruths, IsTold, does_arithmetic, is_truth_head, values_by};
 
-use nz_spec::table::term_of_node;
 use nz_term::{Head, Node, TermId, Terms};
 use std::alloc::{AllocError, Global};
 
@@ -32,7 +31,6 @@ pub fn evaluate(
     requires operators { All (λ i. does_arithmetic (term_in terms.now i) ≡ false) order.now }
     ensures truths { (a : Assignment) → GivesTruths terms.now decided.now a → GivesSorts a (constants_in_table terms.now) → (i : ℕ) → Contains order.now i → slice_index_or values.new i false ≡ is_true (value_of a (term_in terms.now i)) }
 {
-    term_of_node();
     decide(constants, decided, values);
     for id in order {
         values[*id] = node_truth(terms.node(*id), values[*id], values);
@@ -54,7 +52,7 @@ fn decide(constants: &[TermId], decided: &[bool], values: &mut [bool])
 fn node_truth(node: &Node, decided: bool, values: &[bool]) -> bool
     requires within { All (λ k. k < length values.now) node.now.kids }
     requires truths { is_truth_head (head_of node.now.head) ≡ true }
-    ensures truth { (a : Assignment) → IsTold a (head_of node.now.head) decided → truth result ≡ head_value a (head_of node.now.head) (values_by (λ k. slice_index_or values.now k false) node.now.kids) }
+    ensures value { (a : Assignment) → IsTold a (head_of node.now.head) decided → truth result ≡ head_value a (head_of node.now.head) (values_by (λ k. slice_index_or values.now k false) node.now.kids) }
 {
     let kids = node.kids.as_slice();
     match &node.head {
