@@ -1,5 +1,5 @@
 -- Comparisons of fractions, and chains of them.
-use Rattle.std.proofs.Common.{◌≡◌, ◌≤◌, ◌-◌, ◌*ℤ◌, Bool, true, false, List, [], ◌∷◌, length, length-drop, map, drop, ℕ, ℤ, pos, negsuc, Less, Equal, Greater, cond, refl, sym, ap, ◌∙◌, arith}
+use Rattle.std.proofs.Common.{◌≡◌, ◌≤◌, ◌-◌, ◌*ℤ◌, Bool, true, false, List, [], ◌∷◌, length, length-drop, map, drop, ℕ, ℤ, pos, negsuc, Less, Equal, Greater, cond, refl, arith}
 use Rattle.std.specs.Prelude.{int_lt, int_le, nat_lt, nat_le}
 use Rattle.std.specs.Ordering.{int_cmp, is_lt, is_le}
 use Rattle.std.proofs.lemmas.Bool.Decides.{nat_tests}

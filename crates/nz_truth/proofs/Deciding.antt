@@ -1,16 +1,15 @@
 -- The truth of terms that hold no number, node by node.
-use Rattle.std.proofs.Common.{◌≡◌, inl, inr, ℕ, zero, suc, ◌+◌, ◌<◌, ◌≤◌, ◌&&◌, ◌||◌, ◌==◌, Bool, true, false, not, nat_lt, nat_eq, List, [], ◌∷◌, ◌++◌, length, map, take, drop, get_or, set, Option, Some, None, slice_get, slice_index_or, pos, refl, sym, ap, subst, ◌∙◌, true≢false, arith, add-one, append_assoc, append-nil, get_or-set_same, get_or-set_other, eqb-true}
-use Rattle.std.specs.Prelude.{All, Contains}
+use Rattle.std.proofs.Common.{◌≡◌, inl, inr, ℕ, suc, ◌+◌, ◌<◌, ◌&&◌, ◌||◌, Bool, true, false, not, nat_lt, nat_eq, List, [], ◌∷◌, ◌++◌, length, map, take, drop, get_or, set, Option, Some, None, slice_get, slice_index_or, refl, sym, ap, subst, ◌∙◌, true≢false, arith, add-one, get_or-set_same, get_or-set_other, eqb-true}
+use Rattle.std.specs.Prelude.{Contains}
 use Rattle.std.specs.Bool.{beq}
 use Rattle.std.specs.List.{list_all, list_any, AllByRecursion}
 use Rattle.std.proofs.Math.Seq.{drop-cons}
 use Rattle.std.proofs.lemmas.Bool.Decides.{eqb_tells, nat_tests}
-use Rattle.std.proofs.lemmas.List.{length-map}
-use Rattle.std.proofs.lemmas.List.Elements.{All-from_recursion, Contains-push_cases, recursion_from_All}
+use Rattle.std.proofs.lemmas.List.Elements.{Contains-push_cases, recursion_from_All}
 use Rattle.std.proofs.lemmas.Option.{slice_get_within}
 use Rattle.std.proofs.lemmas.Slice.Eq.{bytes_eq-Decides}
-use Rattle.nz_spec.specs.Fraction.{denominator, floor, floor_div, fraction_eq, fraction_le, fraction_lt, whole}
-use Rattle.nz_spec.specs.Term.{Assignment, Constant, Head, Sort, Term, Value, all_true, apply, are_chained, are_equal, bool_sort, combined, constant, excluded, head_sort, head_value, holds_number, hold_number, int_sort, integer_of, is_at_most, is_bool, is_int, is_less, is_true, IsOfSort, number, real_sort, some_true, truth, value_of, values_of}
+use Rattle.nz_spec.specs.Fraction.{denominator, floor, floor_div, fraction_eq, fraction_le, fraction_lt}
+use Rattle.nz_spec.specs.Term.{Assignment, Constant, Head, Sort, Value, all_true, apply, are_chained, are_equal, bool_sort, combined, constant, excluded, head_sort, head_value, holds_number, hold_number, int_sort, is_at_most, is_bool, is_int, is_less, is_true, IsOfSort, number, real_sort, some_true, truth, value_of, values_of}
 use Rattle.nz_spec.specs.Table.{Node, is_named, term_in, terms_at}
 use Rattle.nz_spec.specs.Decide.{HasDistinctNames, constants_in_table, constants_of_head}
 use Rattle.nz_spec.specs.Order.{ComeBehindArguments}

@@ -1,5 +1,5 @@
 -- Values that are gathered into one.
-use Rattle.std.proofs.Common.{◌≡◌, ◌≢◌, suc, Bool, List, [], ◌∷◌, length, map, refl, ap, ◌∙◌, arith}
+use Rattle.std.proofs.Common.{◌≡◌, ◌≢◌, Bool, List, [], ◌∷◌, length, map, refl, ap, ◌∙◌}
 use Rattle.std.specs.List.{list_all, list_any}
 use Rattle.nz_spec.specs.Term.{truth, is_true, all_true, some_true}
 use Rattle.nz_term.specs.declared.assign.Value.{Value}

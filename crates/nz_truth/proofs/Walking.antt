@@ -1,6 +1,6 @@
 -- What terms come to along a list in which each comes behind its arguments.
-use Rattle.std.proofs.Common.{◌≡◌, inl, inr, ℕ, suc, ◌<◌, List, [], ◌∷◌, ◌++◌, length, map, take, set, get_or, Option, Some, None, option_map, slice_get, refl, sym, ap, subst, ◌∙◌, arith, get_or-set_same, get_or-set_other}
-use Rattle.std.specs.Prelude.{All, Contains, flat_map, unwrap_or, false}
+use Rattle.std.proofs.Common.{◌≡◌, inl, inr, ℕ, suc, ◌<◌, List, [], ◌∷◌, ◌++◌, length, map, take, set, get_or, Some, None, option_map, slice_get, refl, sym, ap, subst, ◌∙◌, arith, get_or-set_same, get_or-set_other}
+use Rattle.std.specs.Prelude.{flat_map, unwrap_or, false}
 use Rattle.std.specs.List.{AllByRecursion}
 use Rattle.std.proofs.lemmas.Bool.Decides.{eqb_tells}
 use Rattle.std.proofs.lemmas.List.Elements.{Contains-push_cases, recursion_from_All}
@@ -8,7 +8,7 @@ use Rattle.std.proofs.lemmas.Option.{slice_get_within}
 use Rattle.nz_spec.specs.Fraction.{Operation, first_wide}
 use Rattle.nz_spec.specs.Operations.{head_operations, operations_in, operations_of}
 use Rattle.nz_spec.specs.Term as spec
-use Rattle.nz_spec.specs.Term.{Constant, constant, Head, Term, apply, Assignment, head_value, truth, value_of, values_of}
+use Rattle.nz_spec.specs.Term.{Head, Term, apply, Assignment, head_value, truth, value_of, values_of}
 use Rattle.nz_spec.specs.Table.{Node, AssignsByNumber, assignment_by, listed_value, term_in, terms_at}
 use Rattle.nz_spec.specs.Decide.{HasDistinctNames}
 use Rattle.nz_spec.specs.Order.{ComeBehindArguments}

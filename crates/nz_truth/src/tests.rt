@@ -222,9 +222,7 @@ fn is_truth(outcome: &Outcome, expected: bool) -> bool {
 // Whether this is an operation on M and this number.
 fn is_wide(stop: &Option<Wide>, op: Op, right: i128) -> bool {
     match stop {
-        Some(wide) => {
-            wide.op == op && wide.a.num() == GREATEST as i128 && wide.b.num() == right
-        }
+        Some(wide) => { wide.op == op && wide.a.num() == GREATEST as i128 && wide.b.num() == right }
         None => false,
     }
 }

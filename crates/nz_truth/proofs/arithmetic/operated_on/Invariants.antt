@@ -10,9 +10,9 @@ use Rattle.nz_truth.proofs.arithmetic.operated_on.Given as goal
 abbrev pub invariant-loop-other : goal.invariant-loop-other
 invariant-loop-other l = record {
   value :
-    combined (carried_out (operator_of l.op)) (value_of l.value) (map value_of (drop l.other-index l.others))
-    ≡ combined (carried_out (operator_of l.op)) (value_of l.first) (map value_of l.others);
+      combined (carried_out (operator_of l.op)) (value_of l.value) (map value_of (drop l.other-index l.others))
+      ≡ combined (carried_out (operator_of l.op)) (value_of l.first) (map value_of l.others);
   stop :
-    first_wide (operations_by (operator_of l.op) (value_of l.value) (map value_of (drop l.other-index l.others)))
-    ≡ first_wide (operations_by (operator_of l.op) (value_of l.first) (map value_of l.others));
+      first_wide (operations_by (operator_of l.op) (value_of l.value) (map value_of (drop l.other-index l.others)))
+      ≡ first_wide (operations_by (operator_of l.op) (value_of l.first) (map value_of l.others));
 }

@@ -19,31 +19,31 @@ returns-in-Ite c = record {
 }
 
 pub returns-in-Not : goal.returns-in-Not
-returns-in-Not c = record { outcome = λ a given. plain (head_of c.args.head.now) negation a (map value_of c.args.args.now) c.negation.result (ap head_of c.in-Not.is) refl (c.negation.ensures.value a); }
+returns-in-Not c = record { outcome = λ a given. plain (head_of c.args.head.now) negation a (map value_of c.args.args.now) c.negation.result (ap head_of c.in-Not.is) refl (c.negation.ensures.value a) }
 
 pub returns-in-And : goal.returns-in-And
-returns-in-And c = record { outcome = λ a given. plain (head_of c.args.head.now) conjunction a (map value_of c.args.args.now) c.conjunction.result (ap head_of c.in-And.is) refl (c.conjunction.ensures.value a); }
+returns-in-And c = record { outcome = λ a given. plain (head_of c.args.head.now) conjunction a (map value_of c.args.args.now) c.conjunction.result (ap head_of c.in-And.is) refl (c.conjunction.ensures.value a) }
 
 pub returns-in-Or : goal.returns-in-Or
-returns-in-Or c = record { outcome = λ a given. plain (head_of c.args.head.now) disjunction a (map value_of c.args.args.now) c.disjunction.result (ap head_of c.in-Or.is) refl (c.disjunction.ensures.value a); }
+returns-in-Or c = record { outcome = λ a given. plain (head_of c.args.head.now) disjunction a (map value_of c.args.args.now) c.disjunction.result (ap head_of c.in-Or.is) refl (c.disjunction.ensures.value a) }
 
 pub returns-in-Xor : goal.returns-in-Xor
-returns-in-Xor c = record { outcome = λ a given. plain (head_of c.args.head.now) exclusion a (map value_of c.args.args.now) c.exclusion.result (ap head_of c.in-Xor.is) refl (c.exclusion.ensures.value a); }
+returns-in-Xor c = record { outcome = λ a given. plain (head_of c.args.head.now) exclusion a (map value_of c.args.args.now) c.exclusion.result (ap head_of c.in-Xor.is) refl (c.exclusion.ensures.value a) }
 
 pub returns-in-Div : goal.returns-in-Div
-returns-in-Div c = record { outcome = λ a given. plain (head_of c.args.head.now) integer_quotient a (map value_of c.args.args.now) c.quotient.result (ap head_of c.in-Div.is) refl (c.quotient.ensures.value a); }
+returns-in-Div c = record { outcome = λ a given. plain (head_of c.args.head.now) integer_quotient a (map value_of c.args.args.now) c.quotient.result (ap head_of c.in-Div.is) refl (c.quotient.ensures.value a) }
 
 pub returns-in-Mod : goal.returns-in-Mod
-returns-in-Mod c = record { outcome = λ a given. plain (head_of c.args.head.now) modulus a (map value_of c.args.args.now) c.remainder.result (ap head_of c.in-Mod.is) refl (c.remainder.ensures.value a); }
+returns-in-Mod c = record { outcome = λ a given. plain (head_of c.args.head.now) modulus a (map value_of c.args.args.now) c.remainder.result (ap head_of c.in-Mod.is) refl (c.remainder.ensures.value a) }
 
 pub returns-in-Abs : goal.returns-in-Abs
-returns-in-Abs c = record { outcome = λ a given. plain (head_of c.args.head.now) magnitude a (map value_of c.args.args.now) c.magnitude.result (ap head_of c.in-Abs.is) refl (c.magnitude.ensures.value a); }
+returns-in-Abs c = record { outcome = λ a given. plain (head_of c.args.head.now) magnitude a (map value_of c.args.args.now) c.magnitude.result (ap head_of c.in-Abs.is) refl (c.magnitude.ensures.value a) }
 
 pub returns-in-ToReal : goal.returns-in-ToReal
-returns-in-ToReal c = record { outcome = λ a given. plain (head_of c.args.head.now) to_real a (map value_of c.args.args.now) c.to_real.result (ap head_of c.in-ToReal.is) refl (c.to_real.ensures.value a); }
+returns-in-ToReal c = record { outcome = λ a given. plain (head_of c.args.head.now) to_real a (map value_of c.args.args.now) c.to_real.result (ap head_of c.in-ToReal.is) refl (c.to_real.ensures.value a) }
 
 pub returns-in-ToInt : goal.returns-in-ToInt
-returns-in-ToInt c = record { outcome = λ a given. plain (head_of c.args.head.now) to_int a (map value_of c.args.args.now) c.to_int.result (ap head_of c.in-ToInt.is) refl (c.to_int.ensures.value a); }
+returns-in-ToInt c = record { outcome = λ a given. plain (head_of c.args.head.now) to_int a (map value_of c.args.args.now) c.to_int.result (ap head_of c.in-ToInt.is) refl (c.to_int.ensures.value a) }
 
 pub returns-in-IsInt : goal.returns-in-IsInt
-returns-in-IsInt c = record { outcome = λ a given. plain (head_of c.args.head.now) is_int a (map value_of c.args.args.now) c.is_int.result (ap head_of c.in-IsInt.is) refl (c.is_int.ensures.value a); }
+returns-in-IsInt c = record { outcome = λ a given. plain (head_of c.args.head.now) is_int a (map value_of c.args.args.now) c.is_int.result (ap head_of c.in-IsInt.is) refl (c.is_int.ensures.value a) }

@@ -1,5 +1,5 @@
 -- A remainder is below its divisor, so it is a number.
-use Rattle.std.proofs.Common.{◌≡◌, ◌≢◌, ◌≤◌, ◌<◌, ℤ, pos, unsigned_abs, to_z, of_z, sym, ap, subst, ◌∙◌, arith}
+use Rattle.std.proofs.Common.{◌≡◌, ◌≢◌, ◌≤◌, ◌<◌, ℤ, pos, unsigned_abs, to_z, of_z, ap, subst, ◌∙◌, arith}
 use Rattle.std.specs.Int.{int_rem_euclid, w128}
 use Rattle.nz_spec.specs.Fraction.{largest}
 use Rattle.nz_frac.proofs.PartLemmas.{cast-back}

@@ -1,10 +1,10 @@
 -- The constants first, and then one term after another.
-use Rattle.std.proofs.Common.{◌≡◌, ◌<◌, ℕ, Bool, false, List, length, set, take, get_or, slice_get, slice_index_or, Some, refl, sym, ap, subst, ◌∙◌, arith, length-set}
-use Rattle.std.specs.Prelude.{All, Contains}
+use Rattle.std.proofs.Common.{◌≡◌, ◌<◌, length, set, take, get_or, slice_get, Some, refl, sym, ap, subst, ◌∙◌, arith, length-set}
+use Rattle.std.specs.Prelude.{Contains}
 use Rattle.std.proofs.lemmas.List.{take_all, take_more}
 use Rattle.std.proofs.lemmas.List.Elements.{All-from_recursion}
 use Rattle.std.proofs.lemmas.Option.{slice_get-get_or}
-use Rattle.nz_spec.specs.Term.{Assignment, is_true}
+use Rattle.nz_spec.specs.Term.{is_true}
 use Rattle.nz_spec.specs.Decide.{constants_in_table}
 use Rattle.nz_term.specs.Nodes.{node_of}
 use Rattle.nz_truth.proofs.Deciding.{IsWalked, before_all, decided_is, is_told, node_is, numbers_within, one_more, told_at, truth_head}

@@ -1,9 +1,9 @@
 -- The roots have values, or one of their operations is the first to leave the numbers.
-use Rattle.std.proofs.Common.{◌≡◌, List, map, None, option_map, sym, ap, subst, ◌∙◌}
+use Rattle.std.proofs.Common.{map, option_map, sym, ap, subst, ◌∙◌}
 use Rattle.nz_spec.specs.Table.{assignment_by}
 use Rattle.nz_frac.specs.Operations.{operation_of}
 use Rattle.nz_term.specs.Values.{value_of}
-use Rattle.nz_truth.specs.Outcomes.{AreEvaluated, first_stop, outcomes_at}
+use Rattle.nz_truth.specs.Outcomes.{AreEvaluated}
 use Rattle.nz_truth.proofs.Walking.{roots_stop, roots_values}
 use Rattle.nz_truth.proofs.value.eval.Goals as goal
 

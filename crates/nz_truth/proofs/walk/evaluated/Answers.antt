@@ -1,5 +1,5 @@
 -- One term after another, and so the roots in the end.
-use Rattle.std.proofs.Common.{◌≡◌, ◌<◌, length, set, get_or, slice_get, Some, sym, ap, subst, ◌∙◌, arith, length-set}
+use Rattle.std.proofs.Common.{◌≡◌, ◌<◌, length, set, get_or, slice_get, Some, sym, subst, ◌∙◌, arith, length-set}
 use Rattle.std.specs.Prelude.{All, Contains}
 use Rattle.std.proofs.lemmas.List.{take_all, take_more}
 use Rattle.std.proofs.lemmas.Option.{slice_get-get_or}

@@ -1,5 +1,5 @@
 -- A node with an argument that has no value, and one without.
-use Rattle.std.proofs.Common.{◌≡◌, List, Some, None, Option, map, refl, sym, ap, subst, ◌∙◌}
+use Rattle.std.proofs.Common.{◌≡◌, List, Some, map, sym, ap, subst, ◌∙◌}
 use Rattle.nz_spec.specs.Operations.{head_operations}
 use Rattle.nz_spec.specs.Term.{head_value}
 use Rattle.nz_spec.specs.Table.{term_in, terms_at}
@@ -15,7 +15,7 @@ returns-in-Some c =
     let n = node_of c.node-node.result.now in
     let os = c.args.outcomes.now in
     let stop : Some c.in-Some.wide ≡ first_stop (outcomes_at os n.kids) = sym c.in-Some.is ∙ c.in_ok-wide.ensures.stop ∙ ap (λ l. first_stop (outcomes_at os l)) c.as_slice.ensures.ids in
-    record { outcome = λ a given known. stopped_node c.args.terms.now a os c.args.id n.head n.kids c.node-node.ensures.term (known n c.node-node.ensures.node) c.in-Some.wide stop; }
+    record { outcome = λ a given known. stopped_node c.args.terms.now a os c.args.id n.head n.kids c.node-node.ensures.term (known n c.node-node.ensures.node) c.in-Some.wide stop }
 
 pub returns-in-None : goal.returns-in-None
 returns-in-None c =

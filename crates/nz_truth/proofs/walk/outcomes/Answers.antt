@@ -1,5 +1,5 @@
 -- The roots are among the terms that were evaluated.
-use Rattle.std.proofs.Common.{◌≡◌, sym, ap, subst, ◌∙◌}
+use Rattle.std.proofs.Common.{sym, ap, subst, ◌∙◌}
 use Rattle.nz_spec.specs.Table.{assignment_by}
 use Rattle.nz_truth.specs.Outcomes.{AreOutcomes, outcomes_at}
 use Rattle.nz_truth.proofs.Walking.{are_outcomes, known_roots}
@@ -12,4 +12,4 @@ returns c =
     let roots = c.args.roots.now in
     let os = c.in_ok-evaluated.evaluated.items in
     let found = c.in_ok-outcomes_at.ensures.outcomes ∙ ap (λ l. outcomes_at l roots) c.deref.ensures.value in
-    record { outcomes = subst (AreOutcomes ns a roots) (sym found) (are_outcomes ns a os roots (known_roots ns a os roots c.in_ok-evaluated.ensures.roots)); }
+    record { outcomes = subst (AreOutcomes ns a roots) (sym found) (are_outcomes ns a os roots (known_roots ns a os roots c.in_ok-evaluated.ensures.roots)) }
