@@ -16,6 +16,14 @@ use std::test::Fail;
 // M, the greatest number.
 const GREATEST: u128 = 170141183460469231731687303715884105727;
 
+// A table without terms.
+fn empty(alloc: Global) -> Result<Terms, Memory>
+    ensures names { IfOk result HasDistinctNames }
+{
+    let terms = Terms::new(alloc)?;
+    Ok(terms)
+}
+
 // A table of the constant p alone, and its number.
 fn one_constant(alloc: Global) -> Result<(Terms, TermId), Memory>
     ensures names { IfOk result (λ t. HasDistinctNames t.0) }
@@ -73,7 +81,7 @@ fn doublings(alloc: Global, count: usize) -> Result<(Terms, TermId), Memory>
     ensures names { IfOk result (λ t. HasDistinctNames t.0) }
     ensures within { IfOk result (λ t. t.1 < length t.0) }
 {
-    let mut terms = Terms::new(alloc)?;
+    let mut terms = empty(alloc)?;
     let mut last = operation(&mut terms, Head::Integer(1), &[])?;
     for _ in 0..count {
         last = operation(&mut terms, Head::Sum(Sort::Int), &[last, last])?;
@@ -95,36 +103,51 @@ fn integer(terms: &mut Terms, n: i64) -> Result<TermId, Memory>
     }
 }
 
-// What an operator over two integers comes to.
-fn of_integers(alloc: Global, head: Head, m: i64, n: i64) -> Result<Outcome, Memory>
+// Whether an operator over two integers comes to the integer that is expected.
+fn is_of_integers(alloc: Global, head: Head, m: i64, n: i64, expected: i128) -> Result<bool, Memory>
     requires operator { constants_of_head (head_of head) ≡ [] }
     requires fits { IsTrue (head_fits (head_of head)) }
 {
-    let mut terms = Terms::new(alloc)?;
+    let mut terms = empty(alloc)?;
     let left = integer(&mut terms, m)?;
     let right = integer(&mut terms, n)?;
     let id = operation(&mut terms, head, &[left, right])?;
-    outcome(alloc, &terms, id)
+    comes_to(alloc, &terms, id, expected)
 }
 
-// What an operator over the quotient of two integers comes to.
-fn of_quotient(alloc: Global, head: Head, m: i64, n: i64) -> Result<Outcome, Memory>
+// The term of an operator over the quotient of two integers.
+fn of_quotient(alloc: Global, head: Head, m: i64, n: i64) -> Result<(Terms, TermId), Memory>
     requires operator { constants_of_head (head_of head) ≡ [] }
     requires fits { IsTrue (head_fits (head_of head)) }
+    ensures names { IfOk result (λ t. HasDistinctNames t.0) }
+    ensures within { IfOk result (λ t. t.1 < length t.0) }
 {
-    let mut terms = Terms::new(alloc)?;
+    let mut terms = empty(alloc)?;
     let left = integer(&mut terms, m)?;
     let right = integer(&mut terms, n)?;
     let quotient = operation(&mut terms, Head::Quotient, &[left, right])?;
     let id = operation(&mut terms, head, &[quotient])?;
-    outcome(alloc, &terms, id)
+    Ok((terms, id))
+}
+
+// Whether `to_int` of the quotient of two integers comes to the integer that is expected.
+fn rounds_to(alloc: Global, m: i64, n: i64, expected: i128) -> Result<bool, Memory> {
+    let (terms, id) = of_quotient(alloc, Head::ToInt, m, n)?;
+    comes_to(alloc, &terms, id, expected)
+}
+
+// Whether `is_int` of the quotient of two integers comes to the truth that is expected.
+fn is_whole(alloc: Global, m: i64, n: i64, expected: bool) -> Result<bool, Memory> {
+    let (terms, id) = of_quotient(alloc, Head::IsInt, m, n)?;
+    let values = evaluated(alloc, &terms, &[id], &[])?;
+    Ok(are(&values, &[expected]))
 }
 
 // The table of M, 1, `(+ M 1)`, `(* M M)`, `(= 1 1)`, and `(ite (= 1 1) 1 (+ M 1))`, in this order.
 fn wide_operations(alloc: Global) -> Result<Terms, Memory>
     ensures names { IfOk result HasDistinctNames }
 {
-    let mut terms = Terms::new(alloc)?;
+    let mut terms = empty(alloc)?;
     let most = operation(&mut terms, Head::Integer(GREATEST), &[])?;
     let one = operation(&mut terms, Head::Integer(1), &[])?;
     let sum = operation(&mut terms, Head::Sum(Sort::Int), &[most, one])?;
@@ -174,16 +197,16 @@ fn stop(alloc: Global, terms: &Terms, roots: &[TermId]) -> Result<Option<Wide>, 
     }
 }
 
-// What a term comes to where nothing is assigned.
-fn outcome(alloc: Global, terms: &Terms, root: TermId) -> Result<Outcome, Memory>
+// Whether a term comes to the integer that is expected, where nothing is assigned.
+fn comes_to(alloc: Global, terms: &Terms, root: TermId, expected: i128) -> Result<bool, Memory>
     requires known { root < length terms.now }
     requires names { HasDistinctNames terms.now }
 {
     let assign = Assign::new(alloc)?;
     let found = outcomes(alloc, terms, &[root], &assign)?;
     match found.first() {
-        Some(outcome) => Ok(*outcome),
-        None => Err(Memory),
+        Some(outcome) => Ok(is(outcome, expected)),
+        None => Ok(false),
     }
 }
 
@@ -207,14 +230,6 @@ fn are_truths(values: &[Value], expected: &[bool]) -> bool {
 fn is(outcome: &Outcome, expected: i128) -> bool {
     match outcome {
         Outcome::Value(Value::Number(number)) => number.num() == expected && number.den() == 1,
-        _ => false,
-    }
-}
-
-// Whether this is the truth that is expected.
-fn is_truth(outcome: &Outcome, expected: bool) -> bool {
-    match outcome {
-        Outcome::Value(Value::Truth(truth)) => *truth == expected,
         _ => false,
     }
 }
@@ -274,61 +289,66 @@ fn a_long_chain_is_evaluated(rt: HostRuntime) -> Result<(), Fail> {
 #[test]
 fn shared_sums_are_evaluated_once(rt: HostRuntime) -> Result<(), Fail> {
     let (terms, last) = doublings(rt.alloc(), 100)?;
-    let found = outcome(rt.alloc(), &terms, last)?;
-    assert!(rt; is(&found, 1_267_650_600_228_229_401_496_703_205_376));
+    let is_power = comes_to(
+        rt.alloc(),
+        &terms,
+        last,
+        1_267_650_600_228_229_401_496_703_205_376,
+    )?;
+    assert!(rt; is_power);
     Ok(())
 }
 
 #[test]
 fn div_leaves_no_remainder_below_zero(rt: HostRuntime) -> Result<(), Fail> {
-    let above = of_integers(rt.alloc(), Head::Div, 7, 2)?;
-    assert!(rt; is(&above, 3));
-    let left = of_integers(rt.alloc(), Head::Div, -7, 2)?;
-    assert!(rt; is(&left, -4));
-    let right = of_integers(rt.alloc(), Head::Div, 7, -2)?;
-    assert!(rt; is(&right, -3));
-    let both = of_integers(rt.alloc(), Head::Div, -7, -2)?;
-    assert!(rt; is(&both, 4));
+    let above = is_of_integers(rt.alloc(), Head::Div, 7, 2, 3)?;
+    assert!(rt; above);
+    let left = is_of_integers(rt.alloc(), Head::Div, -7, 2, -4)?;
+    assert!(rt; left);
+    let right = is_of_integers(rt.alloc(), Head::Div, 7, -2, -3)?;
+    assert!(rt; right);
+    let both = is_of_integers(rt.alloc(), Head::Div, -7, -2, 4)?;
+    assert!(rt; both);
     Ok(())
 }
 
 #[test]
 fn mod_is_never_below_zero(rt: HostRuntime) -> Result<(), Fail> {
-    let left = of_integers(rt.alloc(), Head::Mod, -7, 3)?;
-    assert!(rt; is(&left, 2));
-    let right = of_integers(rt.alloc(), Head::Mod, 7, -3)?;
-    assert!(rt; is(&right, 1));
-    let both = of_integers(rt.alloc(), Head::Mod, -7, -3)?;
-    assert!(rt; is(&both, 2));
+    let left = is_of_integers(rt.alloc(), Head::Mod, -7, 3, 2)?;
+    assert!(rt; left);
+    let right = is_of_integers(rt.alloc(), Head::Mod, 7, -3, 1)?;
+    assert!(rt; right);
+    let both = is_of_integers(rt.alloc(), Head::Mod, -7, -3, 2)?;
+    assert!(rt; both);
     Ok(())
 }
 
 #[test]
 fn by_zero_the_definition_is_computed(rt: HostRuntime) -> Result<(), Fail> {
-    let div = of_integers(rt.alloc(), Head::Div, -7, 0)?;
-    assert!(rt; is(&div, -1));
-    let rest = of_integers(rt.alloc(), Head::Mod, -7, 0)?;
-    assert!(rt; is(&rest, -7));
-    let quotient = of_integers(rt.alloc(), Head::Quotient, -7, 0)?;
-    assert!(rt; is(&quotient, 0));
+    let div = is_of_integers(rt.alloc(), Head::Div, -7, 0, -1)?;
+    assert!(rt; div);
+    let rest = is_of_integers(rt.alloc(), Head::Mod, -7, 0, -7)?;
+    assert!(rt; rest);
+    let quotient = is_of_integers(rt.alloc(), Head::Quotient, -7, 0, 0)?;
+    assert!(rt; quotient);
     Ok(())
 }
 
 #[test]
 fn to_int_rounds_down(rt: HostRuntime) -> Result<(), Fail> {
-    let below = of_quotient(rt.alloc(), Head::ToInt, -1, 2)?;
-    assert!(rt; is(&below, -1));
-    let above = of_quotient(rt.alloc(), Head::ToInt, 5, 3)?;
-    assert!(rt; is(&above, 1));
+    let below = rounds_to(rt.alloc(), -1, 2, -1)?;
+    assert!(rt; below);
+    let above = rounds_to(rt.alloc(), 5, 3, 1)?;
+    assert!(rt; above);
     Ok(())
 }
 
 #[test]
 fn integers_are_told_from_fractions(rt: HostRuntime) -> Result<(), Fail> {
-    let whole = of_quotient(rt.alloc(), Head::IsInt, 6, 3)?;
-    assert!(rt; is_truth(&whole, true));
-    let half = of_quotient(rt.alloc(), Head::IsInt, -1, 2)?;
-    assert!(rt; is_truth(&half, false));
+    let whole = is_whole(rt.alloc(), 6, 3, true)?;
+    assert!(rt; whole);
+    let half = is_whole(rt.alloc(), -1, 2, false)?;
+    assert!(rt; half);
     Ok(())
 }
 
