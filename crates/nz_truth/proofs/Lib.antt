@@ -1,4 +1,8 @@
-pub mod Assigned
-pub mod Evaluated
-pub mod Evaluation
+pub mod Carrying
+pub mod Comparing
+pub mod Deciding
+pub mod Dividing
+pub mod Gathering
+pub mod Listing
 pub mod Numbering
+pub mod Walking

@@ -1,14 +1,28 @@
-//! Values of terms: of each kind of operator, of roots that share terms, and where pairs are missing or too many.
-ghost use Rattle.std.specs.Prelude.{◌≡◌, ◌<◌, ◌≤◌, [], ◌∷◌, length, IfOk, OnOk};
+//! Values of terms: of each kind of operator, of roots that share terms, where pairs are missing or too many, and at the
+//! edges of the numbers.
+ghost use Rattle.std.specs.Prelude.{◌≡◌, ◌<◌, ◌≤◌, [], length, IfOk, IsTrue, OnOk};
 ghost use Rattle.std.specs.List.{AllByRecursion};
 ghost use Rattle.nz_spec.specs.Decide.{constants_of_head, HasDistinctNames};
+ghost use Rattle.nz_spec.specs.Term.{head_fits};
 ghost use Rattle.nz_term.specs.Heads.{head_of};
 
-use crate::{EvalStop, Values, eval};
+use crate::{EvalStop, Outcome, Values, eval, outcomes};
 use nz_base::{Memory, Text};
+use nz_frac::{Op, Wide};
 use nz_term::{Assign, Constant, Head, Sort, TermId, Terms, Value};
 use std::alloc::Global;
 use std::test::Fail;
+
+// M, the greatest number.
+const GREATEST: u128 = 170141183460469231731687303715884105727;
+
+// A table without terms.
+fn empty(alloc: Global) -> Result<Terms, Memory>
+    ensures names { IfOk result HasDistinctNames }
+{
+    let terms = Terms::new(alloc)?;
+    Ok(terms)
+}
 
 // A table of the constant p alone, and its number.
 fn one_constant(alloc: Global) -> Result<(Terms, TermId), Memory>
@@ -28,6 +42,7 @@ fn one_constant(alloc: Global) -> Result<(Terms, TermId), Memory>
 fn operation(terms: &mut Terms, head: Head, kids: &[TermId]) -> Result<TermId, Memory>
     requires known { AllByRecursion (λ k. k < length terms.old) kids.now }
     requires operator { constants_of_head (head_of head) ≡ [] }
+    requires fits { IsTrue (head_fits (head_of head)) }
     ensures names { OnOk result (HasDistinctNames terms.old → HasDistinctNames terms.new) }
     ensures longer { OnOk result (length terms.old ≤ length terms.new) }
     ensures within { IfOk result (λ id. id < length terms.new) }
@@ -44,7 +59,7 @@ fn operations(alloc: Global) -> Result<Terms, Memory>
     let not_p = operation(&mut terms, Head::Not, &[p])?;
     operation(&mut terms, Head::Or, &[p, not_p])?;
     operation(&mut terms, Head::And, &[p, not_p])?;
-    operation(&mut terms, Head::Ite, &[p, not_p, p])?;
+    operation(&mut terms, Head::Ite(Sort::Bool), &[p, not_p, p])?;
     operation(&mut terms, Head::Equal, &[p, not_p])?;
     Ok(terms)
 }
@@ -61,6 +76,87 @@ fn negations(alloc: Global, count: usize) -> Result<(Terms, TermId), Memory>
     Ok((terms, last))
 }
 
+// The sum of a sum .. of 1 with itself, and its number.
+fn doublings(alloc: Global, count: usize) -> Result<(Terms, TermId), Memory>
+    ensures names { IfOk result (λ t. HasDistinctNames t.0) }
+    ensures within { IfOk result (λ t. t.1 < length t.0) }
+{
+    let mut terms = empty(alloc)?;
+    let mut last = operation(&mut terms, Head::Integer(1), &[])?;
+    for _ in 0..count {
+        last = operation(&mut terms, Head::Sum(Sort::Int), &[last, last])?;
+    }
+    Ok((terms, last))
+}
+
+// The term of an integer.
+fn integer(terms: &mut Terms, n: i64) -> Result<TermId, Memory>
+    ensures names { OnOk result (HasDistinctNames terms.old → HasDistinctNames terms.new) }
+    ensures longer { OnOk result (length terms.old ≤ length terms.new) }
+    ensures within { IfOk result (λ id. id < length terms.new) }
+{
+    let size = operation(terms, Head::Integer(n.unsigned_abs() as u128), &[])?;
+    if n < 0 {
+        operation(terms, Head::Difference(Sort::Int), &[size])
+    } else {
+        Ok(size)
+    }
+}
+
+// Whether an operator over two integers comes to the integer that is expected.
+fn is_of_integers(alloc: Global, head: Head, m: i64, n: i64, expected: i128) -> Result<bool, Memory>
+    requires operator { constants_of_head (head_of head) ≡ [] }
+    requires fits { IsTrue (head_fits (head_of head)) }
+{
+    let mut terms = empty(alloc)?;
+    let left = integer(&mut terms, m)?;
+    let right = integer(&mut terms, n)?;
+    let id = operation(&mut terms, head, &[left, right])?;
+    comes_to(alloc, &terms, id, expected)
+}
+
+// The term of an operator over the quotient of two integers.
+fn of_quotient(alloc: Global, head: Head, m: i64, n: i64) -> Result<(Terms, TermId), Memory>
+    requires operator { constants_of_head (head_of head) ≡ [] }
+    requires fits { IsTrue (head_fits (head_of head)) }
+    ensures names { IfOk result (λ t. HasDistinctNames t.0) }
+    ensures within { IfOk result (λ t. t.1 < length t.0) }
+{
+    let mut terms = empty(alloc)?;
+    let left = integer(&mut terms, m)?;
+    let right = integer(&mut terms, n)?;
+    let quotient = operation(&mut terms, Head::Quotient, &[left, right])?;
+    let id = operation(&mut terms, head, &[quotient])?;
+    Ok((terms, id))
+}
+
+// Whether `to_int` of the quotient of two integers comes to the integer that is expected.
+fn rounds_to(alloc: Global, m: i64, n: i64, expected: i128) -> Result<bool, Memory> {
+    let (terms, id) = of_quotient(alloc, Head::ToInt, m, n)?;
+    comes_to(alloc, &terms, id, expected)
+}
+
+// Whether `is_int` of the quotient of two integers comes to the truth that is expected.
+fn is_whole(alloc: Global, m: i64, n: i64, expected: bool) -> Result<bool, Memory> {
+    let (terms, id) = of_quotient(alloc, Head::IsInt, m, n)?;
+    let values = evaluated(alloc, &terms, &[id], &[])?;
+    Ok(are(&values, &[expected]))
+}
+
+// The table of M, 1, `(+ M 1)`, `(* M M)`, `(= 1 1)`, and `(ite (= 1 1) 1 (+ M 1))`, in this order.
+fn wide_operations(alloc: Global) -> Result<Terms, Memory>
+    ensures names { IfOk result HasDistinctNames }
+{
+    let mut terms = empty(alloc)?;
+    let most = operation(&mut terms, Head::Integer(GREATEST), &[])?;
+    let one = operation(&mut terms, Head::Integer(1), &[])?;
+    let sum = operation(&mut terms, Head::Sum(Sort::Int), &[most, one])?;
+    operation(&mut terms, Head::Product(Sort::Int), &[most, most])?;
+    let same = operation(&mut terms, Head::Equal, &[one, one])?;
+    operation(&mut terms, Head::Ite(Sort::Int), &[same, one, sum])?;
+    Ok(terms)
+}
+
 // The assignment of these pairs.
 fn assignment(alloc: Global, pairs: &[(TermId, bool)]) -> Result<Assign, Memory> {
     let mut assign = Assign::new(alloc)?;
@@ -70,31 +166,80 @@ fn assignment(alloc: Global, pairs: &[(TermId, bool)]) -> Result<Assign, Memory>
     Ok(assign)
 }
 
-// The values of these roots by an assignment of these pairs.
+// The values of these roots by an assignment of these pairs; none where an operation leaves the numbers.
 fn evaluated(
     alloc: Global,
     terms: &Terms,
     roots: &[TermId],
     pairs: &[(TermId, bool)],
-) -> Result<Values, Memory>
+) -> Result<Option<Values>, Memory>
     requires known { AllByRecursion (λ i. i < length terms.now) roots.now }
     requires names { HasDistinctNames terms.now }
 {
     let assign = assignment(alloc, pairs)?;
     match eval(alloc, terms, roots, &assign) {
-        Ok(values) => Ok(values),
+        Ok(values) => Ok(Some(values)),
+        Err(EvalStop::Wide(_)) => Ok(None),
         Err(EvalStop::Memory) => Err(Memory),
     }
 }
 
+// The operation that is the first of these roots to leave the numbers.
+fn stop(alloc: Global, terms: &Terms, roots: &[TermId]) -> Result<Option<Wide>, Memory>
+    requires known { AllByRecursion (λ i. i < length terms.now) roots.now }
+    requires names { HasDistinctNames terms.now }
+{
+    let assign = Assign::new(alloc)?;
+    match eval(alloc, terms, roots, &assign) {
+        Ok(_) => Ok(None),
+        Err(EvalStop::Wide(wide)) => Ok(Some(wide)),
+        Err(EvalStop::Memory) => Err(Memory),
+    }
+}
+
+// Whether a term comes to the integer that is expected, where nothing is assigned.
+fn comes_to(alloc: Global, terms: &Terms, root: TermId, expected: i128) -> Result<bool, Memory>
+    requires known { root < length terms.now }
+    requires names { HasDistinctNames terms.now }
+{
+    let assign = Assign::new(alloc)?;
+    let found = outcomes(alloc, terms, &[root], &assign)?;
+    match found.first() {
+        Some(outcome) => Ok(is(outcome, expected)),
+        None => Ok(false),
+    }
+}
+
 // Whether these are truth values, and the ones that are expected.
-fn are(values: &Values, expected: &[bool]) -> bool {
-    let values = values.as_slice();
+fn are(values: &Option<Values>, expected: &[bool]) -> bool {
+    match values {
+        Some(values) => are_truths(values.as_slice(), expected),
+        None => false,
+    }
+}
+
+fn are_truths(values: &[Value], expected: &[bool]) -> bool {
     values.len() == expected.len()
         && values
             .iter()
             .zip(expected)
             .all(|(value, truth)| *value == Value::Truth(*truth))
+}
+
+// Whether this is an integer, and the one that is expected.
+fn is(outcome: &Outcome, expected: i128) -> bool {
+    match outcome {
+        Outcome::Value(Value::Number(number)) => number.num() == expected && number.den() == 1,
+        _ => false,
+    }
+}
+
+// Whether this is an operation on M and this number.
+fn is_wide(stop: &Option<Wide>, op: Op, right: i128) -> bool {
+    match stop {
+        Some(wide) => { wide.op == op && wide.a.num() == GREATEST as i128 && wide.b.num() == right }
+        None => false,
+    }
 }
 
 #[test]
@@ -138,5 +283,98 @@ fn a_long_chain_is_evaluated(rt: HostRuntime) -> Result<(), Fail> {
     let (terms, last) = negations(rt.alloc(), 100_000)?;
     let values = evaluated(rt.alloc(), &terms, &[last], &[(0, true)])?;
     assert!(rt; are(&values, &[true]));
+    Ok(())
+}
+
+#[test]
+fn shared_sums_are_evaluated_once(rt: HostRuntime) -> Result<(), Fail> {
+    let (terms, last) = doublings(rt.alloc(), 100)?;
+    let is_power = comes_to(
+        rt.alloc(),
+        &terms,
+        last,
+        1_267_650_600_228_229_401_496_703_205_376,
+    )?;
+    assert!(rt; is_power);
+    Ok(())
+}
+
+#[test]
+fn div_leaves_no_remainder_below_zero(rt: HostRuntime) -> Result<(), Fail> {
+    let above = is_of_integers(rt.alloc(), Head::Div, 7, 2, 3)?;
+    assert!(rt; above);
+    let left = is_of_integers(rt.alloc(), Head::Div, -7, 2, -4)?;
+    assert!(rt; left);
+    let right = is_of_integers(rt.alloc(), Head::Div, 7, -2, -3)?;
+    assert!(rt; right);
+    let both = is_of_integers(rt.alloc(), Head::Div, -7, -2, 4)?;
+    assert!(rt; both);
+    Ok(())
+}
+
+#[test]
+fn mod_is_never_below_zero(rt: HostRuntime) -> Result<(), Fail> {
+    let left = is_of_integers(rt.alloc(), Head::Mod, -7, 3, 2)?;
+    assert!(rt; left);
+    let right = is_of_integers(rt.alloc(), Head::Mod, 7, -3, 1)?;
+    assert!(rt; right);
+    let both = is_of_integers(rt.alloc(), Head::Mod, -7, -3, 2)?;
+    assert!(rt; both);
+    Ok(())
+}
+
+#[test]
+fn by_zero_the_definition_is_computed(rt: HostRuntime) -> Result<(), Fail> {
+    let div = is_of_integers(rt.alloc(), Head::Div, -7, 0, -1)?;
+    assert!(rt; div);
+    let rest = is_of_integers(rt.alloc(), Head::Mod, -7, 0, -7)?;
+    assert!(rt; rest);
+    let quotient = is_of_integers(rt.alloc(), Head::Quotient, -7, 0, 0)?;
+    assert!(rt; quotient);
+    Ok(())
+}
+
+#[test]
+fn to_int_rounds_down(rt: HostRuntime) -> Result<(), Fail> {
+    let below = rounds_to(rt.alloc(), -1, 2, -1)?;
+    assert!(rt; below);
+    let above = rounds_to(rt.alloc(), 5, 3, 1)?;
+    assert!(rt; above);
+    Ok(())
+}
+
+#[test]
+fn integers_are_told_from_fractions(rt: HostRuntime) -> Result<(), Fail> {
+    let whole = is_whole(rt.alloc(), 6, 3, true)?;
+    assert!(rt; whole);
+    let half = is_whole(rt.alloc(), -1, 2, false)?;
+    assert!(rt; half);
+    Ok(())
+}
+
+#[test]
+fn a_wide_sum_names_its_operands(rt: HostRuntime) -> Result<(), Fail> {
+    let terms = wide_operations(rt.alloc())?;
+    assert_eq!(rt; terms.len(), 6);
+    let sum = stop(rt.alloc(), &terms, &[2])?;
+    assert!(rt; is_wide(&sum, Op::Add, 1));
+    Ok(())
+}
+
+#[test]
+fn a_branch_that_is_not_taken_counts(rt: HostRuntime) -> Result<(), Fail> {
+    let terms = wide_operations(rt.alloc())?;
+    assert_eq!(rt; terms.len(), 6);
+    let branch = stop(rt.alloc(), &terms, &[5])?;
+    assert!(rt; is_wide(&branch, Op::Add, 1));
+    Ok(())
+}
+
+#[test]
+fn the_first_wide_operation_is_named(rt: HostRuntime) -> Result<(), Fail> {
+    let terms = wide_operations(rt.alloc())?;
+    assert_eq!(rt; terms.len(), 6);
+    let product = stop(rt.alloc(), &terms, &[1, 3, 2])?;
+    assert!(rt; is_wide(&product, Op::Mul, GREATEST as i128));
     Ok(())
 }

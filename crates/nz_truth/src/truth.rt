@@ -1,39 +1,81 @@
-//! The truth of the terms of a table where its constants are decided, the oldest term first: arguments come before.
-ghost use Rattle.std.specs.Prelude.{◌≡◌, ℕ, ◌<◌, Bool, true, false, List, length, All, IfOk, slice_index_or};
+//! The truth of terms that hold no number, where the constants of their table are decided, each behind its arguments.
+ghost use Rattle.std.specs.Prelude.{◌≡◌, ℕ, ◌<◌, Bool, true, false, length, map, All, Contains, IfOk, slice_index_or};
 ghost use Rattle.std.specs.List.{list_all, list_any};
-ghost use Rattle.nz_spec.specs.Term.{Assignment, negation as not_head, exclusion as xor_head, equality as equal_head, choice as ite_head};
-ghost use Rattle.nz_spec.specs.Decide.{constants_in_table};
+ghost use Rattle.nz_spec.specs.Term.{Assignment, Sort, truth, is_true, value_of, head_value, holds_number, negation as not_head, exclusion as xor_head, equality as equal_head, choice as ite_head};
+ghost use Rattle.nz_spec.specs.Table.{term_in};
+ghost use Rattle.nz_spec.specs.Decide.{constants_in_table, HasDistinctNames};
+ghost use Rattle.nz_spec.specs.Order.{ComeBehindArguments};
+ghost use Rattle.nz_spec.specs.Sorts.{GivesSorts};
 ghost use Rattle.nz_term.specs.Heads.{head_of};
 ghost use Rattle.nz_truth.specs.Numbers.{AreNumbersOf};
-ghost use Rattle.nz_truth.specs.Truths.{head_truth, GivesTruths, AreTruths};
+ghost use Rattle.nz_truth.specs.Truths.{GivesTruths, IsTold, does_arithmetic, is_truth_head, values_by};
 
-use nz_spec::table::term_of_node;
 use nz_term::{Head, Node, TermId, Terms};
 use std::alloc::{AllocError, Global};
 
+/// Writes the truth of these terms, in their order, by the decided constants of the table in theirs.
+pub fn evaluate(
+    terms: &Terms,
+    constants: &[TermId],
+    order: &[TermId],
+    decided: &[bool],
+    values: &mut [bool],
+)
+    requires room { length values.old ≡ length terms.now }
+    requires constants { AreNumbersOf terms.now constants.now (constants_in_table terms.now) }
+    requires distinct { HasDistinctNames terms.now }
+    requires whole { length decided.now ≡ length constants.now }
+    requires within { All (λ i. i < length terms.now) order.now }
+    requires behind { ComeBehindArguments terms.now order.now }
+    requires truths { All (λ i. holds_number (term_in terms.now i) ≡ false) order.now }
+    requires operators { All (λ i. does_arithmetic (term_in terms.now i) ≡ false) order.now }
+    ensures truths { (a : Assignment) → GivesTruths terms.now decided.now a → GivesSorts a (constants_in_table terms.now) → (i : ℕ) → Contains order.now i → slice_index_or values.new i false ≡ is_true (value_of a (term_in terms.now i)) }
+{
+    decide(constants, decided, values);
+    for id in order {
+        values[*id] = node_truth(terms.node(*id), values[*id], values);
+    }
+}
+
+/// Writes what is decided of each of these constants.
+fn decide(constants: &[TermId], decided: &[bool], values: &mut [bool])
+    requires within { All (λ k. k < length values.old) constants.now }
+    requires whole { length decided.now ≡ length constants.now }
+    ensures decided { (truth_of : ℕ → Bool) → decided.now ≡ map truth_of constants.now → (i : ℕ) → Contains constants.now i → slice_index_or values.new i false ≡ truth_of i }
+{
+    for (place, id) in constants.iter().enumerate() {
+        values[*id] = decided[place];
+    }
+}
+
 // The truth of a node over that of its arguments; a constant has what was decided.
-pub(crate) fn node_truth(node: &Node, decided: bool, values: &[bool]) -> bool
+fn node_truth(node: &Node, decided: bool, values: &[bool]) -> bool
     requires within { All (λ k. k < length values.now) node.now.kids }
-    ensures truth { result ≡ head_truth (head_of node.now.head) decided (λ k. slice_index_or values.now k false) node.now.kids }
+    requires truths { is_truth_head (head_of node.now.head) ≡ true }
+    ensures value { (a : Assignment) → IsTold a (head_of node.now.head) decided → truth result ≡ head_value a (head_of node.now.head) (values_by (λ k. slice_index_or values.now k false) node.now.kids) }
 {
     let kids = node.kids.as_slice();
     match &node.head {
         Head::Constant(_) => decided,
         Head::True => true,
-        Head::False => false,
         Head::Not => negation(kids, values),
         Head::And => are_true(kids, values),
         Head::Or => is_one_true(kids, values),
         Head::Xor => exclusion(kids, values),
         Head::Equal => are_chained(kids, values),
-        Head::Ite => choice(kids, values),
+        Head::Ite(_) => choice(kids, values),
+        // Each truth counts as 0.
+        Head::Less => kids.len() < 2,
+        Head::AtMost => true,
+        Head::IsInt => kids.len() == 1,
+        _ => false,
     }
 }
 
 // Whether the first argument is false.
 fn negation(kids: &[TermId], values: &[bool]) -> bool
     requires within { All (λ k. k < length values.now) kids.now }
-    ensures truth { result ≡ head_truth not_head false (λ k. slice_index_or values.now k false) kids.now }
+    ensures truth { (a : Assignment) → truth result ≡ head_value a not_head (values_by (λ k. slice_index_or values.now k false) kids.now) }
 {
     match kids.first() {
         Some(kid) => !values[*kid],
@@ -52,7 +94,7 @@ fn is_one_true(ids: &[TermId], values: &[bool]) -> bool
 // Whether the first argument, and then the outcome, differs from each next argument.
 fn exclusion(kids: &[TermId], values: &[bool]) -> bool
     requires within { All (λ k. k < length values.now) kids.now }
-    ensures truth { result ≡ head_truth xor_head false (λ k. slice_index_or values.now k false) kids.now }
+    ensures truth { (a : Assignment) → truth result ≡ head_value a xor_head (values_by (λ k. slice_index_or values.now k false) kids.now) }
 {
     let mut differs = false;
     for kid in kids {
@@ -64,7 +106,7 @@ fn exclusion(kids: &[TermId], values: &[bool]) -> bool
 // Whether each argument is as true as the next.
 fn are_chained(kids: &[TermId], values: &[bool]) -> bool
     requires within { All (λ k. k < length values.now) kids.now }
-    ensures truth { result ≡ head_truth equal_head false (λ k. slice_index_or values.now k false) kids.now }
+    ensures truth { (a : Assignment) → truth result ≡ head_value a equal_head (values_by (λ k. slice_index_or values.now k false) kids.now) }
 {
     for i in 0..kids.len().saturating_sub(1) {
         if values[kids[i]] != values[kids[i + 1]] {
@@ -77,7 +119,7 @@ fn are_chained(kids: &[TermId], values: &[bool]) -> bool
 // The second argument where the first is true, else the third.
 fn choice(kids: &[TermId], values: &[bool]) -> bool
     requires within { All (λ k. k < length values.now) kids.now }
-    ensures truth { result ≡ head_truth ite_head false (λ k. slice_index_or values.now k false) kids.now }
+    ensures truth { (a : Assignment) → (s : Sort) → truth result ≡ head_value a (ite_head s) (values_by (λ k. slice_index_or values.now k false) kids.now) }
 {
     match kids {
         [condition, then, otherwise] => {
@@ -88,25 +130,6 @@ fn choice(kids: &[TermId], values: &[bool]) -> bool
             }
         }
         _ => false,
-    }
-}
-
-/// Writes the truth of each term of the table, by the decided constants in their order.
-pub fn evaluate(terms: &Terms, decided: &[bool], values: &mut [bool])
-    requires room { length values.old ≡ length terms.now }
-    requires whole { length decided.now ≡ length (constants_in_table terms.now) }
-    ensures truths { (a : Assignment) → GivesTruths terms.now decided.now a → AreTruths terms.now (length terms.now) a values.new }
-{
-    term_of_node();
-    let mut next = 0;
-    for id in 0..terms.len() {
-        let node = terms.node(id);
-        if let Head::Constant(_) = &node.head {
-            values[id] = decided[next];
-            next += 1;
-        } else {
-            values[id] = node_truth(node, false, values);
-        }
     }
 }
 

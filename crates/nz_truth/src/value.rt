@@ -1,15 +1,17 @@
 //! The values of terms, where the constants of their table have given values.
-ghost use Rattle.std.specs.Prelude.{◌≡◌, ℕ, ◌<◌, false, length, map, All, IfOk, slice_index_or, unwrap_or};
-ghost use Rattle.nz_spec.specs.Term.{truth, is_true, value_of};
-ghost use Rattle.nz_spec.specs.Table.{term_in, listed_value, assignment_by};
+ghost use Rattle.std.specs.Prelude.{◌≡◌, ◌<◌, length, map, flat_map, All, IfOk, IfErr};
+ghost use Rattle.nz_spec.specs.Fraction.{first_wide};
+ghost use Rattle.nz_spec.specs.Operations.{operations_of};
+ghost use Rattle.nz_spec.specs.Term.{value_of};
+ghost use Rattle.nz_spec.specs.Table.{term_in, assignment_by};
 ghost use Rattle.nz_spec.specs.Decide.{HasDistinctNames};
 ghost use Rattle.nz_term.specs.Values as own;
-ghost use Rattle.nz_truth.specs.Truths.{values_by};
+ghost use Rattle.nz_truth.specs.Stops.{IsStopAt};
 
-use crate::truth::node_truth;
+use crate::walk::{evaluated, gather};
 use nz_base::Memory;
-use nz_spec::table::{assigns_by_number, term_of_node};
-use nz_term::{Assign, TermId, Terms, Value, post_order};
+use nz_frac::Wide;
+use nz_term::{Assign, TermId, Terms, Value};
 use std::alloc::{AllocError, Global};
 use std::marker::Model;
 
@@ -40,8 +42,10 @@ impl Values {
 }
 
 /// Why terms were not evaluated.
-#[derive(Clone, Copy, Debug, PartialEq, Eq)]
+#[derive(Clone, Copy, Debug)]
 pub enum EvalStop {
+    /// The first operation that leaves the numbers.
+    Wide(Wide),
     /// Memory was wanted and refused.
     Memory,
 }
@@ -66,44 +70,12 @@ impl From<AllocError> for EvalStop {
     }
 }
 
-fn is_true(value: Value) -> bool
-    ensures truth { result ≡ is_true (own.value_of value) }
-{
-    match value {
-        Value::Truth(truth) => truth,
-    }
-}
-
-// The truth that is listed first with each number below this one, and `false` with no pair of the number.
-fn listed_truths(alloc: Global, assign: &Assign, count: usize) -> Result<Vec<bool>, AllocError>
-    ensures count { IfOk result (λ ts. length ts.items ≡ count) }
-    ensures listed { IfOk result (λ ts. (i : ℕ) → i < count → slice_index_or ts.items i false ≡ is_true (unwrap_or (listed_value assign.now i) (truth false))) }
-{
-    let mut truths = vec![in alloc; false; count]?;
-    // The first pair of a number is written last.
-    for place in (0..assign.len()).rev() {
-        let (id, value) = assign.get(place);
-        if id < count {
-            truths[id] = is_true(value);
-        }
-    }
-    Ok(truths)
-}
-
-// The values of these terms, by the truth of each.
-fn values_at(alloc: Global, ids: &[TermId], truths: &[bool]) -> Result<Values, AllocError>
-    requires within { All (λ i. i < length truths.now) ids.now }
-    ensures values { IfOk result (λ vs. vs ≡ values_by (λ i. slice_index_or truths.now i false) ids.now) }
-{
-    let mut values = Vec::with_capacity(alloc, ids.len())?;
-    for id in ids {
-        values.push(Value::Truth(truths[*id]))?;
-    }
-    Ok(Values { values })
-}
-
 /// The values of these roots, where the constants have the values that `assign` gives their numbers, and `false` where it
 /// gives none. Each shared term is evaluated once.
+///
+/// # Errors
+///
+/// `Wide` with the first operation that leaves the numbers, in post-order of the roots from the left; `Memory`.
 pub fn eval(
     alloc: Global,
     terms: &Terms,
@@ -113,13 +85,13 @@ pub fn eval(
     requires within { All (λ r. r < length terms.now) roots.now }
     requires distinct { HasDistinctNames terms.now }
     ensures values { IfOk result (λ vs. vs ≡ map (λ r. value_of (assignment_by terms.now assign.now) (term_in terms.now r)) roots.now) }
+    ensures fits { IfOk result (λ vs. first_wide (flat_map (λ r. operations_of (assignment_by terms.now assign.now) (term_in terms.now r)) roots.now) ≡ None) }
+    ensures wide { IfErr result (λ s. IsStopAt (first_wide (flat_map (λ r. operations_of (assignment_by terms.now assign.now) (term_in terms.now r)) roots.now)) s) }
 {
-    term_of_node();
-    assigns_by_number();
-    let mut truths = listed_truths(alloc, assign, terms.len())?;
-    let order = post_order(alloc, terms, roots)?;
-    for id in &order {
-        truths[*id] = node_truth(terms.node(*id), truths[*id], &truths);
+    let outcomes = evaluated(alloc, terms, roots, assign)?;
+    let mut values = Vec::new(alloc);
+    match gather(roots, &outcomes, &mut values)? {
+        Some(wide) => Err(EvalStop::Wide(wide)),
+        None => Ok(Values { values }),
     }
-    Ok(values_at(alloc, roots, &truths)?)
 }

@@ -22,8 +22,8 @@ longer : (old new : List Node) (n : Node) → (new ≡ old) ⊎ (new ≡ old ++ 
 longer old new n (inl same) = omega (arith, ap length same)
 longer old new n (inr more) = omega (arith, ap length more, length-append old (n ∷ []))
 
-pub make-requires : goal.make-requires
-make-requires c = All-from_recursion (λ k. k < length c.args.terms.now) c.args.kids.now c.requires.known
+pub make-requires-clause-within : goal.make-requires-clause-within
+make-requires-clause-within c = All-from_recursion (λ k. k < length c.args.terms.now) c.args.kids.now c.requires.known
 
 pub returns-clause-names : goal.returns-clause-names
 returns-clause-names c = names_kept c.args.terms.now c.make.new.self (node_with c.args.head c.args.kids.now) c.requires.operator c.in_ok-id.ensures.grown

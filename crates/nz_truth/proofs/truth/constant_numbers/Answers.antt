@@ -7,8 +7,7 @@ use Rattle.nz_term.specs.Heads.{head_of}
 use Rattle.nz_term.specs.Nodes.{node_of}
 use Rattle.nz_term.specs.Constants.{constant_of}
 use Rattle.nz_truth.specs.Numbers.{AreNumbersOf}
-use Rattle.nz_truth.proofs.Evaluation.{constants_more, not_constant, no_constants}
-use Rattle.nz_truth.proofs.Numbering.{AreNumbersOf-push}
+use Rattle.nz_truth.proofs.Numbering.{AreNumbersOf-push, constants_more, no_constants, not_constant}
 use Rattle.nz_truth.proofs.truth.constant_numbers.Goals as goal
 use Rattle.nz_truth.proofs.truth.constant_numbers.Goals.{in-Constant+in_ok-push, in_default}
 

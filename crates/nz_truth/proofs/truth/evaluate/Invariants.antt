@@ -1,12 +1,14 @@
+-- The constants have their decisions, and the terms so far their truth.
 use Rattle.std.proofs.Common.{◌≡◌, length, take}
 use Rattle.nz_spec.specs.Term.{Assignment}
 use Rattle.nz_spec.specs.Decide.{constants_in_table}
-use Rattle.nz_truth.specs.Truths.{GivesTruths, AreTruths}
+use Rattle.nz_spec.specs.Sorts.{GivesSorts}
+use Rattle.nz_truth.specs.Truths.{GivesTruths}
+use Rattle.nz_truth.proofs.Deciding.{IsWalked}
 use Rattle.nz_truth.proofs.truth.evaluate.Given as goal
 
--- the constants so far have their decisions, and the terms so far their truth
 abbrev pub invariant-loop-id : goal.invariant-loop-id
 invariant-loop-id l = record {
-  next : l.next ≡ length (constants_in_table (take l.id l.terms));
-  truths : (a : Assignment) → GivesTruths l.terms l.decided a → AreTruths l.terms l.id a l.values;
+  room : length l.values ≡ length l.terms;
+  walked : (a : Assignment) → GivesTruths l.terms l.decided a → GivesSorts a (constants_in_table l.terms) → IsWalked l.terms a (take l.id-index l.order) l.values;
 }

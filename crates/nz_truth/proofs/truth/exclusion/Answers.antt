@@ -1,5 +1,6 @@
+-- One argument more.
 use Rattle.std.proofs.Common.{false, slice_index_or, ◌∙◌, arith}
-use Rattle.nz_truth.proofs.Evaluation.{exclusion_more}
+use Rattle.nz_truth.proofs.Deciding.{exclusion_more}
 use Rattle.nz_truth.proofs.truth.exclusion.Goals as goal
 
 pub loop-kid-preserved : goal.loop-kid-preserved

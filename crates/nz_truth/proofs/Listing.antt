@@ -1,12 +1,16 @@
 -- What an assignment by numbers gives the constants of a table whose names differ.
-use Rattle.std.proofs.Common.{◌≡◌, ◌≢◌, ◌==◌, inl, inr, ℕ, zero, suc, ◌<◌, ◌≤◌, cond, drop, length, set, slice_index_or, get_or-set_same, get_or-set_other, Bool, true, false, List, [], ◌∷◌, ◌++◌, map, get_or, Some, slice_get, refl, sym, ap, subst, ◌∙◌, true≢false, arith}
+use Rattle.std.proofs.Common.{◌≡◌, ◌≢◌, ◌==◌, inl, inr, ℕ, zero, suc, ◌<◌, ◌≤◌, cond, drop, length, set, get_or-set_same, get_or-set_other, Bool, true, false, List, [], ◌∷◌, ◌++◌, map, get_or, Some, slice_get, refl, sym, ap, subst, ◌∙◌, true≢false, arith}
 use Rattle.std.specs.Prelude.{bytes_eq, unwrap_or}
 use Rattle.std.specs.List.{AllByRecursion, IsDistinct}
 use Rattle.std.proofs.lemmas.Bool.Decides.{eqb_tells, nat_tests}
 use Rattle.std.proofs.lemmas.Slice.Eq.{bytes_eq-Decides}
-use Rattle.nz_spec.specs.Term.{Constant, Head, constant, verum, falsum, negation, conjunction, disjunction, implication, exclusion, equality, distinction, choice, Value, truth, is_true}
+use Rattle.nz_spec.specs.Term.{Constant, Head, constant, Value, truth}
 use Rattle.nz_spec.specs.Table.{Node, is_constant_named, is_named, listed_value, assignment_by, AssignsByNumber}
 use Rattle.nz_spec.specs.Decide.{constants_of_head, constants_in_table, HasDistinctNames}
+use Rattle.nz_term.specs.declared.assign.Value as own
+use Rattle.nz_term.specs.declared.assign.Value.TheVariants as value
+use Rattle.nz_term.specs.Values.{value_of}
+use Rattle.nz_truth.specs.Outcomes.{value_at}
 
 -- ---- Names
 
@@ -43,16 +47,7 @@ turned x y e = by (bytes_eq y x) refl
 -- a head that is no constant of the name doesn't have it
 unnamed : (h : Head) (name : List ℕ) → ((c : Constant) → h ≡ constant c → bytes_eq c.name name ≡ false) → is_constant_named h name ≡ false
 unnamed (constant c) name other = other c refl
-unnamed verum name other = refl
-unnamed falsum name other = refl
-unnamed negation name other = refl
-unnamed conjunction name other = refl
-unnamed disjunction name other = refl
-unnamed implication name other = refl
-unnamed exclusion name other = refl
-unnamed equality name other = refl
-unnamed distinction name other = refl
-unnamed choice name other = refl
+unnamed h name other = refl
 
 other_at : (name : List ℕ) (ns : List Node) (i : ℕ) (n : Node) (c : Constant) → slice_get ns i ≡ Some n → n.head ≡ constant c
     → HaveOthers name (constants_in_table ns) → bytes_eq name c.name ≡ false
@@ -78,7 +73,7 @@ one_above : (i j : ℕ) → (j == i) ≡ (suc j == suc i)
 one_above i j = grind (arith, nat_tests)
 
 -- one number alone is of a constant of a name
-named_once : (ns : List Node) → HasDistinctNames ns → (i : ℕ) (n : Node) (c : Constant) → slice_get ns i ≡ Some n → n.head ≡ constant c
+pub named_once : (ns : List Node) → HasDistinctNames ns → (i : ℕ) (n : Node) (c : Constant) → slice_get ns i ≡ Some n → n.head ≡ constant c
     → (j : ℕ) → is_named (slice_get ns j) c.name ≡ (j == i)
 named_once [] d i n c at e j = cc
 named_once (m ∷ ns) d zero n c at e zero =
@@ -96,11 +91,11 @@ pub assigned : AssignsByNumber → (ns : List Node) → HasDistinctNames ns → 
     → unwrap_or (listed_value ps i) (truth false) ≡ assignment_by ns ps c.name
 assigned law ns d ps i n c at e = sym (law ns ps i c.name (λ k p below. named_once ns d i n c at e (get_or ps k p).0))
 
--- ---- Truth by number
+-- ---- Values by number
 
--- the values are the truth that is listed first with each number, and false where none is
-abbrev pub AreListed : List (ℕ × Value) → ℕ → List Bool → Type 0
-AreListed ps count values = (i : ℕ) → i < count → slice_index_or values i false ≡ is_true (unwrap_or (listed_value ps i) (truth false))
+-- the values are those that are listed first with each number, and false where none is
+abbrev pub AreListed : List (ℕ × Value) → ℕ → List own.Value → Type 0
+AreListed ps count values = (i : ℕ) → i < count → value_at values i ≡ unwrap_or (listed_value ps i) (truth false)
 
 -- a list from one of its pairs on
 pub from_pair : (ps : List (ℕ × Value)) (k : ℕ) (p : ℕ × Value) → slice_get ps k ≡ Some p → drop k ps ≡ p ∷ drop (suc k) ps
@@ -112,24 +107,24 @@ from_pair (q ∷ ps) (suc k) p at = from_pair ps k p at
 
 -- what a pair in front gives a number
 first_value : (p : ℕ × Value) (ps : List (ℕ × Value)) (i : ℕ) (b : Bool) → (p.0 == i) ≡ b
-    → is_true (unwrap_or (cond b (Some p.1) (listed_value ps i)) (truth false)) ≡ is_true (unwrap_or (listed_value (p ∷ ps) i) (truth false))
-first_value p ps i b e = ap (λ x. is_true (unwrap_or (cond x (Some p.1) (listed_value ps i)) (truth false))) (sym e)
+    → unwrap_or (cond b (Some p.1) (listed_value ps i)) (truth false) ≡ unwrap_or (listed_value (p ∷ ps) i) (truth false)
+first_value p ps i b e = ap (λ x. unwrap_or (cond x (Some p.1) (listed_value ps i)) (truth false)) (sym e)
 
 -- one pair more in front
-pub listed_more : (ps : List (ℕ × Value)) (p : ℕ × Value) (count : ℕ) (values : List Bool) (b : Bool) → length values ≡ count → p.0 < count → b ≡ is_true p.1
-    → AreListed ps count values → AreListed (p ∷ ps) count (set values p.0 b)
-listed_more ps p count values b room within e h i below =
+pub listed_more : (ps : List (ℕ × Value)) (p : ℕ × Value) (count : ℕ) (values : List own.Value) (v : own.Value) → length values ≡ count → p.0 < count → value_of v ≡ p.1
+    → AreListed ps count values → AreListed (p ∷ ps) count (set values p.0 v)
+listed_more ps p count values v room within e h i below =
     let inside : p.0 < length values = omega arith in
     elim (eqb_tells p.0 i) [
       | inl s ↦
-          ap (λ k. slice_index_or (set values p.0 b) k false) (sym s.1) ∙ get_or-set_same values p.0 b false inside ∙ e ∙ first_value p ps i true s.0
+          ap (λ k. value_at (set values p.0 v) k) (sym s.1) ∙ ap value_of (get_or-set_same values p.0 v (value.Truth false) inside) ∙ e ∙ first_value p ps i true s.0
       | inr s ↦
           let other : i ≢ p.0 = λ k. s.1 (sym k) in
-          get_or-set_other values p.0 i b false other ∙ h i below ∙ first_value p ps i false s.0
+          ap value_of (get_or-set_other values p.0 i v (value.Truth false) other) ∙ h i below ∙ first_value p ps i false s.0
     ]
 
 -- one whose number is past the end
-pub listed_past : (ps : List (ℕ × Value)) (p : ℕ × Value) (count : ℕ) (values : List Bool) → count ≤ p.0 → AreListed ps count values → AreListed (p ∷ ps) count values
+pub listed_past : (ps : List (ℕ × Value)) (p : ℕ × Value) (count : ℕ) (values : List own.Value) → count ≤ p.0 → AreListed ps count values → AreListed (p ∷ ps) count values
 listed_past ps p count values past h i below =
     elim (eqb_tells p.0 i) [
       | inl s ↦ absurd (omega (arith, s.1))

@@ -1,0 +1,119 @@
+-- Operations that are carried out, and those that leave the numbers.
+use Rattle.std.proofs.Common.{◌≡◌, Bool, true, false, IsTrue, pos, List, [], ◌∷◌, Some, None, refl, sym, ap, subst, ◌∙◌, true≢false, if◌then◌else◌, Result, Ok, Err, ◌++◌, ℕ, suc, ◌+◌, ◌<◌, length, drop, get_or, add-one}
+use Rattle.std.specs.Prelude.{◌↔◌, IsErr, IfOk, IfErr}
+use Rattle.nz_frac.specs.Operations.{operation_of, operator_of}
+use Rattle.nz_frac.specs.declared.frac.Op.{Op}
+use Rattle.nz_frac.specs.declared.frac.Op.TheVariants as op
+use Rattle.nz_frac.specs.declared.frac.Wide.{Wide}
+use Rattle.nz_spec.specs.Fraction.{Fraction, Operator, Quotient, Operation, first_wide, is_wide, outcome, whole}
+use Rattle.std.proofs.Math.Seq.{drop-cons}
+use Rattle.nz_spec.specs.Operations.{head_operations, operation_on, operations_by}
+use Rattle.nz_spec.specs.Term.{Assignment, Head, Value, carried_out, combined, head_value, number, number_of, is_undefined, is_zero, whole_number}
+use Rattle.nz_term.specs.declared.assign.Value as own
+use Rattle.nz_term.specs.Values.{value_of}
+use Rattle.nz_truth.specs.Outcomes.{IsCarriedOut, IsOutcomeOf, IsStopped}
+use Rattle.nz_truth.specs.declared.walk.Outcome.{Outcome}
+use Rattle.nz_truth.specs.declared.walk.Outcome.TheVariants as outcome
+
+-- the test of an operation that was carried out
+narrow : (b : Bool) → (false ≡ true ↔ IsTrue b) → b ≡ false
+narrow true h = absurd (true≢false (sym (h.1 refl)))
+narrow false h = refl
+
+-- one operation that stays among the numbers
+pub stays : (op : Operator) (p q : Fraction) → is_undefined op q ≡ false → is_wide op p q ≡ false → first_wide (operation_on op p q) ≡ None
+unfolding first_wide
+stays op p q defined e = rw (defined, e)
+
+-- and one that doesn't
+pub leaves : (op : Operator) (p q : Fraction) → is_undefined op q ≡ false → is_wide op p q ≡ true → first_wide (operation_on op p q) ≡ Some (record { operator = op; left = p; right = q })
+unfolding first_wide
+leaves op p q defined e = rw (defined, e)
+
+-- what it comes to
+pub comes_to : (op : Operator) (p q r : Fraction) → is_undefined op q ≡ false → r ≡ outcome op p q → number r ≡ carried_out op (number p) (number q)
+comes_to op p q r defined e = rw defined (ap number e)
+
+-- ---- Operations of the code
+
+pub carried : (o k : Op) (p q : Fraction) (r : Result Fraction Wide) → o ≡ k → is_undefined (operator_of k) q ≡ false → (IsErr r ↔ IsTrue (is_wide (operator_of k) p q))
+    → IfOk r (λ x. x ≡ outcome (operator_of k) p q) → IfOk r (λ x. IsCarriedOut (operator_of o) p q x)
+carried o k p q (Ok x) same defined wide e =
+    subst (λ y. IsCarriedOut (operator_of y) p q x) (sym same) (stays (operator_of k) p q defined (narrow (is_wide (operator_of k) p q) wide), comes_to (operator_of k) p q x defined e)
+carried o k p q (Err w) same defined wide e = tt
+
+pub stopped : (o k : Op) (p q : Fraction) (r : Result Fraction Wide) → o ≡ k → is_undefined (operator_of k) q ≡ false → (IsErr r ↔ IsTrue (is_wide (operator_of k) p q))
+    → IfErr r (λ w. w ≡ record { op = k; a = p; b = q }) → IfErr r (λ w. IsStopped (operator_of o) p q w)
+stopped o k p q (Ok x) same defined wide e = tt
+stopped o k p q (Err w) same defined wide e =
+    subst (λ y. IsStopped (operator_of y) p q w) (sym same) (leaves (operator_of k) p q defined (wide.0 refl) ∙ sym (ap (λ x. Some (operation_of x)) e))
+
+-- a quotient by zero
+no_operation : (p q : Fraction) → is_zero q ≡ true → first_wide (operation_on Quotient p q) ≡ None
+unfolding first_wide
+no_operation p q e = rw e
+
+no_quotient : (p q : Fraction) → is_zero q ≡ true → whole_number (pos 0) ≡ carried_out Quotient (number p) (number q)
+no_quotient p q e = rw e
+
+pub by_zero : (o : Op) (p q r : Fraction) → o ≡ op.Div → is_zero q ≡ true → r ≡ whole (pos 0) → IsCarriedOut (operator_of o) p q r
+by_zero o p q r same zero e = subst (λ y. IsCarriedOut (operator_of y) p q r) (sym same) (no_operation p q zero, ap number e ∙ no_quotient p q zero)
+
+-- ---- One after another
+
+append_none : (x : Operation) (b : Bool) (xs ys : List Operation) → (first_wide xs ≡ None → first_wide (xs ++ ys) ≡ first_wide ys)
+    → (if b then Some x else first_wide xs) ≡ None → (if b then Some x else first_wide (xs ++ ys)) ≡ first_wide ys
+append_none x true xs ys rest e = cc
+append_none x false xs ys rest e = rest e
+
+append_some : (x w : Operation) (b : Bool) (xs ys : List Operation) → (first_wide xs ≡ Some w → first_wide (xs ++ ys) ≡ Some w)
+    → (if b then Some x else first_wide xs) ≡ Some w → (if b then Some x else first_wide (xs ++ ys)) ≡ Some w
+append_some x w true xs ys rest e = e
+append_some x w false xs ys rest e = rest e
+
+-- where no operation of the first list is wide, the second decides
+pub first_wide-none : (xs ys : List Operation) → first_wide xs ≡ None → first_wide (xs ++ ys) ≡ first_wide ys
+unfolding first_wide
+first_wide-none [] ys e = refl
+first_wide-none (x ∷ xs) ys e = append_none x (is_wide x.operator x.left x.right) xs ys (first_wide-none xs ys) e
+
+-- else the first list does
+pub first_wide-some : (xs ys : List Operation) (w : Operation) → first_wide xs ≡ Some w → first_wide (xs ++ ys) ≡ Some w
+unfolding first_wide
+first_wide-some [] ys w e = cc
+first_wide-some (x ∷ xs) ys w e = append_some x w (is_wide x.operator x.left x.right) xs ys (first_wide-some xs ys w) e
+
+-- ---- An operation over values
+
+-- a list from one of its elements on
+pub from_item : {A : Type 0} (xs : List A) (k : ℕ) (x : A) → k < length xs → x ≡ get_or xs k x → drop k xs ≡ x ∷ drop (k + 1) xs
+from_item xs k x inside e = drop-cons xs k x inside ∙ ap (λ y. y ∷ drop (suc k) xs) (sym e) ∙ ap (λ n. x ∷ drop n xs) (sym (add-one k))
+
+-- one step that is carried out
+pub same_value : (op : Operator) (v w : Value) (ws : List Value) (r : Fraction) → IsCarriedOut op (number_of v) (number_of w) r
+    → combined (carried_out op) (number r) ws ≡ combined (carried_out op) v (w ∷ ws)
+same_value op v w ws r h = ap (λ x. combined (carried_out op) x ws) h.1
+
+pub same_stop : (op : Operator) (v w : Value) (ws : List Value) (r : Fraction) → IsCarriedOut op (number_of v) (number_of w) r
+    → first_wide (operations_by op (number r) ws) ≡ first_wide (operations_by op v (w ∷ ws))
+same_stop op v w ws r h =
+    ap (λ x. first_wide (operations_by op x ws)) h.1
+    ∙ sym (first_wide-none (operation_on op (number_of v) (number_of w)) (operations_by op (carried_out op v w) ws) h.0)
+
+-- and one that isn't
+pub stop_here : (op : Operator) (v w : Value) (ws : List Value) (x : Wide) → IsStopped op (number_of v) (number_of w) x
+    → first_wide (operations_by op v (w ∷ ws)) ≡ Some (operation_of x)
+stop_here op v w ws x h = first_wide-some (operation_on op (number_of v) (number_of w)) (operations_by op (carried_out op v w) ws) (operation_of x) h
+
+-- ---- What a head comes to
+
+-- the outcome is that of another head, which is the same
+pub of_head : (h k : Head) (a : Assignment) (vs : List Value) (o : Outcome) → h ≡ k → IsOutcomeOf (head_operations k vs) (head_value a k vs) o
+    → IsOutcomeOf (head_operations h vs) (head_value a h vs) o
+of_head h k a vs o e is = subst (λ x. IsOutcomeOf (head_operations x vs) (head_value a x vs) o) (sym e) is
+
+-- a head that takes no operation comes to its value
+pub plain : (h k : Head) (a : Assignment) (vs : List Value) (v : own.Value) → h ≡ k → head_operations k vs ≡ [] → value_of v ≡ head_value a k vs
+    → IsOutcomeOf (head_operations h vs) (head_value a h vs) (outcome.Value v)
+unfolding first_wide
+plain h k a vs v e none is = of_head h k a vs (outcome.Value v) e (ap first_wide none, is)

@@ -1,0 +1,108 @@
+-- Integers as numbers, their quotients and their remainders.
+use Rattle.std.proofs.Common.{◌≡◌, ◌≢◌, ℕ, zero, suc, ◌+◌, ◌-◌, ◌*◌, ◌/◌, ◌%◌, ◌<◌, ◌≤◌, ℤ, pos, negsuc, ◌+ℤ◌, ◌*ℤ◌, neg_ℤ, unsigned_abs, int_lt, Bool, true, false, to_z, of_z, FitsSigned, Option, Some, None, refl, sym, ap, subst, ◌∙◌, arith, true≢false}
+use Rattle.std.specs.Prelude.{◌↔◌, IsSome, IfSome, unwrap_or}
+use Rattle.std.specs.Int.{int_div_euclid, int_rem_euclid, w128}
+use Rattle.std.proofs.Math.IntN.{pos-*ℤ-pos, pos-*ℤ-negsuc, negsuc-*ℤ-pos, *ℤ-negsuc, *ℤ-zero, zero-*ℤ}
+use Rattle.std.proofs.Math.Nat.{div-add-mod, div-le_self, div-one, div-zero, mod-lt}
+use Rattle.std.proofs.lemmas.Int.{ints, to_z-of_z}
+use Rattle.nz_spec.specs.Fraction.{Fraction, IsNumber, floor_div, gcd, largest, ratio, whole, over}
+use Rattle.nz_spec.specs.Term.{div_of, mod_of}
+use Rattle.nz_frac.specs.Parts.{differ, with_sign}
+use Rattle.nz_frac.proofs.PartLemmas.{cast-back, number-from_parts, over-value, with_sign-abs}
+use Rattle.nz_frac.proofs.ProductLemmas.{ratio-parts}
+use Rattle.nz_frac.proofs.RoundLemmas.{whole_parts}
+
+-- ---- Quotients
+
+pub quotient_is : (m n : ℤ) → int_div_euclid m n ≡ div_of m n
+unfolding div_of floor_div
+quotient_is (pos a) (pos b) = refl
+quotient_is (pos a) (negsuc b) = refl
+quotient_is (negsuc a) (pos b) = refl
+quotient_is (negsuc a) (negsuc b) = refl
+
+pub quotient_fits : (m n : ℤ) → unsigned_abs (int_div_euclid m n) ≤ unsigned_abs m
+quotient_fits (pos a) (pos b) = div-le_self a b
+quotient_fits (pos a) (negsuc b) = let small = div-le_self a (suc b) in omega (arith, ints)
+quotient_fits (negsuc a) (pos b) = let small = div-le_self a b in omega arith
+quotient_fits (negsuc a) (negsuc b) = let small = div-le_self a (suc b) in omega arith
+
+-- by 0
+pub quotient_below : (m n : ℤ) → n ≡ pos 0 → int_lt m (pos 0) ≡ true → negsuc 0 ≡ div_of m n
+unfolding div_of floor_div
+quotient_below (pos a) n e low = absurd (omega (arith, ints))
+quotient_below (negsuc a) n e low = sym (ap (div_of (negsuc a)) e ∙ ap negsuc (div-zero a))
+
+pub quotient_above : (m n : ℤ) → n ≡ pos 0 → int_lt m (pos 0) ≡ false → pos 0 ≡ div_of m n
+unfolding div_of floor_div
+quotient_above (pos a) n e high = sym (ap (div_of (pos a)) e ∙ ap pos (div-zero a))
+quotient_above (negsuc a) n e high = absurd (omega (arith, ints))
+
+-- ---- Remainders
+
+-- a number, its quotient and what is left
+above : (a k y r : ℕ) (p : ℤ) → k * y + r ≡ a → p ≡ pos (k * y) → pos r ≡ pos a +ℤ neg_ℤ p
+above a k y r p e f = omega (arith, ints)
+
+below : (a k y r : ℕ) (p : ℤ) → k * y + r ≡ a → r < k → p ≡ neg_ℤ (pos (k * suc y)) → pos (k - 1 - r) ≡ negsuc a +ℤ neg_ℤ p
+below a k y r p e l f = omega (arith, ints)
+
+both_below : (b x : ℕ) → negsuc b *ℤ neg_ℤ (pos x) ≡ pos (suc b * x)
+both_below b zero = *ℤ-zero (negsuc b) ∙ ap pos (omega arith)
+both_below b (suc x) = omega (arith, ints, *ℤ-negsuc (negsuc b) x, negsuc-*ℤ-pos b (suc x))
+
+pub remainder_is : (m n : ℤ) → n ≢ pos 0 → int_rem_euclid m n ≡ mod_of m n
+unfolding mod_of div_of floor_div
+remainder_is m (pos zero) other = absurd (other refl)
+remainder_is (pos a) (pos (suc b)) other = above a (suc b) (a / suc b) (a % suc b) _ (div-add-mod a (suc b)) (pos-*ℤ-pos (suc b) (a / suc b))
+remainder_is (pos a) (negsuc b) other = above a (suc b) (a / suc b) (a % suc b) _ (div-add-mod a (suc b)) (both_below b (a / suc b))
+remainder_is (negsuc a) (pos (suc b)) other =
+    below a (suc b) (a / suc b) (a % suc b) _ (div-add-mod a (suc b)) (mod-lt a (omega arith)) (pos-*ℤ-negsuc (suc b) (a / suc b))
+remainder_is (negsuc a) (negsuc b) other =
+    below a (suc b) (a / suc b) (a % suc b) _ (div-add-mod a (suc b)) (mod-lt a (omega arith)) (negsuc-*ℤ-pos b (suc (a / suc b)))
+
+-- by 0
+pub remainder_zero : (m n : ℤ) → n ≡ pos 0 → m ≡ mod_of m n
+unfolding mod_of
+remainder_zero m n e =
+    let none : pos 0 *ℤ div_of m (pos 0) ≡ pos 0 = zero-*ℤ (div_of m (pos 0)) in
+    sym (ap (λ k. m +ℤ neg_ℤ (k *ℤ div_of m k)) e ∙ ap (λ k. m +ℤ neg_ℤ k) none ∙ omega (arith, ints))
+
+-- ---- Integers as numbers
+
+no_more : (n : ℤ) → unsigned_abs n ≤ largest → gcd (unsigned_abs n) 1 ≡ 1
+no_more n h = subst (λ z. gcd (unsigned_abs z) 1 ≡ 1) (cast-back n h) (whole_parts n h).lowest
+
+whole_number : (n : ℤ) → unsigned_abs n ≤ largest → IsNumber (whole n)
+whole_number n h = subst (λ z. IsNumber (whole z)) (cast-back n h) (number-from_parts _ 1 _ (whole_parts n h) refl)
+
+as_it_is : (b : Bool) → differ b false ≡ b
+as_it_is true = refl
+as_it_is false = refl
+
+one_apart : pos 1 ≢ pos 0
+one_apart e = omega (arith, ints, e)
+
+ratio_one : (n : ℤ) → unsigned_abs n ≤ largest → ratio n (pos 1) ≡ whole n
+ratio_one n h =
+    ratio-parts n (pos 1) one_apart
+    ∙ ap (λ (k : ℕ). over (with_sign (differ (int_lt n (pos 0)) false) (unsigned_abs n / k)) (1 / k)) (no_more n h)
+    ∙ ap (λ (k : ℕ). over (with_sign (differ (int_lt n (pos 0)) false) k) 1) (div-one (unsigned_abs n))
+    ∙ ap (λ (b : Bool). over (with_sign b (unsigned_abs n)) 1) (as_it_is (int_lt n (pos 0)))
+    ∙ ap (λ (z : ℤ). over z 1) (with_sign-abs n)
+    ∙ over-value n 1
+
+-- so the number of an integer that fits is made
+pub made : (o : Option Fraction) (n z : ℤ) → (IsSome o ↔ ((pos 1 ≢ pos 0) × IsNumber (ratio z (pos 1)))) → IfSome o (λ q. q ≡ ratio z (pos 1)) → z ≡ n → unsigned_abs n ≤ largest
+    → (q : Fraction) → unwrap_or o q ≡ whole n
+made (Some x) n z some value same h q = value ∙ ap (λ y. ratio y (pos 1)) same ∙ ratio_one n h
+made None n z some value same h q =
+    absurd (true≢false (sym (some.1 (one_apart, subst (λ y. IsNumber (ratio y (pos 1))) (sym same) (subst IsNumber (sym (ratio_one n h)) (whole_number n h))))))
+
+-- ---- Integers that are written and read back
+
+pub read : (z : ℤ) → FitsSigned w128 z → to_z w128 (of_z w128 z) ≡ z
+read z h = to_z-of_z w128 z h
+
+pub zero_read : (z : ℤ) → FitsSigned w128 z → of_z w128 z ≡ 0 → z ≡ pos 0
+zero_read z h e = sym (read z h) ∙ ap (to_z w128) e

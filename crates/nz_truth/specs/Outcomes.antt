@@ -1,0 +1,90 @@
+-- What terms come to: a value, or the first operation that leaves the numbers.
+use Rattle.std.specs.Prelude.{◌≡◌, ℕ, ⊤, List, [], ◌∷◌, map, Option, Some, None, Contains, false, pos, slice_get, slice_index_or}
+use Rattle.std.specs.List.{AllByRecursion}
+use Rattle.nz_spec.specs.Fraction.{Fraction, Operator, Operation, first_wide}
+use Rattle.nz_spec.specs.Operations.{operation_on, operations_by, operations_of}
+use Rattle.nz_spec.specs.Term as spec
+use Rattle.nz_spec.specs.Term.{Assignment, Constant, Head, constant, integer, decimal_number, Term, value_of, carried_out, combined, number, whole_number, scaled}
+use Rattle.nz_spec.specs.Table.{Node, term_in}
+use Rattle.nz_frac.specs.Operations.{operation_of}
+use Rattle.nz_frac.specs.declared.frac.Wide as wide
+use Rattle.nz_term.specs.Values as own
+use Rattle.nz_term.specs.declared.assign.Value as values
+use Rattle.nz_term.specs.declared.assign.Value.TheVariants as value
+use Rattle.nz_truth.specs.declared.walk.Outcome.{Outcome}
+use Rattle.nz_truth.specs.declared.walk.Outcome.TheVariants as outcome
+
+-- what comes of operations that lead to this value where none of them leaves the numbers
+abbrev pub IsOutcomeOf : List Operation → spec.Value → Outcome → Type 0
+IsOutcomeOf operations v (outcome.Value x) = (first_wide operations ≡ None) × (own.value_of x ≡ v)
+IsOutcomeOf operations v (outcome.Wide w) = first_wide operations ≡ Some (operation_of w)
+
+-- what a term comes to
+abbrev pub IsOutcome : Assignment → Term → Outcome → Type 0
+IsOutcome a t o = IsOutcomeOf (operations_of a t) (value_of a t) o
+
+-- so do the terms of these numbers, one for one
+abbrev pub AreOutcomes : List Node → Assignment → List ℕ → List Outcome → Type 0
+AreOutcomes ns a [] [] = ⊤
+AreOutcomes ns a (i ∷ is) (o ∷ os) = IsOutcome a (term_in ns i) o × AreOutcomes ns a is os
+AreOutcomes ns a [] (o ∷ os) = ⊥
+AreOutcomes ns a (i ∷ is) [] = ⊥
+
+-- ---- Operations
+
+-- one operation stays among the numbers, and comes to this one
+abbrev pub IsCarriedOut : Operator → Fraction → Fraction → Fraction → Type 0
+IsCarriedOut op p q r = (first_wide (operation_on op p q) ≡ None) × (number r ≡ carried_out op (number p) (number q))
+
+-- one operation leaves the numbers
+abbrev pub IsStopped : Operator → Fraction → Fraction → wide.Wide → Type 0
+IsStopped op p q w = first_wide (operation_on op p q) ≡ Some (operation_of w)
+
+-- what comes of an operation over values, from the left; of none this value
+abbrev pub IsOperated : Operator → spec.Value → List spec.Value → Outcome → Type 0
+IsOperated op of_none [] o = IsOutcomeOf [] of_none o
+IsOperated op of_none (v ∷ vs) o = IsOutcomeOf (operations_by op v vs) (combined (carried_out op) v vs) o
+
+-- the value is that of a head that its arguments don't tell
+abbrev pub IsGiven : Assignment → Head → spec.Value → Type 0
+IsGiven a (constant c) v = v ≡ a c.name
+IsGiven a (integer n) v = v ≡ whole_number (pos n)
+IsGiven a (decimal_number n places) v = v ≡ number (scaled n places)
+IsGiven a h v = ⊤
+
+-- ---- Lists by number
+
+-- the value that is listed for a number
+abbrev pub value_at : List values.Value → ℕ → spec.Value
+value_at vs i = own.value_of (slice_index_or vs i (value.Truth false))
+
+-- the values of the constants are those of their names
+abbrev pub AreGiven : List Node → Assignment → List values.Value → Type 0
+AreGiven ns a vs = (i : ℕ) (n : Node) (c : Constant) → slice_get ns i ≡ Some n → n.head ≡ constant c → value_at vs i ≡ a c.name
+
+-- what is listed for the term of a number
+abbrev pub outcome_at : List Outcome → ℕ → Outcome
+outcome_at os i = slice_index_or os i (outcome.Value (value.Truth false))
+
+abbrev pub outcomes_at : List Outcome → List ℕ → List Outcome
+outcomes_at os is = map (outcome_at os) is
+
+-- what is listed for these numbers is what their terms come to
+abbrev pub AreEvaluated : List Node → Assignment → List ℕ → List Outcome → Type 0
+AreEvaluated ns a is os = (i : ℕ) → Contains is i → IsOutcome a (term_in ns i) (outcome_at os i)
+
+-- so do the arguments of the term of a number
+abbrev pub HasEvaluatedKids : List Node → Assignment → ℕ → List Outcome → Type 0
+HasEvaluatedKids ns a i os = (n : Node) → slice_get ns i ≡ Some n → AllByRecursion (λ k. IsOutcome a (term_in ns k) (outcome_at os k)) n.kids
+
+-- the first of these that is no value
+abbrev pub first_stop : List Outcome → Option wide.Wide
+first_stop [] = None
+first_stop (outcome.Value v ∷ os) = first_stop os
+first_stop (outcome.Wide w ∷ os) = Some w
+
+-- those that are values
+abbrev pub values_in : List Outcome → List values.Value
+values_in [] = []
+values_in (outcome.Value v ∷ os) = v ∷ values_in os
+values_in (outcome.Wide w ∷ os) = values_in os
