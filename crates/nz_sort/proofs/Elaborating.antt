@@ -6,7 +6,7 @@ use Rattle.nz_spec.specs.Tree.{symbol, keyword, numeral, decimal, hexadecimal, b
 use Rattle.nz_spec.specs.Reading.{trees_from}
 use Rattle.nz_spec.specs.Form.{tree_symbol}
 use Rattle.nz_spec.specs.Term.{Term, Terms, no_terms, terms}
-use Rattle.nz_spec.specs.Table.{Node, TermStays}
+use Rattle.nz_spec.specs.Table.{Node}
 use Rattle.nz_spec.specs.Elaboration.{Scope, listed, term_of, terms_of, terms_onto, bindings_of, bindings_in, binding_onto, bound_onto, bound_pair}
 use Rattle.nz_sort.specs.declared.typed.Typed.{Typed}
 use Rattle.nz_sort.specs.Form.{IsHeadless, IsNotTwo, IsNotOne}
@@ -25,14 +25,14 @@ EachStands sc ns (t ∷ ts) (x ∷ xs) = StandsAs (term_of sc t) ns x × EachSta
 EachStands sc ns [] (x ∷ xs) = ⊥
 EachStands sc ns (t ∷ ts) [] = ⊥
 
-pub stands_kept : TermStays → (old new : List Node) → Grows old new → (o : Option Term) (x : Typed) → StandsAs o old x → StandsAs o new x
-stands_kept stays old new g o x s = record { term = s.term; is = s.is; typed = typed_kept stays old new g x s.term s.typed }
+pub stands_kept : (old new : List Node) → Grows old new → (o : Option Term) (x : Typed) → StandsAs o old x → StandsAs o new x
+stands_kept old new g o x s = record { term = s.term; is = s.is; typed = typed_kept old new g x s.term s.typed }
 
-pub each_kept : TermStays → (old new : List Node) → Grows old new → (sc : Scope) (ts : List Tree) (xs : List Typed) → EachStands sc old ts xs → EachStands sc new ts xs
-each_kept stays old new g sc [] [] e = tt
-each_kept stays old new g sc [] (x ∷ xs) e = absurd e
-each_kept stays old new g sc (t ∷ ts) [] e = absurd e
-each_kept stays old new g sc (t ∷ ts) (x ∷ xs) e = (stands_kept stays old new g (term_of sc t) x e.0, each_kept stays old new g sc ts xs e.1)
+pub each_kept : (old new : List Node) → Grows old new → (sc : Scope) (ts : List Tree) (xs : List Typed) → EachStands sc old ts xs → EachStands sc new ts xs
+each_kept old new g sc [] [] e = tt
+each_kept old new g sc [] (x ∷ xs) e = absurd e
+each_kept old new g sc (t ∷ ts) [] e = absurd e
+each_kept old new g sc (t ∷ ts) (x ∷ xs) e = (stands_kept old new g (term_of sc t) x e.0, each_kept old new g sc ts xs e.1)
 
 pub each_push : (sc : Scope) (ns : List Node) (ts : List Tree) (xs : List Typed) (t : Tree) (x : Typed) → EachStands sc ns ts xs → StandsAs (term_of sc t) ns x
     → EachStands sc ns (ts ++ t ∷ []) (xs ++ x ∷ [])
@@ -95,12 +95,12 @@ alone : (ns : List Node) (name other : List ℕ) (x : Typed) (t : Term) → IsTy
 alone ns name other x t p =
     elim (bytes_eq other name) as (λ b. SameTerm ns (cond b (Some x) None) (cond b (Some t) None)) [ true ↦ p | false ↦ tt ]
 
-pub binds_push : TermStays → (sc : Scope) (bs : List Tree) (old new : List Node) (before after : List (List ℕ × Typed)) (b t : Tree) (name : List ℕ) (x : Typed)
+pub binds_push : (sc : Scope) (bs : List Tree) (old new : List Node) (before after : List (List ℕ × Typed)) (b t : Tree) (name : List ℕ) (x : Typed)
     → Grows old new → BindsSome sc bs old before
     → b ≡ node (trees (leaf (symbol name)) (trees t no_trees)) → StandsAs (term_of sc t) new x
     → ((other : List ℕ) → bound_in after other ≡ first_of (bound_in before other) (bound_in ((name, x) ∷ []) other))
     → BindsSome sc (bs ++ b ∷ []) new after
-binds_push stays sc bs old new before after b t name x g s shape found inserted =
+binds_push sc bs old new before after b t name x g s shape found inserted =
     let pair : List ℕ × Term = (name, found.term) in
     record {
       pairs = s.pairs ++ pair ∷ [];
@@ -109,7 +109,7 @@ binds_push stays sc bs old new before after b t name x g s shape found inserted 
           subst (λ o. SameTerm new o (listed (s.pairs ++ pair ∷ []) other)) (sym (inserted other))
           (subst (λ o. SameTerm new (first_of (bound_in before other) (bound_in ((name, x) ∷ []) other)) o) (sym (listed_append s.pairs (pair ∷ []) other))
           (same_first new (bound_in before other) (bound_in ((name, x) ∷ []) other) (listed s.pairs other) (listed (pair ∷ []) other)
-          (same_kept stays old new g (bound_in before other) (listed s.pairs other) (s.same other))
+          (same_kept old new g (bound_in before other) (listed s.pairs other) (s.same other))
           (alone new name other x found.term found.typed)));
     }
 

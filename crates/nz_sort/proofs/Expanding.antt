@@ -1,12 +1,16 @@
 -- Lemmas of uses of definitions: arguments where sorts are wanted, and bodies with them.
 use Rattle.std.specs.Prelude.{⊤}
-use Rattle.std.proofs.Common.{◌≡◌, ℕ, ◌<◌, ◌+◌, zero, suc, List, [], ◌∷◌, ◌++◌, length, map, All, Option, None, Some, option_map, true, false, slice_get, refl, sym, ap, ◌∙◌, subst, arith}
+use Rattle.std.proofs.Common.{◌≡◌, ℕ, ◌<◌, ◌+◌, zero, suc, ◌≤◌, List, [], ◌∷◌, ◌++◌, length, map, take, drop, get_or, All, Option, None, Some, option_map, true, false, slice_get, refl, sym, ap, ◌∙◌, subst, arith}
+use Rattle.std.proofs.lemmas.List.{length-map, length-take-le, map_more, take_all}
 use Rattle.std.proofs.lemmas.List.Elements.{All-nil, All-cons}
+use Rattle.std.proofs.lemmas.Option.{slice_get-get_or}
 use Rattle.nz_spec.specs.Term as spec
 use Rattle.nz_spec.specs.Term.{int_sort, real_sort, bool_sort, Term, apply, to_real, Terms, no_terms, terms}
 use Rattle.nz_spec.specs.Normal.{normal_of, normals_of}
-use Rattle.nz_spec.specs.Table.{Node, term_in, terms_at, TermStays}
-use Rattle.nz_spec.specs.Elaboration.{Definition, RootFits, are_same_sort, has_sort, as_real, placed, term_at, term_count, terms_onto, all_placed, instance_of, expansion, InstanceKeepsNormal, ExpansionKeepsSort}
+use Rattle.nz_spec.specs.Table.{Node, term_in, terms_at}
+use Rattle.nz_spec.specs.Elaboration.{Definition, RootFits, are_same_sort, has_sort, as_real, placed, term_at, term_count, terms_onto, all_placed, instance_of, expansion}
+use Rattle.nz_spec.proofs.Instances.{instance_keeps_normal}
+use Rattle.nz_spec.proofs.Roots.{expansions_keep_sort}
 use Rattle.nz_term.specs.Constants.{sort_of}
 use Rattle.nz_term.specs.declared.heads.Sort.{Sort}
 use Rattle.nz_term.specs.declared.heads.Sort.TheVariants.{Bool, Int, Real}
@@ -15,8 +19,8 @@ use Rattle.nz_sort.specs.declared.names.Definition as code
 use Rattle.nz_sort.specs.Typed.{Grows, StandsFor, IsTyped, AreTyped}
 use Rattle.nz_sort.specs.Names.{IsDefined}
 use Rattle.nz_sort.specs.Elaborate.{StandsAs, Places}
-use Rattle.nz_sort.proofs.Growing.{longer}
-use Rattle.nz_sort.proofs.Staying.{term_kept}
+use Rattle.nz_sort.proofs.Growing.{longer, term_kept}
+use Rattle.nz_sort.proofs.Staying.{typed_kept}
 
 -- ---- One argument
 
@@ -84,20 +88,20 @@ EachPlaced ns (s ∷ ss) no_terms is = ⊥
 EachPlaced ns (s ∷ ss) (terms t ts) [] = ⊥
 EachPlaced ns (s ∷ ss) (terms t ts) (i ∷ is) = IsPlaced ns s t i × EachPlaced ns ss ts is
 
-pub each_placed_kept : TermStays → (old new : List Node) → Grows old new → (ss : List spec.Sort) (ts : Terms) (is : List ℕ) → EachPlaced old ss ts is → EachPlaced new ss ts is
-each_placed_kept stays old new g [] ts [] e = tt
-each_placed_kept stays old new g [] ts (i ∷ is) e = absurd e
-each_placed_kept stays old new g (s ∷ ss) no_terms is e = absurd e
-each_placed_kept stays old new g (s ∷ ss) (terms t ts) [] e = absurd e
-each_placed_kept stays old new g (s ∷ ss) (terms t ts) (i ∷ is) e =
+pub each_placed_kept : (old new : List Node) → Grows old new → (ss : List spec.Sort) (ts : Terms) (is : List ℕ) → EachPlaced old ss ts is → EachPlaced new ss ts is
+each_placed_kept old new g [] ts [] e = tt
+each_placed_kept old new g [] ts (i ∷ is) e = absurd e
+each_placed_kept old new g (s ∷ ss) no_terms is e = absurd e
+each_placed_kept old new g (s ∷ ss) (terms t ts) [] e = absurd e
+each_placed_kept old new g (s ∷ ss) (terms t ts) (i ∷ is) e =
     let first = e.0 in (
       record {
         term = first.term;
         is = first.is;
         within = omega (arith, first.within, longer old new g);
-        normal = term_kept stays old new g i first.within ∙ first.normal;
+        normal = term_kept old new g i first.within ∙ first.normal;
       },
-      each_placed_kept stays old new g ss ts is e.1,
+      each_placed_kept old new g ss ts is e.1,
     )
 
 pub each_placed_push : (ns : List Node) (ss : List spec.Sort) (ts : Terms) (is : List ℕ) (s : spec.Sort) (t : Term) (id : ℕ) → EachPlaced ns ss ts is
@@ -173,15 +177,83 @@ typed_at ns (y ∷ ys) (terms t ts) (suc i) x p here =
     let rest : IsTermAt ns ts i x = typed_at ns ys ts i x p.1 here in
     record { term = rest.term; is = rest.is; typed = rest.typed }
 
+-- ---- A loop over the sorts and the arguments
+
+-- the sorts so far are as many as the steps
+sorts_so_far : (ss : List Sort) (i : ℕ) → i < length ss → length (map sort_of (take i ss)) ≡ i
+sorts_so_far ss i below = length-map (take i ss) sort_of ∙ length-take-le i ss (omega (arith, below))
+
+argument_at : (ns : List Node) (xs : List Typed) (ts : Terms) (i : ℕ) (e : Typed) → i < length xs → AreTyped ns xs ts → IsTermAt ns ts i (get_or xs i e)
+argument_at ns xs ts i e below p = typed_at ns xs ts i (get_or xs i e) p (slice_get-get_or xs i e below)
+
+-- one argument more
+pub placed_next : (start old new : List Node) (ss : List Sort) (xs : List Typed) (i id : ℕ) (d : Sort) (e : Typed) (ids items : List ℕ) → Grows start old → Grows old new
+    → i < length ss → i < length xs → items ≡ ids ++ id ∷ []
+    → ((ts : Terms) → AreTyped start xs ts → EachPlaced old (map sort_of (take i ss)) ts ids)
+    → ((t : Term) → IsTyped old (get_or xs i e) t → StandsAs (placed (sort_of (get_or ss i d)) t) new (record { id = id; sort = get_or ss i d }))
+    → (ts : Terms) → AreTyped start xs ts → EachPlaced new (map sort_of (take (i + 1) ss)) ts items
+placed_next start old new ss xs i id d e ids items g h below within grown each stands ts p =
+    let s = get_or ss i d in
+    let x = get_or xs i e in
+    let here : IsTermAt start ts i x = argument_at start xs ts i e within p in
+    let made : StandsAs (placed (sort_of s) here.term) new (record { id = id; sort = s }) = stands here.term (typed_kept start old g x here.term here.typed) in
+    subst (λ l. EachPlaced new l ts items) (sym (map_more sort_of ss i d below))
+    (subst (EachPlaced new (map sort_of (take i ss) ++ sort_of s ∷ []) ts) (sym grown)
+    (each_placed_push new (map sort_of (take i ss)) ts ids (sort_of s) here.term id
+    (each_placed_kept old new h (map sort_of (take i ss)) ts ids (each ts p))
+    (ap (term_at ts) (sorts_so_far ss i below) ∙ here.is)
+    (record { term = made.term; is = made.is; within = made.typed.within; normal = made.typed.normal })))
+
+-- the sorts round one of them
+sorts_round : (ss : List Sort) (i : ℕ) (d : Sort) → i < length ss → map sort_of (take i ss) ++ sort_of (get_or ss i d) ∷ map sort_of (drop (suc i) ss) ≡ map sort_of ss
+sorts_round [] i d below = absurd (omega (arith, below))
+sorts_round (s ∷ ss) zero d below = refl
+sorts_round (s ∷ ss) (suc i) d below = ap (λ l. sort_of s ∷ l) (sorts_round ss i d (omega (arith, below)))
+
+-- an argument that isn't placed
+pub placed_none : (start : List Node) (ss : List Sort) (xs : List Typed) (i : ℕ) (d : Sort) (e : Typed) → i < length ss → i < length xs
+    → ((ns : List Node) (t : Term) → IsTyped ns (get_or xs i e) t → placed (sort_of (get_or ss i d)) t ≡ None)
+    → (ts : Terms) → AreTyped start xs ts → all_placed (map sort_of ss) ts ≡ None
+placed_none start ss xs i d e below within none ts p =
+    let here : IsTermAt start ts i (get_or xs i e) = argument_at start xs ts i e within p in
+    subst (λ l. all_placed l ts ≡ None) (sorts_round ss i d below)
+    (all_placed_none (map sort_of (take i ss)) (map sort_of (drop (suc i) ss)) (sort_of (get_or ss i d)) ts here.term
+    (ap (term_at ts) (sorts_so_far ss i below) ∙ here.is) (none start here.term here.typed))
+
+-- a term that is placed has a number in the table
+pub placed_within : (start old new : List Node) (ss : List Sort) (xs : List Typed) (i id : ℕ) (d : Sort) (e : Typed) → Grows start old → i < length xs
+    → ((t : Term) → IsTyped old (get_or xs i e) t → StandsAs (placed (sort_of (get_or ss i d)) t) new (record { id = id; sort = get_or ss i d }))
+    → (ts : Terms) → AreTyped start xs ts → id < length new
+placed_within start old new ss xs i id d e g within stands ts p =
+    let s = get_or ss i d in
+    let x = get_or xs i e in
+    let here : IsTermAt start ts i x = argument_at start xs ts i e within p in
+    let made : StandsAs (placed (sort_of s) here.term) new (record { id = id; sort = s }) = stands here.term (typed_kept start old g x here.term here.typed) in
+    made.typed.within
+
+-- all of them
+pub placed_all : (start new : List Node) (ss : List Sort) (xs : List Typed) (i : ℕ) (ids : List ℕ) → length ss ≤ i → length ss ≡ length xs
+    → ((ts : Terms) → AreTyped start xs ts → EachPlaced new (map sort_of (take i ss)) ts ids)
+    → (ts : Terms) → AreTyped start xs ts → Places (map sort_of ss) ts new ids
+placed_all start new ss xs i ids past same each ts p =
+    all_placed_each new (map sort_of ss) ts ids (subst (λ l. EachPlaced new (map sort_of l) ts ids) (take_all i ss past) (each ts p))
+    (length-map ss sort_of ∙ same ∙ typed_count start xs ts p)
+
+-- more arguments than sorts, or fewer
+pub placed_count : (start : List Node) (ss : List Sort) (xs : List Typed) → (length ss ≡ length xs → ⊥) → (ts : Terms) → AreTyped start xs ts
+    → all_placed (map sort_of ss) ts ≡ None
+placed_count start ss xs differ ts p =
+    all_placed_count (map sort_of ss) ts (λ e. differ (sym (length-map ss sort_of) ∙ e ∙ sym (typed_count start xs ts p)))
+
 -- ---- Bodies
 
 -- the use of a definition, by the numbers of its body and of its arguments
-pub expanded : InstanceKeepsNormal → ExpansionKeepsSort → (mid new : List Node) (d : code.Definition) (e : Definition) (ts : Terms) (ids : List ℕ) (id : ℕ)
+pub expanded : (mid new : List Node) (d : code.Definition) (e : Definition) (ts : Terms) (ids : List ℕ) (id : ℕ)
     → map sort_of d.parameters.items ≡ e.parameters → IsTyped mid d.body e.body → RootFits e.parameters e.body
     → Places (map sort_of d.parameters.items) ts mid ids
     → id < length new → term_in new id ≡ instance_of (terms_at (term_in mid) ids) (term_in mid d.body.id)
     → StandsAs (expansion e ts) new (record { id = id; sort = d.body.sort })
-expanded keeps sorts mid new d e ts ids id parameters body fits p below made =
+expanded mid new d e ts ids id parameters body fits p below made =
     let placed_at : all_placed e.parameters ts ≡ Some p.terms = ap (λ ss. all_placed ss ts) (sym parameters) ∙ p.are in
     let term = instance_of p.terms e.body in
     let stands : expansion e ts ≡ Some term = ap (option_map (λ us. instance_of us e.body)) placed_at in
@@ -190,8 +262,8 @@ expanded keeps sorts mid new d e ts ids id parameters body fits p below made =
       is = stands;
       typed = record {
         within = below;
-        normal = made ∙ ap (λ us. instance_of us (term_in mid d.body.id)) p.normal ∙ ap (instance_of (normals_of p.terms)) body.normal ∙ sym (keeps p.terms e.body);
-        sort = body.sort ∙ sym (sorts e fits ts term stands);
+        normal = made ∙ ap (λ us. instance_of us (term_in mid d.body.id)) p.normal ∙ ap (instance_of (normals_of p.terms)) body.normal ∙ sym (instance_keeps_normal p.terms e.body);
+        sort = body.sort ∙ sym (expansions_keep_sort e fits ts term stands);
       };
     }
 

@@ -90,6 +90,10 @@ name_unknown ns names frames name free o e sc s =
 
 -- ---- A name over arguments
 
+pub unbound : (o : Option Typed) → is_some o ≡ false → o ≡ None
+unbound None e = refl
+unbound (Some x) e = cc
+
 pub bound_applied : (ns : List Node) (names : List (List ℕ × named.Named)) (frames : List (List (List ℕ × Typed))) (name : List ℕ) (x : Typed)
     → bound_by frames name ≡ Some x → (sc : Scope) → IsScope ns names frames sc → (ts : Terms) → application sc name ts ≡ None
 bound_applied ns names frames name x e sc s ts =

@@ -2,7 +2,7 @@
 use Rattle.std.proofs.Common.{◌≡◌, ℕ, List, [], ◌∷◌, ◌++◌, Option, None, Some, true, false, bytes_eq, cond, refl, sym, ap, ◌∙◌, subst}
 use Rattle.std.specs.List.{AllByRecursion}
 use Rattle.nz_spec.specs.Term.{Constant, constant, Term, apply, no_terms}
-use Rattle.nz_spec.specs.Table.{Node, TermStays}
+use Rattle.nz_spec.specs.Table.{Node}
 use Rattle.nz_spec.specs.Elaboration.{listed, constant_named, definition_named, Scope, Definition, RootFits, binding}
 use Rattle.nz_sort.specs.declared.typed.Typed.{Typed}
 use Rattle.nz_sort.specs.declared.names.Definition as code
@@ -15,29 +15,29 @@ use Rattle.nz_sort.proofs.Staying.{typed_kept}
 
 -- ---- In a table that has grown
 
-pub same_kept : TermStays → (old new : List Node) → Grows old new → (x : Option Typed) (t : Option Term) → SameTerm old x t → SameTerm new x t
-same_kept stays old new g None None s = tt
-same_kept stays old new g None (Some t) s = absurd s
-same_kept stays old new g (Some x) None s = absurd s
-same_kept stays old new g (Some x) (Some t) s = typed_kept stays old new g x t s
+pub same_kept : (old new : List Node) → Grows old new → (x : Option Typed) (t : Option Term) → SameTerm old x t → SameTerm new x t
+same_kept old new g None None s = tt
+same_kept old new g None (Some t) s = absurd s
+same_kept old new g (Some x) None s = absurd s
+same_kept old new g (Some x) (Some t) s = typed_kept old new g x t s
 
-named_kept : TermStays → (old new : List Node) → Grows old new → (n : Option named.Named) (c : Option Constant) (d : Option Definition) → SameNamed old n c d → SameNamed new n c d
-named_kept stays old new g None None None s = tt
-named_kept stays old new g None None (Some d) s = absurd s
-named_kept stays old new g None (Some c) d s = absurd s
-named_kept stays old new g (Some (kinds.Constant x)) None d s = absurd s
-named_kept stays old new g (Some (kinds.Constant x)) (Some c) d s = typed_kept stays old new g x (apply (constant c) no_terms) s
-named_kept stays old new g (Some (kinds.Definition e)) None None s = absurd s
-named_kept stays old new g (Some (kinds.Definition e)) None (Some d) s =
-    record { parameters = s.parameters; body = typed_kept stays old new g e.body d.body s.body }
-named_kept stays old new g (Some (kinds.Definition e)) (Some c) d s = absurd s
+named_kept : (old new : List Node) → Grows old new → (n : Option named.Named) (c : Option Constant) (d : Option Definition) → SameNamed old n c d → SameNamed new n c d
+named_kept old new g None None None s = tt
+named_kept old new g None None (Some d) s = absurd s
+named_kept old new g None (Some c) d s = absurd s
+named_kept old new g (Some (kinds.Constant x)) None d s = absurd s
+named_kept old new g (Some (kinds.Constant x)) (Some c) d s = typed_kept old new g x (apply (constant c) no_terms) s
+named_kept old new g (Some (kinds.Definition e)) None None s = absurd s
+named_kept old new g (Some (kinds.Definition e)) None (Some d) s =
+    record { parameters = s.parameters; body = typed_kept old new g e.body d.body s.body }
+named_kept old new g (Some (kinds.Definition e)) (Some c) d s = absurd s
 
-pub scope_kept : TermStays → (old new : List Node) → Grows old new → (names : List (List ℕ × named.Named)) (frames : List (List (List ℕ × Typed))) (sc : Scope)
+pub scope_kept : (old new : List Node) → Grows old new → (names : List (List ℕ × named.Named)) (frames : List (List (List ℕ × Typed))) (sc : Scope)
     → IsScope old names frames sc → IsScope new names frames sc
-scope_kept stays old new g names frames sc s =
+scope_kept old new g names frames sc s =
     record {
-      bound = λ name. same_kept stays old new g (bound_by frames name) (listed sc.bound name) (s.bound name);
-      live = λ name. named_kept stays old new g (named_by names name) (constant_named sc.constants name) (definition_named sc.definitions name) (s.live name);
+      bound = λ name. same_kept old new g (bound_by frames name) (listed sc.bound name) (s.bound name);
+      live = λ name. named_kept old new g (named_by names name) (constant_named sc.constants name) (definition_named sc.definitions name) (s.live name);
       fits = s.fits;
     }
 
@@ -138,7 +138,7 @@ bound_inner (f ∷ fs) frame name =
     ap (λ o. first_of o (bound_in f name)) (bound_inner fs frame name) ∙ first_assoc (bound_in frame name) (bound_by fs name) (bound_in f name)
 
 -- the first of two, where it is there
-pub first_term : Option Term → Option Term → Option Term
+abbrev pub first_term : Option Term → Option Term → Option Term
 first_term (Some t) u = Some t
 first_term None u = u
 

@@ -94,7 +94,6 @@ pub(crate) fn elaborate_all(
     ensures found { IfOk result (λ xs. (sc : Scope) → IsScope terms.old names.now frames.old.items sc → StandAs (terms_of sc (seen trees.now)) terms.new xs.items) }
     ensures refused { IsErrOf result ElaborateError.Sort → (sc : Scope) → IsScope terms.old names.now frames.old.items sc → terms_of sc (seen trees.now) ≡ None }
 {
-    term_stays();
     let mut found = Vec::with_capacity(alloc, trees.len())?;
     for tree in trees {
         let term = elaborate(alloc, names, frames, terms, tree)?;
@@ -118,7 +117,6 @@ fn application(
     ensures found { IfOk result (λ x. (sc : Scope) → IsScope terms.old names.now frames.old.items sc → StandsAs (application_of sc name.now (seen trees.now)) terms.new x) }
     ensures refused { IsErrOf result ElaborateError.Sort → (sc : Scope) → IsScope terms.old names.now frames.old.items sc → application_of sc name.now (seen trees.now) ≡ None }
 {
-    term_stays();
     let arguments = elaborate_all(alloc, names, frames, terms, trees)?;
     apply_name(alloc, names, frames, terms, name, arguments.as_slice())
 }
@@ -188,7 +186,6 @@ fn place_all(
     ensures placed { IfOk result (λ ids. (ts : spec.Terms) → AreTyped terms.old arguments.now ts → Places (map sort_of sorts.now) ts terms.new ids.items) }
     ensures refused { IsErrOf result ElaborateError.Sort → (ts : spec.Terms) → AreTyped terms.old arguments.now ts → all_placed (map sort_of sorts.now) ts ≡ None }
 {
-    term_stays();
     if sorts.len() != arguments.len() {
         return Err(ElaborateError::Sort);
     }
@@ -234,7 +231,6 @@ fn let_term(
     ensures found { IfOk result (λ x. (sc : Scope) → IsScope terms.old names.now frames.old.items sc → StandsAs (spec_let_term sc (seen trees.now)) terms.new x) }
     ensures refused { IsErrOf result ElaborateError.Sort → (sc : Scope) → IsScope terms.old names.now frames.old.items sc → spec_let_term sc (seen trees.now) ≡ None }
 {
-    term_stays();
     let Some((bindings, body)) = pair(trees) else {
         return Err(ElaborateError::Sort);
     };
@@ -262,7 +258,6 @@ fn bind_all(
     ensures bound { IfOk result (λ frame. (sc : Scope) → IsScope terms.old names.now frames.old.items sc → Binds sc (seen trees.now) terms.new frame) }
     ensures refused { IsErrOf result ElaborateError.Sort → (sc : Scope) → IsScope terms.old names.now frames.old.items sc → bindings_of sc (seen trees.now) ≡ None }
 {
-    term_stays();
     let mut frame = Bindings::new(alloc);
     for tree in trees {
         let Some((name, value)) = binding(tree) else {
