@@ -23,18 +23,41 @@ found_as (Ok x) P f g ns same found = λ sc p. subst (λ o. StandsAs o ns x) (sy
 
 -- ---- A name alone
 
+-- the term of a name by what it is bound to, and by the operator, the constant and the definition of that name
+abbrev name_by : Option Term → Option Operator → Option Constant → Option Definition → Option Term
+name_by b o c d =
+    elim b [
+      | Some t ↦ Some t
+      | None ↦ (elim o [
+        | Some p ↦ applied p no_terms
+        | None ↦ (elim c [
+          | Some k ↦ Some (apply (constant k) no_terms)
+          | None ↦ option_and_then (λ e. expansion e no_terms) d
+        ])
+      ])
+    ]
+
+name_parts : (sc : Scope) (name : List ℕ) (b : Option Term) (o : Option Operator) (c : Option Constant) (d : Option Definition)
+    → listed sc.bound name ≡ b → operator_named name ≡ o → constant_named sc.constants name ≡ c → definition_named sc.definitions name ≡ d
+    → name_term sc name ≡ name_by b o c d
+name_parts sc name b o c d is_bound is_operator is_constant is_definition =
+    ap (λ x. name_by x (operator_named name) (constant_named sc.constants name) (definition_named sc.definitions name)) is_bound
+    ∙ ap (λ x. name_by b x (constant_named sc.constants name) (definition_named sc.definitions name)) is_operator
+    ∙ ap (λ x. name_by b o x (definition_named sc.definitions name)) is_constant
+    ∙ ap (name_by b o c) is_definition
+
 pub name_bound : (ns : List Node) (names : List (List ℕ × named.Named)) (frames : List (List (List ℕ × Typed))) (sc : Scope) (name : List ℕ) (x : Typed)
     → IsScope ns names frames sc → bound_by frames name ≡ Some x → StandsAs (name_term sc name) ns x
 name_bound ns names frames sc name x s e =
     let found : StandsAs (listed sc.bound name) ns x = bound_found ns names frames sc name x s e in
-    record { term = found.term; is = rw found.is refl; typed = found.typed }
+    record { term = found.term; is = name_parts sc name (Some found.term) _ _ _ found.is refl refl refl; typed = found.typed }
 
 name_operator : (sc : Scope) (name : List ℕ) (o : Operator) → listed sc.bound name ≡ None → operator_named name ≡ Some o → name_term sc name ≡ applied o no_terms
-name_operator sc name o free e = rw (free, e) refl
+name_operator sc name o free e = name_parts sc name None (Some o) _ _ free e refl refl
 
 name_definition : (sc : Scope) (name : List ℕ) (d : Definition) → listed sc.bound name ≡ None → operator_named name ≡ None → constant_named sc.constants name ≡ None
     → definition_named sc.definitions name ≡ Some d → name_term sc name ≡ expansion d no_terms
-name_definition sc name d free o c e = rw (free, o, c, e) refl
+name_definition sc name d free o c e = name_parts sc name None None None (Some d) free o c e
 
 pub name_applied : (r : Result Typed ElaborateError) (old new : List Node) (names : List (List ℕ × named.Named)) (frames : List (List (List ℕ × Typed))) (name : List ℕ) (o : Operator)
     → bound_by frames name ≡ None → operator_named name ≡ Some o
@@ -58,7 +81,7 @@ pub name_constant : (ns : List Node) (names : List (List ℕ × named.Named)) (f
 name_constant ns names frames name x free o e sc s =
     let found : IsConstant ns (constant_named sc.constants name) x = constant_found ns names frames sc name x s e in
     let unbound : listed sc.bound name ≡ None = bound_none ns names frames sc name s free in
-    record { term = apply (constant found.found) no_terms; is = rw (unbound, o, found.is) refl; typed = found.typed }
+    record { term = apply (constant found.found) no_terms; is = name_parts sc name None None (Some found.found) _ unbound o found.is refl; typed = found.typed }
 
 pub name_expanded : (r : Result Typed ElaborateError) (old new : List Node) (names : List (List ℕ × named.Named)) (frames : List (List (List ℕ × Typed))) (name : List ℕ) (d : code.Definition)
     → bound_by frames name ≡ None → operator_named name ≡ None → named_by names name ≡ Some (kinds.Definition d)
@@ -86,13 +109,13 @@ pub name_unknown : (ns : List Node) (names : List (List ℕ × named.Named)) (fr
 name_unknown ns names frames name free o e sc s =
     let neither : IsUnnamed (constant_named sc.constants name) (definition_named sc.definitions name) = unnamed ns names frames sc name s e in
     let unbound : listed sc.bound name ≡ None = bound_none ns names frames sc name s free in
-    rw (unbound, o, neither.no_constant, neither.no_definition) refl
+    name_parts sc name None None None None unbound o neither.no_constant neither.no_definition
 
 -- ---- A name over arguments
 
-pub unbound : (o : Option Typed) → is_some o ≡ false → o ≡ None
-unbound None e = refl
-unbound (Some x) e = cc
+pub none_found : (o : Option Typed) → is_some o ≡ false → o ≡ None
+none_found None e = refl
+none_found (Some x) e = cc
 
 pub bound_applied : (ns : List Node) (names : List (List ℕ × named.Named)) (frames : List (List (List ℕ × Typed))) (name : List ℕ) (x : Typed)
     → bound_by frames name ≡ Some x → (sc : Scope) → IsScope ns names frames sc → (ts : Terms) → application sc name ts ≡ None

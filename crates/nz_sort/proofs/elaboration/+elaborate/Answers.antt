@@ -1,6 +1,8 @@
-use Rattle.std.proofs.Common.{◌≡◌, ◌<◌, ◌++◌, ◌∷◌, [], map, take, sym, ap, ◌∙◌, subst, arith}
+use Rattle.std.proofs.Common.{◌≡◌, ◌<◌, ◌++◌, ◌∷◌, [], map, take, sym, ap, ◌∙◌, subst, arith, rules}
 use Rattle.std.proofs.lemmas.List.{take_all}
 use Rattle.std.proofs.lemmas.Result.{err_from_is_err_and}
+use Rattle.nz_sexpr.specs.declared.tree.Tree.TheViews.{the_lemmas}
+use Rattle.nz_sexpr.specs.declared.tree.Tree.TheFolds.{fold-roll-Tree, fold_out-Tree}
 use Rattle.nz_sexpr.specs.View.{token_view, view}
 use Rattle.nz_spec.specs.Tree.{node}
 use Rattle.nz_spec.specs.Elaboration.{term_of, let_term}
@@ -90,7 +92,8 @@ bind_all-loop-tree-preserved t c =
       frames = here.frames ∙ before.frames;
       bound = binds_next c.args.terms.now c.loop-tree.terms c.elaborate.new.terms c.args.names.now c.args.frames.now.items c.loop-tree.frames.items
           c.args.trees.now c.loop-tree.tree-index c.tree-item.result c.in-Some.value.now c.in-Some.name.now _ c.loop-tree.frame c.insert.new.self c.in_ok-term.term
-          before.grown here.grows before.frames c.loop-tree-test.true c.tree-item.is c.in-Some.ensures.binding cc c.in_ok-insert.ensures.bound before.bound here.found;
+          before.grown here.grows before.frames c.loop-tree-test.true c.tree-item.is c.in-Some.ensures.binding
+          (c.in_ok-name.ensures.bytes ∙ c.as_bytes.ensures.bytes) c.in_ok-insert.ensures.bound before.bound here.found;
     }
 
 pub bind_all-returns-clause-bound : goal.bind_all-returns-clause-bound
@@ -100,7 +103,7 @@ bind_all-returns-clause-bound t c = λ sc s.
 
 pub elaborate-returns-in-List-clause-found : goal.elaborate-returns-in-List-clause-found
 elaborate-returns-in-List-clause-found t c =
-    let shape : view c.args.tree.now ≡ node (seen c.as_slice.result.now) = search rules in
+    let shape : view c.args.tree.now ≡ node (seen c.as_slice.result.now) = search (rules, the_lemmas, fold-roll-Tree, fold_out-Tree) in
     found_as c.list_term.result (IsScope c.args.terms.now c.args.names.now c.args.frames.now.items) (λ sc. term_of sc (node (seen c.as_slice.result.now)))
     (λ sc. term_of sc (view c.args.tree.now)) c.list_term.new.terms (λ sc. ap (term_of sc) shape) c.list_term.ensures.found
 
