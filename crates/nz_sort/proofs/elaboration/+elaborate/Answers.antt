@@ -2,7 +2,7 @@ use Rattle.std.proofs.Common.{◌≡◌, ◌<◌, ◌++◌, ◌∷◌, [], map, 
 use Rattle.std.proofs.lemmas.List.{take_all}
 use Rattle.std.proofs.lemmas.Result.{err_from_is_err_and}
 use Rattle.nz_sexpr.specs.declared.tree.Tree.TheViews.{the_lemmas}
-use Rattle.nz_sexpr.specs.declared.tree.Tree.TheFolds.{fold-roll-Tree, fold_out-Tree}
+use Rattle.nz_sexpr.specs.declared.tree.Tree.TheFolds.{fold-roll-Tree, fold_out-Tree, fold-roll-TreeList, fold_out-TreeList}
 use Rattle.nz_sexpr.specs.View.{token_view, view}
 use Rattle.nz_spec.specs.Tree.{node}
 use Rattle.nz_spec.specs.Elaboration.{term_of, let_term}
@@ -103,7 +103,7 @@ bind_all-returns-clause-bound t c = λ sc s.
 
 pub elaborate-returns-in-List-clause-found : goal.elaborate-returns-in-List-clause-found
 elaborate-returns-in-List-clause-found t c =
-    let shape : view c.args.tree.now ≡ node (seen c.as_slice.result.now) = search (rules, the_lemmas, fold-roll-Tree, fold_out-Tree) in
+    let shape : view c.args.tree.now ≡ node (seen c.as_slice.result.now) = search (rules, the_lemmas, fold-roll-Tree, fold_out-Tree, fold-roll-TreeList, fold_out-TreeList) in
     found_as c.list_term.result (IsScope c.args.terms.now c.args.names.now c.args.frames.now.items) (λ sc. term_of sc (node (seen c.as_slice.result.now)))
     (λ sc. term_of sc (view c.args.tree.now)) c.list_term.new.terms (λ sc. ap (term_of sc) shape) c.list_term.ensures.found
 
