@@ -1,75 +1,21 @@
--- Lemmas of uses of definitions: arguments where sorts are wanted, and bodies with them.
+-- Lemmas of uses of definitions: the arguments where sorts are wanted.
 use Rattle.std.specs.Prelude.{⊤}
-use Rattle.std.proofs.Common.{◌≡◌, ℕ, ◌<◌, ◌+◌, zero, suc, ◌≤◌, List, [], ◌∷◌, ◌++◌, length, map, take, drop, get_or, All, Option, None, Some, option_map, true, false, slice_get, refl, sym, ap, ◌∙◌, subst, arith}
+use Rattle.std.proofs.Common.{◌≡◌, ℕ, ◌<◌, ◌+◌, zero, suc, ◌≤◌, List, [], ◌∷◌, ◌++◌, length, map, take, drop, get_or, Option, None, Some, slice_get, refl, sym, ap, ◌∙◌, subst, arith}
 use Rattle.std.proofs.lemmas.List.{length-map, length-take-le, map_more, take_all}
 use Rattle.std.proofs.lemmas.List.Elements.{All-nil, All-cons}
 use Rattle.std.proofs.lemmas.Option.{slice_get-get_or}
 use Rattle.nz_spec.specs.Term as spec
-use Rattle.nz_spec.specs.Term.{int_sort, real_sort, bool_sort, Term, apply, to_real, Terms, no_terms, terms}
-use Rattle.nz_spec.specs.Normal.{normal_of, normals_of}
+use Rattle.nz_spec.specs.Term.{Term, Terms, no_terms, terms}
+use Rattle.nz_spec.specs.Normal.{normal_of}
 use Rattle.nz_spec.specs.Table.{Node, term_in, terms_at}
-use Rattle.nz_spec.specs.Elaboration.{Definition, RootFits, are_same_sort, has_sort, as_real, placed, term_at, term_count, terms_onto, all_placed, instance_of, expansion}
-use Rattle.nz_spec.proofs.Instances.{instance_keeps_normal}
-use Rattle.nz_spec.proofs.Roots.{expansions_keep_sort}
+use Rattle.nz_spec.specs.Elaboration.{placed, term_at, term_count, terms_onto, all_placed}
 use Rattle.nz_term.specs.Constants.{sort_of}
 use Rattle.nz_term.specs.declared.heads.Sort.{Sort}
-use Rattle.nz_term.specs.declared.heads.Sort.TheVariants.{Bool, Int, Real}
 use Rattle.nz_sort.specs.declared.typed.Typed.{Typed}
-use Rattle.nz_sort.specs.declared.names.Definition as code
-use Rattle.nz_sort.specs.Typed.{Grows, StandsFor, IsTyped, AreTyped}
-use Rattle.nz_sort.specs.Names.{IsDefined}
+use Rattle.nz_sort.specs.Typed.{Grows, IsTyped, AreTyped}
 use Rattle.nz_sort.specs.Elaborate.{StandsAs, Places}
 use Rattle.nz_sort.proofs.Growing.{longer, term_kept}
 use Rattle.nz_sort.proofs.Staying.{typed_kept}
-
--- ---- One argument
-
-same_sort : (s : Sort) → are_same_sort (sort_of s) (sort_of s) ≡ true
-same_sort Bool = refl
-same_sort Int = refl
-same_sort Real = refl
-
-pub placed_same : (ns : List Node) (sort : Sort) (x : Typed) (t : Term) → x.sort ≡ sort → IsTyped ns x t
-    → StandsAs (placed (sort_of sort) t) ns (record { id = x.id; sort = sort })
-placed_same ns sort x t e p =
-    let sorts : spec.sort_of t ≡ sort_of sort = sym p.sort ∙ ap sort_of e in
-    let fits : has_sort (sort_of sort) t ≡ true = ap (are_same_sort (sort_of sort)) sorts ∙ same_sort sort in
-    record {
-      term = t;
-      is = rw fits refl;
-      typed = record { within = p.within; normal = p.normal; sort = sym sorts };
-    }
-
-pub placed_real : (old new : List Node) (x : Typed) (t : Term) (id : ℕ) → x.sort ≡ Int → IsTyped old x t → StandsFor new id (normal_of (as_real t))
-    → StandsAs (placed real_sort t) new (record { id = id; sort = Real })
-placed_real old new x t id e p made =
-    let sorts : spec.sort_of t ≡ int_sort = sym p.sort ∙ ap sort_of e in
-    let is_int : has_sort int_sort t ≡ true = ap (are_same_sort int_sort) sorts in
-    let is_real : has_sort real_sort t ≡ false = ap (are_same_sort real_sort) sorts in
-    let read : as_real t ≡ apply to_real (terms t no_terms) = rw is_int refl in
-    record {
-      term = as_real t;
-      is = rw (is_real, is_int) refl;
-      typed = record { within = made.within; normal = made.term; sort = sym (ap spec.sort_of read) };
-    }
-
-not_same : (s r : Sort) (t : Term) → sort_of r ≡ spec.sort_of t → (r ≡ s → ⊥) → (s ≡ Real → r ≡ Int → ⊥) → placed (sort_of s) t ≡ None
-not_same Bool Bool t e d w = absurd (d refl)
-not_same Bool Int t e d w = let no : has_sort bool_sort t ≡ false = ap (are_same_sort bool_sort) (sym e) in rw no refl
-not_same Bool Real t e d w = let no : has_sort bool_sort t ≡ false = ap (are_same_sort bool_sort) (sym e) in rw no refl
-not_same Int Bool t e d w = let no : has_sort int_sort t ≡ false = ap (are_same_sort int_sort) (sym e) in rw no refl
-not_same Int Int t e d w = absurd (d refl)
-not_same Int Real t e d w = let no : has_sort int_sort t ≡ false = ap (are_same_sort int_sort) (sym e) in rw no refl
-not_same Real Bool t e d w =
-    let no : has_sort real_sort t ≡ false = ap (are_same_sort real_sort) (sym e) in
-    let none : has_sort int_sort t ≡ false = ap (are_same_sort int_sort) (sym e) in
-    rw (no, none) refl
-not_same Real Int t e d w = absurd (w refl refl)
-not_same Real Real t e d w = absurd (d refl)
-
-pub not_placed : (ns : List Node) (sort : Sort) (x : Typed) (t : Term) → (x.sort ≡ sort → ⊥) → (sort ≡ Real → x.sort ≡ Int → ⊥) → IsTyped ns x t
-    → placed (sort_of sort) t ≡ None
-not_placed ns sort x t differs wide p = not_same sort x.sort t p.sort differs wide
 
 -- ---- Arguments one after another
 
@@ -244,30 +190,3 @@ pub placed_count : (start : List Node) (ss : List Sort) (xs : List Typed) → (l
     → all_placed (map sort_of ss) ts ≡ None
 placed_count start ss xs differ ts p =
     all_placed_count (map sort_of ss) ts (λ e. differ (sym (length-map ss sort_of) ∙ e ∙ sym (typed_count start xs ts p)))
-
--- ---- Bodies
-
--- the use of a definition, by the numbers of its body and of its arguments
-pub expanded : (mid new : List Node) (d : code.Definition) (e : Definition) (ts : Terms) (ids : List ℕ) (id : ℕ)
-    → map sort_of d.parameters.items ≡ e.parameters → IsTyped mid d.body e.body → RootFits e.parameters e.body
-    → Places (map sort_of d.parameters.items) ts mid ids
-    → id < length new → term_in new id ≡ instance_of (terms_at (term_in mid) ids) (term_in mid d.body.id)
-    → StandsAs (expansion e ts) new (record { id = id; sort = d.body.sort })
-expanded mid new d e ts ids id parameters body fits p below made =
-    let placed_at : all_placed e.parameters ts ≡ Some p.terms = ap (λ ss. all_placed ss ts) (sym parameters) ∙ p.are in
-    let term = instance_of p.terms e.body in
-    let stands : expansion e ts ≡ Some term = ap (option_map (λ us. instance_of us e.body)) placed_at in
-    record {
-      term = term;
-      is = stands;
-      typed = record {
-        within = below;
-        normal = made ∙ ap (λ us. instance_of us (term_in mid d.body.id)) p.normal ∙ ap (instance_of (normals_of p.terms)) body.normal ∙ sym (instance_keeps_normal p.terms e.body);
-        sort = body.sort ∙ sym (expansions_keep_sort e fits ts term stands);
-      };
-    }
-
-pub not_expanded : (d : code.Definition) (e : Definition) (ts : Terms) → map sort_of d.parameters.items ≡ e.parameters
-    → all_placed (map sort_of d.parameters.items) ts ≡ None → expansion e ts ≡ None
-not_expanded d e ts parameters none =
-    ap (option_map (λ us. instance_of us e.body)) (ap (λ ss. all_placed ss ts) (sym parameters) ∙ none)

@@ -8,9 +8,8 @@ use Rattle.nz_sort.specs.declared.typed.Typed.{Typed}
 use Rattle.nz_sort.specs.declared.names.Definition as code
 use Rattle.nz_sort.specs.declared.names.Named as named
 use Rattle.nz_sort.specs.declared.names.Named.TheVariants as kinds
-use Rattle.nz_sort.specs.Typed.{Grows, IsTyped}
+use Rattle.nz_sort.specs.Typed.{Grows}
 use Rattle.nz_sort.specs.Names.{named_by, bound_in, first_of, bound_by, IsDefined, SameTerm, SameNamed, IsScope}
-use Rattle.nz_sort.specs.Elaborate.{StandsAs}
 use Rattle.nz_sort.proofs.Staying.{typed_kept}
 
 -- ---- In a table that has grown
@@ -43,27 +42,13 @@ scope_kept old new g names frames sc s =
 
 -- ---- What a name stands for
 
-pub same_some : (ns : List Node) (x : Typed) (o : Option Term) → SameTerm ns (Some x) o → StandsAs o ns x
-same_some ns x None s = absurd s
-same_some ns x (Some t) s = record { term = t; is = refl; typed = s }
-
 pub same_none : (ns : List Node) (o : Option Term) → SameTerm ns None o → o ≡ None
 same_none ns None s = refl
 same_none ns (Some t) s = absurd s
 
-pub bound_found : (ns : List Node) (names : List (List ℕ × named.Named)) (frames : List (List (List ℕ × Typed))) (sc : Scope) (name : List ℕ) (x : Typed)
-    → IsScope ns names frames sc → bound_by frames name ≡ Some x → StandsAs (listed sc.bound name) ns x
-bound_found ns names frames sc name x s e = same_some ns x (listed sc.bound name) (subst (λ o. SameTerm ns o (listed sc.bound name)) e (s.bound name))
-
 pub bound_none : (ns : List Node) (names : List (List ℕ × named.Named)) (frames : List (List (List ℕ × Typed))) (sc : Scope) (name : List ℕ)
     → IsScope ns names frames sc → bound_by frames name ≡ None → listed sc.bound name ≡ None
 bound_none ns names frames sc name s e = same_none ns (listed sc.bound name) (subst (λ o. SameTerm ns o (listed sc.bound name)) e (s.bound name))
-
--- a live name is that of a constant
-pub record IsConstant (ns : List Node) (c : Option Constant) (x : Typed) : Type 0 where
-  pub found : Constant
-  pub is : c ≡ Some found
-  pub typed : IsTyped ns x (apply (constant found) no_terms)
 
 -- a live name is that of a definition
 pub record IsDefinition (ns : List Node) (c : Option Constant) (d : Option Definition) (e : code.Definition) : Type 0 where
@@ -72,42 +57,16 @@ pub record IsDefinition (ns : List Node) (c : Option Constant) (d : Option Defin
   pub other : c ≡ None
   pub defined : IsDefined ns e found
 
--- a name is that of neither
-pub record IsUnnamed (c : Option Constant) (d : Option Definition) : Type 0 where
-  pub no_constant : c ≡ None
-  pub no_definition : d ≡ None
-
-same_constant : (ns : List Node) (x : Typed) (c : Option Constant) (d : Option Definition) → SameNamed ns (Some (kinds.Constant x)) c d → IsConstant ns c x
-same_constant ns x None d s = absurd s
-same_constant ns x (Some c) d s = record { found = c; is = refl; typed = s }
-
 same_definition : (ns : List Node) (e : code.Definition) (c : Option Constant) (d : Option Definition) → SameNamed ns (Some (kinds.Definition e)) c d → IsDefinition ns c d e
 same_definition ns e None None s = absurd s
 same_definition ns e None (Some d) s = record { found = d; is = refl; other = refl; defined = s }
 same_definition ns e (Some c) d s = absurd s
-
-same_unnamed : (ns : List Node) (c : Option Constant) (d : Option Definition) → SameNamed ns None c d → IsUnnamed c d
-same_unnamed ns None None s = record { no_constant = refl; no_definition = refl }
-same_unnamed ns None (Some d) s = absurd s
-same_unnamed ns (Some c) d s = absurd s
-
-pub constant_found : (ns : List Node) (names : List (List ℕ × named.Named)) (frames : List (List (List ℕ × Typed))) (sc : Scope) (name : List ℕ) (x : Typed)
-    → IsScope ns names frames sc → named_by names name ≡ Some (kinds.Constant x) → IsConstant ns (constant_named sc.constants name) x
-constant_found ns names frames sc name x s e =
-    same_constant ns x (constant_named sc.constants name) (definition_named sc.definitions name)
-    (subst (λ n. SameNamed ns n (constant_named sc.constants name) (definition_named sc.definitions name)) e (s.live name))
 
 pub definition_found : (ns : List Node) (names : List (List ℕ × named.Named)) (frames : List (List (List ℕ × Typed))) (sc : Scope) (name : List ℕ) (d : code.Definition)
     → IsScope ns names frames sc → named_by names name ≡ Some (kinds.Definition d)
     → IsDefinition ns (constant_named sc.constants name) (definition_named sc.definitions name) d
 definition_found ns names frames sc name d s e =
     same_definition ns d (constant_named sc.constants name) (definition_named sc.definitions name)
-    (subst (λ n. SameNamed ns n (constant_named sc.constants name) (definition_named sc.definitions name)) e (s.live name))
-
-pub unnamed : (ns : List Node) (names : List (List ℕ × named.Named)) (frames : List (List (List ℕ × Typed))) (sc : Scope) (name : List ℕ)
-    → IsScope ns names frames sc → named_by names name ≡ None → IsUnnamed (constant_named sc.constants name) (definition_named sc.definitions name)
-unnamed ns names frames sc name s e =
-    same_unnamed ns (constant_named sc.constants name) (definition_named sc.definitions name)
     (subst (λ n. SameNamed ns n (constant_named sc.constants name) (definition_named sc.definitions name)) e (s.live name))
 
 -- what holds of each definition holds of the one of a name

@@ -1,4 +1,4 @@
-use Rattle.std.proofs.Common.{ℕ, ◌<◌, length, map, take, All}
+use Rattle.std.proofs.Common.{◌<◌, length, map, take, All}
 use Rattle.nz_spec.specs.Term.{Terms}
 use Rattle.nz_term.specs.Constants.{sort_of}
 use Rattle.nz_sort.specs.Typed.{Grows, AreTyped}
