@@ -139,7 +139,7 @@ list_term-returns-in-Some-as_symbol-clause-found t c =
     found_as c.application.result (IsScope c.args.terms.now c.args.names.now c.args.frames.now.items) (λ sc. application_of sc c.in-Some-as_symbol.name.now (seen c.in-Some.arguments.now))
     (λ sc. term_of sc (node (seen c.args.trees.now))) c.application.new.terms
     (λ sc. name_list sc (seen c.args.trees.now) (token_view c.in-Some.head.now) (seen c.in-Some.arguments.now) c.in-Some-as_symbol.name.now c.in-Some.ensures.head c.in-Name.ensures.head
-        c.in-Some-as_symbol.ensures.name)
+    c.in-Some-as_symbol.ensures.name)
     c.application.ensures.found
 
 pub list_term-returns-in-Some-as_symbol-clause-refused : goal.list_term-returns-in-Some-as_symbol-clause-refused

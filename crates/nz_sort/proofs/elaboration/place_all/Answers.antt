@@ -15,7 +15,7 @@ returns-in_err-id-clause-refused c = λ err.
 pub returns-then-id-len-clause-refused : goal.returns-then-id-len-clause-refused
 returns-then-id-len-clause-refused c = λ err ts p.
     (let within = placed_within c.args.terms.now c.loop-i.terms c.place.new.terms c.args.sorts.now c.args.arguments.now c.loop-i.i c.in_ok-id.id _ _
-        c.loop-i.invariant.grown (omega arith) c.in_ok-id.ensures.placed ts p in
+    c.loop-i.invariant.grown (omega arith) c.in_ok-id.ensures.placed ts p in
     absurd (omega arith))
 
 pub loop-i-preserved : goal.loop-i-preserved
