@@ -73,27 +73,27 @@ let_bound sc ts b body bs ps shape is some =
     let_bindings sc ts b body bs shape is ∙ ap (λ o. elim o [ Some qs ↦ term_of (binding sc qs) body | None ↦ None ]) some
 
 -- the scope of the body
-body_scope : (old mid : List Node) (names : List (List ℕ × named.Named)) (frames inner : List (List (List ℕ × Typed))) (frame : List (List ℕ × Typed))
-    (sc : Scope) (bs : Trees) → Grows old mid → inner ≡ frames ++ frame ∷ [] → IsScope old names frames sc → (b : Binds sc bs mid frame)
+body_scope : (old mid : List Node) (names : List (List ℕ × named.Named)) (frames between inner : List (List (List ℕ × Typed))) (frame : List (List ℕ × Typed))
+    (sc : Scope) (bs : Trees) → Grows old mid → between ≡ frames → inner ≡ between ++ frame ∷ [] → IsScope old names frames sc → (b : Binds sc bs mid frame)
     → IsScope mid names inner (binding sc b.pairs)
-body_scope old mid names frames inner frame sc bs g e s b =
-    subst (λ l. IsScope mid names l (binding sc b.pairs)) (sym e) (scope_within mid names frames sc frame b.pairs (scope_kept old mid g names frames sc s) b.same)
+body_scope old mid names frames between inner frame sc bs g e pushed s b =
+    subst (λ l. IsScope mid names l (binding sc b.pairs)) (sym (pushed ∙ ap (λ l. l ++ frame ∷ []) e)) (scope_within mid names frames sc frame b.pairs (scope_kept old mid g names frames sc s) b.same)
 
-pub let_found : (old mid new : List Node) (names : List (List ℕ × named.Named)) (frames inner : List (List (List ℕ × Typed))) (frame : List (List ℕ × Typed))
-    (ts : Trees) (b body : Tree) (bs : Trees) (x : Typed) → ts ≡ trees b (trees body no_trees) → b ≡ node bs → Grows old mid → inner ≡ frames ++ frame ∷ []
+pub let_found : (old mid new : List Node) (names : List (List ℕ × named.Named)) (frames between inner : List (List (List ℕ × Typed))) (frame : List (List ℕ × Typed))
+    (ts : Trees) (b body : Tree) (bs : Trees) (x : Typed) → ts ≡ trees b (trees body no_trees) → b ≡ node bs → Grows old mid → between ≡ frames → inner ≡ between ++ frame ∷ []
     → ((sc : Scope) → IsScope old names frames sc → Binds sc bs mid frame)
     → ((sc : Scope) → IsScope mid names inner sc → StandsAs (term_of sc body) new x)
     → (sc : Scope) → IsScope old names frames sc → StandsAs (let_term sc ts) new x
-let_found old mid new names frames inner frame ts b body bs x shape is g e binds found sc s =
+let_found old mid new names frames between inner frame ts b body bs x shape is g e pushed binds found sc s =
     let all : Binds sc bs mid frame = binds sc s in
     subst (λ o. StandsAs o new x) (sym (let_bound sc ts b body bs all.pairs shape is all.are))
-    (found (binding sc all.pairs) (body_scope old mid names frames inner frame sc bs g e s all))
+    (found (binding sc all.pairs) (body_scope old mid names frames between inner frame sc bs g e pushed s all))
 
-pub let_none : (old mid : List Node) (names : List (List ℕ × named.Named)) (frames inner : List (List (List ℕ × Typed))) (frame : List (List ℕ × Typed))
-    (ts : Trees) (b body : Tree) (bs : Trees) → ts ≡ trees b (trees body no_trees) → b ≡ node bs → Grows old mid → inner ≡ frames ++ frame ∷ []
+pub let_none : (old mid : List Node) (names : List (List ℕ × named.Named)) (frames between inner : List (List (List ℕ × Typed))) (frame : List (List ℕ × Typed))
+    (ts : Trees) (b body : Tree) (bs : Trees) → ts ≡ trees b (trees body no_trees) → b ≡ node bs → Grows old mid → between ≡ frames → inner ≡ between ++ frame ∷ []
     → ((sc : Scope) → IsScope old names frames sc → Binds sc bs mid frame)
     → ((sc : Scope) → IsScope mid names inner sc → term_of sc body ≡ None)
     → (sc : Scope) → IsScope old names frames sc → let_term sc ts ≡ None
-let_none old mid names frames inner frame ts b body bs shape is g e binds none sc s =
+let_none old mid names frames between inner frame ts b body bs shape is g e pushed binds none sc s =
     let all : Binds sc bs mid frame = binds sc s in
-    let_bound sc ts b body bs all.pairs shape is all.are ∙ none (binding sc all.pairs) (body_scope old mid names frames inner frame sc bs g e s all)
+    let_bound sc ts b body bs all.pairs shape is all.are ∙ none (binding sc all.pairs) (body_scope old mid names frames between inner frame sc bs g e pushed s all)

@@ -17,6 +17,10 @@ use Rattle.nz_sort.proofs.ScopeTerms.{scope_kept}
 use Rattle.nz_sort.proofs.Sizes.{map_round}
 use Rattle.nz_sort.proofs.Elaborating.{EachStands, each_kept, each_push, map_next, terms_refused, BindsSome, binds_push, bindings_refused, unbound}
 
+-- frames that are as they were once, and then again
+pub frames_kept : (first second third : List (List (List ℕ × Typed))) → third ≡ second → second ≡ first → third ≡ first
+frames_kept first second third later before = later ∙ before
+
 -- the scope, in a table that has grown, with frames that are as they were
 pub scope_here : (start old : List Node) (names : List (List ℕ × named.Named)) (frames inner : List (List (List ℕ × Typed))) (sc : Scope)
     → Grows start old → inner ≡ frames → IsScope start names frames sc → IsScope old names inner sc

@@ -12,7 +12,7 @@ use Rattle.nz_sort.specs.Form.{seen}
 use Rattle.nz_sort.proofs.Growing.{grows_more}
 use Rattle.nz_sort.proofs.Sizes.{item_smaller, bound_smaller}
 use Rattle.nz_sort.proofs.Elaborating.{EachStands, all_from_each, BindsSome, binds_all}
-use Rattle.nz_sort.proofs.Looping.{each_next, each_none, binds_next, binds_refused, binds_none}
+use Rattle.nz_sort.proofs.Looping.{frames_kept, each_next, each_none, binds_next, binds_refused, binds_none}
 use Rattle.nz_sort.proofs.NameTerms.{found_as}
 use Rattle.nz_sort.proofs.ListTerms.{let_list, name_list, application_found, application_none, let_found, let_none}
 use Rattle.nz_sort.proofs.elaboration.+elaborate.Goals as goal
@@ -29,7 +29,7 @@ elaborate_all-loop-tree-preserved t c =
     let here = c.in_ok-term.ensures in
     record {
       grown = grows_more _ _ _ before.grown here.grows;
-      frames = here.frames ∙ before.frames;
+      frames = frames_kept c.args.frames.now.items c.loop-tree.frames.items c.elaborate.new.frames.items here.frames before.frames;
       each = each_next c.args.terms.now c.loop-tree.terms c.elaborate.new.terms c.args.names.now c.args.frames.now.items c.loop-tree.frames.items
           c.args.trees.now c.loop-tree.tree-index c.tree-item.result c.loop-tree.found.items _ c.in_ok-term.term before.grown here.grows before.frames c.loop-tree-test.true c.tree-item.is
           c.in_ok-push.ensures.items before.each here.found;
@@ -89,7 +89,7 @@ bind_all-loop-tree-preserved t c =
     let here = c.in_ok-term.ensures in
     record {
       grown = grows_more _ _ _ before.grown here.grows;
-      frames = here.frames ∙ before.frames;
+      frames = frames_kept c.args.frames.now.items c.loop-tree.frames.items c.elaborate.new.frames.items here.frames before.frames;
       bound = binds_next c.args.terms.now c.loop-tree.terms c.elaborate.new.terms c.args.names.now c.args.frames.now.items c.loop-tree.frames.items
           c.args.trees.now c.loop-tree.tree-index c.tree-item.result c.in-Some.value.now c.in-Some.name.now _ c.loop-tree.frame c.insert.new.self c.in_ok-term.term
           before.grown here.grows before.frames c.loop-tree-test.true c.tree-item.is c.in-Some.ensures.binding
@@ -111,16 +111,16 @@ pub let_term-returns-in_err-term-clause-refused : goal.let_term-returns-in_err-t
 let_term-returns-in_err-term-clause-refused t c = λ err.
     (let p = err_from_is_err_and c.from_residual-in_err-term.result c.from_residual-in_err-term.ensures.1 in
     let bound = c.in_ok-frame.ensures in
-    let_none c.args.terms.now c.bind_all.new.terms c.args.names.now c.args.frames.now.items c.push.new.self.items c.in_ok-frame.frame
+    let_none c.args.terms.now c.bind_all.new.terms c.args.names.now c.args.frames.now.items c.bind_all.new.frames.items c.push.new.self.items c.in_ok-frame.frame
     (seen c.args.trees.now) (view c.in-Some.bindings.now) (view c.in-Some.body.now) (seen c.in-Some-trees_of.bindings.now) c.in-Some.ensures.two c.in-Some-trees_of.ensures.trees
-    bound.grows (c.in_ok-push.ensures.items ∙ ap (λ l. l ++ c.in_ok-frame.frame ∷ []) bound.frames) bound.bound (c.in_err-term.ensures.refused cc))
+    bound.grows bound.frames c.in_ok-push.ensures.items bound.bound (c.in_err-term.ensures.refused cc))
 
 pub let_term-returns-clause-found : goal.let_term-returns-clause-found
 let_term-returns-clause-found t c =
     let bound = c.in_ok-frame.ensures in
-    let_found c.args.terms.now c.bind_all.new.terms c.elaborate.new.terms c.args.names.now c.args.frames.now.items c.push.new.self.items c.in_ok-frame.frame
+    let_found c.args.terms.now c.bind_all.new.terms c.elaborate.new.terms c.args.names.now c.args.frames.now.items c.bind_all.new.frames.items c.push.new.self.items c.in_ok-frame.frame
     (seen c.args.trees.now) (view c.in-Some.bindings.now) (view c.in-Some.body.now) (seen c.in-Some-trees_of.bindings.now) c.in_ok-term.term
-    c.in-Some.ensures.two c.in-Some-trees_of.ensures.trees bound.grows (c.in_ok-push.ensures.items ∙ ap (λ l. l ++ c.in_ok-frame.frame ∷ []) bound.frames)
+    c.in-Some.ensures.two c.in-Some-trees_of.ensures.trees bound.grows bound.frames c.in_ok-push.ensures.items
     bound.bound c.in_ok-term.ensures.found
 
 pub list_term-returns-in-Let-clause-found : goal.list_term-returns-in-Let-clause-found
