@@ -24,7 +24,7 @@ use crate::typed::{ElaborateError, Typed};
 use nz_base::Text;
 use nz_sexpr::{Token, Tree};
 use nz_spec::elaboration::expansions_keep_sort;
-use nz_spec::table::{term_stays, terms_stay};
+use nz_spec::table::term_stays;
 use nz_spec::term::instance_keeps_normal;
 use nz_term::{Head, Sort, TermId, Terms, instance};
 use std::alloc::Global;
@@ -33,7 +33,8 @@ use std::alloc::Global;
 ///
 /// # Errors
 ///
-/// `Sort` exactly where the tree has no term. After an error the table may have grown: cut it back.
+/// `Sort` exactly where the tree has no term. After an error the table may have grown, and frames may be left on: cut the table back,
+/// and let the frames go.
 #[cycle(elaborate)]
 pub(crate) fn elaborate(
     alloc: Global,
