@@ -1,20 +1,19 @@
 -- Lemmas of elaboration: trees one after another.
 use Rattle.std.specs.Prelude.{⊤}
-use Rattle.std.proofs.Common.{◌≡◌, ℕ, ◌<◌, ◌+◌, zero, suc, List, [], ◌∷◌, ◌++◌, length, map, take, drop, get_or, Option, None, Some, true, false, bytes_eq, cond, refl, subst, sym, ap, ◌∙◌, arith}
+use Rattle.std.proofs.Common.{◌≡◌, ℕ, ◌<◌, ◌+◌, List, [], ◌∷◌, ◌++◌, length, map, take, get_or, Option, None, Some, true, false, bytes_eq, cond, refl, subst, sym, ap, ◌∙◌}
 use Rattle.std.proofs.lemmas.List.{map_more}
-use Rattle.nz_spec.specs.Tree.{symbol, keyword, numeral, decimal, hexadecimal, binary, literal, Tree, leaf, node, Trees, no_trees, trees}
+use Rattle.nz_spec.specs.Tree.{symbol, Tree, leaf, node, no_trees, trees}
 use Rattle.nz_spec.specs.Reading.{trees_from}
 use Rattle.nz_spec.specs.Form.{tree_symbol}
-use Rattle.nz_spec.specs.Term.{Term, Terms, no_terms, terms}
-use Rattle.nz_spec.specs.Table.{Node, TermStays}
-use Rattle.nz_spec.specs.Elaboration.{Scope, listed, term_of, terms_of, terms_onto, bindings_of, bindings_in, binding_onto, bound_onto, bound_pair}
+use Rattle.nz_spec.specs.Term.{Term, no_terms, terms}
+use Rattle.nz_spec.specs.Table.{Node}
+use Rattle.nz_spec.specs.Elaboration.{Scope, listed, term_of, terms_of, terms_onto, bindings_of, binding_onto, bound_onto}
 use Rattle.nz_sort.specs.declared.typed.Typed.{Typed}
-use Rattle.nz_sort.specs.Form.{IsHeadless, IsNotTwo, IsNotOne}
-use Rattle.nz_sort.specs.Typed.{Grows, IsTyped, AreTyped}
+use Rattle.nz_sort.specs.Typed.{Grows, IsTyped}
 use Rattle.nz_sort.specs.Names.{bound_in, first_of, SameTerm}
-use Rattle.nz_sort.specs.Elaborate.{StandsAs, StandAs, Binds, IsWord}
+use Rattle.nz_sort.specs.Elaborate.{StandsAs, StandAs, Binds}
 use Rattle.nz_sort.proofs.Staying.{typed_kept}
-use Rattle.nz_sort.proofs.ScopeTerms.{same_kept, same_some, first_term, listed_append, same_first}
+use Rattle.nz_sort.proofs.ScopeTerms.{same_kept, listed_append, same_first}
 
 -- ---- Trees one after another
 
@@ -25,14 +24,14 @@ EachStands sc ns (t ∷ ts) (x ∷ xs) = StandsAs (term_of sc t) ns x × EachSta
 EachStands sc ns [] (x ∷ xs) = ⊥
 EachStands sc ns (t ∷ ts) [] = ⊥
 
-pub stands_kept : TermStays → (old new : List Node) → Grows old new → (o : Option Term) (x : Typed) → StandsAs o old x → StandsAs o new x
-stands_kept stays old new g o x s = record { term = s.term; is = s.is; typed = typed_kept stays old new g x s.term s.typed }
+pub stands_kept : (old new : List Node) → Grows old new → (o : Option Term) (x : Typed) → StandsAs o old x → StandsAs o new x
+stands_kept old new g o x s = record { term = s.term; is = s.is; typed = typed_kept old new g x s.term s.typed }
 
-pub each_kept : TermStays → (old new : List Node) → Grows old new → (sc : Scope) (ts : List Tree) (xs : List Typed) → EachStands sc old ts xs → EachStands sc new ts xs
-each_kept stays old new g sc [] [] e = tt
-each_kept stays old new g sc [] (x ∷ xs) e = absurd e
-each_kept stays old new g sc (t ∷ ts) [] e = absurd e
-each_kept stays old new g sc (t ∷ ts) (x ∷ xs) e = (stands_kept stays old new g (term_of sc t) x e.0, each_kept stays old new g sc ts xs e.1)
+pub each_kept : (old new : List Node) → Grows old new → (sc : Scope) (ts : List Tree) (xs : List Typed) → EachStands sc old ts xs → EachStands sc new ts xs
+each_kept old new g sc [] [] e = tt
+each_kept old new g sc [] (x ∷ xs) e = absurd e
+each_kept old new g sc (t ∷ ts) [] e = absurd e
+each_kept old new g sc (t ∷ ts) (x ∷ xs) e = (stands_kept old new g (term_of sc t) x e.0, each_kept old new g sc ts xs e.1)
 
 pub each_push : (sc : Scope) (ns : List Node) (ts : List Tree) (xs : List Typed) (t : Tree) (x : Typed) → EachStands sc ns ts xs → StandsAs (term_of sc t) ns x
     → EachStands sc ns (ts ++ t ∷ []) (xs ++ x ∷ [])
@@ -81,9 +80,6 @@ pub record BindsSome (sc : Scope) (bs : List Tree) (ns : List Node) (frame : Lis
   pub are : AreBindings sc bs pairs
   pub same : (name : List ℕ) → SameTerm ns (bound_in frame name) (listed pairs name)
 
-pub binds_start : (sc : Scope) (ns : List Node) → BindsSome sc [] ns []
-binds_start sc ns = record { pairs = []; are = tt; same = λ name. tt }
-
 bindings_push : (sc : Scope) (bs : List Tree) (ps : List (List ℕ × Term)) (b : Tree) (p : List ℕ × Term) → AreBindings sc bs ps → IsBinding sc b p
     → AreBindings sc (bs ++ b ∷ []) (ps ++ p ∷ [])
 bindings_push sc [] [] b p a is = (is, tt)
@@ -95,12 +91,12 @@ alone : (ns : List Node) (name other : List ℕ) (x : Typed) (t : Term) → IsTy
 alone ns name other x t p =
     elim (bytes_eq other name) as (λ b. SameTerm ns (cond b (Some x) None) (cond b (Some t) None)) [ true ↦ p | false ↦ tt ]
 
-pub binds_push : TermStays → (sc : Scope) (bs : List Tree) (old new : List Node) (before after : List (List ℕ × Typed)) (b t : Tree) (name : List ℕ) (x : Typed)
+pub binds_push : (sc : Scope) (bs : List Tree) (old new : List Node) (before after : List (List ℕ × Typed)) (b t : Tree) (name : List ℕ) (x : Typed)
     → Grows old new → BindsSome sc bs old before
     → b ≡ node (trees (leaf (symbol name)) (trees t no_trees)) → StandsAs (term_of sc t) new x
     → ((other : List ℕ) → bound_in after other ≡ first_of (bound_in before other) (bound_in ((name, x) ∷ []) other))
     → BindsSome sc (bs ++ b ∷ []) new after
-binds_push stays sc bs old new before after b t name x g s shape found inserted =
+binds_push sc bs old new before after b t name x g s shape found inserted =
     let pair : List ℕ × Term = (name, found.term) in
     record {
       pairs = s.pairs ++ pair ∷ [];
@@ -109,7 +105,7 @@ binds_push stays sc bs old new before after b t name x g s shape found inserted 
           subst (λ o. SameTerm new o (listed (s.pairs ++ pair ∷ []) other)) (sym (inserted other))
           (subst (λ o. SameTerm new (first_of (bound_in before other) (bound_in ((name, x) ∷ []) other)) o) (sym (listed_append s.pairs (pair ∷ []) other))
           (same_first new (bound_in before other) (bound_in ((name, x) ∷ []) other) (listed s.pairs other) (listed (pair ∷ []) other)
-          (same_kept stays old new g (bound_in before other) (listed s.pairs other) (s.same other))
+          (same_kept old new g (bound_in before other) (listed s.pairs other) (s.same other))
           (alone new name other x found.term found.typed)));
     }
 
@@ -128,10 +124,6 @@ bound_onto-none None t = refl
 bound_onto-none (Some name) None = refl
 bound_onto-none (Some name) (Some t) = refl
 
-bound_onto-term : (name : Option (List ℕ)) (ps : Option (List (List ℕ × Term))) → bound_onto name None ps ≡ None
-bound_onto-term None ps = refl
-bound_onto-term (Some name) ps = refl
-
 binding_onto-none : (sc : Scope) (b : Tree) → binding_onto sc b None ≡ None
 binding_onto-none sc (leaf t) = refl
 binding_onto-none sc (node no_trees) = refl
@@ -147,28 +139,3 @@ bindings_refused sc (c ∷ cs) b more h = ap (binding_onto sc c) (bindings_refus
 pub unbound : (sc : Scope) (b t : Tree) (name : List ℕ) → b ≡ node (trees (leaf (symbol name)) (trees t no_trees)) → term_of sc t ≡ None
     → (ps : Option (List (List ℕ × Term))) → binding_onto sc b ps ≡ None
 unbound sc b t name shape none ps = ap (λ c. binding_onto sc c ps) shape ∙ ap (λ o. bound_onto (Some name) o ps) none
-
-pub not_bound : (sc : Scope) (ts : Trees) (ps : Option (List (List ℕ × Term))) → IsNotTwo ts → bound_pair sc ts ps ≡ None
-not_bound sc no_trees ps n = refl
-not_bound sc (trees x no_trees) ps n = refl
-not_bound sc (trees x (trees t no_trees)) ps n = absurd n
-not_bound sc (trees x (trees t (trees u us))) ps n = refl
-
-pub no_binding : (sc : Scope) (b : Tree) (ps : Option (List (List ℕ × Term))) → IsWord b → binding_onto sc b ps ≡ None
-no_binding sc (leaf t) ps w = refl
-no_binding sc (node ts) ps w = absurd w
-
-pub no_bindings : (sc : Scope) (b : Tree) → IsWord b → bindings_in sc b ≡ None
-no_bindings sc (leaf t) w = refl
-no_bindings sc (node ts) w = absurd w
-
--- a tree that is a symbol
-pub symbol_leaf : (t : Tree) (name : List ℕ) → tree_symbol t ≡ Some name → t ≡ leaf (symbol name)
-symbol_leaf (leaf (symbol n)) name e = cc
-symbol_leaf (leaf (keyword bs)) name e = cc
-symbol_leaf (leaf (numeral bs)) name e = cc
-symbol_leaf (leaf (decimal bs)) name e = cc
-symbol_leaf (leaf (hexadecimal bs)) name e = cc
-symbol_leaf (leaf (binary bs)) name e = cc
-symbol_leaf (leaf (literal bs)) name e = cc
-symbol_leaf (node ts) name e = cc

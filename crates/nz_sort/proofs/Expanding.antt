@@ -1,71 +1,21 @@
--- Lemmas of uses of definitions: arguments where sorts are wanted, and bodies with them.
+-- Lemmas of uses of definitions: the arguments where sorts are wanted.
 use Rattle.std.specs.Prelude.{⊤}
-use Rattle.std.proofs.Common.{◌≡◌, ℕ, ◌<◌, ◌+◌, zero, suc, List, [], ◌∷◌, ◌++◌, length, map, All, Option, None, Some, option_map, true, false, slice_get, refl, sym, ap, ◌∙◌, subst, arith}
+use Rattle.std.proofs.Common.{◌≡◌, ℕ, ◌<◌, ◌+◌, zero, suc, ◌≤◌, List, [], ◌∷◌, ◌++◌, length, map, take, drop, get_or, Option, None, Some, slice_get, refl, sym, ap, ◌∙◌, subst, arith}
+use Rattle.std.proofs.lemmas.List.{length-map, length-take-le, map_more, take_all}
 use Rattle.std.proofs.lemmas.List.Elements.{All-nil, All-cons}
+use Rattle.std.proofs.lemmas.Option.{slice_get-get_or}
 use Rattle.nz_spec.specs.Term as spec
-use Rattle.nz_spec.specs.Term.{int_sort, real_sort, bool_sort, Term, apply, to_real, Terms, no_terms, terms}
-use Rattle.nz_spec.specs.Normal.{normal_of, normals_of}
-use Rattle.nz_spec.specs.Table.{Node, term_in, terms_at, TermStays}
-use Rattle.nz_spec.specs.Elaboration.{Definition, RootFits, are_same_sort, has_sort, as_real, placed, term_at, term_count, terms_onto, all_placed, instance_of, expansion, InstanceKeepsNormal, ExpansionKeepsSort}
+use Rattle.nz_spec.specs.Term.{Term, Terms, no_terms, terms}
+use Rattle.nz_spec.specs.Normal.{normal_of}
+use Rattle.nz_spec.specs.Table.{Node, term_in, terms_at}
+use Rattle.nz_spec.specs.Elaboration.{placed, term_at, term_count, terms_onto, all_placed}
 use Rattle.nz_term.specs.Constants.{sort_of}
 use Rattle.nz_term.specs.declared.heads.Sort.{Sort}
-use Rattle.nz_term.specs.declared.heads.Sort.TheVariants.{Bool, Int, Real}
 use Rattle.nz_sort.specs.declared.typed.Typed.{Typed}
-use Rattle.nz_sort.specs.declared.names.Definition as code
-use Rattle.nz_sort.specs.Typed.{Grows, StandsFor, IsTyped, AreTyped}
-use Rattle.nz_sort.specs.Names.{IsDefined}
+use Rattle.nz_sort.specs.Typed.{Grows, IsTyped, AreTyped}
 use Rattle.nz_sort.specs.Elaborate.{StandsAs, Places}
-use Rattle.nz_sort.proofs.Growing.{longer}
-use Rattle.nz_sort.proofs.Staying.{term_kept}
-
--- ---- One argument
-
-same_sort : (s : Sort) → are_same_sort (sort_of s) (sort_of s) ≡ true
-same_sort Bool = refl
-same_sort Int = refl
-same_sort Real = refl
-
-pub placed_same : (ns : List Node) (sort : Sort) (x : Typed) (t : Term) → x.sort ≡ sort → IsTyped ns x t
-    → StandsAs (placed (sort_of sort) t) ns (record { id = x.id; sort = sort })
-placed_same ns sort x t e p =
-    let sorts : spec.sort_of t ≡ sort_of sort = sym p.sort ∙ ap sort_of e in
-    let fits : has_sort (sort_of sort) t ≡ true = ap (are_same_sort (sort_of sort)) sorts ∙ same_sort sort in
-    record {
-      term = t;
-      is = rw fits refl;
-      typed = record { within = p.within; normal = p.normal; sort = sym sorts };
-    }
-
-pub placed_real : (old new : List Node) (x : Typed) (t : Term) (id : ℕ) → x.sort ≡ Int → IsTyped old x t → StandsFor new id (normal_of (as_real t))
-    → StandsAs (placed real_sort t) new (record { id = id; sort = Real })
-placed_real old new x t id e p made =
-    let sorts : spec.sort_of t ≡ int_sort = sym p.sort ∙ ap sort_of e in
-    let is_int : has_sort int_sort t ≡ true = ap (are_same_sort int_sort) sorts in
-    let is_real : has_sort real_sort t ≡ false = ap (are_same_sort real_sort) sorts in
-    let read : as_real t ≡ apply to_real (terms t no_terms) = rw is_int refl in
-    record {
-      term = as_real t;
-      is = rw (is_real, is_int) refl;
-      typed = record { within = made.within; normal = made.term; sort = sym (ap spec.sort_of read) };
-    }
-
-not_same : (s r : Sort) (t : Term) → sort_of r ≡ spec.sort_of t → (r ≡ s → ⊥) → (s ≡ Real → r ≡ Int → ⊥) → placed (sort_of s) t ≡ None
-not_same Bool Bool t e d w = absurd (d refl)
-not_same Bool Int t e d w = let no : has_sort bool_sort t ≡ false = ap (are_same_sort bool_sort) (sym e) in rw no refl
-not_same Bool Real t e d w = let no : has_sort bool_sort t ≡ false = ap (are_same_sort bool_sort) (sym e) in rw no refl
-not_same Int Bool t e d w = let no : has_sort int_sort t ≡ false = ap (are_same_sort int_sort) (sym e) in rw no refl
-not_same Int Int t e d w = absurd (d refl)
-not_same Int Real t e d w = let no : has_sort int_sort t ≡ false = ap (are_same_sort int_sort) (sym e) in rw no refl
-not_same Real Bool t e d w =
-    let no : has_sort real_sort t ≡ false = ap (are_same_sort real_sort) (sym e) in
-    let none : has_sort int_sort t ≡ false = ap (are_same_sort int_sort) (sym e) in
-    rw (no, none) refl
-not_same Real Int t e d w = absurd (w refl refl)
-not_same Real Real t e d w = absurd (d refl)
-
-pub not_placed : (ns : List Node) (sort : Sort) (x : Typed) (t : Term) → (x.sort ≡ sort → ⊥) → (sort ≡ Real → x.sort ≡ Int → ⊥) → IsTyped ns x t
-    → placed (sort_of sort) t ≡ None
-not_placed ns sort x t differs wide p = not_same sort x.sort t p.sort differs wide
+use Rattle.nz_sort.proofs.Growing.{longer, term_kept}
+use Rattle.nz_sort.proofs.Staying.{typed_kept}
 
 -- ---- Arguments one after another
 
@@ -84,20 +34,20 @@ EachPlaced ns (s ∷ ss) no_terms is = ⊥
 EachPlaced ns (s ∷ ss) (terms t ts) [] = ⊥
 EachPlaced ns (s ∷ ss) (terms t ts) (i ∷ is) = IsPlaced ns s t i × EachPlaced ns ss ts is
 
-pub each_placed_kept : TermStays → (old new : List Node) → Grows old new → (ss : List spec.Sort) (ts : Terms) (is : List ℕ) → EachPlaced old ss ts is → EachPlaced new ss ts is
-each_placed_kept stays old new g [] ts [] e = tt
-each_placed_kept stays old new g [] ts (i ∷ is) e = absurd e
-each_placed_kept stays old new g (s ∷ ss) no_terms is e = absurd e
-each_placed_kept stays old new g (s ∷ ss) (terms t ts) [] e = absurd e
-each_placed_kept stays old new g (s ∷ ss) (terms t ts) (i ∷ is) e =
+pub each_placed_kept : (old new : List Node) → Grows old new → (ss : List spec.Sort) (ts : Terms) (is : List ℕ) → EachPlaced old ss ts is → EachPlaced new ss ts is
+each_placed_kept old new g [] ts [] e = tt
+each_placed_kept old new g [] ts (i ∷ is) e = absurd e
+each_placed_kept old new g (s ∷ ss) no_terms is e = absurd e
+each_placed_kept old new g (s ∷ ss) (terms t ts) [] e = absurd e
+each_placed_kept old new g (s ∷ ss) (terms t ts) (i ∷ is) e =
     let first = e.0 in (
       record {
         term = first.term;
         is = first.is;
         within = omega (arith, first.within, longer old new g);
-        normal = term_kept stays old new g i first.within ∙ first.normal;
+        normal = term_kept old new g i first.within ∙ first.normal;
       },
-      each_placed_kept stays old new g ss ts is e.1,
+      each_placed_kept old new g ss ts is e.1,
     )
 
 pub each_placed_push : (ns : List Node) (ss : List spec.Sort) (ts : Terms) (is : List ℕ) (s : spec.Sort) (t : Term) (id : ℕ) → EachPlaced ns ss ts is
@@ -173,29 +123,70 @@ typed_at ns (y ∷ ys) (terms t ts) (suc i) x p here =
     let rest : IsTermAt ns ts i x = typed_at ns ys ts i x p.1 here in
     record { term = rest.term; is = rest.is; typed = rest.typed }
 
--- ---- Bodies
+-- ---- A loop over the sorts and the arguments
 
--- the use of a definition, by the numbers of its body and of its arguments
-pub expanded : InstanceKeepsNormal → ExpansionKeepsSort → (mid new : List Node) (d : code.Definition) (e : Definition) (ts : Terms) (ids : List ℕ) (id : ℕ)
-    → map sort_of d.parameters.items ≡ e.parameters → IsTyped mid d.body e.body → RootFits e.parameters e.body
-    → Places (map sort_of d.parameters.items) ts mid ids
-    → id < length new → term_in new id ≡ instance_of (terms_at (term_in mid) ids) (term_in mid d.body.id)
-    → StandsAs (expansion e ts) new (record { id = id; sort = d.body.sort })
-expanded keeps sorts mid new d e ts ids id parameters body fits p below made =
-    let placed_at : all_placed e.parameters ts ≡ Some p.terms = ap (λ ss. all_placed ss ts) (sym parameters) ∙ p.are in
-    let term = instance_of p.terms e.body in
-    let stands : expansion e ts ≡ Some term = ap (option_map (λ us. instance_of us e.body)) placed_at in
-    record {
-      term = term;
-      is = stands;
-      typed = record {
-        within = below;
-        normal = made ∙ ap (λ us. instance_of us (term_in mid d.body.id)) p.normal ∙ ap (instance_of (normals_of p.terms)) body.normal ∙ sym (keeps p.terms e.body);
-        sort = body.sort ∙ sym (sorts e fits ts term stands);
-      };
-    }
+-- the sorts so far are as many as the steps
+sorts_so_far : (ss : List Sort) (i : ℕ) → i < length ss → length (map sort_of (take i ss)) ≡ i
+sorts_so_far ss i below = length-map (take i ss) sort_of ∙ length-take-le i ss (omega (arith, below))
 
-pub not_expanded : (d : code.Definition) (e : Definition) (ts : Terms) → map sort_of d.parameters.items ≡ e.parameters
-    → all_placed (map sort_of d.parameters.items) ts ≡ None → expansion e ts ≡ None
-not_expanded d e ts parameters none =
-    ap (option_map (λ us. instance_of us e.body)) (ap (λ ss. all_placed ss ts) (sym parameters) ∙ none)
+argument_at : (ns : List Node) (xs : List Typed) (ts : Terms) (i : ℕ) (e : Typed) → i < length xs → AreTyped ns xs ts → IsTermAt ns ts i (get_or xs i e)
+argument_at ns xs ts i e below p = typed_at ns xs ts i (get_or xs i e) p (slice_get-get_or xs i e below)
+
+-- one argument more
+pub placed_next : (start old new : List Node) (ss : List Sort) (xs : List Typed) (i id : ℕ) (d : Sort) (e : Typed) (ids items : List ℕ) → Grows start old → Grows old new
+    → i < length ss → i < length xs → items ≡ ids ++ id ∷ []
+    → ((ts : Terms) → AreTyped start xs ts → EachPlaced old (map sort_of (take i ss)) ts ids)
+    → ((t : Term) → IsTyped old (get_or xs i e) t → StandsAs (placed (sort_of (get_or ss i d)) t) new (record { id = id; sort = get_or ss i d }))
+    → (ts : Terms) → AreTyped start xs ts → EachPlaced new (map sort_of (take (i + 1) ss)) ts items
+placed_next start old new ss xs i id d e ids items g h below within grown each stands ts p =
+    let s = get_or ss i d in
+    let x = get_or xs i e in
+    let here : IsTermAt start ts i x = argument_at start xs ts i e within p in
+    let made : StandsAs (placed (sort_of s) here.term) new (record { id = id; sort = s }) = stands here.term (typed_kept start old g x here.term here.typed) in
+    subst (λ l. EachPlaced new l ts items) (sym (map_more sort_of ss i d below))
+    (subst (EachPlaced new (map sort_of (take i ss) ++ sort_of s ∷ []) ts) (sym grown)
+    (each_placed_push new (map sort_of (take i ss)) ts ids (sort_of s) here.term id
+    (each_placed_kept old new h (map sort_of (take i ss)) ts ids (each ts p))
+    (ap (term_at ts) (sorts_so_far ss i below) ∙ here.is)
+    (record { term = made.term; is = made.is; within = made.typed.within; normal = made.typed.normal })))
+
+-- the sorts round one of them
+sorts_round : (ss : List Sort) (i : ℕ) (d : Sort) → i < length ss → map sort_of (take i ss) ++ sort_of (get_or ss i d) ∷ map sort_of (drop (suc i) ss) ≡ map sort_of ss
+sorts_round [] i d below = absurd (omega (arith, below))
+sorts_round (s ∷ ss) zero d below = refl
+sorts_round (s ∷ ss) (suc i) d below = ap (λ l. sort_of s ∷ l) (sorts_round ss i d (omega (arith, below)))
+
+-- an argument that isn't placed
+pub placed_none : (start : List Node) (ss : List Sort) (xs : List Typed) (i : ℕ) (d : Sort) (e : Typed) → i < length ss → i < length xs
+    → ((ns : List Node) (t : Term) → IsTyped ns (get_or xs i e) t → placed (sort_of (get_or ss i d)) t ≡ None)
+    → (ts : Terms) → AreTyped start xs ts → all_placed (map sort_of ss) ts ≡ None
+placed_none start ss xs i d e below within none ts p =
+    let here : IsTermAt start ts i (get_or xs i e) = argument_at start xs ts i e within p in
+    subst (λ l. all_placed l ts ≡ None) (sorts_round ss i d below)
+    (all_placed_none (map sort_of (take i ss)) (map sort_of (drop (suc i) ss)) (sort_of (get_or ss i d)) ts here.term
+    (ap (term_at ts) (sorts_so_far ss i below) ∙ here.is) (none start here.term here.typed))
+
+-- a term that is placed has a number in the table
+pub placed_within : (start old new : List Node) (ss : List Sort) (xs : List Typed) (i id : ℕ) (d : Sort) (e : Typed) → Grows start old → i < length xs
+    → ((t : Term) → IsTyped old (get_or xs i e) t → StandsAs (placed (sort_of (get_or ss i d)) t) new (record { id = id; sort = get_or ss i d }))
+    → (ts : Terms) → AreTyped start xs ts → id < length new
+placed_within start old new ss xs i id d e g within stands ts p =
+    let s = get_or ss i d in
+    let x = get_or xs i e in
+    let here : IsTermAt start ts i x = argument_at start xs ts i e within p in
+    let made : StandsAs (placed (sort_of s) here.term) new (record { id = id; sort = s }) = stands here.term (typed_kept start old g x here.term here.typed) in
+    made.typed.within
+
+-- all of them
+pub placed_all : (start new : List Node) (ss : List Sort) (xs : List Typed) (i : ℕ) (ids : List ℕ) → length ss ≤ i → length ss ≡ length xs
+    → ((ts : Terms) → AreTyped start xs ts → EachPlaced new (map sort_of (take i ss)) ts ids)
+    → (ts : Terms) → AreTyped start xs ts → Places (map sort_of ss) ts new ids
+placed_all start new ss xs i ids past same each ts p =
+    all_placed_each new (map sort_of ss) ts ids (subst (λ l. EachPlaced new (map sort_of l) ts ids) (take_all i ss past) (each ts p))
+    (length-map ss sort_of ∙ same ∙ typed_count start xs ts p)
+
+-- more arguments than sorts, or fewer
+pub placed_count : (start : List Node) (ss : List Sort) (xs : List Typed) → (length ss ≡ length xs → ⊥) → (ts : Terms) → AreTyped start xs ts
+    → all_placed (map sort_of ss) ts ≡ None
+placed_count start ss xs differ ts p =
+    all_placed_count (map sort_of ss) ts (λ e. differ (sym (length-map ss sort_of) ∙ e ∙ sym (typed_count start xs ts p)))

@@ -1,26 +1,19 @@
 -- Lemmas of the terms of lists of trees: a `let`, or a name over arguments.
-use Rattle.std.proofs.Common.{◌≡◌, ℕ, List, [], ◌∷◌, ◌++◌, Option, None, Some, Result, Ok, Err, IfOk, option_and_then, refl, sym, ap, ◌∙◌, subst}
+use Rattle.std.proofs.Common.{◌≡◌, ℕ, List, [], ◌∷◌, ◌++◌, Option, None, Some, Result, Ok, Err, IfOk, option_and_then, sym, ap, ◌∙◌, subst}
 use Rattle.nz_spec.specs.Tree.{Token, symbol, symbol_name, Tree, leaf, node, Trees, no_trees, trees}
-use Rattle.nz_spec.specs.Form.{TermHead, term_head, name_head, let_head, no_head, tree_symbol}
+use Rattle.nz_spec.specs.Form.{TermHead, term_head, name_head, let_head, no_head}
 use Rattle.nz_spec.specs.Term.{Term, Terms}
-use Rattle.nz_spec.specs.Table.{Node, TermStays}
-use Rattle.nz_spec.specs.Elaboration.{Scope, binding, term_of, terms_of, application, let_term, bindings_in, bindings_of, binding_onto, bound_onto}
+use Rattle.nz_spec.specs.Table.{Node}
+use Rattle.nz_spec.specs.Elaboration.{Scope, binding, term_of, terms_of, application, let_term, bindings_of}
 use Rattle.nz_sort.specs.declared.typed.Typed.{Typed}
 use Rattle.nz_sort.specs.declared.typed.ElaborateError.{ElaborateError}
 use Rattle.nz_sort.specs.declared.names.Named as named
-use Rattle.nz_sort.specs.Form.{IsHeadless, IsNotOne, IsNotTwo}
 use Rattle.nz_sort.specs.Typed.{Grows, AreTyped}
 use Rattle.nz_sort.specs.Names.{IsScope}
-use Rattle.nz_sort.specs.Elaborate.{StandsAs, StandAs, Binds, IsWord, application_of}
+use Rattle.nz_sort.specs.Elaborate.{StandsAs, StandAs, Binds, application_of}
 use Rattle.nz_sort.proofs.ScopeTerms.{scope_kept, scope_within}
-use Rattle.nz_sort.proofs.Elaborating.{not_bound, symbol_leaf}
 
 -- ---- Heads
-
-pub headless : (sc : Scope) (ts : Trees) → IsHeadless ts → term_of sc (node ts) ≡ None
-headless sc no_trees h = refl
-headless sc (trees (leaf t) ts) h = absurd h
-headless sc (trees (node us) ts) h = refl
 
 -- the term of a list by its head
 abbrev by_head : Scope → Token → Trees → TermHead → Option Term
@@ -43,88 +36,64 @@ name_list sc ts t us name shape e is =
     ap (λ l. term_of sc (node l)) shape ∙ headed sc t us name_head e
     ∙ ap (λ o. elim o [ Some n ↦ application_of sc n us | None ↦ None ]) (ap symbol_name is)
 
-pub nameless_list : (sc : Scope) (ts : Trees) (t : Token) (us : Trees) → ts ≡ trees (leaf t) us → name_head ≡ term_head t → symbol_name t ≡ None
-    → term_of sc (node ts) ≡ None
-nameless_list sc ts t us shape e is =
-    ap (λ l. term_of sc (node l)) shape ∙ headed sc t us name_head e ∙ ap (λ o. elim o [ Some n ↦ application_of sc n us | None ↦ None ]) is
-
-pub other_list : (sc : Scope) (ts : Trees) (t : Token) (us : Trees) → ts ≡ trees (leaf t) us → no_head ≡ term_head t → term_of sc (node ts) ≡ None
-other_list sc ts t us shape e = ap (λ l. term_of sc (node l)) shape ∙ headed sc t us no_head e
-
 -- ---- Applications
 
-pub application_found : TermStays → (r : Result Typed ElaborateError) (old mid new : List Node) (names : List (List ℕ × named.Named)) (frames inner : List (List (List ℕ × Typed)))
+pub application_found : (r : Result Typed ElaborateError) (old mid new : List Node) (names : List (List ℕ × named.Named)) (frames inner : List (List (List ℕ × Typed)))
     (name : List ℕ) (us : Trees) (xs shown : List Typed) → Grows old mid → inner ≡ frames → shown ≡ xs
     → ((sc : Scope) → IsScope old names frames sc → StandAs (terms_of sc us) mid xs)
     → IfOk r (λ x. (sc : Scope) → IsScope mid names inner sc → (ts : Terms) → AreTyped mid shown ts → StandsAs (application sc name ts) new x)
     → IfOk r (λ x. (sc : Scope) → IsScope old names frames sc → StandsAs (application_of sc name us) new x)
-application_found stays (Err e) old mid new names frames inner name us xs shown g f v arguments found = tt
-application_found stays (Ok x) old mid new names frames inner name us xs shown g f v arguments found = λ sc s.
+application_found (Err e) old mid new names frames inner name us xs shown g f v arguments found = tt
+application_found (Ok x) old mid new names frames inner name us xs shown g f v arguments found = λ sc s.
     (let all : StandAs (terms_of sc us) mid xs = arguments sc s in
-    let here : IsScope mid names inner sc = subst (λ l. IsScope mid names l sc) (sym f) (scope_kept stays old mid g names frames sc s) in
+    let here : IsScope mid names inner sc = subst (λ l. IsScope mid names l sc) (sym f) (scope_kept old mid g names frames sc s) in
     let typed : AreTyped mid shown all.terms = subst (λ l. AreTyped mid l all.terms) (sym v) all.typed in
     subst (λ o. StandsAs o new x) (sym (ap (option_and_then (application sc name)) all.are)) (found sc here all.terms typed))
 
-pub application_none : TermStays → (old mid : List Node) (names : List (List ℕ × named.Named)) (frames inner : List (List (List ℕ × Typed)))
+pub application_none : (old mid : List Node) (names : List (List ℕ × named.Named)) (frames inner : List (List (List ℕ × Typed)))
     (name : List ℕ) (us : Trees) (xs shown : List Typed) → Grows old mid → inner ≡ frames → shown ≡ xs
     → ((sc : Scope) → IsScope old names frames sc → StandAs (terms_of sc us) mid xs)
     → ((sc : Scope) → IsScope mid names inner sc → (ts : Terms) → AreTyped mid shown ts → application sc name ts ≡ None)
     → (sc : Scope) → IsScope old names frames sc → application_of sc name us ≡ None
-application_none stays old mid names frames inner name us xs shown g f v arguments none sc s =
+application_none old mid names frames inner name us xs shown g f v arguments none sc s =
     let all : StandAs (terms_of sc us) mid xs = arguments sc s in
-    let here : IsScope mid names inner sc = subst (λ l. IsScope mid names l sc) (sym f) (scope_kept stays old mid g names frames sc s) in
+    let here : IsScope mid names inner sc = subst (λ l. IsScope mid names l sc) (sym f) (scope_kept old mid g names frames sc s) in
     let typed : AreTyped mid shown all.terms = subst (λ l. AreTyped mid l all.terms) (sym v) all.typed in
     ap (option_and_then (application sc name)) all.are ∙ none sc here all.terms typed
 
-pub arguments_none : (sc : Scope) (name : List ℕ) (us : Trees) → terms_of sc us ≡ None → application_of sc name us ≡ None
-arguments_none sc name us e = ap (option_and_then (application sc name)) e
-
 -- ---- `let`
-
-pub short_let : (sc : Scope) (ts : Trees) → IsNotTwo ts → let_term sc ts ≡ None
-short_let sc no_trees h = refl
-short_let sc (trees b no_trees) h = refl
-short_let sc (trees b (trees body no_trees)) h = absurd h
-short_let sc (trees b (trees body (trees t ts))) h = refl
-
-word_let : (sc : Scope) (b body : Tree) → IsWord b → let_term sc (trees b (trees body no_trees)) ≡ None
-word_let sc (leaf t) body w = refl
-word_let sc (node bs) body w = absurd w
-
-pub let_word : (sc : Scope) (ts : Trees) (b body : Tree) → ts ≡ trees b (trees body no_trees) → IsWord b → let_term sc ts ≡ None
-let_word sc ts b body shape w = ap (let_term sc) shape ∙ word_let sc b body w
 
 let_bindings : (sc : Scope) (ts : Trees) (b body : Tree) (bs : Trees) → ts ≡ trees b (trees body no_trees) → b ≡ node bs
     → let_term sc ts ≡ elim (bindings_of sc bs) [ Some ps ↦ term_of (binding sc ps) body | None ↦ None ]
 let_bindings sc ts b body bs shape is = ap (let_term sc) shape ∙ ap (λ c. let_term sc (trees c (trees body no_trees))) is
 
-pub let_unbound : (sc : Scope) (ts : Trees) (b body : Tree) (bs : Trees) → ts ≡ trees b (trees body no_trees) → b ≡ node bs → bindings_of sc bs ≡ None
-    → let_term sc ts ≡ None
-let_unbound sc ts b body bs shape is none =
-    let_bindings sc ts b body bs shape is ∙ ap (λ o. elim o [ Some ps ↦ term_of (binding sc ps) body | None ↦ None ]) none
-
-pub let_bound : (sc : Scope) (ts : Trees) (b body : Tree) (bs : Trees) (ps : List (List ℕ × Term)) → ts ≡ trees b (trees body no_trees) → b ≡ node bs
+let_bound : (sc : Scope) (ts : Trees) (b body : Tree) (bs : Trees) (ps : List (List ℕ × Term)) → ts ≡ trees b (trees body no_trees) → b ≡ node bs
     → bindings_of sc bs ≡ Some ps → let_term sc ts ≡ term_of (binding sc ps) body
 let_bound sc ts b body bs ps shape is some =
     let_bindings sc ts b body bs shape is ∙ ap (λ o. elim o [ Some qs ↦ term_of (binding sc qs) body | None ↦ None ]) some
 
 -- the scope of the body
-pub body_scope : TermStays → (old mid : List Node) (names : List (List ℕ × named.Named)) (frames inner : List (List (List ℕ × Typed))) (frame : List (List ℕ × Typed))
-    (sc : Scope) (bs : Trees) → Grows old mid → inner ≡ frames ++ frame ∷ [] → IsScope old names frames sc → (b : Binds sc bs mid frame)
+body_scope : (old mid : List Node) (names : List (List ℕ × named.Named)) (frames between inner : List (List (List ℕ × Typed))) (frame : List (List ℕ × Typed))
+    (sc : Scope) (bs : Trees) → Grows old mid → between ≡ frames → inner ≡ between ++ frame ∷ [] → IsScope old names frames sc → (b : Binds sc bs mid frame)
     → IsScope mid names inner (binding sc b.pairs)
-body_scope stays old mid names frames inner frame sc bs g e s b =
-    subst (λ l. IsScope mid names l (binding sc b.pairs)) (sym e) (scope_within mid names frames sc frame b.pairs (scope_kept stays old mid g names frames sc s) b.same)
+body_scope old mid names frames between inner frame sc bs g e pushed s b =
+    subst (λ l. IsScope mid names l (binding sc b.pairs)) (sym (pushed ∙ ap (λ l. l ++ frame ∷ []) e)) (scope_within mid names frames sc frame b.pairs (scope_kept old mid g names frames sc s) b.same)
 
--- ---- Bindings
+pub let_found : (old mid new : List Node) (names : List (List ℕ × named.Named)) (frames between inner : List (List (List ℕ × Typed))) (frame : List (List ℕ × Typed))
+    (ts : Trees) (b body : Tree) (bs : Trees) (x : Typed) → ts ≡ trees b (trees body no_trees) → b ≡ node bs → Grows old mid → between ≡ frames → inner ≡ between ++ frame ∷ []
+    → ((sc : Scope) → IsScope old names frames sc → Binds sc bs mid frame)
+    → ((sc : Scope) → IsScope mid names inner sc → StandsAs (term_of sc body) new x)
+    → (sc : Scope) → IsScope old names frames sc → StandsAs (let_term sc ts) new x
+let_found old mid new names frames between inner frame ts b body bs x shape is g e pushed binds found sc s =
+    let all : Binds sc bs mid frame = binds sc s in
+    subst (λ o. StandsAs o new x) (sym (let_bound sc ts b body bs all.pairs shape is all.are))
+    (found (binding sc all.pairs) (body_scope old mid names frames between inner frame sc bs g e pushed s all))
 
-pub short_binding : (sc : Scope) (b : Tree) (ts : Trees) (ps : Option (List (List ℕ × Term))) → b ≡ node ts → IsNotTwo ts → binding_onto sc b ps ≡ None
-short_binding sc b ts ps is h = ap (λ c. binding_onto sc c ps) is ∙ not_bound sc ts ps h
-
-pub nameless_binding : (sc : Scope) (b x t : Tree) (ts : Trees) (ps : Option (List (List ℕ × Term))) → b ≡ node ts → ts ≡ trees x (trees t no_trees) → tree_symbol x ≡ None
-    → binding_onto sc b ps ≡ None
-nameless_binding sc b x t ts ps is shape none =
-    ap (λ c. binding_onto sc c ps) (is ∙ ap node shape) ∙ ap (λ o. bound_onto o (term_of sc t) ps) none
-
-pub named_binding : (b x t : Tree) (ts : Trees) (name : List ℕ) → b ≡ node ts → ts ≡ trees x (trees t no_trees) → tree_symbol x ≡ Some name
-    → b ≡ node (trees (leaf (symbol name)) (trees t no_trees))
-named_binding b x t ts name is shape some = is ∙ ap node shape ∙ ap (λ y. node (trees y (trees t no_trees))) (symbol_leaf x name some)
+pub let_none : (old mid : List Node) (names : List (List ℕ × named.Named)) (frames between inner : List (List (List ℕ × Typed))) (frame : List (List ℕ × Typed))
+    (ts : Trees) (b body : Tree) (bs : Trees) → ts ≡ trees b (trees body no_trees) → b ≡ node bs → Grows old mid → between ≡ frames → inner ≡ between ++ frame ∷ []
+    → ((sc : Scope) → IsScope old names frames sc → Binds sc bs mid frame)
+    → ((sc : Scope) → IsScope mid names inner sc → term_of sc body ≡ None)
+    → (sc : Scope) → IsScope old names frames sc → let_term sc ts ≡ None
+let_none old mid names frames between inner frame ts b body bs shape is g e pushed binds none sc s =
+    let all : Binds sc bs mid frame = binds sc s in
+    let_bound sc ts b body bs all.pairs shape is all.are ∙ none (binding sc all.pairs) (body_scope old mid names frames between inner frame sc bs g e pushed s all)

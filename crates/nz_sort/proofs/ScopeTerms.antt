@@ -2,68 +2,53 @@
 use Rattle.std.proofs.Common.{◌≡◌, ℕ, List, [], ◌∷◌, ◌++◌, Option, None, Some, true, false, bytes_eq, cond, refl, sym, ap, ◌∙◌, subst}
 use Rattle.std.specs.List.{AllByRecursion}
 use Rattle.nz_spec.specs.Term.{Constant, constant, Term, apply, no_terms}
-use Rattle.nz_spec.specs.Table.{Node, TermStays}
+use Rattle.nz_spec.specs.Table.{Node}
 use Rattle.nz_spec.specs.Elaboration.{listed, constant_named, definition_named, Scope, Definition, RootFits, binding}
 use Rattle.nz_sort.specs.declared.typed.Typed.{Typed}
 use Rattle.nz_sort.specs.declared.names.Definition as code
 use Rattle.nz_sort.specs.declared.names.Named as named
 use Rattle.nz_sort.specs.declared.names.Named.TheVariants as kinds
-use Rattle.nz_sort.specs.Typed.{Grows, IsTyped}
+use Rattle.nz_sort.specs.Typed.{Grows}
 use Rattle.nz_sort.specs.Names.{named_by, bound_in, first_of, bound_by, IsDefined, SameTerm, SameNamed, IsScope}
-use Rattle.nz_sort.specs.Elaborate.{StandsAs}
 use Rattle.nz_sort.proofs.Staying.{typed_kept}
 
 -- ---- In a table that has grown
 
-pub same_kept : TermStays → (old new : List Node) → Grows old new → (x : Option Typed) (t : Option Term) → SameTerm old x t → SameTerm new x t
-same_kept stays old new g None None s = tt
-same_kept stays old new g None (Some t) s = absurd s
-same_kept stays old new g (Some x) None s = absurd s
-same_kept stays old new g (Some x) (Some t) s = typed_kept stays old new g x t s
+pub same_kept : (old new : List Node) → Grows old new → (x : Option Typed) (t : Option Term) → SameTerm old x t → SameTerm new x t
+same_kept old new g None None s = tt
+same_kept old new g None (Some t) s = absurd s
+same_kept old new g (Some x) None s = absurd s
+same_kept old new g (Some x) (Some t) s = typed_kept old new g x t s
 
-named_kept : TermStays → (old new : List Node) → Grows old new → (n : Option named.Named) (c : Option Constant) (d : Option Definition) → SameNamed old n c d → SameNamed new n c d
-named_kept stays old new g None None None s = tt
-named_kept stays old new g None None (Some d) s = absurd s
-named_kept stays old new g None (Some c) d s = absurd s
-named_kept stays old new g (Some (kinds.Constant x)) None d s = absurd s
-named_kept stays old new g (Some (kinds.Constant x)) (Some c) d s = typed_kept stays old new g x (apply (constant c) no_terms) s
-named_kept stays old new g (Some (kinds.Definition e)) None None s = absurd s
-named_kept stays old new g (Some (kinds.Definition e)) None (Some d) s =
-    record { parameters = s.parameters; body = typed_kept stays old new g e.body d.body s.body }
-named_kept stays old new g (Some (kinds.Definition e)) (Some c) d s = absurd s
+named_kept : (old new : List Node) → Grows old new → (n : Option named.Named) (c : Option Constant) (d : Option Definition) → SameNamed old n c d → SameNamed new n c d
+named_kept old new g None None None s = tt
+named_kept old new g None None (Some d) s = absurd s
+named_kept old new g None (Some c) d s = absurd s
+named_kept old new g (Some (kinds.Constant x)) None d s = absurd s
+named_kept old new g (Some (kinds.Constant x)) (Some c) d s = typed_kept old new g x (apply (constant c) no_terms) s
+named_kept old new g (Some (kinds.Definition e)) None None s = absurd s
+named_kept old new g (Some (kinds.Definition e)) None (Some d) s =
+    record { parameters = s.parameters; body = typed_kept old new g e.body d.body s.body }
+named_kept old new g (Some (kinds.Definition e)) (Some c) d s = absurd s
 
-pub scope_kept : TermStays → (old new : List Node) → Grows old new → (names : List (List ℕ × named.Named)) (frames : List (List (List ℕ × Typed))) (sc : Scope)
+pub scope_kept : (old new : List Node) → Grows old new → (names : List (List ℕ × named.Named)) (frames : List (List (List ℕ × Typed))) (sc : Scope)
     → IsScope old names frames sc → IsScope new names frames sc
-scope_kept stays old new g names frames sc s =
+scope_kept old new g names frames sc s =
     record {
-      bound = λ name. same_kept stays old new g (bound_by frames name) (listed sc.bound name) (s.bound name);
-      live = λ name. named_kept stays old new g (named_by names name) (constant_named sc.constants name) (definition_named sc.definitions name) (s.live name);
+      bound = λ name. same_kept old new g (bound_by frames name) (listed sc.bound name) (s.bound name);
+      live = λ name. named_kept old new g (named_by names name) (constant_named sc.constants name) (definition_named sc.definitions name) (s.live name);
       fits = s.fits;
     }
 
 -- ---- What a name stands for
 
-pub same_some : (ns : List Node) (x : Typed) (o : Option Term) → SameTerm ns (Some x) o → StandsAs o ns x
-same_some ns x None s = absurd s
-same_some ns x (Some t) s = record { term = t; is = refl; typed = s }
-
 pub same_none : (ns : List Node) (o : Option Term) → SameTerm ns None o → o ≡ None
 same_none ns None s = refl
 same_none ns (Some t) s = absurd s
 
-pub bound_found : (ns : List Node) (names : List (List ℕ × named.Named)) (frames : List (List (List ℕ × Typed))) (sc : Scope) (name : List ℕ) (x : Typed)
-    → IsScope ns names frames sc → bound_by frames name ≡ Some x → StandsAs (listed sc.bound name) ns x
-bound_found ns names frames sc name x s e = same_some ns x (listed sc.bound name) (subst (λ o. SameTerm ns o (listed sc.bound name)) e (s.bound name))
-
 pub bound_none : (ns : List Node) (names : List (List ℕ × named.Named)) (frames : List (List (List ℕ × Typed))) (sc : Scope) (name : List ℕ)
     → IsScope ns names frames sc → bound_by frames name ≡ None → listed sc.bound name ≡ None
 bound_none ns names frames sc name s e = same_none ns (listed sc.bound name) (subst (λ o. SameTerm ns o (listed sc.bound name)) e (s.bound name))
-
--- a live name is that of a constant
-pub record IsConstant (ns : List Node) (c : Option Constant) (x : Typed) : Type 0 where
-  pub found : Constant
-  pub is : c ≡ Some found
-  pub typed : IsTyped ns x (apply (constant found) no_terms)
 
 -- a live name is that of a definition
 pub record IsDefinition (ns : List Node) (c : Option Constant) (d : Option Definition) (e : code.Definition) : Type 0 where
@@ -72,42 +57,16 @@ pub record IsDefinition (ns : List Node) (c : Option Constant) (d : Option Defin
   pub other : c ≡ None
   pub defined : IsDefined ns e found
 
--- a name is that of neither
-pub record IsUnnamed (c : Option Constant) (d : Option Definition) : Type 0 where
-  pub no_constant : c ≡ None
-  pub no_definition : d ≡ None
-
-same_constant : (ns : List Node) (x : Typed) (c : Option Constant) (d : Option Definition) → SameNamed ns (Some (kinds.Constant x)) c d → IsConstant ns c x
-same_constant ns x None d s = absurd s
-same_constant ns x (Some c) d s = record { found = c; is = refl; typed = s }
-
 same_definition : (ns : List Node) (e : code.Definition) (c : Option Constant) (d : Option Definition) → SameNamed ns (Some (kinds.Definition e)) c d → IsDefinition ns c d e
 same_definition ns e None None s = absurd s
 same_definition ns e None (Some d) s = record { found = d; is = refl; other = refl; defined = s }
 same_definition ns e (Some c) d s = absurd s
-
-same_unnamed : (ns : List Node) (c : Option Constant) (d : Option Definition) → SameNamed ns None c d → IsUnnamed c d
-same_unnamed ns None None s = record { no_constant = refl; no_definition = refl }
-same_unnamed ns None (Some d) s = absurd s
-same_unnamed ns (Some c) d s = absurd s
-
-pub constant_found : (ns : List Node) (names : List (List ℕ × named.Named)) (frames : List (List (List ℕ × Typed))) (sc : Scope) (name : List ℕ) (x : Typed)
-    → IsScope ns names frames sc → named_by names name ≡ Some (kinds.Constant x) → IsConstant ns (constant_named sc.constants name) x
-constant_found ns names frames sc name x s e =
-    same_constant ns x (constant_named sc.constants name) (definition_named sc.definitions name)
-    (subst (λ n. SameNamed ns n (constant_named sc.constants name) (definition_named sc.definitions name)) e (s.live name))
 
 pub definition_found : (ns : List Node) (names : List (List ℕ × named.Named)) (frames : List (List (List ℕ × Typed))) (sc : Scope) (name : List ℕ) (d : code.Definition)
     → IsScope ns names frames sc → named_by names name ≡ Some (kinds.Definition d)
     → IsDefinition ns (constant_named sc.constants name) (definition_named sc.definitions name) d
 definition_found ns names frames sc name d s e =
     same_definition ns d (constant_named sc.constants name) (definition_named sc.definitions name)
-    (subst (λ n. SameNamed ns n (constant_named sc.constants name) (definition_named sc.definitions name)) e (s.live name))
-
-pub unnamed : (ns : List Node) (names : List (List ℕ × named.Named)) (frames : List (List (List ℕ × Typed))) (sc : Scope) (name : List ℕ)
-    → IsScope ns names frames sc → named_by names name ≡ None → IsUnnamed (constant_named sc.constants name) (definition_named sc.definitions name)
-unnamed ns names frames sc name s e =
-    same_unnamed ns (constant_named sc.constants name) (definition_named sc.definitions name)
     (subst (λ n. SameNamed ns n (constant_named sc.constants name) (definition_named sc.definitions name)) e (s.live name))
 
 -- what holds of each definition holds of the one of a name
@@ -138,7 +97,7 @@ bound_inner (f ∷ fs) frame name =
     ap (λ o. first_of o (bound_in f name)) (bound_inner fs frame name) ∙ first_assoc (bound_in frame name) (bound_by fs name) (bound_in f name)
 
 -- the first of two, where it is there
-pub first_term : Option Term → Option Term → Option Term
+abbrev pub first_term : Option Term → Option Term → Option Term
 first_term (Some t) u = Some t
 first_term None u = u
 

@@ -1,6 +1,6 @@
 -- The trees of a list are smaller than the list.
 use Rattle.std.proofs.Common.{◌≡◌, ℕ, ◌<◌, ◌+◌, zero, suc, List, [], ◌∷◌, ◌++◌, length, map, take, drop, get_or, ap, arith}
-use Rattle.nz_spec.specs.Tree.{Tree}
+use Rattle.nz_spec.specs.Tree.{symbol, Tree, leaf, node, no_trees, trees}
 use Rattle.nz_spec.specs.Reading.{trees_from}
 use Rattle.nz_sort.specs.Elaborate.{tree_size, trees_size}
 
@@ -18,3 +18,8 @@ tree_smaller (u ∷ us) t more = omega (arith, tree_smaller us t more)
 pub item_smaller : {X : Type 0} (f : X → Tree) (xs : List X) (i : ℕ) (x : X) → i < length xs → x ≡ get_or xs i x → tree_size (f x) < trees_size (trees_from (map f xs))
 item_smaller f xs i x below is =
     omega (arith, tree_smaller (map f (take i xs)) (f x) (map f (drop (suc i) xs)), ap (λ l. trees_size (trees_from l)) (map_round f xs i x below is))
+
+-- and so is the term of a binding among them
+pub bound_smaller : {X : Type 0} (f : X → Tree) (xs : List X) (i : ℕ) (x : X) (t : Tree) (name : List ℕ) → i < length xs → x ≡ get_or xs i x
+    → f x ≡ node (trees (leaf (symbol name)) (trees t no_trees)) → tree_size t < trees_size (trees_from (map f xs))
+bound_smaller f xs i x t name below is shape = omega (arith, item_smaller f xs i x below is, ap tree_size shape)

@@ -24,7 +24,7 @@ use crate::typed::{ElaborateError, Typed};
 use nz_base::Text;
 use nz_sexpr::{Token, Tree};
 use nz_spec::elaboration::expansions_keep_sort;
-use nz_spec::table::{term_stays, terms_stay};
+use nz_spec::table::term_stays;
 use nz_spec::term::instance_keeps_normal;
 use nz_term::{Head, Sort, TermId, Terms, instance};
 use std::alloc::Global;
@@ -33,7 +33,8 @@ use std::alloc::Global;
 ///
 /// # Errors
 ///
-/// `Sort` exactly where the tree has no term. After an error the table may have grown: cut it back.
+/// `Sort` exactly where the tree has no term. After an error the table may have grown, and frames may be left on: cut the table back,
+/// and let the frames go.
 #[cycle(elaborate)]
 pub(crate) fn elaborate(
     alloc: Global,
@@ -94,7 +95,6 @@ pub(crate) fn elaborate_all(
     ensures found { IfOk result (λ xs. (sc : Scope) → IsScope terms.old names.now frames.old.items sc → StandAs (terms_of sc (seen trees.now)) terms.new xs.items) }
     ensures refused { IsErrOf result ElaborateError.Sort → (sc : Scope) → IsScope terms.old names.now frames.old.items sc → terms_of sc (seen trees.now) ≡ None }
 {
-    term_stays();
     let mut found = Vec::with_capacity(alloc, trees.len())?;
     for tree in trees {
         let term = elaborate(alloc, names, frames, terms, tree)?;
@@ -118,7 +118,6 @@ fn application(
     ensures found { IfOk result (λ x. (sc : Scope) → IsScope terms.old names.now frames.old.items sc → StandsAs (application_of sc name.now (seen trees.now)) terms.new x) }
     ensures refused { IsErrOf result ElaborateError.Sort → (sc : Scope) → IsScope terms.old names.now frames.old.items sc → application_of sc name.now (seen trees.now) ≡ None }
 {
-    term_stays();
     let arguments = elaborate_all(alloc, names, frames, terms, trees)?;
     apply_name(alloc, names, frames, terms, name, arguments.as_slice())
 }
@@ -188,7 +187,6 @@ fn place_all(
     ensures placed { IfOk result (λ ids. (ts : spec.Terms) → AreTyped terms.old arguments.now ts → Places (map sort_of sorts.now) ts terms.new ids.items) }
     ensures refused { IsErrOf result ElaborateError.Sort → (ts : spec.Terms) → AreTyped terms.old arguments.now ts → all_placed (map sort_of sorts.now) ts ≡ None }
 {
-    term_stays();
     if sorts.len() != arguments.len() {
         return Err(ElaborateError::Sort);
     }
@@ -234,7 +232,6 @@ fn let_term(
     ensures found { IfOk result (λ x. (sc : Scope) → IsScope terms.old names.now frames.old.items sc → StandsAs (spec_let_term sc (seen trees.now)) terms.new x) }
     ensures refused { IsErrOf result ElaborateError.Sort → (sc : Scope) → IsScope terms.old names.now frames.old.items sc → spec_let_term sc (seen trees.now) ≡ None }
 {
-    term_stays();
     let Some((bindings, body)) = pair(trees) else {
         return Err(ElaborateError::Sort);
     };
@@ -262,7 +259,6 @@ fn bind_all(
     ensures bound { IfOk result (λ frame. (sc : Scope) → IsScope terms.old names.now frames.old.items sc → Binds sc (seen trees.now) terms.new frame) }
     ensures refused { IsErrOf result ElaborateError.Sort → (sc : Scope) → IsScope terms.old names.now frames.old.items sc → bindings_of sc (seen trees.now) ≡ None }
 {
-    term_stays();
     let mut frame = Bindings::new(alloc);
     for tree in trees {
         let Some((name, value)) = binding(tree) else {

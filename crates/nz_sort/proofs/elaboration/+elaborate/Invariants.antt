@@ -1,4 +1,4 @@
-use Rattle.std.proofs.Common.{◌≡◌, suc, List, map, take}
+use Rattle.std.proofs.Common.{◌≡◌, suc, map, take}
 use Rattle.nz_sexpr.specs.View.{view}
 use Rattle.nz_spec.specs.Elaboration.{Scope}
 use Rattle.nz_sort.specs.Form.{seen}
