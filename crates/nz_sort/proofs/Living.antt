@@ -10,7 +10,7 @@ use Rattle.std.proofs.lemmas.List.{at_drop_more}
 use Rattle.nz_sexpr.specs.declared.tree.Tree as source
 use Rattle.nz_sexpr.specs.View.{view}
 use Rattle.nz_spec.specs.Tree.{Tree, node, Trees, no_trees, trees}
-use Rattle.nz_spec.specs.Term.{Sort, bool_sort, int_sort, real_sort, Constant, Head, constant, parameter, integer, decimal_number, verum, falsum, negation, conjunction, disjunction, implication, exclusion, equality, distinction, choice, less, at_most, greater, at_least, sum, difference, product, quotient, integer_quotient, modulus, magnitude, to_real, to_int, is_int, Term, Terms, no_terms, terms, apply, holds_number}
+use Rattle.nz_spec.specs.Term.{is_bool, Sort, bool_sort, int_sort, real_sort, Constant, Head, constant, parameter, integer, decimal_number, verum, falsum, negation, conjunction, disjunction, implication, exclusion, equality, distinction, choice, less, at_most, greater, at_least, sum, difference, product, quotient, integer_quotient, modulus, magnitude, to_real, to_int, is_int, Term, Terms, no_terms, terms, apply, holds_number}
 use Rattle.nz_spec.specs.Normal.{normal_of}
 use Rattle.nz_spec.specs.Table.{Node, term_in, TermStays}
 use Rattle.nz_spec.specs.Linear.{is_linear}
@@ -505,6 +505,11 @@ assertion_past s tree o known is =
       | None ↦ refl
     ])
 
+same_bool : (k : Sort) → are_same_sort bool_sort k ≡ is_bool k
+same_bool bool_sort = refl
+same_bool int_sort = refl
+same_bool real_sort = refl
+
 by_sort : (t : Term) (b : Bool) → has_sort bool_sort t ≡ b → asserted_outcome t ≡ cond b (linear_outcome (is_linear (normal_of t)) (assert_term t)) (refused 3)
 by_sort t b e = ap (λ c. cond c (linear_outcome (is_linear (normal_of t)) (assert_term t)) (refused 3)) e
 
@@ -516,22 +521,22 @@ pub untyped_assertion : (s : State) (tree : Tree) → fault_error (has_unknown (
 untyped_assertion s tree known none = assertion_past s tree None known none
 
 pub missorted_assertion : (s : State) (tree : Tree) (ns : List Node) (x : Typed) → fault_error (has_unknown (is_live_name s) [] tree) (has_clash tree) ≡ None
-    → StandsAs (term_of (scope_of s) tree) ns x → are_same_sort bool_sort (sort_of x.sort) ≡ false → assertion_of s tree ≡ refused 3
+    → StandsAs (term_of (scope_of s) tree) ns x → is_bool (sort_of x.sort) ≡ false → assertion_of s tree ≡ refused 3
 missorted_assertion s tree ns x known found other =
-    assertion_past s tree (Some found.term) known found.is ∙ by_sort found.term false (ap (are_same_sort bool_sort) (sym found.typed.sort) ∙ other)
+    assertion_past s tree (Some found.term) known found.is ∙ by_sort found.term false (ap (are_same_sort bool_sort) (sym found.typed.sort) ∙ same_bool (sort_of x.sort) ∙ other)
 
 pub nonlinear_assertion : (s : State) (tree : Tree) (ns : List Node) (x : Typed) → fault_error (has_unknown (is_live_name s) [] tree) (has_clash tree) ≡ None
-    → StandsAs (term_of (scope_of s) tree) ns x → sort_of x.sort ≡ bool_sort → (x.id < length ns → is_linear (term_in ns x.id) ≡ false) → assertion_of s tree ≡ refused 4
+    → StandsAs (term_of (scope_of s) tree) ns x → is_bool (sort_of x.sort) ≡ true → (x.id < length ns → is_linear (term_in ns x.id) ≡ false) → assertion_of s tree ≡ refused 4
 nonlinear_assertion s tree ns x known found bool crooked =
-    assertion_past s tree (Some found.term) known found.is ∙ by_sort found.term true (ap (are_same_sort bool_sort) (sym found.typed.sort ∙ bool))
+    assertion_past s tree (Some found.term) known found.is ∙ by_sort found.term true (ap (are_same_sort bool_sort) (sym found.typed.sort) ∙ same_bool (sort_of x.sort) ∙ bool)
     ∙ ap (λ b. linear_outcome b (assert_term found.term)) (ap is_linear (sym found.typed.normal) ∙ crooked found.typed.within)
 
 pub linear_assertion : (s : State) (tree : Tree) (ns : List Node) (x : Typed) → fault_error (has_unknown (is_live_name s) [] tree) (has_clash tree) ≡ None
-    → StandsAs (term_of (scope_of s) tree) ns x → sort_of x.sort ≡ bool_sort → (x.id < length ns → is_linear (term_in ns x.id) ≡ true) → Asserts (assertion_of s tree) ns x.id
+    → StandsAs (term_of (scope_of s) tree) ns x → is_bool (sort_of x.sort) ≡ true → (x.id < length ns → is_linear (term_in ns x.id) ≡ true) → Asserts (assertion_of s tree) ns x.id
 linear_assertion s tree ns x known found bool straight =
     record {
       term = found.term;
-      is = assertion_past s tree (Some found.term) known found.is ∙ by_sort found.term true (ap (are_same_sort bool_sort) (sym found.typed.sort ∙ bool))
+      is = assertion_past s tree (Some found.term) known found.is ∙ by_sort found.term true (ap (are_same_sort bool_sort) (sym found.typed.sort) ∙ same_bool (sort_of x.sort) ∙ bool)
           ∙ ap (λ b. linear_outcome b (assert_term found.term)) (ap is_linear (sym found.typed.normal) ∙ straight found.typed.within);
       stands = record { within = found.typed.within; term = found.typed.normal };
     }

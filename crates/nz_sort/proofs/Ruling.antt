@@ -1,5 +1,5 @@
 -- What becomes of a command, by the rules in their order.
-use Rattle.std.proofs.Common.{◌≡◌, ◌∙◌, ◌||◌, ℕ, List, Option, Some, None, IfSome, Bool, true, false, cond, refl, ap}
+use Rattle.std.proofs.Common.{◌≡◌, ◌∙◌, ◌||◌, ℕ, List, Option, Some, None, IfSome, IfNone, Bool, true, false, cond, refl, ap}
 use Rattle.nz_spec.specs.Tree.{Token, symbol, keyword, numeral, decimal, hexadecimal, binary, literal, Tree, leaf, node, Trees, trees, no_trees}
 use Rattle.nz_spec.specs.Bounds.{have_token, is_wide_token, is_long_decimal}
 use Rattle.nz_spec.specs.Form.{CommandName, declare_const_name, declare_fun_name, define_fun_name, assert_name, get_value_name, get_info_name, set_option_name, echo_name, command_name, has_form, is_name, is_empty, tree_symbol}
@@ -16,6 +16,10 @@ if_some_weaker (Some n) f h = f n h
 pub if_some_by : {P : ℕ → Type 0} (o : Option ℕ) → ((n : ℕ) → o ≡ Some n → P n) → IfSome o P
 if_some_by None f = tt
 if_some_by (Some n) f = f n refl
+
+pub if_none_weaker : {A P Q : Type 0} (o : Option A) → (P → Q) → IfNone o P → IfNone o Q
+if_none_weaker None f h = f h
+if_none_weaker (Some a) f h = tt
 
 -- ---- The rules before names and sorts
 

@@ -398,12 +398,12 @@ impl Live {
         if let Err(refusal) = check_faults(faults) {
             return Err(refusal);
         }
-        let Some(parameters) = sorts_of_parameters(self.alloc, definiens.parameters)? else {
-            return Err(Refusal::Sort);
-        };
-        match sort_of_tree(definiens.sort) {
-            Some(sort) => Ok((parameters, sort)),
+        match sorts_of_parameters(self.alloc, definiens.parameters)? {
             None => Err(Refusal::Sort),
+            Some(parameters) => match sort_of_tree(definiens.sort) {
+                None => Err(Refusal::Sort),
+                Some(sort) => Ok((parameters, sort)),
+            },
         }
     }
 
@@ -530,7 +530,7 @@ impl Live {
             Err(ElaborateError::Sort) => Err(Refusal::Sort),
             Err(ElaborateError::Memory) => Err(Refusal::Memory),
             Ok(term) => {
-                if term.sort != Sort::Bool {
+                if !is_bool(term.sort) {
                     return Err(Refusal::Sort);
                 }
                 if !is_linear(terms, term.id) {
@@ -598,6 +598,13 @@ impl Live {
             }
         }
     }
+}
+
+/// Whether terms of this sort are true or false.
+fn is_bool(sort: Sort) -> bool
+    ensures bool { result ≡ spec.is_bool (sort_of sort) }
+{
+    sort == Sort::Bool
 }
 
 /// The count after this one. As many items as would leave none find no memory.

@@ -1,5 +1,5 @@
-use Rattle.std.proofs.Common.{◌≡◌, ◌∙◌, Some, option_map, map, slice_get, ap}
-use Rattle.std.proofs.lemmas.Option.{slice_get-map}
+use Rattle.std.proofs.Common.{◌≡◌, ◌∙◌, Some, option_map, map, slice_get, refl, ap}
+use Rattle.std.proofs.lemmas.Option.{slice_get-map, slice_get_read}
 use Rattle.nz_term.specs.Constants.{sort_of}
 use Rattle.nz_sort.proofs.Growing.{grows_more}
 use Rattle.nz_sort.proofs.Living.{binds_next}
@@ -8,7 +8,8 @@ use Rattle.nz_sort.proofs.live.bind_parameters.Goals as goal
 pub loop-parameter-preserved : goal.loop-parameter-preserved
 loop-parameter-preserved c =
     let before = c.loop-parameter.invariant in
-    let at : slice_get c.args.sorts.now c.loop-parameter.place ≡ Some c.in-Some-get.sort.now = cc in
+    let at : slice_get c.args.sorts.now c.loop-parameter.place ≡ Some c.in-Some-get.sort.now =
+    slice_get_read c.args.sorts.now _ c.loop-parameter.place c.in-Some-get.sort.now refl c.in-Some-get.ensures.lookup.1.1.1.0 c.in-Some-get.ensures.lookup.1.0 in
     let sorted : slice_get (map sort_of c.args.sorts.now) c.loop-parameter.place ≡ Some (sort_of c.in-Some-get.sort.now) = slice_get-map sort_of c.args.sorts.now c.loop-parameter.place ∙ ap (λ o. option_map sort_of o) at in
     record {
       grown = grows_more _ _ _ before.grown c.in_ok-bind_parameter.ensures.grows;

@@ -10,4 +10,4 @@ pub returns-in-Ok-clause-accepted : goal.returns-in-Ok-clause-accepted
 returns-in-Ok-clause-accepted c = λ s live.
     leaves_values c.term_stays.ensures.stays _ _ c.args.self.now s (seen c.args.arguments.now) (seen c.in-Some.trees.now) (outcome_by s get_value_name (seen c.args.arguments.now)) _ live
     c.in-Ok.ensures.grows c.in-Some.ensures.list
-    (subst (λ o. Shows (seen c.in-Some.trees.now) o _ _) (sym (c.in-Some.ensures.values s)) (c.in-Ok.ensures.accepted s live))
+    (subst (λ o. Shows (seen c.in-Some.trees.now) o c.values.new.terms c.in-Ok.values.items) (sym (c.in-Some.ensures.values s)) (c.in-Ok.ensures.accepted s live))

@@ -23,11 +23,28 @@ returns-in-Err-Sort-clause-refused c = λ s live.
     ∙ c.in_default.ensures.none)
     (c.in-Err-Sort.ensures.refused (ap Err c.in-Err-Sort.field-0-is) (scope_of s) (live_scope _ c.args.self.now s _ _ names c.new-frames.ensures.items live))
 
-pub returns-then-ne-clause-refused : goal.returns-then-ne-clause-refused
-returns-then-ne-clause-refused c = ?
+pub returns-then-not-is_bool-clause-refused : goal.returns-then-not-is_bool-clause-refused
+returns-then-not-is_bool-clause-refused c = λ s live.
+    let names = ap (λ (st : Standing). st.names) c.self.view_is in
+    let known =
+    alike_term _ c.args.self.now s _ _ (view c.args.tree.now) _ _ names c.new-bound.ensures.items live c.in_ok-faults.ensures.unknown c.in_ok-faults.ensures.clash ∙ c.in_default.ensures.none in
+    let found = c.in-Ok.ensures.found (scope_of s) (live_scope _ c.args.self.now s _ _ names c.new-frames.ensures.items live) in
+    missorted_assertion s (view c.args.tree.now) _ c.in-Ok.term known found (sym c.is_bool.ensures.bool ∙ c.if-not-is_bool.true)
 
 pub returns-then-not-is_linear-clause-refused : goal.returns-then-not-is_linear-clause-refused
-returns-then-not-is_linear-clause-refused c = ?
+returns-then-not-is_linear-clause-refused c = λ s live.
+    let names = ap (λ (st : Standing). st.names) c.self.view_is in
+    let known =
+    alike_term _ c.args.self.now s _ _ (view c.args.tree.now) _ _ names c.new-bound.ensures.items live c.in_ok-faults.ensures.unknown c.in_ok-faults.ensures.clash ∙ c.in_default.ensures.none in
+    let found = c.in-Ok.ensures.found (scope_of s) (live_scope _ c.args.self.now s _ _ names c.new-frames.ensures.items live) in
+    nonlinear_assertion s (view c.args.tree.now) _ c.in-Ok.term known found (sym c.is_bool.ensures.bool ∙ c.if-not-is_bool.false)
+    (λ below. sym (c.is_linear.ensures.linear below) ∙ c.if-not-is_linear.true)
 
 pub returns-clause-accepted : goal.returns-clause-accepted
-returns-clause-accepted c = ?
+returns-clause-accepted c = λ s live.
+    let names = ap (λ (st : Standing). st.names) c.self.view_is in
+    let known =
+    alike_term _ c.args.self.now s _ _ (view c.args.tree.now) _ _ names c.new-bound.ensures.items live c.in_ok-faults.ensures.unknown c.in_ok-faults.ensures.clash ∙ c.in_default.ensures.none in
+    let found = c.in-Ok.ensures.found (scope_of s) (live_scope _ c.args.self.now s _ _ names c.new-frames.ensures.items live) in
+    linear_assertion s (view c.args.tree.now) _ c.in-Ok.term known found (sym c.is_bool.ensures.bool ∙ c.if-not-is_bool.false)
+    (λ below. sym (c.is_linear.ensures.linear below) ∙ c.if-not-is_linear.false)
