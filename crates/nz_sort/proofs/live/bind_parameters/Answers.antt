@@ -9,7 +9,7 @@ pub loop-parameter-preserved : goal.loop-parameter-preserved
 loop-parameter-preserved c =
     let before = c.loop-parameter.invariant in
     let at : slice_get c.args.sorts.now c.loop-parameter.place ≡ Some c.in-Some-get.sort.now =
-    slice_get_read c.args.sorts.now _ c.loop-parameter.place c.in-Some-get.sort.now refl c.in-Some-get.ensures.lookup.1.1.1.0 c.in-Some-get.ensures.lookup.1.0 in
+    slice_get_read c.args.sorts.now _ c.loop-parameter.place c.in-Some-get.sort.now refl c.in-Some-get.ensures.lookup.3.0 c.in-Some-get.ensures.lookup.1 in
     let sorted : slice_get (map sort_of c.args.sorts.now) c.loop-parameter.place ≡ Some (sort_of c.in-Some-get.sort.now) = slice_get-map sort_of c.args.sorts.now c.loop-parameter.place ∙ ap (λ o. option_map sort_of o) at in
     record {
       grown = grows_more _ _ _ before.grown c.in_ok-bind_parameter.ensures.grows;
