@@ -569,10 +569,7 @@ impl Live {
         let Some(trees) = asked_trees(arguments) else {
             return Err(Refusal::Syntax);
         };
-        match self.values(terms, trees) {
-            Ok(values) => Ok(values),
-            Err(refusal) => Err(refusal),
-        }
+        self.values(terms, trees)
     }
 
     /// The terms of trees whose values may be asked for, and the rules on them.
