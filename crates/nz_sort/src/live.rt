@@ -1,5 +1,5 @@
 //! The live state: what becomes of a command, and what it leaves.
-ghost use Rattle.std.specs.Prelude.{◌≡◌, ◌<◌, ◌+◌, ◌&&◌, ℕ, List, [], ◌∷◌, ◌++◌, length, map, take, OnOk, OnErr, IfOk, IfErr, IfSome, Some, None, ◌||◌, IsErrOf, Bool, false, nat_lt};
+ghost use Rattle.std.specs.Prelude.{◌≡◌, All, ◌<◌, ◌+◌, ◌&&◌, ℕ, List, [], ◌∷◌, ◌++◌, length, map, take, OnOk, OnErr, IfOk, IfErr, IfSome, Some, None, ◌||◌, IsErrOf, Bool, false, nat_lt};
 ghost use Rattle.nz_sexpr.specs.View.{view};
 ghost use Rattle.nz_spec.specs.Tree.{Trees, no_trees};
 ghost use Rattle.nz_spec.specs.Bounds.{is_long_decimal, have_token as some_token};
@@ -8,6 +8,7 @@ ghost use Rattle.nz_spec.specs.Term as spec;
 ghost use Rattle.nz_spec.specs.Linear.{is_linear as is_linear_term};
 ghost use Rattle.nz_spec.specs.Form.{assert_name, declare_const_name, declare_fun_name, define_fun_name, get_value_name};
 ghost use Rattle.nz_spec.specs.Script.{State, Outcome, accepted, refused, outcome_of, outcome_named, outcome_by, passes_limit as beyond_limit, pushed_levels, start, declare_const, declaration_of, definition_of, definition_by, assertion_of, values_of_trees, bound_names, parameters_from, all_linear, clash, has_clash};
+ghost use Rattle.nz_spec.specs.TermList.{IsTermList};
 ghost use Rattle.nz_term.specs.Constants.{sort_of};
 ghost use Rattle.nz_sort.specs.Form.{seen, command_meaning};
 ghost use Rattle.nz_sort.specs.Names.{named_by};
@@ -42,7 +43,7 @@ use nz_base::{Memory, Text};
 use nz_sexpr::Tree;
 use nz_spec::elaboration::terms_fit;
 use nz_spec::table::term_stays;
-use nz_term::{Constant, Head, Sort, TermId, Terms};
+use nz_term::{Constant, Head, Sort, TermId, Terms, listing_order};
 use std::alloc::Global;
 use std::marker::Model;
 
@@ -125,6 +126,31 @@ impl Live {
         ensures levels { (ns : List Node) (s : State) → IsLive ns self.now s → result ≡ pushed_levels s }
     {
         0
+    }
+
+    /// The terms of the live state, by which they are numbered: those of its items, in the order of acceptance, and then the
+    /// assumed ones. Each comes once, and behind all that it is made of. What the table hasn't of them is made.
+    ///
+    /// # Errors
+    ///
+    /// `Memory`. The table may have grown, and so it may where there is none.
+    pub fn term_list(
+        &self,
+        alloc: Global,
+        terms: &mut Terms,
+        assumed: &[TermId],
+    ) -> Result<Vec<TermId>, Memory>
+        requires live { (s : State) × IsLive terms.old self.now s }
+        requires within { All (λ i. i < length terms.old) assumed.now }
+        ensures grows { Grows terms.old terms.new }
+        ensures live { (s : State) → IsLive terms.old self.now s → IsLive terms.new self.now s }
+        ensures list { IfOk result (λ ids. (s : State) → IsLive terms.old self.now s → IsTermList s (map (term_in terms.old) assumed.now) (map (term_in terms.new) ids.items)) }
+        ensures within { IfOk result (λ ids. All (λ i. i < length terms.new) ids.items) }
+    {
+        term_stays();
+        let mut roots = Vec::from_slice(alloc, self.accepted.as_slice())?;
+        roots.extend_from_slice(assumed)?;
+        listing_order(alloc, terms, roots.as_slice())
     }
 
     /// Carries out what a command changes in the live state, and answers what it asks. Whether the last answer has a model or a
