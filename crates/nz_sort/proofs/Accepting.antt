@@ -15,7 +15,7 @@ use Rattle.nz_sort.specs.declared.names.Definition.{Definition}
 use Rattle.nz_sort.specs.declared.items.Accepted.{Accepted}
 use Rattle.nz_sort.specs.declared.items.Goal.{Goal}
 use Rattle.nz_sort.specs.declared.items.Wish.{Wish}
-use Rattle.nz_sort.specs.Items.{table_numbers, StandForAll, AreItems, AreGoals, AreWishes}
+use Rattle.nz_sort.specs.Items.{table_numbers, StandForAll, AreItems, AreConstants, AreAssertions, AreGoals, AreWishes}
 use Rattle.nz_sort.specs.Live.{Standing, HasItems}
 use Rattle.nz_sort.specs.Commands.{with_constant, with_definition, with_assertion}
 
@@ -61,7 +61,7 @@ wishes_in-append (asserted t ∷ xs) ys = wishes_in-append xs ys
 wishes_in-append (sought g ∷ xs) ys = wishes_in-append xs ys
 wishes_in-append (wished w ∷ xs) ys = ap (λ l. w ∷ l) (wishes_in-append xs ys)
 
-or_assoc : (a b c : Bool) → ((a || b) || c) ≡ (a || (b || c))
+pub or_assoc : (a b c : Bool) → ((a || b) || c) ≡ (a || (b || c))
 or_assoc true b c = refl
 or_assoc false b c = refl
 

@@ -1,35 +1,40 @@
 -- The live state after commands.
-use Rattle.std.proofs.Common.{◌||◌, ◌&&◌, ◌+◌, ◌-◌, option_and_then, ◌≡◌, ◌⊎◌, inl, inr, ℕ, zero, suc, ◌<◌, List, [], ◌∷◌, ◌++◌, length, map, take, Option, None, Some, is_some, Bool, true, false, not, cond, bytes_eq, slice_get, All, refl, sym, ap, ◌∙◌, append_assoc, append-nil, length-append, subst, arith}
+use Rattle.std.proofs.Common.{◌||◌, ◌&&◌, ◌+◌, ◌-◌, nat_lt, drop, get_or, option_and_then, ◌≡◌, ◌⊎◌, inl, inr, ℕ, zero, suc, ◌<◌, List, [], ◌∷◌, ◌++◌, length, map, take, Option, None, Some, is_some, Bool, true, false, not, cond, bytes_eq, slice_get, All, refl, sym, ap, ◌∙◌, append_assoc, append-nil, length-append, subst, arith}
 use Rattle.std.proofs.lemmas.Grind.{flat_map-append}
 use Rattle.std.proofs.lemmas.List.{map-append, length-map}
 use Rattle.std.proofs.lemmas.Option.{slice_get_within}
 use Rattle.std.specs.Cmp.Lexicographic.{nat_list_eq_equiv}
-use Rattle.std.specs.List.{AllByRecursion, IsDistinct}
+use Rattle.std.specs.List.{AllByRecursion, IsDistinct, list_all}
+use Rattle.std.proofs.lemmas.Bool.{lt-ltb}
+use Rattle.std.proofs.lemmas.List.{at_drop_more}
+use Rattle.nz_sexpr.specs.declared.tree.Tree as source
+use Rattle.nz_sexpr.specs.View.{view}
 use Rattle.nz_spec.specs.Tree.{Tree, node, Trees, no_trees, trees}
-use Rattle.nz_spec.specs.Term.{Sort, bool_sort, int_sort, real_sort, Constant, Head, constant, parameter, integer, decimal_number, verum, falsum, negation, conjunction, disjunction, implication, exclusion, equality, distinction, choice, less, at_most, greater, at_least, sum, difference, product, quotient, integer_quotient, modulus, magnitude, to_real, to_int, is_int, Term, Terms, no_terms, terms, apply, holds_number}
+use Rattle.nz_spec.specs.Term.{is_bool, Sort, bool_sort, int_sort, real_sort, Constant, Head, constant, parameter, integer, decimal_number, verum, falsum, negation, conjunction, disjunction, implication, exclusion, equality, distinction, choice, less, at_most, greater, at_least, sum, difference, product, quotient, integer_quotient, modulus, magnitude, to_real, to_int, is_int, Term, Terms, no_terms, terms, apply, holds_number}
 use Rattle.nz_spec.specs.Normal.{normal_of}
 use Rattle.nz_spec.specs.Table.{Node, term_in, TermStays}
 use Rattle.nz_spec.specs.Linear.{is_linear}
 use Rattle.nz_spec.specs.Decide.{constants_of_head, constants_in_table}
 use Rattle.nz_spec.specs.Form.{CommandName}
 use Rattle.nz_spec.specs.Elaboration.{Definition, RootFits, TermFits, term_of, terms_of, has_sort, are_same_sort, placed, constant_named, definition_named, is_operator, is_declared, listed}
-use Rattle.nz_spec.specs.Script.{State, Item, declared, defined, asserted, items_of, constants_in, definitions_in, assertions_in, constants_of, definitions_of, assertions_of, with_item, is_live_name, scope_of, body_scope, parameters_from, Command, declare_const, define, assert_term, check_sat, get_model, get_value, no_effect, exit, outcome_by, asked_of, all_linear, Outcome, accepted, refused, declaration_of, has_unknown, have_unknown, has_clash, have_clash, clash, bound_names, parameter_sorts, sorts_of_trees, sort_of_tree, linear_outcome, asserted_outcome, assertion_of, values_of_trees, definition_by, definition_of}
+use Rattle.nz_spec.specs.Script.{State, Item, declared, defined, asserted, items_of, constants_in, definitions_in, assertions_in, constants_of, definitions_of, assertions_of, with_item, is_live_name, scope_of, body_scope, parameters_from, Command, declare_const, define, assert_term, check_sat, get_model, get_value, no_effect, exit, outcome_by, asked_of, all_linear, Outcome, accepted, refused, declaration_of, has_unknown, have_unknown, has_clash, have_clash, clash, bound_names, parameter_sorts, sorts_of_trees, sort_of_tree, linear_outcome, asserted_outcome, assertion_of, values_of_trees, definition_by, definition_of, bound_name}
 use Rattle.nz_spec.specs.Reply.{Reply, effect, grown}
 use Rattle.nz_term.specs.Constants.{sort_of}
 use Rattle.nz_sort.specs.declared.typed.Typed.{Typed}
 use Rattle.nz_sort.specs.declared.names.Definition as code
 use Rattle.nz_sort.specs.declared.names.Named as naming
 use Rattle.nz_sort.specs.declared.names.Named.TheVariants as kinds
-use Rattle.nz_sort.specs.Names.{named_by, bound_in, SameTerm, SameNamed, IsDefined, IsScope}
-use Rattle.nz_sort.specs.Typed.{IsOperator, Grows, IsTyped, AreTyped}
-use Rattle.nz_sort.specs.Faults.{is_listed, AreLive}
+use Rattle.nz_sort.specs.Form.{seen}
+use Rattle.nz_sort.specs.Names.{named_by, bound_in, first_of, SameTerm, SameNamed, IsDefined, IsScope}
+use Rattle.nz_sort.specs.Typed.{IsOperator, Grows, IsTyped, AreTyped, StandsFor}
+use Rattle.nz_sort.specs.Faults.{is_listed, AreLive, AreBound}
 use Rattle.nz_sort.specs.declared.items.Accepted.{Accepted}
 use Rattle.nz_sort.specs.Items.{table_numbers, StandForAll}
 use Rattle.nz_sort.specs.Live.{Standing, HasItems, IsLive, AreNamesOf, DefinitionsFit, IsAccepted, Leaves, IfSkipped, Ask, Asks, changed, check, show_model, show_values, show_reason, show_info, show_levels, print_success, nothing, echo, leave, unsupported}
-use Rattle.nz_sort.specs.Commands.{AsksOnly, declaration_where, fault_error, is_unknown_in, body_of, constant_of, HasAdded, with_constant, with_definition, with_assertion}
+use Rattle.nz_sort.specs.Commands.{AsksOnly, declaration_where, fault_error, is_unknown_in, body_of, AreBoundAs, Defines, Asserts, Shows, constant_of, HasAdded, with_constant, with_definition, with_assertion}
 use Rattle.nz_sort.specs.Elaborate.{StandsAs, StandAs}
 use Rattle.nz_sort.proofs.Ruling.{past_faults, at_fault}
-use Rattle.nz_sort.proofs.Accepting.{constants_in-append, definitions_in-append, assertions_in-append, stand_longer, stand_last, has_constant, has_definition, has_assertion, items_kept}
+use Rattle.nz_sort.proofs.Accepting.{or_assoc, constants_in-append, definitions_in-append, assertions_in-append, stand_longer, stand_last, has_constant, has_definition, has_assertion, items_kept}
 
 -- ---- Items
 
@@ -72,6 +77,7 @@ named_together ns None None None h = refl
 pub are_live : (ns : List Node) (names : List (List ℕ × naming.Named)) (s : State) → AreNamesOf ns names s → AreLive names (is_live_name s)
 are_live ns names s h =
     λ name. ap (λ b. is_operator name || b) (named_together ns (named_by names name) (constant_named (constants_of s) name) (definition_named (definitions_of s) name) (h name))
+    ∙ sym (or_assoc (is_operator name) (is_some (constant_named (constants_of s) name)) (is_some (definition_named (definitions_of s) name)))
 
 -- a name that isn't listed is that of no constant, and of no definition
 no_constant : (ns : List Node) (o : Option naming.Named) (c : Option Constant) (d : Option Definition) → SameNamed ns o c d → o ≡ None → c ≡ None
@@ -80,12 +86,18 @@ no_constant ns None (Some c) d h e = absurd h
 no_constant ns None None d h e = refl
 
 -- the live names are a scope, and so with the parameters of a definition
-pub live_scope : (ns : List Node) (standing : Standing) (s : State) → IsLive ns standing s → IsScope ns standing.names [] (scope_of s)
-live_scope ns standing s live = record { bound = λ name. tt; live = live.named; fits = live.fits }
+pub live_scope : (ns : List Node) (standing : Standing) (s : State) (names : List (List ℕ × naming.Named)) (frames : List (List (List ℕ × Typed))) → names ≡ standing.names → frames ≡ []
+    → IsLive ns standing s → IsScope ns names frames (scope_of s)
+live_scope ns standing s names frames e f live =
+    subst (λ l. IsScope ns l frames (scope_of s)) (sym e)
+    (subst (λ l. IsScope ns standing.names l (scope_of s)) (sym f) (record { bound = λ name. tt; live = live.named; fits = live.fits }))
 
-pub live_body_scope : (ns : List Node) (standing : Standing) (s : State) (names : List (List ℕ)) (sorts : List Sort) (frame : List (List ℕ × Typed)) → IsLive ns standing s
-    → ((name : List ℕ) → SameTerm ns (bound_in frame name) (listed (parameters_from 0 names sorts) name)) → IsScope ns standing.names (frame ∷ []) (body_scope s names sorts)
-live_body_scope ns standing s names sorts frame live bound = record { bound = bound; live = live.named; fits = live.fits }
+pub live_body_scope : (ns : List Node) (standing : Standing) (s : State) (names : List (List ℕ × naming.Named)) (frames : List (List (List ℕ × Typed))) (words : List (List ℕ)) (sorts : List Sort)
+    (frame : List (List ℕ × Typed)) → names ≡ standing.names → frames ≡ frame ∷ [] → IsLive ns standing s → AreBoundAs ns frame (parameters_from 0 words sorts)
+    → IsScope ns names frames (body_scope s words sorts)
+live_body_scope ns standing s names frames words sorts frame e f live bound =
+    subst (λ l. IsScope ns l frames (body_scope s words sorts)) (sym e)
+    (subst (λ l. IsScope ns standing.names l (body_scope s words sorts)) (sym f) (record { bound = bound; live = live.named; fits = live.fits }))
 
 -- ---- Names, where the table grows
 
@@ -111,7 +123,7 @@ names_stay stays old new more names s e h =
 -- ---- One name more
 
 -- what is listed in a list with one more at the end
-or_last : {A : Type 0} → Option A → Bool → A → Option A
+abbrev or_last : {A : Type 0} → Option A → Bool → A → Option A
 or_last (Some x) b y = Some x
 or_last None b y = cond b (Some y) None
 
@@ -395,15 +407,15 @@ names_same ns names s t c d h = λ name.
     subst (λ cs. SameNamed ns (named_by names name) (constant_named cs name) (definition_named (definitions_of t) name)) (sym c)
     (subst (λ ds. SameNamed ns (named_by names name) (constant_named (constants_of s) name) (definition_named ds name)) (sym d) (h name))
 
-pub live_asserted : TermStays → (old new : List Node) (before : Standing) (s : State) (t : Term) (x : Typed) (holds : Bool) → IsLive old before s → Grows old new
-    → IsTyped new x t → holds ≡ holds_number (normal_of t) → IsLive new (with_assertion before x.id holds) (grown s (asserted t))
-live_asserted stays old new before s t x holds live g typed number =
+pub live_asserted : TermStays → (old new : List Node) (before : Standing) (s : State) (t : Term) (id : ℕ) (holds : Bool) → IsLive old before s → Grows old new
+    → StandsFor new id (normal_of t) → holds ≡ holds_number (normal_of t) → IsLive new (with_assertion before id holds) (grown s (asserted t))
+live_asserted stays old new before s t id holds live g stands number =
     let more : State = grown s (asserted t) in
     let same : constants_of more ≡ constants_of s = constants_with s.levels (asserted t) ∙ append-nil (constants_of s) in
     let alike : definitions_of more ≡ definitions_of s = definitions_with s.levels (asserted t) ∙ append-nil (definitions_of s) in
     let stand =
-    stand_last new before.asserted (map normal_of (assertions_of s)) x.id (normal_of t)
-    (stand_longer stays old new g.more before.asserted (map normal_of (assertions_of s)) g.all (record { within = live.within; terms = live.terms })) typed.within typed.normal in
+    stand_last new before.asserted (map normal_of (assertions_of s)) id (normal_of t)
+    (stand_longer stays old new g.more before.asserted (map normal_of (assertions_of s)) g.all (record { within = live.within; terms = live.terms })) stands.within stands.term in
     record {
       named = names_same new before.names s more same alike (names_stay stays old new g.more before.names s g.all live.named);
       fits = subst DefinitionsFit (sym alike) live.fits;
@@ -412,8 +424,8 @@ live_asserted stays old new before s t x holds live g typed number =
       within = stand.within;
       terms = stand.terms ∙ sym (ap (map normal_of) (assertions_with s.levels (asserted t)) ∙ map-append normal_of (assertions_of s) (t ∷ []));
       items =
-          subst (HasItems new (with_assertion before x.id holds)) (sym (items_of-with_item s.levels (asserted t)))
-          (has_assertion stays old new g.more before (items_of s.levels) t x.id holds g.all live.items typed.within typed.normal number);
+          subst (HasItems new (with_assertion before id holds)) (sym (items_of-with_item s.levels (asserted t)))
+          (has_assertion stays old new g.more before (items_of s.levels) t id holds g.all live.items stands.within stands.term number);
       unpushed = pushed_with s.levels (asserted t) ∙ live.unpushed;
     }
 
@@ -455,79 +467,107 @@ live_grown stays old new standing s g live =
       unpushed = live.unpushed;
     }
 
+-- ---- Symbols
+
+-- what the listed names say of the faults of a term is what the live state says
+pub alike_term : (ns : List Node) (standing : Standing) (s : State) (names : List (List ℕ × naming.Named)) (frames : List (List (List ℕ))) (tree : Tree) (unknown clashes : Bool)
+    → names ≡ standing.names → frames ≡ [] → IsLive ns standing s
+    → ((is_live : List ℕ → Bool) (bound : List (List ℕ)) → AreLive names is_live → AreBound frames bound → unknown ≡ has_unknown is_live bound tree) → clashes ≡ has_clash tree
+    → fault_error (has_unknown (is_live_name s) [] tree) (has_clash tree) ≡ fault_error unknown clashes
+alike_term ns standing s names frames tree unknown clashes e f live found clashing =
+    let known = subst (λ l. AreLive l (is_live_name s)) (sym e) (are_live ns standing.names s live.named) in
+    let none = subst (λ l. AreBound l []) (sym f) (λ name. refl) in
+    sym (ap (λ b. fault_error b clashes) (found (is_live_name s) [] known none) ∙ ap (fault_error (has_unknown (is_live_name s) [] tree)) clashing)
+
+pub alike_terms : (ns : List Node) (standing : Standing) (s : State) (names : List (List ℕ × naming.Named)) (frames : List (List (List ℕ))) (ts : Trees) (unknown clashes : Bool)
+    → names ≡ standing.names → frames ≡ [] → IsLive ns standing s
+    → ((is_live : List ℕ → Bool) (bound : List (List ℕ)) → AreLive names is_live → AreBound frames bound → unknown ≡ have_unknown is_live bound ts) → clashes ≡ have_clash ts
+    → fault_error (have_unknown (is_live_name s) [] ts) (have_clash ts) ≡ fault_error unknown clashes
+alike_terms ns standing s names frames ts unknown clashes e f live found clashing =
+    let known = subst (λ l. AreLive l (is_live_name s)) (sym e) (are_live ns standing.names s live.named) in
+    let none = subst (λ l. AreBound l []) (sym f) (λ name. refl) in
+    sym (ap (λ b. fault_error b clashes) (found (is_live_name s) [] known none) ∙ ap (fault_error (have_unknown (is_live_name s) [] ts)) clashing)
+
 -- ---- The rules on a term that is asserted
 
--- a term without faults is asserted by what it stands for
-known_assertion : (s : State) (tree : Tree) → fault_error (has_unknown (is_live_name s) [] tree) (has_clash tree) ≡ None
-    → assertion_of s tree ≡ elim (term_of (scope_of s) tree) [ Some u ↦ asserted_outcome u | None ↦ refused 3 ]
-known_assertion s tree known =
-    past_faults (has_unknown (is_live_name s) [] tree) (has_clash tree) (elim (term_of (scope_of s) tree) [ Some u ↦ asserted_outcome u | None ↦ refused 3 ]) known
+-- what becomes of the assertion of a term
+abbrev term_outcome : Option Term → Outcome
+term_outcome (Some t) = asserted_outcome t
+term_outcome None = refused 3
 
-by_term : (s : State) (tree : Tree) (t : Term) → fault_error (has_unknown (is_live_name s) [] tree) (has_clash tree) ≡ None → term_of (scope_of s) tree ≡ Some t
-    → assertion_of s tree ≡ asserted_outcome t
-by_term s tree t known is = known_assertion s tree known ∙ ap (λ (o : Option Term). elim o [ Some u ↦ asserted_outcome u | None ↦ refused 3 ]) is
+assertion_past : (s : State) (tree : Tree) (o : Option Term) → fault_error (has_unknown (is_live_name s) [] tree) (has_clash tree) ≡ None → term_of (scope_of s) tree ≡ o
+    → assertion_of s tree ≡ term_outcome o
+assertion_past s tree o known is =
+    past_faults (has_unknown (is_live_name s) [] tree) (has_clash tree) (elim (term_of (scope_of s) tree) [ Some u ↦ asserted_outcome u | None ↦ refused 3 ]) known
+    ∙ ap (λ (p : Option Term). elim p [ Some u ↦ asserted_outcome u | None ↦ refused 3 ]) is
+    ∙ (elim o as (λ (p : Option Term). elim p [ Some u ↦ asserted_outcome u | None ↦ refused 3 ] ≡ term_outcome p) [
+      | Some u ↦ refl
+      | None ↦ refl
+    ])
+
+same_bool : (k : Sort) → are_same_sort bool_sort k ≡ is_bool k
+same_bool bool_sort = refl
+same_bool int_sort = refl
+same_bool real_sort = refl
 
 by_sort : (t : Term) (b : Bool) → has_sort bool_sort t ≡ b → asserted_outcome t ≡ cond b (linear_outcome (is_linear (normal_of t)) (assert_term t)) (refused 3)
 by_sort t b e = ap (λ c. cond c (linear_outcome (is_linear (normal_of t)) (assert_term t)) (refused 3)) e
-
-pub leaves_asserted : TermStays → (old new : List Node) (before : Standing) (s : State) (arguments : Trees) (tree : Tree) (x : Typed) (holds : Bool) → IsLive old before s
-    → Grows old new → fault_error (has_unknown (is_live_name s) [] tree) (has_clash tree) ≡ None → StandsAs (term_of (scope_of s) tree) new x → sort_of x.sort ≡ bool_sort
-    → is_linear (term_in new x.id) ≡ true → holds ≡ holds_number (term_in new x.id) → IsAccepted s arguments (assertion_of s tree) changed new (with_assertion before x.id holds)
-leaves_asserted stays old new before s arguments tree x holds live g known found bool linear number =
-    let t = found.term in
-    record {
-      command = assert_term t;
-      is = by_term s tree t known found.is ∙ by_sort t true (ap (are_same_sort bool_sort) (sym found.typed.sort ∙ bool))
-          ∙ ap (λ b. linear_outcome b (assert_term t)) (ap is_linear (sym found.typed.normal) ∙ linear);
-      asks = tt;
-      live = λ reply. live_asserted stays old new before s t x holds live g found.typed (number ∙ ap holds_number found.typed.normal);
-    }
 
 pub faulty_assertion : (s : State) (tree : Tree) (n : ℕ) → fault_error (has_unknown (is_live_name s) [] tree) (has_clash tree) ≡ Some n → assertion_of s tree ≡ refused n
 faulty_assertion s tree n fault =
     at_fault (has_unknown (is_live_name s) [] tree) (has_clash tree) (elim (term_of (scope_of s) tree) [ Some u ↦ asserted_outcome u | None ↦ refused 3 ]) n fault
 
 pub untyped_assertion : (s : State) (tree : Tree) → fault_error (has_unknown (is_live_name s) [] tree) (has_clash tree) ≡ None → term_of (scope_of s) tree ≡ None → assertion_of s tree ≡ refused 3
-untyped_assertion s tree known none = known_assertion s tree known ∙ ap (λ (o : Option Term). elim o [ Some u ↦ asserted_outcome u | None ↦ refused 3 ]) none
+untyped_assertion s tree known none = assertion_past s tree None known none
 
 pub missorted_assertion : (s : State) (tree : Tree) (ns : List Node) (x : Typed) → fault_error (has_unknown (is_live_name s) [] tree) (has_clash tree) ≡ None
-    → StandsAs (term_of (scope_of s) tree) ns x → are_same_sort bool_sort (sort_of x.sort) ≡ false → assertion_of s tree ≡ refused 3
+    → StandsAs (term_of (scope_of s) tree) ns x → is_bool (sort_of x.sort) ≡ false → assertion_of s tree ≡ refused 3
 missorted_assertion s tree ns x known found other =
-    by_term s tree found.term known found.is ∙ by_sort found.term false (ap (are_same_sort bool_sort) (sym found.typed.sort) ∙ other)
+    assertion_past s tree (Some found.term) known found.is ∙ by_sort found.term false (ap (are_same_sort bool_sort) (sym found.typed.sort) ∙ same_bool (sort_of x.sort) ∙ other)
 
 pub nonlinear_assertion : (s : State) (tree : Tree) (ns : List Node) (x : Typed) → fault_error (has_unknown (is_live_name s) [] tree) (has_clash tree) ≡ None
-    → StandsAs (term_of (scope_of s) tree) ns x → sort_of x.sort ≡ bool_sort → is_linear (term_in ns x.id) ≡ false → assertion_of s tree ≡ refused 4
+    → StandsAs (term_of (scope_of s) tree) ns x → is_bool (sort_of x.sort) ≡ true → (x.id < length ns → is_linear (term_in ns x.id) ≡ false) → assertion_of s tree ≡ refused 4
 nonlinear_assertion s tree ns x known found bool crooked =
-    by_term s tree found.term known found.is ∙ by_sort found.term true (ap (are_same_sort bool_sort) (sym found.typed.sort ∙ bool))
-    ∙ ap (λ b. linear_outcome b (assert_term found.term)) (ap is_linear (sym found.typed.normal) ∙ crooked)
+    assertion_past s tree (Some found.term) known found.is ∙ by_sort found.term true (ap (are_same_sort bool_sort) (sym found.typed.sort) ∙ same_bool (sort_of x.sort) ∙ bool)
+    ∙ ap (λ b. linear_outcome b (assert_term found.term)) (ap is_linear (sym found.typed.normal) ∙ crooked found.typed.within)
+
+pub linear_assertion : (s : State) (tree : Tree) (ns : List Node) (x : Typed) → fault_error (has_unknown (is_live_name s) [] tree) (has_clash tree) ≡ None
+    → StandsAs (term_of (scope_of s) tree) ns x → is_bool (sort_of x.sort) ≡ true → (x.id < length ns → is_linear (term_in ns x.id) ≡ true) → Asserts (assertion_of s tree) ns x.id
+linear_assertion s tree ns x known found bool straight =
+    record {
+      term = found.term;
+      is = assertion_past s tree (Some found.term) known found.is ∙ by_sort found.term true (ap (are_same_sort bool_sort) (sym found.typed.sort) ∙ same_bool (sort_of x.sort) ∙ bool)
+          ∙ ap (λ b. linear_outcome b (assert_term found.term)) (ap is_linear (sym found.typed.normal) ∙ straight found.typed.within);
+      stands = record { within = found.typed.within; term = found.typed.normal };
+    }
+
+pub leaves_asserted : TermStays → (old new : List Node) (before : Standing) (s : State) (arguments : Trees) (outcome : Outcome) (id : ℕ) (holds : Bool) → IsLive old before s
+    → Grows old new → Asserts outcome new id → (id < length new → holds ≡ holds_number (term_in new id))
+    → IsAccepted s arguments outcome changed new (with_assertion before id holds)
+leaves_asserted stays old new before s arguments outcome id holds live g h number =
+    record {
+      command = assert_term h.term;
+      is = h.is;
+      asks = tt;
+      live = λ reply. live_asserted stays old new before s h.term id holds live g h.stands (number h.stands.within ∙ ap holds_number h.stands.term);
+    }
 
 -- ---- The rules on terms whose values are asked for
 
-values_by : Trees → Option Terms → Outcome
-values_by ts (Some us) = linear_outcome (all_linear us) (get_value (asked_of ts us))
-values_by ts None = refused 3
+abbrev values_outcome : Trees → Option Terms → Outcome
+values_outcome ts (Some us) = linear_outcome (all_linear us) (get_value (asked_of ts us))
+values_outcome ts None = refused 3
 
-known_values : (s : State) (ts : Trees) (o : Option Terms) → fault_error (have_unknown (is_live_name s) [] ts) (have_clash ts) ≡ None → terms_of (scope_of s) ts ≡ o
-    → values_of_trees s ts ≡ values_by ts o
-known_values s ts o known is =
+values_past : (s : State) (ts : Trees) (o : Option Terms) → fault_error (have_unknown (is_live_name s) [] ts) (have_clash ts) ≡ None → terms_of (scope_of s) ts ≡ o
+    → values_of_trees s ts ≡ values_outcome ts o
+values_past s ts o known is =
     past_faults (have_unknown (is_live_name s) [] ts) (have_clash ts)
     (elim (terms_of (scope_of s) ts) [ Some us ↦ linear_outcome (all_linear us) (get_value (asked_of ts us)) | None ↦ refused 3 ]) known
     ∙ ap (λ (p : Option Terms). elim p [ Some us ↦ linear_outcome (all_linear us) (get_value (asked_of ts us)) | None ↦ refused 3 ]) is
-    ∙ (elim o as (λ (p : Option Terms). elim p [ Some us ↦ linear_outcome (all_linear us) (get_value (asked_of ts us)) | None ↦ refused 3 ] ≡ values_by ts p) [
+    ∙ (elim o as (λ (p : Option Terms). elim p [ Some us ↦ linear_outcome (all_linear us) (get_value (asked_of ts us)) | None ↦ refused 3 ] ≡ values_outcome ts p) [
       | Some us ↦ refl
       | None ↦ refl
     ])
-
-pub leaves_values : TermStays → (old new : List Node) (standing : Standing) (s : State) (arguments ts : Trees) (xs : List Typed) → IsLive old standing s → Grows old new
-    → arguments ≡ trees (node ts) no_trees → fault_error (have_unknown (is_live_name s) [] ts) (have_clash ts) ≡ None → (found : StandAs (terms_of (scope_of s) ts) new xs)
-    → all_linear found.terms ≡ true → IsAccepted s arguments (values_of_trees s ts) (show_values xs) new standing
-leaves_values stays old new standing s arguments ts xs live g only known found linear =
-    record {
-      command = get_value (asked_of ts found.terms);
-      is = known_values s ts (Some found.terms) known found.are ∙ ap (λ b. linear_outcome b (get_value (asked_of ts found.terms))) linear;
-      asks = record { list = ts; terms = found.terms; only = only; typed = found.typed; is = refl };
-      live = λ reply. live_grown stays old new standing s g live;
-    }
 
 pub faulty_values : (s : State) (ts : Trees) (n : ℕ) → fault_error (have_unknown (is_live_name s) [] ts) (have_clash ts) ≡ Some n → values_of_trees s ts ≡ refused n
 faulty_values s ts n fault =
@@ -535,14 +575,67 @@ faulty_values s ts n fault =
     (elim (terms_of (scope_of s) ts) [ Some us ↦ linear_outcome (all_linear us) (get_value (asked_of ts us)) | None ↦ refused 3 ]) n fault
 
 pub untyped_values : (s : State) (ts : Trees) → fault_error (have_unknown (is_live_name s) [] ts) (have_clash ts) ≡ None → terms_of (scope_of s) ts ≡ None → values_of_trees s ts ≡ refused 3
-untyped_values s ts known none = known_values s ts None known none
+untyped_values s ts known none = values_past s ts None known none
 
 pub nonlinear_values : (s : State) (ts : Trees) (ns : List Node) (xs : List Typed) → fault_error (have_unknown (is_live_name s) [] ts) (have_clash ts) ≡ None
-    → (found : StandAs (terms_of (scope_of s) ts) ns xs) → all_linear found.terms ≡ false → values_of_trees s ts ≡ refused 4
+    → StandAs (terms_of (scope_of s) ts) ns xs → ((us : Terms) → AreTyped ns xs us → false ≡ all_linear us) → values_of_trees s ts ≡ refused 4
 nonlinear_values s ts ns xs known found crooked =
-    known_values s ts (Some found.terms) known found.are ∙ ap (λ b. linear_outcome b (get_value (asked_of ts found.terms))) crooked
+    values_past s ts (Some found.terms) known found.are ∙ ap (λ b. linear_outcome b (get_value (asked_of ts found.terms))) (sym (crooked found.terms found.typed))
+
+pub linear_values : (s : State) (ts : Trees) (ns : List Node) (xs : List Typed) → fault_error (have_unknown (is_live_name s) [] ts) (have_clash ts) ≡ None
+    → StandAs (terms_of (scope_of s) ts) ns xs → ((us : Terms) → AreTyped ns xs us → true ≡ all_linear us) → Shows ts (values_of_trees s ts) ns xs
+linear_values s ts ns xs known found straight =
+    record {
+      terms = found.terms;
+      is = values_past s ts (Some found.terms) known found.are ∙ ap (λ b. linear_outcome b (get_value (asked_of ts found.terms))) (sym (straight found.terms found.typed));
+      typed = found.typed;
+    }
+
+pub leaves_values : TermStays → (old new : List Node) (standing : Standing) (s : State) (arguments ts : Trees) (outcome : Outcome) (xs : List Typed) → IsLive old standing s → Grows old new
+    → arguments ≡ trees (node ts) no_trees → Shows ts outcome new xs → IsAccepted s arguments outcome (show_values xs) new standing
+leaves_values stays old new standing s arguments ts outcome xs live g only h =
+    record {
+      command = get_value (asked_of ts h.terms);
+      is = h.is;
+      asks = record { list = ts; terms = h.terms; only = only; typed = h.typed; is = refl };
+      live = λ reply. live_grown stays old new standing s g live;
+    }
+
+-- all terms of a list are linear, where all that are numbered so are
+pub linear_each : (ns : List Node) (xs : List Typed) (ts : Terms) → AreTyped ns xs ts
+    → list_all (λ (x : Typed). nat_lt x.id (length ns) && is_linear (term_in ns x.id)) xs ≡ all_linear ts
+linear_each ns [] no_terms typed = refl
+linear_each ns [] (terms t ts) typed = absurd typed
+linear_each ns (x ∷ xs) no_terms typed = absurd typed
+linear_each ns (x ∷ xs) (terms t ts) typed =
+    let below : nat_lt x.id (length ns) ≡ true = lt-ltb x.id (length ns) typed.0.within in
+    ap (λ b. (b && is_linear (term_in ns x.id)) && list_all (λ (y : Typed). nat_lt y.id (length ns) && is_linear (term_in ns y.id)) xs) below
+    ∙ ap (λ u. is_linear u && list_all (λ (y : Typed). nat_lt y.id (length ns) && is_linear (term_in ns y.id)) xs) typed.0.normal
+    ∙ ap (λ b. is_linear (normal_of t) && b) (linear_each ns xs ts typed.1)
 
 -- ---- The rules on a definition
+
+-- what the listed names say of the faults of a definition is what the live state says
+pub alike_definition : (ns : List Node) (standing : Standing) (s : State) (name : List ℕ) (parameters : Trees) (sort body : Tree) (unknown clashes : Bool) → IsLive ns standing s
+    → ((is_live : List ℕ → Bool) → AreLive standing.names is_live → unknown ≡ is_unknown_in is_live parameters sort body)
+    → clashes ≡ (is_listed standing.names name || clash (bound_names parameters) || has_clash body)
+    → fault_error (is_unknown_in (is_live_name s) parameters sort body) (is_live_name s name || clash (bound_names parameters) || has_clash body) ≡ fault_error unknown clashes
+alike_definition ns standing s name parameters sort body unknown clashes live found clashing =
+    let known = are_live ns standing.names s live.named in
+    sym (ap (λ b. fault_error b clashes) (found (is_live_name s) known)
+    ∙ ap (fault_error (is_unknown_in (is_live_name s) parameters sort body)) (clashing ∙ ap (λ b. b || clash (bound_names parameters) || has_clash body) (known name)))
+
+no_name : (o : Option naming.Named) (operator twice inside : Bool) → false ≡ ((operator || is_some o) || twice || inside) → o ≡ None
+no_name None operator twice inside e = refl
+no_name (Some n) true twice inside e = cc
+no_name (Some n) false twice inside e = cc
+
+-- a definition without faults is of a name that isn't listed
+pub unlisted : (names : List (List ℕ × naming.Named)) (name : List ℕ) (unknown clashes twice inside : Bool) → fault_error unknown clashes ≡ None
+    → clashes ≡ (is_listed names name || twice || inside) → named_by names name ≡ None
+unlisted names name true clashes twice inside none e = cc
+unlisted names name false true twice inside none e = cc
+unlisted names name false false twice inside none e = no_name (named_by names name) (is_operator name) twice inside e
 
 -- the parameters of a definition fit its sorts
 parameters_fit : (total : List Sort) (i : ℕ) (names : List (List ℕ)) (sorts : List Sort) → ((j : ℕ) (s : Sort) → slice_get sorts j ≡ Some s → slice_get total (i + j) ≡ Some s)
@@ -563,88 +656,220 @@ placed_fits total s t u false true true e h = let is : apply to_real (terms t no
 placed_fits total s t u false true false e h = cc
 placed_fits total s t u false false int e h = cc
 
-body_fits : TermFits → (s : State) (parameters : Trees) (sorts : List Sort) (sort : Sort) (body : Tree) (t : Term) → DefinitionsFit (definitions_of s)
-    → body_of s parameters sorts sort body ≡ Some t → RootFits sorts t
-body_fits fit s parameters sorts sort body t definitions is =
-    (elim (term_of (body_scope s (bound_names parameters) sorts) body) as (λ (o : Option Term). term_of (body_scope s (bound_names parameters) sorts) body ≡ o → option_and_then (placed sort) o ≡ Some t → RootFits sorts t) [
+body_fits : TermFits → (s : State) (names : List (List ℕ)) (sorts : List Sort) (sort : Sort) (body : Tree) (t : Term) → DefinitionsFit (definitions_of s)
+    → body_of s names sorts sort body ≡ Some t → RootFits sorts t
+body_fits fit s names sorts sort body t definitions is =
+    (elim (term_of (body_scope s names sorts) body) as (λ (o : Option Term). term_of (body_scope s names sorts) body ≡ o → option_and_then (placed sort) o ≡ Some t → RootFits sorts t) [
       | Some u ↦ λ e found.
           placed_fits sorts sort u t (has_sort sort u) (are_same_sort sort real_sort) (has_sort int_sort u) found
-          (fit sorts (body_scope s (bound_names parameters) sorts)
-          (record { bound = parameters_fit sorts 0 (bound_names parameters) sorts (λ j k at. at); definitions = definitions }) body u e)
+          (fit sorts (body_scope s names sorts)
+          (record { bound = parameters_fit sorts 0 names sorts (λ j k at. let same : 0 + j ≡ j = omega arith in subst (λ i. slice_get sorts i ≡ Some k) (sym same) at); definitions = definitions }) body u e)
       | None ↦ λ e found. cc
     ]) refl is
 
-known_definition : (s : State) (name : List ℕ) (parameters : Trees) (sort body : Tree)
-    → fault_error (is_unknown_in (is_live_name s) parameters sort body) (is_live_name s name || clash (bound_names parameters) || has_clash body) ≡ None
-    → definition_of s name parameters sort body ≡ definition_by s name (bound_names parameters) (sorts_of_trees (parameter_sorts parameters)) (sort_of_tree sort) body
-known_definition s name parameters sort body known =
-    past_faults (is_unknown_in (is_live_name s) parameters sort body) (is_live_name s name || clash (bound_names parameters) || has_clash body)
-    (definition_by s name (bound_names parameters) (sorts_of_trees (parameter_sorts parameters)) (sort_of_tree sort) body) known
+-- the body stands for its term, placed at its sort
+pub body_stands : (s : State) (names : List (List ℕ)) (sorts : List Sort) (sort : Sort) (body : Tree) (old new : List Node) (x y : Typed)
+    → StandsAs (term_of (body_scope s names sorts) body) old x → ((t : Term) → IsTyped old x t → StandsAs (placed sort t) new y) → StandsAs (body_of s names sorts sort body) new y
+body_stands s names sorts sort body old new x y found placing =
+    let h = placing found.term found.typed in
+    record { term = h.term; is = ap (option_and_then (placed sort)) found.is ∙ h.is; typed = h.typed }
 
-pub faulty_definition : (s : State) (name : List ℕ) (parameters : Trees) (sort body : Tree) (n : ℕ)
-    → fault_error (is_unknown_in (is_live_name s) parameters sort body) (is_live_name s name || clash (bound_names parameters) || has_clash body) ≡ Some n
-    → definition_of s name parameters sort body ≡ refused n
-faulty_definition s name parameters sort body n fault =
-    at_fault (is_unknown_in (is_live_name s) parameters sort body) (is_live_name s name || clash (bound_names parameters) || has_clash body)
-    (definition_by s name (bound_names parameters) (sorts_of_trees (parameter_sorts parameters)) (sort_of_tree sort) body) n fault
+pub body_unplaced : (s : State) (names : List (List ℕ)) (sorts : List Sort) (sort : Sort) (body : Tree) (ns : List Node) (x : Typed)
+    → StandsAs (term_of (body_scope s names sorts) body) ns x → ((t : Term) → IsTyped ns x t → placed sort t ≡ None) → body_of s names sorts sort body ≡ None
+body_unplaced s names sorts sort body ns x found none = ap (option_and_then (placed sort)) found.is ∙ none found.term found.typed
 
-definition_sorted : (s : State) (name : List ℕ) (parameters : Trees) (tree body : Tree) (sorts : List Sort) (sort : Sort)
+-- a definition without faults comes to what its sorts and its body are
+pub faultless_definition : (s : State) (name : List ℕ) (parameters : Trees) (tree body : Tree) (sorts : Option (List Sort)) (sort : Option Sort)
     → fault_error (is_unknown_in (is_live_name s) parameters tree body) (is_live_name s name || clash (bound_names parameters) || has_clash body) ≡ None
-    → sorts_of_trees (parameter_sorts parameters) ≡ Some sorts → sort_of_tree tree ≡ Some sort
-    → definition_of s name parameters tree body ≡ definition_by s name (bound_names parameters) (Some sorts) (Some sort) body
-definition_sorted s name parameters tree body sorts sort known e f =
-    known_definition s name parameters tree body known
+    → sorts_of_trees (parameter_sorts parameters) ≡ sorts → sort_of_tree tree ≡ sort
+    → definition_of s name parameters tree body ≡ definition_by s name (bound_names parameters) sorts sort body
+faultless_definition s name parameters tree body sorts sort known e f =
+    past_faults (is_unknown_in (is_live_name s) parameters tree body) (is_live_name s name || clash (bound_names parameters) || has_clash body)
+    (definition_by s name (bound_names parameters) (sorts_of_trees (parameter_sorts parameters)) (sort_of_tree tree) body) known
     ∙ ap (λ o. definition_by s name (bound_names parameters) o (sort_of_tree tree) body) e
-    ∙ ap (λ o. definition_by s name (bound_names parameters) (Some sorts) o body) f
+    ∙ ap (λ o. definition_by s name (bound_names parameters) sorts o body) f
 
-pub leaves_defined : TermStays → TermFits → (old new : List Node) (before : Standing) (s : State) (arguments : Trees) (name : List ℕ) (parameters : Trees) (tree body : Tree)
-    (d : code.Definition) (sorts : List Sort) (sort : Sort) → IsLive old before s → Grows old new
-    → fault_error (is_unknown_in (is_live_name s) parameters tree body) (is_live_name s name || clash (bound_names parameters) || has_clash body) ≡ None
-    → sorts_of_trees (parameter_sorts parameters) ≡ Some sorts → sort_of_tree tree ≡ Some sort → map sort_of d.parameters.items ≡ sorts
-    → StandsAs (body_of s parameters sorts sort body) new d.body → is_linear (term_in new d.body.id) ≡ true
-    → IsAccepted s arguments (definition_of s name parameters tree body) changed new (with_definition before name d)
-leaves_defined stays fit old new before s arguments name parameters tree body d sorts sort live g known e f same found linear =
+pub faulty_definition : (s : State) (name : List ℕ) (parameters : Trees) (tree body : Tree) (n : ℕ)
+    → fault_error (is_unknown_in (is_live_name s) parameters tree body) (is_live_name s name || clash (bound_names parameters) || has_clash body) ≡ Some n
+    → definition_of s name parameters tree body ≡ refused n
+faulty_definition s name parameters tree body n fault =
+    at_fault (is_unknown_in (is_live_name s) parameters tree body) (is_live_name s name || clash (bound_names parameters) || has_clash body)
+    (definition_by s name (bound_names parameters) (sorts_of_trees (parameter_sorts parameters)) (sort_of_tree tree) body) n fault
+
+-- where the sorts of the parameters, or that of the body, are none
+pub no_sorts : (s : State) (name : List ℕ) (names : List (List ℕ)) (sort : Option Sort) (body : Tree) → definition_by s name names None sort body ≡ refused 3
+no_sorts s name names sort body = refl
+
+pub no_body_sort : (s : State) (name : List ℕ) (names : List (List ℕ)) (sorts : List Sort) (body : Tree) → definition_by s name names (Some sorts) None body ≡ refused 3
+no_body_sort s name names sorts body = refl
+
+abbrev body_outcome : List ℕ → List Sort → Option Term → Outcome
+body_outcome name sorts (Some t) = linear_outcome (is_linear (normal_of t)) (define (record { name = name; parameters = sorts; body = t }))
+body_outcome name sorts None = refused 3
+
+by_body : (s : State) (name : List ℕ) (names : List (List ℕ)) (sorts : List Sort) (sort : Sort) (body : Tree) (o : Option Term) → body_of s names sorts sort body ≡ o
+    → definition_by s name names (Some sorts) (Some sort) body ≡ body_outcome name sorts o
+by_body s name names sorts sort body o e =
+    ap (λ (p : Option Term). elim p [ Some t ↦ linear_outcome (is_linear (normal_of t)) (define (record { name = name; parameters = sorts; body = t })) | None ↦ refused 3 ]) e
+    ∙ (elim o as (λ (p : Option Term). elim p [ Some t ↦ linear_outcome (is_linear (normal_of t)) (define (record { name = name; parameters = sorts; body = t })) | None ↦ refused 3 ] ≡ body_outcome name sorts p) [
+      | Some t ↦ refl
+      | None ↦ refl
+    ])
+
+pub untyped_body : (s : State) (name : List ℕ) (names : List (List ℕ)) (sorts : List Sort) (sort : Sort) (body : Tree) → body_of s names sorts sort body ≡ None
+    → definition_by s name names (Some sorts) (Some sort) body ≡ refused 3
+untyped_body s name names sorts sort body none = by_body s name names sorts sort body None none
+
+pub nonlinear_body : (s : State) (name : List ℕ) (names : List (List ℕ)) (sorts : List Sort) (sort : Sort) (body : Tree) (ns : List Node) (x : Typed)
+    → StandsAs (body_of s names sorts sort body) ns x → (x.id < length ns → is_linear (term_in ns x.id) ≡ false) → definition_by s name names (Some sorts) (Some sort) body ≡ refused 4
+nonlinear_body s name names sorts sort body ns x found crooked =
+    by_body s name names sorts sort body (Some found.term) found.is
+    ∙ ap (λ b. linear_outcome b (define (record { name = name; parameters = sorts; body = found.term }))) (ap is_linear (sym found.typed.normal) ∙ crooked found.typed.within)
+
+pub linear_body : TermFits → (ns : List Node) (s : State) (name : List ℕ) (names : List (List ℕ)) (sort : Sort) (body : Tree) (d : code.Definition) → DefinitionsFit (definitions_of s)
+    → StandsAs (body_of s names (map sort_of d.parameters.items) sort body) ns d.body → (d.body.id < length ns → is_linear (term_in ns d.body.id) ≡ true)
+    → Defines name (definition_by s name names (Some (map sort_of d.parameters.items)) (Some sort) body) ns d
+linear_body fit ns s name names sort body d definitions found straight =
+    let sorts : List Sort = map sort_of d.parameters.items in
     let k : Definition = record { name = name; parameters = sorts; body = found.term } in
     record {
-      command = define k;
-      is = definition_sorted s name parameters tree body sorts sort known e f
-          ∙ ap (λ (o : Option Term). elim o [ Some t ↦ linear_outcome (is_linear (normal_of t)) (define (record { name = name; parameters = sorts; body = t })) | None ↦ refused 3 ]) found.is
-          ∙ ap (λ b. linear_outcome b (define k)) (ap is_linear (sym found.typed.normal) ∙ linear);
-      asks = tt;
-      live = λ reply. live_defined stays old new before s d k live g (record { parameters = same; body = found.typed })
-          (body_fits fit s parameters sorts sort body found.term live.fits found.is);
+      definition = k;
+      is = by_body s name names sorts sort body (Some found.term) found.is
+          ∙ ap (λ b. linear_outcome b (define k)) (ap is_linear (sym found.typed.normal) ∙ straight found.typed.within);
+      named = refl;
+      defined = record { parameters = refl; body = found.typed };
+      fits = body_fits fit s names sorts sort body found.term definitions found.is;
     }
 
-pub untyped_definition : (s : State) (name : List ℕ) (parameters : Trees) (tree body : Tree) (sorts : List Sort) (sort : Sort)
-    → fault_error (is_unknown_in (is_live_name s) parameters tree body) (is_live_name s name || clash (bound_names parameters) || has_clash body) ≡ None
-    → sorts_of_trees (parameter_sorts parameters) ≡ Some sorts → sort_of_tree tree ≡ Some sort → body_of s parameters sorts sort body ≡ None
-    → definition_of s name parameters tree body ≡ refused 3
-untyped_definition s name parameters tree body sorts sort known e f none =
-    definition_sorted s name parameters tree body sorts sort known e f
-    ∙ ap (λ (o : Option Term). elim o [ Some t ↦ linear_outcome (is_linear (normal_of t)) (define (record { name = name; parameters = sorts; body = t })) | None ↦ refused 3 ]) none
+pub leaves_defined : TermStays → (old new : List Node) (before : Standing) (s : State) (arguments : Trees) (name : List ℕ) (outcome : Outcome) (d : code.Definition) → IsLive old before s
+    → Grows old new → Defines name outcome new d → IsAccepted s arguments outcome changed new (with_definition before name d)
+leaves_defined stays old new before s arguments name outcome d live g h =
+    record {
+      command = define h.definition;
+      is = h.is;
+      asks = tt;
+      live = λ reply. subst (λ w. IsLive new (with_definition before w d) (grown s (defined h.definition))) h.named
+          (live_defined stays old new before s d h.definition live g h.defined h.fits);
+    }
 
-pub nonlinear_definition : (s : State) (name : List ℕ) (parameters : Trees) (tree body : Tree) (sorts : List Sort) (sort : Sort) (ns : List Node) (x : Typed)
-    → fault_error (is_unknown_in (is_live_name s) parameters tree body) (is_live_name s name || clash (bound_names parameters) || has_clash body) ≡ None
-    → sorts_of_trees (parameter_sorts parameters) ≡ Some sorts → sort_of_tree tree ≡ Some sort → StandsAs (body_of s parameters sorts sort body) ns x
-    → is_linear (term_in ns x.id) ≡ false → definition_of s name parameters tree body ≡ refused 4
-nonlinear_definition s name parameters tree body sorts sort ns x known e f found crooked =
-    definition_sorted s name parameters tree body sorts sort known e f
-    ∙ ap (λ (o : Option Term). elim o [ Some t ↦ linear_outcome (is_linear (normal_of t)) (define (record { name = name; parameters = sorts; body = t })) | None ↦ refused 3 ]) found.is
-    ∙ ap (λ b. linear_outcome b (define (record { name = name; parameters = sorts; body = found.term }))) (ap is_linear (sym found.typed.normal) ∙ crooked)
+-- ---- The parameters of a definition
 
--- where the sorts of parameters, or that of the body, are none
-unsorted : (s : State) (name : List ℕ) (names : List (List ℕ)) (o : Option (List Sort)) (p : Option Sort) (body : Tree) → (o ≡ None) ⊎ (p ≡ None) → definition_by s name names o p body ≡ refused 3
-unsorted s name names None p body h = refl
-unsorted s name names (Some ss) None body h = refl
-unsorted s name names (Some ss) (Some k) body (inl e) = cc
-unsorted s name names (Some ss) (Some k) body (inr e) = cc
+-- A frame binds the parameters before this place, and the others come after them.
+pub record BindsFirst (parameters : List source.Tree) (sorts : List Sort) (i place : ℕ) (ns : List Node) (frame : List (List ℕ × Typed)) : Type 0 where
+  pub pairs : List (List ℕ × Term)
+  pub bound : AreBoundAs ns frame pairs
+  pub whole : pairs ++ parameters_from place (bound_names (seen (drop i parameters))) (drop place sorts) ≡ parameters_from 0 (bound_names (seen parameters)) sorts
 
-pub unsorted_definition : (s : State) (name : List ℕ) (parameters : Trees) (tree body : Tree)
-    → fault_error (is_unknown_in (is_live_name s) parameters tree body) (is_live_name s name || clash (bound_names parameters) || has_clash body) ≡ None
-    → (sorts_of_trees (parameter_sorts parameters) ≡ None) ⊎ (sort_of_tree tree ≡ None) → definition_of s name parameters tree body ≡ refused 3
-unsorted_definition s name parameters tree body known none =
-    known_definition s name parameters tree body known
-    ∙ unsorted s name (bound_names parameters) (sorts_of_trees (parameter_sorts parameters)) (sort_of_tree tree) body none
+pub binds_none : (parameters : List source.Tree) (sorts : List Sort) (ns : List Node) → BindsFirst parameters sorts 0 0 ns []
+binds_none parameters sorts ns = record { pairs = []; bound = λ name. tt; whole = refl }
+
+-- the name of a tree, before others
+abbrev name_onto : Option (List ℕ) → List (List ℕ) → List (List ℕ)
+name_onto (Some name) names = name ∷ names
+name_onto None names = names
+
+name_turn : (parameters : List source.Tree) (i : ℕ) (p : source.Tree) → i < length parameters → p ≡ get_or parameters i p
+    → bound_names (seen (drop i parameters)) ≡ name_onto (bound_name (view p)) (bound_names (seen (drop (i + 1) parameters)))
+name_turn parameters i p below is =
+    at_drop_more (λ ps. bound_names (seen ps)) parameters i p below
+    ∙ ap (λ q. bound_names (trees (view q) (seen (drop (i + 1) parameters)))) (sym is)
+    ∙ (elim (bound_name (view p)) as (λ (o : Option (List ℕ)). elim o [ Some name ↦ name ∷ bound_names (seen (drop (i + 1) parameters)) | None ↦ bound_names (seen (drop (i + 1) parameters)) ] ≡ name_onto o (bound_names (seen (drop (i + 1) parameters)))) [
+      | Some name ↦ refl
+      | None ↦ refl
+    ])
+
+-- a tree that binds no name
+pub binds_past : (parameters : List source.Tree) (sorts : List Sort) (i place : ℕ) (ns : List Node) (frame : List (List ℕ × Typed)) (p : source.Tree) → i < length parameters
+    → p ≡ get_or parameters i p → bound_name (view p) ≡ None → BindsFirst parameters sorts i place ns frame → BindsFirst parameters sorts (i + 1) place ns frame
+binds_past parameters sorts i place ns frame p below is none before =
+    record {
+      pairs = before.pairs;
+      bound = before.bound;
+      whole =
+          ap (λ names. before.pairs ++ parameters_from place names (drop place sorts))
+          (sym (name_turn parameters i p below is ∙ ap (λ o. name_onto o (bound_names (seen (drop (i + 1) parameters)))) none))
+          ∙ before.whole;
+    }
+
+sort_turn : (sorts : List Sort) (place : ℕ) (s : Sort) → slice_get sorts place ≡ Some s → drop place sorts ≡ s ∷ drop (suc place) sorts
+sort_turn [] place s at = cc
+sort_turn (t ∷ ts) zero s at = let same : t ≡ s = cc in ap (λ u. u ∷ ts) same
+sort_turn (t ∷ ts) (suc place) s at = sort_turn ts place s at
+
+no_sort : (sorts : List Sort) (place : ℕ) → slice_get sorts place ≡ None → drop place sorts ≡ []
+no_sort [] zero at = refl
+no_sort [] (suc place) at = refl
+no_sort (t ∷ ts) zero at = cc
+no_sort (t ∷ ts) (suc place) at = no_sort ts place at
+
+no_parameters : (place : ℕ) (names : List (List ℕ)) → parameters_from place names [] ≡ []
+no_parameters place [] = refl
+no_parameters place (name ∷ names) = refl
+
+-- a parameter more
+pub binds_next : (parameters : List source.Tree) (sorts : List Sort) (i place : ℕ) (old new : List Node) (frame longer : List (List ℕ × Typed)) (p : source.Tree) (name : List ℕ) (s : Sort)
+    → i < length parameters → p ≡ get_or parameters i p → bound_name (view p) ≡ Some name → slice_get sorts place ≡ Some s
+    → ((ps : List (List ℕ × Term)) → AreBoundAs old frame ps → AreBoundAs new longer (ps ++ (name, apply (parameter place s) no_terms) ∷ []))
+    → BindsFirst parameters sorts i place old frame → BindsFirst parameters sorts (i + 1) (place + 1) new longer
+binds_next parameters sorts i place old new frame longer p name s below is named sorted one before =
+    let names = bound_names (seen (drop (i + 1) parameters)) in
+    let next : suc place ≡ place + 1 = omega arith in
+    let turn : parameters_from place (bound_names (seen (drop i parameters))) (drop place sorts) ≡ (name, apply (parameter place s) no_terms) ∷ parameters_from (suc place) names (drop (suc place) sorts) =
+    ap (λ ns. parameters_from place ns (drop place sorts)) (name_turn parameters i p below is ∙ ap (λ o. name_onto o names) named)
+    ∙ ap (parameters_from place (name ∷ names)) (sort_turn sorts place s sorted) in
+    record {
+      pairs = before.pairs ++ (name, apply (parameter place s) no_terms) ∷ [];
+      bound = one before.pairs before.bound;
+      whole =
+          append_assoc before.pairs ((name, apply (parameter place s) no_terms) ∷ []) (parameters_from (place + 1) names (drop (place + 1) sorts))
+          ∙ ap (λ k. before.pairs ++ (name, apply (parameter place s) no_terms) ∷ parameters_from k names (drop k sorts)) (sym next)
+          ∙ ap (λ l. before.pairs ++ l) (sym turn)
+          ∙ before.whole;
+    }
+
+-- no sort is left, or no parameter
+pub binds_short : (parameters : List source.Tree) (sorts : List Sort) (i place : ℕ) (ns : List Node) (frame : List (List ℕ × Typed)) → slice_get sorts place ≡ None
+    → BindsFirst parameters sorts i place ns frame → AreBoundAs ns frame (parameters_from 0 (bound_names (seen parameters)) sorts)
+binds_short parameters sorts i place ns frame at first =
+    subst (AreBoundAs ns frame)
+    (sym (append-nil first.pairs)
+    ∙ ap (λ l. first.pairs ++ l)
+    (sym (ap (parameters_from place (bound_names (seen (drop i parameters)))) (no_sort sorts place at) ∙ no_parameters place (bound_names (seen (drop i parameters)))))
+    ∙ first.whole) first.bound
+
+pub binds_all : (parameters : List source.Tree) (sorts : List Sort) (i place : ℕ) (ns : List Node) (frame : List (List ℕ × Typed)) → drop i parameters ≡ []
+    → BindsFirst parameters sorts i place ns frame → AreBoundAs ns frame (parameters_from 0 (bound_names (seen parameters)) sorts)
+binds_all parameters sorts i place ns frame none first =
+    subst (AreBoundAs ns frame)
+    (sym (append-nil first.pairs)
+    ∙ ap (λ ps. first.pairs ++ parameters_from place (bound_names (seen ps)) (drop place sorts)) (sym none)
+    ∙ first.whole) first.bound
+
+-- what a bound name stands for stays so in a longer table
+bound_stays : TermStays → (ns more : List Node) (o : Option Typed) (u : Option Term) → SameTerm ns o u → SameTerm (ns ++ more) o u
+bound_stays stays ns more (Some x) (Some t) h = typed_stays stays ns more x t h
+bound_stays stays ns more (Some x) None h = absurd h
+bound_stays stays ns more None (Some t) h = absurd h
+bound_stays stays ns more None None h = tt
+
+bound_or_last : (ns : List Node) (o : Option Typed) (u : Option Term) (b : Bool) (x : Typed) (t : Term) → SameTerm ns o u → IsTyped ns x t
+    → SameTerm ns (first_of o (cond b (Some x) None)) (or_last u b t)
+bound_or_last ns (Some y) (Some v) b x t h typed = h
+bound_or_last ns (Some y) None b x t h typed = absurd h
+bound_or_last ns None (Some v) b x t h typed = absurd h
+bound_or_last ns None None true x t h typed = typed
+bound_or_last ns None None false x t h typed = tt
+
+-- one name more in a frame
+pub bound_next : TermStays → (old new : List Node) (frame longer : List (List ℕ × Typed)) (name : List ℕ) (x : Typed) (t : Term) → Grows old new → IsTyped new x t
+    → ((other : List ℕ) → bound_in longer other ≡ first_of (bound_in frame other) (bound_in ((name, x) ∷ []) other))
+    → (ps : List (List ℕ × Term)) → AreBoundAs old frame ps → AreBoundAs new longer (ps ++ (name, t) ∷ [])
+bound_next stays old new frame longer name x t g typed same ps bound = λ other.
+    let kept : SameTerm new (bound_in frame other) (listed ps other) =
+    subst (λ ns. SameTerm ns (bound_in frame other) (listed ps other)) (sym g.all) (bound_stays stays old g.more (bound_in frame other) (listed ps other) (bound other)) in
+    subst (λ o. SameTerm new o (listed (ps ++ (name, t) ∷ []) other)) (sym (same other))
+    (subst (SameTerm new (first_of (bound_in frame other) (bound_in ((name, x) ∷ []) other))) (sym (listed_last ps name other t))
+    (bound_or_last new (bound_in frame other) (listed ps other) (bytes_eq other name) x t kept typed))
 
 -- ---- What asks and changes nothing
 

@@ -1,17 +1,25 @@
 -- What becomes of a command, by the rules in their order.
-use Rattle.std.proofs.Common.{◌≡◌, ◌∙◌, ◌||◌, ℕ, List, Option, Some, None, IfSome, Bool, true, false, cond, refl, ap}
-use Rattle.nz_spec.specs.Tree.{Token, Tree, leaf, node, Trees, trees, no_trees}
+use Rattle.std.proofs.Common.{◌≡◌, ◌∙◌, ◌||◌, ℕ, List, Option, Some, None, IfSome, IfNone, Bool, true, false, cond, refl, ap}
+use Rattle.nz_spec.specs.Tree.{Token, symbol, keyword, numeral, decimal, hexadecimal, binary, literal, Tree, leaf, node, Trees, trees, no_trees}
 use Rattle.nz_spec.specs.Bounds.{have_token, is_wide_token, is_long_decimal}
-use Rattle.nz_spec.specs.Form.{CommandName, declare_const_name, declare_fun_name, define_fun_name, assert_name, get_value_name, get_info_name, set_option_name, echo_name, command_name, has_form, is_name, tree_symbol}
-use Rattle.nz_spec.specs.Script.{State, Outcome, refused, not_taken, outcome_of, outcome_named, outcome_by, passes_limit, takes_command, declaration_of, definition_of}
+use Rattle.nz_spec.specs.Form.{CommandName, declare_const_name, declare_fun_name, define_fun_name, assert_name, get_value_name, get_info_name, set_option_name, echo_name, command_name, has_form, is_name, is_empty, tree_symbol}
+use Rattle.nz_spec.specs.Script.{State, Outcome, refused, not_taken, outcome_of, outcome_named, outcome_by, passes_limit, takes_command, any_tree, is_unknown_sort, declaration_of, definition_of}
 use Rattle.nz_sort.specs.Form.{IsHeadless, IsNotOne, IsNotTwo, IsNotThree}
 use Rattle.nz_sort.specs.Elaborate.{IsWord}
 use Rattle.nz_sort.specs.Live.{arguments_of}
-use Rattle.nz_sort.specs.Commands.{IsNamed, IsList, fault_error}
+use Rattle.nz_sort.specs.Commands.{IsNamed, IsList, declaration_where, fault_error}
 
 pub if_some_weaker : {P Q : ℕ → Type 0} (o : Option ℕ) → ((n : ℕ) → P n → Q n) → IfSome o P → IfSome o Q
 if_some_weaker None f h = tt
 if_some_weaker (Some n) f h = f n h
+
+pub if_some_by : {P : ℕ → Type 0} (o : Option ℕ) → ((n : ℕ) → o ≡ Some n → P n) → IfSome o P
+if_some_by None f = tt
+if_some_by (Some n) f = f n refl
+
+pub if_none_weaker : {A P Q : Type 0} (o : Option A) → (P → Q) → IfNone o P → IfNone o Q
+if_none_weaker None f h = f h
+if_none_weaker (Some a) f h = tt
 
 -- ---- The rules before names and sorts
 
@@ -119,6 +127,11 @@ pub defines : (s : State) (t v w : Tree) (us : Trees) (name : List ℕ) → tree
 defines s (leaf t) v w us name h = ap (λ (o : Option (List ℕ)). elim o [ Some name ↦ definition_of s name us v w | None ↦ refused 1 ]) h
 defines s (node ts) v w us name h = cc
 
+-- a constant has no arguments
+pub takes_no_arguments : (is_live : Bool) (name : List ℕ) (arguments : Trees) (sort : Tree) → any_tree is_unknown_sort arguments ≡ false → is_unknown_sort sort ≡ false
+    → is_live ≡ false → is_empty arguments ≡ false → declaration_where is_live name arguments sort ≡ refused 3
+takes_no_arguments is_live name arguments sort a b c d = rw (a, b, c, d) refl
+
 -- ---- Assertions, questions and options
 
 pub asserts_nothing : (s : State) (ts : Trees) → IsNotOne ts → outcome_by s assert_name ts ≡ refused 1
@@ -162,8 +175,18 @@ sets_no_value s (node ts) u h = refl
 pub echoes_nothing : (s : State) (ts : Trees) → IsNotOne ts → outcome_by s echo_name ts ≡ refused 1
 echoes_nothing s no_trees h = refl
 echoes_nothing s (trees t no_trees) h = absurd h
-echoes_nothing s (trees (leaf t) (trees u us)) h = cc
+echoes_nothing s (trees (leaf (symbol bs)) (trees u us)) h = refl
+echoes_nothing s (trees (leaf (keyword bs)) (trees u us)) h = refl
+echoes_nothing s (trees (leaf (numeral bs)) (trees u us)) h = refl
+echoes_nothing s (trees (leaf (decimal bs)) (trees u us)) h = refl
+echoes_nothing s (trees (leaf (hexadecimal bs)) (trees u us)) h = refl
+echoes_nothing s (trees (leaf (binary bs)) (trees u us)) h = refl
+echoes_nothing s (trees (leaf (literal bs)) (trees u us)) h = refl
 echoes_nothing s (trees (node ts) (trees u us)) h = refl
+
+pub echoes_no_list : (s : State) (t : Tree) → IsList t → outcome_by s echo_name (trees t no_trees) ≡ refused 1
+echoes_no_list s (leaf t) h = absurd h
+echoes_no_list s (node ts) h = refl
 
 -- ---- Symbols
 

@@ -9,8 +9,6 @@ use Rattle.nz_sort.specs.declared.commands.Info.{Info}
 use Rattle.nz_sort.specs.declared.commands.Info.TheVariants.{Name, Version, Authors, ErrorBehavior}
 use Rattle.nz_sort.specs.declared.refusal.Refusal.{Refusal}
 use Rattle.nz_sort.specs.declared.refusal.Refusal.TheVariants as refusals
-use Rattle.nz_sort.specs.declared.typed.ElaborateError as elaborate
-use Rattle.nz_sort.specs.declared.typed.ElaborateError.TheVariants as elaborates
 
 abbrev pub info_meaning : Info → script.Info
 info_meaning Name = name_info
@@ -42,8 +40,3 @@ error_of refusals.TooWide = Some 5
 error_of refusals.Limit = Some 6
 error_of refusals.Declared = Some 9
 error_of refusals.Memory = None
-
--- the refusal of a command whose term isn't elaborated
-abbrev pub refusal_by : elaborate.ElaborateError → Refusal
-refusal_by elaborates.Sort = refusals.Sort
-refusal_by elaborates.Memory = refusals.Memory

@@ -6,15 +6,17 @@ use Rattle.nz_spec.specs.Normal.{normal_of}
 use Rattle.nz_spec.specs.Table.{Node, term_in}
 use Rattle.nz_spec.specs.Linear.{is_linear}
 use Rattle.nz_spec.specs.Form.{CommandName, is_name, is_empty}
-use Rattle.nz_spec.specs.Elaboration.{Definition as SpecDefinition, Scope, RootFits, placed, term_of, terms_of}
-use Rattle.nz_spec.specs.Script.{State, Command, declare_const, Outcome, accepted, refused, outcome_by, any_tree, is_unknown_sort, sort_of_tree, parameter_sorts, bound_names, clash, has_unknown, has_clash, body_scope, scope_of}
+use Rattle.nz_spec.specs.Elaboration.{Definition as SpecDefinition, RootFits, listed, placed, term_of}
+use Rattle.nz_spec.specs.Script.{State, Command, declare_const, define, assert_term, get_value, asked_of, Outcome, accepted, refused, outcome_by, any_tree, is_unknown_sort, sort_of_tree, parameter_sorts, bound_names, clash, has_unknown, has_clash, body_scope, scope_of}
 use Rattle.nz_spec.specs.Reply.{Reply, effect}
 use Rattle.nz_term.specs.Constants.{sort_of}
 use Rattle.nz_sort.specs.declared.typed.Typed.{Typed}
 use Rattle.nz_sort.specs.declared.names.Definition.{Definition}
 use Rattle.nz_sort.specs.declared.names.Named.{Named}
 use Rattle.nz_sort.specs.declared.names.Named.TheVariants as kinds
-use Rattle.nz_sort.specs.Live.{Standing, IsLive, Ask, Asks}
+use Rattle.nz_sort.specs.Names.{bound_in, SameTerm, IsDefined}
+use Rattle.nz_sort.specs.Typed.{StandsFor, AreTyped}
+use Rattle.nz_sort.specs.Live.{Standing, Ask, Asks}
 
 -- ---- Names
 
@@ -66,9 +68,35 @@ abbrev pub is_unknown_in : (List ℕ → Bool) → Trees → Tree → Tree → B
 is_unknown_in is_live parameters sort body =
     any_tree is_unknown_sort (parameter_sorts parameters) || is_unknown_sort sort || has_unknown is_live (bound_names parameters) body
 
--- the term of the body, where one of this sort is wanted
-abbrev pub body_of : State → Trees → List Sort → Sort → Tree → Option Term
-body_of s parameters sorts sort body = option_and_then (placed sort) (term_of (body_scope s (bound_names parameters) sorts) body)
+-- the term of the body under parameters of these names and sorts, where one of this sort is wanted
+abbrev pub body_of : State → List (List ℕ) → List Sort → Sort → Tree → Option Term
+body_of s names sorts sort body = option_and_then (placed sort) (term_of (body_scope s names sorts) body)
+
+-- a frame gives each name the term that these pairs give it
+abbrev pub AreBoundAs : List Node → List (List ℕ × Typed) → List (List ℕ × Term) → Type 0
+AreBoundAs ns frame pairs = (name : List ℕ) → SameTerm ns (bound_in frame name) (listed pairs name)
+
+-- A definition of this name is accepted, and this is it; its body is no parameter, or one that fits.
+pub record Defines (name : List ℕ) (outcome : Outcome) (ns : List Node) (d : Definition) : Type 0 where
+  pub definition : SpecDefinition
+  pub is : outcome ≡ accepted (define definition)
+  pub named : definition.name ≡ name
+  pub defined : IsDefined ns d definition
+  pub fits : RootFits definition.parameters definition.body
+
+-- ---- Assertions and values
+
+-- The assertion of a term is accepted, and this is the number of its normal one.
+pub record Asserts (outcome : Outcome) (ns : List Node) (id : ℕ) : Type 0 where
+  pub term : Term
+  pub is : outcome ≡ accepted (assert_term term)
+  pub stands : StandsFor ns id (normal_of term)
+
+-- To ask for the values of these trees is accepted, and these are their terms.
+pub record Shows (ts : Trees) (outcome : Outcome) (ns : List Node) (xs : List Typed) : Type 0 where
+  pub terms : Terms
+  pub is : outcome ≡ accepted (get_value (asked_of ts terms))
+  pub typed : AreTyped ns xs terms
 
 -- ---- What is added
 

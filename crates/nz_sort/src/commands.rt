@@ -245,13 +245,22 @@ fn word_of(tree: &Tree) -> Option<&Token>
 }
 
 /// What an `echo` asks.
-#[tactic(auto, using(crate::proofs::Ruling::echoes_nothing, crate::proofs::Asking::echoes))]
+#[tactic(auto, using(crate::proofs::Ruling::echoes_nothing, crate::proofs::Ruling::echoes_no_list))]
 pub(crate) fn echo_act(arguments: &[Tree]) -> Option<Act>
     ensures asks { IfSome result (λ act. AsksOnly echo_name (seen arguments.now) (asked act)) }
     ensures none { IfNone result ((s : State) → outcome_by s echo_name (seen arguments.now) ≡ refused 1) }
 {
-    match only(arguments)? {
-        Tree::Word(Token::Literal(_)) => Some(Act::Echo),
+    echo_by(word_of(only(arguments)?)?)
+}
+
+/// What an `echo` of this token asks.
+#[tactic(auto, using(crate::proofs::Asking::echoes))]
+fn echo_by(token: &Token) -> Option<Act>
+    ensures asks { IfSome result (λ act. AsksOnly echo_name (trees (leaf (token_view token.now)) no_trees) (asked act)) }
+    ensures none { IfNone result ((s : State) → outcome_by s echo_name (trees (leaf (token_view token.now)) no_trees) ≡ refused 1) }
+{
+    match token {
+        Token::Literal(_) => Some(Act::Echo),
         _ => None,
     }
 }

@@ -1,24 +1,24 @@
 //! The live state: what becomes of a command, and what it leaves.
-ghost use Rattle.std.specs.Prelude.{◌≡◌, ◌<◌, ◌+◌, ◌&&◌, ℕ, List, [], length, map, take, OnOk, OnErr, IfOk, IfErr, IfSome, None, ◌||◌, IsErrOf, Bool, false, option_map, is_some};
+ghost use Rattle.std.specs.Prelude.{◌≡◌, All, ◌<◌, ◌+◌, ◌&&◌, ℕ, List, [], ◌∷◌, ◌++◌, length, map, take, OnOk, OnErr, IfOk, IfErr, IfSome, Some, None, ◌||◌, IsErrOf, Bool, false, nat_lt};
 ghost use Rattle.nz_sexpr.specs.View.{view};
 ghost use Rattle.nz_spec.specs.Tree.{Trees, no_trees};
 ghost use Rattle.nz_spec.specs.Bounds.{is_long_decimal, have_token as some_token};
 ghost use Rattle.nz_spec.specs.Table.{Node, term_in};
 ghost use Rattle.nz_spec.specs.Term as spec;
 ghost use Rattle.nz_spec.specs.Linear.{is_linear as is_linear_term};
-ghost use Rattle.nz_spec.specs.Elaboration.{term_of, terms_of, listed};
 ghost use Rattle.nz_spec.specs.Form.{assert_name, declare_const_name, declare_fun_name, define_fun_name, get_value_name};
-ghost use Rattle.nz_spec.specs.Script.{State, Outcome, accepted, refused, outcome_of, outcome_named, outcome_by, passes_limit as beyond_limit, pushed_levels, start, declare_const, declaration_of, definition_of, scope_of, bound_names, parameters_from, all_linear, clash, has_clash};
+ghost use Rattle.nz_spec.specs.Script.{State, Outcome, accepted, refused, outcome_of, outcome_named, outcome_by, passes_limit as beyond_limit, pushed_levels, start, declare_const, declaration_of, definition_of, definition_by, assertion_of, values_of_trees, bound_names, parameters_from, all_linear, clash, has_clash};
+ghost use Rattle.nz_spec.specs.TermList.{IsTermList};
 ghost use Rattle.nz_term.specs.Constants.{sort_of};
 ghost use Rattle.nz_sort.specs.Form.{seen, command_meaning};
-ghost use Rattle.nz_sort.specs.Names.{named_by, bound_in, SameTerm};
-ghost use Rattle.nz_sort.specs.Typed.{Grows, IsTyped, AreTyped};
-ghost use Rattle.nz_sort.specs.Elaborate.{StandsAs, StandAs};
+ghost use Rattle.nz_sort.specs.Names.{named_by};
+ghost use Rattle.nz_sort.specs.Typed.{Grows, AreTyped};
+ghost use Rattle.nz_sort.specs.Elaborate.{StandsAs};
 ghost use Rattle.nz_sort.specs.Faults.{AreLive, is_listed};
 ghost use Rattle.nz_sort.specs.Items.{table_numbers};
 ghost use Rattle.nz_sort.specs.Live.{IsLive, Leaves, IsCarriedOut, IfSkipped, changed, show_values, standing_of};
 ghost use Rattle.nz_sort.specs.Acts.{asked, error_of};
-ghost use Rattle.nz_sort.specs.Commands.{declaration_where, constant_of, is_unknown_in, fault_error, body_of, HasAdded, with_constant, with_definition, with_assertion};
+ghost use Rattle.nz_sort.specs.Commands.{declaration_where, constant_of, is_unknown_in, fault_error, body_of, AreBoundAs, Defines, Asserts, Shows, HasAdded, with_constant, with_definition, with_assertion};
 
 use crate::commands::{
     Act, Definiens, asked_trees, declared_constant, declared_function, defined, echo_act, info_act,
@@ -43,7 +43,7 @@ use nz_base::{Memory, Text};
 use nz_sexpr::Tree;
 use nz_spec::elaboration::terms_fit;
 use nz_spec::table::term_stays;
-use nz_term::{Constant, Head, Sort, TermId, Terms};
+use nz_term::{Constant, Head, Sort, TermId, Terms, listing_order};
 use std::alloc::Global;
 use std::marker::Model;
 
@@ -128,6 +128,31 @@ impl Live {
         0
     }
 
+    /// The terms of the live state, by which they are numbered: those of its items, in the order of acceptance, and then the
+    /// assumed ones. Each comes once, and behind all that it is made of. What the table hasn't of them is made.
+    ///
+    /// # Errors
+    ///
+    /// `Memory`. The table may have grown, and so it may where there is none.
+    pub fn term_list(
+        &self,
+        alloc: Global,
+        terms: &mut Terms,
+        assumed: &[TermId],
+    ) -> Result<Vec<TermId>, Memory>
+        requires live { (s : State) × IsLive terms.old self.now s }
+        requires within { All (λ i. i < length terms.old) assumed.now }
+        ensures grows { Grows terms.old terms.new }
+        ensures live { (s : State) → IsLive terms.old self.now s → IsLive terms.new self.now s }
+        ensures list { IfOk result (λ ids. (s : State) → IsLive terms.old self.now s → IsTermList s (map (term_in terms.old) assumed.now) (map (term_in terms.new) ids.items)) }
+        ensures within { IfOk result (λ ids. All (λ i. i < length terms.new) ids.items) }
+    {
+        term_stays();
+        let mut roots = Vec::from_slice(alloc, self.accepted.as_slice())?;
+        roots.extend_from_slice(assumed)?;
+        listing_order(alloc, terms, roots.as_slice())
+    }
+
     /// Carries out what a command changes in the live state, and answers what it asks. Whether the last answer has a model or a
     /// reason to show is the session's to say.
     ///
@@ -135,10 +160,11 @@ impl Live {
     ///
     /// The first rule that the command breaks, and `Memory`. Then the live state and the table are as before, and so they are
     /// after `Unsupported`.
-    #[tactic(auto, using(crate::proofs::Living::cut_back))]
+    #[tactic(auto, using(crate::proofs::Living::cut_back, crate::proofs::Living::kept_where_same))]
     pub fn command(&mut self, terms: &mut Terms, tree: &Tree) -> Result<Act, Refusal>
         ensures accepted { IfOk result (λ act. (s : State) → IsLive terms.old self.old s → IsCarriedOut s (view tree.now) (asked act) terms.new self.new) }
         ensures refused { IfErr result (λ refusal. IfSome (error_of refusal) (λ n. (s : State) → IsLive terms.old self.old s → outcome_of s (view tree.now) ≡ refused n)) }
+        ensures kept { take (length terms.old) terms.new ≡ terms.old }
         ensures unchanged_terms { OnErr result (terms.new ≡ terms.old) }
         ensures unchanged { OnErr result (self.new ≡ self.old) }
         ensures skipped_terms { IfOk result (λ act. IfSkipped (asked act) (terms.new ≡ terms.old)) }
@@ -194,7 +220,7 @@ impl Live {
     fn passes_limit(&self, name: CommandName, arguments: &[Tree]) -> bool
         ensures limit { (ns : List Node) (s : State) → IsLive ns self.now s → result ≡ (beyond_limit s (command_meaning name) (seen arguments.now) || some_token is_long_decimal (seen arguments.now)) }
     {
-        passes_limit(self.constants.len(), name, arguments)
+        passes_limit(self.constants().len(), name, arguments)
             || have_token(arguments, TokenTest::LongDecimal)
     }
 
@@ -363,30 +389,54 @@ impl Live {
         ensures front { take (length self.old.asserted) self.new.asserted ≡ self.old.asserted }
     {
         term_stays();
-        terms_fit();
         let Some(definiens) = defined(arguments) else {
             return Err(Refusal::Syntax);
         };
-        check_faults(self.definition_faults(definiens)?)?;
-        let Some(parameters) = sorts_of_parameters(self.alloc, definiens.parameters)? else {
-            return Err(Refusal::Sort);
-        };
-        let Some(sort) = sort_of_tree(definiens.sort) else {
-            return Err(Refusal::Sort);
-        };
-        let body = self.body(terms, definiens, parameters.as_slice(), sort)?;
-        if !is_linear(terms, body.id) {
-            return Err(Refusal::NotLinear);
+        match self.definition(terms, &definiens) {
+            Err(refusal) => Err(refusal),
+            Ok(definition) => match self.add_definition(definiens.name, definition) {
+                Ok(()) => Ok(()),
+                Err(Memory) => Err(Refusal::Memory),
+            },
         }
-        let name = Text::from_slice(self.alloc, definiens.name.as_bytes())?;
-        self.keep_definition(name, Definition { parameters, body })?;
-        Ok(())
+    }
+
+    /// What is to stand for the name that is defined, and the rules on it.
+    fn definition(&self, terms: &mut Terms, definiens: &Definiens) -> Result<Definition, Refusal>
+        ensures grows { Grows terms.old terms.new }
+        ensures fresh { OnOk result (named_by self.now.names definiens.now.name.now ≡ None) }
+        ensures accepted { IfOk result (λ d. (s : State) → IsLive terms.old self.now s → Defines definiens.now.name.now (definition_of s definiens.now.name.now (seen definiens.now.parameters.now) (view definiens.now.sort.now) (view definiens.now.body.now)) terms.new d) }
+        ensures refused { IfErr result (λ refusal. IfSome (error_of refusal) (λ n. (s : State) → IsLive terms.old self.now s → definition_of s definiens.now.name.now (seen definiens.now.parameters.now) (view definiens.now.sort.now) (view definiens.now.body.now) ≡ refused n)) }
+    {
+        match self.definition_sorts(definiens) {
+            Err(refusal) => Err(refusal),
+            Ok((parameters, sort)) => self.sorted_definition(terms, definiens, parameters, sort),
+        }
+    }
+
+    /// The sorts of the parameters and of the body of a definition whose symbols and names are as they may be.
+    fn definition_sorts(&self, definiens: &Definiens) -> Result<(Vec<Sort>, Sort), Refusal>
+        ensures fresh { OnOk result (named_by self.now.names definiens.now.name.now ≡ None) }
+        ensures sorts { IfOk result (λ p. (ns : List Node) (s : State) → IsLive ns self.now s → definition_of s definiens.now.name.now (seen definiens.now.parameters.now) (view definiens.now.sort.now) (view definiens.now.body.now) ≡ definition_by s definiens.now.name.now (bound_names (seen definiens.now.parameters.now)) (Some (map sort_of p.0.items)) (Some (sort_of p.1)) (view definiens.now.body.now)) }
+        ensures refused { IfErr result (λ refusal. IfSome (error_of refusal) (λ n. (ns : List Node) (s : State) → IsLive ns self.now s → definition_of s definiens.now.name.now (seen definiens.now.parameters.now) (view definiens.now.sort.now) (view definiens.now.body.now) ≡ refused n)) }
+    {
+        let faults = self.definition_faults(definiens)?;
+        if let Err(refusal) = check_faults(faults) {
+            return Err(refusal);
+        }
+        match sorts_of_parameters(self.alloc, definiens.parameters)? {
+            None => Err(Refusal::Sort),
+            Some(parameters) => match sort_of_tree(definiens.sort) {
+                None => Err(Refusal::Sort),
+                Some(sort) => Ok((parameters, sort)),
+            },
+        }
     }
 
     /// What is wrong with the symbols and the names of a definition.
-    fn definition_faults(&self, definiens: Definiens) -> Result<Faults, Memory>
-        ensures unknown { IfOk result (λ f. (is_live : List ℕ → Bool) → AreLive self.now.names is_live → f.unknown ≡ is_unknown_in is_live (seen definiens.parameters.now) (view definiens.sort.now) (view definiens.body.now)) }
-        ensures clash { IfOk result (λ f. f.clash ≡ (is_listed self.now.names definiens.name.now || clash (bound_names (seen definiens.parameters.now)) || has_clash (view definiens.body.now))) }
+    fn definition_faults(&self, definiens: &Definiens) -> Result<Faults, Memory>
+        ensures unknown { IfOk result (λ f. (is_live : List ℕ → Bool) → AreLive self.now.names is_live → f.unknown ≡ is_unknown_in is_live (seen definiens.now.parameters.now) (view definiens.now.sort.now) (view definiens.now.body.now)) }
+        ensures clash { IfOk result (λ f. f.clash ≡ (is_listed self.now.names definiens.now.name.now || clash (bound_names (seen definiens.now.parameters.now)) || has_clash (view definiens.now.body.now))) }
     {
         let (bound, clash) = names_of_all(self.alloc, definiens.parameters)?;
         let mut frames = vec![in self.alloc; bound]?;
@@ -399,17 +449,42 @@ impl Live {
         })
     }
 
+    /// A definition of these sorts, where its body fits them and is linear.
+    fn sorted_definition(
+        &self,
+        terms: &mut Terms,
+        definiens: &Definiens,
+        parameters: Vec<Sort>,
+        sort: Sort,
+    ) -> Result<Definition, Refusal>
+        ensures grows { Grows terms.old terms.new }
+        ensures accepted { IfOk result (λ d. (s : State) → IsLive terms.old self.now s → Defines definiens.now.name.now (definition_by s definiens.now.name.now (bound_names (seen definiens.now.parameters.now)) (Some (map sort_of parameters.items)) (Some (sort_of sort)) (view definiens.now.body.now)) terms.new d) }
+        ensures refused { IfErr result (λ refusal. IfSome (error_of refusal) (λ n. (s : State) → IsLive terms.old self.now s → definition_by s definiens.now.name.now (bound_names (seen definiens.now.parameters.now)) (Some (map sort_of parameters.items)) (Some (sort_of sort)) (view definiens.now.body.now) ≡ refused n)) }
+    {
+        terms_fit();
+        match self.body(terms, definiens, parameters.as_slice(), sort) {
+            Err(ElaborateError::Sort) => Err(Refusal::Sort),
+            Err(ElaborateError::Memory) => Err(Refusal::Memory),
+            Ok(body) => {
+                if !is_linear(terms, body.id) {
+                    return Err(Refusal::NotLinear);
+                }
+                Ok(Definition { parameters, body })
+            }
+        }
+    }
+
     /// The term of the body of a definition, where one of this sort is wanted.
     fn body(
         &self,
         terms: &mut Terms,
-        definiens: Definiens,
+        definiens: &Definiens,
         sorts: &[Sort],
         sort: Sort,
     ) -> Result<Typed, ElaborateError>
         ensures grows { Grows terms.old terms.new }
-        ensures found { IfOk result (λ x. (s : State) → IsLive terms.old self.now s → StandsAs (body_of s (seen definiens.parameters.now) (map sort_of sorts.now) (sort_of sort) (view definiens.body.now)) terms.new x) }
-        ensures refused { IsErrOf result ElaborateError.Sort → (s : State) → IsLive terms.old self.now s → body_of s (seen definiens.parameters.now) (map sort_of sorts.now) (sort_of sort) (view definiens.body.now) ≡ None }
+        ensures found { IfOk result (λ x. (s : State) → IsLive terms.old self.now s → StandsAs (body_of s (bound_names (seen definiens.now.parameters.now)) (map sort_of sorts.now) (sort_of sort) (view definiens.now.body.now)) terms.new x) }
+        ensures refused { IsErrOf result ElaborateError.Sort → (s : State) → IsLive terms.old self.now s → body_of s (bound_names (seen definiens.now.parameters.now)) (map sort_of sorts.now) (sort_of sort) (view definiens.now.body.now) ≡ None }
     {
         term_stays();
         let frame = bind_parameters(self.alloc, terms, definiens.parameters, sorts)?;
@@ -417,6 +492,16 @@ impl Live {
         let term = elaborate(self.alloc, &self.names, &mut frames, terms, definiens.body)?;
         let id = place(terms, sort, term)?;
         Ok(Typed { id, sort })
+    }
+
+    /// Adds a definition of a name that isn't there yet to what stands.
+    fn add_definition(&mut self, name: &Text, definition: Definition) -> Result<(), Memory>
+        requires fresh { named_by self.old.names name.now ≡ None }
+        ensures added { OnOk result (self.new ≡ with_definition self.old name.now definition) }
+        ensures unchanged { OnErr result (self.new ≡ self.old) }
+    {
+        let name = Text::from_slice(self.alloc, name.as_bytes())?;
+        self.keep_definition(name, definition)
     }
 
     /// Keeps a definition of a name that isn't there yet.
@@ -446,18 +531,40 @@ impl Live {
         let Some(tree) = only(arguments) else {
             return Err(Refusal::Syntax);
         };
+        match self.assertion(terms, tree) {
+            Err(refusal) => Err(refusal),
+            Ok(term) => match self.keep_assertion(term, holds_number(terms, term)) {
+                Ok(()) => Ok(()),
+                Err(Memory) => Err(Refusal::Memory),
+            },
+        }
+    }
+
+    /// The term of a tree that may be asserted, and the rules on it.
+    fn assertion(&self, terms: &mut Terms, tree: &Tree) -> Result<TermId, Refusal>
+        ensures grows { Grows terms.old terms.new }
+        ensures accepted { IfOk result (λ id. (s : State) → IsLive terms.old self.now s → Asserts (assertion_of s (view tree.now)) terms.new id) }
+        ensures refused { IfErr result (λ refusal. IfSome (error_of refusal) (λ n. (s : State) → IsLive terms.old self.now s → assertion_of s (view tree.now) ≡ refused n)) }
+    {
         let mut bound = Vec::new(self.alloc);
-        check_faults(faults_of(self.alloc, &self.names, &mut bound, tree)?)?;
+        let faults = faults_of(self.alloc, &self.names, &mut bound, tree)?;
+        if let Err(refusal) = check_faults(faults) {
+            return Err(refusal);
+        }
         let mut frames = Vec::new(self.alloc);
-        let term = elaborate(self.alloc, &self.names, &mut frames, terms, tree)?;
-        if term.sort != Sort::Bool {
-            return Err(Refusal::Sort);
+        match elaborate(self.alloc, &self.names, &mut frames, terms, tree) {
+            Err(ElaborateError::Sort) => Err(Refusal::Sort),
+            Err(ElaborateError::Memory) => Err(Refusal::Memory),
+            Ok(term) => {
+                if !is_bool(term.sort) {
+                    return Err(Refusal::Sort);
+                }
+                if !is_linear(terms, term.id) {
+                    return Err(Refusal::NotLinear);
+                }
+                Ok(term.id)
+            }
         }
-        if !is_linear(terms, term.id) {
-            return Err(Refusal::NotLinear);
-        }
-        self.keep_assertion(term.id, holds_number(terms, term.id))?;
-        Ok(())
     }
 
     /// Keeps the assertion of a term, which holds a number or doesn't.
@@ -488,15 +595,39 @@ impl Live {
         let Some(trees) = asked_trees(arguments) else {
             return Err(Refusal::Syntax);
         };
-        let mut bound = Vec::new(self.alloc);
-        check_faults(faults_of_all(self.alloc, &self.names, &mut bound, trees)?)?;
-        let mut frames = Vec::new(self.alloc);
-        let values = elaborate_all(self.alloc, &self.names, &mut frames, terms, trees)?;
-        if !are_linear(terms, values.as_slice()) {
-            return Err(Refusal::NotLinear);
-        }
-        Ok(values)
+        self.values(terms, trees)
     }
+
+    /// The terms of trees whose values may be asked for, and the rules on them.
+    fn values(&self, terms: &mut Terms, trees: &[Tree]) -> Result<Vec<Typed>, Refusal>
+        ensures grows { Grows terms.old terms.new }
+        ensures accepted { IfOk result (λ xs. (s : State) → IsLive terms.old self.now s → Shows (seen trees.now) (values_of_trees s (seen trees.now)) terms.new xs.items) }
+        ensures refused { IfErr result (λ refusal. IfSome (error_of refusal) (λ n. (s : State) → IsLive terms.old self.now s → values_of_trees s (seen trees.now) ≡ refused n)) }
+    {
+        let mut bound = Vec::new(self.alloc);
+        let faults = faults_of_all(self.alloc, &self.names, &mut bound, trees)?;
+        if let Err(refusal) = check_faults(faults) {
+            return Err(refusal);
+        }
+        let mut frames = Vec::new(self.alloc);
+        match elaborate_all(self.alloc, &self.names, &mut frames, terms, trees) {
+            Err(ElaborateError::Sort) => Err(Refusal::Sort),
+            Err(ElaborateError::Memory) => Err(Refusal::Memory),
+            Ok(values) => {
+                if !are_linear(terms, values.as_slice()) {
+                    return Err(Refusal::NotLinear);
+                }
+                Ok(values)
+            }
+        }
+    }
+}
+
+/// Whether terms of this sort are true or false.
+fn is_bool(sort: Sort) -> bool
+    ensures bool { result ≡ spec.is_bool (sort_of sort) }
+{
+    sort == Sort::Bool
 }
 
 /// The count after this one. As many items as would leave none find no memory.
@@ -552,25 +683,46 @@ fn bind_parameters(
     sorts: &[Sort],
 ) -> Result<Bindings, Memory>
     ensures grows { Grows terms.old terms.new }
-    ensures bound { IfOk result (λ frame. (name : List ℕ) → SameTerm terms.new (bound_in frame name) (listed (parameters_from 0 (bound_names (seen parameters.now)) (map sort_of sorts.now)) name)) }
+    ensures bound { IfOk result (λ frame. AreBoundAs terms.new frame (parameters_from 0 (bound_names (seen parameters.now)) (map sort_of sorts.now))) }
 {
-    term_stays();
     let mut frame = Bindings::new(alloc);
-    let mut index = 0;
+    let mut place = 0;
     for parameter in parameters {
-        if let (Some(name), Some(sort)) = (first_name(parameter), sorts.get(index)) {
-            let id = terms.make(Head::Parameter(index, *sort), &[])?;
-            let term = Typed { id, sort: *sort };
-            frame.insert(Text::from_slice(alloc, name.as_bytes())?, term)?;
-            index += 1;
-        }
+        let Some(name) = first_name(parameter) else {
+            continue;
+        };
+        let Some(sort) = sorts.get(place) else {
+            return Ok(frame);
+        };
+        bind_parameter(alloc, terms, &mut frame, name, place, *sort)?;
+        place += 1;
     }
     Ok(frame)
+}
+
+/// Binds a name to the parameter of this place and sort, where it isn't bound yet.
+fn bind_parameter(
+    alloc: Global,
+    terms: &mut Terms,
+    frame: &mut Bindings,
+    name: &Text,
+    place: usize,
+    sort: Sort,
+) -> Result<(), Memory>
+    ensures grows { Grows terms.old terms.new }
+    ensures bound { OnOk result ((pairs : List (List ℕ × spec.Term)) → AreBoundAs terms.old frame.old pairs → AreBoundAs terms.new frame.new (pairs ++ (name.now, spec.apply (spec.parameter place (sort_of sort)) spec.no_terms) ∷ [])) }
+{
+    term_stays();
+    let id = terms.make(Head::Parameter(place, sort), &[])?;
+    let name = Text::from_slice(alloc, name.as_bytes())?;
+    frame.insert(name, Typed { id, sort })?;
+    Ok(())
 }
 
 /// Whether the term of a number is linear. A number that isn't in the table is that of no linear term.
 fn is_linear(terms: &Terms, id: TermId) -> bool
     ensures linear { id < length terms.now → result ≡ is_linear_term (term_in terms.now id) }
+    ensures test { result ≡ (nat_lt id (length terms.now) && is_linear_term (term_in terms.now id)) }
 {
     id < terms.len() && terms.is_linear(id)
 }

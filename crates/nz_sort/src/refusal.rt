@@ -1,7 +1,6 @@
 //! Why a command is refused.
 ghost use Rattle.std.specs.Prelude.{◌≡◌};
 
-use crate::typed::ElaborateError;
 use nz_base::Memory as NoMemory;
 use std::alloc::AllocError;
 
@@ -43,18 +42,5 @@ impl From<AllocError> for Refusal {
 
     fn from(_error: AllocError) -> Refusal {
         Refusal::Memory
-    }
-}
-
-impl From<ElaborateError> for Refusal {
-    ghost use Rattle.nz_sort.specs.Acts.{refusal_by};
-
-    ghost from_gives = { λ error r. r ≡ refusal_by error };
-
-    fn from(error: ElaborateError) -> Refusal {
-        match error {
-            ElaborateError::Sort => Refusal::Sort,
-            ElaborateError::Memory => Refusal::Memory,
-        }
     }
 }

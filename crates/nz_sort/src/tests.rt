@@ -106,50 +106,33 @@ fn refuses_what_is_not(rt: HostRuntime) -> Result<(), Fail> {
 }
 
 #[test]
-fn tells_numbers(rt: HostRuntime) -> Result<(), Fail> {
+fn tells_wide_numbers(rt: HostRuntime) -> Result<(), Fail> {
     let commands = [
-        (
-            "f 170141183460469231731687303715884105727",
-            TokenTest::Wide,
-            false,
-        ),
-        (
-            "f 170141183460469231731687303715884105728",
-            TokenTest::Wide,
-            true,
-        ),
-        (
-            "f ( 1.70141183460469231731687303715884105727 )",
-            TokenTest::Wide,
-            false,
-        ),
-        (
-            "f ( 1.70141183460469231731687303715884105728 )",
-            TokenTest::Wide,
-            true,
-        ),
+        ("f 170141183460469231731687303715884105727", false),
+        ("f 170141183460469231731687303715884105728", true),
+        ("f ( 1.70141183460469231731687303715884105727 )", false),
+        ("f ( 1.70141183460469231731687303715884105728 )", true),
         (
             "f 0.0000000000000000000000000000000000000000000000001",
-            TokenTest::Wide,
             false,
-        ),
-        (
-            "f 0.00000000000000000000000000000000000001",
-            TokenTest::LongDecimal,
-            false,
-        ),
-        (
-            "f 0.000000000000000000000000000000000000001",
-            TokenTest::LongDecimal,
-            true,
         ),
     ];
-    for (command, test, want) in commands {
-        assert_eq!(rt;
-            has_token(&list(rt.alloc(), command)?, test),
-            want,
-            "{command}"
-        );
+    for (command, want) in commands {
+        let is_wide = has_token(&list(rt.alloc(), command)?, TokenTest::Wide);
+        assert_eq!(rt; is_wide, want, "{command}");
+    }
+    Ok(())
+}
+
+#[test]
+fn tells_long_decimals(rt: HostRuntime) -> Result<(), Fail> {
+    let commands = [
+        ("f 0.00000000000000000000000000000000000001", false),
+        ("f 0.000000000000000000000000000000000000001", true),
+    ];
+    for (command, want) in commands {
+        let is_long = has_token(&list(rt.alloc(), command)?, TokenTest::LongDecimal);
+        assert_eq!(rt; is_long, want, "{command}");
     }
     Ok(())
 }
@@ -247,7 +230,7 @@ fn word_of(outcome: &Result<Act, Refusal>) -> &'static str {
 }
 
 #[test]
-fn declares_and_defines(rt: HostRuntime) -> Result<(), Fail> {
+fn declares_constants(rt: HostRuntime) -> Result<(), Fail> {
     let commands = [
         "declare-const x Int",
         "declare-fun y ( ) Real",
@@ -255,6 +238,20 @@ fn declares_and_defines(rt: HostRuntime) -> Result<(), Fail> {
         "declare-const z Word",
         "declare-fun f ( Int ) Real",
         "declare-const z ( Array Int )",
+    ];
+    let want = ["changed", "changed", "9", "2", "3", "3"];
+    assert_eq!(rt;
+        outcomes(rt.alloc(), &commands)?.as_slice(),
+        want.as_slice()
+    );
+    Ok(())
+}
+
+#[test]
+fn defines_terms(rt: HostRuntime) -> Result<(), Fail> {
+    let commands = [
+        "declare-const x Int",
+        "declare-const y Real",
         "define-fun d ( ( a Int ) ) Real ( + a y )",
         "define-fun d ( ) Int 1",
         "define-fun e ( ( a Int ) ( a Int ) ) Int a",
@@ -269,10 +266,6 @@ fn declares_and_defines(rt: HostRuntime) -> Result<(), Fail> {
     let want = [
         "changed",
         "changed",
-        "9",
-        "2",
-        "3",
-        "3",
         "changed",
         "9",
         "9",
@@ -313,7 +306,7 @@ fn asserts_linear_terms(rt: HostRuntime) -> Result<(), Fail> {
 }
 
 #[test]
-fn asks_of_the_session(rt: HostRuntime) -> Result<(), Fail> {
+fn sets_options_and_infos(rt: HostRuntime) -> Result<(), Fail> {
     let commands = [
         "set-logic QF_LRA",
         "set-option :print-success true",
@@ -321,6 +314,25 @@ fn asks_of_the_session(rt: HostRuntime) -> Result<(), Fail> {
         "set-option :produce-models true",
         "set-option :opt.priority pareto",
         "set-info :status sat",
+    ];
+    let want = [
+        "nothing",
+        "talk",
+        "hush",
+        "nothing",
+        "unsupported",
+        "nothing",
+    ];
+    assert_eq!(rt;
+        outcomes(rt.alloc(), &commands)?.as_slice(),
+        want.as_slice()
+    );
+    Ok(())
+}
+
+#[test]
+fn asks_of_the_session(rt: HostRuntime) -> Result<(), Fail> {
+    let commands = [
         "get-info :name",
         "get-info :assertion-stack-levels",
         "get-info :reason-unknown",
@@ -335,12 +347,6 @@ fn asks_of_the_session(rt: HostRuntime) -> Result<(), Fail> {
         "exit now",
     ];
     let want = [
-        "nothing",
-        "talk",
-        "hush",
-        "nothing",
-        "unsupported",
-        "nothing",
         "info",
         "levels",
         "reason",

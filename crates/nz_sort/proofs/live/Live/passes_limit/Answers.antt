@@ -3,7 +3,6 @@ use Rattle.nz_spec.specs.Bounds.{is_long_decimal, have_token}
 use Rattle.nz_spec.specs.Script.{constants_of}
 use Rattle.nz_spec.specs.Script as script
 use Rattle.nz_sort.specs.Form.{seen, command_meaning}
-use Rattle.nz_sort.specs.Live.{Standing}
 use Rattle.nz_sort.proofs.Living.{as_many}
 use Rattle.nz_sort.proofs.live.Live.passes_limit.Goals as goal
 
@@ -11,8 +10,7 @@ pub returns-then-passes_limit : goal.returns-then-passes_limit
 returns-then-passes_limit c =
     record {
       limit = λ ns s live.
-          let count : length (constants_of s) ≡ c.len.result =
-          sym (as_many ns c.args.self.now s live) ∙ sym (ap (λ (st : Standing). length st.constants) c.self.view_is) ∙ sym c.len.ensures.count in
+          let count : length (constants_of s) ≡ length c.constants.result.now = sym (as_many ns c.args.self.now s live) ∙ sym (ap length c.constants.ensures.constants) in
           let own : script.passes_limit s (command_meaning c.args.name) (seen c.args.arguments.now) ≡ true =
           sym (c.passes_limit.ensures.limit s live.unpushed count) ∙ c.if-passes_limit.true in
           c.if-passes_limit.true ∙ sym (ap (λ b. b || have_token is_long_decimal (seen c.args.arguments.now)) own);
@@ -22,8 +20,7 @@ pub returns-else-passes_limit : goal.returns-else-passes_limit
 returns-else-passes_limit c =
     record {
       limit = λ ns s live.
-          let count : length (constants_of s) ≡ c.len.result =
-          sym (as_many ns c.args.self.now s live) ∙ sym (ap (λ (st : Standing). length st.constants) c.self.view_is) ∙ sym c.len.ensures.count in
+          let count : length (constants_of s) ≡ length c.constants.result.now = sym (as_many ns c.args.self.now s live) ∙ sym (ap length c.constants.ensures.constants) in
           let own : script.passes_limit s (command_meaning c.args.name) (seen c.args.arguments.now) ≡ false =
           sym (c.passes_limit.ensures.limit s live.unpushed count) ∙ c.if-passes_limit.false in
           c.have_token.ensures.found ∙ sym (ap (λ b. b || have_token is_long_decimal (seen c.args.arguments.now)) own);
