@@ -9,8 +9,8 @@ use Rattle.nz_spec.specs.Term.{Constant, Term, is_true, Assignment, IsOfSort, Is
 use Rattle.nz_spec.specs.Normal.{normal_of}
 use Rattle.nz_spec.specs.Table.{Node, term_in}
 use Rattle.nz_spec.specs.Decide.{constants_in_table, asserted_terms, Satisfies, AreModelOf, IsUnsatisfiable}
-use Rattle.nz_spec.specs.Script.{State, Item, Binding, Reason, Options, constants_of, assertions_of, Command, declare_const, define, assert_term, check_sat, get_model, get_value, get_info, get_levels, get_reason, set_print_success, no_effect, echo, exit, accepted, refused, not_taken, outcome_of}
-use Rattle.nz_spec.specs.Reply.{Reply, quiet, success, sat, unsat, unknown, model, values, info, levels as levels_reply, reason, echoed, unsupported, error, Cause, plain, spent, done, IsModel, AreModel, IsRightCheck, IsRightCommand, IsRightOutcome, IsRight, IsExit, model_after, reason_after, effect, effect_of, after, assignment_of}
+use Rattle.nz_spec.specs.Script.{State, Item, Binding, Options, constants_of, assertions_of, Command, declare_const, define, assert_term, check_sat, get_model, get_value, get_info, get_levels, get_reason, set_print_success, no_effect, echo, exit, accepted, refused, not_taken, outcome_of}
+use Rattle.nz_spec.specs.Reply.{Reply, quiet, success, sat, unsat, unknown, model, values, info, levels as levels_reply, reason, echoed, unsupported, error, Cause, plain, done, IsModel, AreModel, IsRightCheck, IsRightCommand, IsRightOutcome, IsRight, IsExit, model_after, reason_after, effect, effect_of, after, assignment_of}
 use Rattle.nz_spec.proofs.Normal.{normal_keeps_value}
 use Rattle.nz_sort.specs.Live.{Standing, IsLive, IsChange}
 use Rattle.nz_sort.specs.Acts.{error_of}
@@ -104,6 +104,14 @@ stands ns l s (set_print_success b) n h = live_by_levels ns l (effect s (set_pri
 stands ns l s no_effect n h = h quiet
 stands ns l s (echo bs) n h = h quiet
 stands ns l s exit n h = h quiet
+
+-- nor does a command that is another one
+pub no_change : (c d : Command) → c ≡ d → (IsChange d → ⊥) → IsChange c → ⊥
+no_change c d e n x = n (subst IsChange e x)
+
+-- a command that is accepted as another is that one
+pub accepted_as : (s : State) (t : Tree) (c d : Command) → outcome_of s t ≡ accepted c → c ≡ d → outcome_of s t ≡ accepted d
+accepted_as s t c d e f = e ∙ ap accepted f
 
 -- what the engine was told stays told
 told_still : {E : Type 0} (levels : E → List (List ℕ)) (old new : Desk E) → IsTold (levels old.engine) old.told old.live.asserted
@@ -229,6 +237,16 @@ accepted_answer levels limit s t c r k answer desk tells cause n e right holds e
       exits = λ x. subst (IsExit s (whole t)) (sym tells) (exit_right x);
       stays = λ x y. goes x (one_command c exit (sym e ∙ y.0));
     }
+
+-- commands that are no exit
+pub goes_on_after_levels : get_levels ≡ exit → ⊥
+goes_on_after_levels e = cc
+
+pub goes_on_after_setting : (b : Bool) → set_print_success b ≡ exit → ⊥
+goes_on_after_setting b e = cc
+
+pub goes_on_after_nothing : no_effect ≡ exit → ⊥
+goes_on_after_nothing e = cc
 
 -- an answer to no exit
 pub told_answer : {E : Type 0} (levels : E → List (List ℕ)) (limit : ℕ) (s : State) (t : Tree) (c : Command) (q : said.Reply) (r : Reply) (answer : Answer) (desk : Desk E)

@@ -1,9 +1,9 @@
 -- Tables that grow by a term, as a search's tests make them.
 use Rattle.std.proofs.Common.{◌≡◌, ℕ, ◌≤◌, false, List, [], ◌∷◌, ◌++◌, length, map, ◌⊎◌, inl, inr, Result, Ok, Err, sym, ap, subst, ◌∙◌, arith, append-nil, length-append}
 use Rattle.std.specs.Prelude.{OnOk, OnErr, IfOk, IsOkAnd, bytes_eq}
-use Rattle.std.specs.List.{IsDistinct}
+use Rattle.std.specs.List.{AllByRecursion, IsDistinct}
 use Rattle.std.proofs.lemmas.Grind.{flat_map-append}
-use Rattle.nz_spec.specs.Term.{Constant, constant}
+use Rattle.nz_spec.specs.Term.{bool_sort, Constant, constant}
 use Rattle.nz_spec.specs.Table.{Node}
 use Rattle.nz_spec.specs.Decide.{constants_in_table, constants_of_head, HasDistinctNames}
 
@@ -57,3 +57,27 @@ distinct_two first second p q a b (inr f) (inr s) e g d = subst HasDistinctNames
 pub distinct_new : {E : Type 0} (r : Result (List Node) E) → IsOkAnd r (λ ns. ns ≡ []) → IfOk r HasDistinctNames
 distinct_new (Ok ns) e = subst HasDistinctNames (sym e) distinct_none
 distinct_new (Err e) h = tt
+
+-- ---- Tables of constants of sort Bool
+
+abbrev pub AreBools : List Constant → Type 0
+AreBools cs = AllByRecursion (λ (c : Constant). c.sort ≡ bool_sort) cs
+
+pub bools_kept : {E : Type 0} (r : Result ℕ E) (old new : List Node) (n : Node) → OnOk r (GrowsBy old new n) → OnErr r (new ≡ old) → constants_of_head n.head ≡ []
+    → AreBools (constants_in_table old) → AreBools (constants_in_table new)
+bools_kept r old new n g f h b = subst AreBools (sym (constants_kept r old new n g f h)) b
+
+bools_appended : (cs ds : List Constant) → AreBools cs → AreBools ds → AreBools (cs ++ ds)
+bools_appended [] ds f g = g
+bools_appended (c ∷ cs) ds f g = (f.0, bools_appended cs ds f.1 g)
+
+pub bools_grown : (old new : List Node) (n : Node) (c : Constant) → GrowsBy old new n → n.head ≡ constant c → c.sort ≡ bool_sort → AreBools (constants_in_table old) → AreBools (constants_in_table new)
+bools_grown old new n c (inl same) e s b = subst (λ ns. AreBools (constants_in_table ns)) (sym same) b
+bools_grown old new n c (inr more) e s b =
+    let grown : constants_in_table new ≡ constants_in_table old ++ c ∷ [] =
+    ap constants_in_table more ∙ flat_map-append (λ (m : Node). constants_of_head m.head) old (n ∷ []) ∙ ap (λ h. constants_in_table old ++ (constants_of_head h ++ [])) e in
+    subst AreBools (sym grown) (bools_appended (constants_in_table old) (c ∷ []) b (s, tt))
+
+pub bools_new : {E : Type 0} (r : Result (List Node) E) → IsOkAnd r (λ ns. ns ≡ []) → IfOk r (λ ns. AreBools (constants_in_table ns))
+bools_new (Ok ns) e = subst (λ ns. AreBools (constants_in_table ns)) (sym e) tt
+bools_new (Err e) h = tt

@@ -1,5 +1,5 @@
 -- Checks are accepted only where no live item holds a term over numbers.
-use Rattle.std.proofs.Common.{◌≡◌, ℕ, Bool, true, false, List, [], ◌∷◌, ◌++◌, length, map, Option, Some, None, refl, sym, ap, ◌∙◌, subst}
+use Rattle.std.proofs.Common.{◌≡◌, ℕ, Bool, true, false, List, [], ◌∷◌, map, Option, Some, None, refl, sym, ap, ◌∙◌, subst}
 use Rattle.std.specs.Prelude.{not, ◌||◌, All, option_and_then, codes, if◌then◌else◌}
 use Rattle.std.specs.List.{AllByRecursion}
 use Rattle.std.proofs.lemmas.List.Elements.{All-from_recursion}
@@ -13,7 +13,7 @@ use Rattle.nz_sort.specs.Live.{Standing, IsLive}
 use Rattle.nz_spec.specs.Elaboration.{has_sort, placed, term_of, terms_of}
 use Rattle.nz_spec.specs.Bounds.{have_token, is_wide_token, is_long_decimal}
 use Rattle.nz_spec.specs.Form.{is_name, is_empty, is_keyword, has_form, CommandName, command_name, assert_name, assert_soft_name, check_sat_name, check_sat_assuming_name, declare_const_name, declare_fun_name, define_fun_name, echo_name, exit_name, get_info_name, get_model_name, get_objectives_name, get_value_name, maximize_name, minimize_name, pop_name, push_name, reset_name, reset_assertions_name, set_info_name, set_logic_name, set_option_name, other_name}
-use Rattle.nz_spec.specs.Script.{State, Item, declared, defined, asserted, sought, wished, items_of, constants_in, constants_of, assertions_in, assertions_of, items_hold_numbers, Command, declare_const, define, assert_term, check_sat, get_model, get_value, get_info, get_levels, get_reason, set_print_success, no_effect, echo, exit, Outcome, accepted, refused, not_taken, outcome_of, outcome_named, outcome_by, passes_limit, takes_command, declaration_of, definition_of, definition_by, linear_outcome, assertion_of, asserted_outcome, values_of_trees, info_asked, option_set, scope_of, body_scope, is_live_name, any_tree, is_unknown_sort, has_unknown, have_unknown, has_clash, have_clash, clash, bound_names, parameter_sorts, sorts_of_trees, sort_of_tree, all_linear, asked_of}
+use Rattle.nz_spec.specs.Script.{State, Item, declared, defined, asserted, sought, wished, items_of, constants_in, assertions_in, items_hold_numbers, Command, declare_const, define, assert_term, check_sat, get_value, Outcome, accepted, refused, outcome_of, outcome_named, outcome_by, passes_limit, takes_command, declaration_of, definition_of, definition_by, linear_outcome, assertion_of, asserted_outcome, values_of_trees, info_asked, option_set, scope_of, body_scope, is_live_name, any_tree, is_unknown_sort, has_unknown, have_unknown, has_clash, have_clash, clash, bound_names, parameter_sorts, sorts_of_trees, sort_of_tree, all_linear, asked_of}
 
 -- ---- Which outcomes are accepted checks
 

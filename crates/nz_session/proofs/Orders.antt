@@ -1,6 +1,6 @@
 -- What terms without numbers are made of, in an order of them, holds no number.
-use Rattle.std.proofs.Common.{◌≡◌, ℕ, Bool, true, false, List, [], ◌∷◌, ◌++◌, length, map, inl, inr, refl, sym, ap, subst}
-use Rattle.std.specs.Prelude.{not, ◌||◌, All, flat_map}
+use Rattle.std.proofs.Common.{◌≡◌, ℕ, false, List, [], ◌∷◌, ◌++◌, map, inl, inr, sym, subst}
+use Rattle.std.specs.Prelude.{not, All, flat_map}
 use Rattle.std.specs.List.{AllByRecursion}
 use Rattle.std.proofs.lemmas.List.Elements.{All-from_recursion, All-map, recursion_from_All}
 use Rattle.nz_spec.specs.Term.{head_sort, is_bool, Term, apply, Terms, no_terms, terms, holds_number, hold_number}

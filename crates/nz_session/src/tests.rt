@@ -193,3 +193,62 @@ fn a_refusal_is_told_by_its_number(rt: HostRuntime) -> Result<(), Fail> {
     assert_eq!(rt; sink.bytes(), wanted.as_slice());
     Ok(())
 }
+
+#[test]
+fn values_are_told_of_terms_over_numbers(rt: HostRuntime) -> Result<(), Fail> {
+    let mut sink = PlainSink::new(rt.alloc(), ROOM)?;
+    let script = b"(get-value (true))(declare-const p Bool)(assert p)(check-sat)
+        (get-value (p (ite p 1 2) (/ 1 2)))";
+    let ended = run_script(rt.alloc(), Trial::new(rt.alloc()), script, &mut sink)?;
+    assert_eq!(rt; ended.ended, Fed::Going);
+    let wanted = b"(error \"7 no answer to show\")\nsat\n\
+        ((p true) ((ite p 1 2) 1) ((/ 1 2) (/ 1.0 2.0)))\n";
+    assert_eq!(rt; sink.bytes(), wanted.as_slice());
+    Ok(())
+}
+
+#[test]
+fn an_operation_that_leaves_the_numbers_is_told(rt: HostRuntime) -> Result<(), Fail> {
+    let mut sink = PlainSink::new(rt.alloc(), ROOM)?;
+    let script = b"(check-sat)(get-value ((+ 170141183460469231731687303715884105727 1)))";
+    let ended = run_script(rt.alloc(), Trial::new(rt.alloc()), script, &mut sink)?;
+    assert_eq!(rt; ended.ended, Fed::Going);
+    let wanted = b"sat\n(((+ 170141183460469231731687303715884105727 1) \
+        (wide add 170141183460469231731687303715884105727 1)))\n";
+    assert_eq!(rt; sink.bytes(), wanted.as_slice());
+    Ok(())
+}
+
+#[test]
+fn success_is_told_from_the_option_on(rt: HostRuntime) -> Result<(), Fail> {
+    let mut sink = PlainSink::new(rt.alloc(), ROOM)?;
+    let script = b"(declare-const p Bool)(set-option :print-success true)(assert p)
+        (set-info :status sat)(set-option :print-success false)(assert p)(exit)";
+    let ended = run_script(rt.alloc(), Trial::new(rt.alloc()), script, &mut sink)?;
+    assert_eq!(rt; ended.ended, Fed::Exited);
+    assert_eq!(rt; sink.bytes(), b"success\nsuccess\nsuccess\n".as_slice());
+    Ok(())
+}
+
+#[test]
+fn texts_and_infos_are_told(rt: HostRuntime) -> Result<(), Fail> {
+    let mut sink = PlainSink::new(rt.alloc(), ROOM)?;
+    let script = b"(echo \"say \"\"no\"\"\")(get-info :name)(get-info :assertion-stack-levels)";
+    let ended = run_script(rt.alloc(), Trial::new(rt.alloc()), script, &mut sink)?;
+    assert_eq!(rt; ended.ended, Fed::Going);
+    let wanted = b"\"say \"\"no\"\"\"\n(:name \"nuz\")\n(:assertion-stack-levels 0)\n";
+    assert_eq!(rt; sink.bytes(), wanted.as_slice());
+    Ok(())
+}
+
+#[test]
+fn numbers_are_defined_and_not_checked(rt: HostRuntime) -> Result<(), Fail> {
+    let mut sink = PlainSink::new(rt.alloc(), ROOM)?;
+    let script = b"(define-fun two () Int 2)(check-sat)(get-value ((+ two two)))
+        (declare-const x Int)(assert (= (* x x) two))(check-sat)";
+    let ended = run_script(rt.alloc(), Trial::new(rt.alloc()), script, &mut sink)?;
+    assert_eq!(rt; ended.ended, Fed::Going);
+    let wanted = b"sat\n(((+ two two) 4))\n(error \"4 not linear\")\nunsupported\n";
+    assert_eq!(rt; sink.bytes(), wanted.as_slice());
+    Ok(())
+}

@@ -1,5 +1,5 @@
 //! The trial: all assignments in turn, `false` first, until one makes each assertion true.
-ghost use Rattle.std.specs.Prelude.{◌≡◌, ℕ, ◌<◌, Bool, true, false, List, [], ◌∷◌, ◌++◌, length, map, All, Contains, IfOk, IfErr, OnOk};
+ghost use Rattle.std.specs.Prelude.{◌≡◌, ℕ, ◌<◌, true, false, List, [], length, All, Contains, IfOk, IfErr, OnOk};
 ghost use Rattle.std.specs.Bool.{OnTrue, OnFalse};
 ghost use Rattle.nz_session.specs.Levels.{AreTrueUnder, numbers_by_level, paired};
 ghost use Rattle.nz_spec.specs.Term.{Assignment, holds_number};
@@ -80,7 +80,7 @@ impl Decide for Trial {
         let asserted = all_numbers(alloc, &self.levels)?;
         let order = post_order(alloc, terms, &asserted)?;
         // A sum, a difference or a product is a number, whatever sort it names. Trees stand for none that names Bool.
-        if !are_no_arithmetic(terms, &order) {
+        if !none_does_arithmetic(terms, &order) {
             return Err(Stop::Memory);
         }
         note_atoms(&constants, work)?;
@@ -127,7 +127,7 @@ fn all_numbers(alloc: Global, levels: &[Vec<TermId>]) -> Result<Vec<TermId>, Mem
 }
 
 // Whether none of these terms is a sum, a difference or a product.
-fn are_no_arithmetic(terms: &Terms, ids: &[TermId]) -> bool
+fn none_does_arithmetic(terms: &Terms, ids: &[TermId]) -> bool
     ensures none { OnTrue result (All (λ i. does_arithmetic (term_in terms.now i) ≡ false) ids.now) }
 {
     term_of_node();

@@ -1,5 +1,5 @@
 //! The values of terms in a model, as they are told.
-ghost use Rattle.std.specs.Prelude.{◌≡◌, [], ◌∷◌, ◌++◌, OnOk, IfOk};
+ghost use Rattle.std.specs.Prelude.{◌≡◌, IfOk};
 ghost use Rattle.nz_spec.specs.Decide.{HasDistinctNames};
 ghost use Rattle.nz_spec.specs.Term as term;
 ghost use Rattle.nz_reply.specs.Values.{shown_of};

@@ -1,8 +1,10 @@
 //! Each public call once on its happy path, and scripts whose answers and units were counted by hand.
-ghost use Rattle.std.specs.Prelude.{◌≡◌, ◌<◌, ◌≤◌, [], ◌∷◌, length, IfOk};
+ghost use Rattle.std.specs.Prelude.{◌≡◌, ◌<◌, ◌≤◌, false, [], ◌∷◌, length, All, IfOk, IsTrue};
+ghost use Rattle.std.specs.Bool.{OnTrue};
 ghost use Rattle.std.specs.List.{AllByRecursion};
-ghost use Rattle.nz_spec.specs.Decide.{constants_of_head, HasDistinctNames};
-ghost use Rattle.nz_spec.specs.Term.{constant, bool_sort};
+ghost use Rattle.nz_spec.specs.Decide.{constants_in_table, constants_of_head, HasDistinctNames};
+ghost use Rattle.nz_spec.specs.Table.{term_in};
+ghost use Rattle.nz_spec.specs.Term.{constant, bool_sort, head_fits, holds_number};
 ghost use Rattle.nz_term.specs.Heads.{head_of};
 
 use super::Trial;
@@ -33,6 +35,7 @@ fn bool_constant(alloc: Global, name: u8) -> Result<Head, Memory>
 
 fn no_terms(alloc: Global) -> Result<Terms, Memory>
     ensures names { IfOk result HasDistinctNames }
+    ensures bools { IfOk result (λ ns. AllByRecursion (λ c. c.sort ≡ bool_sort) (constants_in_table ns)) }
 {
     Terms::new(alloc)
 }
@@ -40,6 +43,7 @@ fn no_terms(alloc: Global) -> Result<Terms, Memory>
 // A table of the constants p and q, with their numbers.
 fn two_constants(alloc: Global) -> Result<(Terms, TermId, TermId), Memory>
     ensures names { IfOk result (λ t. HasDistinctNames t.0) }
+    ensures bools { IfOk result (λ t. AllByRecursion (λ c. c.sort ≡ bool_sort) (constants_in_table t.0)) }
     ensures first { IfOk result (λ t. t.1 < length t.0) }
     ensures second { IfOk result (λ t. t.2 < length t.0) }
 {
@@ -53,7 +57,9 @@ fn two_constants(alloc: Global) -> Result<(Terms, TermId, TermId), Memory>
 fn operation(terms: &mut Terms, head: Head, kids: &[TermId]) -> Result<TermId, Memory>
     requires known { AllByRecursion (λ k. k < length terms.old) kids.now }
     requires operator { constants_of_head (head_of head) ≡ [] }
+    requires fits { IsTrue (head_fits (head_of head)) }
     ensures names { HasDistinctNames terms.old → HasDistinctNames terms.new }
+    ensures bools { AllByRecursion (λ c. c.sort ≡ bool_sort) (constants_in_table terms.old) → AllByRecursion (λ c. c.sort ≡ bool_sort) (constants_in_table terms.new) }
     ensures longer { length terms.old ≤ length terms.new }
     ensures within { IfOk result (λ id. id < length terms.new) }
 {
@@ -92,6 +98,18 @@ fn answer_of(outcome: Result<Verdict, Stop>) -> Answer {
     }
 }
 
+// Whether none of these terms holds a number.
+fn are_numberless(terms: &Terms, ids: &[TermId]) -> bool
+    ensures none { OnTrue result (All (λ i. holds_number (term_in terms.now i) ≡ false) ids.now) }
+{
+    for id in ids {
+        if *id >= terms.len() || terms.holds_number(*id) {
+            return false;
+        }
+    }
+    true
+}
+
 // What a check of these answers under this limit, and how many units it took.
 fn checked(
     alloc: Global,
@@ -101,7 +119,11 @@ fn checked(
 ) -> Result<(Answer, u64), Memory>
     requires known { AllByRecursion (λ i. i < length terms.now) asserted.now }
     requires names { HasDistinctNames terms.now }
+    requires bools { AllByRecursion (λ c. c.sort ≡ bool_sort) (constants_in_table terms.now) }
 {
+    if !are_numberless(terms, asserted) {
+        return Err(Memory);
+    }
     let mut work = Work::new(alloc)?;
     let mut trial = asserting(alloc, asserted)?;
     work.reserve(limit)?;
@@ -113,7 +135,11 @@ fn checked(
 fn found(alloc: Global, terms: &Terms, asserted: &[TermId]) -> Result<Option<Assign>, Memory>
     requires known { AllByRecursion (λ i. i < length terms.now) asserted.now }
     requires names { HasDistinctNames terms.now }
+    requires bools { AllByRecursion (λ c. c.sort ≡ bool_sort) (constants_in_table terms.now) }
 {
+    if !are_numberless(terms, asserted) {
+        return Err(Memory);
+    }
     let mut work = Work::new(alloc)?;
     let mut trial = asserting(alloc, asserted)?;
     work.reserve(100)?;

@@ -3,7 +3,6 @@ use Rattle.std.proofs.lemmas.List.{length-map}
 use Rattle.nz_spec.specs.Term.{Constant, is_true}
 use Rattle.std.proofs.lemmas.Bool.{OnTrue_at, OnFalse_at}
 use Rattle.nz_spec.specs.Decide.{constants_in_table}
-use Rattle.nz_session.specs.Levels.{AreTrueUnder}
 use Rattle.nz_reply.specs.Notes.{noted_list}
 use Rattle.nz_session.specs.SearchNotes.{HasSearched, Turns}
 use Rattle.nz_truth.specs.Truths.{GivesTruths}

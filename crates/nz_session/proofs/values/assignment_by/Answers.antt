@@ -1,4 +1,4 @@
-use Rattle.std.proofs.Common.{◌≡◌, ◌++◌, ◌+◌, drop, ap, subst, sym, ◌∙◌}
+use Rattle.std.proofs.Common.{◌++◌, ◌+◌, drop, ap, ◌∙◌}
 use Rattle.nz_sort.specs.Items.{table_numbers}
 use Rattle.nz_term.specs.Values.{value_of}
 use Rattle.nz_session.specs.Valued.{valued}
