@@ -1,5 +1,5 @@
 -- The live state after commands.
-use Rattle.std.proofs.Common.{◌||◌, ◌&&◌, ◌+◌, ◌-◌, nat_lt, drop, get_or, option_and_then, ◌≡◌, ◌⊎◌, inl, inr, ℕ, zero, suc, ◌<◌, List, [], ◌∷◌, ◌++◌, length, map, take, Option, None, Some, is_some, Bool, true, false, not, cond, bytes_eq, slice_get, All, refl, sym, ap, ◌∙◌, append_assoc, append-nil, length-append, subst, arith}
+use Rattle.std.proofs.Common.{◌||◌, ◌&&◌, ◌+◌, ◌-◌, nat_lt, drop, get_or, option_and_then, ◌≡◌, ◌⊎◌, inl, inr, ℕ, zero, suc, ◌<◌, List, [], ◌∷◌, ◌++◌, length, map, take, Option, None, Some, is_some, Bool, true, false, not, cond, bytes_eq, slice_get, refl, sym, ap, ◌∙◌, append_assoc, append-nil, length-append, subst, arith}
 use Rattle.std.proofs.lemmas.Grind.{flat_map-append}
 use Rattle.std.proofs.lemmas.List.{map-append, length-map}
 use Rattle.std.proofs.lemmas.Option.{slice_get_within}
@@ -16,7 +16,7 @@ use Rattle.nz_spec.specs.Table.{Node, term_in, TermStays}
 use Rattle.nz_spec.specs.Linear.{is_linear}
 use Rattle.nz_spec.specs.Decide.{constants_of_head, constants_in_table}
 use Rattle.nz_spec.specs.Form.{CommandName}
-use Rattle.nz_spec.specs.Elaboration.{Definition, RootFits, TermFits, term_of, terms_of, has_sort, are_same_sort, placed, constant_named, definition_named, is_operator, is_declared, listed}
+use Rattle.nz_spec.specs.Elaboration.{Definition, RootFits, TermFits, term_of, terms_of, has_sort, are_same_sort, placed, constant_named, definition_named, is_operator, listed}
 use Rattle.nz_spec.specs.Script.{State, Item, declared, defined, asserted, items_of, constants_in, definitions_in, assertions_in, constants_of, definitions_of, assertions_of, with_item, is_live_name, scope_of, body_scope, parameters_from, Command, declare_const, define, assert_term, check_sat, get_model, get_value, no_effect, exit, outcome_by, asked_of, all_linear, Outcome, accepted, refused, declaration_of, has_unknown, have_unknown, has_clash, have_clash, clash, bound_names, parameter_sorts, sorts_of_trees, sort_of_tree, linear_outcome, asserted_outcome, assertion_of, values_of_trees, definition_by, definition_of, bound_name}
 use Rattle.nz_spec.specs.Reply.{Reply, effect, grown}
 use Rattle.nz_term.specs.Constants.{sort_of}
@@ -29,7 +29,7 @@ use Rattle.nz_sort.specs.Names.{named_by, bound_in, first_of, SameTerm, SameName
 use Rattle.nz_sort.specs.Typed.{IsOperator, Grows, IsTyped, AreTyped, StandsFor}
 use Rattle.nz_sort.specs.Faults.{is_listed, AreLive, AreBound}
 use Rattle.nz_sort.specs.declared.items.Accepted.{Accepted}
-use Rattle.nz_sort.specs.Items.{table_numbers, StandForAll}
+use Rattle.nz_sort.specs.Items.{table_numbers}
 use Rattle.nz_sort.specs.Live.{Standing, HasItems, IsLive, AreNamesOf, DefinitionsFit, IsAccepted, Leaves, IfSkipped, Ask, Asks, changed, check, show_model, show_values, show_reason, show_info, show_levels, print_success, nothing, echo, leave, unsupported}
 use Rattle.nz_sort.specs.Commands.{AsksOnly, declaration_where, fault_error, is_unknown_in, body_of, AreBoundAs, Defines, Asserts, Shows, constant_of, HasAdded, with_constant, with_definition, with_assertion}
 use Rattle.nz_sort.specs.Elaborate.{StandsAs, StandAs}
@@ -695,13 +695,6 @@ pub faulty_definition : (s : State) (name : List ℕ) (parameters : Trees) (tree
 faulty_definition s name parameters tree body n fault =
     at_fault (is_unknown_in (is_live_name s) parameters tree body) (is_live_name s name || clash (bound_names parameters) || has_clash body)
     (definition_by s name (bound_names parameters) (sorts_of_trees (parameter_sorts parameters)) (sort_of_tree tree) body) n fault
-
--- where the sorts of the parameters, or that of the body, are none
-pub no_sorts : (s : State) (name : List ℕ) (names : List (List ℕ)) (sort : Option Sort) (body : Tree) → definition_by s name names None sort body ≡ refused 3
-no_sorts s name names sort body = refl
-
-pub no_body_sort : (s : State) (name : List ℕ) (names : List (List ℕ)) (sorts : List Sort) (body : Tree) → definition_by s name names (Some sorts) None body ≡ refused 3
-no_body_sort s name names sorts body = refl
 
 abbrev body_outcome : List ℕ → List Sort → Option Term → Outcome
 body_outcome name sorts (Some t) = linear_outcome (is_linear (normal_of t)) (define (record { name = name; parameters = sorts; body = t }))

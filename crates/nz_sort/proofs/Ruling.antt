@@ -1,5 +1,5 @@
 -- What becomes of a command, by the rules in their order.
-use Rattle.std.proofs.Common.{◌≡◌, ◌∙◌, ◌||◌, ℕ, List, Option, Some, None, IfSome, IfNone, Bool, true, false, cond, refl, ap}
+use Rattle.std.proofs.Common.{◌≡◌, ◌||◌, ℕ, List, Option, Some, None, IfSome, IfNone, Bool, true, false, cond, refl, ap}
 use Rattle.nz_spec.specs.Tree.{Token, symbol, keyword, numeral, decimal, hexadecimal, binary, literal, Tree, leaf, node, Trees, trees, no_trees}
 use Rattle.nz_spec.specs.Bounds.{have_token, is_wide_token, is_long_decimal}
 use Rattle.nz_spec.specs.Form.{CommandName, declare_const_name, declare_fun_name, define_fun_name, assert_name, get_value_name, get_info_name, set_option_name, echo_name, command_name, has_form, is_name, is_empty, tree_symbol}

@@ -1,5 +1,5 @@
 -- What the acts of the code ask, and the errors that its refusals are.
-use Rattle.std.specs.Prelude.{◌≡◌, ℕ, Option, Some, None}
+use Rattle.std.specs.Prelude.{ℕ, Option, Some, None}
 use Rattle.nz_spec.specs.Script as script
 use Rattle.nz_spec.specs.Script.{name_info, version_info, authors_info, error_behavior_info}
 use Rattle.nz_sort.specs.Live.{Ask, changed, check, show_model, show_values, show_reason, show_info, show_levels, print_success, nothing, echo, leave, unsupported}

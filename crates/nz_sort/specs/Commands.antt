@@ -1,18 +1,16 @@
 -- How the code takes a command apart, and what it adds.
-use Rattle.std.specs.Prelude.{◌≡◌, ℕ, ◌||◌, ◌+◌, ◌<◌, not, Bool, true, false, List, [], ◌∷◌, ◌++◌, length, map, Option, Some, None, option_and_then, slice_get, ◌⊎◌, ⊤, if◌then◌else◌}
+use Rattle.std.specs.Prelude.{◌≡◌, ℕ, ◌||◌, ◌+◌, not, Bool, true, false, List, [], ◌∷◌, ◌++◌, Option, Some, None, option_and_then, slice_get, ◌⊎◌, ⊤, if◌then◌else◌}
 use Rattle.nz_spec.specs.Tree.{Token, symbol_name, Tree, leaf, node, Trees}
-use Rattle.nz_spec.specs.Term.{Sort, is_bool, Constant, constant, Term, Terms, apply, no_terms, holds_number}
+use Rattle.nz_spec.specs.Term.{Sort, is_bool, Constant, constant, Term, Terms, apply, no_terms}
 use Rattle.nz_spec.specs.Normal.{normal_of}
 use Rattle.nz_spec.specs.Table.{Node, term_in}
-use Rattle.nz_spec.specs.Linear.{is_linear}
 use Rattle.nz_spec.specs.Form.{CommandName, is_name, is_empty}
 use Rattle.nz_spec.specs.Elaboration.{Definition as SpecDefinition, RootFits, listed, placed, term_of}
-use Rattle.nz_spec.specs.Script.{State, Command, declare_const, define, assert_term, get_value, asked_of, Outcome, accepted, refused, outcome_by, any_tree, is_unknown_sort, sort_of_tree, parameter_sorts, bound_names, clash, has_unknown, has_clash, body_scope, scope_of}
+use Rattle.nz_spec.specs.Script.{State, Command, declare_const, define, assert_term, get_value, asked_of, Outcome, accepted, refused, outcome_by, any_tree, is_unknown_sort, sort_of_tree, parameter_sorts, bound_names, clash, has_unknown, body_scope}
 use Rattle.nz_spec.specs.Reply.{Reply, effect}
 use Rattle.nz_term.specs.Constants.{sort_of}
 use Rattle.nz_sort.specs.declared.typed.Typed.{Typed}
 use Rattle.nz_sort.specs.declared.names.Definition.{Definition}
-use Rattle.nz_sort.specs.declared.names.Named.{Named}
 use Rattle.nz_sort.specs.declared.names.Named.TheVariants as kinds
 use Rattle.nz_sort.specs.Names.{bound_in, SameTerm, IsDefined}
 use Rattle.nz_sort.specs.Typed.{StandsFor, AreTyped}

@@ -1,5 +1,5 @@
 //! Commands taken apart: what each is about, and what those ask that change nothing.
-ghost use Rattle.std.specs.Prelude.{◌≡◌, IfSome, IfNone, IfOk, false};
+ghost use Rattle.std.specs.Prelude.{◌≡◌, IfSome, IfNone, false};
 ghost use Rattle.nz_sexpr.specs.View.{token_view, view};
 ghost use Rattle.nz_spec.specs.Tree.{leaf, node, trees, no_trees};
 ghost use Rattle.nz_spec.specs.Form.{declare_const_name, declare_fun_name, define_fun_name, get_info_name, get_value_name, set_option_name, echo_name, is_name as may_be_name};

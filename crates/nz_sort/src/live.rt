@@ -1,13 +1,13 @@
 //! The live state: what becomes of a command, and what it leaves.
 ghost use Rattle.std.specs.Prelude.{◌≡◌, All, ◌<◌, ◌+◌, ◌&&◌, ℕ, List, [], ◌∷◌, ◌++◌, length, map, take, OnOk, OnErr, IfOk, IfErr, IfSome, Some, None, ◌||◌, IsErrOf, Bool, false, nat_lt};
 ghost use Rattle.nz_sexpr.specs.View.{view};
-ghost use Rattle.nz_spec.specs.Tree.{Trees, no_trees};
+ghost use Rattle.nz_spec.specs.Tree.{Trees};
 ghost use Rattle.nz_spec.specs.Bounds.{is_long_decimal, have_token as some_token};
 ghost use Rattle.nz_spec.specs.Table.{Node, term_in};
 ghost use Rattle.nz_spec.specs.Term as spec;
 ghost use Rattle.nz_spec.specs.Linear.{is_linear as is_linear_term};
 ghost use Rattle.nz_spec.specs.Form.{assert_name, declare_const_name, declare_fun_name, define_fun_name, get_value_name};
-ghost use Rattle.nz_spec.specs.Script.{State, Outcome, accepted, refused, outcome_of, outcome_named, outcome_by, passes_limit as beyond_limit, pushed_levels, start, declare_const, declaration_of, definition_of, definition_by, assertion_of, values_of_trees, bound_names, parameters_from, all_linear, clash, has_clash};
+ghost use Rattle.nz_spec.specs.Script.{State, accepted, refused, outcome_of, outcome_named, outcome_by, passes_limit as beyond_limit, pushed_levels, start, declare_const, declaration_of, definition_of, definition_by, assertion_of, values_of_trees, bound_names, parameters_from, all_linear, clash, has_clash};
 ghost use Rattle.nz_spec.specs.TermList.{IsTermList};
 ghost use Rattle.nz_term.specs.Constants.{sort_of};
 ghost use Rattle.nz_sort.specs.Form.{seen, command_meaning};

@@ -1,4 +1,4 @@
-use Rattle.std.proofs.Common.{◌≡◌, ◌∙◌, ap, sym, Err}
+use Rattle.std.proofs.Common.{◌∙◌, ap, sym, Err}
 use Rattle.nz_sexpr.specs.View.{view}
 use Rattle.nz_spec.specs.Script.{scope_of}
 use Rattle.nz_sort.specs.Acts.{error_of}
