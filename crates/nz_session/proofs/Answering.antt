@@ -317,10 +317,6 @@ error_answer levels limit s t number answer desk is r h =
     subst (λ (a : Answer). IsAnswer levels limit s (whole t) a desk) (sym is)
     (record { right = r; holds = h; exits = λ x. cc; stays = λ x y. no_error_done s.options.prints_success number y.1 })
 
-pub memory_answer : {E : Type 0} (levels : E → List (List ℕ)) (limit : ℕ) (s : State) (t : Tree) (answer : Answer) (desk : Desk E)
-    → answer ≡ record { reply = code.Error 11; cause = why.Plain; exits = false } → Holds levels limit desk s → IsAnswer levels limit s (whole t) answer desk
-memory_answer levels limit s t answer desk is h = error_answer levels limit s t 11 answer desk is (inr (refl, refl)) h
-
 refusal_is_right : (limit : ℕ) (s : State) (t : Tree) (told : Option ℕ) (number : ℕ) → IfSome told (λ n. number ≡ n) → IfNone told (number ≡ 11)
     → IfSome told (λ n. outcome_of s t ≡ refused n) → IsRight limit s (whole t) (error number) plain
 refusal_is_right limit s t None number e f g = inr (ap error f, refl)

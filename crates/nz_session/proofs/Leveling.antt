@@ -1,28 +1,14 @@
 -- Terms by level, and constants by their numbers.
-use Rattle.std.proofs.Common.{inl, inr, ◌≡◌, ℕ, zero, suc, ◌+◌, ◌<◌, List, [], ◌∷◌, ◌++◌, length, set, get_or, All, refl, sym, ap, subst, ◌∙◌, arith, length-append, Vec, Global}
+use Rattle.std.proofs.Common.{inl, inr, ◌≡◌, ℕ, zero, suc, ◌+◌, ◌<◌, List, [], ◌∷◌, ◌++◌, length, set, get_or, refl, sym, ap, subst, ◌∙◌, arith, Vec, Global}
 use Rattle.std.proofs.lemmas.Bool.{cases_lt}
-use Rattle.std.proofs.lemmas.List.{get_or_default, get_or_append_left, get_or-append-add, map-set, set-get_or, length-map, get_or-map}
+use Rattle.std.proofs.lemmas.List.{get_or_default, map-set, set-get_or, length-map, get_or-map}
 use Rattle.nz_spec.specs.Term.{Constant}
 use Rattle.nz_spec.specs.Table.{Node}
-use Rattle.nz_spec.specs.Decide.{asserted_numbers, with_number}
+use Rattle.nz_spec.specs.Decide.{with_number}
 use Rattle.nz_truth.specs.Numbers.{AreNumbersOf}
 use Rattle.nz_session.specs.Levels.{numbers_by_level}
 
 -- ---- Levels
-
--- what holds of two lists together holds of each
-All-left : {X : Type 0} (P : X → Type 0) (xs ys : List X) → All P (xs ++ ys) → All P xs
-All-left P xs ys h = λ k d l. subst P (get_or_append_left xs ys d k l) (h k d (omega (arith, length-append xs ys)))
-
-All-right : {X : Type 0} (P : X → Type 0) (xs ys : List X) → All P (xs ++ ys) → All P ys
-All-right P xs ys h = λ k d l. subst P (get_or-append-add xs ys k d) (h (length xs + k) d (omega (arith, length-append xs ys)))
-
--- what holds of all asserted numbers holds of those of a level
-pub all_at_level : (P : ℕ → Type 0) (levels : List (Vec ℕ Global)) (i : ℕ) (v : Vec ℕ Global) → i < length levels → v ≡ get_or levels i v → All P (asserted_numbers (numbers_by_level levels))
-    → All P v.items
-all_at_level P [] i v l e h = absurd (omega arith)
-all_at_level P (level ∷ levels) zero v l e h = subst (λ (x : Vec ℕ Global). All P x.items) (sym e) (All-left P level.items (asserted_numbers (numbers_by_level levels)) h)
-all_at_level P (level ∷ levels) (suc i) v l e h = all_at_level P levels i v (omega arith) e (All-right P level.items (asserted_numbers (numbers_by_level levels)) h)
 
 -- a number more goes to the end of the last level
 pub with_number-set : (levels : List (List ℕ)) (j i : ℕ) → length levels ≡ suc j → with_number levels i ≡ set levels j (get_or levels j [] ++ i ∷ [])

@@ -97,9 +97,6 @@ valued_kept is bs k old e h =
     let after : valued (drop (k + 1) is) (drop (k + 1) bs) ≡ [] = ap (valued (drop (k + 1) is)) (drop_all (k + 1) bs (omega arith)) ∙ valued_nil (drop (k + 1) is) in
     ap (λ ps. old ++ ps) (after ∙ sym before) ∙ h
 
-pub valued_all : (is : List ℕ) (bs : List Binding) (k : ℕ) (ps : List (ℕ × Value)) → length is ≤ k → ps ++ valued (drop k is) (drop k bs) ≡ valued is bs → ps ≡ valued is bs
-valued_all is bs k ps l h = sym (append-nil ps) ∙ sym (ap (λ xs. ps ++ valued xs (drop k bs)) (drop_all k is l)) ∙ h
-
 -- ---- Outcomes, as they are told
 
 pub typed_within : (ns : List Node) (xs : List Typed) (ts : Terms) → AreTyped ns xs ts → AllByRecursion (λ i. i < length ns) (numbers_typed xs)
@@ -125,13 +122,6 @@ told_all ns a (x ∷ xs) os no_terms h e = absurd h
 told_all ns a (x ∷ xs) [] (terms t ts) h e = absurd e
 told_all ns a (x ∷ xs) (o ∷ os) (terms t ts) h e =
     ap (λ s. s ∷ outcomes_shown xs os) (told_one ns a x o t h.0 e.0) ∙ ap (λ l. term_shown a t ∷ l) (told_all ns a xs os ts h.1 e.1)
-
--- a pair of a term and its outcome more is told
-pub told_more : (xs ys : List Typed) (os ps : List Outcome) (x : Typed) (o : Outcome) (old new total : List Shown) → xs ≡ x ∷ ys → os ≡ o ∷ ps
-    → new ≡ old ++ outcome_shown x.sort o ∷ [] → old ++ outcomes_shown xs os ≡ total → new ++ outcomes_shown ys ps ≡ total
-told_more xs ys os ps x o old new total e f g h =
-    let step : outcomes_shown xs os ≡ outcome_shown x.sort o ∷ outcomes_shown ys ps = ap (λ l. outcomes_shown l os) e ∙ ap (outcomes_shown (x ∷ ys)) f in
-    ap (λ l. l ++ outcomes_shown ys ps) g ∙ append_assoc old (outcome_shown x.sort o ∷ []) (outcomes_shown ys ps) ∙ ap (λ l. old ++ l) (sym step) ∙ h
 
 outcomes_nil : (xs : List Typed) → outcomes_shown xs [] ≡ []
 outcomes_nil [] = refl
