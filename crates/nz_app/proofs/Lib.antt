@@ -1,3 +1,4 @@
 pub mod Statuses
 pub mod Turning
 pub mod Units
+pub mod Endings

@@ -1,26 +1,30 @@
 //! `nuz`: an optimizing SMT solver for scripts of SMT-LIB 2.6 on standard input.
 #![tactic(auto)]
 
+mod command_line;
 mod run;
 #[cfg(test)]
 mod tests;
 mod words;
 
-use nz_base::{Input, Output};
+use command_line::words_of;
+use nz_base::{Input, Memory, Output};
 pub use run::{Ended, run};
 use std::process::ExitCode;
-use std::{env, io};
 
-fn main(rt: HostRuntime) -> io::Result<ExitCode> {
-    let mut arguments = Vec::new(rt.alloc());
-    for argument in env::args(&rt)? {
-        arguments.push(argument)?;
+fn main(rt: HostRuntime) -> ExitCode {
+    let status = match words_of(&rt, rt.alloc()) {
+        Ok(Some(words)) => {
+            let mut input = Input::new(rt.stdin());
+            let mut output = Output::new(rt.stdout());
+            run(rt.alloc(), words.as_slice(), &mut input, &mut output).status
+        }
+        Ok(None) => run::USAGE,
+        Err(Memory) => run::MEMORY,
+    };
+    if status == run::USAGE {
+        // The status says it too, so a standard error that takes no line changes nothing.
+        let _ = eprintln!(rt; "{}", words::USAGE_LINE);
     }
-    let mut input = Input::new(rt.stdin());
-    let mut output = Output::new(rt.stdout());
-    let ended = run(rt.alloc(), arguments.as_slice(), &mut input, &mut output);
-    if ended.status == run::USAGE {
-        eprintln!(rt; "{}", words::USAGE_LINE)?;
-    }
-    Ok(ExitCode::from(ended.status))
+    ExitCode::from(status)
 }

@@ -1,13 +1,13 @@
 //! The top call: all that the program does, from the words of its command line and its input to its output.
-ghost use Rattle.std.specs.Prelude.{◌≡◌, ◌≤◌, ◌<◌, ◌+◌, ◌*◌, ◌^◌, ◌↔◌, ◌⊎◌, ℕ, true, false, List, [], length, map, IsTrue, Option, string_bytes};
-ghost use Rattle.std.specs.Io.KnownBytes.{Keeps};
+ghost use Rattle.std.specs.Prelude.{◌≡◌, ◌==◌, ◌<◌, ◌+◌, ◌^◌, ◌⊎◌, ℕ, true, false, List, [], map, IfSome, IfNone, Option, string_bytes};
 ghost use Rattle.std.specs.List.{list_any};
-ghost use Rattle.nz_spec.specs.Outside.{HasRisen};
-ghost use Rattle.nz_spec.specs.Run.{IsBrokenOffRun, IsInterruptedRun, IsRun, TookMany, is_error, is_memory_error, status_of};
+ghost use Rattle.nz_spec.specs.Outside.{counted};
+ghost use Rattle.nz_spec.specs.Table.{Node};
+ghost use Rattle.nz_spec.specs.Run.{HasNotBegun, IsBrokenOff, IsInterrupted, IsRun, TookMany, is_error, is_memory_error, status_of};
 ghost use Rattle.nz_reply.specs.Journals.{journal_of};
 ghost use Rattle.nz_reply.specs.Replies.{all_kept, kept_of};
-ghost use Rattle.nz_session.specs.Serve.{Serves, kept_by};
-ghost use Rattle.nz_app.specs.Ending.{Ends, HasNotBegun};
+ghost use Rattle.nz_session.specs.Serve.{kept_by};
+ghost use Rattle.nz_app.specs.Ending.{Ends, EndsAs, ends_by_read, ends_by_write, is_cut, reads_fail, status_by, writes_fail};
 ghost use Rattle.nz_app.specs.Reading.{IsReading};
 ghost use Rattle.nz_app.specs.Words.{AreTaken, AreUnits};
 
@@ -69,75 +69,54 @@ enum End {
     Reads,
 }
 
-/// What a read led to.
-#[derive(Clone, Copy, Debug, PartialEq, Eq)]
-enum Turn {
-    Going,
-    Finished,
-    Cut,
-    ReadFault,
-    WriteFault,
-}
-
-/// Reads once, and answers what is complete then.
+/// Reads once, and answers what is complete then; how the run ends, where it does.
 fn read_once<E: Decide, S: Source, K: Sink>(
     session: &mut Session<E>,
     input: &mut S,
     out: &mut K,
     buffer: &mut [u8; BUFFER],
-) -> Turn
-    requires { (limit : ℕ) × (first : Option (List ℕ)) × (held : Option (List ℕ)) × (count : ℕ) × IsReading E.levels limit session.old first (S.left input.old) held (K.held out.old) count × (count < 2 ^ 32) }
-    ensures going { result ≡ Turn.Going → (limit : ℕ) (first : Option (List ℕ)) (held : Option (List ℕ)) (count : ℕ) → count < 2 ^ 32 → IsReading E.levels limit session.old first (S.left input.old) held (K.held out.old) count → IsReading E.levels limit session.new first (S.left input.new) held (K.held out.new) (count + 1) }
-    ensures finished { result ≡ Turn.Finished → (limit : ℕ) (first : Option (List ℕ)) (held : Option (List ℕ)) (count : ℕ) → count < 2 ^ 32 → IsReading E.levels limit session.old first (S.left input.old) held (K.held out.old) count → IsRun limit false first (S.left input.new) held (K.held out.new) (kept_by session.new) }
-    ensures cut { result ≡ Turn.Cut → (limit : ℕ) (first : Option (List ℕ)) (held : Option (List ℕ)) (count : ℕ) → count < 2 ^ 32 → IsReading E.levels limit session.old first (S.left input.old) held (K.held out.old) count → IsRun limit true first (S.left input.new) held (K.held out.new) (kept_by session.new) }
-    ensures interrupted { result ≡ Turn.ReadFault → (limit : ℕ) (first : Option (List ℕ)) (held : Option (List ℕ)) (count : ℕ) → count < 2 ^ 32 → IsReading E.levels limit session.old first (S.left input.old) held (K.held out.old) count → IsInterruptedRun limit first (S.left input.new) held (K.held out.new) (kept_by session.new) }
-    ensures broken_off { result ≡ Turn.WriteFault → (limit : ℕ) (first : Option (List ℕ)) (held : Option (List ℕ)) (count : ℕ) → count < 2 ^ 32 → IsReading E.levels limit session.old first (S.left input.old) held (K.held out.old) count → IsBrokenOffRun limit first (S.left input.new) held (K.held out.new) (kept_by session.new) }
-    ensures read_fault { result ≡ Turn.ReadFault → HasRisen S.last (S.faults input.old) (S.faults input.new) }
-    ensures write_fault { result ≡ Turn.WriteFault → HasRisen K.last (K.faults out.old) (K.faults out.new) }
-    ensures input_later { S.faults input.old ≤ S.faults input.new }
-    ensures output_later { K.faults out.old ≤ K.faults out.new }
+) -> Option<End>
+    requires { (limit : ℕ) × (first : Option (List ℕ)) × (held : Option (List ℕ)) × (count : ℕ) × IsReading E.levels E.table limit session.old first (S.left input.old) held (K.held out.old) count × (count < 2 ^ 32) }
+    ensures going { IfNone result ((limit : ℕ) (first : Option (List ℕ)) (held : Option (List ℕ)) (count : ℕ) → count < 2 ^ 32 → IsReading E.levels E.table limit session.old first (S.left input.old) held (K.held out.old) count → IsReading E.levels E.table limit session.new first (S.left input.new) held (K.held out.new) (count + 1)) }
+    ensures ended { IfSome result (λ end. (limit : ℕ) (first : Option (List ℕ)) (held : Option (List ℕ)) (count : ℕ) → count < 2 ^ 32 → IsReading E.levels E.table limit session.old first (S.left input.old) held (K.held out.old) count → EndsAs end limit first (S.left input.new) held (K.held out.new) (kept_by session.new)) }
+    ensures in_time { IfSome result (λ end. end ≡ End.Reads → ⊥) }
+    ensures input_faults { S.faults input.new ≡ counted S.last (reads_fail result) (S.faults input.old) }
+    ensures output_faults { K.faults out.new ≡ counted K.last (writes_fail result) (K.faults out.old) }
+    ensures handed { writes_fail result ≡ false → K.handed out.old ≡ K.held out.old → K.handed out.new ≡ K.held out.new }
 {
     let count = match input.read(buffer) {
         Ok(count) => count,
-        Err(_) => return Turn::ReadFault,
+        Err(_) => return Some(End::ReadFault),
     };
     if count == 0 {
         return match session.finish(out) {
-            Fed::Going => Turn::Finished,
-            Fed::Exited => Turn::Finished,
-            Fed::SinkFault => Turn::WriteFault,
-            Fed::Cut => Turn::Cut,
+            Fed::Going => Some(End::Finished),
+            Fed::Exited => Some(End::Finished),
+            Fed::SinkFault => Some(End::WriteFault),
+            Fed::Cut => Some(End::Cut),
         };
     }
     match session.feed(&buffer[..count], out) {
-        Fed::Going => Turn::Going,
-        Fed::Exited => Turn::Finished,
-        Fed::SinkFault => Turn::WriteFault,
-        Fed::Cut => Turn::Cut,
+        Fed::Going => None,
+        Fed::Exited => Some(End::Finished),
+        Fed::SinkFault => Some(End::WriteFault),
+        Fed::Cut => Some(End::Cut),
     }
 }
 
 /// Reads, and answers, to the end.
 fn serve<E: Decide, S: Source, K: Sink>(session: &mut Session<E>, input: &mut S, out: &mut K) -> End
-    requires start { (limit : ℕ) × IsReading E.levels limit session.old (S.left input.old) (S.left input.old) (K.held out.old) (K.held out.old) 0 }
-    ensures finished { result ≡ End.Finished → (limit : ℕ) → IsReading E.levels limit session.old (S.left input.old) (S.left input.old) (K.held out.old) (K.held out.old) 0 → IsRun limit false (S.left input.old) (S.left input.new) (K.held out.old) (K.held out.new) (kept_by session.new) }
-    ensures cut { result ≡ End.Cut → (limit : ℕ) → IsReading E.levels limit session.old (S.left input.old) (S.left input.old) (K.held out.old) (K.held out.old) 0 → IsRun limit true (S.left input.old) (S.left input.new) (K.held out.old) (K.held out.new) (kept_by session.new) }
-    ensures interrupted { (result ≡ End.ReadFault) ⊎ (result ≡ End.Reads) → (limit : ℕ) → IsReading E.levels limit session.old (S.left input.old) (S.left input.old) (K.held out.old) (K.held out.old) 0 → IsInterruptedRun limit (S.left input.old) (S.left input.new) (K.held out.old) (K.held out.new) (kept_by session.new) }
-    ensures broken_off { result ≡ End.WriteFault → (limit : ℕ) → IsReading E.levels limit session.old (S.left input.old) (S.left input.old) (K.held out.old) (K.held out.old) 0 → IsBrokenOffRun limit (S.left input.old) (S.left input.new) (K.held out.old) (K.held out.new) (kept_by session.new) }
-    ensures read_fault { result ≡ End.ReadFault → HasRisen S.last (S.faults input.old) (S.faults input.new) }
-    ensures write_fault { result ≡ End.WriteFault → HasRisen K.last (K.faults out.old) (K.faults out.new) }
+    requires start { (limit : ℕ) × IsReading E.levels E.table limit session.old (S.left input.old) (S.left input.old) (K.held out.old) (K.held out.old) 0 }
+    ensures ended { (limit : ℕ) → IsReading E.levels E.table limit session.old (S.left input.old) (S.left input.old) (K.held out.old) (K.held out.old) 0 → EndsAs result limit (S.left input.old) (S.left input.new) (K.held out.old) (K.held out.new) (kept_by session.new) }
     ensures reads { result ≡ End.Reads → TookMany (S.left input.old) (S.left input.new) (2 ^ 32) }
-    ensures input_later { S.faults input.old ≤ S.faults input.new }
-    ensures output_later { K.faults out.old ≤ K.faults out.new }
+    ensures input_faults { S.faults input.new ≡ counted S.last (ends_by_read result) (S.faults input.old) }
+    ensures output_faults { K.faults out.new ≡ counted K.last (ends_by_write result) (K.faults out.old) }
+    ensures handed { ends_by_write result ≡ false → K.handed out.old ≡ K.held out.old → K.handed out.new ≡ K.held out.new }
 {
     let mut buffer = [0; BUFFER];
     for read in 0..MOST_READS {
-        match read_once(session, input, out, &mut buffer) {
-            Turn::Going => {}
-            Turn::Finished => return End::Finished,
-            Turn::Cut => return End::Cut,
-            Turn::ReadFault => return End::ReadFault,
-            Turn::WriteFault => return End::WriteFault,
+        if let Some(end) = read_once(session, input, out, &mut buffer) {
+            return end;
         }
     }
     End::Reads
@@ -145,7 +124,7 @@ fn serve<E: Decide, S: Source, K: Sink>(session: &mut Session<E>, input: &mut S,
 
 /// Some reply is the error for want of memory.
 fn wants_memory(kept: &[Kept]) -> bool
-    ensures any { result ≡ list_any is_memory_error (all_kept kept.now) }
+    ensures any { (ns : List Node) → result ≡ list_any is_memory_error (all_kept ns kept.now) }
 {
     for kept in kept {
         if is_out_of_memory(kept) {
@@ -156,7 +135,7 @@ fn wants_memory(kept: &[Kept]) -> bool
 }
 
 fn is_out_of_memory(kept: &Kept) -> bool
-    ensures memory { result ≡ is_memory_error (kept_of kept.now) }
+    ensures memory { (ns : List Node) → result ≡ is_memory_error (kept_of ns kept.now) }
 {
     match &kept.reply {
         Reply::Error(number) => *number == OUT_OF_MEMORY,
@@ -177,7 +156,7 @@ fn is_out_of_memory(kept: &Kept) -> bool
 
 /// Some reply is an error.
 fn has_error(kept: &[Kept]) -> bool
-    ensures any { result ≡ list_any is_error (all_kept kept.now) }
+    ensures any { (ns : List Node) → result ≡ list_any is_error (all_kept ns kept.now) }
 {
     for kept in kept {
         if is_an_error(kept) {
@@ -188,7 +167,7 @@ fn has_error(kept: &[Kept]) -> bool
 }
 
 fn is_an_error(kept: &Kept) -> bool
-    ensures error { result ≡ is_error (kept_of kept.now) }
+    ensures error { (ns : List Node) → result ≡ is_error (kept_of ns kept.now) }
 {
     match &kept.reply {
         Reply::Error(_) => true,
@@ -207,11 +186,31 @@ fn is_an_error(kept: &Kept) -> bool
     }
 }
 
-/// The status of a run that came to its end.
-fn status_at_end(cut: bool, journal: &Journal) -> u8
-    ensures status { result ≡ status_of cut (journal_of journal.now) }
+/// Want of memory cut the run short.
+fn is_cut(end: End) -> bool
+    ensures cut { result ≡ is_cut end }
 {
-    if cut || wants_memory(journal.as_slice()) {
+    matches!(end, End::Cut)
+}
+
+/// The status of a run that ended so.
+fn status_at(end: End, journal: &Journal) -> u8
+    ensures status { (ns : List Node) → result ≡ status_by end (journal_of ns journal.now) }
+{
+    match end {
+        End::Finished => status_of_replies(journal),
+        End::Cut => MEMORY,
+        End::ReadFault => READ_FAULT,
+        End::WriteFault => WRITE_FAULT,
+        End::Reads => READS,
+    }
+}
+
+/// The status of a run that came to its end.
+fn status_of_replies(journal: &Journal) -> u8
+    ensures status { (ns : List Node) → result ≡ status_of false (journal_of ns journal.now) }
+{
+    if wants_memory(journal.as_slice()) {
         MEMORY
     } else if has_error(journal.as_slice()) {
         ERROR
@@ -223,7 +222,7 @@ fn status_at_end(cut: bool, journal: &Journal) -> u8
 /// A run in which nothing was heard.
 fn ended_at_once(alloc: Global, status: u8) -> Ended
     ensures status { result.status ≡ status }
-    ensures nothing { journal_of result.journal ≡ [] }
+    ensures nothing { journal_of result.terms result.journal ≡ [] }
     ensures whole { result.cut ≡ false }
 {
     Ended {
@@ -240,27 +239,30 @@ fn ended_at_once(alloc: Global, status: u8) -> Ended
 /// A run that finds no memory to begin with ends at once, with status 5 and nothing read or written.
 pub fn run<S: Source, K: Sink>(alloc: Global, words: &[String], input: &mut S, out: &mut K) -> Ended
     // The headline: where the run came to its end without a fault, each reply is right, in order.
-    ensures answered { result.status ≡ status_of result.cut (journal_of result.journal) →
-        (limit : ℕ) × AreUnits (map string_bytes words.now) limit × IsRun limit result.cut (S.left input.old) (S.left input.new) (K.held out.old) (K.held out.new) (journal_of result.journal) }
+    ensures answered { result.status ≡ status_of result.cut (journal_of result.terms result.journal) →
+        (limit : ℕ) × AreUnits (map string_bytes words.now) limit × IsRun limit result.cut (S.left input.old) (S.left input.new) (K.held out.old) (K.held out.new) (journal_of result.terms result.journal) }
 
     // Where the input failed or had no end, or the output failed, what came before is right too.
     ensures interrupted { (result.status ≡ READ_FAULT) ⊎ (result.status ≡ READS) →
-        (limit : ℕ) × AreUnits (map string_bytes words.now) limit × IsInterruptedRun limit (S.left input.old) (S.left input.new) (K.held out.old) (K.held out.new) (journal_of result.journal) }
+        (limit : ℕ) × AreUnits (map string_bytes words.now) limit × IsInterrupted limit (S.left input.old) (S.left input.new) (K.held out.old) (K.held out.new) (journal_of result.terms result.journal) }
     ensures broken_off { result.status ≡ WRITE_FAULT →
-        (limit : ℕ) × AreUnits (map string_bytes words.now) limit × IsBrokenOffRun limit (S.left input.old) (S.left input.new) (K.held out.old) (K.held out.new) (journal_of result.journal) }
+        (limit : ℕ) × AreUnits (map string_bytes words.now) limit × IsBrokenOff limit (S.left input.old) (S.left input.new) (K.held out.old) (K.held out.new) (journal_of result.terms result.journal) }
 
     // Each status has its cause.
-    ensures status { Ends result.status ⊎ (result.status ≡ status_of result.cut (journal_of result.journal)) }
-    ensures memory { result.status ≡ MEMORY → HasNotBegun (S.left input.old) (S.left input.new) (K.held out.old) (K.held out.new) (journal_of result.journal) ⊎ (result.status ≡ status_of result.cut (journal_of result.journal)) }
+    ensures status { Ends result.status ⊎ (result.status ≡ status_of result.cut (journal_of result.terms result.journal)) }
+    ensures memory { result.status ≡ MEMORY → HasNotBegun (S.left input.old) (S.left input.new) (K.held out.old) (K.held out.new) result.cut (journal_of result.terms result.journal) ⊎ (result.status ≡ status_of result.cut (journal_of result.terms result.journal)) }
+    ensures cut { result.cut ≡ true → result.status ≡ MEMORY }
     ensures usage { result.status ≡ USAGE → AreTaken (map string_bytes words.now) → ⊥ }
     ensures taken { (result.status ≡ MEMORY → ⊥) → (result.status ≡ USAGE → ⊥) → AreTaken (map string_bytes words.now) }
-    ensures untouched_input { result.status ≡ USAGE → Keeps (S.left input.old) (S.left input.new) }
-    ensures untouched_output { result.status ≡ USAGE → Keeps (K.held out.old) (K.held out.new) }
-    ensures read_fault { result.status ≡ READ_FAULT → HasRisen S.last (S.faults input.old) (S.faults input.new) }
-    ensures write_fault { result.status ≡ WRITE_FAULT → HasRisen K.last (K.faults out.old) (K.faults out.new) }
     ensures reads { result.status ≡ READS → TookMany (S.left input.old) (S.left input.new) (2 ^ 32) }
-    ensures input_later { S.faults input.old ≤ S.faults input.new }
-    ensures output_later { K.faults out.old ≤ K.faults out.new }
+
+    // Words that aren't taken run nothing, whatever the status.
+    ensures refused_words { (AreTaken (map string_bytes words.now) → ⊥) → HasNotBegun (S.left input.old) (S.left input.new) (K.held out.old) (K.held out.new) result.cut (journal_of result.terms result.journal) }
+
+    // A fault is counted once, and just where the status tells it; where the output didn't fail, all was handed on.
+    ensures input_faults { S.faults input.new ≡ counted S.last (result.status == READ_FAULT) (S.faults input.old) }
+    ensures output_faults { K.faults out.new ≡ counted K.last (result.status == WRITE_FAULT) (K.faults out.old) }
+    ensures handed { (result.status == WRITE_FAULT) ≡ false → K.handed out.old ≡ K.held out.old → K.handed out.new ≡ K.held out.new }
 {
     let units = match units_of(alloc, words) {
         Ok(units) => units,
@@ -273,13 +275,8 @@ pub fn run<S: Source, K: Sink>(alloc: Global, words: &[String], input: &mut S, o
     };
     let end = serve(&mut session, input, out);
     let (journal, terms) = session.into_kept();
-    let cut = end == End::Cut;
-    let status = match end {
-        End::Finished | End::Cut => status_at_end(cut, &journal),
-        End::ReadFault => READ_FAULT,
-        End::WriteFault => WRITE_FAULT,
-        End::Reads => READS,
-    };
+    let cut = is_cut(end);
+    let status = status_at(end, &journal);
     Ended {
         status,
         journal,

@@ -1,6 +1,8 @@
 //! The top call on whole scripts, read in pieces of any length, and with a fault in mid-stream.
 ghost use Rattle.std.specs.Prelude.{◌<◌};
 
+mod command_line;
+
 use crate::run::{DONE, ERROR, Ended, READ_FAULT, USAGE, WRITE_FAULT, run};
 use nz_base::{MemSink, MemSource, Memory, PlainSink, PlainSource, Sink, Source};
 use std::alloc::Global;

@@ -1,7 +1,7 @@
 //! Sources and sinks in memory: plain ones, and ones that fail at planned calls.
-ghost use Rattle.std.specs.Prelude.{◌≡◌, ◌<◌, ◌≤◌, ◌↔◌, [], length, IsTrue, OnOk, OnErr, IfOk, IsErr, Some, Ok};
+ghost use Rattle.std.specs.Prelude.{◌≡◌, ◌<◌, ◌↔◌, ◌||◌, [], length, IsTrue, OnOk, OnErr, IfOk, IsErr, is_err, Some, Ok};
 ghost use Rattle.std.specs.Io.KnownBytes.{Keeps};
-ghost use Rattle.nz_spec.specs.Outside.{last_count, HasRisen, GivesFront, EndsAtZero, TakesFront, RefusesByFault, given_count, after_read, read_buffer, taken_count, after_fault, after_write, fails_next, after_call, after_faulty_read, after_faulty_write, after_faulty_flush};
+ghost use Rattle.nz_spec.specs.Outside.{last_count, counted, GivesFront, EndsAtZero, TakesFront, is_refusal, given_count, after_read, read_buffer, taken_count, after_fault, after_write, after_flush, fails_next, after_call, after_faulty_read, after_faulty_write, after_faulty_flush};
 
 use crate::errors::{Failed, Memory};
 use crate::outside::{Sink, Source};
@@ -74,28 +74,31 @@ impl Source for PlainSource {
 #[derive(Debug, Drop)]
 pub struct PlainSink {
     bytes: Vec<u8>,
+    // How many of them were handed on.
+    handed: usize,
     room: usize,
     faults: u64,
 }
 
 impl Model for PlainSink {
-    ghost use Rattle.std.specs.Prelude.{◌≤◌, vec_len, vec_capacity};
+    ghost use Rattle.std.specs.Prelude.{◌≤◌, take, vec_len, vec_capacity};
     ghost use Rattle.nz_spec.specs.Outside.{MemoryOutput};
 
     ghost Value = { MemoryOutput };
 
-    ghost view = { λ s. record { held = s.bytes.items; room = s.room; faults = s.faults } };
+    ghost view = { λ s. record { held = s.bytes.items; handed = take s.handed s.bytes.items; room = s.room; faults = s.faults } };
 
-    ghost invariant = { λ s. (vec_len s.bytes ≤ s.room) × (s.room ≤ vec_capacity s.bytes) };
+    ghost invariant = { λ s. (s.handed ≤ vec_len s.bytes) × (vec_len s.bytes ≤ s.room) × (s.room ≤ vec_capacity s.bytes) };
 }
 
 impl PlainSink {
     /// An empty sink with room for so many bytes, which is had here: no write takes memory.
     pub fn new(alloc: Global, room: usize) -> Result<Self, Memory>
-        ensures made { IfOk result (λ s. s ≡ record { held = []; room = room; faults = 0 }) }
+        ensures made { IfOk result (λ s. s ≡ record { held = []; handed = []; room = room; faults = 0 }) }
     {
         Ok(PlainSink {
             bytes: Vec::with_capacity(alloc, room)?,
+            handed: 0,
             room,
             faults: 0,
         })
@@ -108,6 +111,13 @@ impl PlainSink {
         self.bytes.as_slice()
     }
 
+    /// The bytes that the sink has handed on.
+    pub fn handed(&self) -> &[u8]
+        ensures handed { result.now ≡ self.now.handed }
+    {
+        &self.bytes[..self.handed]
+    }
+
     /// How many writes took nothing of a piece that wasn't empty.
     pub fn faults(&self) -> u64
         ensures counted { result ≡ self.now.faults }
@@ -117,8 +127,6 @@ impl PlainSink {
 
     fn count_fault(&mut self)
         ensures counted { self.new ≡ after_fault self.old }
-        ensures later { self.old.faults ≤ self.new.faults }
-        ensures risen { HasRisen last_count self.old.faults self.new.faults }
     {
         self.faults = self.faults.saturating_add(1);
     }
@@ -131,6 +139,8 @@ impl Sink for PlainSink {
 
     ghost held = { λ s. Some s.held };
 
+    ghost handed = { λ s. Some s.handed };
+
     ghost faults = { λ s. s.faults };
 
     ghost last = { last_count };
@@ -140,8 +150,6 @@ impl Sink for PlainSink {
     fn write(&mut self, piece: &[u8]) -> Result<usize, Failed>
         ensures taken { result ≡ Ok (taken_count self.old piece.now) }
         ensures added { self.new ≡ after_write self.old piece.now }
-        ensures later { self.old.faults ≤ self.new.faults }
-        ensures refused { RefusesByFault last_count self.old.faults self.new.faults result piece.now }
     {
         let count = piece.len().min(self.room - self.bytes.len());
         self.bytes.extend_from_slice(&piece[..count]).unwrap();
@@ -153,8 +161,9 @@ impl Sink for PlainSink {
 
     fn flush(&mut self) -> Result<(), Failed>
         ensures succeeds { result ≡ Ok tt }
-        ensures unchanged { self.new ≡ self.old }
+        ensures after { self.new ≡ after_flush self.old }
     {
+        self.handed = self.bytes.len();
         Ok(())
     }
 }
@@ -253,8 +262,7 @@ impl Source for MemSource {
         ensures rest { self.new ≡ after_faulty_read self.old (length buf.old) }
         ensures bytes { GivesFront (Some self.old.input.left) (Some self.new.input.left) result buf.new }
         ensures end { EndsAtZero (Some self.new.input.left) result buf.new }
-        ensures later { self.old.faults ≤ self.new.faults }
-        ensures failed { OnErr result (HasRisen last_count self.old.faults self.new.faults) }
+        ensures counted { self.new.faults ≡ counted last_count (is_err result) self.old.faults }
     {
         if self.plan.call() {
             self.faults = self.faults.saturating_add(1);
@@ -284,7 +292,7 @@ impl MemSink {
     /// writes and flushes are numbered together from 0, those that fail too, up to 2^64 - 1, the number of each call
     /// from then on.
     pub fn new(alloc: Global, room: usize, fails: Vec<u64>) -> Result<Self, Memory>
-        ensures output { IfOk result (λ s. s.output ≡ record { held = []; room = room; faults = 0 }) }
+        ensures output { IfOk result (λ s. s.output ≡ record { held = []; handed = []; room = room; faults = 0 }) }
         ensures plan { IfOk result (λ s. s.plan ≡ record { fails = fails.items; next = 0 }) }
     {
         Ok(MemSink {
@@ -298,6 +306,13 @@ impl MemSink {
         ensures held { result.now ≡ self.now.output.held }
     {
         self.output.bytes()
+    }
+
+    /// The bytes that the sink has handed on.
+    pub fn handed(&self) -> &[u8]
+        ensures handed { result.now ≡ self.now.output.handed }
+    {
+        self.output.handed()
     }
 
     /// How many writes and flushes failed or took nothing of a piece that wasn't empty.
@@ -315,6 +330,8 @@ impl Sink for MemSink {
 
     ghost held = { λ s. Some s.output.held };
 
+    ghost handed = { λ s. Some s.output.handed };
+
     ghost faults = { λ s. s.output.faults };
 
     ghost last = { last_count };
@@ -326,9 +343,7 @@ impl Sink for MemSink {
         ensures taken { IfOk result (λ n. n ≡ taken_count self.old.output piece.now) }
         ensures added { self.new ≡ after_faulty_write self.old piece.now }
         ensures bytes { TakesFront (Some self.old.output.held) (Some self.new.output.held) result piece.now }
-        ensures later { self.old.output.faults ≤ self.new.output.faults }
-        ensures failed { OnErr result (HasRisen last_count self.old.output.faults self.new.output.faults) }
-        ensures refused { RefusesByFault last_count self.old.output.faults self.new.output.faults result piece.now }
+        ensures counted { self.new.output.faults ≡ counted last_count (is_err result || is_refusal result piece.now) self.old.output.faults }
     {
         if self.plan.call() {
             self.output.count_fault();
@@ -341,8 +356,8 @@ impl Sink for MemSink {
         ensures planned { IsErr result ↔ IsTrue (fails_next self.old.plan) }
         ensures after { self.new ≡ after_faulty_flush self.old }
         ensures bytes { Keeps (Some self.old.output.held) (Some self.new.output.held) }
-        ensures later { self.old.output.faults ≤ self.new.output.faults }
-        ensures failed { OnErr result (HasRisen last_count self.old.output.faults self.new.output.faults) }
+        ensures counted { self.new.output.faults ≡ counted last_count (is_err result) self.old.output.faults }
+        ensures handed { OnOk result (self.new.output.handed ≡ self.new.output.held) }
     {
         if self.plan.call() {
             self.output.count_fault();

@@ -1,8 +1,8 @@
 //! The outside, as the solver sees it: bytes come from a source and go to a sink, and either may fail.
-ghost use Rattle.std.specs.Prelude.{◌≡◌, ℕ, ◌<◌, ◌≤◌, List, Option, OnOk, OnErr};
+ghost use Rattle.std.specs.Prelude.{◌≡◌, ℕ, ◌<◌, ◌||◌, List, Option, is_err, OnOk, OnErr};
 ghost use Rattle.std.specs.Io.{ReadsAtMost, WritesAtMost};
 ghost use Rattle.std.specs.Io.KnownBytes.{Keeps, Appends};
-ghost use Rattle.nz_spec.specs.Outside.{HasRisen, TellsAlike, GivesFront, EndsAtZero, TakesFront, RefusesByFault, AddsFrontOf};
+ghost use Rattle.nz_spec.specs.Outside.{counted, TellsAlike, GivesFront, EndsAtZero, TakesFront, is_refusal, AddsFrontOf};
 
 use crate::errors::Failed;
 
@@ -11,7 +11,7 @@ pub trait Source {
     /// The bytes that are left to read, where the source tells them.
     ghost left: { Self → Option (List ℕ) };
 
-    /// How often the source has failed: 0 where it is made, and never less than before.
+    /// How many of its reads failed: 0 where it is made.
     ghost faults: { Self → ℕ };
 
     /// The last value of that count, at which it stays.
@@ -23,14 +23,13 @@ pub trait Source {
     ///
     /// # Errors
     ///
-    /// `Failed` where the source failed, which its count shows. Then no byte is lost.
+    /// `Failed` where the source failed, which it counts once. Then no byte is lost.
     fn read(&mut self, buf: &mut [u8]) -> Result<usize, Failed>
         ensures bound { ReadsAtMost result buf.new }
         ensures bytes { GivesFront (left self.old) (left self.new) result buf.new }
         ensures end { EndsAtZero (left self.new) result buf.new }
         ensures told { TellsAlike (left self.old) (left self.new) }
-        ensures later { faults self.old ≤ faults self.new }
-        ensures failed { OnErr result (HasRisen last (faults self.old) (faults self.new)) };
+        ensures counted { faults self.new ≡ counted last (is_err result) (faults self.old) };
 
     /// The count can rise at least once.
     ghost last_positive: { 0 < last };
@@ -41,7 +40,10 @@ pub trait Sink {
     /// The bytes that the sink holds, where it tells them.
     ghost held: { Self → Option (List ℕ) };
 
-    /// How often the sink has failed: 0 where it is made, and never less than before.
+    /// The bytes that the sink has handed on, where it tells them.
+    ghost handed: { Self → Option (List ℕ) };
+
+    /// How many of its writes and flushes failed: 0 where it is made.
     ghost faults: { Self → ℕ };
 
     /// The last value of that count, at which it stays.
@@ -52,25 +54,23 @@ pub trait Sink {
     ///
     /// # Errors
     ///
-    /// `Failed` where the sink failed, which its count shows. Then it took no byte.
+    /// `Failed` where the sink failed, which it counts once. Then it took no byte.
     fn write(&mut self, piece: &[u8]) -> Result<usize, Failed>
         ensures bound { WritesAtMost result piece.now }
         ensures bytes { TakesFront (held self.old) (held self.new) result piece.now }
         ensures told { TellsAlike (held self.old) (held self.new) }
-        ensures later { faults self.old ≤ faults self.new }
-        ensures failed { OnErr result (HasRisen last (faults self.old) (faults self.new)) }
-        ensures refused { RefusesByFault last (faults self.old) (faults self.new) result piece.now };
+        ensures counted { faults self.new ≡ counted last (is_err result || is_refusal result piece.now) (faults self.old) };
 
-    /// Hands on what was written.
+    /// Hands on all that the sink holds.
     ///
     /// # Errors
     ///
-    /// `Failed` where the sink failed, which its count shows.
+    /// `Failed` where the sink failed, which it counts once.
     fn flush(&mut self) -> Result<(), Failed>
         ensures bytes { Keeps (held self.old) (held self.new) }
         ensures told { TellsAlike (held self.old) (held self.new) }
-        ensures later { faults self.old ≤ faults self.new }
-        ensures failed { OnErr result (HasRisen last (faults self.old) (faults self.new)) };
+        ensures counted { faults self.new ≡ counted last (is_err result) (faults self.old) }
+        ensures handed { OnOk result (handed self.new ≡ held self.new) };
 
     /// The count can rise at least once.
     ghost last_positive: { 0 < last };
@@ -80,13 +80,12 @@ pub trait Sink {
 ///
 /// # Errors
 ///
-/// `Failed` where the sink failed or took nothing, which its count shows. Then it may have taken a front of the bytes.
+/// `Failed` where the sink failed or took nothing, which it counts once. Then it may have taken a front of the bytes.
 pub fn write_all<K: Sink>(sink: &mut K, bytes: &[u8]) -> Result<(), Failed>
     ensures ok { OnOk result (Appends (K.held sink.old) (K.held sink.new) bytes.now) }
     ensures err { OnErr result (AddsFrontOf (K.held sink.old) (K.held sink.new) bytes.now) }
     ensures told { TellsAlike (K.held sink.old) (K.held sink.new) }
-    ensures later { K.faults sink.old ≤ K.faults sink.new }
-    ensures failed { OnErr result (HasRisen K.last (K.faults sink.old) (K.faults sink.new)) }
+    ensures counted { K.faults sink.new ≡ counted K.last (is_err result) (K.faults sink.old) }
 {
     let mut at = 0;
     'pieces: while at < bytes.len() {

@@ -98,6 +98,8 @@ impl<W: Write + Drop> Sink for Output<W> {
 
     ghost held = { λ _. None };
 
+    ghost handed = { λ _. None };
+
     ghost faults = { λ s. if s.has_failed then 1 else 0 };
 
     ghost last = { 1 };

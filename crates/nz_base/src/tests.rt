@@ -76,6 +76,7 @@ fn plain_sink_takes_what_fits(rt: HostRuntime) -> Result<(), Fail> {
     assert_eq!(rt; write_to(&mut sink, b"sat"), Ok(0));
     assert_eq!(rt; sink.faults(), 1);
     assert_eq!(rt; sink.bytes(), b"satun".as_slice());
+    assert_eq!(rt; sink.handed(), b"satun".as_slice());
     Ok(())
 }
 
@@ -94,11 +95,25 @@ fn mem_sink_fails_where_planned(rt: HostRuntime) -> Result<(), Fail> {
 }
 
 #[test]
+fn a_failed_flush_hands_on_nothing(rt: HostRuntime) -> Result<(), Fail> {
+    let mut sink = MemSink::new(rt.alloc(), 5, [1].to_vec(rt.alloc())?)?;
+    assert_eq!(rt; sink.write(b"sat"), Ok(3));
+    assert_eq!(rt; sink.flush(), Err(Failed));
+    assert_eq!(rt; sink.handed(), b"".as_slice());
+    assert_eq!(rt; sink.faults(), 1);
+    assert_eq!(rt; sink.flush(), Ok(()));
+    assert_eq!(rt; sink.handed(), b"sat".as_slice());
+    assert_eq!(rt; sink.faults(), 1);
+    Ok(())
+}
+
+#[test]
 fn write_all_writes_every_byte_or_fails(rt: HostRuntime) -> Result<(), Fail> {
     let mut sink = PlainSink::new(rt.alloc(), 8)?;
     assert_eq!(rt; write_all(&mut sink, b"sat\n"), Ok(()));
     assert_eq!(rt; write_all(&mut sink, b"unsat\n"), Err(Failed));
     assert_eq!(rt; sink.bytes(), b"sat\nunsa".as_slice());
+    assert_eq!(rt; sink.handed(), b"".as_slice());
     assert_eq!(rt; sink.faults(), 1);
     Ok(())
 }

@@ -1,9 +1,10 @@
 -- The first Wide operation of a list, and what a refused call names.
 use Rattle.std.proofs.Common.{◌≡◌, Bool, true, false, IsTrue, refl, sym, ap, ◌∙◌, true≢false, List, [], ◌∷◌, ◌++◌, Option, Some, None, Result, Ok, Err, IsErr, IfErr, if◌then◌else◌}
-use Rattle.nz_spec.specs.Fraction.{Fraction, Operator, Operation, is_wide, first_wide}
+use Rattle.nz_spec.specs.Fraction.{Fraction, Arithmetic, Operation, is_wide, first_wide}
 use Rattle.nz_frac.specs.declared.frac.Wide.{Wide}
 use Rattle.nz_delta.specs.Operations.{alone}
-use Rattle.nz_delta.specs.Refused.{operation_of, refused}
+use Rattle.nz_frac.specs.Operations.{operation_of}
+use Rattle.nz_delta.specs.Refused.{refused}
 
 pub wide_at_err : {b : Bool} → (true ≡ true → IsTrue b) × (IsTrue b → true ≡ true) → b ≡ true
 wide_at_err h = h.0 refl
@@ -29,7 +30,7 @@ unfolding first_wide
 first_later o rest e = ap (λ (b : Bool). if b then Some o else first_wide rest) e
 
 -- a call of one operation names it exactly where it is Wide
-pub refused_alone : (r : Result Fraction Wide) (op : Operator) (p q : Fraction) (w : Wide) → operation_of w ≡ record { operator = op; left = p; right = q } → (IsErr r → IsTrue (is_wide op p q)) × (IsTrue (is_wide op p q) → IsErr r) → IfErr r (λ x. x ≡ w) → refused r ≡ first_wide (alone op p q)
+pub refused_alone : (r : Result Fraction Wide) (op : Arithmetic) (p q : Fraction) (w : Wide) → operation_of w ≡ record { operator = op; left = p; right = q } → (IsErr r → IsTrue (is_wide op p q)) × (IsTrue (is_wide op p q) → IsErr r) → IfErr r (λ x. x ≡ w) → refused r ≡ first_wide (alone op p q)
 refused_alone (Ok x) op p q w e h k =
     sym (first_later (record { operator = op; left = p; right = q }) [] (not_wide_at_ok h) ∙ first_none)
 refused_alone (Err y) op p q w e h k =

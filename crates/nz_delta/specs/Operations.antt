@@ -1,7 +1,7 @@
 -- The operations on fractions that an operation takes, in order.
 use Rattle.std.specs.Prelude.{List, [], ◌∷◌}
-use Rattle.nz_spec.specs.Fraction.{Fraction, Operator, Operation}
+use Rattle.nz_spec.specs.Fraction.{Fraction, Arithmetic, Operation}
 
 -- one operation
-abbrev pub alone : Operator → Fraction → Fraction → List Operation
+abbrev pub alone : Arithmetic → Fraction → Fraction → List Operation
 alone op p q = record { operator = op; left = p; right = q } ∷ []

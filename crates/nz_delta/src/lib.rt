@@ -12,6 +12,3 @@ mod scalar;
 pub use choose::choose_delta;
 pub use delta::{Delta, stands_for_infinitesimal};
 pub use scalar::Scalar;
-
-#[cfg(test)]
-mod tests;

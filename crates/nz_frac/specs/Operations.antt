@@ -4,7 +4,7 @@ use Rattle.nz_frac.specs.declared.frac.Op.{Op}
 use Rattle.nz_frac.specs.declared.frac.Op.TheVariants as op
 use Rattle.nz_frac.specs.declared.frac.Wide.{Wide}
 
-abbrev pub operator_of : Op → fraction.Operator
+abbrev pub operator_of : Op → fraction.Arithmetic
 operator_of op.Add = fraction.Sum
 operator_of op.Sub = fraction.Difference
 operator_of op.Mul = fraction.Product

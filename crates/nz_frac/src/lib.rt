@@ -9,6 +9,3 @@ mod frac;
 mod magnitude;
 
 pub use frac::{Frac, Op, Wide};
-
-#[cfg(test)]
-mod tests;

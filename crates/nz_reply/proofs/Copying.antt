@@ -1,12 +1,12 @@
 -- Copies of bindings, one after another.
 use Rattle.std.proofs.Common.{◌≡◌, ℕ, ◌+◌, ◌<◌, List, [], ◌∷◌, ◌++◌, length, get_or, take, map, sym, ap, ◌∙◌, arith}
 use Rattle.std.proofs.lemmas.List.{take_more, length-map, map_push, get_or-map}
-use Rattle.nz_spec.specs.Script as script
+use Rattle.nz_spec.specs.Model as models
 use Rattle.nz_reply.specs.declared.reply.Binding.{Binding}
 use Rattle.nz_reply.specs.Bindings.{binding_of}
 
 -- one copy more
-pub copies_more : (items : List Binding) (i : ℕ) (whole : List script.Binding) (old new : List Binding) (item copy : Binding)
+pub copies_more : (items : List Binding) (i : ℕ) (whole : List models.Binding) (old new : List Binding) (item copy : Binding)
     → map binding_of items ≡ whole → i < length items → item ≡ get_or items i item → map binding_of old ≡ take i whole
     → new ≡ old ++ copy ∷ [] → binding_of copy ≡ binding_of item → map binding_of new ≡ take (i + 1) whole
 copies_more items i whole old new item copy all below at front grown same =

@@ -1,5 +1,6 @@
 pub mod Arguments
 pub mod Copying
+pub mod Keeping
 pub mod Models
 pub mod Numerals
 pub mod Pairs

@@ -2,10 +2,10 @@
 use Rattle.std.proofs.Common.{◌≡◌, ℕ, ◌+◌, ◌<◌, ◌≤◌, zero, suc, List, [], ◌∷◌, ◌++◌, length, get_or, drop, map, codes, refl, sym, ap, ◌∙◌, append_assoc, arith, drop-cons, add-one, min}
 use Rattle.nz_spec.specs.Fraction.{Operation}
 use Rattle.nz_spec.specs.Reply.{line_feed, list_text, operator_text, plain_text, shown_pair_text, spaced, wide_text}
-use Rattle.nz_sexpr.specs.View.{view}
+use Rattle.nz_sexpr.specs.View.{view, seen}
 use Rattle.nz_sexpr.specs.declared.tree.Tree as code
 use Rattle.nz_reply.specs.Trees.{later_texts}
-use Rattle.nz_reply.specs.Values.{seen, shown_of, with_shown}
+use Rattle.nz_reply.specs.Values.{shown_of, with_shown}
 use Rattle.nz_reply.specs.declared.reply.Shown.{Shown}
 use Rattle.nz_reply.proofs.Spaces.{spaced_first}
 use Rattle.nz_reply.proofs.Writing.{regrouped}
@@ -19,11 +19,8 @@ pair_text t s = shown_pair_text (view t, shown_of s)
 
 -- the first of the pairs, and then the others, each behind a space
 pub pairs_first : (ts : List code.Tree) (ss : List Shown) (t : code.Tree) (us : List code.Tree) (s : Shown) (rs : List Shown) → ts ≡ t ∷ us → ss ≡ s ∷ rs
-    → pair_text t s ++ later_texts (pair_texts us rs) ≡ spaced (pair_texts ts ss)
-pairs_first ts ss t us s rs e f =
-    spaced_first (pair_text t s) (pair_texts us rs)
-    ∙ ap (λ (l : List code.Tree). spaced (pair_texts l (s ∷ rs))) (sym e)
-    ∙ ap (λ (l : List Shown). spaced (pair_texts ts l)) (sym f)
+    → spaced (pair_texts ts ss) ≡ pair_text t s ++ later_texts (pair_texts us rs)
+pairs_first ts ss t us s rs e f = rw (e, f) (spaced_first (pair_text t s) (pair_texts us rs))
 
 -- the pairs from a place on: a space, the one there, and the others
 pub pairs_next : (ts : List code.Tree) (ss : List Shown) (i : ℕ) (t : code.Tree) (s : Shown) → i < length ts → i < length ss → t ≡ get_or ts i t → s ≡ get_or ss i s
@@ -47,13 +44,13 @@ pairs_end (t ∷ ts) [] (suc i) h = pairs_of_none (drop i ts)
 pairs_end (t ∷ ts) (s ∷ ss) (suc i) h = pairs_end ts ss i (omega (arith, h))
 
 -- a pair's text, and that of all
-pub pair_whole : (tree shown : List ℕ) → ((codes "(" ++ (tree ++ (codes " " ++ []))) ++ shown) ++ codes ")" ≡ list_text (tree ∷ shown ∷ [])
+pub pair_whole : (tree shown : List ℕ) → list_text (tree ∷ shown ∷ []) ≡ (codes "(" ++ (tree ++ (codes " " ++ []))) ++ (shown ++ codes ")")
 pair_whole tree shown = simp append_assoc
 
-pub values_whole : (text : List ℕ) → (codes "(" ++ text) ++ codes ")\n" ≡ (40 ∷ text ++ 41 ∷ []) ++ line_feed
+pub values_whole : (text : List ℕ) → (40 ∷ text ++ 41 ∷ []) ++ line_feed ≡ codes "(" ++ (text ++ codes ")\n")
 values_whole text = simp append_assoc
 
 -- the text of an operation, from its parts
 pub wide_parts : (w : Operation) (name : List ℕ) → name ≡ operator_text w.operator
-    → codes "(wide " ++ (name ++ (codes " " ++ (plain_text w.left ++ (codes " " ++ (plain_text w.right ++ (codes ")" ++ [])))))) ≡ wide_text w
+    → wide_text w ≡ codes "(wide " ++ (name ++ (codes " " ++ (plain_text w.left ++ (codes " " ++ (plain_text w.right ++ (codes ")" ++ []))))))
 wide_parts w name e = rw e (regrouped (codes "(wide ") (operator_text w.operator) (codes " ") (plain_text w.left) (codes " ") (plain_text w.right) (codes ")"))

@@ -1,7 +1,7 @@
 -- A text with each quote twice, run by run.
-use Rattle.std.proofs.Common.{◌≡◌, ℕ, ◌+◌, ◌-◌, ◌<◌, ◌≤◌, ◌==◌, Bool, false, List, [], ◌∷◌, ◌++◌, length, get_or, take, drop, flat_map, if◌then◌else◌, refl, sym, ap, ◌∙◌, append-nil, append_assoc, arith, drop-cons, add-one}
+use Rattle.std.proofs.Common.{◌≡◌, ℕ, ◌+◌, ◌-◌, ◌<◌, ◌≤◌, ◌==◌, Bool, false, List, [], ◌∷◌, ◌++◌, length, get_or, take, drop, if◌then◌else◌, refl, sym, ap, ◌∙◌, append-nil, append_assoc, arith, drop-cons, add-one}
 use Rattle.std.proofs.lemmas.List.{take_more, get_or-drop, length-drop, take_all, drop_all}
-use Rattle.nz_spec.specs.Reply.{quoted_byte}
+use Rattle.nz_spec.specs.Text.{with_quotes_doubled}
 
 -- the run from its start up to a place
 abbrev pub run : List ℕ → ℕ → ℕ → List ℕ
@@ -18,26 +18,26 @@ run_more bytes start index d before below =
     ∙ ap (λ (b : ℕ). run bytes start index ++ b ∷ []) (get_or-drop start bytes (index - start) d ∙ ap (λ (i : ℕ). get_or bytes i d) place)
 
 -- the bytes from a place on
-quoted_from : (bytes : List ℕ) (index d : ℕ) → index < length bytes → flat_map quoted_byte (drop index bytes) ≡ quoted_byte (get_or bytes index d) ++ flat_map quoted_byte (drop (index + 1) bytes)
-quoted_from bytes index d below = rw (add-one, drop-cons bytes index d) refl
+bytes_from : (bytes : List ℕ) (index d : ℕ) → index < length bytes → drop index bytes ≡ get_or bytes index d ∷ drop (index + 1) bytes
+bytes_from bytes index d below = rw (add-one, drop-cons bytes index d) refl
 
 -- what is still to be written where the run has come to a place
 abbrev pub rest_of_run : List ℕ → ℕ → ℕ → List ℕ
-rest_of_run bytes start index = run bytes start index ++ flat_map quoted_byte (drop index bytes)
+rest_of_run bytes start index = run bytes start index ++ with_quotes_doubled (drop index bytes)
 
-plain_byte : (b : ℕ) → (b == 34) ≡ false → quoted_byte b ≡ b ∷ []
-plain_byte b e = ap (λ (q : Bool). if q then 34 ∷ 34 ∷ [] else b ∷ []) e
+plain_byte : (b : ℕ) (bs : List ℕ) → (b == 34) ≡ false → with_quotes_doubled (b ∷ bs) ≡ (b ∷ []) ++ with_quotes_doubled bs
+plain_byte b bs e = ap (λ (q : Bool). if q then 34 ∷ 34 ∷ with_quotes_doubled bs else b ∷ with_quotes_doubled bs) e
 
-quote_byte : (b : ℕ) → b ≡ 34 → quoted_byte b ≡ (34 ∷ []) ++ (34 ∷ [])
-quote_byte b e = ap quoted_byte e
+quote_byte : (b : ℕ) (bs : List ℕ) → b ≡ 34 → with_quotes_doubled (b ∷ bs) ≡ (34 ∷ []) ++ (34 ∷ with_quotes_doubled bs)
+quote_byte b bs e = ap (λ (x : ℕ). with_quotes_doubled (x ∷ bs)) e
 
 -- the run takes a byte that is no quote
 pub run_on : (bytes : List ℕ) (start index d : ℕ) → start ≤ index → index < length bytes → (get_or bytes index d == 34) ≡ false
     → rest_of_run bytes start index ≡ rest_of_run bytes start (index + 1)
 run_on bytes start index d before below plain =
     let b : ℕ = get_or bytes index d in
-    let more : List ℕ = flat_map quoted_byte (drop (index + 1) bytes) in
-    ap (λ (l : List ℕ). run bytes start index ++ l) (quoted_from bytes index d below ∙ ap (λ (l : List ℕ). l ++ more) (plain_byte b plain))
+    let more : List ℕ = with_quotes_doubled (drop (index + 1) bytes) in
+    ap (λ (l : List ℕ). run bytes start index ++ l) (ap with_quotes_doubled (bytes_from bytes index d below) ∙ plain_byte b (drop (index + 1) bytes) plain)
     ∙ sym (append_assoc (run bytes start index) (b ∷ []) more)
     ∙ ap (λ (l : List ℕ). l ++ more) (sym (run_more bytes start index d before below))
 
@@ -51,10 +51,10 @@ run_of_one bytes index d below =
 pub run_ends : (bytes : List ℕ) (start index d : ℕ) → start ≤ index → index < length bytes → get_or bytes index d ≡ 34
     → rest_of_run bytes start index ≡ run bytes start (index + 1) ++ rest_of_run bytes index (index + 1)
 run_ends bytes start index d before below is =
-    let more : List ℕ = flat_map quoted_byte (drop (index + 1) bytes) in
+    let more : List ℕ = with_quotes_doubled (drop (index + 1) bytes) in
     let ended : run bytes start (index + 1) ≡ run bytes start index ++ 34 ∷ [] = run_more bytes start index d before below ∙ ap (λ (b : ℕ). run bytes start index ++ b ∷ []) is in
     let begun : run bytes index (index + 1) ≡ 34 ∷ [] = run_of_one bytes index d below ∙ ap (λ (b : ℕ). b ∷ []) is in
-    ap (λ (l : List ℕ). run bytes start index ++ l) (quoted_from bytes index d below ∙ ap (λ (l : List ℕ). l ++ more) (quote_byte (get_or bytes index d) is))
+    ap (λ (l : List ℕ). run bytes start index ++ l) (ap with_quotes_doubled (bytes_from bytes index d below) ∙ quote_byte (get_or bytes index d) (drop (index + 1) bytes) is)
     ∙ sym (append_assoc (run bytes start index) (34 ∷ []) (34 ∷ more))
     ∙ ap (λ (l : List ℕ). l ++ (34 ∷ more)) (sym ended)
     ∙ ap (λ (l : List ℕ). run bytes start (index + 1) ++ (l ++ more)) (sym begun)
@@ -62,7 +62,7 @@ run_ends bytes start index d before below is =
 -- at the end the run is all that is left
 pub run_last : (bytes : List ℕ) (start index : ℕ) → length bytes ≤ index → rest_of_run bytes start index ≡ run bytes start (length bytes)
 run_last bytes start index past =
-    ap (λ (l : List ℕ). run bytes start index ++ flat_map quoted_byte l) (drop_all index bytes past)
+    ap (λ (l : List ℕ). run bytes start index ++ with_quotes_doubled l) (drop_all index bytes past)
     ∙ append-nil (run bytes start index)
     ∙ take_all (index - start) (drop start bytes) (omega (arith, past, length-drop start bytes))
     ∙ sym (take_all (length bytes - start) (drop start bytes) (omega (arith, length-drop start bytes)))

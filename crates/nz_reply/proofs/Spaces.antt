@@ -1,19 +1,19 @@
 -- Lists of texts with spaces, and the sizes of trees.
 use Rattle.std.proofs.Common.{◌≡◌, ℕ, ◌+◌, ◌<◌, zero, suc, List, [], ◌∷◌, ◌++◌, length, get_or, drop, sym, ap, ◌∙◌, append-nil, arith, drop-cons, add-one}
 use Rattle.nz_spec.specs.Reply.{spaced, tree_text, tree_texts}
-use Rattle.nz_sexpr.specs.View.{view}
+use Rattle.nz_sexpr.specs.View.{view, seen}
 use Rattle.nz_sexpr.specs.declared.tree.Tree as code
-use Rattle.nz_reply.specs.Trees.{later_texts, tree_size, trees_size}
-use Rattle.nz_reply.specs.Values.{seen}
+use Rattle.nz_reply.specs.Trees.{later_texts}
+use Rattle.nz_sexpr.specs.Sizes.{tree_size, trees_size}
 
 -- neighbours: the first, and then the others, each behind a space
-pub spaced_first : (t : List ℕ) (ts : List (List ℕ)) → t ++ later_texts ts ≡ spaced (t ∷ ts)
-spaced_first t [] = append-nil t
+pub spaced_first : (t : List ℕ) (ts : List (List ℕ)) → spaced (t ∷ ts) ≡ t ++ later_texts ts
+spaced_first t [] = sym (append-nil t)
 spaced_first t (u ∷ us) = ap (λ (l : List ℕ). t ++ 32 ∷ l) (spaced_first u us)
 
 -- the first of the trees, and then the others, each behind a space
-pub trees_first : (ts : List code.Tree) (t : code.Tree) (us : List code.Tree) → ts ≡ t ∷ us → tree_text (view t) ++ later_texts (tree_texts (seen us)) ≡ spaced (tree_texts (seen ts))
-trees_first ts t us e = spaced_first (tree_text (view t)) (tree_texts (seen us)) ∙ ap (λ (l : List code.Tree). spaced (tree_texts (seen l))) (sym e)
+pub trees_first : (ts : List code.Tree) (t : code.Tree) (us : List code.Tree) → ts ≡ t ∷ us → spaced (tree_texts (seen ts)) ≡ tree_text (view t) ++ later_texts (tree_texts (seen us))
+trees_first ts t us e = ap (λ (l : List code.Tree). spaced (tree_texts (seen l))) e ∙ spaced_first (tree_text (view t)) (tree_texts (seen us))
 
 -- the trees from a place on: a space, the one there, and the others
 pub trees_next : (ts : List code.Tree) (i : ℕ) (t : code.Tree) → i < length ts → t ≡ get_or ts i t

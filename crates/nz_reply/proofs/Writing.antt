@@ -1,42 +1,26 @@
 -- Writing a text piece by piece.
 use Rattle.std.proofs.Math.Seq.{drop-cons, take-append-add}
+use Rattle.std.proofs.lemmas.Bool.{false≢true}
 use Rattle.std.proofs.lemmas.List.{take-append-le, length-append}
 use Rattle.std.specs.Borrow.{Bor}
-use Rattle.std.specs.Prelude.{OnOk, OnErr}
+use Rattle.std.specs.Prelude.{IsErr, ⊤}
 use Rattle.nz_reply.specs.Parts.{parts_text}
 use Rattle.nz_reply.specs.Spelling.{part_text, spelled}
+use Rattle.nz_reply.specs.Writes.{Writes}
 use Rattle.nz_reply.specs.declared.spelling.Part.{Part}
-use Rattle.std.proofs.Common.{◌≡◌, ℕ, suc, ◌+◌, ◌≤◌, ◌<◌, length, get_or, add-one, List, [], ◌∷◌, ◌++◌, take, drop, Option, Result, Ok, Err, refl, sym, ap, ◌∙◌, append_assoc, arith, subst, append-nil}
+use Rattle.std.proofs.Common.{◌≡◌, ℕ, suc, ◌+◌, ◌≤◌, ◌<◌, true, length, get_or, add-one, List, [], ◌++◌, take, drop, Option, Result, Ok, Err, refl, sym, ap, ◌∙◌, append_assoc, arith, subst, append-nil}
 use Rattle.std.specs.Io.KnownBytes.{Appends}
 use Rattle.std.proofs.KnownBytes.{Appends-trans}
-use Rattle.nz_spec.specs.Outside.{AddsFrontOf}
-
--- A front of the bytes was written, and this is the rest.
-pub record HasWrittenTo (old new : Option (List ℕ)) (before now : ℕ) (bytes rest : List ℕ) : Type 0 where
-  pub front : List ℕ
-  pub all : bytes ≡ front ++ rest
-  pub held : Appends old new front
-  pub later : before ≤ now
-
--- a text is written behind those before it
-pub written_text : (old mid new : Option (List ℕ)) (before middle now : ℕ) (bytes rest text later : List ℕ)
-    → HasWrittenTo old mid before middle bytes rest → rest ≡ text ++ later → Appends mid new text → middle ≤ now → HasWrittenTo old new before now bytes later
-written_text old mid new before middle now bytes rest text later h e w l =
-    record {
-      front = h.front ++ text;
-      all = h.all ∙ ap (λ r. h.front ++ r) e ∙ sym (append_assoc h.front text later);
-      held = Appends-trans old mid new h.front text h.held w;
-      later = let a = h.later in omega arith;
-    }
+use Rattle.nz_spec.specs.Outside.{AddsFrontOf, counted}
 
 -- a front of a text is one of that text and more
-pub front_within : (old new : Option (List ℕ)) (text more : List ℕ) → AddsFrontOf old new text → AddsFrontOf old new (text ++ more)
+front_within : (old new : Option (List ℕ)) (text more : List ℕ) → AddsFrontOf old new text → AddsFrontOf old new (text ++ more)
 front_within old new text more f =
     let within : f.0 ≤ length text = f.1 in
     (f.0, omega (arith, within, length-append text more), subst (Appends old new) (sym (take-append-le f.0 text more within)) f.2)
 
 -- a text, and then a front of the next
-pub front_behind : (old mid new : Option (List ℕ)) (text next : List ℕ) → Appends old mid text → AddsFrontOf mid new next → AddsFrontOf old new (text ++ next)
+front_behind : (old mid new : Option (List ℕ)) (text next : List ℕ) → Appends old mid text → AddsFrontOf mid new next → AddsFrontOf old new (text ++ next)
 front_behind old mid new text next p f =
     let within : f.0 ≤ length next = f.1 in (
       length text + f.0,
@@ -44,25 +28,59 @@ front_behind old mid new text next p f =
       subst (Appends old new) (sym (take-append-add text next f.0)) (Appends-trans old mid new text (take f.0 next) p f.2),
     )
 
--- a front of the next text is a front of all
-pub front_of_all : (old mid new : Option (List ℕ)) (before middle : ℕ) (bytes rest text later : List ℕ)
-    → HasWrittenTo old mid before middle bytes rest → rest ≡ text ++ later → AddsFrontOf mid new text → AddsFrontOf old new bytes
-front_of_all old mid new before middle bytes rest text later h e f =
-    subst (AddsFrontOf old new) (sym (h.all ∙ ap (λ r. h.front ++ r) e)) (front_behind old mid new h.front (text ++ later) h.held (front_within mid new text later f))
+module _ {S E : Type 0} {held : S → Option (List ℕ)} {faults : S → ℕ} {last : ℕ} where
+  -- what a call wrote, by another name
+  pub written_as : {old new : S} {text all : List ℕ} {r : Result ⊤ E} → all ≡ text → Writes held faults last old new text r → Writes held faults last old new all r
+  written_as {old} {new} {text} {all} {r} is w = subst (λ (t : List ℕ). Writes held faults last old new t r) (sym is) w
 
--- what is left, by another name
-pub written_as : (old new : Option (List ℕ)) (before now : ℕ) (bytes rest later : List ℕ) → rest ≡ later → HasWrittenTo old new before now bytes rest → HasWrittenTo old new before now bytes later
-written_as old new before now bytes rest later e h = subst (HasWrittenTo old new before now bytes) e h
+  -- a call that failed wrote a front of what was to come behind its text too
+  pub cut_off : {old new : S} {text all : List ℕ} {e : E} {r : Result ⊤ E} (next : List ℕ) → all ≡ text ++ next → Writes held faults last old new text (Err e) → IsErr r
+      → Writes held faults last old new all r
+  cut_off {r = Ok x} next is w err = absurd (false≢true err)
+  cut_off {old} {new} {text} {r = Err x} next is w err =
+      written_as is (record { whole = tt; front = front_within (held old) (held new) text next w.front; fault = w.fault })
 
--- what a call wrote of the rest
-pub front_of_rest : {A E : Type 0} (r : Result A E) (old mid new : Option (List ℕ)) (before middle : ℕ) (bytes rest text : List ℕ)
-    → HasWrittenTo old mid before middle bytes rest → rest ≡ text → OnErr r (AddsFrontOf mid new text) → OnErr r (AddsFrontOf old new bytes)
-front_of_rest (Ok x) old mid new before middle bytes rest text h e f = tt
-front_of_rest (Err x) old mid new before middle bytes rest text h e f = front_of_all old mid new before middle bytes rest text [] h (e ∙ sym (append-nil text)) f
+  -- a text is written, and then what a call wrote
+  pub written_behind : {old mid new : S} {text next all : List ℕ} {r : Result ⊤ E} → all ≡ text ++ next → Writes {E = E} held faults last old mid text (Ok tt)
+      → Writes held faults last mid new next r → Writes held faults last old new all r
+  written_behind {old} {mid} {new} {text} {next} {r = Ok x} is v w =
+      written_as is (record { whole = Appends-trans (held old) (held mid) (held new) text next v.whole w.whole; front = tt; fault = w.fault ∙ v.fault })
+  written_behind {old} {mid} {new} {text} {next} {r = Err x} is v w =
+      written_as is (record { whole = tt; front = front_behind (held old) (held mid) (held new) text next v.whole w.front; fault = w.fault ∙ ap (counted last true) v.fault })
 
--- where nothing is left, all is written
-pub written_all : (old new : Option (List ℕ)) (before now : ℕ) (bytes : List ℕ) → HasWrittenTo old new before now bytes [] → Appends old new bytes
-written_all old new before now bytes h = subst (Appends old new) (sym (h.all ∙ append-nil h.front)) h.held
+-- A front of the bytes was written without a fault, and this is the rest.
+pub record HasWrittenTo {S : Type 0} (held : S → Option (List ℕ)) (faults : S → ℕ) (old new : S) (bytes rest : List ℕ) : Type 0 where
+  pub front : List ℕ
+  pub all : bytes ≡ front ++ rest
+  pub whole : Appends (held old) (held new) front
+  pub no_fault : faults new ≡ faults old
+
+module _ {S : Type 0} {held : S → Option (List ℕ)} {faults : S → ℕ} {old : S} {bytes rest : List ℕ} where
+  -- what is left, by another name
+  pub left_as : {new : S} {later : List ℕ} → rest ≡ later → HasWrittenTo held faults old new bytes rest → HasWrittenTo held faults old new bytes later
+  left_as {new} {later} e h = subst (HasWrittenTo held faults old new bytes) e h
+
+  -- what is left is written as a call wrote it
+  pub rest_written : {E : Type 0} {last : ℕ} {mid new : S} {r : Result ⊤ E} → HasWrittenTo held faults old mid bytes rest → Writes held faults last mid new rest r
+      → Writes held faults last old new bytes r
+  rest_written {E} h w = written_behind {E = E} h.all (record { whole = h.whole; front = tt; fault = h.no_fault }) w
+
+  -- where nothing is left, all is written
+  pub all_written : {E : Type 0} {last : ℕ} {new : S} → HasWrittenTo held faults old new bytes rest → rest ≡ []
+      → Writes {E = E} held faults last old new bytes (Ok tt)
+  all_written {E} {last} {new} h e =
+      record { whole = subst (Appends (held old) (held new)) (sym (h.all ∙ ap (λ (r : List ℕ). h.front ++ r) e ∙ append-nil h.front)) h.whole; front = tt; fault = h.no_fault }
+
+  -- a text is written behind those before it
+  pub written_on : {E : Type 0} {last : ℕ} {mid new : S} {text later : List ℕ} → HasWrittenTo held faults old mid bytes rest → rest ≡ text ++ later
+      → Writes {E = E} held faults last mid new text (Ok tt) → HasWrittenTo held faults old new bytes later
+  written_on {E} {last} {mid} {new} {text} {later} h e w =
+      record {
+        front = h.front ++ text;
+        all = h.all ∙ ap (λ (r : List ℕ). h.front ++ r) e ∙ sym (append_assoc h.front text later);
+        whole = Appends-trans (held old) (held mid) (held new) h.front text h.whole w.whole;
+        no_fault = w.fault ∙ h.no_fault;
+      }
 
 -- the texts from a place on are the one there and the others
 pub parts_text-next : (ps : List (Bor (List ℕ))) (i : ℕ) (d : Bor (List ℕ)) → i < length ps
@@ -72,51 +90,6 @@ parts_text-next ps i d h = rw (add-one, drop-cons ps i d) refl
 pub spelled-next : (ps : List Part) (i : ℕ) (d : Part) → i < length ps → d ≡ get_or ps i d → spelled (drop i ps) ≡ part_text d ++ spelled (drop (i + 1) ps)
 spelled-next ps i d h is = rw (add-one, drop-cons ps i d) (ap (λ (p : Part). part_text p ++ spelled (drop (suc i) ps)) (sym is))
 
--- a text behind a space is written behind those before it
-pub written_later : (old mid next new : Option (List ℕ)) (before middle after now : ℕ) (bytes rest text later : List ℕ)
-    → HasWrittenTo old mid before middle bytes rest → rest ≡ (32 ∷ []) ++ (text ++ later) → Appends mid next (32 ∷ []) → middle ≤ after → Appends next new text → after ≤ now
-    → HasWrittenTo old new before now bytes later
-written_later old mid next new before middle after now bytes rest text later h e p l q m =
-    written_text old next new before after now bytes (text ++ later) text later (written_text old mid next before middle after bytes rest (32 ∷ []) (text ++ later) h e p l) refl q m
-
--- a front of a text behind a space is a front of all
-pub front_of_later : (old mid next new : Option (List ℕ)) (before middle after : ℕ) (bytes rest text later : List ℕ)
-    → HasWrittenTo old mid before middle bytes rest → rest ≡ (32 ∷ []) ++ (text ++ later) → Appends mid next (32 ∷ []) → middle ≤ after → AddsFrontOf next new text
-    → AddsFrontOf old new bytes
-front_of_later old mid next new before middle after bytes rest text later h e p l f =
-    front_of_all old next new before after bytes (text ++ later) text later (written_text old mid next before middle after bytes rest (32 ∷ []) (text ++ later) h e p l) refl f
-
--- three texts, one behind another, and fronts of them
-pub three_texts : (a b c d : Option (List ℕ)) (t1 t2 t3 all : List ℕ) → (t1 ++ t2) ++ t3 ≡ all → Appends a b t1 → Appends b c t2 → Appends c d t3 → Appends a d all
-three_texts a b c d t1 t2 t3 all e p q r = subst (Appends a d) e (Appends-trans a c d (t1 ++ t2) t3 (Appends-trans a b c t1 t2 p q) r)
-
-pub front_first : (a b : Option (List ℕ)) (t1 t2 t3 all : List ℕ) → (t1 ++ t2) ++ t3 ≡ all → AddsFrontOf a b t1 → AddsFrontOf a b all
-front_first a b t1 t2 t3 all e f = subst (AddsFrontOf a b) e (front_within a b (t1 ++ t2) t3 (front_within a b t1 t2 f))
-
-pub front_second : (a b c : Option (List ℕ)) (t1 t2 t3 all : List ℕ) → (t1 ++ t2) ++ t3 ≡ all → Appends a b t1 → AddsFrontOf b c t2 → AddsFrontOf a c all
-front_second a b c t1 t2 t3 all e p f = subst (AddsFrontOf a c) e (front_within a c (t1 ++ t2) t3 (front_behind a b c t1 t2 p f))
-
-pub front_third : (a b c d : Option (List ℕ)) (t1 t2 t3 all : List ℕ) → (t1 ++ t2) ++ t3 ≡ all → Appends a b t1 → Appends b c t2 → AddsFrontOf c d t3 → AddsFrontOf a d all
-front_third a b c d t1 t2 t3 all e p q f = subst (AddsFrontOf a d) e (front_behind a c d (t1 ++ t2) t3 (Appends-trans a b c t1 t2 p q) f)
-
--- what a call wrote, by another name
-pub whole_as : {A E : Type 0} (r : Result A E) (a b : Option (List ℕ)) (text all : List ℕ) → text ≡ all → OnOk r (Appends a b text) → OnOk r (Appends a b all)
-whole_as r a b text all e w = subst (λ (t : List ℕ). OnOk r (Appends a b t)) e w
-
-pub front_as : {A E : Type 0} (r : Result A E) (a b : Option (List ℕ)) (text all : List ℕ) → text ≡ all → OnErr r (AddsFrontOf a b text) → OnErr r (AddsFrontOf a b all)
-front_as r a b text all e f = subst (λ (t : List ℕ). OnErr r (AddsFrontOf a b t)) e f
-
--- what a call wrote, behind a text
-pub whole_behind : {A E : Type 0} (r : Result A E) (a b c : Option (List ℕ)) (text next all : List ℕ) → text ++ next ≡ all → Appends a b text
-    → OnOk r (Appends b c next) → OnOk r (Appends a c all)
-whole_behind (Ok x) a b c text next all e p w = subst (Appends a c) e (Appends-trans a b c text next p w)
-whole_behind (Err x) a b c text next all e p w = tt
-
-pub part_behind : {A E : Type 0} (r : Result A E) (a b c : Option (List ℕ)) (text next all : List ℕ) → text ++ next ≡ all → Appends a b text
-    → OnErr r (AddsFrontOf b c next) → OnErr r (AddsFrontOf a c all)
-part_behind (Ok x) a b c text next all e p f = tt
-part_behind (Err x) a b c text next all e p f = subst (AddsFrontOf a c) e (front_behind a b c text next p f)
-
 -- seven texts one behind another, grouped as definitions group them
-pub regrouped : (x a b c d e f : List ℕ) → x ++ (a ++ (b ++ (c ++ (d ++ (e ++ f))))) ≡ (((((x ++ a) ++ b) ++ c) ++ d) ++ e) ++ f
+pub regrouped : (x a b c d e f : List ℕ) → (((((x ++ a) ++ b) ++ c) ++ d) ++ e) ++ f ≡ x ++ (a ++ (b ++ (c ++ (d ++ (e ++ f)))))
 regrouped x a b c d e f = simp append_assoc

@@ -1,8 +1,9 @@
--- What a journal holds.
+-- What a journal holds, where its numbers are those of a table.
 use Rattle.std.specs.Prelude.{List}
+use Rattle.nz_spec.specs.Table.{Node}
 use Rattle.nz_spec.specs.Transcript.{Kept}
 use Rattle.nz_reply.specs.Replies.{all_kept}
 use Rattle.nz_reply.specs.declared.reply.Journal.{Journal}
 
-abbrev pub journal_of : Journal → List Kept
-journal_of j = all_kept j.kept.items
+abbrev pub journal_of : List Node → Journal → List Kept
+journal_of ns j = all_kept ns j.kept.items

@@ -9,3 +9,4 @@ pub mod Signs
 pub mod Spelling
 pub mod Trees
 pub mod Values
+pub mod Writes

@@ -1,7 +1,7 @@
 -- What a reason of the code is.
-use Rattle.nz_spec.specs.Script as script
+use Rattle.nz_spec.specs.Live as live_state
 use Rattle.nz_reply.specs.declared.reply.Reason.{Reason}
 use Rattle.nz_reply.specs.declared.reply.Reason.TheVariants.{UnitsSpent}
 
-abbrev pub reason_of : Reason → script.Reason
-reason_of (UnitsSpent units) = script.units_spent units
+abbrev pub reason_of : Reason → live_state.Reason
+reason_of (UnitsSpent units) = live_state.units_spent units

@@ -1,12 +1,14 @@
 -- What replies and their causes are.
-use Rattle.std.specs.Prelude.{List, map}
+use Rattle.std.specs.Prelude.{◌≡◌, List, ◌++◌, map, ⊤}
+use Rattle.std.specs.List.{AllByRecursion}
 use Rattle.nz_spec.specs.Reply as spec
 use Rattle.nz_spec.specs.Text as script
 use Rattle.nz_spec.specs.Transcript as transcript
+use Rattle.nz_spec.specs.Table.{Node}
 use Rattle.nz_spec.specs.Work.{WorkList}
 use Rattle.nz_sexpr.specs.View.{heard_view}
 use Rattle.nz_reply.specs.Infos.{info_of}
-use Rattle.nz_reply.specs.Notes.{noted_line}
+use Rattle.nz_reply.specs.Notes.{noted_line, AreNotedWithin}
 use Rattle.nz_reply.specs.Reasons.{reason_of}
 use Rattle.nz_reply.specs.Values.{asked_trees, echoed_in, with_shown}
 use Rattle.nz_reply.specs.declared.reply.Reply.{Reply}
@@ -32,15 +34,35 @@ reply_of what reply.Echo = spec.echoed (echoed_in what)
 reply_of what reply.Unsupported = spec.unsupported
 reply_of what (reply.Error number) = spec.error number
 
-abbrev pub spent_of : SpentList → WorkList spec.Note
-spent_of s = record { lines = map noted_line s.work; limit = s.limit }
+abbrev pub spent_of : List Node → SpentList → WorkList spec.Note
+spent_of ns s = record { lines = map (noted_line ns) s.work; limit = s.limit }
 
-abbrev pub cause_of : Cause → spec.Cause
-cause_of cause.Plain = spec.plain
-cause_of (cause.Spent list) = spec.spent (spent_of list)
+-- what a cause is, where its numbers are those of a table
+abbrev pub cause_of : List Node → Cause → spec.Cause
+cause_of ns cause.Plain = spec.plain
+cause_of ns (cause.Spent list) = spec.spent (spent_of ns list)
 
-abbrev pub kept_of : Kept → transcript.Kept
-kept_of k = let heard = heard_view k.heard in record { heard = heard; reply = reply_of heard.what k.reply; cause = cause_of k.cause }
+abbrev pub kept_of : List Node → Kept → transcript.Kept
+kept_of ns k = let heard = heard_view k.heard in record { heard = heard; reply = reply_of heard.what k.reply; cause = cause_of ns k.cause }
 
-abbrev pub all_kept : List Kept → List transcript.Kept
-all_kept ks = map kept_of ks
+abbrev pub all_kept : List Node → List Kept → List transcript.Kept
+all_kept ns ks = map (kept_of ns) ks
+
+-- ---- Tables that grow
+
+-- a cause names terms of the table alone
+abbrev pub IsCauseWithin : List Node → Cause → Type 0
+IsCauseWithin ns cause.Plain = ⊤
+IsCauseWithin ns (cause.Spent list) = AreNotedWithin ns list.work
+
+-- so does that of each thing kept
+abbrev pub AreKeptWithin : List Node → List Kept → Type 0
+AreKeptWithin ns ks = AllByRecursion (λ (k : Kept). IsCauseWithin ns k.cause) ks
+
+-- Where the table grows, what was kept stays within it and means the same.
+pub record StayKept (ns more : List Node) (ks : List Kept) : Type 0 where
+  pub within : AreKeptWithin (ns ++ more) ks
+  pub same : all_kept (ns ++ more) ks ≡ all_kept ns ks
+
+abbrev pub KeptStay : Type 0
+KeptStay = (ns more : List Node) (ks : List Kept) → AreKeptWithin ns ks → StayKept ns more ks

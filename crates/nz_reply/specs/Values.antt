@@ -1,11 +1,9 @@
 -- What is told of values, which trees of a command it is told of, and which text a command repeats.
-use Rattle.std.specs.Prelude.{ℕ, List, [], ◌∷◌, Option, None, Some, map}
+use Rattle.std.specs.Prelude.{ℕ, List, [], ◌∷◌, Option, None, Some}
 use Rattle.nz_spec.specs.Reply as spec
-use Rattle.nz_spec.specs.Reading.{trees_from}
 use Rattle.nz_spec.specs.Text as script
 use Rattle.nz_spec.specs.Tree.{Token, literal, Tree, leaf, node, Trees, no_trees, trees}
 use Rattle.nz_frac.specs.Operations.{operation_of}
-use Rattle.nz_sexpr.specs.View.{view}
 use Rattle.nz_sexpr.specs.declared.tree.Tree as code
 use Rattle.nz_term.specs.Constants.{sort_of}
 use Rattle.nz_term.specs.Values.{value_of}
@@ -15,10 +13,6 @@ use Rattle.nz_reply.specs.declared.reply.Shown.TheVariants as shown
 abbrev pub shown_of : Shown → spec.Shown
 shown_of (shown.Value sort value) = spec.shown_value (sort_of sort) (value_of value)
 shown_of (shown.Wide wide) = spec.shown_wide (operation_of wide)
-
--- the trees of a list of the code
-abbrev pub seen : List code.Tree → Trees
-seen list = trees_from (map view list)
 
 -- ---- The argument of a command
 
@@ -40,7 +34,7 @@ abbrev pub asked_by : Tree → Trees
 asked_by t = trees_within (argument_of t)
 
 abbrev pub asked_trees : script.What → Trees
-asked_trees (script.whole t) = asked_by t
+asked_trees (script.intact t) = asked_by t
 asked_trees what = no_trees
 
 -- the text that an echo repeats: that of its argument, a literal
@@ -56,7 +50,7 @@ abbrev pub echoed_by : Tree → List ℕ
 echoed_by t = text_within (argument_of t)
 
 abbrev pub echoed_in : script.What → List ℕ
-echoed_in (script.whole t) = echoed_by t
+echoed_in (script.intact t) = echoed_by t
 echoed_in what = []
 
 -- ---- Pairs

@@ -18,6 +18,7 @@ pub use errors::{
 };
 pub use reply::{
     Binding, Bindings, Cause, Info, Journal, Kept, Note, Reason, Reply, Shown, Shows, SpentList,
+    kept_stay,
 };
 pub use text::write_reply;
 pub use write::{WriteFault, write_parts, write_text};

@@ -1,11 +1,10 @@
 //! Numbers, as they are spelled (SMT-LIB 2.6, theory Reals_Ints).
-ghost use Rattle.std.specs.Prelude.{◌≡◌, ◌≤◌, ◌++◌, decimal, unsigned_abs, OnOk, OnErr};
-ghost use Rattle.std.specs.Io.KnownBytes.{Appends};
-ghost use Rattle.nz_spec.specs.Outside.{AddsFrontOf, HasRisen};
+ghost use Rattle.std.specs.Prelude.{◌≡◌, ◌++◌, decimal, unsigned_abs};
 ghost use Rattle.nz_spec.specs.Fraction.{denominator};
 ghost use Rattle.nz_spec.specs.Reply.{int_text, number_text, plain_text, quotient_text, signed_text};
 ghost use Rattle.nz_term.specs.Constants.{sort_of};
 ghost use Rattle.nz_reply.specs.Signs.{closing_of, opening_of, ratio_text};
+ghost use Rattle.nz_reply.specs.Writes.{Writes};
 
 use crate::write::{WriteFault, write_parts};
 use itoa::Buffer;
@@ -19,10 +18,7 @@ pub(crate) fn write_number<K: Sink>(
     sort: Sort,
     number: Frac,
 ) -> Result<(), WriteFault>
-    ensures whole { OnOk result (Appends (K.held sink.old) (K.held sink.new) (number_text (sort_of sort) number)) }
-    ensures front { OnErr result (AddsFrontOf (K.held sink.old) (K.held sink.new) (number_text (sort_of sort) number)) }
-    ensures later { K.faults sink.old ≤ K.faults sink.new }
-    ensures fault { OnErr result (HasRisen K.last (K.faults sink.old) (K.faults sink.new)) }
+    ensures written { Writes K.held K.faults K.last sink.old sink.new (number_text (sort_of sort) number) result }
 {
     match sort {
         Sort::Bool => write_operand(sink, number),
@@ -33,20 +29,14 @@ pub(crate) fn write_number<K: Sink>(
 
 /// Writes a number as an operand of an operation: without a point.
 pub(crate) fn write_operand<K: Sink>(sink: &mut K, number: Frac) -> Result<(), WriteFault>
-    ensures whole { OnOk result (Appends (K.held sink.old) (K.held sink.new) (plain_text number)) }
-    ensures front { OnErr result (AddsFrontOf (K.held sink.old) (K.held sink.new) (plain_text number)) }
-    ensures later { K.faults sink.old ≤ K.faults sink.new }
-    ensures fault { OnErr result (HasRisen K.last (K.faults sink.old) (K.faults sink.new)) }
+    ensures written { Writes K.held K.faults K.last sink.old sink.new (plain_text number) result }
 {
     write_quotient(sink, number, b"")
 }
 
 /// Writes a number by its numerator alone.
 fn write_integer<K: Sink>(sink: &mut K, number: Frac) -> Result<(), WriteFault>
-    ensures whole { OnOk result (Appends (K.held sink.old) (K.held sink.new) (int_text number)) }
-    ensures front { OnErr result (AddsFrontOf (K.held sink.old) (K.held sink.new) (int_text number)) }
-    ensures later { K.faults sink.old ≤ K.faults sink.new }
-    ensures fault { OnErr result (HasRisen K.last (K.faults sink.old) (K.faults sink.new)) }
+    ensures written { Writes K.held K.faults K.last sink.old sink.new (int_text number) result }
 {
     let mut digits = Buffer::new();
     let numerator = digits.format(number.num().unsigned_abs()).as_bytes();
@@ -59,10 +49,7 @@ fn write_quotient<K: Sink>(
     number: Frac,
     point: &'static [u8],
 ) -> Result<(), WriteFault>
-    ensures whole { OnOk result (Appends (K.held sink.old) (K.held sink.new) (signed_text number.numerator (quotient_text point.now (unsigned_abs number.numerator) (denominator number)))) }
-    ensures front { OnErr result (AddsFrontOf (K.held sink.old) (K.held sink.new) (signed_text number.numerator (quotient_text point.now (unsigned_abs number.numerator) (denominator number)))) }
-    ensures later { K.faults sink.old ≤ K.faults sink.new }
-    ensures fault { OnErr result (HasRisen K.last (K.faults sink.old) (K.faults sink.new)) }
+    ensures written { Writes K.held K.faults K.last sink.old sink.new (signed_text number.numerator (quotient_text point.now (unsigned_abs number.numerator) (denominator number))) result }
 {
     if number.den() == 1 {
         write_whole(sink, number, point)
@@ -73,10 +60,7 @@ fn write_quotient<K: Sink>(
 
 /// Writes a number of the denominator 1, with these bytes behind its digits.
 fn write_whole<K: Sink>(sink: &mut K, number: Frac, point: &'static [u8]) -> Result<(), WriteFault>
-    ensures whole { OnOk result (Appends (K.held sink.old) (K.held sink.new) (signed_text number.numerator (decimal (unsigned_abs number.numerator) ++ point.now))) }
-    ensures front { OnErr result (AddsFrontOf (K.held sink.old) (K.held sink.new) (signed_text number.numerator (decimal (unsigned_abs number.numerator) ++ point.now))) }
-    ensures later { K.faults sink.old ≤ K.faults sink.new }
-    ensures fault { OnErr result (HasRisen K.last (K.faults sink.old) (K.faults sink.new)) }
+    ensures written { Writes K.held K.faults K.last sink.old sink.new (signed_text number.numerator (decimal (unsigned_abs number.numerator) ++ point.now)) result }
 {
     let mut digits = Buffer::new();
     let numerator = digits.format(number.num().unsigned_abs()).as_bytes();
@@ -85,10 +69,7 @@ fn write_whole<K: Sink>(sink: &mut K, number: Frac, point: &'static [u8]) -> Res
 
 /// Writes a number as a quotient, with these bytes behind the digits of its numerator and of its denominator.
 fn write_ratio<K: Sink>(sink: &mut K, number: Frac, point: &'static [u8]) -> Result<(), WriteFault>
-    ensures whole { OnOk result (Appends (K.held sink.old) (K.held sink.new) (signed_text number.numerator (ratio_text point.now (unsigned_abs number.numerator) (denominator number)))) }
-    ensures front { OnErr result (AddsFrontOf (K.held sink.old) (K.held sink.new) (signed_text number.numerator (ratio_text point.now (unsigned_abs number.numerator) (denominator number)))) }
-    ensures later { K.faults sink.old ≤ K.faults sink.new }
-    ensures fault { OnErr result (HasRisen K.last (K.faults sink.old) (K.faults sink.new)) }
+    ensures written { Writes K.held K.faults K.last sink.old sink.new (signed_text number.numerator (ratio_text point.now (unsigned_abs number.numerator) (denominator number))) result }
 {
     let mut above = Buffer::new();
     let numerator = above.format(number.num().unsigned_abs()).as_bytes();

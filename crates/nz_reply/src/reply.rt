@@ -1,12 +1,14 @@
 //! Replies: what they hold, why they are what they are, and the journal of what was kept.
 ghost use Rattle.std.specs.Prelude.{◌≡◌, [], ◌∷◌, ◌++◌, length, map, option_map, slice_get, None, Some, IfNone, IfOk, IfSome, OnOk, OnErr};
 ghost use Rattle.nz_reply.specs.Bindings.{binding_of};
+ghost use Rattle.nz_reply.specs.Replies.{KeptStay};
 ghost use Rattle.nz_reply.specs.Values.{shown_of};
 ghost use Rattle.nz_term.specs.Values.{value_of};
 
 use nz_base::{Lines, Memory};
 use nz_frac::Wide;
 use nz_sexpr::Heard;
+use nz_spec::table::term_stays;
 use nz_term::{Constant, Sort, TermId, Value};
 use std::alloc::Global;
 use std::marker::Model;
@@ -26,7 +28,7 @@ pub struct Bindings {
 
 impl Model for Bindings {
     ghost use Rattle.std.specs.Prelude.{List, map};
-    ghost use Rattle.nz_spec.specs.Script.{Binding};
+    ghost use Rattle.nz_spec.specs.Model.{Binding};
 
     ghost Value = { List Binding };
 
@@ -72,8 +74,8 @@ impl Bindings {
         }
     }
 
-    /// The entries in their order.
-    pub(crate) fn as_slice(&self) -> &[Binding]
+    /// The bindings, in the order of declaration.
+    pub fn as_slice(&self) -> &[Binding]
         ensures entries { map binding_of result.now ≡ self.now }
     {
         self.bindings.as_slice()
@@ -149,8 +151,8 @@ impl Shows {
         Ok(())
     }
 
-    /// The entries in their order.
-    pub(crate) fn as_slice(&self) -> &[Shown]
+    /// What is told of each term, in the order in which they were asked for.
+    pub fn as_slice(&self) -> &[Shown]
         ensures entries { map shown_of result.now ≡ self.now }
     {
         self.shows.as_slice()
@@ -206,7 +208,7 @@ pub enum Reply {
 /// A line of a work list that is no unit.
 #[derive(Debug, Drop)]
 pub enum Note {
-    /// The next atom is this Boolean term of the table.
+    /// The next atom is the Boolean term of this number.
     Atom(TermId),
 }
 
@@ -242,18 +244,27 @@ pub struct Journal {
 impl Journal {
     ghost use Rattle.nz_reply.specs.Journals.{journal_of};
     ghost use Rattle.nz_reply.specs.Replies.{all_kept};
+    ghost use Rattle.nz_spec.specs.Table.{Node};
+    ghost use Rattle.std.specs.Prelude.{List};
 
     /// The journal of these entries. Takes no memory.
     pub fn from_vec(kept: Vec<Kept>) -> Journal
-        ensures entries { journal_of result ≡ all_kept kept.items }
+        ensures entries { (ns : List Node) → journal_of ns result ≡ all_kept ns kept.items }
     {
         Journal { kept }
     }
 
     /// The entries in their order.
     pub fn as_slice(&self) -> &[Kept]
-        ensures entries { all_kept result.now ≡ journal_of self.now }
+        ensures entries { (ns : List Node) → all_kept ns result.now ≡ journal_of ns self.now }
     {
         self.kept.as_slice()
     }
+}
+
+/// What was kept means the same where the table of its terms has grown.
+pub fn kept_stay()
+    ensures stay { KeptStay }
+{
+    term_stays();
 }

@@ -1,11 +1,9 @@
 //! Texts of several parts, some of which aren't bytes yet.
-ghost use Rattle.std.specs.Prelude.{◌≤◌, OnOk, OnErr};
-ghost use Rattle.std.specs.Io.KnownBytes.{Appends};
-ghost use Rattle.nz_spec.specs.Outside.{AddsFrontOf, HasRisen};
 ghost use Rattle.nz_spec.specs.Reply.{value_text};
 ghost use Rattle.nz_term.specs.Constants.{sort_of};
 ghost use Rattle.nz_term.specs.Values.{value_of};
 ghost use Rattle.nz_reply.specs.Spelling.{part_text, spelled};
+ghost use Rattle.nz_reply.specs.Writes.{Writes};
 
 use crate::number::{write_number, write_operand};
 use crate::symbol::write_symbol;
@@ -33,24 +31,16 @@ pub(crate) enum Part<'a> {
 
 /// Writes the parts, one after another.
 pub(crate) fn write_spelled<K: Sink>(sink: &mut K, parts: &[Part]) -> Result<(), WriteFault>
-    ensures whole { OnOk result (Appends (K.held sink.old) (K.held sink.new) (spelled parts.now)) }
-    ensures front { OnErr result (AddsFrontOf (K.held sink.old) (K.held sink.new) (spelled parts.now)) }
-    ensures later { K.faults sink.old ≤ K.faults sink.new }
-    ensures fault { OnErr result (HasRisen K.last (K.faults sink.old) (K.faults sink.new)) }
+    ensures written { Writes K.held K.faults K.last sink.old sink.new (spelled parts.now) result }
 {
     for part in parts {
-        if let Err(fault) = write_part(sink, part) {
-            return Err(fault);
-        }
+        write_part(sink, part)?;
     }
     Ok(())
 }
 
 fn write_part<K: Sink>(sink: &mut K, part: &Part) -> Result<(), WriteFault>
-    ensures whole { OnOk result (Appends (K.held sink.old) (K.held sink.new) (part_text part.now)) }
-    ensures front { OnErr result (AddsFrontOf (K.held sink.old) (K.held sink.new) (part_text part.now)) }
-    ensures later { K.faults sink.old ≤ K.faults sink.new }
-    ensures fault { OnErr result (HasRisen K.last (K.faults sink.old) (K.faults sink.new)) }
+    ensures written { Writes K.held K.faults K.last sink.old sink.new (part_text part.now) result }
 {
     match part {
         Part::Text(bytes) => write_text(sink, bytes),
@@ -67,10 +57,7 @@ pub(crate) fn write_value<K: Sink>(
     sort: Sort,
     value: &Value,
 ) -> Result<(), WriteFault>
-    ensures whole { OnOk result (Appends (K.held sink.old) (K.held sink.new) (value_text (sort_of sort) (value_of value.now))) }
-    ensures front { OnErr result (AddsFrontOf (K.held sink.old) (K.held sink.new) (value_text (sort_of sort) (value_of value.now))) }
-    ensures later { K.faults sink.old ≤ K.faults sink.new }
-    ensures fault { OnErr result (HasRisen K.last (K.faults sink.old) (K.faults sink.new)) }
+    ensures written { Writes K.held K.faults K.last sink.old sink.new (value_text (sort_of sort) (value_of value.now)) result }
 {
     match value {
         Value::Truth(true) => write_text(sink, b"true"),

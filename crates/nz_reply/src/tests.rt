@@ -175,6 +175,22 @@ fn bindings_have_their_values(rt: HostRuntime) -> Result<(), Fail> {
     assert_eq!(rt; bindings.len(), 1);
     assert_eq!(rt; bindings.value(0), Some(Value::Truth(true)));
     assert_eq!(rt; bindings.value(1), None);
+    assert_eq!(rt; bindings.as_slice().len(), 1);
+    for Binding { constant, value } in bindings.as_slice() {
+        assert_eq!(rt; constant.name.as_bytes(), b"p".as_slice());
+        assert_eq!(rt; *value, Value::Truth(true));
+    }
+    Ok(())
+}
+
+#[test]
+fn shows_have_what_is_told(rt: HostRuntime) -> Result<(), Fail> {
+    let mut shows = Shows::new(rt.alloc());
+    shows.push(Shown::Value(Sort::Bool, Value::Truth(true)))?;
+    assert_eq!(rt; shows.as_slice().len(), 1);
+    for shown in shows.as_slice() {
+        assert!(rt; matches!(shown, Shown::Value(Sort::Bool, Value::Truth(true))));
+    }
     Ok(())
 }
 

@@ -1,18 +1,17 @@
 //! The texts of replies (SMT-LIB 2.6, section 4.2).
-ghost use Rattle.std.specs.Prelude.{◌≡◌, ◌≤◌, map, None, Some, IfNone, IfSome, OnOk, OnErr};
-ghost use Rattle.std.specs.Io.KnownBytes.{Appends};
-ghost use Rattle.nz_spec.specs.Outside.{AddsFrontOf, HasRisen};
-ghost use Rattle.nz_sexpr.specs.View.{token_view, view, what_view};
+ghost use Rattle.std.specs.Prelude.{◌≡◌, map, None, Some, IfNone, IfSome};
+ghost use Rattle.nz_sexpr.specs.View.{token_view, view, what_view, seen};
 ghost use Rattle.nz_spec.specs.Reply.{binding_text, echoed, info as info_reply, levels, model as model_reply, operator_text, reason as reason_reply, reply_text, shown_pair_text, shown_text, sort_text, spaced, values, wide_text};
-ghost use Rattle.nz_spec.specs.Script.{units_spent};
+ghost use Rattle.nz_spec.specs.Live.{units_spent};
 ghost use Rattle.nz_reply.specs.Bindings.{binding_of};
 ghost use Rattle.nz_reply.specs.Infos.{info_of};
 ghost use Rattle.nz_reply.specs.Reasons.{reason_of};
 ghost use Rattle.nz_reply.specs.Replies.{reply_of};
 ghost use Rattle.nz_reply.specs.Trees.{later_texts};
-ghost use Rattle.nz_reply.specs.Values.{argument_in as tree_argument_in, argument_of, asked_by as trees_asked_by, asked_trees, echoed_by, echoed_in, literal_bytes, seen, shown_of, text_within, trees_within, with_shown};
+ghost use Rattle.nz_reply.specs.Values.{argument_in as tree_argument_in, argument_of, asked_by as trees_asked_by, asked_trees, echoed_by, echoed_in, literal_bytes, shown_of, text_within, trees_within, with_shown};
 ghost use Rattle.nz_frac.specs.Operations.{operation_of, operator_of};
 ghost use Rattle.nz_term.specs.Constants.{sort_of};
+ghost use Rattle.nz_reply.specs.Writes.{Writes};
 
 use crate::errors::error_text;
 use crate::reply::{Binding, Info, Reason, Reply, Shown};
@@ -30,12 +29,9 @@ use nz_term::{Constant, Sort};
 ///
 /// # Errors
 ///
-/// `WriteFault` only where the sink's count of faults rose. Then a front of the text was written.
+/// `WriteFault` where the sink failed, which it counts once. Then a front of the text was written.
 pub fn write_reply<K: Sink>(sink: &mut K, what: &What, reply: &Reply) -> Result<(), WriteFault>
-    ensures whole { OnOk result (Appends (K.held sink.old) (K.held sink.new) (reply_text (reply_of (what_view what.now) reply.now))) }
-    ensures front { OnErr result (AddsFrontOf (K.held sink.old) (K.held sink.new) (reply_text (reply_of (what_view what.now) reply.now))) }
-    ensures later { K.faults sink.old ≤ K.faults sink.new }
-    ensures fault { OnErr result (HasRisen K.last (K.faults sink.old) (K.faults sink.new)) }
+    ensures written { Writes K.held K.faults K.last sink.old sink.new (reply_text (reply_of (what_view what.now) reply.now)) result }
 {
     match reply {
         Reply::Quiet => write_text(sink, b""),
@@ -57,30 +53,17 @@ pub fn write_reply<K: Sink>(sink: &mut K, what: &What, reply: &Reply) -> Result<
 // ---- Models
 
 fn write_model<K: Sink>(sink: &mut K, bindings: &[Binding]) -> Result<(), WriteFault>
-    ensures whole { OnOk result (Appends (K.held sink.old) (K.held sink.new) (reply_text (model_reply (map binding_of bindings.now)))) }
-    ensures front { OnErr result (AddsFrontOf (K.held sink.old) (K.held sink.new) (reply_text (model_reply (map binding_of bindings.now)))) }
-    ensures later { K.faults sink.old ≤ K.faults sink.new }
-    ensures fault { OnErr result (HasRisen K.last (K.faults sink.old) (K.faults sink.new)) }
+    ensures written { Writes K.held K.faults K.last sink.old sink.new (reply_text (model_reply (map binding_of bindings.now))) result }
 {
-    if let Err(fault) = write_text(sink, b"(\n") {
-        return Err(fault);
-    }
+    write_text(sink, b"(\n")?;
     for binding in bindings {
-        if let Err(fault) = write_binding(sink, binding) {
-            return Err(fault);
-        }
+        write_binding(sink, binding)?;
     }
-    if let Err(fault) = write_text(sink, b")\n") {
-        return Err(fault);
-    }
-    Ok(())
+    write_text(sink, b")\n")
 }
 
 fn write_binding<K: Sink>(sink: &mut K, binding: &Binding) -> Result<(), WriteFault>
-    ensures whole { OnOk result (Appends (K.held sink.old) (K.held sink.new) (binding_text (binding_of binding.now))) }
-    ensures front { OnErr result (AddsFrontOf (K.held sink.old) (K.held sink.new) (binding_text (binding_of binding.now))) }
-    ensures later { K.faults sink.old ≤ K.faults sink.new }
-    ensures fault { OnErr result (HasRisen K.last (K.faults sink.old) (K.faults sink.new)) }
+    ensures written { Writes K.held K.faults K.last sink.old sink.new (binding_text (binding_of binding.now)) result }
 {
     let Constant { name, sort } = &binding.constant;
     write_spelled(
@@ -139,35 +122,20 @@ fn trees_of(tree: &Tree) -> &[Tree]
 
 /// Writes what is told of the terms, each behind its tree.
 fn write_values<K: Sink>(sink: &mut K, trees: &[Tree], shows: &[Shown]) -> Result<(), WriteFault>
-    ensures whole { OnOk result (Appends (K.held sink.old) (K.held sink.new) (reply_text (values (with_shown (seen trees.now) (map shown_of shows.now))))) }
-    ensures front { OnErr result (AddsFrontOf (K.held sink.old) (K.held sink.new) (reply_text (values (with_shown (seen trees.now) (map shown_of shows.now))))) }
-    ensures later { K.faults sink.old ≤ K.faults sink.new }
-    ensures fault { OnErr result (HasRisen K.last (K.faults sink.old) (K.faults sink.new)) }
+    ensures written { Writes K.held K.faults K.last sink.old sink.new (reply_text (values (with_shown (seen trees.now) (map shown_of shows.now)))) result }
 {
-    if let Err(fault) = write_text(sink, b"(") {
-        return Err(fault);
-    }
-    if let Err(fault) = write_pairs(sink, trees, shows) {
-        return Err(fault);
-    }
-    if let Err(fault) = write_text(sink, b")\n") {
-        return Err(fault);
-    }
-    Ok(())
+    write_text(sink, b"(")?;
+    write_pairs(sink, trees, shows)?;
+    write_text(sink, b")\n")
 }
 
 /// Writes the pairs, with a space between neighbours.
 fn write_pairs<K: Sink>(sink: &mut K, trees: &[Tree], shows: &[Shown]) -> Result<(), WriteFault>
-    ensures whole { OnOk result (Appends (K.held sink.old) (K.held sink.new) (spaced (map shown_pair_text (with_shown (seen trees.now) (map shown_of shows.now))))) }
-    ensures front { OnErr result (AddsFrontOf (K.held sink.old) (K.held sink.new) (spaced (map shown_pair_text (with_shown (seen trees.now) (map shown_of shows.now))))) }
-    ensures later { K.faults sink.old ≤ K.faults sink.new }
-    ensures fault { OnErr result (HasRisen K.last (K.faults sink.old) (K.faults sink.new)) }
+    ensures written { Writes K.held K.faults K.last sink.old sink.new (spaced (map shown_pair_text (with_shown (seen trees.now) (map shown_of shows.now)))) result }
 {
     match (trees.split_first(), shows.split_first()) {
         (Some((tree, trees)), Some((shown, shows))) => {
-            if let Err(fault) = write_pair(sink, tree, shown) {
-                return Err(fault);
-            }
+            write_pair(sink, tree, shown)?;
             write_later_pairs(sink, trees, shows)
         }
         _ => write_text(sink, b""),
@@ -180,50 +148,30 @@ fn write_later_pairs<K: Sink>(
     trees: &[Tree],
     shows: &[Shown],
 ) -> Result<(), WriteFault>
-    ensures whole { OnOk result (Appends (K.held sink.old) (K.held sink.new) (later_texts (map shown_pair_text (with_shown (seen trees.now) (map shown_of shows.now))))) }
-    ensures front { OnErr result (AddsFrontOf (K.held sink.old) (K.held sink.new) (later_texts (map shown_pair_text (with_shown (seen trees.now) (map shown_of shows.now))))) }
-    ensures later { K.faults sink.old ≤ K.faults sink.new }
-    ensures fault { OnErr result (HasRisen K.last (K.faults sink.old) (K.faults sink.new)) }
+    ensures written { Writes K.held K.faults K.last sink.old sink.new (later_texts (map shown_pair_text (with_shown (seen trees.now) (map shown_of shows.now)))) result }
 {
     for index in 0..trees.len().min(shows.len()) {
         let tree = &trees[index];
         let shown = &shows[index];
-        if let Err(fault) = write_text(sink, b" ") {
-            return Err(fault);
-        }
-        if let Err(fault) = write_pair(sink, tree, shown) {
-            return Err(fault);
-        }
+        write_text(sink, b" ")?;
+        write_pair(sink, tree, shown)?;
     }
     Ok(())
 }
 
 fn write_pair<K: Sink>(sink: &mut K, tree: &Tree, shown: &Shown) -> Result<(), WriteFault>
-    ensures whole { OnOk result (Appends (K.held sink.old) (K.held sink.new) (shown_pair_text (view tree.now, shown_of shown.now))) }
-    ensures front { OnErr result (AddsFrontOf (K.held sink.old) (K.held sink.new) (shown_pair_text (view tree.now, shown_of shown.now))) }
-    ensures later { K.faults sink.old ≤ K.faults sink.new }
-    ensures fault { OnErr result (HasRisen K.last (K.faults sink.old) (K.faults sink.new)) }
+    ensures written { Writes K.held K.faults K.last sink.old sink.new (shown_pair_text (view tree.now, shown_of shown.now)) result }
 {
-    if let Err(fault) = write_spelled(
+    write_spelled(
         sink,
         &[Part::Text(b"("), Part::Tree(tree), Part::Text(b" ")],
-    ) {
-        return Err(fault);
-    }
-    if let Err(fault) = write_shown(sink, shown) {
-        return Err(fault);
-    }
-    if let Err(fault) = write_text(sink, b")") {
-        return Err(fault);
-    }
-    Ok(())
+    )?;
+    write_shown(sink, shown)?;
+    write_text(sink, b")")
 }
 
 fn write_shown<K: Sink>(sink: &mut K, shown: &Shown) -> Result<(), WriteFault>
-    ensures whole { OnOk result (Appends (K.held sink.old) (K.held sink.new) (shown_text (shown_of shown.now))) }
-    ensures front { OnErr result (AddsFrontOf (K.held sink.old) (K.held sink.new) (shown_text (shown_of shown.now))) }
-    ensures later { K.faults sink.old ≤ K.faults sink.new }
-    ensures fault { OnErr result (HasRisen K.last (K.faults sink.old) (K.faults sink.new)) }
+    ensures written { Writes K.held K.faults K.last sink.old sink.new (shown_text (shown_of shown.now)) result }
 {
     match shown {
         Shown::Value(sort, value) => write_value(sink, *sort, value),
@@ -233,10 +181,7 @@ fn write_shown<K: Sink>(sink: &mut K, shown: &Shown) -> Result<(), WriteFault>
 
 /// Writes an operation whose result left the numbers.
 fn write_wide<K: Sink>(sink: &mut K, wide: &Wide) -> Result<(), WriteFault>
-    ensures whole { OnOk result (Appends (K.held sink.old) (K.held sink.new) (wide_text (operation_of wide.now))) }
-    ensures front { OnErr result (AddsFrontOf (K.held sink.old) (K.held sink.new) (wide_text (operation_of wide.now))) }
-    ensures later { K.faults sink.old ≤ K.faults sink.new }
-    ensures fault { OnErr result (HasRisen K.last (K.faults sink.old) (K.faults sink.new)) }
+    ensures written { Writes K.held K.faults K.last sink.old sink.new (wide_text (operation_of wide.now)) result }
 {
     write_spelled(
         sink,
@@ -277,10 +222,7 @@ fn info_line(info: Info) -> &'static [u8]
 }
 
 fn write_levels<K: Sink>(sink: &mut K, count: usize) -> Result<(), WriteFault>
-    ensures whole { OnOk result (Appends (K.held sink.old) (K.held sink.new) (reply_text (levels count))) }
-    ensures front { OnErr result (AddsFrontOf (K.held sink.old) (K.held sink.new) (reply_text (levels count))) }
-    ensures later { K.faults sink.old ≤ K.faults sink.new }
-    ensures fault { OnErr result (HasRisen K.last (K.faults sink.old) (K.faults sink.new)) }
+    ensures written { Writes K.held K.faults K.last sink.old sink.new (reply_text (levels count)) result }
 {
     let mut digits = Buffer::new();
     let number = digits.format(count).as_bytes();
@@ -288,10 +230,7 @@ fn write_levels<K: Sink>(sink: &mut K, count: usize) -> Result<(), WriteFault>
 }
 
 fn write_reason<K: Sink>(sink: &mut K, reason: Reason) -> Result<(), WriteFault>
-    ensures whole { OnOk result (Appends (K.held sink.old) (K.held sink.new) (reply_text (reason_reply (reason_of reason)))) }
-    ensures front { OnErr result (AddsFrontOf (K.held sink.old) (K.held sink.new) (reply_text (reason_reply (reason_of reason)))) }
-    ensures later { K.faults sink.old ≤ K.faults sink.new }
-    ensures fault { OnErr result (HasRisen K.last (K.faults sink.old) (K.faults sink.new)) }
+    ensures written { Writes K.held K.faults K.last sink.old sink.new (reply_text (reason_reply (reason_of reason))) result }
 {
     match reason {
         Reason::UnitsSpent(units) => write_units_spent(sink, units),
@@ -299,10 +238,7 @@ fn write_reason<K: Sink>(sink: &mut K, reason: Reason) -> Result<(), WriteFault>
 }
 
 fn write_units_spent<K: Sink>(sink: &mut K, units: u64) -> Result<(), WriteFault>
-    ensures whole { OnOk result (Appends (K.held sink.old) (K.held sink.new) (reply_text (reason_reply (units_spent units)))) }
-    ensures front { OnErr result (AddsFrontOf (K.held sink.old) (K.held sink.new) (reply_text (reason_reply (units_spent units)))) }
-    ensures later { K.faults sink.old ≤ K.faults sink.new }
-    ensures fault { OnErr result (HasRisen K.last (K.faults sink.old) (K.faults sink.new)) }
+    ensures written { Writes K.held K.faults K.last sink.old sink.new (reply_text (reason_reply (units_spent units))) result }
 {
     let mut digits = Buffer::new();
     let number = digits.format(units).as_bytes();
@@ -347,18 +283,10 @@ fn literal_of(token: &Token) -> &[u8]
 }
 
 fn write_echo<K: Sink>(sink: &mut K, text: &[u8]) -> Result<(), WriteFault>
-    ensures whole { OnOk result (Appends (K.held sink.old) (K.held sink.new) (reply_text (echoed text.now))) }
-    ensures front { OnErr result (AddsFrontOf (K.held sink.old) (K.held sink.new) (reply_text (echoed text.now))) }
-    ensures later { K.faults sink.old ≤ K.faults sink.new }
-    ensures fault { OnErr result (HasRisen K.last (K.faults sink.old) (K.faults sink.new)) }
+    ensures written { Writes K.held K.faults K.last sink.old sink.new (reply_text (echoed text.now)) result }
 {
-    if let Err(fault) = write_literal(sink, text) {
-        return Err(fault);
-    }
-    if let Err(fault) = write_text(sink, b"\n") {
-        return Err(fault);
-    }
-    Ok(())
+    write_literal(sink, text)?;
+    write_text(sink, b"\n")
 }
 
 // ---- The argument of a command

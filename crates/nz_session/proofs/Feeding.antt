@@ -1,18 +1,18 @@
--- How a session reads on in a piece.
-use Rattle.std.proofs.Common.{◌≡◌, ℕ, ◌+◌, ◌^◌, ◌<◌, ◌≤◌, inl, inr, IsNone, List, [], ◌∷◌, ◌++◌, length, take, drop, Option, None, Some, Vec, false, refl, sym, ap, ◌∙◌, subst, append_assoc, append-nil, take-append-drop, arith}
+-- How a session reads on in a piece, and ends.
+use Rattle.std.proofs.Common.{◌≡◌, ℕ, ◌+◌, ◌^◌, ◌<◌, Bool, false, true, IsNone, List, [], ◌∷◌, ◌++◌, length, take, drop, Option, None, Some, Vec, refl, sym, ap, ◌∙◌, subst, append_assoc, append-nil, take-append-drop, arith}
 use Rattle.std.proofs.lemmas.List.{map-append, length-append, take_all}
 use Rattle.std.proofs.lemmas.Grind.{flat_map-append}
-use Rattle.std.specs.Io.KnownBytes.{Appends}
+use Rattle.std.specs.Io.KnownBytes.{Appends, Keeps}
 use Rattle.std.specs.declared.alloc.Global.{Global}
-use Rattle.std.specs.Io.KnownBytes.{Keeps}
 use Rattle.std.proofs.KnownBytes.{Appends-kept, Appends-nil, Appends-trans}
-use Rattle.nz_spec.specs.Text.{Limits, Heard, Hears, script_limits, OneReading}
-use Rattle.nz_spec.specs.Kept.{AreToldAs}
+use Rattle.nz_spec.specs.Text.{Limits, Heard, script_limits, OneReading}
 use Rattle.nz_spec.specs.Told.{IsTold, IsToldFirst, ReadingTellsFirst}
 use Rattle.nz_spec.specs.Outside.{AddsFrontOf}
-use Rattle.nz_spec.specs.Script.{start}
+use Rattle.nz_spec.specs.Table.{Node}
+use Rattle.nz_spec.specs.Live.{start}
 use Rattle.nz_spec.specs.Reply.{reply_text, error}
-use Rattle.nz_spec.specs.Transcript.{BeginsText, Kept, AreRight, EndsByExit, IsTranscript, texts_of}
+use Rattle.nz_spec.specs.Right.{beginning}
+use Rattle.nz_spec.specs.Transcript.{BeginsText, Kept, AreRight, GoesOn, EndsByExit, IsCutOff, things_of, texts_of}
 use Rattle.nz_sexpr.specs.declared.reader.Reader.{Reader}
 use Rattle.nz_sexpr.specs.declared.heard.Heard as code
 use Rattle.nz_sexpr.specs.View.{heard_view}
@@ -21,18 +21,10 @@ use Rattle.nz_sexpr.specs.Fits.{Fits, owes}
 use Rattle.nz_session.specs.declared.desk.Desk.{Desk}
 use Rattle.nz_reply.specs.declared.reply.Kept as kept
 use Rattle.nz_session.specs.declared.session.Session.{Session}
-use Rattle.nz_reply.specs.Replies.{all_kept}
-use Rattle.nz_session.specs.Serve.{IsGoing, Serves, Writes, WritesCut, Answers, AnswersInPart, BreaksOff, HasExited, IsFront, kept_by, things_of}
-use Rattle.nz_session.proofs.Fronts.{told_first, told_split}
+use Rattle.nz_session.specs.Serve.{IsGoing, Serves, IsShort, Writes, WritesCut, Answers, AnswersInPart, BreaksOff, HasExited, HasEnded, IsCut, kept_at, kept_by}
+use Rattle.nz_session.proofs.Fronts.{IsHeardOf, heard_by_reader, heard_at_end, front_of, cut_off, transcript_to_exit, transcript_to_end}
 
--- Of the piece a front was read, and this is the rest; what is complete in it was answered.
-pub record IsFeeding {E : Type 0} (levels : E → List (List ℕ)) (first now : Session E) (piece rest : List ℕ) (old new : Option (List ℕ)) (before after : ℕ) : Type 0 where
-  pub done : List ℕ
-  pub all : piece ≡ done ++ rest
-  pub reads : (limit : ℕ) (bytes : List ℕ) → Serves levels limit first bytes → length bytes + length piece < 2 ^ 64 → Fits script_limits now.reader (bytes ++ done) (things_of (kept_by now))
-  pub going : (limit : ℕ) (bytes : List ℕ) → Serves levels limit first bytes → IsGoing levels limit now.desk (kept_by now)
-  pub writes : Writes (kept_by first) (kept_by now) old new
-  pub later : before ≤ after
+-- ---- What is written
 
 pub writes_nothing : (ks : List Kept) (held : Option (List ℕ)) → Writes ks ks held held
 writes_nothing ks held = record { more = []; kept = sym (append-nil ks); written = Appends-nil held }
@@ -57,26 +49,68 @@ writes_cut old mid new a b c w e n =
       written = Appends-trans a b c (texts_of w.more) (reply_text (error 11)) w.written n;
     }
 
--- and then that the sink failed
-pub breaks_off : (old mid new : List Kept) (thing : Heard) (a b c : Option (List ℕ)) → Writes old mid a b → AnswersInPart thing mid new b c → BreaksOff old new a c
-breaks_off old mid new thing a b c w n =
-    record {
-      more = w.more;
-      text = n.text;
-      begins = subst (λ (l : List Kept). BeginsText new l n.text) w.kept n.begins;
-      count = n.written.0;
-      written = Appends-trans a b c (texts_of w.more) (take n.written.0 n.text) w.written n.written.2;
-    }
-
 -- a text that was written whole is a front of itself
 pub front_whole : (a b c : Option (List ℕ)) (text : List ℕ) → Appends a b text → Keeps b c → AddsFrontOf a c text
 front_whole a b c text p k =
     let all : take (length text) text ≡ text = take_all (length text) text (omega arith) in
     (length text, omega arith, subst (Appends a c) (sym all) (Appends-kept a b c text p k))
 
-things-answered : (thing : Heard) (old new : List Kept) (b c : Option (List ℕ)) → Answers thing old new b c → things_of new ≡ things_of old ++ thing ∷ []
+-- ---- The things kept
+
+pub things-answered : (thing : Heard) (old new : List Kept) (b c : Option (List ℕ)) → Answers thing old new b c → things_of new ≡ things_of old ++ thing ∷ []
 things-answered thing old new b c n =
     ap things_of n.kept ∙ map-append (λ (k : Kept). k.heard) old (n.one ∷ []) ∙ ap (λ h. things_of old ++ h ∷ []) n.heard
+
+-- by the table of a desk, where it and its things are as they were
+pub kept_alike : {E : Type 0} (old new : Desk E) (ks ls : List kept.Kept) → new ≡ old → ls ≡ ks → kept_at new ls ≡ kept_at old ks
+kept_alike old new ks ls d e = ap (λ x. kept_at x ls) d ∙ ap (kept_at old) e
+
+-- ---- One thing heard that isn't answered, or in part
+
+module _ (limit : ℕ) (ended : Bool) (bytes : List ℕ) (ks : List Kept) (thing : Heard) (right : AreRight (beginning limit) ks) (goes : GoesOn start ks)
+    (heard : IsShort bytes → IsHeardOf ended bytes (things_of ks ++ thing ∷ [])) where
+  pub is_cut : IsCut limit ended bytes ks
+  is_cut = record { right = right; goes_on = goes; cut_off = λ short. cut_off limit ended bytes ks right thing goes (heard short) }
+
+  pub breaks_off : (old new : List Kept) (a b c : Option (List ℕ)) → Writes old ks a b → AnswersInPart thing ks new b c → AreRight (beginning limit) new
+      → BreaksOff limit ended bytes old new a c
+  breaks_off old new a b c w n right_new =
+      record {
+        more = w.more;
+        text = n.text;
+        begins = subst (λ (l : List Kept). BeginsText new l n.text) w.kept n.begins;
+        count = n.written.0;
+        written = Appends-trans a b c (texts_of w.more) (take n.written.0 n.text) w.written n.written.2;
+        right = right_new;
+        front = λ short. record {
+          front = front_of limit ended bytes new right_new n.later (subst (IsHeardOf ended bytes) n.heard (heard short));
+          cut_off = λ e. subst (IsCutOff limit ended bytes) (w.kept ∙ sym e) (cut_off limit ended bytes ks right thing goes (heard short));
+        };
+      }
+
+-- ---- A piece
+
+-- Of the piece a front was read, and this is the rest; what is complete in it was answered.
+pub record IsFeeding {E : Type 0} (levels : E → List (List ℕ)) (table : E → List Node) (first now : Session E) (piece rest : List ℕ) (old new : Option (List ℕ)) : Type 0 where
+  pub done : List ℕ
+  pub all : piece ≡ done ++ rest
+  pub reads : (limit : ℕ) (bytes : List ℕ) → Serves levels table limit first bytes → IsShort (bytes ++ piece) → Fits script_limits now.reader (bytes ++ done) (things_of (kept_by now))
+  pub going : (limit : ℕ) (bytes : List ℕ) → Serves levels table limit first bytes → IsGoing levels table limit now.desk now.kept.items
+  pub writes : Writes (kept_by first) (kept_by now) old new
+
+pub feeding_start : {E : Type 0} (levels : E → List (List ℕ)) (table : E → List Node) (session : Session E) (piece : List ℕ) (held : Option (List ℕ))
+    → IsFeeding levels table session session piece piece held held
+feeding_start levels table session piece held =
+    record {
+      done = [];
+      all = refl;
+      reads = λ limit bytes serves short.
+          let longer : length (bytes ++ piece) ≡ length bytes + length piece = length-append bytes piece in
+          let read = serves.read (omega (arith, short, longer)) in
+          subst (λ (l : List ℕ). Fits script_limits session.reader l (things_of (kept_by session))) (sym (append-nil bytes)) read.reads;
+      going = λ limit bytes serves. serves.going;
+      writes = writes_nothing (kept_by session) held;
+    }
 
 -- what a reader promises of one call
 abbrev pub ReadsOn : Reader → Reader → List ℕ → ℕ → Option code.Heard → Type 0
@@ -84,137 +118,139 @@ ReadsOn old new rest used h =
     (limits : Limits) (bytes : List ℕ) (things : List Heard) → Fits limits old bytes things → length bytes + length rest < 2 ^ 64
     → Fits limits new (bytes ++ take used rest) (things ++ told h)
 
-module _ {E : Type 0} (levels : E → List (List ℕ)) (first : Session E) (piece rest : List ℕ) (old held : Option (List ℕ)) (before after : ℕ)
+pub none_is : (h : Option code.Heard) → h ≡ None → IsNone h
+none_is h e = subst IsNone (sym e) refl
+
+module _ {E : Type 0} (levels : E → List (List ℕ)) (table : E → List Node) (first : Session E) (piece rest : List ℕ) (old held : Option (List ℕ))
     (reader next : Reader) (desk : Desk E) (ks : Vec kept.Kept Global) (used : ℕ) (h : Option code.Heard)
-    (feeding : IsFeeding levels first (record { reader = reader; desk = desk; kept = ks }) piece rest old held before after) (reads_on : ReadsOn reader next rest used h) where
+    (feeding : IsFeeding levels table first (record { reader = reader; desk = desk; kept = ks }) piece rest old held) (reads_on : ReadsOn reader next rest used h) where
   -- the reader has read the bytes used too, and told what it told
-  pub reads_more : (limit : ℕ) (bytes : List ℕ) → Serves levels limit first bytes → length bytes + length piece < 2 ^ 64
-      → Fits script_limits next (bytes ++ (feeding.done ++ take used rest)) (things_of (all_kept ks.items) ++ told h)
-  reads_more limit bytes serves fits =
+  reads_more : (limit : ℕ) (bytes : List ℕ) → Serves levels table limit first bytes → IsShort (bytes ++ piece)
+      → Fits script_limits next (bytes ++ (feeding.done ++ take used rest)) (things_of (kept_at desk ks.items) ++ told h)
+  reads_more limit bytes serves short =
       let all : length piece ≡ length feeding.done + length rest = ap length feeding.all ∙ length-append feeding.done rest in
       let longer : length (bytes ++ feeding.done) ≡ length bytes + length feeding.done = length-append bytes feeding.done in
-      subst (λ (l : List ℕ). Fits script_limits next l (things_of (all_kept ks.items) ++ told h)) (append_assoc bytes feeding.done (take used rest))
-      (reads_on script_limits (bytes ++ feeding.done) (things_of (all_kept ks.items)) (feeding.reads limit bytes serves fits) (omega (arith, all, longer)))
+      let whole : length (bytes ++ piece) ≡ length bytes + length piece = length-append bytes piece in
+      subst (λ (l : List ℕ). Fits script_limits next l (things_of (kept_at desk ks.items) ++ told h)) (append_assoc bytes feeding.done (take used rest))
+      (reads_on script_limits (bytes ++ feeding.done) (things_of (kept_at desk ks.items)) (feeding.reads limit bytes serves short) (omega (arith, all, longer, whole, short)))
 
   -- the piece is what was read and the rest
-  pub piece_more : piece ≡ (feeding.done ++ take used rest) ++ drop used rest
+  piece_more : piece ≡ (feeding.done ++ take used rest) ++ drop used rest
   piece_more = feeding.all ∙ ap (λ l. feeding.done ++ l) (sym (take-append-drop used rest)) ∙ sym (append_assoc feeding.done (take used rest) (drop used rest))
 
   -- at the end of the piece
   pub fed_all : h ≡ None → used ≡ length rest → owes next ≡ false
-      → ((all : List ℕ) (things : List Heard) → Fits script_limits next all things → IsToldFirst script_limits all things) → (limit : ℕ) (bytes : List ℕ) → Serves levels limit first bytes → length bytes + length piece < 2 ^ 64
-      → Serves levels limit (record { reader = next; desk = desk; kept = ks }) (bytes ++ piece)
-  fed_all none all settled complete limit bytes serves fits =
+      → ((all : List ℕ) (things : List Heard) → Fits script_limits next all things → IsToldFirst script_limits all things) → (limit : ℕ) (bytes : List ℕ) → Serves levels table limit first bytes
+      → Serves levels table limit (record { reader = next; desk = desk; kept = ks }) (bytes ++ piece)
+  fed_all none all settled complete limit bytes serves =
+      let things : List Heard = things_of (kept_at desk ks.items) in
       let taken : take used rest ≡ rest = ap (λ n. take n rest) all ∙ take_all (length rest) rest (omega arith) in
       let whole : feeding.done ++ take used rest ≡ piece = ap (λ l. feeding.done ++ l) taken ∙ sym feeding.all in
-      let nothing : things_of (all_kept ks.items) ++ told h ≡ things_of (all_kept ks.items) = ap (λ x. things_of (all_kept ks.items) ++ told x) none ∙ append-nil (things_of (all_kept ks.items)) in
-      let fit = subst (λ (l : List ℕ). Fits script_limits next (bytes ++ l) (things_of (all_kept ks.items) ++ told h)) whole (reads_more limit bytes serves fits) in
-      let reads : Fits script_limits next (bytes ++ piece) (things_of (all_kept ks.items)) = subst (Fits script_limits next (bytes ++ piece)) nothing fit in
-      record { reads = reads; settled = settled; complete = complete (bytes ++ piece) (things_of (all_kept ks.items)) reads; going = feeding.going limit bytes serves }
+      let nothing : things ++ told h ≡ things = ap (λ x. things ++ told x) none ∙ append-nil things in
+      record {
+        going = feeding.going limit bytes serves;
+        read = λ short.
+            let fit = subst (λ (l : List ℕ). Fits script_limits next (bytes ++ l) (things ++ told h)) whole (reads_more limit bytes serves short) in
+            let reads : Fits script_limits next (bytes ++ piece) things = subst (Fits script_limits next (bytes ++ piece)) nothing fit in
+            record { reads = reads; settled = settled; complete = complete (bytes ++ piece) things reads };
+      }
 
-  -- what is kept of the things told is what is heard first in the whole piece
-  pub front_fed : OneReading → ReadingTellsFirst → (new : List Kept) (later : List Heard) → things_of (all_kept ks.items) ++ told h ≡ things_of new ++ later
-      → (limit : ℕ) (bytes : List ℕ) → Serves levels limit first bytes → length bytes + length piece < 2 ^ 64 → AreRight limit start new → IsFront limit (bytes ++ piece) new
-  front_fed one tells new later same limit bytes serves fits right =
-      let read = feeding.done ++ take used rest in
-      let fit = subst (Fits script_limits next (bytes ++ read)) same (reads_more limit bytes serves fits) in
-      let front = told_first one tells script_limits next (bytes ++ read) (drop used rest) (things_of new) later fit in
-      let whole : (bytes ++ read) ++ drop used rest ≡ bytes ++ piece = append_assoc bytes read (drop used rest) ∙ ap (λ l. bytes ++ l) (sym piece_more) in
-      (front.1, record { heard = front.0; hears = subst (λ (l : List ℕ). Hears script_limits l (front.0 ++ front.1)) whole front.2; told = front.3; right = right })
+  module _ (heard : code.Heard) (some : h ≡ Some heard) where
+    -- what was kept, and then this thing, is told of what is heard first
+    heard_fed : ReadingTellsFirst → (limit : ℕ) (bytes : List ℕ) → Serves levels table limit first bytes → IsShort (bytes ++ piece)
+        → IsHeardOf false (bytes ++ piece) (things_of (kept_at desk ks.items) ++ heard_view heard ∷ [])
+    heard_fed tells limit bytes serves short =
+        let read = feeding.done ++ take used rest in
+        let fit = subst (λ x. Fits script_limits next (bytes ++ read) (things_of (kept_at desk ks.items) ++ told x)) some (reads_more limit bytes serves short) in
+        let whole : (bytes ++ read) ++ drop used rest ≡ bytes ++ piece = append_assoc bytes read (drop used rest) ∙ ap (λ l. bytes ++ l) (sym piece_more) in
+        subst (λ (l : List ℕ). IsHeardOf false l (things_of (kept_at desk ks.items) ++ heard_view heard ∷ [])) whole
+        (heard_by_reader tells next (bytes ++ read) (drop used rest) (things_of (kept_at desk ks.items) ++ heard_view heard ∷ []) fit)
 
-  -- the sink failed
-  pub broken_fed : (heard : code.Heard) → h ≡ Some heard → (new : List Kept) (b c : Option (List ℕ)) → AnswersInPart (heard_view heard) (all_kept ks.items) new b c
-      → ((limit : ℕ) → IsGoing levels limit desk (all_kept ks.items) → AreRight limit start new) → OneReading → ReadingTellsFirst
-      → (limit : ℕ) (bytes : List ℕ) → Serves levels limit first bytes → length bytes + length piece < 2 ^ 64 → IsFront limit (bytes ++ piece) new
-  broken_fed heard some new b c part right one tells limit bytes serves fits =
-      front_fed one tells new part.later (ap (λ x. things_of (all_kept ks.items) ++ told x) some ∙ part.heard) limit bytes serves fits
-      (right limit (feeding.going limit bytes serves))
+    -- the session was cut short
+    pub cut_fed : ReadingTellsFirst → (limit : ℕ) (bytes : List ℕ) → Serves levels table limit first bytes → IsCut limit false (bytes ++ piece) (kept_at desk ks.items)
+    cut_fed tells limit bytes serves =
+        let going = feeding.going limit bytes serves in
+        is_cut limit false (bytes ++ piece) (kept_at desk ks.items) (heard_view heard) going.right going.goes_on (heard_fed tells limit bytes serves)
 
-  module _ (heard : code.Heard) (some : h ≡ Some heard) (desk' : Desk E) (ks' : Vec kept.Kept Global) (held' : Option (List ℕ)) (after' : ℕ)
-      (answers : Answers (heard_view heard) (all_kept ks.items) (all_kept ks'.items) held held') where
-    pub things_fed : things_of (all_kept ks.items) ++ told h ≡ things_of (all_kept ks'.items)
-    things_fed = ap (λ x. things_of (all_kept ks.items) ++ told x) some ∙ sym (things-answered (heard_view heard) (all_kept ks.items) (all_kept ks'.items) held held' answers)
+    -- the sink failed
+    pub broken_fed : (new : List Kept) (c : Option (List ℕ)) → AnswersInPart (heard_view heard) (kept_at desk ks.items) new held c
+        → ((limit : ℕ) → IsGoing levels table limit desk ks.items → AreRight (beginning limit) new) → ReadingTellsFirst
+        → (limit : ℕ) (bytes : List ℕ) → Serves levels table limit first bytes → BreaksOff limit false (bytes ++ piece) (kept_by first) new old c
+    broken_fed new c part right tells limit bytes serves =
+        let going = feeding.going limit bytes serves in
+        breaks_off limit false (bytes ++ piece) (kept_at desk ks.items) (heard_view heard) going.right going.goes_on (heard_fed tells limit bytes serves)
+        (kept_by first) new old held c feeding.writes part (right limit going)
 
-    -- the session goes on
-    pub feeding_more : ((limit : ℕ) → IsGoing levels limit desk (all_kept ks.items) → IsGoing levels limit desk' (all_kept ks'.items)) → after ≤ after'
-        → IsFeeding levels first (record { reader = next; desk = desk'; kept = ks' }) piece (drop used rest) old held' before after'
-    feeding_more going later =
-        record {
-          done = feeding.done ++ take used rest;
-          all = piece_more;
-          reads = λ limit bytes serves fits. subst (Fits script_limits next (bytes ++ (feeding.done ++ take used rest))) things_fed (reads_more limit bytes serves fits);
-          going = λ limit bytes serves. going limit (feeding.going limit bytes serves);
-          writes = writes_more (kept_by first) (all_kept ks.items) (all_kept ks'.items) (heard_view heard) old held held' feeding.writes answers;
-          later = let a = feeding.later in omega arith;
-        }
+    module _ (desk' : Desk E) (ks' : Vec kept.Kept Global) (held' : Option (List ℕ))
+        (answers : Answers (heard_view heard) (kept_at desk ks.items) (kept_at desk' ks'.items) held held') where
+      things_fed : things_of (kept_at desk ks.items) ++ heard_view heard ∷ [] ≡ things_of (kept_at desk' ks'.items)
+      things_fed = sym (things-answered (heard_view heard) (kept_at desk ks.items) (kept_at desk' ks'.items) held held' answers)
 
-    -- the session has exited
-    pub exited_fed : OneReading → ReadingTellsFirst
-        → ((limit : ℕ) → IsGoing levels limit desk (all_kept ks.items) → AreRight limit start (all_kept ks'.items) × EndsByExit start (all_kept ks'.items))
-        → (limit : ℕ) (bytes : List ℕ) → Serves levels limit first bytes → length bytes + length piece < 2 ^ 64 → HasExited limit (bytes ++ piece) (all_kept ks'.items)
-    exited_fed one tells exits limit bytes serves fits =
-        let ends = exits limit (feeding.going limit bytes serves) in
-        let front = front_fed one tells (all_kept ks'.items) [] (things_fed ∙ sym (append-nil (things_of (all_kept ks'.items)))) limit bytes serves fits ends.0 in
-        record { transcript = record { rest = front.0; front = front.1; whole = inr ends.1 }; ends = ends.1 }
+      -- the session goes on
+      pub feeding_more : ((limit : ℕ) → IsGoing levels table limit desk ks.items → IsGoing levels table limit desk' ks'.items)
+          → IsFeeding levels table first (record { reader = next; desk = desk'; kept = ks' }) piece (drop used rest) old held'
+      feeding_more going =
+          record {
+            done = feeding.done ++ take used rest;
+            all = piece_more;
+            reads = λ limit bytes serves short.
+                subst (Fits script_limits next (bytes ++ (feeding.done ++ take used rest))) (ap (λ x. things_of (kept_at desk ks.items) ++ told x) some ∙ things_fed) (reads_more limit bytes serves short);
+            going = λ limit bytes serves. going limit (feeding.going limit bytes serves);
+            writes = writes_more (kept_by first) (kept_at desk ks.items) (kept_at desk' ks'.items) (heard_view heard) old held held' feeding.writes answers;
+          }
 
-  -- the session was cut short
-  pub cut_fed : OneReading → ReadingTellsFirst → (limit : ℕ) (bytes : List ℕ) → Serves levels limit first bytes → length bytes + length piece < 2 ^ 64
-      → IsFront limit (bytes ++ piece) (all_kept ks.items)
-  cut_fed one tells limit bytes serves fits =
-      front_fed one tells (all_kept ks.items) (told h) refl limit bytes serves fits (feeding.going limit bytes serves).right
-
-pub feeding_start : {E : Type 0} (levels : E → List (List ℕ)) (session : Session E) (piece : List ℕ) (held : Option (List ℕ)) (faults : ℕ)
-    → IsFeeding levels session session piece piece held held faults faults
-feeding_start levels session piece held faults =
-    record {
-      done = [];
-      all = refl;
-      reads = λ limit bytes serves fits. subst (λ (l : List ℕ). Fits script_limits session.reader l (things_of (kept_by session))) (sym (append-nil bytes)) serves.reads;
-      going = λ limit bytes serves. serves.going;
-      writes = writes_nothing (kept_by session) held;
-      later = omega arith;
-    }
-
-pub none_is : (h : Option code.Heard) → h ≡ None → IsNone h
-none_is h e = subst IsNone (sym e) refl
+      -- the session has exited
+      pub exited_fed : OneReading → ReadingTellsFirst
+          → ((limit : ℕ) → IsGoing levels table limit desk ks.items → AreRight (beginning limit) (kept_at desk' ks'.items) × EndsByExit start (kept_at desk' ks'.items))
+          → (limit : ℕ) (bytes : List ℕ) → Serves levels table limit first bytes → HasExited limit (bytes ++ piece) (kept_at desk' ks'.items)
+      exited_fed one tells exits limit bytes serves =
+          let ends = exits limit (feeding.going limit bytes serves) in
+          record {
+            right = ends.0;
+            ends = ends.1;
+            transcript = λ short. transcript_to_exit one limit (bytes ++ piece) (kept_at desk' ks'.items) ends.0 ends.1
+                (subst (IsHeardOf false (bytes ++ piece)) things_fed (heard_fed tells limit bytes serves short));
+          }
 
 -- ---- The end of the text
 
-module _ (limit : ℕ) (bytes : List ℕ) (ks : List Kept) (h : Option code.Heard) (whole : IsTold script_limits bytes (things_of ks ++ told h)) where
-  -- what was kept is all that is heard
-  finish_whole : (new : List Kept) → things_of ks ++ told h ≡ things_of new → AreRight limit start new → IsTranscript limit bytes new
-  finish_whole new all right =
+module _ {E : Type 0} (levels : E → List (List ℕ)) (table : E → List Node) (limit : ℕ) (bytes : List ℕ) (session : Session E) (serves : Serves levels table limit session bytes)
+    (h : Option code.Heard)
+    (told_all : (limits : Limits) (all : List ℕ) (things : List Heard) → Fits limits session.reader all things → owes session.reader ≡ false → length all < 2 ^ 64
+    → IsTold limits all (things ++ told h)) where
+  told_whole : IsShort bytes → IsTold script_limits bytes (things_of (kept_by session) ++ told h)
+  told_whole short = let read = serves.read short in told_all script_limits bytes (things_of (kept_by session)) read.reads read.settled short
+
+  has_ended : (new : List Kept) → things_of (kept_by session) ++ told h ≡ things_of new → AreRight (beginning limit) new → HasEnded limit bytes new
+  has_ended new all right =
       record {
-        rest = [];
-        front =
-            record {
-              heard = whole.0;
-              hears = subst (Hears script_limits bytes) (sym (append-nil whole.0)) whole.1;
-              told = subst (λ (l : List Heard). AreToldAs l whole.0) all whole.2;
-              right = right;
-            };
-        whole = inl refl;
+        right = right;
+        transcript = λ short. transcript_to_end limit bytes new right (subst (IsTold script_limits bytes) all (told_whole short));
       }
 
-  -- what was kept is what is heard first
-  finish_front : (new : List Kept) (later : List Heard) → things_of ks ++ told h ≡ things_of new ++ later → AreRight limit start new → IsFront limit bytes new
-  finish_front new later same right =
-      let split = told_split (things_of new) later whole.0 (subst (λ (l : List Heard). AreToldAs l whole.0) same whole.2) in
-      (split.1, record { heard = split.0; hears = subst (Hears script_limits bytes) split.2 whole.1; told = split.3; right = right })
-
   -- nothing was left to answer
-  pub finish_quiet : h ≡ None → AreRight limit start ks → IsTranscript limit bytes ks
-  finish_quiet none right = finish_whole ks (ap (λ x. things_of ks ++ told x) none ∙ append-nil (things_of ks)) right
+  pub finish_quiet : h ≡ None → HasEnded limit bytes (kept_by session)
+  finish_quiet none =
+      has_ended (kept_by session) (ap (λ x. things_of (kept_by session) ++ told x) none ∙ append-nil (things_of (kept_by session))) serves.going.right
 
-  -- the last thing heard wasn't answered, for want of memory
-  pub finish_cut : AreRight limit start ks → IsFront limit bytes ks
-  finish_cut right = finish_front ks (told h) refl right
+  module _ (heard : code.Heard) (some : h ≡ Some heard) where
+    last_heard : IsShort bytes → IsHeardOf true bytes (things_of (kept_by session) ++ heard_view heard ∷ [])
+    last_heard short =
+        heard_at_end bytes (things_of (kept_by session) ++ heard_view heard ∷ [])
+        (subst (λ x. IsTold script_limits bytes (things_of (kept_by session) ++ told x)) some (told_whole short))
 
-  module _ (heard : code.Heard) (some : h ≡ Some heard) (new : List Kept) (b c : Option (List ℕ)) where
     -- the last thing heard was answered
-    pub finished : Answers (heard_view heard) ks new b c → AreRight limit start new → IsTranscript limit bytes new
-    finished answers right = finish_whole new (ap (λ x. things_of ks ++ told x) some ∙ sym (things-answered (heard_view heard) ks new b c answers)) right
+    pub finished : (new : List Kept) (b c : Option (List ℕ)) → Answers (heard_view heard) (kept_by session) new b c → AreRight (beginning limit) new → HasEnded limit bytes new
+    finished new b c answers right =
+        has_ended new (ap (λ x. things_of (kept_by session) ++ told x) some ∙ sym (things-answered (heard_view heard) (kept_by session) new b c answers)) right
 
-    -- the sink failed at the last thing heard
-    pub finish_broken : AnswersInPart (heard_view heard) ks new b c → AreRight limit start new → IsFront limit bytes new
-    finish_broken part right = finish_front new part.later (ap (λ x. things_of ks ++ told x) some ∙ part.heard) right
+    -- it wasn't answered, for want of memory
+    pub finish_cut : IsCut limit true bytes (kept_by session)
+    finish_cut = is_cut limit true bytes (kept_by session) (heard_view heard) serves.going.right serves.going.goes_on last_heard
+
+    -- the sink failed
+    pub finish_broken : (new : List Kept) (b c : Option (List ℕ)) → AnswersInPart (heard_view heard) (kept_by session) new b c → AreRight (beginning limit) new
+        → BreaksOff limit true bytes (kept_by session) new b c
+    finish_broken new b c part right =
+        breaks_off limit true bytes (kept_by session) (heard_view heard) serves.going.right serves.going.goes_on last_heard
+        (kept_by session) new b b c (writes_nothing (kept_by session) b) part right

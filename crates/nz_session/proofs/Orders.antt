@@ -1,32 +1,31 @@
 -- What terms without numbers are made of, in an order of them, holds no number.
-use Rattle.std.proofs.Common.{◌≡◌, ℕ, false, List, [], ◌∷◌, ◌++◌, map, inl, inr, sym, subst}
-use Rattle.std.specs.Prelude.{not, All, flat_map}
+use Rattle.std.proofs.Common.{◌≡◌, ℕ, false, List, [], ◌∷◌, map, inl, inr, sym, subst}
+use Rattle.std.specs.Prelude.{All, flat_map}
 use Rattle.std.specs.List.{AllByRecursion}
+use Rattle.std.proofs.lemmas.Bool.{or_parts}
 use Rattle.std.proofs.lemmas.List.Elements.{All-from_recursion, All-map, recursion_from_All}
-use Rattle.nz_spec.specs.Term.{head_sort, is_bool, Term, apply, Terms, no_terms, terms, holds_number, hold_number}
+use Rattle.nz_spec.specs.Term.{is_numeric, Term, apply, Terms, no_terms, terms, holds_number, hold_number}
 use Rattle.nz_spec.specs.Table.{Node, term_in}
 use Rattle.nz_spec.specs.Order.{post_order, post_orders, AreFirst}
-use Rattle.nz_session.proofs.Numberless.{all_numberless, left_false, right_false}
+use Rattle.nz_session.proofs.Elements.{AllByRecursion-append, AllByRecursion-map}
 
 abbrev HasNoNumber : Term → Type 0
 HasNoNumber t = holds_number t ≡ false
 
-all_appended : (ts us : List Term) → AllByRecursion HasNoNumber ts → AllByRecursion HasNoNumber us → AllByRecursion HasNoNumber (ts ++ us)
-all_appended [] us f g = g
-all_appended (t ∷ ts) us f g = (f.0, all_appended ts us f.1 g)
-
 mutual
   parts_numberless : (t : Term) → HasNoNumber t → AllByRecursion HasNoNumber (post_order t)
-  parts_numberless (apply h ts) e = all_appended (post_orders ts) (apply h ts ∷ []) (all_parts_numberless ts (right_false (not (is_bool (head_sort h))) (hold_number ts) e)) (e, tt)
+  parts_numberless (apply h ts) e =
+      AllByRecursion-append HasNoNumber (post_orders ts) (apply h ts ∷ []) (all_parts_numberless ts (or_parts (is_numeric h) (hold_number ts) e).1) (e, tt)
 
   all_parts_numberless : (ts : Terms) → hold_number ts ≡ false → AllByRecursion HasNoNumber (post_orders ts)
   all_parts_numberless no_terms e = tt
   all_parts_numberless (terms t ts) e =
-      all_appended (post_order t) (post_orders ts) (parts_numberless t (left_false (holds_number t) (hold_number ts) e)) (all_parts_numberless ts (right_false (holds_number t) (hold_number ts) e))
+      let both = or_parts (holds_number t) (hold_number ts) e in
+      AllByRecursion-append HasNoNumber (post_order t) (post_orders ts) (parts_numberless t both.0) (all_parts_numberless ts both.1)
 
 roots_numberless : (ts : List Term) → AllByRecursion HasNoNumber ts → AllByRecursion HasNoNumber (flat_map post_order ts)
 roots_numberless [] h = tt
-roots_numberless (t ∷ ts) h = all_appended (post_order t) (flat_map post_order ts) (parts_numberless t h.0) (roots_numberless ts h.1)
+roots_numberless (t ∷ ts) h = AllByRecursion-append HasNoNumber (post_order t) (flat_map post_order ts) (parts_numberless t h.0) (roots_numberless ts h.1)
 
 first_numberless : (seen all list : List Term) → AreFirst seen all list → AllByRecursion HasNoNumber all → AllByRecursion HasNoNumber list
 first_numberless seen [] list h f = subst (AllByRecursion HasNoNumber) (sym h) tt
@@ -38,4 +37,4 @@ pub order_numberless : (ns : List Node) (roots ids : List ℕ) → AreFirst [] (
 order_numberless ns roots ids first h =
     let terms : AllByRecursion HasNoNumber (map (term_in ns) roots) = recursion_from_All HasNoNumber (map (term_in ns) roots) (All-map HasNoNumber (term_in ns) roots h) in
     let all = first_numberless [] (flat_map post_order (map (term_in ns) roots)) (map (term_in ns) ids) first (roots_numberless (map (term_in ns) roots) terms) in
-    All-from_recursion (λ i. holds_number (term_in ns i) ≡ false) ids (all_numberless ns ids all)
+    All-from_recursion (λ i. holds_number (term_in ns i) ≡ false) ids (AllByRecursion-map HasNoNumber (term_in ns) ids all)

@@ -13,6 +13,9 @@ turned_length count kept stack l t =
     let trues = length-replicate t.0 true in
     omega arith
 
+pub kept_is_shorter : (kept stack : List Bool) → IsTurnedAt kept stack → length kept < length stack
+kept_is_shorter kept stack t = omega (arith, turned_length (length stack) kept stack refl t)
+
 pub whole_search-suc : (m : ℕ) → whole_search (suc m) ≡ 3 + 2 * whole_search m
 whole_search-suc m = let positive : 0 < 2 ^ m = pow_pos m in let e = pow-suc 2 m in omega arith
 

@@ -1,65 +1,98 @@
 -- How a session goes on by one answer.
-use Rattle.std.proofs.Common.{◌≡◌, ℕ, true, false, List, [], ◌∷◌, ◌++◌, Option, refl, sym, ap, ◌∙◌, subst, append-nil}
+use Rattle.std.proofs.Common.{◌≡◌, ℕ, true, false, List, [], ◌∷◌, ◌++◌, length, drop, Option, refl, sym, ap, ◌∙◌, subst, append-nil, take-append-drop}
 use Rattle.std.proofs.lemmas.List.{map-append}
+use Rattle.std.specs.Io.KnownBytes.{Appends}
 use Rattle.nz_sexpr.specs.declared.heard.Heard.{Heard}
 use Rattle.nz_sexpr.specs.View.{heard_view, what_view}
 use Rattle.nz_spec.specs.Text as spec
+use Rattle.nz_spec.specs.Table.{Node}
+use Rattle.nz_spec.specs.Decide.{IsFrontOfTable}
 use Rattle.nz_spec.specs.Outside.{AddsFrontOf}
 use Rattle.nz_spec.specs.Reply.{error, reply_text}
-use Rattle.nz_spec.specs.Script.{start}
-use Rattle.nz_spec.specs.Transcript.{Kept, AreRight, EndsByExit, state_after, TranscriptGrows, last_reply, memory_line}
+use Rattle.nz_spec.specs.Live.{start}
+use Rattle.nz_spec.specs.Right.{beginning}
+use Rattle.nz_spec.specs.Transcript.{Kept, AreRight, GoesOn, EndsByExit, context_of, things_of, GrowsByOne, TranscriptGrows, last_reply, memory_line}
 use Rattle.nz_session.specs.declared.desk.Desk.{Desk}
 use Rattle.nz_session.specs.declared.desk.Answer.{Answer}
 use Rattle.nz_reply.specs.declared.reply.Kept as code
-use Rattle.nz_session.specs.Desk.{Holds, IsAnswer}
-use Rattle.nz_reply.specs.Replies.{all_kept, kept_of, reply_of}
-use Rattle.nz_session.specs.Serve.{AnswersInPart, IsGoing, things_of}
+use Rattle.nz_reply.specs.Replies.{all_kept, kept_of, reply_of, IsCauseWithin, AreKeptWithin, StayKept, KeptStay}
+use Rattle.nz_session.specs.Desk.{Holds, IsAnswer, table_of}
+use Rattle.nz_session.specs.Serve.{Answers, AnswersInPart, IsGoing, kept_at}
 
 -- what is kept of an answer
 abbrev pub kept_answer : Heard → Answer → code.Kept
 kept_answer h a = record { heard = h; reply = a.reply; cause = a.cause }
 
-pub all_kept-append : (ks : List code.Kept) (k : code.Kept) → all_kept (ks ++ k ∷ []) ≡ all_kept ks ++ kept_of k ∷ []
-all_kept-append ks k = map-append kept_of ks (k ∷ [])
+within-append : (ns : List Node) (ks : List code.Kept) (k : code.Kept) → AreKeptWithin ns ks → IsCauseWithin ns k.cause → AreKeptWithin ns (ks ++ k ∷ [])
+within-append ns [] k w i = (i, tt)
+within-append ns (j ∷ js) k w i = (w.0, within-append ns js k w.1 i)
 
-module _ {E : Type 0} (levels : E → List (List ℕ)) (grows : TranscriptGrows) (limit : ℕ) (old new : Desk E) (ks : List code.Kept) (h : Heard) (a : Answer)
-    (going : IsGoing levels limit old (all_kept ks)) (answer : IsAnswer levels limit (state_after start (all_kept ks)) (what_view h.what) a new) where
-  pub going_on : a.exits ≡ false → IsGoing levels limit new (all_kept (ks ++ kept_answer h a ∷ []))
-  going_on stays =
-      let g = grows limit (all_kept ks) (kept_of (kept_answer h a)) going.right going.goes_on answer.right in
-      let P : List Kept → Type 0 = IsGoing levels limit new in
-      subst P (sym (all_kept-append ks (kept_answer h a)))
-      (record { right = g.right; goes_on = g.goes_on (answer.stays stays); holds = subst (Holds levels limit new) (sym g.state) answer.holds })
+-- ---- What was kept, by a table that has grown, with one answer more
 
-  pub exits_on : a.exits ≡ true → AreRight limit start (all_kept (ks ++ kept_answer h a ∷ [])) × EndsByExit start (all_kept (ks ++ kept_answer h a ∷ []))
-  exits_on exits =
-      let g = grows limit (all_kept ks) (kept_of (kept_answer h a)) going.right going.goes_on answer.right in
-      let P : List Kept → Type 0 = λ l. AreRight limit start l × EndsByExit start l in
-      subst P (sym (all_kept-append ks (kept_answer h a))) (g.right, g.ends (answer.exits exits))
+module _ (stay : KeptStay) (ns ms : List Node) (front : IsFrontOfTable ns ms) (ks : List code.Kept) (within : AreKeptWithin ns ks) (h : Heard) (a : Answer) where
+  whole : ns ++ drop (length ns) ms ≡ ms
+  whole = ap (λ l. l ++ drop (length ns) ms) (sym front) ∙ take-append-drop (length ns) ms
 
-  pub right_on : AreRight limit start (all_kept (ks ++ kept_answer h a ∷ []))
-  right_on =
-      let g = grows limit (all_kept ks) (kept_of (kept_answer h a)) going.right going.goes_on answer.right in
-      let P : List Kept → Type 0 = AreRight limit start in
-      subst P (sym (all_kept-append ks (kept_answer h a))) g.right
+  stayed : StayKept ns (drop (length ns) ms) ks
+  stayed = stay ns (drop (length ns) ms) ks within
 
--- ---- Where the sink failed
+  kept_after : all_kept ms (ks ++ kept_answer h a ∷ []) ≡ all_kept ns ks ++ kept_of ms (kept_answer h a) ∷ []
+  kept_after =
+      map-append (kept_of ms) ks (kept_answer h a ∷ [])
+      ∙ ap (λ l. l ++ kept_of ms (kept_answer h a) ∷ []) (ap (λ l. all_kept l ks) (sym whole) ∙ stayed.same)
 
--- the reply was kept, and a front of its text was written
-pub answered_in_part : (ks : List code.Kept) (h : Heard) (a : Answer) (b c : Option (List ℕ)) → AddsFrontOf b c (reply_text (reply_of (what_view h.what) a.reply))
-    → AnswersInPart (heard_view h) (all_kept ks) (all_kept (ks ++ kept_answer h a ∷ [])) b c
-answered_in_part ks h a b c f =
-    let new : List Kept = all_kept (ks ++ kept_answer h a ∷ []) in
-    let things : things_of new ≡ things_of (all_kept ks) ++ heard_view h ∷ [] =
-    ap things_of (all_kept-append ks (kept_answer h a)) ∙ map-append (λ (k : Kept). k.heard) (all_kept ks) (kept_of (kept_answer h a) ∷ []) in
-    record {
-      later = [];
-      heard = sym (append-nil (things_of new) ∙ things);
-      text = reply_text (reply_of (what_view h.what) a.reply);
-      begins = last_reply (kept_of (kept_answer h a)) (all_kept-append ks (kept_answer h a)) refl;
-      written = f;
-    }
+  within_after : IsCauseWithin ms a.cause → AreKeptWithin ms (ks ++ kept_answer h a ∷ [])
+  within_after named = within-append ms ks (kept_answer h a) (subst (λ (l : List Node). AreKeptWithin l ks) whole stayed.within) named
+
+  -- the reply was kept, and its text was written
+  pub answered : (b c : Option (List ℕ)) → Appends b c (reply_text (reply_of (what_view h.what) a.reply))
+      → Answers (heard_view h) (all_kept ns ks) (all_kept ms (ks ++ kept_answer h a ∷ [])) b c
+  answered b c w = record { one = kept_of ms (kept_answer h a); kept = kept_after; heard = refl; written = w }
+
+  -- the reply was kept, and a front of its text was written
+  pub answered_in_part : (b c : Option (List ℕ)) → AddsFrontOf b c (reply_text (reply_of (what_view h.what) a.reply))
+      → AnswersInPart (heard_view h) (all_kept ns ks) (all_kept ms (ks ++ kept_answer h a ∷ [])) b c
+  answered_in_part b c f =
+      let new : List Kept = all_kept ms (ks ++ kept_answer h a ∷ []) in
+      let things : things_of new ≡ things_of (all_kept ns ks) ++ heard_view h ∷ [] =
+      ap things_of kept_after ∙ map-append (λ (k : Kept). k.heard) (all_kept ns ks) (kept_of ms (kept_answer h a) ∷ []) in
+      record {
+        later = [];
+        heard = sym (append-nil (things_of new) ∙ things);
+        text = reply_text (reply_of (what_view h.what) a.reply);
+        begins = last_reply (kept_of ms (kept_answer h a)) kept_after refl;
+        written = f;
+      }
 
 -- nothing was kept, and a front of the line for want of memory was written
 pub cut_in_part : (thing : spec.Heard) (ks : List Kept) (b c : Option (List ℕ)) → AddsFrontOf b c (reply_text (error 11)) → AnswersInPart thing ks ks b c
 cut_in_part thing ks b c f = record { later = thing ∷ []; heard = refl; text = reply_text (error 11); begins = memory_line refl refl; written = f }
+
+-- ---- Right replies, with one more
+
+module _ {E : Type 0} (levels : E → List (List ℕ)) (table : E → List Node) (stay : KeptStay) (grows : TranscriptGrows) (limit : ℕ) (old new : Desk E)
+    (front : IsFrontOfTable (table_of old) (table_of new)) (ks : List code.Kept) (h : Heard) (a : Answer) (going : IsGoing levels table limit old ks)
+    (answer : IsAnswer levels table (context_of (beginning limit) (kept_at old ks)) (what_view h.what) a new) where
+  abbrev one : Kept
+  one = kept_of (table_of new) (kept_answer h a)
+
+  grown : GrowsByOne limit (kept_at old ks) one
+  grown = grows limit (kept_at old ks) one going.right going.goes_on answer.right
+
+  after : kept_at old ks ++ one ∷ [] ≡ kept_at new (ks ++ kept_answer h a ∷ [])
+  after = sym (kept_after stay (table_of old) (table_of new) front ks going.within h a)
+
+  pub right_on : AreRight (beginning limit) (kept_at new (ks ++ kept_answer h a ∷ []))
+  right_on = subst (AreRight (beginning limit)) after grown.right
+
+  pub exits_on : a.exits ≡ true → AreRight (beginning limit) (kept_at new (ks ++ kept_answer h a ∷ [])) × EndsByExit start (kept_at new (ks ++ kept_answer h a ∷ []))
+  exits_on exits = (right_on, subst (EndsByExit start) after (grown.ends (answer.exits exits)))
+
+  pub going_on : a.exits ≡ false → IsGoing levels table limit new (ks ++ kept_answer h a ∷ [])
+  going_on stays =
+      record {
+        right = right_on;
+        goes_on = subst (GoesOn start) after (grown.goes_on (answer.stays stays));
+        holds = subst (λ (l : List Kept). Holds levels table new (context_of (beginning limit) l)) after (subst (Holds levels table new) (sym grown.context) answer.holds);
+        within = within_after stay (table_of old) (table_of new) front ks going.within h a answer.within;
+      }

@@ -8,8 +8,7 @@ use Rattle.std.proofs.lemmas.List.Elements.{All-head, All-tail}
 use Rattle.nz_spec.specs.Term.{Assignment, is_true, value_of, IsTrueUnder}
 use Rattle.nz_spec.specs.Table.{Node, term_in}
 use Rattle.nz_session.specs.Search.{Precedes, IsTurnedAt, whole_search, units_up_to}
-use Rattle.nz_spec.specs.Decide.{constants_in_table}
-use Rattle.nz_spec.specs.Sorts.{GivesSorts}
+use Rattle.nz_spec.specs.Model.{IsAssignment}
 use Rattle.nz_truth.specs.Truths.{GivesTruths}
 use Rattle.nz_session.specs.Levels.{AreTrueUnder}
 use Rattle.nz_session.proofs.SearchOrder.{all_true_last, Precedes-turned, Precedes-push_falses}
@@ -77,10 +76,10 @@ turn_is_nearer count n stack full kept new e l t f =
 
 -- no assignment of values of their sorts that gives the constants these truth values makes every asserted term true
 abbrev pub HasFailed : List Node → List ℕ → List Bool → Type 0
-HasFailed ns asserted v = (a : Assignment) → GivesTruths ns v a → GivesSorts a (constants_in_table ns) → AreTrueUnder ns asserted a → ⊥
+HasFailed ns asserted v = (a : Assignment) → GivesTruths ns v a → IsAssignment a → AreTrueUnder ns asserted a → ⊥
 
 -- decisions have failed where the truth of some asserted term is `false`
-pub failed_here : (ns : List Node) (order asserted : List ℕ) (values full : List Bool) → ((a : Assignment) → GivesTruths ns full a → GivesSorts a (constants_in_table ns) → HaveTruths ns order a values)
+pub failed_here : (ns : List Node) (order asserted : List ℕ) (values full : List Bool) → ((a : Assignment) → GivesTruths ns full a → IsAssignment a → HaveTruths ns order a values)
     → All (Contains order) asserted → list_all (λ i. slice_index_or values i false) asserted ≡ false → HasFailed ns asserted full
 failed_here ns order asserted values full h known f =
     λ a g s m. both_ways (list_all (λ i. slice_index_or values i false) asserted) f (true_values ns a values order asserted (h a g s) known m)

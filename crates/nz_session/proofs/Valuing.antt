@@ -1,6 +1,6 @@
 -- The values that a model gives terms, as they are told.
-use Rattle.std.proofs.Common.{◌≡◌, ℕ, suc, ◌+◌, ◌<◌, ◌≤◌, false, List, [], ◌∷◌, ◌++◌, length, map, drop, get_or, Option, Some, None, IfSome, option_map, inl, inr, refl, sym, ap, ◌∙◌, subst, arith, append-nil, append_assoc, add-one}
-use Rattle.std.specs.Prelude.{⊤, ◌⊎◌, slice_get, bytes_eq, if◌then◌else◌}
+use Rattle.std.proofs.Common.{◌≡◌, ℕ, suc, ◌+◌, ◌<◌, ◌≤◌, false, List, [], ◌∷◌, ◌++◌, length, map, drop, get_or, Option, Some, None, option_map, inl, inr, refl, sym, ap, ◌∙◌, subst, arith, append-nil, append_assoc, add-one}
+use Rattle.std.specs.Prelude.{⊤, ◌⊎◌, slice_get, if◌then◌else◌}
 use Rattle.std.specs.List.{AllByRecursion}
 use Rattle.std.proofs.Math.Path.{fun_ext}
 use Rattle.std.proofs.Math.Seq.{drop-cons}
@@ -11,16 +11,19 @@ use Rattle.std.proofs.lemmas.List.Elements.{recursion_from_All}
 use Rattle.std.proofs.lemmas.Simd.{map-map}
 use Rattle.std.proofs.lemmas.Option.{slice_get_within, get_or_from_slice_get, slice_get-get_or}
 use Rattle.nz_spec.specs.Term as spec
-use Rattle.nz_spec.specs.Term.{bool_sort, Constant, constant, Head, falsum, Term, apply, Terms, no_terms, terms, Value, truth, Assignment, value_of}
-use Rattle.nz_spec.specs.Normal.{normal_of}
-use Rattle.nz_spec.proofs.Normal.{normal_keeps_value}
+use Rattle.nz_spec.specs.Term.{bool_sort, Constant, are_same_constant, constant, constant_of, Term, apply, Terms, no_terms, terms, Value, truth, Assignment, value_of}
+use Rattle.nz_spec.specs.Normal.{normal_of, NormalKeepsValue}
 use Rattle.nz_spec.specs.Fraction.{first_wide}
 use Rattle.nz_spec.specs.Operations.{operations_of}
-use Rattle.nz_spec.specs.Table.{Node, IsTable, TermOfNode, term_in, is_named, is_constant_named, assignment_by}
-use Rattle.nz_spec.specs.Script.{State, Binding, Asked, asked_of, constants_of, Command, get_value, accepted, outcome_of}
-use Rattle.nz_spec.specs.Reply.{Shown, shown_value, shown_wide, values, assignment_of, shown_under, AreRightValues}
+use Rattle.nz_spec.specs.Table.{Node, IsTable, TermOfNode, term_in, is_node_of, assignment_by}
+use Rattle.nz_spec.specs.Live.{LastAnswer, model_found, constants_of}
+use Rattle.nz_spec.specs.Model.{Binding, assignment_of}
+use Rattle.nz_spec.specs.Command.{Asked, Command, get_value, accepted}
+use Rattle.nz_spec.specs.Script.{asked_of, outcome_of}
+use Rattle.nz_spec.specs.Reply.{Shown, shown_value, shown_wide, term_shown, values}
+use Rattle.nz_spec.specs.Right.{Context, shown_under, AreRightValues}
 use Rattle.nz_spec.specs.Tree.{Tree, leaf, node, Trees, no_trees, trees}
-use Rattle.nz_spec.specs.Text.{whole}
+use Rattle.nz_spec.specs.Text.{intact}
 use Rattle.nz_sort.specs.declared.typed.Typed.{Typed}
 use Rattle.nz_sort.specs.declared.items.Accepted.{Accepted}
 use Rattle.nz_sort.specs.Items.{table_numbers, StandForAll}
@@ -29,16 +32,17 @@ use Rattle.nz_sort.specs.Live.{AsksValues, arguments_of}
 use Rattle.nz_reply.specs.Replies.{reply_of}
 use Rattle.nz_reply.specs.Values.{asked_by, with_shown}
 use Rattle.nz_reply.specs.declared.reply.Reply.TheVariants as code
-use Rattle.nz_reply.specs.declared.reply.Cause.TheVariants as why
 use Rattle.nz_term.specs.Values as own
 use Rattle.nz_truth.specs.declared.walk.Outcome.{Outcome}
 use Rattle.nz_truth.specs.declared.walk.Outcome.TheVariants as outcome
 use Rattle.nz_truth.specs.Outcomes.{IsOutcome, AreOutcomes}
-use Rattle.nz_session.specs.Desk.{Holds, IsAnswer}
-use Rattle.nz_session.specs.Valued.{AreShown, valued, numbers_typed, outcome_shown, outcomes_shown, term_shown, terms_shown}
+use Rattle.nz_session.specs.Desk.{last_of, BindsConstants, Holds, IsAnswer}
+use Rattle.nz_session.specs.Valued.{AreShown, valued, numbers_typed, outcome_shown, outcomes_shown, terms_shown}
 use Rattle.nz_session.specs.declared.desk.Desk.{Desk}
 use Rattle.nz_session.specs.declared.desk.Answer.{Answer}
-use Rattle.nz_session.proofs.Answering.{told_answer}
+use Rattle.nz_session.specs.declared.desk.LastAnswer.TheVariants.{Model}
+use Rattle.nz_session.proofs.Answering.{plainly, holds_next, told_answer}
+use Rattle.nz_session.proofs.Assigning.{constant_node}
 
 -- ---- Constants paired with values, place by place
 
@@ -104,24 +108,24 @@ typed_within ns [] ts h = tt
 typed_within ns (x ∷ xs) no_terms h = absurd h
 typed_within ns (x ∷ xs) (terms t ts) h = (h.0.within, typed_within ns xs ts h.1)
 
-told_one : (ns : List Node) (a : Assignment) (x : Typed) (o : Outcome) (t : Term) → IsTyped ns x t → IsOutcome a (term_in ns x.id) o → outcome_shown x.sort o ≡ term_shown a t
-told_one ns a x (outcome.Value v) t h e =
+told_one : NormalKeepsValue → (ns : List Node) (a : Assignment) (x : Typed) (o : Outcome) (t : Term) → IsTyped ns x t → IsOutcome a (term_in ns x.id) o → outcome_shown x.sort o ≡ term_shown a t
+told_one law ns a x (outcome.Value v) t h e =
     let first : first_wide (operations_of a (normal_of t)) ≡ None = subst (λ u. first_wide (operations_of a u) ≡ None) h.normal e.0 in
-    let value = e.1 ∙ ap (value_of a) h.normal ∙ normal_keeps_value a t in
+    let value = e.1 ∙ ap (value_of a) h.normal ∙ law a t in
     ap (λ s. shown_value s (own.value_of v)) h.sort ∙ ap (shown_value (spec.sort_of t)) value
     ∙ sym (ap (λ o. elim o [ Some w ↦ shown_wide w | None ↦ shown_value (spec.sort_of t) (value_of a t) ]) first)
-told_one ns a x (outcome.Wide w) t h e =
+told_one law ns a x (outcome.Wide w) t h e =
     let first = sym (ap (λ u. first_wide (operations_of a u)) h.normal) ∙ e in
     sym (ap (λ o. elim o [ Some w ↦ shown_wide w | None ↦ shown_value (spec.sort_of t) (value_of a t) ]) first)
 
-pub told_all : (ns : List Node) (a : Assignment) (xs : List Typed) (os : List Outcome) (ts : Terms) → AreTyped ns xs ts → AreOutcomes ns a (numbers_typed xs) os
+pub told_all : NormalKeepsValue → (ns : List Node) (a : Assignment) (xs : List Typed) (os : List Outcome) (ts : Terms) → AreTyped ns xs ts → AreOutcomes ns a (numbers_typed xs) os
     → outcomes_shown xs os ≡ terms_shown a ts
-told_all ns a [] os no_terms h e = refl
-told_all ns a [] os (terms t ts) h e = absurd h
-told_all ns a (x ∷ xs) os no_terms h e = absurd h
-told_all ns a (x ∷ xs) [] (terms t ts) h e = absurd e
-told_all ns a (x ∷ xs) (o ∷ os) (terms t ts) h e =
-    ap (λ s. s ∷ outcomes_shown xs os) (told_one ns a x o t h.0 e.0) ∙ ap (λ l. term_shown a t ∷ l) (told_all ns a xs os ts h.1 e.1)
+told_all law ns a [] os no_terms h e = refl
+told_all law ns a [] os (terms t ts) h e = absurd h
+told_all law ns a (x ∷ xs) os no_terms h e = absurd h
+told_all law ns a (x ∷ xs) [] (terms t ts) h e = absurd e
+told_all law ns a (x ∷ xs) (o ∷ os) (terms t ts) h e =
+    ap (λ s. s ∷ outcomes_shown xs os) (told_one law ns a x o t h.0 e.0) ∙ ap (λ l. term_shown a t ∷ l) (told_all law ns a xs os ts h.1 e.1)
 
 outcomes_nil : (xs : List Typed) → outcomes_shown xs [] ≡ []
 outcomes_nil [] = refl
@@ -145,54 +149,50 @@ asked_by_list (node (trees k ts)) list e = ap (λ us. asked_by (node (trees k us
 
 -- ---- The assignment of a model
 
-abbrev head_in : Term → Head
-head_in (apply h ts) = h
-
-named_by_term : (ns : List Node) → TermOfNode → IsTable ns → (i : ℕ) (c : Constant) (name : List ℕ) → i < length ns → term_in ns i ≡ apply (constant c) no_terms
-    → is_named (slice_get ns i) name ≡ bytes_eq c.name name
-named_by_term ns law table i c name below e =
-    let n : Node = get_or ns i (record { head = falsum; kids = [] }) in
-    let at : slice_get ns i ≡ Some n = slice_get-get_or ns i (record { head = falsum; kids = [] }) below in
-    let head : n.head ≡ constant c = ap head_in (sym (law ns table i n at) ∙ e) in
-    ap (λ (o : Option Node). is_named o name) at ∙ ap (λ h. is_constant_named h name) head
+node_by_term : (ns : List Node) → TermOfNode → IsTable ns → (i : ℕ) (d c : Constant) → i < length ns → term_in ns i ≡ apply (constant d) no_terms
+    → is_node_of (slice_get ns i) c ≡ are_same_constant d c
+node_by_term ns law table i d c below e =
+    let n = constant_node ns law table i d below e in
+    ap (λ (o : Option Node). is_node_of o c) n.1 ∙ ap (λ h. elim (constant_of h) [ Some d ↦ are_same_constant d c | None ↦ false ]) n.2
 
 abbrev term_of_binding : Binding → Term
 term_of_binding b = apply (constant b.constant) no_terms
 
-assigned_name : (ns : List Node) → TermOfNode → IsTable ns → (is : List ℕ) (bs : List Binding) (name : List ℕ) → AllByRecursion (λ i. i < length ns) is
-    → map (term_in ns) is ≡ map term_of_binding bs → assignment_by ns (valued is bs) name ≡ assignment_of bs name
-assigned_name ns law table [] [] name h e = refl
-assigned_name ns law table [] (b ∷ bs) name h e = absurd cc
-assigned_name ns law table (i ∷ is) [] name h e = absurd cc
-assigned_name ns law table (i ∷ is) (b ∷ bs) name h e =
+assigned_constant : (ns : List Node) → TermOfNode → IsTable ns → (is : List ℕ) (bs : List Binding) (c : Constant) → AllByRecursion (λ i. i < length ns) is
+    → map (term_in ns) is ≡ map term_of_binding bs → assignment_by ns (valued is bs) c ≡ assignment_of bs c
+assigned_constant ns law table [] [] c h e = refl
+assigned_constant ns law table [] (b ∷ bs) c h e = absurd cc
+assigned_constant ns law table (i ∷ is) [] c h e = absurd cc
+assigned_constant ns law table (i ∷ is) (b ∷ bs) c h e =
     let first : term_in ns i ≡ term_of_binding b = cc in
     let rest : map (term_in ns) is ≡ map term_of_binding bs = cc in
-    ap (λ t. if t then b.value else assignment_by ns (valued is bs) name) (named_by_term ns law table i b.constant name h.0 first)
-    ∙ ap (λ v. if bytes_eq b.constant.name name then b.value else v) (assigned_name ns law table is bs name h.1 rest)
+    ap (λ t. if t then b.value else assignment_by ns (valued is bs) c) (node_by_term ns law table i b.constant c h.0 first)
+    ∙ ap (λ v. if are_same_constant b.constant c then b.value else v) (assigned_constant ns law table is bs c h.1 rest)
 
 assigned : (ns : List Node) → TermOfNode → IsTable ns → (is : List ℕ) (cs : List Constant) (bs : List Binding) → StandForAll ns is (map (λ (c : Constant). apply (constant c) no_terms) cs)
     → map (λ (b : Binding). b.constant) bs ≡ cs → assignment_by ns (valued is bs) ≡ assignment_of bs
 assigned ns law table is cs bs h e =
     let all : map (term_in ns) is ≡ map term_of_binding bs =
     h.terms ∙ ap (λ ds. map (λ (c : Constant). apply (constant c) no_terms) ds) (sym e) ∙ map-map (λ (c : Constant). apply (constant c) no_terms) (λ (b : Binding). b.constant) bs in
-    fun_ext (λ name. assigned_name ns law table is bs name (recursion_from_All (λ i. i < length ns) is h.within) all)
+    fun_ext (λ c. assigned_constant ns law table is bs c (recursion_from_All (λ i. i < length ns) is h.within) all)
 
 -- ---- The answer to get-value
 
-pub values_answer : {E : Type 0} (levels : E → List (List ℕ)) (limit : ℕ) (s : State) (t : Tree) (c : Command) (xs : List Typed) (shows : List Shown) (bs : List Binding) (answer : Answer) (desk : Desk E)
-    → TermOfNode → IsTable desk.terms → answer ≡ record { reply = code.Values shows; cause = why.Plain; exits = false } → Holds levels limit desk s → desk.model ≡ Some bs
-    → outcome_of s t ≡ accepted c → AsksValues desk.terms xs (arguments_of t) c → AreShown desk.terms (table_numbers desk.live.constants) bs xs shows
-    → IsAnswer levels limit s (whole t) answer desk
-values_answer levels limit s t c xs shows bs answer desk law table is h m e q shown =
+pub values_answer : {E : Type 0} (levels : E → List (List ℕ)) (table : E → List Node) (c : Context) (t : Tree) (k : Command) (xs : List Typed) (shows : List Shown) (bs : List Binding) (answer : Answer) (desk : Desk E)
+    → TermOfNode → IsTable desk.terms → answer ≡ plainly (code.Values shows) → Holds levels table desk c → desk.last ≡ Some (Model bs)
+    → outcome_of c.state t ≡ accepted k → AsksValues desk.terms xs (arguments_of t) k → AreShown desk.terms (table_numbers desk.live.constants) bs xs shows
+    → IsAnswer levels table c (intact t) answer desk
+values_answer levels table c t k xs shows bs answer desk law known is h m e q shown =
     let ns = desk.terms in
-    let model : s.model ≡ Some bs = sym h.model ∙ m in
-    let bound : map (λ (b : Binding). b.constant) bs ≡ constants_of s = subst (λ (o : Option (List Binding)). IfSome o (λ bs. map (λ (b : Binding). b.constant) bs ≡ constants_of s)) model h.bound in
+    let last : c.state.last ≡ Some (model_found bs) = sym h.last ∙ ap (option_map last_of) m in
+    let bound : map (λ (b : Binding). b.constant) bs ≡ constants_of c.state = subst (λ (o : Option LastAnswer). BindsConstants o c.state) last h.bound in
     let same : assignment_by ns (valued (table_numbers desk.live.constants) bs) ≡ assignment_of bs =
-    assigned ns law table (table_numbers desk.live.constants) (constants_of s) bs h.live.items.constants.terms bound in
+    assigned ns law known (table_numbers desk.live.constants) (constants_of c.state) bs h.live.items.constants.terms bound in
     let list : shows ≡ terms_shown (assignment_of bs) q.terms = shown q.terms q.typed ∙ ap (λ a. terms_shown a q.terms) same in
     let asks : List Asked = asked_of q.list q.terms in
-    let tells : reply_of (whole t) (code.Values shows) ≡ values (map (shown_under (assignment_of bs)) asks) =
+    let told : List (Tree × Shown) = map (shown_under (assignment_of bs)) asks in
+    let tells : reply_of (intact t) (code.Values shows) ≡ values told =
     ap values (ap (λ ts. with_shown ts shows) (asked_by_list t q.list q.only) ∙ ap (with_shown q.list) list ∙ told_trees (assignment_of bs) q.list q.terms) in
-    let right : AreRightValues s.model asks (values (map (shown_under (assignment_of bs)) asks)) =
-    subst (λ (o : Option (List Binding)). AreRightValues o asks (values (map (shown_under (assignment_of bs)) asks))) (sym model) refl in
-    told_answer levels limit s t (get_value asks) (code.Values shows) (values (map (shown_under (assignment_of bs)) asks)) answer desk is tells tt (e ∙ ap accepted q.is) (right, refl) h (λ x. cc)
+    let right : AreRightValues c.state.last asks (values told) = subst (λ (o : Option LastAnswer). AreRightValues o asks (values told)) (sym last) refl in
+    told_answer levels table c t (get_value asks) (code.Values shows) (values told) answer desk is tells tt (e ∙ ap accepted q.is) (right, refl)
+    (holds_next levels table desk c h) (λ x. cc)

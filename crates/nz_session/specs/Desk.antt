@@ -1,33 +1,55 @@
 -- What a desk holds, and what its answers are.
-use Rattle.std.specs.Prelude.{◌≡◌, ℕ, true, false, List, map, option_map, IfSome}
+use Rattle.std.specs.Prelude.{◌≡◌, ℕ, true, false, List, map, option_map, Option, Some, ⊤}
 use Rattle.nz_spec.specs.Text.{What}
-use Rattle.nz_spec.specs.Table.{Node}
-use Rattle.nz_spec.specs.Script.{State, Binding, constants_of}
-use Rattle.nz_spec.specs.Reply.{IsRight, IsExit, after}
+use Rattle.nz_spec.specs.Term.{Term}
+use Rattle.nz_spec.specs.Table.{Node, term_in}
+use Rattle.nz_spec.specs.Decide.{IsFrontOfTable}
+use Rattle.nz_spec.specs.Model.{Binding}
+use Rattle.nz_spec.specs.Live as live_state
+use Rattle.nz_spec.specs.Live.{State, constants_of}
+use Rattle.nz_spec.specs.Right.{Context, IsRight, IsExit, context_after}
 use Rattle.nz_sort.specs.Live.{IsLive}
 use Rattle.nz_reply.specs.Reasons.{reason_of}
-use Rattle.nz_reply.specs.Replies.{reply_of, cause_of}
+use Rattle.nz_reply.specs.Replies.{reply_of, cause_of, IsCauseWithin}
 use Rattle.nz_session.specs.Told.{IsTold}
 use Rattle.nz_session.specs.declared.desk.Desk.{Desk}
 use Rattle.nz_session.specs.declared.desk.Answer.{Answer}
+use Rattle.nz_session.specs.declared.desk.LastAnswer.{LastAnswer}
+use Rattle.nz_session.specs.declared.desk.LastAnswer.TheVariants.{Model, Refutation, Undecided}
 
 -- the desk's table of terms
 abbrev pub table_of : {E : Type 0} → Desk E → List Node
 table_of desk = desk.terms
 
--- The desk holds this live state, under this limit of units.
-pub record Holds {E : Type 0} (levels : E → List (List ℕ)) (limit : ℕ) (desk : Desk E) (s : State) : Type 0 where
-  pub live : IsLive desk.terms desk.live s
-  pub told : IsTold (levels desk.engine) desk.told desk.live.asserted
-  pub model : desk.model ≡ s.model
-  pub bound : IfSome s.model (λ bs. map (λ (b : Binding). b.constant) bs ≡ constants_of s)
-  pub reason : option_map reason_of desk.reason ≡ s.reason
-  pub success : desk.prints_success ≡ s.options.prints_success
-  pub bounded : desk.limit ≡ limit
+-- the terms that are asserted
+abbrev pub asserted_in : {E : Type 0} → Desk E → List Term
+asserted_in desk = map (term_in desk.terms) desk.live.asserted
 
--- The answer is right for what was heard, and the desk holds what it leaves.
-pub record IsAnswer {E : Type 0} (levels : E → List (List ℕ)) (limit : ℕ) (s : State) (what : What) (answer : Answer) (desk : Desk E) : Type 0 where
-  pub right : IsRight limit s what (reply_of what answer.reply) (cause_of answer.cause)
-  pub holds : Holds levels limit desk (after s what (reply_of what answer.reply))
-  pub exits : answer.exits ≡ true → IsExit s what (reply_of what answer.reply)
-  pub stays : answer.exits ≡ false → IsExit s what (reply_of what answer.reply) → ⊥
+-- what the last answer was
+abbrev pub last_of : LastAnswer → live_state.LastAnswer
+last_of (Model bindings) = live_state.model_found bindings
+last_of Refutation = live_state.refutation
+last_of (Undecided reason) = live_state.undecided (reason_of reason)
+
+-- a model that was found binds the live constants, in their order
+abbrev pub BindsConstants : Option live_state.LastAnswer → State → Type 0
+BindsConstants (Some (live_state.model_found bs)) s = map (λ (b : Binding). b.constant) bs ≡ constants_of s
+BindsConstants last s = ⊤
+
+-- The desk holds what a context says; what its engine was told stands in its table.
+pub record Holds {E : Type 0} (levels : E → List (List ℕ)) (table : E → List Node) (desk : Desk E) (c : Context) : Type 0 where
+  pub live : IsLive desk.terms desk.live c.state
+  pub told : IsTold (levels desk.engine) desk.told desk.live.asserted
+  pub front : IsFrontOfTable (table desk.engine) desk.terms
+  pub last : option_map last_of desk.last ≡ c.state.last
+  pub bound : BindsConstants c.state.last c.state
+  pub success : desk.prints_success ≡ c.state.options.prints_success
+  pub bounded : desk.limit ≡ c.limit
+
+-- The answer is right for what was heard, its cause names terms of the table, and the desk holds what it leaves.
+pub record IsAnswer {E : Type 0} (levels : E → List (List ℕ)) (table : E → List Node) (c : Context) (what : What) (answer : Answer) (desk : Desk E) : Type 0 where
+  pub right : IsRight c what (reply_of what answer.reply) (cause_of (table_of desk) answer.cause)
+  pub within : IsCauseWithin (table_of desk) answer.cause
+  pub holds : Holds levels table desk (context_after c what (reply_of what answer.reply))
+  pub exits : answer.exits ≡ true → IsExit c.state what (reply_of what answer.reply)
+  pub stays : answer.exits ≡ false → IsExit c.state what (reply_of what answer.reply) → ⊥

@@ -1,3 +1,4 @@
+pub mod Completed
 pub mod Desk
 pub mod Levels
 pub mod Search

@@ -1,22 +1,15 @@
--- What a search by a stack of decisions has noted, and why it stops.
-use Rattle.std.specs.Prelude.{◌≡◌, ℕ, ◌+◌, ◌*◌, ◌^◌, ◌<◌, ◌≤◌, Bool, true, List, [], ◌∷◌, ◌++◌, length}
-use Rattle.nz_spec.specs.Reply.{Note}
-use Rattle.nz_spec.specs.Work.{DecisionEntry, LearnedEntry, WorkLine, UnitLine, NoteLine, WorkList, unit_count, IsSpent, with_line}
-use Rattle.nz_spec.specs.Decide.{AtomsAreNoted}
+-- What a search by a stack of decisions notes in its work list, and why it stops.
+use Rattle.std.specs.Prelude.{◌≡◌, ℕ, ◌*◌, ◌^◌, ◌<◌, ◌≤◌, Bool, true, List, [], ◌∷◌, ◌++◌, length, map, ⊤}
+use Rattle.std.specs.List.{AllByRecursion}
+use Rattle.nz_spec.specs.Work.{WorkEntry, DecisionEntry, LearnedEntry, UnitLine, NoteLine, WorkList, unit_count, IsSpent, with_line}
+use Rattle.nz_reply.specs.declared.reply.Note.{Note}
+use Rattle.nz_reply.specs.declared.reply.Note.TheVariants.{Atom}
 use Rattle.nz_session.specs.Search.{IsTurnedAt, learned_clause, units_up_to}
 
--- how many of these lines are notes, each of an atom
-abbrev pub atom_count : List (WorkLine Note) → ℕ
-atom_count [] = 0
-atom_count (NoteLine note ∷ lines) = 1 + atom_count lines
-atom_count (UnitLine entry ∷ lines) = atom_count lines
-
--- The list holds a note of each atom, of which there are so many, and the units of the search up to this stack.
+-- The list holds the units of the search up to this stack, which so many decisions make full.
 pub record HasSearched (count : ℕ) (stack : List Bool) (work : WorkList Note) : Type 0 where
   pub bounded : length stack ≤ count
   pub units : unit_count work.lines ≡ units_up_to count stack
-  pub atoms : atom_count work.lines ≡ count
-  pub noted : AtomsAreNoted 0 work.lines
 
 -- Every unit of the list is used, and there were fewer than a search through all assignments takes.
 pub record IsCutShort (count : ℕ) (work : WorkList Note) : Type 0 where
@@ -38,3 +31,24 @@ pub record Turns (old new : List Bool) (before after : WorkList Note) : Type 0 w
   pub place : IsTurnedAt kept old
   pub stack : new ≡ kept ++ true ∷ []
   pub notes : after ≡ with_decision (with_clause before kept) (length kept) true
+
+-- ---- The lines that a search adds
+
+-- the list with notes of these atoms more
+abbrev pub with_atoms : WorkList Note → List ℕ → WorkList Note
+with_atoms work ids = record work { lines = work.lines ++ map (λ (i : ℕ). NoteLine (Atom i)) ids }
+
+-- the list with these steps more
+abbrev pub with_steps : WorkList Note → List WorkEntry → WorkList Note
+with_steps work steps = record work { lines = work.lines ++ map UnitLine steps }
+
+-- a decision is of one of the first so many atoms
+abbrev pub IsOfAtomBelow : ℕ → WorkEntry → Type 0
+IsOfAtomBelow count (DecisionEntry atom sign) = atom < count
+IsOfAtomBelow count (LearnedEntry keep lits) = ⊤
+
+-- The list has steps more, whose decisions are of the first so many atoms.
+pub record AddsSteps (count : ℕ) (before after : WorkList Note) : Type 0 where
+  pub steps : List WorkEntry
+  pub added : after ≡ with_steps before steps
+  pub decided : AllByRecursion (IsOfAtomBelow count) steps

@@ -1,43 +1,64 @@
 -- What a session has read, kept and answered.
-use Rattle.std.specs.Prelude.{◌≡◌, ℕ, false, List, [], ◌∷◌, ◌++◌, take, map, Option}
+use Rattle.std.specs.Prelude.{◌≡◌, ℕ, ◌<◌, ◌^◌, Bool, true, false, List, [], ◌∷◌, ◌++◌, length, take, Option}
 use Rattle.std.specs.Io.KnownBytes.{Appends}
 use Rattle.nz_spec.specs.Text.{Heard, script_limits}
-use Rattle.nz_spec.specs.Script.{start}
+use Rattle.nz_spec.specs.Live.{start}
 use Rattle.nz_spec.specs.Reply.{reply_text, error}
-use Rattle.nz_spec.specs.Transcript.{BeginsText, Kept, AreRight, GoesOn, EndsByExit, state_after, texts_of, IsFrontOf, IsTranscript}
+use Rattle.nz_spec.specs.Right.{beginning}
+use Rattle.nz_spec.specs.Transcript.{BeginsText, Kept, AreRight, GoesOn, EndsByExit, context_of, things_of, texts_of, IsFrontBegun, IsCutOff, IsTranscript}
 use Rattle.nz_spec.specs.Told.{IsToldFirst}
 use Rattle.nz_spec.specs.Outside.{AddsFrontOf}
 use Rattle.nz_sexpr.specs.Fits.{Fits, owes}
 use Rattle.nz_spec.specs.Table.{Node}
 use Rattle.nz_session.specs.Desk.{Holds, table_of}
-use Rattle.nz_reply.specs.Replies.{all_kept}
+use Rattle.nz_reply.specs.declared.reply.Kept as code
+use Rattle.nz_reply.specs.Replies.{all_kept, AreKeptWithin}
 use Rattle.nz_session.specs.declared.desk.Desk.{Desk}
+use Rattle.nz_session.specs.declared.session.Fed.{Fed}
+use Rattle.nz_session.specs.declared.session.Fed.TheVariants.{Going, Exited, SinkFault, Cut}
 use Rattle.nz_session.specs.declared.session.Session.{Session}
 
--- what was heard
-abbrev pub things_of : List Kept → List Heard
-things_of ks = map (λ (k : Kept). k.heard) ks
+-- the sink failed
+abbrev pub is_sink_fault : Fed → Bool
+is_sink_fault SinkFault = true
+is_sink_fault Going = false
+is_sink_fault Exited = false
+is_sink_fault Cut = false
+
+-- what was kept, by the table of a desk
+abbrev pub kept_at : {E : Type 0} → Desk E → List code.Kept → List Kept
+kept_at desk ks = all_kept (table_of desk) ks
 
 -- Each reply so far is right, none was to an exit, and the desk holds what they left.
-pub record IsGoing {E : Type 0} (levels : E → List (List ℕ)) (limit : ℕ) (desk : Desk E) (ks : List Kept) : Type 0 where
-  pub right : AreRight limit start ks
-  pub goes_on : GoesOn start ks
-  pub holds : Holds levels limit desk (state_after start ks)
+pub record IsGoing {E : Type 0} (levels : E → List (List ℕ)) (table : E → List Node) (limit : ℕ) (desk : Desk E) (ks : List code.Kept) : Type 0 where
+  pub right : AreRight (beginning limit) (kept_at desk ks)
+  pub goes_on : GoesOn start (kept_at desk ks)
+  pub holds : Holds levels table desk (context_of (beginning limit) (kept_at desk ks))
+  pub within : AreKeptWithin (table_of desk) ks
 
 -- what a session has kept
 abbrev pub kept_by : {E : Type 0} → Session E → List Kept
-kept_by session = all_kept session.kept.items
+kept_by session = kept_at session.desk session.kept.items
 
 -- the table of the terms that its journal names by their numbers
 abbrev pub table_by : {E : Type 0} → Session E → List Node
 table_by session = table_of session.desk
 
--- The session has read these bytes, and answered what is complete in them.
-pub record Serves {E : Type 0} (levels : E → List (List ℕ)) (limit : ℕ) (session : Session E) (bytes : List ℕ) : Type 0 where
+-- The reader has read these bytes, and what is complete in them was answered.
+pub record HasRead {E : Type 0} (session : Session E) (bytes : List ℕ) : Type 0 where
   pub reads : Fits script_limits session.reader bytes (things_of (kept_by session))
   pub settled : owes session.reader ≡ false
   pub complete : IsToldFirst script_limits bytes (things_of (kept_by session))
-  pub going : IsGoing levels limit session.desk (kept_by session)
+
+-- places are told as they are below so many bytes
+abbrev pub IsShort : List ℕ → Type 0
+IsShort bytes = length bytes < 2 ^ 64
+
+-- The session has read these bytes; its replies are right, and while the bytes aren't too many, they are those to what is
+-- complete in them.
+pub record Serves {E : Type 0} (levels : E → List (List ℕ)) (table : E → List Node) (limit : ℕ) (session : Session E) (bytes : List ℕ) : Type 0 where
+  pub going : IsGoing levels table limit session.desk session.kept.items
+  pub read : IsShort bytes → HasRead session bytes
 
 -- more was kept, and its replies were written
 pub record Writes (old new : List Kept) (before after : Option (List ℕ)) : Type 0 where
@@ -51,22 +72,32 @@ pub record WritesCut (old new : List Kept) (before after : Option (List ℕ)) : 
   pub kept : new ≡ old ++ more
   pub written : Appends before after (texts_of more ++ reply_text (error 11))
 
--- more was kept, and its replies were written, but of the text that was written last only a front
-pub record BreaksOff (old new : List Kept) (before after : Option (List ℕ)) : Type 0 where
+-- The replies end with that to an accepted exit, and are right; they are those to what is heard first in these bytes.
+pub record HasExited (limit : ℕ) (bytes : List ℕ) (ks : List Kept) : Type 0 where
+  pub right : AreRight (beginning limit) ks
+  pub ends : EndsByExit start ks
+  pub transcript : IsShort bytes → IsTranscript limit bytes ks
+
+-- The replies are right, and are those to all that is heard in these bytes.
+pub record HasEnded (limit : ℕ) (bytes : List ℕ) (ks : List Kept) : Type 0 where
+  pub right : AreRight (beginning limit) ks
+  pub transcript : IsShort bytes → IsTranscript limit bytes ks
+
+-- The replies are right, none was to an exit, and something heard is left unanswered; the text has ended with these bytes, or goes on.
+pub record IsCut (limit : ℕ) (ended : Bool) (bytes : List ℕ) (ks : List Kept) : Type 0 where
+  pub right : AreRight (beginning limit) ks
+  pub goes_on : GoesOn start ks
+  pub cut_off : IsShort bytes → IsCutOff limit ended bytes ks
+
+-- More was kept, and its replies were written, but of the text that was written last only a front; the replies are right.
+pub record BreaksOff (limit : ℕ) (ended : Bool) (bytes : List ℕ) (old new : List Kept) (before after : Option (List ℕ)) : Type 0 where
   pub more : List Kept
   pub text : List ℕ
   pub begins : BeginsText new (old ++ more) text
   pub count : ℕ
   pub written : Appends before after (texts_of more ++ take count text)
-
--- What was kept ends with an accepted exit, and is what is heard first in these bytes.
-pub record HasExited (limit : ℕ) (bytes : List ℕ) (ks : List Kept) : Type 0 where
-  pub transcript : IsTranscript limit bytes ks
-  pub ends : EndsByExit start ks
-
--- What was kept is what is heard first in these bytes.
-abbrev pub IsFront : ℕ → List ℕ → List Kept → Type 0
-IsFront limit bytes ks = (rest : List Heard) × IsFrontOf limit bytes ks rest
+  pub right : AreRight (beginning limit) new
+  pub front : IsShort bytes → IsFrontBegun limit ended bytes new (old ++ more)
 
 -- One thing more was kept, and its reply was written.
 pub record Answers (thing : Heard) (old new : List Kept) (before after : Option (List ℕ)) : Type 0 where

@@ -1,13 +1,9 @@
 -- The values of terms in a model, by the outcomes that the code computes, and as they are told.
-use Rattle.std.specs.Prelude.{◌≡◌, ℕ, List, [], ◌∷◌, map, Some, None}
-use Rattle.nz_spec.specs.Term as spec
-use Rattle.nz_spec.specs.Term.{Term, Terms, no_terms, terms, Value, Assignment, value_of}
-use Rattle.nz_spec.specs.Normal.{normal_of}
-use Rattle.nz_spec.specs.Fraction.{first_wide}
-use Rattle.nz_spec.specs.Operations.{operations_of}
+use Rattle.std.specs.Prelude.{◌≡◌, ℕ, List, [], ◌∷◌, map}
+use Rattle.nz_spec.specs.Term.{Terms, no_terms, terms, Value, Assignment}
 use Rattle.nz_spec.specs.Table.{Node, assignment_by}
-use Rattle.nz_spec.specs.Script.{Binding}
-use Rattle.nz_spec.specs.Reply.{Shown, shown_value, shown_wide}
+use Rattle.nz_spec.specs.Model.{Binding}
+use Rattle.nz_spec.specs.Reply.{Shown, term_shown}
 use Rattle.nz_reply.specs.Values.{shown_of}
 use Rattle.nz_reply.specs.declared.reply.Shown.TheVariants as shows
 use Rattle.nz_term.specs.declared.heads.Sort.{Sort}
@@ -36,10 +32,7 @@ abbrev pub outcomes_shown : List Typed → List Outcome → List Shown
 outcomes_shown (x ∷ xs) (o ∷ os) = outcome_shown x.sort o ∷ outcomes_shown xs os
 outcomes_shown xs os = []
 
--- what is to be told of a term, and of terms
-abbrev pub term_shown : Assignment → Term → Shown
-term_shown a t = elim (first_wide (operations_of a (normal_of t))) [ Some w ↦ shown_wide w | None ↦ shown_value (spec.sort_of t) (value_of a t) ]
-
+-- what is to be told of terms
 abbrev pub terms_shown : Assignment → Terms → List Shown
 terms_shown a no_terms = []
 terms_shown a (terms t ts) = term_shown a t ∷ terms_shown a ts

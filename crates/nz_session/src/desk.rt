@@ -1,26 +1,31 @@
 //! The desk: what a command acts on, and the answer to it.
-ghost use Rattle.std.specs.Prelude.{◌≡◌, ◌<◌, ◌*◌, ◌^◌, ℕ, [], ◌∷◌, ◌++◌, length, map, slice_get, All, IfOk, IfErr, IfSome, IfNone, OnOk, false};
+ghost use Rattle.std.specs.Prelude.{◌≡◌, ◌<◌, ◌*◌, ◌^◌, ℕ, List, [], ◌∷◌, ◌++◌, length, map, slice_get, All, IfOk, IfErr, IfSome, IfNone, OnOk, false};
 ghost use Rattle.std.specs.List.{AllByRecursion};
 ghost use Rattle.nz_sexpr.specs.View.{view, what_view};
 ghost use Rattle.nz_spec.specs.Text as text;
-ghost use Rattle.nz_spec.specs.Text.{whole};
+ghost use Rattle.nz_spec.specs.Text.{intact};
 ghost use Rattle.nz_spec.specs.Term as term;
 ghost use Rattle.nz_spec.specs.Term.{bool_sort, holds_number};
-ghost use Rattle.nz_spec.specs.Decide.{constants_in_table, HasDistinctNames, AreModelOf, IsUnsatisfiable, bindings_at, bindings_by};
-ghost use Rattle.nz_spec.specs.Script.{State, Command, items_of, items_hold_numbers};
-ghost use Rattle.nz_spec.specs.Reply.{done as done_by};
-ghost use Rattle.nz_spec.specs.Table.{IsTable, term_in};
+ghost use Rattle.nz_spec.specs.Decide.{constants_in_table, IsFrontOfTable, AreModelValues};
+ghost use Rattle.nz_spec.specs.Model.{IsUnsatisfiable};
+ghost use Rattle.nz_spec.specs.Live.{items_of};
+ghost use Rattle.nz_spec.specs.Command.{Command};
+ghost use Rattle.nz_spec.specs.Taken.{items_hold_numbers};
+ghost use Rattle.nz_spec.specs.Right.{Context, done as done_by};
+ghost use Rattle.nz_spec.specs.Atoms.{AreAtoms};
+ghost use Rattle.nz_spec.specs.Table.{IsTable, assignment_by, term_in};
 ghost use Rattle.nz_spec.specs.Work.{IsSpent};
-ghost use Rattle.nz_reply.specs.Notes.{noted_list};
+ghost use Rattle.nz_reply.specs.Notes.{noted_list, AreNotedWithin};
 ghost use Rattle.nz_reply.specs.Infos.{info_of};
 ghost use Rattle.nz_reply.specs.Replies.{reply_of};
 ghost use Rattle.nz_sort.specs.Acts.{error_of, info_meaning};
 ghost use Rattle.nz_sort.specs.Items.{table_numbers};
 ghost use Rattle.nz_sort.specs.Live.{AsksValues, arguments_of};
 ghost use Rattle.nz_sort.specs.Typed.{AreTyped};
+ghost use Rattle.nz_truth.specs.Outcomes.{AreGiven};
+ghost use Rattle.nz_session.specs.Completed.{bound_at, completed};
 ghost use Rattle.nz_session.specs.Told.{IsTold};
 ghost use Rattle.nz_session.specs.Verdicts.{IfSat, OnUnsat, OnSpent};
-ghost use Rattle.nz_term.specs.Values.{value_of};
 
 use crate::decide::{Decide, Stop, Verdict};
 use crate::values::values_shown;
@@ -32,8 +37,10 @@ use nz_reply::{
 };
 use nz_sexpr::{Tree, What};
 use nz_sort::{Accepted, Act, Info as InfoAsked, Live, Refusal, Typed};
-use nz_spec::table::term_of_node;
+use nz_spec::table::{assigns_by_number, term_of_node};
+use nz_spec::term::{decimals_are_numbers, normal_keeps_value, numerals_are_whole};
 use nz_term::{Assign, Head, TermId, Terms, Value};
+use nz_truth::{default_value, listed_values};
 use std::alloc::Global;
 
 /// What is said to a thing heard.
@@ -57,20 +64,29 @@ pub struct Desk<E: Decide> {
     work: Work<Note>,
     limit: u64,
     prints_success: bool,
-    model: Option<Bindings>,
-    reason: Option<Reason>,
+    last: Option<LastAnswer>,
+}
+
+/// What the last answer was, while it stands.
+#[derive(Debug, Drop)]
+pub enum LastAnswer {
+    Model(Bindings),
+    Refutation,
+    Undecided(Reason),
 }
 
 impl<E: Decide> Desk<E> {
     ghost use Rattle.nz_spec.specs.Tree as script;
-    ghost use Rattle.nz_spec.specs.Script.{start, outcome_of, accepted, check_sat, get_model, get_reason};
-    ghost use Rattle.nz_spec.specs.Reply.{AreModel};
-    ghost use Rattle.nz_session.specs.Desk.{Holds, IsAnswer, table_of};
+    ghost use Rattle.nz_spec.specs.Right.{beginning};
+    ghost use Rattle.nz_spec.specs.Command.{accepted, check_sat, get_model, get_reason};
+    ghost use Rattle.nz_spec.specs.Script.{outcome_of};
+    ghost use Rattle.nz_session.specs.Desk.{Holds, IsAnswer, asserted_in, table_of};
 
     /// The desk of the start, over an engine that was told nothing yet, with this limit of units for each check.
     pub fn new(alloc: Global, engine: E, limit: u64) -> Result<Desk<E>, Memory>
-        requires { E.levels engine ≡ [] }
-        ensures start { IfOk result (λ desk. Holds E.levels limit desk start) }
+        requires levels { E.levels engine ≡ [] }
+        requires table { E.table engine ≡ [] }
+        ensures start { IfOk result (λ desk. Holds E.levels E.table desk (beginning limit)) }
     {
         Ok(Desk {
             alloc,
@@ -81,15 +97,15 @@ impl<E: Decide> Desk<E> {
             work: Work::new(alloc)?,
             limit,
             prints_success: false,
-            model: None,
-            reason: None,
+            last: None,
         })
     }
 
     /// The answer to a thing heard.
     pub fn answer(&mut self, what: &What) -> Answer
-        requires { (limit : ℕ) × (s : State) × Holds E.levels limit self.old s }
-        ensures right { (limit : ℕ) (s : State) → Holds E.levels limit self.old s → IsAnswer E.levels limit s (what_view what.now) result self.new }
+        requires { (c : Context) × Holds E.levels E.table self.old c }
+        ensures right { (c : Context) → Holds E.levels E.table self.old c → IsAnswer E.levels E.table c (what_view what.now) result self.new }
+        ensures front { IsFrontOfTable (table_of self.old) (table_of self.new) }
     {
         match what {
             What::Tree(tree) => self.command(tree),
@@ -101,14 +117,14 @@ impl<E: Decide> Desk<E> {
 
     /// The answer to a command.
     fn command(&mut self, tree: &Tree) -> Answer
-        requires { (limit : ℕ) × (s : State) × Holds E.levels limit self.old s }
-        ensures right { (limit : ℕ) (s : State) → Holds E.levels limit self.old s → IsAnswer E.levels limit s (whole (view tree.now)) result self.new }
+        requires { (c : Context) × Holds E.levels E.table self.old c }
+        ensures right { (c : Context) → Holds E.levels E.table self.old c → IsAnswer E.levels E.table c (intact (view tree.now)) result self.new }
+        ensures front { IsFrontOfTable (table_of self.old) (table_of self.new) }
     {
         match self.live.command(&mut self.terms, tree) {
             Err(refusal) => said(Reply::Error(error_number(refusal))),
             Ok(Act::Changed) => {
-                self.model = None;
-                self.reason = None;
+                self.last = None;
                 said(done(self.prints_success))
             }
             Ok(Act::Check) => self.check(),
@@ -134,9 +150,11 @@ impl<E: Decide> Desk<E> {
 
     /// The answer to `check-sat`.
     fn check(&mut self) -> Answer
-        requires { (limit : ℕ) × (s : State) × Holds E.levels limit self.old s × (items_hold_numbers (items_of s.levels) ≡ false) }
-        ensures right { (limit : ℕ) (s : State) (tree : script.Tree) → Holds E.levels limit self.old s → outcome_of s tree ≡ accepted check_sat → IsAnswer E.levels limit s (whole tree) result self.new }
+        requires { (c : Context) × Holds E.levels E.table self.old c × (items_hold_numbers (items_of c.state.levels) ≡ false) }
+        ensures right { (c : Context) (tree : script.Tree) → Holds E.levels E.table self.old c → outcome_of c.state tree ≡ accepted (check_sat []) → IsAnswer E.levels E.table c (intact tree) result self.new }
+        ensures terms { table_of self.new ≡ table_of self.old }
     {
+        normal_keeps_value();
         let decided = decide(
             &mut self.engine,
             &mut self.told,
@@ -148,14 +166,12 @@ impl<E: Decide> Desk<E> {
         match decided {
             Ok(Verdict::Sat(assign)) => self.found(&assign),
             Ok(Verdict::Unsat) => {
-                self.model = None;
-                self.reason = None;
+                self.last = Some(LastAnswer::Refutation);
                 said(Reply::Unsat)
             }
             Err(Stop::Spent) => {
                 let reason = Reason::UnitsSpent(self.limit);
-                self.model = None;
-                self.reason = Some(reason);
+                self.last = Some(LastAnswer::Undecided(reason));
                 Answer {
                     reply: Reply::Unknown(reason),
                     cause: Cause::Spent(SpentList {
@@ -171,12 +187,17 @@ impl<E: Decide> Desk<E> {
 
     /// The answer where a model was found, which is kept for `get-model`.
     fn found(&mut self, assign: &Assign) -> Answer
-        ensures right { (limit : ℕ) (s : State) (tree : script.Tree) → Holds E.levels limit self.old s → outcome_of s tree ≡ accepted check_sat → AreModel s (bindings_by self.old.terms assign.now) → IsAnswer E.levels limit s (whole tree) result self.new }
+        ensures right { (c : Context) (tree : script.Tree) → Holds E.levels E.table self.old c → outcome_of c.state tree ≡ accepted (check_sat []) → AreModelValues self.old.terms (asserted_in self.old) [] assign.now → IsAnswer E.levels E.table c (intact tree) result self.new }
+        ensures terms { table_of self.new ≡ table_of self.old }
     {
-        match bindings_twice(self.alloc, &self.terms, assign) {
+        known_table(&self.terms);
+        term_of_node();
+        normal_keeps_value();
+        decimals_are_numbers();
+        numerals_are_whole();
+        match bindings_twice(self.alloc, &self.terms, self.live.constants(), assign) {
             Ok((shown, kept)) => {
-                self.model = Some(kept);
-                self.reason = None;
+                self.last = Some(LastAnswer::Model(kept));
                 said(Reply::Sat(shown))
             }
             Err(Memory) => said(Reply::Error(OUT_OF_MEMORY)),
@@ -185,43 +206,42 @@ impl<E: Decide> Desk<E> {
 
     /// The answer to `get-model`.
     fn show_model(&self) -> Answer
-        ensures right { (limit : ℕ) (s : State) (tree : script.Tree) → Holds E.levels limit self.now s → outcome_of s tree ≡ accepted get_model → IsAnswer E.levels limit s (whole tree) result self.now }
+        ensures right { (c : Context) (tree : script.Tree) → Holds E.levels E.table self.now c → outcome_of c.state tree ≡ accepted get_model → IsAnswer E.levels E.table c (intact tree) result self.now }
     {
-        match &self.model {
-            None => said(Reply::Error(NO_ANSWER)),
-            Some(model) => match model.copy(self.alloc) {
+        match &self.last {
+            Some(LastAnswer::Model(model)) => match model.copy(self.alloc) {
                 Ok(shown) => said(Reply::Model(shown)),
                 Err(Memory) => said(Reply::Error(OUT_OF_MEMORY)),
             },
+            _ => said(Reply::Error(NO_ANSWER)),
         }
     }
 
     /// The answer to `get-value` of these terms.
     fn show_values(&self, asked: &[Typed]) -> Answer
         requires typed { (terms : term.Terms) × AreTyped self.now.terms asked.now terms }
-        requires distinct { HasDistinctNames self.now.terms }
-        ensures right { (limit : ℕ) (s : State) (tree : script.Tree) (c : Command) → Holds E.levels limit self.now s → outcome_of s tree ≡ accepted c → AsksValues self.now.terms asked.now (arguments_of tree) c → IsAnswer E.levels limit s (whole tree) result self.now }
+        ensures right { (c : Context) (tree : script.Tree) (k : Command) → Holds E.levels E.table self.now c → outcome_of c.state tree ≡ accepted k → AsksValues self.now.terms asked.now (arguments_of tree) k → IsAnswer E.levels E.table c (intact tree) result self.now }
     {
         known_table(&self.terms);
         term_of_node();
-        match &self.model {
-            None => said(Reply::Error(NO_ANSWER)),
-            Some(model) => {
+        match &self.last {
+            Some(LastAnswer::Model(model)) => {
                 match values_shown(self.alloc, &self.terms, self.live.constants(), model, asked) {
                     Ok(shows) => said(Reply::Values(shows)),
                     Err(Memory) => said(Reply::Error(OUT_OF_MEMORY)),
                 }
             }
+            _ => said(Reply::Error(NO_ANSWER)),
         }
     }
 
     /// The answer to `get-info` of the reason of the last answer.
     fn show_reason(&self) -> Answer
-        ensures right { (limit : ℕ) (s : State) (tree : script.Tree) → Holds E.levels limit self.now s → outcome_of s tree ≡ accepted get_reason → IsAnswer E.levels limit s (whole tree) result self.now }
+        ensures right { (c : Context) (tree : script.Tree) → Holds E.levels E.table self.now c → outcome_of c.state tree ≡ accepted get_reason → IsAnswer E.levels E.table c (intact tree) result self.now }
     {
-        match self.reason {
-            None => said(Reply::Error(NO_ANSWER)),
-            Some(reason) => said(Reply::Reason(reason)),
+        match &self.last {
+            Some(LastAnswer::Undecided(reason)) => said(Reply::Reason(*reason)),
+            _ => said(Reply::Error(NO_ANSWER)),
         }
     }
 
@@ -238,13 +258,12 @@ impl<E: Decide> Desk<E> {
             work,
             limit: _,
             prints_success: _,
-            model,
-            reason: _,
+            last,
         } = self;
         drop(live);
         drop(engine);
         drop(work);
-        drop(model);
+        drop(last);
         terms
     }
 }
@@ -316,6 +335,7 @@ fn tell<E: Decide>(
     requires told { IsTold (E.levels engine.old) told.old (table_numbers assertions.now) }
     ensures told { IsTold (E.levels engine.new) told.new (table_numbers assertions.now) }
     ensures all { OnOk result (E.levels engine.new ≡ table_numbers assertions.now ∷ []) }
+    ensures table { E.table engine.new ≡ E.table engine.old }
 {
     let mut count = match *told {
         Some(count) => count,
@@ -344,55 +364,66 @@ fn decide<E: Decide>(
 ) -> Result<Verdict, Stop>
     requires told { IsTold (E.levels engine.old) told.old (table_numbers assertions.now) }
     requires within { All (λ i. i < length terms.now) (table_numbers assertions.now) }
-    requires names { HasDistinctNames terms.now }
+    requires front { IsFrontOfTable (E.table engine.old) terms.now }
     requires truths { All (λ i. holds_number (term_in terms.now i) ≡ false) (table_numbers assertions.now) }
     requires bools { AllByRecursion (λ c. c.sort ≡ bool_sort) (constants_in_table terms.now) }
     ensures told { IsTold (E.levels engine.new) told.new (table_numbers assertions.now) }
-    ensures sat { IfOk result (λ v. IfSat v (λ ps. AreModelOf (constants_in_table terms.now) (map (term_in terms.now) (table_numbers assertions.now)) (bindings_by terms.now ps))) }
-    ensures unsat { IfOk result (λ v. OnUnsat v (IsUnsatisfiable (constants_in_table terms.now) (map (term_in terms.now) (table_numbers assertions.now)))) }
-    ensures spent { IfErr result (λ s. OnSpent s (IsSpent (noted_list work.new))) }
+    ensures sat { IfOk result (λ v. IfSat v (AreModelValues terms.now (map (term_in terms.now) (table_numbers assertions.now)) [])) }
+    ensures unsat { IfOk result (λ v. OnUnsat v (IsUnsatisfiable (map (term_in terms.now) (table_numbers assertions.now)) [])) }
+    ensures spent { IfErr result (λ s. OnSpent s (IsSpent (noted_list terms.now work.new))) }
     ensures short { IfErr result (λ s. OnSpent s (limit < 3 * 2 ^ length (constants_in_table terms.now))) }
     ensures limit { IfErr result (λ s. OnSpent s (work.new.limit ≡ limit)) }
+    ensures within { IfErr result (λ s. OnSpent s (AreNotedWithin terms.now work.new.lines)) }
+    ensures noted { IfErr result (λ s. OnSpent s (AreAtoms (constants_in_table terms.now) (noted_list terms.now work.new).lines)) }
+    ensures front { IsFrontOfTable (E.table engine.new) terms.now }
 {
     tell(engine, told, assertions)?;
     work.reserve(limit)?;
     engine.check(terms, work)
 }
 
-/// The bindings of an assignment, twice: to be shown, and to be kept.
+/// The bindings of these constants by an assignment, twice: to be shown, and to be kept.
 fn bindings_twice(
     alloc: Global,
     terms: &Terms,
+    constants: &[Accepted],
     assign: &Assign,
 ) -> Result<(Bindings, Bindings), Memory>
-    ensures shown { IfOk result (λ p. p.0 ≡ bindings_by terms.now assign.now) }
-    ensures kept { IfOk result (λ p. p.1 ≡ bindings_by terms.now assign.now) }
+    ensures shown { IfOk result (λ p. p.0 ≡ completed terms.now assign.now (table_numbers constants.now)) }
+    ensures kept { IfOk result (λ p. p.1 ≡ completed terms.now assign.now (table_numbers constants.now)) }
 {
-    let shown = bindings_of(alloc, terms, assign)?;
+    let shown = bindings_of(alloc, terms, constants, assign)?;
     let kept = shown.copy(alloc)?;
     Ok((shown, kept))
 }
 
-/// The bindings of an assignment: each constant with its value.
-fn bindings_of(alloc: Global, terms: &Terms, assign: &Assign) -> Result<Bindings, Memory>
-    ensures bindings { IfOk result (λ bs. bs ≡ bindings_by terms.now assign.now) }
+/// The bindings of these constants: each with the value that the assignment gives it, or else the default of its sort.
+fn bindings_of(
+    alloc: Global,
+    terms: &Terms,
+    constants: &[Accepted],
+    assign: &Assign,
+) -> Result<Bindings, Memory>
+    ensures bindings { IfOk result (λ bs. bs ≡ completed terms.now assign.now (table_numbers constants.now)) }
 {
+    assigns_by_number();
+    let values = listed_values(alloc, assign, terms.len())?;
     let mut bindings = Bindings::new(alloc);
-    for index in 0..assign.len() {
-        let (id, value) = assign.get(index);
-        add_binding(&mut bindings, terms, id, value)?;
+    for accepted in constants {
+        add_binding(&mut bindings, terms, accepted.term, &values)?;
     }
     Ok(bindings)
 }
 
-/// Adds what the number of a constant and its value bind.
+/// Adds what the constant of this number is bound to, where these are the values by number.
 fn add_binding(
     bindings: &mut Bindings,
     terms: &Terms,
     id: TermId,
-    value: Value,
+    values: &[Option<Value>],
 ) -> Result<(), Memory>
-    ensures grown { OnOk result (bindings.new ≡ bindings.old ++ bindings_at (slice_get terms.now id) (value_of value)) }
+    requires room { length values.now ≡ length terms.now }
+    ensures grown { OnOk result ((ps : List (ℕ × term.Value)) → AreGiven terms.now (assignment_by terms.now ps) values.now → bindings.new ≡ bindings.old ++ bound_at terms.now ps (slice_get terms.now id)) }
 {
     if id >= terms.len() {
         return Ok(());
@@ -401,5 +432,6 @@ fn add_binding(
         return Ok(());
     };
     let constant = constant.clone()?;
+    let value = values[id].unwrap_or(default_value(constant.sort));
     bindings.push(Binding { constant, value })
 }

@@ -1,19 +1,19 @@
 //! The session: pieces of a script in, replies out, and all of it kept.
-ghost use Rattle.std.specs.Prelude.{◌≡◌, ◌≤◌, ◌<◌, ◌+◌, ◌^◌, ℕ, List, [], ◌∷◌, ◌++◌, length, IfOk, OnOk, OnErr, ◌⊎◌};
-ghost use Rattle.std.specs.Io.KnownBytes.{Appends, Keeps};
+ghost use Rattle.std.specs.Prelude.{◌≡◌, ℕ, List, [], ◌++◌, true, false, IfOk, OnOk, OnErr, is_err, ◌⊎◌};
+ghost use Rattle.std.specs.Io.KnownBytes.{Appends};
 ghost use Rattle.nz_sexpr.specs.View.{heard_view, what_view};
-ghost use Rattle.nz_spec.specs.Outside.{AddsFrontOf, HasRisen};
+ghost use Rattle.nz_spec.specs.Outside.{AddsFrontOf, counted};
 ghost use Rattle.nz_spec.specs.Reply.{error, reply_text};
-ghost use Rattle.nz_spec.specs.Script.{start, State};
-ghost use Rattle.nz_spec.specs.Transcript.{AreRight, EndsByExit, IsTranscript};
-ghost use Rattle.nz_session.specs.Desk.{Holds};
-ghost use Rattle.nz_reply.specs.Replies.{all_kept, reply_of};
-ghost use Rattle.nz_session.specs.Serve.{Answers, AnswersInPart, IsGoing};
+ghost use Rattle.nz_spec.specs.Live.{start};
+ghost use Rattle.nz_spec.specs.Right.{beginning};
+ghost use Rattle.nz_spec.specs.Transcript.{AreRight, EndsByExit};
+ghost use Rattle.nz_reply.specs.Replies.{reply_of};
+ghost use Rattle.nz_session.specs.Serve.{Answers, AnswersInPart, IsGoing, is_sink_fault, kept_at};
 
 use crate::decide::Decide;
 use crate::desk::{Answer, Desk};
 use nz_base::{Memory, Sink};
-use nz_reply::{Journal, Kept, OUT_OF_MEMORY, Reply, WriteFault, write_reply};
+use nz_reply::{Journal, Kept, OUT_OF_MEMORY, Reply, WriteFault, kept_stay, write_reply};
 use nz_sexpr::{Heard, Limits, Reader, What};
 use nz_spec::text::{one_reading, reading_tells_first};
 use nz_spec::transcript::transcript_grows;
@@ -51,8 +51,8 @@ pub struct Session<E: Decide> {
 fn show<K: Sink>(sink: &mut K, what: &What, reply: &Reply) -> Result<(), WriteFault>
     ensures whole { OnOk result (Appends (K.held sink.old) (K.held sink.new) (reply_text (reply_of (what_view what.now) reply.now))) }
     ensures front { OnErr result (AddsFrontOf (K.held sink.old) (K.held sink.new) (reply_text (reply_of (what_view what.now) reply.now))) }
-    ensures later { K.faults sink.old ≤ K.faults sink.new }
-    ensures fault { OnErr result (HasRisen K.last (K.faults sink.old) (K.faults sink.new)) }
+    ensures faults { K.faults sink.new ≡ counted K.last (is_err result) (K.faults sink.old) }
+    ensures handed { OnOk result (K.handed sink.new ≡ K.held sink.new) }
 {
     if let Err(fault) = write_reply(sink, what, reply) {
         return Err(fault);
@@ -68,8 +68,8 @@ fn cut<K: Sink>(sink: &mut K) -> Fed
     ensures result { (result ≡ Fed.Cut) ⊎ (result ≡ Fed.SinkFault) }
     ensures written { result ≡ Fed.Cut → Appends (K.held sink.old) (K.held sink.new) (reply_text (error 11)) }
     ensures front { result ≡ Fed.SinkFault → AddsFrontOf (K.held sink.old) (K.held sink.new) (reply_text (error 11)) }
-    ensures later { K.faults sink.old ≤ K.faults sink.new }
-    ensures fault { result ≡ Fed.SinkFault → HasRisen K.last (K.faults sink.old) (K.faults sink.new) }
+    ensures faults { K.faults sink.new ≡ counted K.last (is_sink_fault result) (K.faults sink.old) }
+    ensures handed { result ≡ Fed.Cut → K.handed sink.new ≡ K.held sink.new }
 {
     match show(sink, &What::Unread, &Reply::Error(OUT_OF_MEMORY)) {
         Ok(()) => Fed::Cut,
@@ -84,16 +84,17 @@ fn serve<E: Decide, K: Sink>(
     heard: Heard,
     sink: &mut K,
 ) -> Fed
-    requires { (limit : ℕ) × (s : State) × Holds E.levels limit desk.old s }
-    ensures going { result ≡ Fed.Going → (limit : ℕ) → IsGoing E.levels limit desk.old (all_kept kept.old.items) → IsGoing E.levels limit desk.new (all_kept kept.new.items) }
-    ensures exited { result ≡ Fed.Exited → (limit : ℕ) → IsGoing E.levels limit desk.old (all_kept kept.old.items) → AreRight limit start (all_kept kept.new.items) × EndsByExit start (all_kept kept.new.items) }
-    ensures answered { (result ≡ Fed.Going) ⊎ (result ≡ Fed.Exited) → Answers (heard_view heard) (all_kept kept.old.items) (all_kept kept.new.items) (K.held sink.old) (K.held sink.new) }
+    requires { (limit : ℕ) × IsGoing E.levels E.table limit desk.old kept.old.items }
+    ensures going { result ≡ Fed.Going → (limit : ℕ) → IsGoing E.levels E.table limit desk.old kept.old.items → IsGoing E.levels E.table limit desk.new kept.new.items }
+    ensures exited { result ≡ Fed.Exited → (limit : ℕ) → IsGoing E.levels E.table limit desk.old kept.old.items → AreRight (beginning limit) (kept_at desk.new kept.new.items) × EndsByExit start (kept_at desk.new kept.new.items) }
+    ensures answered { (result ≡ Fed.Going) ⊎ (result ≡ Fed.Exited) → Answers (heard_view heard) (kept_at desk.old kept.old.items) (kept_at desk.new kept.new.items) (K.held sink.old) (K.held sink.new) }
     ensures cut { result ≡ Fed.Cut → kept.new.items ≡ kept.old.items }
+    ensures cut_desk { result ≡ Fed.Cut → desk.new ≡ desk.old }
     ensures cut_written { result ≡ Fed.Cut → Appends (K.held sink.old) (K.held sink.new) (reply_text (error 11)) }
-    ensures broken_off { result ≡ Fed.SinkFault → (limit : ℕ) → IsGoing E.levels limit desk.old (all_kept kept.old.items) → AreRight limit start (all_kept kept.new.items) }
-    ensures broken_off_written { result ≡ Fed.SinkFault → AnswersInPart (heard_view heard) (all_kept kept.old.items) (all_kept kept.new.items) (K.held sink.old) (K.held sink.new) }
-    ensures later { K.faults sink.old ≤ K.faults sink.new }
-    ensures fault { result ≡ Fed.SinkFault → HasRisen K.last (K.faults sink.old) (K.faults sink.new) }
+    ensures broken_off { result ≡ Fed.SinkFault → (limit : ℕ) → IsGoing E.levels E.table limit desk.old kept.old.items → AreRight (beginning limit) (kept_at desk.new kept.new.items) }
+    ensures broken_off_written { result ≡ Fed.SinkFault → AnswersInPart (heard_view heard) (kept_at desk.old kept.old.items) (kept_at desk.new kept.new.items) (K.held sink.old) (K.held sink.new) }
+    ensures faults { K.faults sink.new ≡ counted K.last (is_sink_fault result) (K.faults sink.old) }
+    ensures handed { (result ≡ Fed.SinkFault → ⊥) → K.handed sink.new ≡ K.held sink.new }
 {
     if kept.reserve(1).is_err() {
         return cut(sink);
@@ -111,6 +112,7 @@ fn serve<E: Decide, K: Sink>(
     })
     .unwrap();
     transcript_grows();
+    kept_stay();
     match shown {
         Err(WriteFault) => Fed::SinkFault,
         Ok(()) if exits => Fed::Exited,
@@ -120,13 +122,14 @@ fn serve<E: Decide, K: Sink>(
 
 impl<E: Decide> Session<E> {
     ghost use Rattle.nz_reply.specs.Journals.{journal_of};
-    ghost use Rattle.nz_session.specs.Serve.{BreaksOff, HasExited, IsFront, Serves, Writes, WritesCut, kept_by, table_by};
+    ghost use Rattle.nz_session.specs.Serve.{BreaksOff, HasEnded, HasExited, IsCut, Serves, Writes, WritesCut, kept_by, table_by};
 
     /// A session at the beginning of a script, over an engine that was told nothing yet, with this limit of units for each
     /// check.
     pub fn new(alloc: Global, engine: E, limit: u64) -> Result<Session<E>, Memory>
-        requires { E.levels engine ≡ [] }
-        ensures serves { IfOk result (λ session. Serves E.levels limit session []) }
+        requires levels { E.levels engine ≡ [] }
+        requires table { E.table engine ≡ [] }
+        ensures serves { IfOk result (λ session. Serves E.levels E.table limit session []) }
         ensures nothing { IfOk result (λ session. kept_by session ≡ []) }
     {
         reading_tells_first();
@@ -143,16 +146,15 @@ impl<E: Decide> Session<E> {
 
     /// Feeds a piece of the script: every command that is complete by then is answered, and its reply written and flushed.
     pub fn feed<K: Sink>(&mut self, piece: &[u8], sink: &mut K) -> Fed
-        requires { (limit : ℕ) × (bytes : List ℕ) × Serves E.levels limit self.old bytes × (length bytes + length piece.now < 2 ^ 64) }
-        ensures going { result ≡ Fed.Going → (limit : ℕ) (bytes : List ℕ) → Serves E.levels limit self.old bytes → length bytes + length piece.now < 2 ^ 64 → Serves E.levels limit self.new (bytes ++ piece.now) }
-        ensures exited { result ≡ Fed.Exited → (limit : ℕ) (bytes : List ℕ) → Serves E.levels limit self.old bytes → length bytes + length piece.now < 2 ^ 64 → HasExited limit (bytes ++ piece.now) (kept_by self.new) }
-        ensures cut { result ≡ Fed.Cut → (limit : ℕ) (bytes : List ℕ) → Serves E.levels limit self.old bytes → length bytes + length piece.now < 2 ^ 64 → IsFront limit (bytes ++ piece.now) (kept_by self.new) }
-        ensures written { (result ≡ Fed.Going) ⊎ (result ≡ Fed.Exited) → Writes (kept_by self.old) (kept_by self.new) (K.held sink.old) (K.held sink.new) }
-        ensures cut_written { result ≡ Fed.Cut → WritesCut (kept_by self.old) (kept_by self.new) (K.held sink.old) (K.held sink.new) }
-        ensures broken_off { result ≡ Fed.SinkFault → (limit : ℕ) (bytes : List ℕ) → Serves E.levels limit self.old bytes → length bytes + length piece.now < 2 ^ 64 → IsFront limit (bytes ++ piece.now) (kept_by self.new) }
-        ensures broken_off_written { result ≡ Fed.SinkFault → BreaksOff (kept_by self.old) (kept_by self.new) (K.held sink.old) (K.held sink.new) }
-        ensures later { K.faults sink.old ≤ K.faults sink.new }
-        ensures fault { result ≡ Fed.SinkFault → HasRisen K.last (K.faults sink.old) (K.faults sink.new) }
+        requires { (limit : ℕ) × (bytes : List ℕ) × Serves E.levels E.table limit self.old bytes }
+        ensures going { result ≡ Fed.Going → (limit : ℕ) (bytes : List ℕ) → Serves E.levels E.table limit self.old bytes → Serves E.levels E.table limit self.new (bytes ++ piece.now) }
+        ensures exited { result ≡ Fed.Exited → (limit : ℕ) (bytes : List ℕ) → Serves E.levels E.table limit self.old bytes → HasExited limit (bytes ++ piece.now) (kept_by self.new) }
+        ensures written { (result ≡ Fed.Going) ⊎ (result ≡ Fed.Exited) → (limit : ℕ) (bytes : List ℕ) → Serves E.levels E.table limit self.old bytes → Writes (kept_by self.old) (kept_by self.new) (K.held sink.old) (K.held sink.new) }
+        ensures cut { result ≡ Fed.Cut → (limit : ℕ) (bytes : List ℕ) → Serves E.levels E.table limit self.old bytes → IsCut limit false (bytes ++ piece.now) (kept_by self.new) }
+        ensures cut_written { result ≡ Fed.Cut → (limit : ℕ) (bytes : List ℕ) → Serves E.levels E.table limit self.old bytes → WritesCut (kept_by self.old) (kept_by self.new) (K.held sink.old) (K.held sink.new) }
+        ensures broken_off { result ≡ Fed.SinkFault → (limit : ℕ) (bytes : List ℕ) → Serves E.levels E.table limit self.old bytes → BreaksOff limit false (bytes ++ piece.now) (kept_by self.old) (kept_by self.new) (K.held sink.old) (K.held sink.new) }
+        ensures faults { K.faults sink.new ≡ counted K.last (is_sink_fault result) (K.faults sink.old) }
+        ensures handed { (result ≡ Fed.SinkFault → ⊥) → K.handed sink.old ≡ K.held sink.old → K.handed sink.new ≡ K.held sink.new }
     {
         one_reading();
         reading_tells_first();
@@ -175,15 +177,14 @@ impl<E: Decide> Session<E> {
 
     /// Ends the script: what was open is refused.
     pub fn finish<K: Sink>(&mut self, sink: &mut K) -> Fed
-        requires { (limit : ℕ) × (bytes : List ℕ) × Serves E.levels limit self.old bytes × (length bytes < 2 ^ 64) }
-        ensures ended { (result ≡ Fed.Going) ⊎ (result ≡ Fed.Exited) → (limit : ℕ) (bytes : List ℕ) → Serves E.levels limit self.old bytes → length bytes < 2 ^ 64 → IsTranscript limit bytes (kept_by self.new) }
-        ensures cut { result ≡ Fed.Cut → (limit : ℕ) (bytes : List ℕ) → Serves E.levels limit self.old bytes → length bytes < 2 ^ 64 → IsFront limit bytes (kept_by self.new) }
-        ensures written { (result ≡ Fed.Going) ⊎ (result ≡ Fed.Exited) → Writes (kept_by self.old) (kept_by self.new) (K.held sink.old) (K.held sink.new) }
-        ensures cut_written { result ≡ Fed.Cut → WritesCut (kept_by self.old) (kept_by self.new) (K.held sink.old) (K.held sink.new) }
-        ensures broken_off { result ≡ Fed.SinkFault → (limit : ℕ) (bytes : List ℕ) → Serves E.levels limit self.old bytes → length bytes < 2 ^ 64 → IsFront limit bytes (kept_by self.new) }
-        ensures broken_off_written { result ≡ Fed.SinkFault → BreaksOff (kept_by self.old) (kept_by self.new) (K.held sink.old) (K.held sink.new) }
-        ensures later { K.faults sink.old ≤ K.faults sink.new }
-        ensures fault { result ≡ Fed.SinkFault → HasRisen K.last (K.faults sink.old) (K.faults sink.new) }
+        requires { (limit : ℕ) × (bytes : List ℕ) × Serves E.levels E.table limit self.old bytes }
+        ensures ended { (result ≡ Fed.Going) ⊎ (result ≡ Fed.Exited) → (limit : ℕ) (bytes : List ℕ) → Serves E.levels E.table limit self.old bytes → HasEnded limit bytes (kept_by self.new) }
+        ensures written { (result ≡ Fed.Going) ⊎ (result ≡ Fed.Exited) → (limit : ℕ) (bytes : List ℕ) → Serves E.levels E.table limit self.old bytes → Writes (kept_by self.old) (kept_by self.new) (K.held sink.old) (K.held sink.new) }
+        ensures cut { result ≡ Fed.Cut → (limit : ℕ) (bytes : List ℕ) → Serves E.levels E.table limit self.old bytes → IsCut limit true bytes (kept_by self.new) }
+        ensures cut_written { result ≡ Fed.Cut → (limit : ℕ) (bytes : List ℕ) → Serves E.levels E.table limit self.old bytes → WritesCut (kept_by self.old) (kept_by self.new) (K.held sink.old) (K.held sink.new) }
+        ensures broken_off { result ≡ Fed.SinkFault → (limit : ℕ) (bytes : List ℕ) → Serves E.levels E.table limit self.old bytes → BreaksOff limit true bytes (kept_by self.old) (kept_by self.new) (K.held sink.old) (K.held sink.new) }
+        ensures faults { K.faults sink.new ≡ counted K.last (is_sink_fault result) (K.faults sink.old) }
+        ensures handed { (result ≡ Fed.SinkFault → ⊥) → K.handed sink.old ≡ K.held sink.old → K.handed sink.new ≡ K.held sink.new }
     {
         match self.reader.finish() {
             None => Fed::Going,
@@ -193,7 +194,7 @@ impl<E: Decide> Session<E> {
 
     /// All that was kept, in order, and the table of its terms. Takes no memory.
     pub fn into_kept(self) -> (Journal, Terms)
-        ensures kept { journal_of result.0 ≡ kept_by self }
+        ensures kept { journal_of result.1 result.0 ≡ kept_by self }
         ensures terms { result.1 ≡ table_by self }
     {
         let Session { reader, desk, kept } = self;

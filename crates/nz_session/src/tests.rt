@@ -1,5 +1,5 @@
 //! Each public call of the session and of the desk once on its happy path, and a check that finds no memory.
-ghost use Rattle.std.specs.Prelude.{◌≡◌, ◌∷◌, [], IfOk};
+ghost use Rattle.std.specs.Prelude.{◌≡◌, []};
 
 use crate::decide::{Decide, Stop, Verdict};
 use crate::desk::{Answer, Desk};
@@ -27,6 +27,8 @@ struct OnceOnly {
 
 impl Decide for OnceOnly {
     ghost levels = { λ e. e.trial };
+
+    ghost table = { λ _. [] };
 
     fn push(&mut self) -> Result<(), Memory> {
         self.trial.push()
@@ -65,6 +67,7 @@ fn run_script<E: Decide>(
     sink: &mut PlainSink,
 ) -> Result<Outcome, Memory>
     requires told { E.levels engine ≡ [] }
+    requires table { E.table engine ≡ [] }
 {
     let mut session = Session::new(alloc, engine, UNITS)?;
     let fed = session.feed(script, sink);

@@ -1,6 +1,5 @@
 //! The values of terms in a model, as they are told.
 ghost use Rattle.std.specs.Prelude.{◌≡◌, IfOk};
-ghost use Rattle.nz_spec.specs.Decide.{HasDistinctNames};
 ghost use Rattle.nz_spec.specs.Term as term;
 ghost use Rattle.nz_reply.specs.Values.{shown_of};
 ghost use Rattle.nz_sort.specs.Items.{table_numbers};
@@ -10,6 +9,7 @@ ghost use Rattle.nz_session.specs.Valued.{AreShown, numbers_typed, outcome_shown
 use nz_base::Memory;
 use nz_reply::{Bindings, Shown, Shows};
 use nz_sort::{Accepted, Typed};
+use nz_spec::term::normal_keeps_value;
 use nz_term::{Assign, Sort, TermId, Terms, Value};
 use nz_truth::{Outcome, outcomes};
 use std::alloc::Global;
@@ -23,9 +23,9 @@ pub(crate) fn values_shown(
     asked: &[Typed],
 ) -> Result<Shows, Memory>
     requires typed { (ts : term.Terms) × AreTyped terms.now asked.now ts }
-    requires distinct { HasDistinctNames terms.now }
     ensures shown { IfOk result (λ shows. AreShown terms.now (table_numbers constants.now) model.now asked.now shows) }
 {
+    normal_keeps_value();
     let assign = assignment_by(alloc, constants, model)?;
     let roots = numbers_of(alloc, asked)?;
     let found = outcomes(alloc, terms, &roots, &assign)?;

@@ -6,7 +6,7 @@ use Rattle.std.proofs.Math.Seq.{take-add}
 use Rattle.nz_spec.specs.Tree.{Tree}
 use Rattle.nz_spec.specs.Text.{Limits, Heard, ByteClass, word_byte, blank_byte, left_byte, right_byte, comment_byte, quote_byte, bar_byte, class_of, is_quote, is_bar, Filler, word, string, quoted}
 use Rattle.nz_spec.specs.Kept.{AreToldAs}
-use Rattle.nz_spec.specs.Reading.{Part, no_part, in_comment, in_word, in_string, after_quote, in_quoted, Reading, start, taken, taken_by, opened_by, passed, goes_on as part_goes_on, next, next_in, next_in_word, next_outside, told_at, read_on, told_on}
+use Rattle.nz_spec.specs.Reading.{Part, no_part, in_comment, in_word, in_string, after_quote, in_quoted, Reading, reading_start, taken, taken_by, opened_by, passed, goes_on as part_goes_on, next, next_in, next_in_word, next_outside, told_at, read_on, told_on}
 use Rattle.nz_sexpr.specs.Matches.{GoesOnBy, EndsWithin, told}
 use Rattle.nz_sexpr.specs.Fits.{Fits}
 use Rattle.nz_sexpr.specs.declared.reader.Reader.{Reader}
@@ -65,8 +65,8 @@ read_on-at : (s : Reading) (xs : List ℕ) → (read_on s xs).at ≡ s.at + leng
 read_on-at s [] = omega arith
 read_on-at s (x ∷ xs) = omega (arith, read_on-at (next x s) xs, next-at s.part x s)
 
-pub bytes_read : (xs : List ℕ) → (read_on start xs).at ≡ length xs
-bytes_read xs = read_on-at start xs ∙ (omega arith)
+pub bytes_read : (xs : List ℕ) → (read_on reading_start xs).at ≡ length xs
+bytes_read xs = read_on-at reading_start xs ∙ (omega arith)
 
 -- ---- What was told
 
@@ -89,10 +89,10 @@ pub told_all : (things hs : List Heard) (o : Option code.Heard) → is_some o �
 told_all things hs o none h = subst (λ k. AreToldAs k hs) (ap (λ k. things ++ k) (told_none o none) ∙ append-nil things) h
 
 -- things told of more bytes come after those told of the bytes before
-pub told_more : (limits : Limits) (bytes more : List ℕ) (things new : List Heard) → AreToldAs (things ++ []) (told_on limits start bytes) → AreToldAs new (told_on limits (read_on start bytes) more) → AreToldAs (things ++ new) (told_on limits start (bytes ++ more))
+pub told_more : (limits : Limits) (bytes more : List ℕ) (things new : List Heard) → AreToldAs (things ++ []) (told_on limits reading_start bytes) → AreToldAs new (told_on limits (read_on reading_start bytes) more) → AreToldAs (things ++ new) (told_on limits reading_start (bytes ++ more))
 told_more limits bytes more things new h k =
-    subst (AreToldAs (things ++ new)) (sym (told_on-append limits start bytes more))
-    (AreToldAs-append things new (told_on limits start bytes) (told_on limits (read_on start bytes) more) (subst (λ t. AreToldAs t (told_on limits start bytes)) (append-nil things) h) k)
+    subst (AreToldAs (things ++ new)) (sym (told_on-append limits reading_start bytes more))
+    (AreToldAs-append things new (told_on limits reading_start bytes) (told_on limits (read_on reading_start bytes) more) (subst (λ t. AreToldAs t (told_on limits reading_start bytes)) (append-nil things) h) k)
 
 -- ---- Fronts of a piece
 

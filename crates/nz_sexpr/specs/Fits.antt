@@ -2,7 +2,7 @@
 use Rattle.std.specs.Prelude.{ℕ, List, ◌++◌, Bool, is_some}
 use Rattle.nz_spec.specs.Text.{Limits, Heard}
 use Rattle.nz_spec.specs.Kept.{AreToldAs}
-use Rattle.nz_spec.specs.Reading.{start, read_on, told_on}
+use Rattle.nz_spec.specs.Reading.{reading_start, read_on, told_on}
 use Rattle.nz_sexpr.specs.Matches.{Matches, told}
 use Rattle.nz_sexpr.specs.declared.reader.Reader.{Reader}
 
@@ -16,5 +16,5 @@ bytes_read r = r.scan.at
 
 -- The reader has read these bytes, and has told these things; what it owes comes after them.
 pub record Fits (limits : Limits) (r : Reader) (bytes : List ℕ) (tale : List Heard) : Type 0 where
-  pub state : Matches limits r.scan (read_on start bytes)
-  pub things : AreToldAs (tale ++ told r.owed) (told_on limits start bytes)
+  pub state : Matches limits r.scan (read_on reading_start bytes)
+  pub things : AreToldAs (tale ++ told r.owed) (told_on limits reading_start bytes)

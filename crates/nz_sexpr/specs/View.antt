@@ -32,6 +32,10 @@ list_step l = l.trees.items
 abbrev pub view : Tree → text.Tree
 view = fold-Tree text.Tree (List text.Tree) view_step list_step
 
+-- the trees of a list of the code
+abbrev pub seen : List Tree → text.Trees
+seen list = trees_from (map view list)
+
 -- the trees of a list, and their data
 abbrev pub items : TreeList → List Tree
 items l = l.trees.items
@@ -40,7 +44,7 @@ abbrev pub list_view : TreeList → List text.Tree
 list_view l = map view (items l)
 
 abbrev pub what_view : code.What → script.What
-what_view (what.Tree t) = script.whole (view t)
+what_view (what.Tree t) = script.intact (view t)
 what_view (what.Bad n) = script.faulty n
 what_view what.Unclosed = script.unclosed
 what_view what.Unread = script.unread

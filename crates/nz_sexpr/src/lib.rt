@@ -7,8 +7,6 @@ mod part;
 mod reader;
 mod scan;
 mod store;
-#[cfg(test)]
-mod tests;
 mod tree;
 mod words;
 

@@ -3,7 +3,7 @@ ghost use Rattle.std.specs.Prelude.{◌≡◌, ◌≢◌, ◌≤◌, ◌<◌, �
 ghost use Rattle.nz_spec.specs.Text.{Limits as Bounds, class_of, HasNone};
 ghost use Rattle.nz_spec.specs.Kept.{IsToldWhat, AreToldAs};
 ghost use Rattle.nz_spec.specs.Reading as text_part;
-ghost use Rattle.nz_spec.specs.Reading.{Reading, start, opened, closed, begun, goes_on, taken, told_closed, told_token, next_outside, told_outside, next, told_at, read_on, told_open, what_of};
+ghost use Rattle.nz_spec.specs.Reading.{Reading, reading_start, opened, closed, begun, goes_on, taken, told_closed, told_token, next_outside, told_outside, next, told_at, read_on, told_open, what_of};
 ghost use Rattle.nz_spec.specs.Tree as text;
 ghost use Rattle.nz_sexpr.specs.Part.{part_of, text_of_part, text_after, filler_of, ends, begins_here};
 ghost use Rattle.nz_sexpr.specs.Store.{Kept, kept_of, Keeps, TakesToken};
@@ -40,7 +40,7 @@ pub(crate) struct Scan {
 impl Scan {
     /// The beginning of a script.
     pub(crate) fn new(alloc: Global, limits: Limits) -> Self
-        ensures state { Matches (limits_view limits) result start }
+        ensures state { Matches (limits_view limits) result reading_start }
     {
         Scan {
             limits,
@@ -437,7 +437,7 @@ impl Scan {
     /// What the end of the input makes of what is open; the beginning of a script is next.
     pub(crate) fn finish(&mut self) -> Option<Heard>
         ensures heard { Tells self.old 0 (told result) (λ _ s. told_open s) }
-        ensures restarted { (limits : Bounds) (s : Reading) → Matches limits self.old s → Matches limits self.new start }
+        ensures restarted { (limits : Bounds) (s : Reading) → Matches limits self.old s → Matches limits self.new reading_start }
     {
         let heard = self.end_open();
         self.restart();
@@ -471,7 +471,7 @@ impl Scan {
 
     /// Stands at the beginning of a script again.
     fn restart(&mut self)
-        ensures state { (limits : Bounds) (s : Reading) → Matches limits self.old s → Matches limits self.new start }
+        ensures state { (limits : Bounds) (s : Reading) → Matches limits self.old s → Matches limits self.new reading_start }
     {
         self.at = 0;
         self.from = 0;

@@ -1,21 +1,24 @@
 -- The live items, one of them more.
-use Rattle.std.proofs.Common.{◌+◌, ◌||◌, not, flat_map, ◌≡◌, ℕ, suc, ◌<◌, List, [], ◌∷◌, ◌++◌, length, map, Bool, true, false, cond, All, refl, sym, ap, ◌∙◌, append-nil, length-append, subst, arith}
+use Rattle.std.proofs.Common.{◌||◌, not, flat_map, ◌≡◌, ℕ, ◌<◌, List, [], ◌∷◌, ◌++◌, length, map, Bool, true, false, cond, All, refl, sym, ap, ◌∙◌, append-nil, length-append, subst, arith}
 use Rattle.std.proofs.lemmas.Grind.{flat_map-append}
+use Rattle.std.specs.List.{list_any}
+use Rattle.std.proofs.lemmas.List.Folds.{list_any-append}
 use Rattle.std.proofs.lemmas.List.Elements.{All-head, All-tail, All-append, All-cons, All-nil, All-weaker}
 use Rattle.std.proofs.lemmas.List.{map-append}
 use Rattle.nz_spec.specs.Term.{is_bool, Constant, constant, Term, apply, no_terms, holds_number}
 use Rattle.nz_spec.specs.Normal.{normal_of}
 use Rattle.nz_spec.specs.Table.{Node, term_in, TermStays}
 use Rattle.nz_spec.specs.Elaboration.{Definition as SpecDefinition}
-use Rattle.nz_spec.specs.Script.{Item, declared, defined, asserted, sought, wished, constants_in, definitions_in, assertions_in, goals_in, wishes_in, is_constant, is_assertion, is_goal, is_wish, numbers_of, item_terms, items_hold_numbers}
-use Rattle.nz_spec.specs.Script as script
+use Rattle.nz_spec.specs.Live.{LiveItem, Item, cost_of, declared, defined, asserted, sought, wished, constants_in, definitions_in, assertions_in, goals_in, wishes_in, is_constant, is_assertion, is_goal, is_wish, numbers_of, item_terms}
+use Rattle.nz_spec.specs.Taken.{items_hold_numbers}
+use Rattle.nz_spec.specs.Live as live_state
 use Rattle.nz_term.specs.Constants.{sort_of}
 use Rattle.nz_sort.specs.declared.typed.Typed.{Typed}
 use Rattle.nz_sort.specs.declared.names.Definition.{Definition}
 use Rattle.nz_sort.specs.declared.items.Accepted.{Accepted}
 use Rattle.nz_sort.specs.declared.items.Goal.{Goal}
 use Rattle.nz_sort.specs.declared.items.Wish.{Wish}
-use Rattle.nz_sort.specs.Items.{table_numbers, StandForAll, AreItems, AreConstants, AreAssertions, AreGoals, AreWishes}
+use Rattle.nz_sort.specs.Items.{table_numbers, items_in, StandForAll, AreItems, AreConstants, AreAssertions, AreGoals, AreWishes}
 use Rattle.nz_sort.specs.Live.{Standing, HasItems}
 use Rattle.nz_sort.specs.Commands.{with_constant, with_definition, with_assertion}
 
@@ -69,33 +72,41 @@ or_false : (b : Bool) → (b || false) ≡ b
 or_false true = refl
 or_false false = refl
 
-or_true : (b : Bool) → (b || true) ≡ true
-or_true true = refl
-or_true false = refl
-
 hold_numbers-append : (xs ys : List Item) → items_hold_numbers (xs ++ ys) ≡ (items_hold_numbers xs || items_hold_numbers ys)
-hold_numbers-append [] ys = refl
-hold_numbers-append (declared c ∷ xs) ys = ap (λ b. not (is_bool c.sort) || b) (hold_numbers-append xs ys) ∙ sym (or_assoc (not (is_bool c.sort)) (items_hold_numbers xs) (items_hold_numbers ys))
-hold_numbers-append (defined d ∷ xs) ys = hold_numbers-append xs ys
-hold_numbers-append (asserted t ∷ xs) ys = ap (λ b. holds_number (normal_of t) || b) (hold_numbers-append xs ys) ∙ sym (or_assoc (holds_number (normal_of t)) (items_hold_numbers xs) (items_hold_numbers ys))
-hold_numbers-append (sought g ∷ xs) ys = ap (λ b. holds_number (normal_of g.term) || b) (hold_numbers-append xs ys) ∙ sym (or_assoc (holds_number (normal_of g.term)) (items_hold_numbers xs) (items_hold_numbers ys))
-hold_numbers-append (wished w ∷ xs) ys = refl
+hold_numbers-append xs ys =
+    ap (list_any holds_number) (flat_map-append item_terms xs ys) ∙ list_any-append holds_number (flat_map item_terms xs) (flat_map item_terms ys)
 
 -- one item more, which holds a number or doesn't
 numbers_last : (live : List Item) (i : Item) (before mine : Bool) → items_hold_numbers live ≡ before → items_hold_numbers (i ∷ []) ≡ mine
     → items_hold_numbers (live ++ i ∷ []) ≡ (before || mine)
 numbers_last live i before mine e f = hold_numbers-append live (i ∷ []) ∙ ap (λ b. b || items_hold_numbers (i ∷ [])) e ∙ ap (λ b. before || b) f
 
-numbers_of-last : (f : Item → Bool) (n m : ℕ) (xs : List Item) (i : Item) → m ≡ n + length xs
-    → numbers_of f n (xs ++ i ∷ []) ≡ numbers_of f n xs ++ numbers_of f m (i ∷ [])
-numbers_of-last f n m [] i e = let same : n ≡ m = omega arith in ap (λ k. numbers_of f k (i ∷ [])) same
-numbers_of-last f n m (x ∷ xs) i e =
-    let there : m ≡ suc n + length xs = omega arith in
-    let rest = numbers_of-last f (suc n) m xs i there in
-    elim (f x) as (λ b. cond b (n ∷ numbers_of f (suc n) (xs ++ i ∷ [])) (numbers_of f (suc n) (xs ++ i ∷ [])) ≡ cond b (n ∷ numbers_of f (suc n) xs) (numbers_of f (suc n) xs) ++ numbers_of f m (i ∷ [])) [
-      | true ↦ ap (λ l. n ∷ l) rest
-      | false ↦ rest
+-- ---- Numbered items, with one at the end
+
+pub items_in-last : (live : List LiveItem) (l : LiveItem) → items_in (live ++ l ∷ []) ≡ items_in live ++ l.item ∷ []
+items_in-last live l = map-append (λ (m : LiveItem). m.item) live (l ∷ [])
+
+numbers_of-last : (f : Item → Bool) (live : List LiveItem) (l : LiveItem) → numbers_of f (live ++ l ∷ []) ≡ numbers_of f live ++ numbers_of f (l ∷ [])
+numbers_of-last f [] l = refl
+numbers_of-last f (m ∷ live) l =
+    elim (f m.item) as (λ b. cond b (m.number ∷ numbers_of f (live ++ l ∷ [])) (numbers_of f (live ++ l ∷ [])) ≡ cond b (m.number ∷ numbers_of f live) (numbers_of f live) ++ numbers_of f (l ∷ [])) [
+      | true ↦ ap (λ ns. m.number ∷ ns) (numbers_of-last f live l)
+      | false ↦ numbers_of-last f live l
     ]
+
+-- one of another kind
+numbers_of-other : (f : Item → Bool) (live : List LiveItem) (l : LiveItem) → f l.item ≡ false → numbers_of f live ≡ numbers_of f (live ++ l ∷ [])
+numbers_of-other f live l other =
+    sym (numbers_of-last f live l ∙ ap (λ b. numbers_of f live ++ cond b (l.number ∷ []) []) other ∙ append-nil (numbers_of f live))
+
+-- what is made of the items, in order
+last_of : {A : Type 0} (f : List Item → List A) → ((xs ys : List Item) → f (xs ++ ys) ≡ f xs ++ f ys) → (live : List LiveItem) (l : LiveItem)
+    → f (items_in (live ++ l ∷ [])) ≡ f (items_in live) ++ f (l.item ∷ [])
+last_of f append live l = ap f (items_in-last live l) ∙ append (items_in live) (l.item ∷ [])
+
+last_other : {A : Type 0} (f : List Item → List A) → ((xs ys : List Item) → f (xs ++ ys) ≡ f xs ++ f ys) → (live : List LiveItem) (l : LiveItem)
+    → f (l.item ∷ []) ≡ [] → f (items_in live) ≡ f (items_in (live ++ l ∷ []))
+last_other f append live l none = sym (last_of f append live l ∙ ap (λ xs. f (items_in live) ++ xs) none ∙ append-nil (f (items_in live)))
 
 -- ---- Terms that are there already
 
@@ -148,134 +159,129 @@ items_last stays old new more items numbers others ts us number id t e h within 
     }
 
 -- an item of another kind
-goals_stay : TermStays → (old new more : List Node) (goals : List Goal) (live : List Item) (i : Item) → new ≡ old ++ more → is_goal i ≡ false → goals_in (i ∷ []) ≡ []
-    → AreGoals old goals live → AreGoals new goals (live ++ i ∷ [])
-goals_stay stays old new more goals live i e other none h =
-    let numbers : numbers_of is_goal 0 live ≡ numbers_of is_goal 0 (live ++ i ∷ []) =
-    sym (numbers_of-last is_goal 0 (length live) live i (omega arith)
-    ∙ ap (λ b. numbers_of is_goal 0 live ++ cond b (length live ∷ []) []) other ∙ append-nil (numbers_of is_goal 0 live)) in
-    let same : goals_in live ≡ goals_in (live ++ i ∷ []) =
-    sym (goals_in-append live (i ∷ []) ∙ ap (λ l. goals_in live ++ l) none ∙ append-nil (goals_in live)) in
+goals_stay : TermStays → (old new more : List Node) (goals : List Goal) (live : List LiveItem) (l : LiveItem) → new ≡ old ++ more → is_goal l.item ≡ false → goals_in (l.item ∷ []) ≡ []
+    → AreGoals old goals live → AreGoals new goals (live ++ l ∷ [])
+goals_stay stays old new more goals live l e other none h =
+    let same : goals_in (items_in live) ≡ goals_in (items_in (live ++ l ∷ [])) = last_other goals_in goals_in-append live l none in
     record {
-      items = items_longer stays old new more (map (λ (g : Goal). g.accepted) goals) _ _ _ _ e h.items numbers (ap (map (λ (g : script.Goal). normal_of g.term)) same);
-      directions = h.directions ∙ ap (map (λ (g : script.Goal). g.direction)) same;
+      items = items_longer stays old new more (map (λ (g : Goal). g.accepted) goals) _ _ _ _ e h.items (numbers_of-other is_goal live l other) (ap (map (λ (g : live_state.Goal). normal_of g.term)) same);
+      directions = h.directions ∙ ap (map (λ (g : live_state.Goal). g.direction)) same;
+      shown = h.shown ∙ ap (map (λ (g : live_state.Goal). g.shown)) same;
     }
 
-wishes_stay : TermStays → (old new more : List Node) (wishes : List Wish) (live : List Item) (i : Item) → new ≡ old ++ more → is_wish i ≡ false → wishes_in (i ∷ []) ≡ []
-    → AreWishes old wishes live → AreWishes new wishes (live ++ i ∷ [])
-wishes_stay stays old new more wishes live i e other none h =
-    let numbers : numbers_of is_wish 0 live ≡ numbers_of is_wish 0 (live ++ i ∷ []) =
-    sym (numbers_of-last is_wish 0 (length live) live i (omega arith)
-    ∙ ap (λ b. numbers_of is_wish 0 live ++ cond b (length live ∷ []) []) other ∙ append-nil (numbers_of is_wish 0 live)) in
-    let same : wishes_in live ≡ wishes_in (live ++ i ∷ []) =
-    sym (wishes_in-append live (i ∷ []) ∙ ap (λ l. wishes_in live ++ l) none ∙ append-nil (wishes_in live)) in
+wishes_stay : TermStays → (old new more : List Node) (wishes : List Wish) (live : List LiveItem) (l : LiveItem) → new ≡ old ++ more → is_wish l.item ≡ false → wishes_in (l.item ∷ []) ≡ []
+    → AreWishes old wishes live → AreWishes new wishes (live ++ l ∷ [])
+wishes_stay stays old new more wishes live l e other none h =
+    let same : wishes_in (items_in live) ≡ wishes_in (items_in (live ++ l ∷ [])) = last_other wishes_in wishes_in-append live l none in
     record {
-      items = items_longer stays old new more (map (λ (w : Wish). w.accepted) wishes) _ _ _ _ e h.items numbers (ap (map (λ (w : script.Wish). normal_of w.term)) same);
-      weights = h.weights ∙ ap (map (λ (w : script.Wish). w.weight)) same;
-      groups = h.groups ∙ ap (map (λ (w : script.Wish). w.group)) same;
+      items = items_longer stays old new more (map (λ (w : Wish). w.accepted) wishes) _ _ _ _ e h.items (numbers_of-other is_wish live l other) (ap (map (λ (w : live_state.Wish). normal_of (cost_of w))) same);
+      weights = h.weights ∙ ap (map (λ (w : live_state.Wish). w.weight)) same;
+      numerals = h.numerals ∙ ap (map (λ (w : live_state.Wish). w.is_numeral)) same;
+      groups = h.groups ∙ ap (map (λ (w : live_state.Wish). w.group)) same;
     }
-
--- one item more of those that are counted
-count_last : (n : ℕ) (live : List Item) (i : Item) → n ≡ length live → n + 1 ≡ length (live ++ i ∷ [])
-count_last n live i e = omega (arith, length-append live (i ∷ []))
 
 -- all items, one with a term more, and one without
-all_last : TermStays → (old new more : List Node) (ids : List ℕ) (live : List Item) (i : Item) (id : ℕ) (t : Term) → new ≡ old ++ more
-    → StandForAll old ids (flat_map item_terms live) → id < length new → term_in new id ≡ t → item_terms i ≡ t ∷ []
-    → StandForAll new (ids ++ id ∷ []) (flat_map item_terms (live ++ i ∷ []))
-all_last stays old new more ids live i id t e h within term one =
-    subst (StandForAll new (ids ++ id ∷ [])) (sym (flat_map-append item_terms live (i ∷ []) ∙ ap (λ l. flat_map item_terms live ++ l) (append-nil (item_terms i) ∙ one)))
-    (stand_last new ids (flat_map item_terms live) id t (stand_longer stays old new more ids (flat_map item_terms live) e h) within term)
+all_last : TermStays → (old new more : List Node) (ids : List ℕ) (live : List LiveItem) (l : LiveItem) (id : ℕ) (t : Term) → new ≡ old ++ more
+    → StandForAll old ids (flat_map item_terms (items_in live)) → id < length new → term_in new id ≡ t → item_terms l.item ≡ t ∷ []
+    → StandForAll new (ids ++ id ∷ []) (flat_map item_terms (items_in (live ++ l ∷ [])))
+all_last stays old new more ids live l id t e h within term one =
+    subst (StandForAll new (ids ++ id ∷ []))
+    (sym (last_of (flat_map item_terms) (flat_map-append item_terms) live l ∙ ap (λ ts. flat_map item_terms (items_in live) ++ ts) (append-nil (item_terms l.item) ∙ one)))
+    (stand_last new ids (flat_map item_terms (items_in live)) id t (stand_longer stays old new more ids (flat_map item_terms (items_in live)) e h) within term)
 
-all_without : TermStays → (old new more : List Node) (ids : List ℕ) (live : List Item) (i : Item) → new ≡ old ++ more
-    → StandForAll old ids (flat_map item_terms live) → item_terms i ≡ [] → StandForAll new ids (flat_map item_terms (live ++ i ∷ []))
-all_without stays old new more ids live i e h none =
-    subst (StandForAll new ids)
-    (sym (flat_map-append item_terms live (i ∷ []) ∙ ap (λ l. flat_map item_terms live ++ l) (append-nil (item_terms i) ∙ none) ∙ append-nil (flat_map item_terms live)))
-    (stand_longer stays old new more ids (flat_map item_terms live) e h)
+all_without : TermStays → (old new more : List Node) (ids : List ℕ) (live : List LiveItem) (l : LiveItem) → new ≡ old ++ more
+    → StandForAll old ids (flat_map item_terms (items_in live)) → item_terms l.item ≡ [] → StandForAll new ids (flat_map item_terms (items_in (live ++ l ∷ [])))
+all_without stays old new more ids live l e h none =
+    subst (StandForAll new ids) (last_other (flat_map item_terms) (flat_map-append item_terms) live l (append-nil (item_terms l.item) ∙ none))
+    (stand_longer stays old new more ids (flat_map item_terms (items_in live)) e h)
 
 -- constants, one of another kind more
-constants_stay : TermStays → (old new more : List Node) (items : List Accepted) (live : List Item) (i : Item) → new ≡ old ++ more → is_constant i ≡ false → constants_in (i ∷ []) ≡ []
-    → AreConstants old items live → AreConstants new items (live ++ i ∷ [])
-constants_stay stays old new more items live i e other none h =
-    items_longer stays old new more items _ _ _ _ e h
-    (sym (numbers_of-last is_constant 0 (length live) live i (omega arith)
-    ∙ ap (λ b. numbers_of is_constant 0 live ++ cond b (length live ∷ []) []) other ∙ append-nil (numbers_of is_constant 0 live)))
-    (ap (map (λ (d : Constant). apply (constant d) no_terms)) (sym (constants_in-append live (i ∷ []) ∙ ap (λ l. constants_in live ++ l) none ∙ append-nil (constants_in live))))
+constants_stay : TermStays → (old new more : List Node) (items : List Accepted) (live : List LiveItem) (l : LiveItem) → new ≡ old ++ more → is_constant l.item ≡ false → constants_in (l.item ∷ []) ≡ []
+    → AreConstants old items live → AreConstants new items (live ++ l ∷ [])
+constants_stay stays old new more items live l e other none h =
+    items_longer stays old new more items _ _ _ _ e h (numbers_of-other is_constant live l other)
+    (ap (map (λ (d : Constant). apply (constant d) no_terms)) (last_other constants_in constants_in-append live l none))
 
-assertions_stay : TermStays → (old new more : List Node) (items : List Accepted) (live : List Item) (i : Item) → new ≡ old ++ more → is_assertion i ≡ false → assertions_in (i ∷ []) ≡ []
-    → AreAssertions old items live → AreAssertions new items (live ++ i ∷ [])
-assertions_stay stays old new more items live i e other none h =
-    items_longer stays old new more items _ _ _ _ e h
-    (sym (numbers_of-last is_assertion 0 (length live) live i (omega arith)
-    ∙ ap (λ b. numbers_of is_assertion 0 live ++ cond b (length live ∷ []) []) other ∙ append-nil (numbers_of is_assertion 0 live)))
-    (ap (map normal_of) (sym (assertions_in-append live (i ∷ []) ∙ ap (λ l. assertions_in live ++ l) none ∙ append-nil (assertions_in live))))
+assertions_stay : TermStays → (old new more : List Node) (items : List Accepted) (live : List LiveItem) (l : LiveItem) → new ≡ old ++ more → is_assertion l.item ≡ false → assertions_in (l.item ∷ []) ≡ []
+    → AreAssertions old items live → AreAssertions new items (live ++ l ∷ [])
+assertions_stay stays old new more items live l e other none h =
+    items_longer stays old new more items _ _ _ _ e h (numbers_of-other is_assertion live l other)
+    (ap (map normal_of) (last_other assertions_in assertions_in-append live l none))
 
-pub has_constant : TermStays → (old new more : List Node) (standing : Standing) (live : List Item) (c : Constant) (x : Typed) → new ≡ old ++ more → HasItems old standing live
-    → x.id < length new → term_in new x.id ≡ apply (constant c) no_terms → sort_of x.sort ≡ c.sort → HasItems new (with_constant standing c.name x) (live ++ declared c ∷ [])
+pub has_constant : TermStays → (old new more : List Node) (standing : Standing) (live : List LiveItem) (c : Constant) (x : Typed) → new ≡ old ++ more → HasItems old standing live
+    → x.id < length new → term_in new x.id ≡ apply (constant c) no_terms → sort_of x.sort ≡ c.sort
+    → HasItems new (with_constant standing c.name x) (live ++ record { number = standing.next; item = declared c } ∷ [])
 has_constant stays old new more standing live c x e h within term sort =
-    let i = declared c in
-    let place : standing.count ≡ 0 + length live = omega (arith, h.count) in
+    let l : LiveItem = record { number = standing.next; item = declared c } in
     record {
       constants =
-          items_last stays old new more standing.constants _ _ _ _ standing.count x.id (apply (constant c) no_terms) e h.constants within term
-          (sym (numbers_of-last is_constant 0 standing.count live i place))
-          (sym (ap (map (λ (d : Constant). apply (constant d) no_terms)) (constants_in-append live (i ∷ []))
-          ∙ map-append (λ (d : Constant). apply (constant d) no_terms) (constants_in live) (c ∷ [])));
-      assertions = assertions_stay stays old new more standing.assertions live i e refl refl h.assertions;
-      goals = goals_stay stays old new more standing.goals live i e refl refl h.goals;
-      wishes = wishes_stay stays old new more standing.wishes live i e refl refl h.wishes;
-      all = all_last stays old new more standing.accepted live i x.id (apply (constant c) no_terms) e h.all within term refl;
-      count = count_last standing.count live i h.count;
-      numbers = numbers_last live i standing.holds_numbers (not (is_bool (sort_of x.sort))) h.numbers (or_false (not (is_bool c.sort)) ∙ ap (λ s. not (is_bool s)) (sym sort));
+          items_last stays old new more standing.constants _ _ _ _ standing.next x.id (apply (constant c) no_terms) e h.constants within term
+          (sym (numbers_of-last is_constant live l))
+          (sym (ap (map (λ (d : Constant). apply (constant d) no_terms)) (last_of constants_in constants_in-append live l)
+          ∙ map-append (λ (d : Constant). apply (constant d) no_terms) (constants_in (items_in live)) (c ∷ [])));
+      assertions = assertions_stay stays old new more standing.assertions live l e refl refl h.assertions;
+      goals = goals_stay stays old new more standing.goals live l e refl refl h.goals;
+      wishes = wishes_stay stays old new more standing.wishes live l e refl refl h.wishes;
+      all = all_last stays old new more standing.accepted live l x.id (apply (constant c) no_terms) e h.all within term refl;
+      numbers =
+          ap items_hold_numbers (items_in-last live l)
+          ∙ numbers_last (items_in live) (declared c) standing.holds_numbers (not (is_bool (sort_of x.sort))) h.numbers
+          (or_false (not (is_bool c.sort) || false) ∙ or_false (not (is_bool c.sort)) ∙ ap (λ s. not (is_bool s)) (sym sort));
     }
 
-pub has_definition : TermStays → (old new more : List Node) (standing : Standing) (live : List Item) (name : List ℕ) (d : Definition) (e : SpecDefinition) → new ≡ old ++ more
-    → HasItems old standing live → HasItems new (with_definition standing name d) (live ++ defined e ∷ [])
+pub has_definition : TermStays → (old new more : List Node) (standing : Standing) (live : List LiveItem) (name : List ℕ) (d : Definition) (e : SpecDefinition) → new ≡ old ++ more
+    → HasItems old standing live → HasItems new (with_definition standing name d) (live ++ record { number = standing.next; item = defined e } ∷ [])
 has_definition stays old new more standing live name d e grown h =
-    let i = defined e in
+    let l : LiveItem = record { number = standing.next; item = defined e } in
     record {
-      constants = constants_stay stays old new more standing.constants live i grown refl refl h.constants;
-      assertions = assertions_stay stays old new more standing.assertions live i grown refl refl h.assertions;
-      goals = goals_stay stays old new more standing.goals live i grown refl refl h.goals;
-      wishes = wishes_stay stays old new more standing.wishes live i grown refl refl h.wishes;
-      all = all_without stays old new more standing.accepted live i grown h.all refl;
-      count = count_last standing.count live i h.count;
-      numbers = numbers_last live i standing.holds_numbers false h.numbers refl ∙ or_false standing.holds_numbers;
+      constants = constants_stay stays old new more standing.constants live l grown refl refl h.constants;
+      assertions = assertions_stay stays old new more standing.assertions live l grown refl refl h.assertions;
+      goals = goals_stay stays old new more standing.goals live l grown refl refl h.goals;
+      wishes = wishes_stay stays old new more standing.wishes live l grown refl refl h.wishes;
+      all = all_without stays old new more standing.accepted live l grown h.all refl;
+      numbers =
+          ap items_hold_numbers (items_in-last live l)
+          ∙ numbers_last (items_in live) (defined e) standing.holds_numbers false h.numbers refl ∙ or_false standing.holds_numbers;
     }
 
-pub has_assertion : TermStays → (old new more : List Node) (standing : Standing) (live : List Item) (t : Term) (id : ℕ) (holds : Bool) → new ≡ old ++ more → HasItems old standing live
-    → id < length new → term_in new id ≡ normal_of t → holds ≡ holds_number (normal_of t) → HasItems new (with_assertion standing id holds) (live ++ asserted t ∷ [])
+pub has_assertion : TermStays → (old new more : List Node) (standing : Standing) (live : List LiveItem) (t : Term) (id : ℕ) (holds : Bool) → new ≡ old ++ more → HasItems old standing live
+    → id < length new → term_in new id ≡ normal_of t → holds ≡ holds_number (normal_of t)
+    → HasItems new (with_assertion standing id holds) (live ++ record { number = standing.next; item = asserted t } ∷ [])
 has_assertion stays old new more standing live t id holds e h within term number =
-    let i = asserted t in
-    let place : standing.count ≡ 0 + length live = omega (arith, h.count) in
+    let l : LiveItem = record { number = standing.next; item = asserted t } in
     record {
-      constants = constants_stay stays old new more standing.constants live i e refl refl h.constants;
+      constants = constants_stay stays old new more standing.constants live l e refl refl h.constants;
       assertions =
-          items_last stays old new more standing.assertions _ _ _ _ standing.count id (normal_of t) e h.assertions within term
-          (sym (numbers_of-last is_assertion 0 standing.count live i place))
-          (sym (ap (map normal_of) (assertions_in-append live (i ∷ [])) ∙ map-append normal_of (assertions_in live) (t ∷ [])));
-      goals = goals_stay stays old new more standing.goals live i e refl refl h.goals;
-      wishes = wishes_stay stays old new more standing.wishes live i e refl refl h.wishes;
-      all = all_last stays old new more standing.accepted live i id (normal_of t) e h.all within term refl;
-      count = count_last standing.count live i h.count;
-      numbers = numbers_last live i standing.holds_numbers holds h.numbers (or_false (holds_number (normal_of t)) ∙ sym number);
+          items_last stays old new more standing.assertions _ _ _ _ standing.next id (normal_of t) e h.assertions within term
+          (sym (numbers_of-last is_assertion live l))
+          (sym (ap (map normal_of) (last_of assertions_in assertions_in-append live l) ∙ map-append normal_of (assertions_in (items_in live)) (t ∷ [])));
+      goals = goals_stay stays old new more standing.goals live l e refl refl h.goals;
+      wishes = wishes_stay stays old new more standing.wishes live l e refl refl h.wishes;
+      all = all_last stays old new more standing.accepted live l id (normal_of t) e h.all within term refl;
+      numbers =
+          ap items_hold_numbers (items_in-last live l)
+          ∙ numbers_last (items_in live) (asserted t) standing.holds_numbers holds h.numbers (or_false (holds_number (normal_of t)) ∙ sym number);
     }
 
 -- where the table grows
-pub items_kept : TermStays → (old new more : List Node) (standing : Standing) (live : List Item) → new ≡ old ++ more → HasItems old standing live → HasItems new standing live
+pub items_kept : TermStays → (old new more : List Node) (standing : Standing) (live : List LiveItem) → new ≡ old ++ more → HasItems old standing live → HasItems new standing live
 items_kept stays old new more standing live e h =
     record {
       constants = items_longer stays old new more standing.constants _ _ _ _ e h.constants refl refl;
       assertions = items_longer stays old new more standing.assertions _ _ _ _ e h.assertions refl refl;
-      goals = record { items = items_longer stays old new more (map (λ (g : Goal). g.accepted) standing.goals) _ _ _ _ e h.goals.items refl refl; directions = h.goals.directions };
+      goals =
+          record {
+            items = items_longer stays old new more (map (λ (g : Goal). g.accepted) standing.goals) _ _ _ _ e h.goals.items refl refl;
+            directions = h.goals.directions;
+            shown = h.goals.shown;
+          };
       wishes =
           record {
             items = items_longer stays old new more (map (λ (w : Wish). w.accepted) standing.wishes) _ _ _ _ e h.wishes.items refl refl;
             weights = h.wishes.weights;
+            numerals = h.wishes.numerals;
             groups = h.wishes.groups;
           };
-      all = stand_longer stays old new more standing.accepted (flat_map item_terms live) e h.all;
-      count = h.count;
+      all = stand_longer stays old new more standing.accepted (flat_map item_terms (items_in live)) e h.all;
       numbers = h.numbers;
     }

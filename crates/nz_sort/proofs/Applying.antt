@@ -1,27 +1,21 @@
 -- Operators over arguments that are in the table.
-use Rattle.std.proofs.Common.{◌≡◌, ℕ, suc, ◌+◌, ◌<◌, ◌≤◌, Bool, true, false, ◌&&◌, ◌||◌, List, [], ◌∷◌, ◌++◌, length, drop, get_or, All, Some, None, refl, sym, ap, ◌∙◌, subst, arith, add-one, true≢false}
-use Rattle.std.specs.Prelude.{nat_lt}
+use Rattle.std.proofs.Common.{◌≡◌, ℕ, suc, ◌+◌, ◌<◌, ◌≤◌, Bool, true, false, ◌&&◌, ◌||◌, List, [], ◌∷◌, ◌++◌, length, drop, get_or, All, Some, None, refl, sym, ap, ◌∙◌, subst, arith, add-one}
 use Rattle.std.specs.List.{list_all}
 use Rattle.std.proofs.Math.Seq.{drop-cons}
-use Rattle.std.proofs.lemmas.Bool.{lt-ltb, ltb-true}
 use Rattle.std.proofs.lemmas.List.{drop_all}
-use Rattle.std.proofs.lemmas.List.Elements.{All-get_or, All-weaker}
-use Rattle.std.proofs.lemmas.List.Sums.{AllPass-from_list_all}
+use Rattle.std.proofs.lemmas.List.Elements.{All-get_or, All-nil, All-cons}
 use Rattle.nz_spec.specs.Term as spec
-use Rattle.nz_spec.specs.Term.{Sort, bool_sort, int_sort, real_sort, Term, apply, Terms, no_terms, terms, head_sort}
+use Rattle.nz_spec.specs.Term.{Sort, bool_sort, int_sort, real_sort, Term, apply, Terms, no_terms, terms, head_sort, are_same_sort}
 use Rattle.nz_spec.specs.Normal.{normal_of, normals_of, normal_node}
 use Rattle.nz_spec.specs.Table.{Node, term_in, terms_at}
-use Rattle.nz_spec.specs.Elaboration.{Operator, Operands, are_same_sort, all_terms, term_count, takes, operands_of, operand_sort, operator_head, read_at, applied}
+use Rattle.nz_spec.specs.Elaboration.{Operator, Operands, all_terms, term_count, takes, operands_of, operand_sort, operator_head, read_at, applied}
 use Rattle.nz_term.specs.Constants.{sort_of}
 use Rattle.nz_sort.specs.declared.typed.Typed.{Typed}
 use Rattle.nz_sort.specs.Typed.{Grows, StandsFor, IsTyped, AreTyped, HasApplied, HasRead, read_term, terms_before}
-use Rattle.nz_sort.proofs.Growing.{longer, term_kept, next_term, before-none}
+use Rattle.nz_sort.proofs.Growing.{longer, next_term, before-none}
+use Rattle.nz_sort.proofs.Staying.{typed_kept}
 
 -- ---- Arguments and their terms
-
-pub typed_kept : (old new : List Node) → Grows old new → (x : Typed) (t : Term) → IsTyped old x t → IsTyped new x t
-typed_kept old new g x t h =
-    record { within = omega (arith, h.within, longer old new g); normal = term_kept old new g x.id h.within ∙ h.normal; sort = h.sort }
 
 pub count_typed : (ns : List Node) (xs : List Typed) (ts : Terms) → AreTyped ns xs ts → length xs ≡ term_count ts
 count_typed ns [] no_terms a = refl
@@ -29,13 +23,11 @@ count_typed ns [] (terms t ts) a = absurd a
 count_typed ns (x ∷ xs) no_terms a = absurd a
 count_typed ns (x ∷ xs) (terms t ts) a = ap suc (count_typed ns xs ts a.1)
 
-pub within_typed : (ns : List Node) (xs : List Typed) (ts : Terms) → AreTyped ns xs ts → list_all (λ (x : Typed). nat_lt x.id (length ns)) xs ≡ true
-within_typed ns [] no_terms a = refl
-within_typed ns [] (terms t ts) a = absurd a
-within_typed ns (x ∷ xs) no_terms a = absurd a
-within_typed ns (x ∷ xs) (terms t ts) a =
-    let here : nat_lt x.id (length ns) ≡ true = lt-ltb x.id (length ns) a.0.within in
-    rw (here, within_typed ns xs ts a.1) refl
+pub typed_within : (ns : List Node) (xs : List Typed) (ts : Terms) → AreTyped ns xs ts → All (λ (x : Typed). x.id < length ns) xs
+typed_within ns [] no_terms a = All-nil (λ (x : Typed). x.id < length ns)
+typed_within ns [] (terms t ts) a = absurd a
+typed_within ns (x ∷ xs) no_terms a = absurd a
+typed_within ns (x ∷ xs) (terms t ts) a = All-cons (λ (y : Typed). y.id < length ns) x xs a.0.within (typed_within ns xs ts a.1)
 
 abbrev pub is_number_sort : Sort → Bool
 is_number_sort s = are_same_sort int_sort s || are_same_sort real_sort s
@@ -133,17 +125,6 @@ reading_ends s old new xs ids i ts above within reading =
     read_all s old new ids reading.rest ts within (subst (λ l. AreTyped old l reading.rest) (drop_all i xs above) reading.typed) reading.whole
 
 -- ---- An operator over such arguments
-
-pub below_all : (n m : ℕ) (xs : List Typed) → list_all (λ (x : Typed). nat_lt x.id n) xs ≡ true → n ≡ m → All (λ (x : Typed). x.id < m) xs
-below_all n m xs h same =
-    All-weaker (λ (x : Typed). nat_lt x.id n ≡ true) (λ (x : Typed). x.id < m) (λ (x : Typed) k. omega (arith, ltb-true x.id n k, same)) xs
-    (AllPass-from_list_all (λ (x : Typed). nat_lt x.id n) xs h)
-
--- none of them is outside the table
-pub refused_outside : (o : Operator) (n : ℕ) (ns : List Node) (xs : List Typed) (ts : Terms) → list_all (λ (x : Typed). nat_lt x.id n) xs ≡ false → n ≡ length ns → AreTyped ns xs ts
-    → applied o ts ≡ None
-refused_outside o n ns xs ts h same a =
-    absurd (true≢false (sym (within_typed ns xs ts a) ∙ ap (λ m. list_all (λ (x : Typed). nat_lt x.id m) xs) (sym same) ∙ h))
 
 pub refused_count : (o : Operator) (ns : List Node) (xs : List Typed) (ts : Terms) → takes o (length xs) ≡ false → AreTyped ns xs ts → applied o ts ≡ None
 refused_count o ns xs ts h a = applied_no_count o ts (ap (takes o) (sym (count_typed ns xs ts a)) ∙ h)

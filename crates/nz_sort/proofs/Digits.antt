@@ -2,7 +2,8 @@
 use Rattle.std.proofs.Common.{◌≡◌, ℕ, ◌+◌, ◌-◌, ◌*◌, ◌<◌, ◌≤◌, suc, List, [], ◌∷◌, ◌++◌, length, drop, get_or, Bool, true, nat_lt, refl, sym, ap, ◌∙◌, drop-cons, arith, subst}
 use Rattle.std.proofs.lemmas.Bool.Decides.{nat_tests}
 use Rattle.nz_spec.specs.Tree.{before_point, after_point}
-use Rattle.nz_spec.specs.Bounds.{value_onto, greatest_number, are_wide, decimal_digits}
+use Rattle.nz_spec.specs.Bounds.{value_onto, are_wide, decimal_digits}
+use Rattle.nz_spec.specs.Fraction.{largest}
 
 -- further digits spell no smaller number
 pub value_grows : (n : ℕ) (bs : List ℕ) → n ≤ value_onto n bs
@@ -28,16 +29,16 @@ wide_then m v n bs i is below above =
 
 -- the digits before the point, and then those after it
 pub wide_whole : (bytes front places : List ℕ) → front ≡ before_point bytes → places ≡ after_point bytes → (v : ℕ) → v ≡ value_onto 0 front → (r : Bool)
-    → r ≡ nat_lt greatest_number (value_onto v places) → r ≡ are_wide (decimal_digits bytes)
+    → r ≡ nat_lt largest (value_onto v places) → r ≡ are_wide (decimal_digits bytes)
 wide_whole bytes front places f p v is r e =
-    e ∙ ap (nat_lt greatest_number) (ap (λ n. value_onto n places) is ∙ sym (value_append 0 front places) ∙ ap (λ xs. value_onto 0 (xs ++ places)) f
+    e ∙ ap (nat_lt largest) (ap (λ n. value_onto n places) is ∙ sym (value_append 0 front places) ∙ ap (λ xs. value_onto 0 (xs ++ places)) f
     ∙ ap (λ ys. value_onto 0 (before_point bytes ++ ys)) p)
 
 wide_test : (m v w : ℕ) → m < v → v ≤ w → true ≡ nat_lt m w
 wide_test m v w above grows = grind (arith, nat_tests)
 
-pub wide_front : (bytes front : List ℕ) → front ≡ before_point bytes → greatest_number < value_onto 0 front → true ≡ are_wide (decimal_digits bytes)
+pub wide_front : (bytes front : List ℕ) → front ≡ before_point bytes → largest < value_onto 0 front → true ≡ are_wide (decimal_digits bytes)
 wide_front bytes front f above =
-    wide_test greatest_number (value_onto 0 front) _ above
+    wide_test largest (value_onto 0 front) _ above
     (subst (λ n. value_onto 0 front ≤ n) (ap (λ xs. value_onto (value_onto 0 xs) (after_point bytes)) f ∙ sym (value_append 0 (before_point bytes) (after_point bytes)))
     (value_grows (value_onto 0 front) (after_point bytes)))

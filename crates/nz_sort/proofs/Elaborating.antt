@@ -5,14 +5,14 @@ use Rattle.std.proofs.lemmas.List.{map_more}
 use Rattle.nz_spec.specs.Tree.{symbol, Tree, leaf, node, no_trees, trees}
 use Rattle.nz_spec.specs.Reading.{trees_from}
 use Rattle.nz_spec.specs.Form.{tree_symbol}
-use Rattle.nz_spec.specs.Term.{Term, no_terms, terms}
+use Rattle.nz_spec.specs.Term.{Term, Terms, no_terms, terms}
 use Rattle.nz_spec.specs.Table.{Node}
 use Rattle.nz_spec.specs.Elaboration.{Scope, listed, term_of, terms_of, terms_onto, bindings_of, binding_onto, bound_onto}
 use Rattle.nz_sort.specs.declared.typed.Typed.{Typed}
 use Rattle.nz_sort.specs.Typed.{Grows, IsTyped}
 use Rattle.nz_sort.specs.Names.{bound_in, first_of, SameTerm}
 use Rattle.nz_sort.specs.Elaborate.{StandsAs, StandAs, Binds}
-use Rattle.nz_sort.proofs.Staying.{typed_kept}
+use Rattle.nz_sort.proofs.Staying.{typed_kept, all_typed_kept}
 use Rattle.nz_sort.proofs.ScopeTerms.{same_kept, listed_append, same_first}
 
 -- ---- Trees one after another
@@ -26,6 +26,9 @@ EachStands sc ns (t ∷ ts) [] = ⊥
 
 pub stands_kept : (old new : List Node) → Grows old new → (o : Option Term) (x : Typed) → StandsAs o old x → StandsAs o new x
 stands_kept old new g o x s = record { term = s.term; is = s.is; typed = typed_kept old new g x s.term s.typed }
+
+pub stand_kept : (old new : List Node) → Grows old new → (o : Option Terms) (xs : List Typed) → StandAs o old xs → StandAs o new xs
+stand_kept old new g o xs s = record { terms = s.terms; are = s.are; typed = all_typed_kept old new g xs s.terms s.typed }
 
 pub each_kept : (old new : List Node) → Grows old new → (sc : Scope) (ts : List Tree) (xs : List Typed) → EachStands sc old ts xs → EachStands sc new ts xs
 each_kept old new g sc [] [] e = tt

@@ -16,6 +16,7 @@ use Rattle.nz_sort.specs.Typed.{Grows, IsTyped, AreTyped}
 use Rattle.nz_sort.specs.Elaborate.{StandsAs, Places}
 use Rattle.nz_sort.proofs.Growing.{longer, term_kept}
 use Rattle.nz_sort.proofs.Staying.{typed_kept}
+use Rattle.nz_sort.proofs.Applying.{count_typed}
 
 -- ---- Arguments one after another
 
@@ -101,12 +102,6 @@ all_placed_count (s ∷ ss) no_terms n = refl
 all_placed_count (s ∷ ss) (terms t ts) n =
     ap (terms_onto (placed s t)) (all_placed_count ss ts (λ e. n (ap suc e))) ∙ terms_onto-none (placed s t)
 
-pub typed_count : (ns : List Node) (xs : List Typed) (ts : Terms) → AreTyped ns xs ts → length xs ≡ term_count ts
-typed_count ns [] no_terms p = refl
-typed_count ns [] (terms t ts) p = absurd p
-typed_count ns (x ∷ xs) no_terms p = absurd p
-typed_count ns (x ∷ xs) (terms t ts) p = ap suc (typed_count ns xs ts p.1)
-
 -- the term of an argument
 pub record IsTermAt (ns : List Node) (ts : Terms) (i : ℕ) (x : Typed) : Type 0 where
   pub term : Term
@@ -166,27 +161,16 @@ placed_none start ss xs i d e below within none ts p =
     (all_placed_none (map sort_of (take i ss)) (map sort_of (drop (suc i) ss)) (sort_of (get_or ss i d)) ts here.term
     (ap (term_at ts) (sorts_so_far ss i below) ∙ here.is) (none start here.term here.typed))
 
--- a term that is placed has a number in the table
-pub placed_within : (start old new : List Node) (ss : List Sort) (xs : List Typed) (i id : ℕ) (d : Sort) (e : Typed) → Grows start old → i < length xs
-    → ((t : Term) → IsTyped old (get_or xs i e) t → StandsAs (placed (sort_of (get_or ss i d)) t) new (record { id = id; sort = get_or ss i d }))
-    → (ts : Terms) → AreTyped start xs ts → id < length new
-placed_within start old new ss xs i id d e g within stands ts p =
-    let s = get_or ss i d in
-    let x = get_or xs i e in
-    let here : IsTermAt start ts i x = argument_at start xs ts i e within p in
-    let made : StandsAs (placed (sort_of s) here.term) new (record { id = id; sort = s }) = stands here.term (typed_kept start old g x here.term here.typed) in
-    made.typed.within
-
 -- all of them
 pub placed_all : (start new : List Node) (ss : List Sort) (xs : List Typed) (i : ℕ) (ids : List ℕ) → length ss ≤ i → length ss ≡ length xs
     → ((ts : Terms) → AreTyped start xs ts → EachPlaced new (map sort_of (take i ss)) ts ids)
     → (ts : Terms) → AreTyped start xs ts → Places (map sort_of ss) ts new ids
 placed_all start new ss xs i ids past same each ts p =
     all_placed_each new (map sort_of ss) ts ids (subst (λ l. EachPlaced new (map sort_of l) ts ids) (take_all i ss past) (each ts p))
-    (length-map ss sort_of ∙ same ∙ typed_count start xs ts p)
+    (length-map ss sort_of ∙ same ∙ count_typed start xs ts p)
 
 -- more arguments than sorts, or fewer
 pub placed_count : (start : List Node) (ss : List Sort) (xs : List Typed) → (length ss ≡ length xs → ⊥) → (ts : Terms) → AreTyped start xs ts
     → all_placed (map sort_of ss) ts ≡ None
 placed_count start ss xs differ ts p =
-    all_placed_count (map sort_of ss) ts (λ e. differ (sym (length-map ss sort_of) ∙ e ∙ sym (typed_count start xs ts p)))
+    all_placed_count (map sort_of ss) ts (λ e. differ (sym (length-map ss sort_of) ∙ e ∙ sym (count_typed start xs ts p)))

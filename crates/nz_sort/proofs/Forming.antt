@@ -5,7 +5,8 @@ use Rattle.nz_sexpr.specs.declared.tree.Tree as code
 use Rattle.nz_sort.specs.declared.form.command.CommandName as command
 use Rattle.nz_spec.specs.Tree.{Trees, no_trees, trees}
 use Rattle.nz_spec.specs.Form.{is_empty, are_wish_attributes, CommandName, name_in}
-use Rattle.nz_sort.specs.Form.{seen, entry_meaning, IsNotOne, IsNotTwo, IsNotThree, IsShort}
+use Rattle.nz_sort.specs.Form.{entry_meaning, IsNotOne, IsNotTwo, IsNotThree, IsShort}
+use Rattle.nz_sexpr.specs.View.{seen}
 
 pub not_one : (xs : List code.Tree) → (length xs ≡ 1 → ⊥) → IsNotOne (seen xs)
 not_one [] h = tt

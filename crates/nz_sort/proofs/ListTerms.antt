@@ -73,7 +73,7 @@ let_bound sc ts b body bs ps shape is some =
     let_bindings sc ts b body bs shape is ∙ ap (λ o. elim o [ Some qs ↦ term_of (binding sc qs) body | None ↦ None ]) some
 
 -- the scope of the body
-body_scope : (old mid : List Node) (names : List (List ℕ × named.Named)) (frames between inner : List (List (List ℕ × Typed))) (frame : List (List ℕ × Typed))
+pub body_scope : (old mid : List Node) (names : List (List ℕ × named.Named)) (frames between inner : List (List (List ℕ × Typed))) (frame : List (List ℕ × Typed))
     (sc : Scope) (bs : Trees) → Grows old mid → between ≡ frames → inner ≡ between ++ frame ∷ [] → IsScope old names frames sc → (b : Binds sc bs mid frame)
     → IsScope mid names inner (binding sc b.pairs)
 body_scope old mid names frames between inner frame sc bs g e pushed s b =

@@ -1,59 +1,80 @@
 -- The live state after commands.
-use Rattle.std.proofs.Common.{◌||◌, ◌&&◌, ◌+◌, ◌-◌, nat_lt, drop, get_or, option_and_then, ◌≡◌, ◌⊎◌, inl, inr, ℕ, zero, suc, ◌<◌, List, [], ◌∷◌, ◌++◌, length, map, take, Option, None, Some, is_some, Bool, true, false, not, cond, bytes_eq, slice_get, refl, sym, ap, ◌∙◌, append_assoc, append-nil, length-append, subst, arith}
+use Rattle.std.proofs.Common.{◌||◌, ◌&&◌, ◌+◌, ◌-◌, ◌≤◌, drop, get_or, option_and_then, ◌≡◌, ◌⊎◌, inl, inr, ℕ, zero, suc, ◌<◌, List, [], ◌∷◌, ◌++◌, length, map, take, Option, None, Some, is_some, Result, Ok, Err, OnOk, IfOk, Bool, true, false, cond, bytes_eq, slice_get, refl, sym, ap, ◌∙◌, append_assoc, append-nil, length-append, subst, arith}
 use Rattle.std.proofs.lemmas.Grind.{flat_map-append}
 use Rattle.std.proofs.lemmas.List.{map-append, length-map}
 use Rattle.std.proofs.lemmas.Option.{slice_get_within}
 use Rattle.std.specs.Cmp.Lexicographic.{nat_list_eq_equiv}
-use Rattle.std.specs.List.{AllByRecursion, IsDistinct, list_all}
-use Rattle.std.proofs.lemmas.Bool.{lt-ltb}
+use Rattle.std.specs.List.{AllByRecursion, list_all}
+use Rattle.std.proofs.lemmas.Bool.{cases_lt}
 use Rattle.std.proofs.lemmas.List.{at_drop_more}
 use Rattle.nz_sexpr.specs.declared.tree.Tree as source
-use Rattle.nz_sexpr.specs.View.{view}
+use Rattle.nz_sexpr.specs.View.{view, seen}
 use Rattle.nz_spec.specs.Tree.{Tree, node, Trees, no_trees, trees}
-use Rattle.nz_spec.specs.Term.{is_bool, Sort, bool_sort, int_sort, real_sort, Constant, Head, constant, parameter, integer, decimal_number, verum, falsum, negation, conjunction, disjunction, implication, exclusion, equality, distinction, choice, less, at_most, greater, at_least, sum, difference, product, quotient, integer_quotient, modulus, magnitude, to_real, to_int, is_int, Term, Terms, no_terms, terms, apply, holds_number}
+use Rattle.nz_spec.specs.Term.{is_bool, Sort, bool_sort, int_sort, real_sort, Constant, Head, constant, parameter, integer, decimal_number, verum, falsum, negation, conjunction, disjunction, implication, exclusion, equality, distinction, choice, less, at_most, greater, at_least, sum, difference, product, quotient, integer_quotient, modulus, magnitude, to_real, to_int, is_int, Term, Terms, no_terms, terms, apply, holds_number, are_same_sort}
 use Rattle.nz_spec.specs.Normal.{normal_of}
 use Rattle.nz_spec.specs.Table.{Node, term_in, TermStays}
+use Rattle.nz_spec.specs.Order.{companions_of, IsInTable, HasCompanions}
 use Rattle.nz_spec.specs.Linear.{is_linear}
 use Rattle.nz_spec.specs.Decide.{constants_of_head, constants_in_table}
 use Rattle.nz_spec.specs.Form.{CommandName}
-use Rattle.nz_spec.specs.Elaboration.{Definition, RootFits, TermFits, term_of, terms_of, has_sort, are_same_sort, placed, constant_named, definition_named, is_operator, listed}
-use Rattle.nz_spec.specs.Script.{State, Item, declared, defined, asserted, items_of, constants_in, definitions_in, assertions_in, constants_of, definitions_of, assertions_of, with_item, is_live_name, scope_of, body_scope, parameters_from, Command, declare_const, define, assert_term, check_sat, get_model, get_value, no_effect, exit, outcome_by, asked_of, all_linear, Outcome, accepted, refused, declaration_of, has_unknown, have_unknown, has_clash, have_clash, clash, bound_names, parameter_sorts, sorts_of_trees, sort_of_tree, linear_outcome, asserted_outcome, assertion_of, values_of_trees, definition_by, definition_of, bound_name}
-use Rattle.nz_spec.specs.Reply.{Reply, effect, grown}
+use Rattle.nz_spec.specs.Elaboration.{Definition, RootFits, TermFits, term_of, terms_of, has_sort, placed, constant_named, definition_named, is_operator, listed}
+use Rattle.nz_spec.specs.Live.{State, LiveItem, Item, declared, defined, asserted, numbered_items, items_of, constants_in, definitions_in, assertions_in, constants_of, definitions_of, assertions_of, with_item, grown}
+use Rattle.nz_spec.specs.Script.{is_live_name, scope_of, body_scope, parameters_from, outcome_by, asked_of, all_linear, declaration_of, parameter_sorts, sorts_of_trees, sort_of_tree, linear_outcome, asserted_outcome, assertion_of, values_of_trees, definition_by, definition_of}
+use Rattle.nz_spec.specs.Command.{Command, declare_const, define, assert_term, check_sat, get_model, get_value, no_effect, exit, Outcome, accepted, refused}
+use Rattle.nz_spec.specs.Scoping.{has_unknown, have_unknown, has_clash, have_clash, clash, bound_names, bound_name}
+use Rattle.nz_spec.specs.Reply.{Reply}
+use Rattle.nz_spec.specs.Right.{effect}
 use Rattle.nz_term.specs.Constants.{sort_of}
 use Rattle.nz_sort.specs.declared.typed.Typed.{Typed}
 use Rattle.nz_sort.specs.declared.names.Definition as code
 use Rattle.nz_sort.specs.declared.names.Named as naming
 use Rattle.nz_sort.specs.declared.names.Named.TheVariants as kinds
-use Rattle.nz_sort.specs.Form.{seen}
 use Rattle.nz_sort.specs.Names.{named_by, bound_in, first_of, SameTerm, SameNamed, IsDefined, IsScope}
 use Rattle.nz_sort.specs.Typed.{IsOperator, Grows, IsTyped, AreTyped, StandsFor}
 use Rattle.nz_sort.specs.Faults.{is_listed, AreLive, AreBound}
 use Rattle.nz_sort.specs.declared.items.Accepted.{Accepted}
-use Rattle.nz_sort.specs.Items.{table_numbers}
+use Rattle.nz_sort.specs.Items.{table_numbers, items_in}
 use Rattle.nz_sort.specs.Live.{Standing, HasItems, IsLive, AreNamesOf, DefinitionsFit, IsAccepted, Leaves, IfSkipped, Ask, Asks, changed, check, show_model, show_values, show_reason, show_info, show_levels, print_success, nothing, echo, leave, unsupported}
 use Rattle.nz_sort.specs.Commands.{AsksOnly, declaration_where, fault_error, is_unknown_in, body_of, AreBoundAs, Defines, Asserts, Shows, constant_of, HasAdded, with_constant, with_definition, with_assertion}
 use Rattle.nz_sort.specs.Elaborate.{StandsAs, StandAs}
 use Rattle.nz_sort.proofs.Ruling.{past_faults, at_fault}
-use Rattle.nz_sort.proofs.Accepting.{or_assoc, constants_in-append, definitions_in-append, assertions_in-append, stand_longer, stand_last, has_constant, has_definition, has_assertion, items_kept}
+use Rattle.nz_sort.proofs.ScopeTerms.{scope_kept}
+use Rattle.nz_sort.proofs.Accepting.{or_assoc, items_in-last, constants_in-append, definitions_in-append, assertions_in-append, stand_longer, stand_last, has_constant, has_definition, has_assertion, items_kept}
 
 -- ---- Items
 
-items_of-with_item : (levels : List (List Item)) (i : Item) → items_of (with_item levels i) ≡ items_of levels ++ i ∷ []
-items_of-with_item [] i = refl
-items_of-with_item (items ∷ older) i = sym (append_assoc (items_of older) items (i ∷ []))
+numbered_items-with_item : (levels : List (List LiveItem)) (l : LiveItem) → numbered_items (with_item levels l) ≡ numbered_items levels ++ l ∷ []
+numbered_items-with_item [] l = refl
+numbered_items-with_item (items ∷ older) l = sym (append_assoc (numbered_items older) items (l ∷ []))
 
-constants_with : (levels : List (List Item)) (i : Item) → constants_in (items_of (with_item levels i)) ≡ constants_in (items_of levels) ++ constants_in (i ∷ [])
-constants_with levels i = ap constants_in (items_of-with_item levels i) ∙ constants_in-append (items_of levels) (i ∷ [])
+items_of-with_item : (levels : List (List LiveItem)) (l : LiveItem) → items_of (with_item levels l) ≡ items_of levels ++ l.item ∷ []
+items_of-with_item levels l = ap items_in (numbered_items-with_item levels l) ∙ items_in-last (numbered_items levels) l
 
-definitions_with : (levels : List (List Item)) (i : Item) → definitions_in (items_of (with_item levels i)) ≡ definitions_in (items_of levels) ++ definitions_in (i ∷ [])
-definitions_with levels i = ap definitions_in (items_of-with_item levels i) ∙ definitions_in-append (items_of levels) (i ∷ [])
+constants_with : (s : State) (i : Item) → constants_of (grown s i) ≡ constants_of s ++ constants_in (i ∷ [])
+constants_with s i =
+    ap constants_in (items_of-with_item s.levels (record { number = s.next; item = i })) ∙ constants_in-append (items_of s.levels) (i ∷ [])
 
-assertions_with : (levels : List (List Item)) (i : Item) → assertions_in (items_of (with_item levels i)) ≡ assertions_in (items_of levels) ++ assertions_in (i ∷ [])
-assertions_with levels i = ap assertions_in (items_of-with_item levels i) ∙ assertions_in-append (items_of levels) (i ∷ [])
+definitions_with : (s : State) (i : Item) → definitions_of (grown s i) ≡ definitions_of s ++ definitions_in (i ∷ [])
+definitions_with s i =
+    ap definitions_in (items_of-with_item s.levels (record { number = s.next; item = i })) ∙ definitions_in-append (items_of s.levels) (i ∷ [])
 
-pushed_with : (levels : List (List Item)) (i : Item) → length (with_item levels i) - 1 ≡ length levels - 1
-pushed_with [] i = refl
-pushed_with (items ∷ older) i = refl
+assertions_with : (s : State) (i : Item) → assertions_of (grown s i) ≡ assertions_of s ++ assertions_in (i ∷ [])
+assertions_with s i =
+    ap assertions_in (items_of-with_item s.levels (record { number = s.next; item = i })) ∙ assertions_in-append (items_of s.levels) (i ∷ [])
+
+pushed_with : (levels : List (List LiveItem)) (l : LiveItem) → length (with_item levels l) - 1 ≡ length levels - 1
+pushed_with [] l = refl
+pushed_with (items ∷ older) l = refl
+
+-- the items with one more, of the next number
+items_with : (ns : List Node) (standing : Standing) (s : State) (number : ℕ) (i : Item) → number ≡ s.next
+    → HasItems ns standing (numbered_items s.levels ++ record { number = number; item = i } ∷ []) → HasItems ns standing (numbered_items (grown s i).levels)
+items_with ns standing s number i e h =
+    subst (HasItems ns standing)
+    (ap (λ n. numbered_items s.levels ++ record { number = n; item = i } ∷ []) e ∙ sym (numbered_items-with_item s.levels (record { number = s.next; item = i }))) h
+
+next_after : (n m : ℕ) → n ≡ m → n + 1 ≡ suc m
+next_after n m e = omega (arith, e)
 
 -- there are as many constants as live ones
 pub as_many : (ns : List Node) (standing : Standing) (s : State) → IsLive ns standing s → length standing.constants ≡ length (constants_of s)
@@ -92,12 +113,12 @@ live_scope ns standing s names frames e f live =
     subst (λ l. IsScope ns l frames (scope_of s)) (sym e)
     (subst (λ l. IsScope ns standing.names l (scope_of s)) (sym f) (record { bound = λ name. tt; live = live.named; fits = live.fits }))
 
-pub live_body_scope : (ns : List Node) (standing : Standing) (s : State) (names : List (List ℕ × naming.Named)) (frames : List (List (List ℕ × Typed))) (words : List (List ℕ)) (sorts : List Sort)
-    (frame : List (List ℕ × Typed)) → names ≡ standing.names → frames ≡ frame ∷ [] → IsLive ns standing s → AreBoundAs ns frame (parameters_from 0 words sorts)
-    → IsScope ns names frames (body_scope s words sorts)
-live_body_scope ns standing s names frames words sorts frame e f live bound =
-    subst (λ l. IsScope ns l frames (body_scope s words sorts)) (sym e)
-    (subst (λ l. IsScope ns standing.names l (body_scope s words sorts)) (sym f) (record { bound = bound; live = live.named; fits = live.fits }))
+pub live_body_scope : (old new : List Node) (standing : Standing) (s : State) (names : List (List ℕ × naming.Named)) (frames : List (List (List ℕ × Typed))) (words : List (List ℕ)) (sorts : List Sort)
+    (frame : List (List ℕ × Typed)) → names ≡ standing.names → frames ≡ frame ∷ [] → Grows old new → IsLive old standing s → AreBoundAs new frame (parameters_from 0 words sorts)
+    → IsScope new names frames (body_scope s words sorts)
+live_body_scope old new standing s names frames words sorts frame e f g live bound =
+    let outside : IsScope new names [] (scope_of s) = scope_kept old new g names [] (scope_of s) (live_scope old standing s names [] e refl live) in
+    subst (λ l. IsScope new names l (body_scope s words sorts)) (sym f) (record { bound = bound; live = outside.live; fits = live.fits })
 
 -- ---- Names, where the table grows
 
@@ -273,24 +294,18 @@ named_in_table (n ∷ ns) zero c at none =
     cc
 named_in_table (n ∷ ns) (suc i) c at none = named_in_table ns i c at (unnamed_behind (constants_of_head n.head) (constants_in_table ns) c.name none)
 
--- ---- Names that differ
+-- a node of a number below the front's length stands in the front
+front_at : (xs ys : List Node) (i : ℕ) (n : Node) → i < length xs → slice_get (xs ++ ys) i ≡ Some n → slice_get xs i ≡ Some n
+front_at [] ys i n below at = absurd (omega (arith, below))
+front_at (x ∷ xs) ys zero n below at = at
+front_at (x ∷ xs) ys (suc i) n below at = front_at xs ys i n (omega (arith, below)) at
 
-all_last : (P : List ℕ → Type 0) (xs : List (List ℕ)) (y : List ℕ) → AllByRecursion P xs → P y → AllByRecursion P (xs ++ y ∷ [])
-all_last P [] y h p = (p, tt)
-all_last P (x ∷ xs) y h p = (h.0, all_last P xs y h.1 p)
-
-distinct_last : (xs : List (List ℕ)) (y : List ℕ) → IsDistinct bytes_eq xs → AllByRecursion (λ x. bytes_eq x y ≡ false) xs → IsDistinct bytes_eq (xs ++ y ∷ [])
-unfolding IsDistinct
-distinct_last [] y d h = (tt, tt)
-distinct_last (x ∷ xs) y d h = (all_last (λ z. bytes_eq x z ≡ false) xs y d.0 h.0, distinct_last xs y d.1 h.1)
-
-differ_from_unnamed : (cs : List Constant) (name : List ℕ) → constant_named cs name ≡ None → AllByRecursion (λ x. bytes_eq x name ≡ false) (map (λ (c : Constant). c.name) cs)
-differ_from_unnamed [] name h = tt
-differ_from_unnamed (c ∷ cs) name h =
-    (elim (bytes_eq c.name name) as (λ b. cond b (Some c) (constant_named cs name) ≡ None → (b ≡ false) × AllByRecursion (λ x. bytes_eq x name ≡ false) (map (λ (d : Constant). d.name) cs)) [
-      | true ↦ λ e. cc
-      | false ↦ λ e. (refl, differ_from_unnamed cs name e)
-    ]) h
+-- the node of a constant that had no name in the table isn't one that was there
+not_before : (old new : List Node) (id : ℕ) (c : Constant) → constant_named (constants_in_table old) c.name ≡ None → new ≡ old ++ record { head = constant c; kids = [] } ∷ []
+    → slice_get new id ≡ Some (record { head = constant c; kids = [] }) → id < length old → ⊥
+not_before old new id c none longer at below =
+    let one : Node = record { head = constant c; kids = [] } in
+    named_in_table old id c (front_at old (one ∷ []) id one below (subst (λ ns. slice_get ns id ≡ Some one) longer at)) none
 
 -- ---- Tables that are kept
 
@@ -312,6 +327,43 @@ kept_with_one old new n (inr e) = ap (take (length old)) e ∙ take_front old (n
 pub cut_back : (old new cut : List Node) (mark : ℕ) → mark ≡ length old → cut ≡ take mark new → take (length old) new ≡ old → cut ≡ old
 cut_back old new cut mark m c kept = c ∙ ap (λ n. take n new) m ∙ kept
 
+-- ---- Companions
+
+in_longer : TermStays → (ns more : List Node) (t : Term) → IsInTable ns t → IsInTable (ns ++ more) t
+in_longer stays ns more t h = (h.0, omega (arith, h.1, length-append ns more), stays ns more h.0 h.1 ∙ h.2)
+
+all_in_longer : TermStays → (ns more : List Node) (ts : List Term) → AllByRecursion (IsInTable ns) ts → AllByRecursion (IsInTable (ns ++ more)) ts
+all_in_longer stays ns more [] h = tt
+all_in_longer stays ns more (t ∷ ts) h = (in_longer stays ns more t h.0, all_in_longer stays ns more ts h.1)
+
+last_place : (i id n m : ℕ) → m ≡ n + 1 → n ≤ i → i < m → id < m → (id < n → ⊥) → i ≡ id
+last_place i id n m count behind below within late =
+    elim (cases_lt id n) [
+      | inl before ↦ absurd (late before)
+      | inr after ↦ omega (arith, count, behind, below, within, after)
+    ]
+
+-- a constant has none, so a table with one more has them still
+companions_with_constant : TermStays → (old new : List Node) (id : ℕ) (c : Constant) → HasCompanions old → new ≡ old ++ record { head = constant c; kids = [] } ∷ [] → id < length new
+    → (id < length old → ⊥) → term_in new id ≡ apply (constant c) no_terms → HasCompanions new
+companions_with_constant stays old new id c has longer within late term i below =
+    elim (cases_lt i (length old)) [
+      | inl before ↦
+          subst (λ ns. AllByRecursion (IsInTable ns) (companions_of (term_in ns i))) (sym longer)
+          (subst (λ t. AllByRecursion (IsInTable (old ++ record { head = constant c; kids = [] } ∷ [])) (companions_of t))
+          (sym (stays old (record { head = constant c; kids = [] } ∷ []) i before))
+          (all_in_longer stays old (record { head = constant c; kids = [] } ∷ []) (companions_of (term_in old i)) (has i before)))
+      | inr behind ↦
+          let count : length new ≡ length old + 1 = ap length longer ∙ length-append old (record { head = constant c; kids = [] } ∷ []) in
+          let last : i ≡ id = last_place i id (length old) (length new) count behind below within late in
+          subst (λ j. AllByRecursion (IsInTable new) (companions_of (term_in new j))) (sym last)
+          (subst (λ t. AllByRecursion (IsInTable new) (companions_of t)) (sym term) tt)
+    ]
+
+-- those of what was made were made too
+pub companions_made : (old mid new : List Node) (mark : ℕ) → mark ≡ length old → Grows old mid → HasCompanions old → (HasCompanions (take mark mid) → HasCompanions new) → HasCompanions new
+companions_made old mid new mark e g has made = made (subst HasCompanions (sym (ap (λ n. take n mid) e ∙ kept_where_grown old mid g)) has)
+
 -- ---- What a declaration leaves
 
 -- a constant that is not in the table yet is a node more
@@ -332,30 +384,29 @@ live_declared stays old new before after s name sort live fresh h =
     let one : Node = record { head = constant c; kids = [] } in
     let none : constant_named (constants_of s) name ≡ None =
     no_constant old (named_by before.names name) (constant_named (constants_of s) name) (definition_named (definitions_of s) name) (live.named name) fresh in
-    let longer : new ≡ old ++ one ∷ [] = grown_in old new x.id c (ap (λ cs. constant_named cs name) live.constants ∙ none) h.node h.grown in
+    let unnamed : constant_named (constants_in_table old) name ≡ None = ap (λ cs. constant_named cs name) live.constants ∙ none in
+    let longer : new ≡ old ++ one ∷ [] = grown_in old new x.id c unnamed h.node h.grown in
     let within : x.id < length new = slice_get_within new x.id one h.node in
-    let later : constants_in (items_of (with_item s.levels (declared c))) ≡ constants_of s ++ c ∷ [] = constants_with s.levels (declared c) in
-    let same : definitions_in (items_of (with_item s.levels (declared c))) ≡ definitions_of s = definitions_with s.levels (declared c) ∙ append-nil (definitions_of s) in
+    let more : State = grown s (declared c) in
+    let later : constants_of more ≡ constants_of s ++ c ∷ [] = constants_with s (declared c) in
+    let same : definitions_of more ≡ definitions_of s = definitions_with s (declared c) ∙ append-nil (definitions_of s) in
     let table : constants_in_table new ≡ constants_of s ++ c ∷ [] =
     ap constants_in_table longer ∙ flat_map-append (λ (n : Node). constants_of_head n.head) old (one ∷ []) ∙ ap (λ l. l ++ c ∷ []) live.constants in
-    let apart : IsDistinct bytes_eq (map (λ (d : Constant). d.name) (constants_of s)) = subst (λ cs. IsDistinct bytes_eq (map (λ (d : Constant). d.name) cs)) live.constants live.distinct in
-    let distinct : IsDistinct bytes_eq (map (λ (d : Constant). d.name) (constants_of s) ++ name ∷ []) =
-    distinct_last (map (λ (d : Constant). d.name) (constants_of s)) name apart (differ_from_unnamed (constants_of s) name none) in
     let stand = stand_longer stays old new (one ∷ []) before.asserted (map normal_of (assertions_of s)) longer (record { within = live.within; terms = live.terms }) in
-    let more : State = grown s (declared c) in
     subst (λ standing. IsLive new standing more) (sym h.stands)
     (record {
       named = names_with_constant new before.names s more c x (names_stay stays old new (one ∷ []) before.names s longer live.named) fresh
           (record { within = within; normal = h.term; sort = h.sorted }) later same;
       fits = subst DefinitionsFit (sym same) live.fits;
       constants = table ∙ sym later;
-      distinct = subst (IsDistinct bytes_eq) (sym (ap (map (λ (d : Constant). d.name)) table ∙ map-append (λ (d : Constant). d.name) (constants_of s) (c ∷ []))) distinct;
+      companions = companions_with_constant stays old new x.id c live.companions longer within (not_before old new x.id c unnamed longer h.node) h.term;
       within = stand.within;
-      terms = stand.terms ∙ ap (map normal_of) (sym (assertions_with s.levels (declared c) ∙ append-nil (assertions_of s)));
+      terms = stand.terms ∙ ap (map normal_of) (sym (assertions_with s (declared c) ∙ append-nil (assertions_of s)));
       items =
-          subst (HasItems new (with_constant before name x)) (sym (items_of-with_item s.levels (declared c)))
-          (has_constant stays old new (one ∷ []) before (items_of s.levels) c x longer live.items within h.term h.sorted);
-      unpushed = pushed_with s.levels (declared c) ∙ live.unpushed;
+          items_with new (with_constant before name x) s before.next (declared c) live.next
+          (has_constant stays old new (one ∷ []) before (numbered_items s.levels) c x longer live.items within h.term h.sorted);
+      next = next_after before.next s.next live.next;
+      unpushed = pushed_with s.levels (record { number = s.next; item = declared c }) ∙ live.unpushed;
     })
 
 -- what the names say of a declaration is what the live state says
@@ -381,23 +432,24 @@ refused_declaration ns standing s name sorts sort n broken live = declared_alike
 -- ---- What a definition leaves
 
 pub live_defined : TermStays → (old new : List Node) (before : Standing) (s : State) (d : code.Definition) (e : Definition) → IsLive old before s → Grows old new
-    → IsDefined new d e → RootFits e.parameters e.body → IsLive new (with_definition before e.name d) (grown s (defined e))
-live_defined stays old new before s d e live g is fit =
-    let same : constants_in (items_of (with_item s.levels (defined e))) ≡ constants_of s = constants_with s.levels (defined e) ∙ append-nil (constants_of s) in
-    let later : definitions_in (items_of (with_item s.levels (defined e))) ≡ definitions_of s ++ e ∷ [] = definitions_with s.levels (defined e) in
-    let stand = stand_longer stays old new g.more before.asserted (map normal_of (assertions_of s)) g.all (record { within = live.within; terms = live.terms }) in
+    → HasCompanions new → IsDefined new d e → RootFits e.parameters e.body → IsLive new (with_definition before e.name d) (grown s (defined e))
+live_defined stays old new before s d e live g companions is fit =
     let more : State = grown s (defined e) in
+    let same : constants_of more ≡ constants_of s = constants_with s (defined e) ∙ append-nil (constants_of s) in
+    let later : definitions_of more ≡ definitions_of s ++ e ∷ [] = definitions_with s (defined e) in
+    let stand = stand_longer stays old new g.more before.asserted (map normal_of (assertions_of s)) g.all (record { within = live.within; terms = live.terms }) in
     record {
       named = names_with_definition new before.names s more e d (names_stay stays old new g.more before.names s g.all live.named) is same later;
       fits = subst DefinitionsFit (sym later) (fits_more (definitions_of s) e live.fits fit);
       constants = same_constants old new g ∙ live.constants ∙ sym same;
-      distinct = subst (λ cs. IsDistinct bytes_eq (map (λ (d : Constant). d.name) cs)) (sym (same_constants old new g)) live.distinct;
+      companions = companions;
       within = stand.within;
-      terms = stand.terms ∙ ap (map normal_of) (sym (assertions_with s.levels (defined e) ∙ append-nil (assertions_of s)));
+      terms = stand.terms ∙ ap (map normal_of) (sym (assertions_with s (defined e) ∙ append-nil (assertions_of s)));
       items =
-          subst (HasItems new (with_definition before e.name d)) (sym (items_of-with_item s.levels (defined e)))
-          (has_definition stays old new g.more before (items_of s.levels) e.name d e g.all live.items);
-      unpushed = pushed_with s.levels (defined e) ∙ live.unpushed;
+          items_with new (with_definition before e.name d) s before.next (defined e) live.next
+          (has_definition stays old new g.more before (numbered_items s.levels) e.name d e g.all live.items);
+      next = next_after before.next s.next live.next;
+      unpushed = pushed_with s.levels (record { number = s.next; item = defined e }) ∙ live.unpushed;
     }
 
 -- ---- What an assertion leaves
@@ -408,11 +460,11 @@ names_same ns names s t c d h = λ name.
     (subst (λ ds. SameNamed ns (named_by names name) (constant_named (constants_of s) name) (definition_named ds name)) (sym d) (h name))
 
 pub live_asserted : TermStays → (old new : List Node) (before : Standing) (s : State) (t : Term) (id : ℕ) (holds : Bool) → IsLive old before s → Grows old new
-    → StandsFor new id (normal_of t) → holds ≡ holds_number (normal_of t) → IsLive new (with_assertion before id holds) (grown s (asserted t))
-live_asserted stays old new before s t id holds live g stands number =
+    → HasCompanions new → StandsFor new id (normal_of t) → holds ≡ holds_number (normal_of t) → IsLive new (with_assertion before id holds) (grown s (asserted t))
+live_asserted stays old new before s t id holds live g companions stands number =
     let more : State = grown s (asserted t) in
-    let same : constants_of more ≡ constants_of s = constants_with s.levels (asserted t) ∙ append-nil (constants_of s) in
-    let alike : definitions_of more ≡ definitions_of s = definitions_with s.levels (asserted t) ∙ append-nil (definitions_of s) in
+    let same : constants_of more ≡ constants_of s = constants_with s (asserted t) ∙ append-nil (constants_of s) in
+    let alike : definitions_of more ≡ definitions_of s = definitions_with s (asserted t) ∙ append-nil (definitions_of s) in
     let stand =
     stand_last new before.asserted (map normal_of (assertions_of s)) id (normal_of t)
     (stand_longer stays old new g.more before.asserted (map normal_of (assertions_of s)) g.all (record { within = live.within; terms = live.terms })) stands.within stands.term in
@@ -420,50 +472,54 @@ live_asserted stays old new before s t id holds live g stands number =
       named = names_same new before.names s more same alike (names_stay stays old new g.more before.names s g.all live.named);
       fits = subst DefinitionsFit (sym alike) live.fits;
       constants = same_constants old new g ∙ live.constants ∙ sym same;
-      distinct = subst (λ cs. IsDistinct bytes_eq (map (λ (d : Constant). d.name) cs)) (sym (same_constants old new g)) live.distinct;
+      companions = companions;
       within = stand.within;
-      terms = stand.terms ∙ sym (ap (map normal_of) (assertions_with s.levels (asserted t)) ∙ map-append normal_of (assertions_of s) (t ∷ []));
+      terms = stand.terms ∙ sym (ap (map normal_of) (assertions_with s (asserted t)) ∙ map-append normal_of (assertions_of s) (t ∷ []));
       items =
-          subst (HasItems new (with_assertion before id holds)) (sym (items_of-with_item s.levels (asserted t)))
-          (has_assertion stays old new g.more before (items_of s.levels) t id holds g.all live.items stands.within stands.term number);
-      unpushed = pushed_with s.levels (asserted t) ∙ live.unpushed;
+          items_with new (with_assertion before id holds) s before.next (asserted t) live.next
+          (has_assertion stays old new g.more before (numbered_items s.levels) t id holds g.all live.items stands.within stands.term number);
+      next = next_after before.next s.next live.next;
+      unpushed = pushed_with s.levels (record { number = s.next; item = asserted t }) ∙ live.unpushed;
     }
 
 -- ---- What the other commands leave
 
--- what is live rests on the levels alone
-pub live_by_levels : (ns : List Node) (standing : Standing) (s t : State) → t.levels ≡ s.levels → IsLive ns standing s → IsLive ns standing t
-live_by_levels ns standing s t e live =
+-- what is live rests on the levels and the next number alone
+live_by_levels : (ns : List Node) (standing : Standing) (s t : State) → t.levels ≡ s.levels → t.next ≡ s.next → IsLive ns standing s → IsLive ns standing t
+live_by_levels ns standing s t e f live =
     let same : constants_of t ≡ constants_of s = ap (λ l. constants_in (items_of l)) e in
     let alike : definitions_of t ≡ definitions_of s = ap (λ l. definitions_in (items_of l)) e in
     record {
       named = names_same ns standing.names s t same alike live.named;
       fits = subst DefinitionsFit (sym alike) live.fits;
       constants = live.constants ∙ sym same;
-      distinct = live.distinct;
+      companions = live.companions;
       within = live.within;
       terms = live.terms ∙ ap (λ l. map normal_of (assertions_in (items_of l))) (sym e);
-      items = subst (λ l. HasItems ns standing (items_of l)) (sym e) live.items;
-      unpushed = ap (λ (l : List (List Item)). length l - 1) e ∙ live.unpushed;
+      items = subst (λ l. HasItems ns standing (numbered_items l)) (sym e) live.items;
+      next = live.next ∙ sym f;
+      unpushed = ap (λ (l : List (List LiveItem)). length l - 1) e ∙ live.unpushed;
     }
 
 pub leaves_asked : (ns : List Node) (standing : Standing) (s : State) (outcome : Outcome) (arguments : Trees) (ask : Ask) (c : Command) → outcome ≡ accepted c
-    → Asks ns ask arguments c → ((reply : Reply) → (effect s c reply).levels ≡ s.levels) → IsLive ns standing s → IsAccepted s arguments outcome ask ns standing
-leaves_asked ns standing s outcome arguments ask c is asks keeps live =
-    record { command = c; is = is; asks = asks; live = λ reply. live_by_levels ns standing s (effect s c reply) (keeps reply) live }
+    → Asks ns ask arguments c → ((reply : Reply) → (effect s c reply).levels ≡ s.levels) → ((reply : Reply) → (effect s c reply).next ≡ s.next) → IsLive ns standing s
+    → IsAccepted s arguments outcome ask ns standing
+leaves_asked ns standing s outcome arguments ask c is asks keeps counts live =
+    record { command = c; is = is; asks = asks; live = λ reply. live_by_levels ns standing s (effect s c reply) (keeps reply) (counts reply) live }
 
 -- what is live stays so where the table grows by operators and numbers
-pub live_grown : TermStays → (old new : List Node) (standing : Standing) (s : State) → Grows old new → IsLive old standing s → IsLive new standing s
-live_grown stays old new standing s g live =
+live_grown : TermStays → (old new : List Node) (standing : Standing) (s : State) → Grows old new → HasCompanions new → IsLive old standing s → IsLive new standing s
+live_grown stays old new standing s g companions live =
     let stand = stand_longer stays old new g.more standing.asserted (map normal_of (assertions_of s)) g.all (record { within = live.within; terms = live.terms }) in
     record {
       named = names_stay stays old new g.more standing.names s g.all live.named;
       fits = live.fits;
       constants = same_constants old new g ∙ live.constants;
-      distinct = subst (λ cs. IsDistinct bytes_eq (map (λ (d : Constant). d.name) cs)) (sym (same_constants old new g)) live.distinct;
+      companions = companions;
       within = stand.within;
       terms = stand.terms;
-      items = items_kept stays old new g.more standing (items_of s.levels) g.all live.items;
+      items = items_kept stays old new g.more standing (numbered_items s.levels) g.all live.items;
+      next = live.next;
       unpushed = live.unpushed;
     }
 
@@ -526,30 +582,30 @@ missorted_assertion s tree ns x known found other =
     assertion_past s tree (Some found.term) known found.is ∙ by_sort found.term false (ap (are_same_sort bool_sort) (sym found.typed.sort) ∙ same_bool (sort_of x.sort) ∙ other)
 
 pub nonlinear_assertion : (s : State) (tree : Tree) (ns : List Node) (x : Typed) → fault_error (has_unknown (is_live_name s) [] tree) (has_clash tree) ≡ None
-    → StandsAs (term_of (scope_of s) tree) ns x → is_bool (sort_of x.sort) ≡ true → (x.id < length ns → is_linear (term_in ns x.id) ≡ false) → assertion_of s tree ≡ refused 4
+    → StandsAs (term_of (scope_of s) tree) ns x → is_bool (sort_of x.sort) ≡ true → is_linear (term_in ns x.id) ≡ false → assertion_of s tree ≡ refused 4
 nonlinear_assertion s tree ns x known found bool crooked =
     assertion_past s tree (Some found.term) known found.is ∙ by_sort found.term true (ap (are_same_sort bool_sort) (sym found.typed.sort) ∙ same_bool (sort_of x.sort) ∙ bool)
-    ∙ ap (λ b. linear_outcome b (assert_term found.term)) (ap is_linear (sym found.typed.normal) ∙ crooked found.typed.within)
+    ∙ ap (λ b. linear_outcome b (assert_term found.term)) (ap is_linear (sym found.typed.normal) ∙ crooked)
 
 pub linear_assertion : (s : State) (tree : Tree) (ns : List Node) (x : Typed) → fault_error (has_unknown (is_live_name s) [] tree) (has_clash tree) ≡ None
-    → StandsAs (term_of (scope_of s) tree) ns x → is_bool (sort_of x.sort) ≡ true → (x.id < length ns → is_linear (term_in ns x.id) ≡ true) → Asserts (assertion_of s tree) ns x.id
+    → StandsAs (term_of (scope_of s) tree) ns x → is_bool (sort_of x.sort) ≡ true → is_linear (term_in ns x.id) ≡ true → Asserts (assertion_of s tree) ns x.id
 linear_assertion s tree ns x known found bool straight =
     record {
       term = found.term;
       is = assertion_past s tree (Some found.term) known found.is ∙ by_sort found.term true (ap (are_same_sort bool_sort) (sym found.typed.sort) ∙ same_bool (sort_of x.sort) ∙ bool)
-          ∙ ap (λ b. linear_outcome b (assert_term found.term)) (ap is_linear (sym found.typed.normal) ∙ straight found.typed.within);
+          ∙ ap (λ b. linear_outcome b (assert_term found.term)) (ap is_linear (sym found.typed.normal) ∙ straight);
       stands = record { within = found.typed.within; term = found.typed.normal };
     }
 
 pub leaves_asserted : TermStays → (old new : List Node) (before : Standing) (s : State) (arguments : Trees) (outcome : Outcome) (id : ℕ) (holds : Bool) → IsLive old before s
-    → Grows old new → Asserts outcome new id → (id < length new → holds ≡ holds_number (term_in new id))
+    → Grows old new → HasCompanions new → Asserts outcome new id → holds ≡ holds_number (term_in new id)
     → IsAccepted s arguments outcome changed new (with_assertion before id holds)
-leaves_asserted stays old new before s arguments outcome id holds live g h number =
+leaves_asserted stays old new before s arguments outcome id holds live g companions h number =
     record {
       command = assert_term h.term;
       is = h.is;
       asks = tt;
-      live = λ reply. live_asserted stays old new before s h.term id holds live g h.stands (number h.stands.within ∙ ap holds_number h.stands.term);
+      live = λ reply. live_asserted stays old new before s h.term id holds live g companions h.stands (number ∙ ap holds_number h.stands.term);
     }
 
 -- ---- The rules on terms whose values are asked for
@@ -591,26 +647,28 @@ linear_values s ts ns xs known found straight =
       typed = found.typed;
     }
 
+-- what is returned, where something else holds too
+pub ok_with : {T E Q : Type 0} {P R : T → Type 0} (r : Result T E) → OnOk r Q → (Q → (x : T) → P x → R x) → IfOk r P → IfOk r R
+ok_with (Ok x) q f p = f q x p
+ok_with (Err e) q f p = tt
+
 pub leaves_values : TermStays → (old new : List Node) (standing : Standing) (s : State) (arguments ts : Trees) (outcome : Outcome) (xs : List Typed) → IsLive old standing s → Grows old new
-    → arguments ≡ trees (node ts) no_trees → Shows ts outcome new xs → IsAccepted s arguments outcome (show_values xs) new standing
-leaves_values stays old new standing s arguments ts outcome xs live g only h =
+    → HasCompanions new → arguments ≡ trees (node ts) no_trees → Shows ts outcome new xs → IsAccepted s arguments outcome (show_values xs) new standing
+leaves_values stays old new standing s arguments ts outcome xs live g companions only h =
     record {
       command = get_value (asked_of ts h.terms);
       is = h.is;
       asks = record { list = ts; terms = h.terms; only = only; typed = h.typed; is = refl };
-      live = λ reply. live_grown stays old new standing s g live;
+      live = λ reply. live_grown stays old new standing s g companions live;
     }
 
 -- all terms of a list are linear, where all that are numbered so are
-pub linear_each : (ns : List Node) (xs : List Typed) (ts : Terms) → AreTyped ns xs ts
-    → list_all (λ (x : Typed). nat_lt x.id (length ns) && is_linear (term_in ns x.id)) xs ≡ all_linear ts
+pub linear_each : (ns : List Node) (xs : List Typed) (ts : Terms) → AreTyped ns xs ts → list_all (λ (x : Typed). is_linear (term_in ns x.id)) xs ≡ all_linear ts
 linear_each ns [] no_terms typed = refl
 linear_each ns [] (terms t ts) typed = absurd typed
 linear_each ns (x ∷ xs) no_terms typed = absurd typed
 linear_each ns (x ∷ xs) (terms t ts) typed =
-    let below : nat_lt x.id (length ns) ≡ true = lt-ltb x.id (length ns) typed.0.within in
-    ap (λ b. (b && is_linear (term_in ns x.id)) && list_all (λ (y : Typed). nat_lt y.id (length ns) && is_linear (term_in ns y.id)) xs) below
-    ∙ ap (λ u. is_linear u && list_all (λ (y : Typed). nat_lt y.id (length ns) && is_linear (term_in ns y.id)) xs) typed.0.normal
+    ap (λ u. is_linear u && list_all (λ (y : Typed). is_linear (term_in ns y.id)) xs) typed.0.normal
     ∙ ap (λ b. is_linear (normal_of t) && b) (linear_each ns xs ts typed.1)
 
 -- ---- The rules on a definition
@@ -714,13 +772,13 @@ pub untyped_body : (s : State) (name : List ℕ) (names : List (List ℕ)) (sort
 untyped_body s name names sorts sort body none = by_body s name names sorts sort body None none
 
 pub nonlinear_body : (s : State) (name : List ℕ) (names : List (List ℕ)) (sorts : List Sort) (sort : Sort) (body : Tree) (ns : List Node) (x : Typed)
-    → StandsAs (body_of s names sorts sort body) ns x → (x.id < length ns → is_linear (term_in ns x.id) ≡ false) → definition_by s name names (Some sorts) (Some sort) body ≡ refused 4
+    → StandsAs (body_of s names sorts sort body) ns x → is_linear (term_in ns x.id) ≡ false → definition_by s name names (Some sorts) (Some sort) body ≡ refused 4
 nonlinear_body s name names sorts sort body ns x found crooked =
     by_body s name names sorts sort body (Some found.term) found.is
-    ∙ ap (λ b. linear_outcome b (define (record { name = name; parameters = sorts; body = found.term }))) (ap is_linear (sym found.typed.normal) ∙ crooked found.typed.within)
+    ∙ ap (λ b. linear_outcome b (define (record { name = name; parameters = sorts; body = found.term }))) (ap is_linear (sym found.typed.normal) ∙ crooked)
 
 pub linear_body : TermFits → (ns : List Node) (s : State) (name : List ℕ) (names : List (List ℕ)) (sort : Sort) (body : Tree) (d : code.Definition) → DefinitionsFit (definitions_of s)
-    → StandsAs (body_of s names (map sort_of d.parameters.items) sort body) ns d.body → (d.body.id < length ns → is_linear (term_in ns d.body.id) ≡ true)
+    → StandsAs (body_of s names (map sort_of d.parameters.items) sort body) ns d.body → is_linear (term_in ns d.body.id) ≡ true
     → Defines name (definition_by s name names (Some (map sort_of d.parameters.items)) (Some sort) body) ns d
 linear_body fit ns s name names sort body d definitions found straight =
     let sorts : List Sort = map sort_of d.parameters.items in
@@ -728,21 +786,21 @@ linear_body fit ns s name names sort body d definitions found straight =
     record {
       definition = k;
       is = by_body s name names sorts sort body (Some found.term) found.is
-          ∙ ap (λ b. linear_outcome b (define k)) (ap is_linear (sym found.typed.normal) ∙ straight found.typed.within);
+          ∙ ap (λ b. linear_outcome b (define k)) (ap is_linear (sym found.typed.normal) ∙ straight);
       named = refl;
       defined = record { parameters = refl; body = found.typed };
       fits = body_fits fit s names sorts sort body found.term definitions found.is;
     }
 
 pub leaves_defined : TermStays → (old new : List Node) (before : Standing) (s : State) (arguments : Trees) (name : List ℕ) (outcome : Outcome) (d : code.Definition) → IsLive old before s
-    → Grows old new → Defines name outcome new d → IsAccepted s arguments outcome changed new (with_definition before name d)
-leaves_defined stays old new before s arguments name outcome d live g h =
+    → Grows old new → HasCompanions new → Defines name outcome new d → IsAccepted s arguments outcome changed new (with_definition before name d)
+leaves_defined stays old new before s arguments name outcome d live g companions h =
     record {
       command = define h.definition;
       is = h.is;
       asks = tt;
       live = λ reply. subst (λ w. IsLive new (with_definition before w d) (grown s (defined h.definition))) h.named
-          (live_defined stays old new before s d h.definition live g h.defined h.fits);
+          (live_defined stays old new before s d h.definition live g companions h.defined h.fits);
     }
 
 -- ---- The parameters of a definition
@@ -866,17 +924,17 @@ bound_next stays old new frame longer name x t g typed same ps bound = λ other.
 
 -- ---- What asks and changes nothing
 
-pub leaves_checked : (ns : List Node) (standing : Standing) (s : State) (arguments : Trees) → IsLive ns standing s → IsAccepted s arguments (accepted check_sat) check ns standing
-leaves_checked ns standing s arguments live = leaves_asked ns standing s (accepted check_sat) arguments check check_sat refl refl (λ reply. refl) live
+pub leaves_checked : (ns : List Node) (standing : Standing) (s : State) (arguments : Trees) → IsLive ns standing s → IsAccepted s arguments (accepted (check_sat [])) check ns standing
+leaves_checked ns standing s arguments live = leaves_asked ns standing s (accepted (check_sat [])) arguments check (check_sat []) refl refl (λ reply. refl) (λ reply. refl) live
 
 pub leaves_model : (ns : List Node) (standing : Standing) (s : State) (arguments : Trees) → IsLive ns standing s → IsAccepted s arguments (accepted get_model) show_model ns standing
-leaves_model ns standing s arguments live = leaves_asked ns standing s (accepted get_model) arguments show_model get_model refl refl (λ reply. refl) live
+leaves_model ns standing s arguments live = leaves_asked ns standing s (accepted get_model) arguments show_model get_model refl refl (λ reply. refl) (λ reply. refl) live
 
 pub leaves_unheeded : (ns : List Node) (standing : Standing) (s : State) (arguments : Trees) → IsLive ns standing s → IsAccepted s arguments (accepted no_effect) nothing ns standing
-leaves_unheeded ns standing s arguments live = leaves_asked ns standing s (accepted no_effect) arguments nothing no_effect refl refl (λ reply. refl) live
+leaves_unheeded ns standing s arguments live = leaves_asked ns standing s (accepted no_effect) arguments nothing no_effect refl refl (λ reply. refl) (λ reply. refl) live
 
 pub leaves_left : (ns : List Node) (standing : Standing) (s : State) (arguments : Trees) → IsLive ns standing s → IsAccepted s arguments (accepted exit) leave ns standing
-leaves_left ns standing s arguments live = leaves_asked ns standing s (accepted exit) arguments leave exit refl refl (λ reply. refl) live
+leaves_left ns standing s arguments live = leaves_asked ns standing s (accepted exit) arguments leave exit refl refl (λ reply. refl) (λ reply. refl) live
 
 -- an accepted command leaves what its ask says
 leaves_by : (s : State) (arguments : Trees) (outcome : Outcome) (ask : Ask) (ns : List Node) (standing : Standing) (c : Command) → Asks ns ask arguments c
@@ -898,7 +956,7 @@ pub leaves_only : (ns : List Node) (standing : Standing) (s : State) (name : Com
     → Leaves s arguments (outcome_by s name arguments) ask ns standing
 leaves_only ns standing s name arguments ask h live =
     leaves_by s arguments (outcome_by s name arguments) ask ns standing h.command (h.asks ns)
-    (leaves_asked ns standing s (outcome_by s name arguments) arguments ask h.command (h.is s) (h.asks ns) (h.keeps s) live)
+    (leaves_asked ns standing s (outcome_by s name arguments) arguments ask h.command (h.is s) (h.asks ns) (h.keeps s) (h.counts s) live)
 
 -- what holds, holds where the command isn't taken
 pub if_skipped : {P : Type 0} (ask : Ask) → P → IfSkipped ask P

@@ -1,7 +1,7 @@
 -- Lemmas of the loops of elaboration: one tree more, and one that has no term.
 use Rattle.std.proofs.Common.{◌≡◌, ℕ, ◌<◌, ◌+◌, suc, List, [], ◌∷◌, ◌++◌, length, map, take, drop, get_or, Option, None, sym, ap, ◌∙◌, subst}
 use Rattle.nz_sexpr.specs.declared.tree.Tree as code
-use Rattle.nz_sexpr.specs.View.{view}
+use Rattle.nz_sexpr.specs.View.{view, seen}
 use Rattle.nz_spec.specs.Tree.{symbol, Tree, leaf, node, no_trees, trees}
 use Rattle.nz_spec.specs.Reading.{trees_from}
 use Rattle.nz_spec.specs.Term.{Term}
@@ -9,7 +9,6 @@ use Rattle.nz_spec.specs.Table.{Node}
 use Rattle.nz_spec.specs.Elaboration.{Scope, term_of, terms_of, bindings_of, binding_onto}
 use Rattle.nz_sort.specs.declared.typed.Typed.{Typed}
 use Rattle.nz_sort.specs.declared.names.Named as named
-use Rattle.nz_sort.specs.Form.{seen}
 use Rattle.nz_sort.specs.Typed.{Grows}
 use Rattle.nz_sort.specs.Names.{bound_in, first_of, IsScope}
 use Rattle.nz_sort.specs.Elaborate.{StandsAs}

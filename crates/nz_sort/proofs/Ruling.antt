@@ -3,7 +3,10 @@ use Rattle.std.proofs.Common.{◌≡◌, ◌||◌, ℕ, List, Option, Some, None
 use Rattle.nz_spec.specs.Tree.{Token, symbol, keyword, numeral, decimal, hexadecimal, binary, literal, Tree, leaf, node, Trees, trees, no_trees}
 use Rattle.nz_spec.specs.Bounds.{have_token, is_wide_token, is_long_decimal}
 use Rattle.nz_spec.specs.Form.{CommandName, declare_const_name, declare_fun_name, define_fun_name, assert_name, get_value_name, get_info_name, set_option_name, echo_name, command_name, has_form, is_name, is_empty, tree_symbol}
-use Rattle.nz_spec.specs.Script.{State, Outcome, refused, not_taken, outcome_of, outcome_named, outcome_by, passes_limit, takes_command, any_tree, is_unknown_sort, declaration_of, definition_of}
+use Rattle.nz_spec.specs.Live.{State}
+use Rattle.nz_spec.specs.Command.{Outcome, refused, not_taken}
+use Rattle.nz_spec.specs.Script.{outcome_of, outcome_named, outcome_by, any_tree, is_unknown_sort, declaration_of, definition_of}
+use Rattle.nz_spec.specs.Taken.{passes_limit, takes_command}
 use Rattle.nz_sort.specs.Form.{IsHeadless, IsNotOne, IsNotTwo, IsNotThree}
 use Rattle.nz_sort.specs.Elaborate.{IsWord}
 use Rattle.nz_sort.specs.Live.{arguments_of}

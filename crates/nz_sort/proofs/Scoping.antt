@@ -5,15 +5,15 @@ use Rattle.std.proofs.lemmas.List.Folds.{list_any-append}
 use Rattle.std.proofs.lemmas.Result.{IfOk-weaker}
 use Rattle.std.specs.Cmp.Lexicographic.{nat_list_eq_equiv}
 use Rattle.nz_sexpr.specs.declared.tree.Tree as code
-use Rattle.nz_sexpr.specs.View.{view}
+use Rattle.nz_sexpr.specs.View.{view, seen}
 use Rattle.nz_spec.specs.Form.{is_one_of, TermHead, term_head, let_head, name_head, no_head}
 use Rattle.nz_spec.specs.Elaboration.{is_operator}
 use Rattle.nz_spec.specs.Tree.{Token, Tree, leaf, node, Trees, trees}
-use Rattle.nz_spec.specs.Script.{bound_name, bound_names, names_bound, clash, is_unknown, has_unknown, have_unknown, has_unknown_in_let, has_unknown_bound}
+use Rattle.nz_spec.specs.Scoping.{bound_name, bound_names, names_bound, clash, is_unknown, has_unknown, have_unknown, has_unknown_in_let, has_unknown_bound}
 use Rattle.nz_sort.specs.declared.names.Named.{Named}
 use Rattle.nz_sort.specs.declared.scope.Faults.{Faults}
 use Rattle.nz_sort.specs.Faults.{is_in_frame, AreLive, AreBound}
-use Rattle.nz_sort.specs.Form.{seen, IsHeadless}
+use Rattle.nz_sort.specs.Form.{IsHeadless}
 
 or_none : (a : Bool) → (a || false) ≡ a
 or_none true = refl

@@ -2,7 +2,7 @@
 use Rattle.std.proofs.Common.{◌≡◌, ℕ, ◌<◌, ◌+◌, zero, suc, List, [], ◌∷◌, ◌++◌, length, map, take, drop, get_or, ap, arith}
 use Rattle.nz_spec.specs.Tree.{symbol, Tree, leaf, node, no_trees, trees}
 use Rattle.nz_spec.specs.Reading.{trees_from}
-use Rattle.nz_sort.specs.Elaborate.{tree_size, trees_size}
+use Rattle.nz_sexpr.specs.Sizes.{tree_size, trees_size}
 
 -- a list of trees round one of its items
 pub map_round : {X : Type 0} (f : X → Tree) (xs : List X) (i : ℕ) (x : X) → i < length xs → x ≡ get_or xs i x

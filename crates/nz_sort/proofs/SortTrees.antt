@@ -4,13 +4,12 @@ use Rattle.std.specs.Option.{MatchOption}
 use Rattle.std.specs.List.{HoldsAt}
 use Rattle.std.proofs.lemmas.List.{at_drop_more, at_drop_all}
 use Rattle.nz_sexpr.specs.declared.tree.Tree as code
-use Rattle.nz_sexpr.specs.View.{view}
+use Rattle.nz_sexpr.specs.View.{view, seen}
 use Rattle.nz_spec.specs.Tree.{Tree, node, no_trees}
 use Rattle.nz_spec.specs.Term as spec
 use Rattle.nz_spec.specs.Script.{sort_of_tree, second_tree, trees_of, sorts_onto, sorts_of_trees, parameter_sorts}
 use Rattle.nz_term.specs.declared.heads.Sort.{Sort}
 use Rattle.nz_term.specs.Constants.{sort_of}
-use Rattle.nz_sort.specs.Form.{seen}
 
 -- the second tree of a list
 pub second_some : (ts : List code.Tree) (o : Option (Bor code.Tree)) → MatchOption o (length ts ≤ 1) (λ t. (1 < length ts) × HoldsAt (λ y. t.now ≡ y) ts 1)

@@ -1,7 +1,7 @@
 -- What the acts of the code ask, and the errors that its refusals are.
 use Rattle.std.specs.Prelude.{ℕ, Option, Some, None}
-use Rattle.nz_spec.specs.Script as script
-use Rattle.nz_spec.specs.Script.{name_info, version_info, authors_info, error_behavior_info}
+use Rattle.nz_spec.specs.Command as commands
+use Rattle.nz_spec.specs.Command.{name_info, version_info, authors_info, error_behavior_info}
 use Rattle.nz_sort.specs.Live.{Ask, changed, check, show_model, show_values, show_reason, show_info, show_levels, print_success, nothing, echo, leave, unsupported}
 use Rattle.nz_sort.specs.declared.commands.Act.{Act}
 use Rattle.nz_sort.specs.declared.commands.Act.TheVariants.{Changed, Check, ShowModel, ShowValues, ShowReason, ShowInfo, ShowLevels, PrintSuccess, Nothing, Echo, Leave, Unsupported}
@@ -10,7 +10,7 @@ use Rattle.nz_sort.specs.declared.commands.Info.TheVariants.{Name, Version, Auth
 use Rattle.nz_sort.specs.declared.refusal.Refusal.{Refusal}
 use Rattle.nz_sort.specs.declared.refusal.Refusal.TheVariants as refusals
 
-abbrev pub info_meaning : Info → script.Info
+abbrev pub info_meaning : Info → commands.Info
 info_meaning Name = name_info
 info_meaning Version = version_info
 info_meaning Authors = authors_info

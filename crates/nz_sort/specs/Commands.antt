@@ -6,8 +6,12 @@ use Rattle.nz_spec.specs.Normal.{normal_of}
 use Rattle.nz_spec.specs.Table.{Node, term_in}
 use Rattle.nz_spec.specs.Form.{CommandName, is_name, is_empty}
 use Rattle.nz_spec.specs.Elaboration.{Definition as SpecDefinition, RootFits, listed, placed, term_of}
-use Rattle.nz_spec.specs.Script.{State, Command, declare_const, define, assert_term, get_value, asked_of, Outcome, accepted, refused, outcome_by, any_tree, is_unknown_sort, sort_of_tree, parameter_sorts, bound_names, clash, has_unknown, body_scope}
-use Rattle.nz_spec.specs.Reply.{Reply, effect}
+use Rattle.nz_spec.specs.Live.{State}
+use Rattle.nz_spec.specs.Command.{Command, declare_const, define, assert_term, get_value, Outcome, accepted, refused}
+use Rattle.nz_spec.specs.Script.{asked_of, outcome_by, any_tree, is_unknown_sort, sort_of_tree, parameter_sorts, body_scope}
+use Rattle.nz_spec.specs.Scoping.{bound_names, has_unknown}
+use Rattle.nz_spec.specs.Reply.{Reply}
+use Rattle.nz_spec.specs.Right.{effect}
 use Rattle.nz_term.specs.Constants.{sort_of}
 use Rattle.nz_sort.specs.declared.typed.Typed.{Typed}
 use Rattle.nz_sort.specs.declared.names.Definition.{Definition}
@@ -36,6 +40,7 @@ pub record AsksOnly (name : CommandName) (arguments : Trees) (ask : Ask) : Type 
   pub is : (s : State) → outcome_by s name arguments ≡ accepted command
   pub asks : (ns : List Node) → Asks ns ask arguments command
   pub keeps : (s : State) (reply : Reply) → (effect s command reply).levels ≡ s.levels
+  pub counts : (s : State) (reply : Reply) → (effect s command reply).next ≡ s.next
 
 -- ---- Symbols
 
@@ -103,9 +108,9 @@ abbrev pub with_constant : Standing → List ℕ → Typed → Standing
 with_constant before name term =
     record before {
       names = before.names ++ (name, kinds.Constant term) ∷ [];
-      constants = before.constants ++ record { number = before.count; term = term.id } ∷ [];
+      constants = before.constants ++ record { number = before.next; term = term.id } ∷ [];
       accepted = before.accepted ++ term.id ∷ [];
-      count = before.count + 1;
+      next = before.next + 1;
       holds_numbers = before.holds_numbers || not (is_bool (sort_of term.sort));
     }
 
@@ -114,17 +119,17 @@ abbrev pub with_definition : Standing → List ℕ → Definition → Standing
 with_definition before name definition =
     record before {
       names = before.names ++ (name, kinds.Definition definition) ∷ [];
-      count = before.count + 1;
+      next = before.next + 1;
     }
 
 -- what stands with an assertion more
 abbrev pub with_assertion : Standing → ℕ → Bool → Standing
 with_assertion before id holds =
     record before {
-      assertions = before.assertions ++ record { number = before.count; term = id } ∷ [];
+      assertions = before.assertions ++ record { number = before.next; term = id } ∷ [];
       asserted = before.asserted ++ id ∷ [];
       accepted = before.accepted ++ id ∷ [];
-      count = before.count + 1;
+      next = before.next + 1;
       holds_numbers = before.holds_numbers || holds;
     }
 

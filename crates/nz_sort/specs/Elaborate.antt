@@ -1,6 +1,6 @@
 -- What elaboration makes of trees: terms in the table.
-use Rattle.std.specs.Prelude.{◌≡◌, ℕ, ◌<◌, ◌+◌, suc, List, [], ◌∷◌, length, All, Option, Some, None, option_and_then, ⊤}
-use Rattle.nz_spec.specs.Tree.{Tree, leaf, node, Trees, no_trees, trees}
+use Rattle.std.specs.Prelude.{◌≡◌, ℕ, ◌<◌, List, length, All, Option, Some, option_and_then, ⊤}
+use Rattle.nz_spec.specs.Tree.{Tree, leaf, node, Trees}
 use Rattle.nz_spec.specs.Term.{Sort, Term, Terms}
 use Rattle.nz_spec.specs.Normal.{normals_of}
 use Rattle.nz_spec.specs.Table.{Node, term_in, terms_at}
@@ -42,14 +42,3 @@ IsWord (node ts) = ⊥
 -- a name over the terms of these trees
 abbrev pub application_of : Scope → List ℕ → Trees → Option Term
 application_of sc name ts = option_and_then (application sc name) (terms_of sc ts)
-
--- ---- A measure
-
-abbrev mutual
-  pub tree_size : Tree → ℕ
-  tree_size (leaf t) = 1
-  tree_size (node ts) = suc (trees_size ts)
-
-  pub trees_size : Trees → ℕ
-  trees_size no_trees = 0
-  trees_size (trees t ts) = suc (tree_size t + trees_size ts)

@@ -1,9 +1,7 @@
 -- How the code takes trees apart to tell their form.
-use Rattle.std.specs.Prelude.{ℕ, List, map, ⊤}
+use Rattle.std.specs.Prelude.{ℕ, List, ⊤}
 use Rattle.std.specs.Borrow.{Bor}
 use Rattle.nz_spec.specs.Tree.{leaf, node, Trees, no_trees, trees}
-use Rattle.nz_spec.specs.Reading.{trees_from}
-use Rattle.nz_sexpr.specs.View.{view}
 use Rattle.nz_spec.specs.Form as form
 use Rattle.nz_sexpr.specs.declared.tree.Tree as code
 use Rattle.nz_sort.specs.declared.form.term.TermHead as head
@@ -12,10 +10,6 @@ use Rattle.nz_sort.specs.declared.form.command.CommandName as command
 use Rattle.nz_sort.specs.declared.form.command.CommandName.TheVariants as commands
 use Rattle.nz_sort.specs.declared.form.command.WishAttribute as attribute
 use Rattle.nz_sort.specs.declared.form.command.WishAttribute.TheVariants as attributes
-
--- the trees of a list of the code
-abbrev pub seen : List code.Tree → Trees
-seen list = trees_from (map view list)
 
 -- no token stands first
 abbrev pub IsHeadless : Trees → Type 0

@@ -6,16 +6,21 @@ use Rattle.nz_spec.specs.Term.{Terms}
 use Rattle.nz_spec.specs.Normal.{normal_of}
 use Rattle.nz_spec.specs.Table.{Node, term_in}
 use Rattle.nz_spec.specs.Elaboration.{Definition, RootFits, constant_named, definition_named}
-use Rattle.nz_spec.specs.Decide.{constants_in_table, HasDistinctNames}
-use Rattle.nz_spec.specs.Script as script
-use Rattle.nz_spec.specs.Script.{State, Item, items_of, item_terms, items_hold_numbers, constants_of, definitions_of, assertions_of, pushed_levels, Info, Command, declare_const, define, assert_term, check_sat, get_model, get_value, get_info, get_levels, get_reason, set_print_success, no_effect, exit, asked_of, Outcome, accepted, not_taken, outcome_of}
-use Rattle.nz_spec.specs.Reply.{Reply, effect}
+use Rattle.nz_spec.specs.Order.{HasCompanions}
+use Rattle.nz_spec.specs.Decide.{constants_in_table}
+use Rattle.nz_spec.specs.Command as commands
+use Rattle.nz_spec.specs.Live.{State, LiveItem, numbered_items, item_terms, constants_of, definitions_of, assertions_of, pushed_levels}
+use Rattle.nz_spec.specs.Taken.{items_hold_numbers}
+use Rattle.nz_spec.specs.Command.{Info, Command, declare_const, define, assert_term, check_sat, get_model, get_value, get_info, get_levels, get_reason, set_print_success, no_effect, exit, Outcome, accepted, not_taken}
+use Rattle.nz_spec.specs.Script.{asked_of, outcome_of}
+use Rattle.nz_spec.specs.Reply.{Reply}
+use Rattle.nz_spec.specs.Right.{effect}
 use Rattle.nz_sort.specs.declared.typed.Typed.{Typed}
 use Rattle.nz_sort.specs.declared.names.Named.{Named}
 use Rattle.nz_sort.specs.declared.items.Accepted.{Accepted}
 use Rattle.nz_sort.specs.declared.items.Goal.{Goal}
 use Rattle.nz_sort.specs.declared.items.Wish.{Wish}
-use Rattle.nz_sort.specs.Items.{table_numbers, StandForAll, AreConstants, AreAssertions, AreGoals, AreWishes}
+use Rattle.nz_sort.specs.Items.{table_numbers, StandForAll, items_in, AreConstants, AreAssertions, AreGoals, AreWishes}
 use Rattle.nz_sort.specs.Names.{named_by, SameNamed}
 use Rattle.nz_sort.specs.Typed.{AreTyped}
 
@@ -28,12 +33,12 @@ pub record Standing : Type 0 where
   pub goals : List Goal
   pub wishes : List Wish
   pub accepted : List ℕ  -- the terms of the items of all kinds that have one
-  pub count : ℕ  -- of the items of all kinds
+  pub next : ℕ  -- the number of the next item
   pub holds_numbers : Bool  -- a term of theirs holds a number
 
 -- what stands, by the parts that the code keeps
 abbrev pub standing_of : List (List ℕ × Named) → List Accepted → List Accepted → List Goal → List Wish → List ℕ → ℕ → Bool → Standing
-standing_of names constants assertions goals wishes numbers count holds_numbers =
+standing_of names constants assertions goals wishes numbers next holds_numbers =
     record {
       names = names;
       constants = constants;
@@ -42,19 +47,18 @@ standing_of names constants assertions goals wishes numbers count holds_numbers 
       goals = goals;
       wishes = wishes;
       accepted = numbers;
-      count = count;
+      next = next;
       holds_numbers = holds_numbers;
     }
 
 -- The items of each kind, and of all kinds, are those of these live items.
-pub record HasItems (ns : List Node) (standing : Standing) (live : List Item) : Type 0 where
+pub record HasItems (ns : List Node) (standing : Standing) (live : List LiveItem) : Type 0 where
   pub constants : AreConstants ns standing.constants live
   pub assertions : AreAssertions ns standing.assertions live
   pub goals : AreGoals ns standing.goals live
   pub wishes : AreWishes ns standing.wishes live
-  pub all : StandForAll ns standing.accepted (flat_map item_terms live)
-  pub count : standing.count ≡ length live
-  pub numbers : items_hold_numbers live ≡ standing.holds_numbers
+  pub all : StandForAll ns standing.accepted (flat_map item_terms (items_in live))
+  pub numbers : items_hold_numbers (items_in live) ≡ standing.holds_numbers
 
 -- The names stand for the live constants and definitions.
 abbrev pub AreNamesOf : List Node → List (List ℕ × Named) → State → Type 0
@@ -64,16 +68,17 @@ AreNamesOf ns names s = (name : List ℕ) → SameNamed ns (named_by names name)
 abbrev pub DefinitionsFit : List Definition → Type 0
 DefinitionsFit ds = AllByRecursion (λ (d : Definition). RootFits d.parameters d.body) ds
 
--- The table and what stands are those of a live state: its constants are those of the table, no two of one name; the
--- terms are the normal ones of its assertions; the items are its items. No level is pushed.
+-- The table and what stands are those of a live state: its constants are those of the table; the terms are the normal ones of
+-- its assertions; the items are its items; the table has the companions of its terms. No level is pushed.
 pub record IsLive (ns : List Node) (standing : Standing) (s : State) : Type 0 where
   pub named : AreNamesOf ns standing.names s
   pub fits : DefinitionsFit (definitions_of s)
   pub constants : constants_in_table ns ≡ constants_of s
-  pub distinct : HasDistinctNames ns
+  pub companions : HasCompanions ns
   pub within : All (λ i. i < length ns) standing.asserted
   pub terms : map (term_in ns) standing.asserted ≡ map normal_of (assertions_of s)
-  pub items : HasItems ns standing (items_of s.levels)
+  pub items : HasItems ns standing (numbered_items s.levels)
+  pub next : standing.next ≡ s.next
   pub unpushed : pushed_levels s ≡ 0
 
 -- what a command asks of the session
@@ -110,12 +115,12 @@ pub record AsksValues (ns : List Node) (xs : List Typed) (arguments : Trees) (c 
 pub record AsksEcho (arguments : Trees) (c : Command) : Type 0 where
   pub bytes : List ℕ
   pub only : arguments ≡ trees (leaf (literal bytes)) no_trees
-  pub is : c ≡ script.echo bytes
+  pub is : c ≡ commands.echo bytes
 
 -- the command of these arguments, where it is accepted, asks this
 abbrev pub Asks : List Node → Ask → Trees → Command → Type 0
 Asks ns changed arguments c = IsChange c
-Asks ns check arguments c = c ≡ check_sat
+Asks ns check arguments c = c ≡ check_sat []
 Asks ns show_model arguments c = c ≡ get_model
 Asks ns (show_values xs) arguments c = AsksValues ns xs arguments c
 Asks ns show_reason arguments c = c ≡ get_reason

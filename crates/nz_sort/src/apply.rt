@@ -1,6 +1,5 @@
 //! Operators over arguments of the table: which they take, at which sort they are read, and what they make.
-ghost use Rattle.std.specs.Prelude.{◌≡◌, ◌<◌, List, length, nat_lt, All, IfOk, IsErrOf, None, option_map};
-ghost use Rattle.std.specs.List.{list_all};
+ghost use Rattle.std.specs.Prelude.{◌≡◌, ◌<◌, List, length, All, IfOk, IsErrOf, None, option_map};
 ghost use Rattle.nz_spec.specs.Term as spec;
 ghost use Rattle.nz_spec.specs.Elaboration.{applied, all_terms, has_sort, is_number_term, operand_sort as spec_operand_sort, number_sort as spec_number_sort, alike_sort as spec_alike_sort, branches, operator_head, as_real as spec_as_real};
 ghost use Rattle.nz_spec.specs.Term.{head_sort};
@@ -14,28 +13,25 @@ use crate::normal::{make, normal_term};
 use crate::operators::{Operands, Operator, operands_of, takes};
 use crate::typed::{ElaborateError, Typed};
 use nz_base::Memory;
-use nz_term::{Head, Sort, TermId, Terms};
+use nz_term::{Head, NumberSort, Sort, TermId, Terms};
 use std::alloc::Global;
 
 /// The operator over its arguments, where it takes them.
 ///
 /// # Errors
 ///
-/// `Sort` exactly where it doesn't, and where an argument isn't in the table. After an error the table may have grown.
+/// `Sort` exactly where it doesn't. After an error the table may have grown.
 pub(crate) fn apply(
     alloc: Global,
     terms: &mut Terms,
     operator: Operator,
     arguments: &[Typed],
 ) -> Result<Typed, ElaborateError>
+    requires within { All (λ x. x.id < length terms.old) arguments.now }
     ensures grows { Grows terms.old terms.new }
     ensures applied { IfOk result (λ x. (ts : spec.Terms) → AreTyped terms.old arguments.now ts → HasApplied (operator_meaning operator) ts terms.new x) }
     ensures refused { IsErrOf result ElaborateError.Sort → (ts : spec.Terms) → AreTyped terms.old arguments.now ts → applied (operator_meaning operator) ts ≡ None }
 {
-    // Names in scope stand for terms of the table, so this never fires; it is cheaper than to carry that through elaboration.
-    if !are_below(terms.len(), arguments) {
-        return Err(ElaborateError::Sort);
-    }
     if !takes(operator, arguments.len()) {
         return Err(ElaborateError::Sort);
     }
@@ -48,13 +44,6 @@ pub(crate) fn apply(
         id,
         sort: sort_over(operator, sort),
     })
-}
-
-/// Whether the numbers of all arguments are below this one.
-fn are_below(count: usize, arguments: &[Typed]) -> bool
-    ensures below { result ≡ list_all (λ x. nat_lt x.id count) arguments.now }
-{
-    arguments.iter().all(|argument| argument.id < count)
 }
 
 /// The sort that the arguments are read at, where they are such operands.
@@ -138,8 +127,9 @@ fn read_at(
 }
 
 fn read_one(terms: &mut Terms, sort: Sort, argument: Typed) -> Result<TermId, Memory>
+    requires within { argument.id < length terms.old }
     ensures grows { Grows terms.old terms.new }
-    ensures within { argument.id < length terms.old → IfOk result (λ id. id < length terms.new) }
+    ensures within { IfOk result (λ id. id < length terms.new) }
     ensures read { IfOk result (λ id. (t : spec.Term) → IsTyped terms.old argument t → StandsFor terms.new id (normal_of (read_term (sort_of sort) t))) }
 {
     if sort == Sort::Real {
@@ -149,13 +139,14 @@ fn read_one(terms: &mut Terms, sort: Sort, argument: Typed) -> Result<TermId, Me
     }
 }
 
-/// A term where a Real is wanted: one of sort Int is read as its `to_real`. A number that isn't in the table stays.
+/// A term where a Real is wanted: one of sort Int is read as its `to_real`.
 pub(crate) fn as_real(terms: &mut Terms, argument: Typed) -> Result<TermId, Memory>
+    requires within { argument.id < length terms.old }
     ensures grows { Grows terms.old terms.new }
-    ensures within { argument.id < length terms.old → IfOk result (λ id. id < length terms.new) }
+    ensures within { IfOk result (λ id. id < length terms.new) }
     ensures real { IfOk result (λ id. (t : spec.Term) → IsTyped terms.old argument t → StandsFor terms.new id (normal_of (spec_as_real t))) }
 {
-    if argument.sort == Sort::Int && argument.id < terms.len() {
+    if argument.sort == Sort::Int {
         make(terms, Head::ToReal, &[argument.id])
     } else {
         Ok(argument.id)
@@ -167,7 +158,8 @@ fn sort_over(operator: Operator, sort: Sort) -> Sort
     ensures sort { sort_of result ≡ head_sort (operator_head (operator_meaning operator) (sort_of sort)) }
 {
     match operator {
-        Operator::Ite | Operator::Plus | Operator::Times | Operator::Minus => sort,
+        Operator::Ite => sort,
+        Operator::Plus | Operator::Times | Operator::Minus => NumberSort::of(sort).sort(),
         Operator::Over | Operator::ToReal => Sort::Real,
         Operator::Div | Operator::Mod | Operator::Abs | Operator::ToInt => Sort::Int,
         _ => Sort::Bool,

@@ -1,10 +1,12 @@
 //! Commands taken apart: what each is about, and what those ask that change nothing.
 ghost use Rattle.std.specs.Prelude.{◌≡◌, IfSome, IfNone, false};
-ghost use Rattle.nz_sexpr.specs.View.{token_view, view};
+ghost use Rattle.nz_sexpr.specs.View.{token_view, view, seen};
 ghost use Rattle.nz_spec.specs.Tree.{leaf, node, trees, no_trees};
 ghost use Rattle.nz_spec.specs.Form.{declare_const_name, declare_fun_name, define_fun_name, get_info_name, get_value_name, set_option_name, echo_name, is_name as may_be_name};
-ghost use Rattle.nz_spec.specs.Script.{State, refused, outcome_of, outcome_named, outcome_by, declaration_of, definition_of, values_of_trees};
-ghost use Rattle.nz_sort.specs.Form.{seen, command_meaning};
+ghost use Rattle.nz_spec.specs.Live.{State};
+ghost use Rattle.nz_spec.specs.Command.{refused};
+ghost use Rattle.nz_spec.specs.Script.{outcome_of, outcome_named, outcome_by, declaration_of, definition_of, values_of_trees};
+ghost use Rattle.nz_sort.specs.Form.{command_meaning};
 ghost use Rattle.nz_sort.specs.Live.{arguments_of};
 ghost use Rattle.nz_sort.specs.Acts.{asked};
 ghost use Rattle.nz_sort.specs.Commands.{IsNamed, AsksOnly, IsList};

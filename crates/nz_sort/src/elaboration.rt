@@ -1,14 +1,14 @@
 //! Elaboration: the normal term of a tree, made in the table.
 ghost use Rattle.std.specs.Prelude.{◌≡◌, ℕ, ◌≤◌, ◌<◌, ◌⊎◌, All, List, ◌++◌, length, map, Option, None, IfOk, OnOk, IfSome, IfNone, IsErrOf};
-ghost use Rattle.nz_sexpr.specs.View.{token_view, view};
+ghost use Rattle.nz_sexpr.specs.View.{token_view, view, seen};
 ghost use Rattle.nz_spec.specs.Tree.{leaf, node, trees, no_trees, symbol, after_point};
-ghost use Rattle.nz_spec.specs.Bounds.{digits_value, decimal_digits, greatest_number, place_limit};
+ghost use Rattle.nz_spec.specs.Bounds.{digits_value, decimal_digits, place_limit};
+ghost use Rattle.nz_spec.specs.Fraction.{largest};
 ghost use Rattle.nz_spec.specs.Term as spec;
 ghost use Rattle.nz_spec.specs.Term.{integer, decimal_number};
 ghost use Rattle.nz_spec.specs.Table.{Node};
 ghost use Rattle.nz_spec.specs.Elaboration.{Definition as SpecDefinition, Scope, RootFits, term_of, terms_of, token_term as spec_token_term, name_term as spec_name_term, application as spec_application, let_term as spec_let_term, bindings_of, binding_onto, expansion, placed, all_placed, fitting};
 ghost use Rattle.nz_term.specs.Constants.{sort_of};
-ghost use Rattle.nz_sort.specs.Form.{seen};
 ghost use Rattle.nz_sort.specs.Names.{IsScope, IsDefined};
 ghost use Rattle.nz_sort.specs.Typed.{Grows, IsTyped, AreTyped};
 ghost use Rattle.nz_sort.specs.Elaborate.{StandsAs, StandAs, Binds, IsWord, Places, application_of};
@@ -43,6 +43,7 @@ pub(crate) fn elaborate(
     terms: &mut Terms,
     tree: &Tree,
 ) -> Result<Typed, ElaborateError>
+    requires scope { (sc : Scope) × IsScope terms.old names.now frames.old.items sc }
     ensures grows { Grows terms.old terms.new }
     ensures frames { OnOk result (frames.new.items ≡ frames.old.items) }
     ensures found { IfOk result (λ x. (sc : Scope) → IsScope terms.old names.now frames.old.items sc → StandsAs (term_of sc (view tree.now)) terms.new x) }
@@ -63,6 +64,7 @@ fn list_term(
     terms: &mut Terms,
     trees: &[Tree],
 ) -> Result<Typed, ElaborateError>
+    requires scope { (sc : Scope) × IsScope terms.old names.now frames.old.items sc }
     ensures grows { Grows terms.old terms.new }
     ensures frames { OnOk result (frames.new.items ≡ frames.old.items) }
     ensures found { IfOk result (λ x. (sc : Scope) → IsScope terms.old names.now frames.old.items sc → StandsAs (term_of sc (node (seen trees.now))) terms.new x) }
@@ -90,6 +92,7 @@ pub(crate) fn elaborate_all(
     terms: &mut Terms,
     trees: &[Tree],
 ) -> Result<Vec<Typed>, ElaborateError>
+    requires scope { (sc : Scope) × IsScope terms.old names.now frames.old.items sc }
     ensures grows { Grows terms.old terms.new }
     ensures frames { OnOk result (frames.new.items ≡ frames.old.items) }
     ensures found { IfOk result (λ xs. (sc : Scope) → IsScope terms.old names.now frames.old.items sc → StandAs (terms_of sc (seen trees.now)) terms.new xs.items) }
@@ -113,6 +116,7 @@ fn application(
     name: &Text,
     trees: &[Tree],
 ) -> Result<Typed, ElaborateError>
+    requires scope { (sc : Scope) × IsScope terms.old names.now frames.old.items sc }
     ensures grows { Grows terms.old terms.new }
     ensures frames { OnOk result (frames.new.items ≡ frames.old.items) }
     ensures found { IfOk result (λ x. (sc : Scope) → IsScope terms.old names.now frames.old.items sc → StandsAs (application_of sc name.now (seen trees.now)) terms.new x) }
@@ -131,6 +135,8 @@ fn apply_name(
     name: &Text,
     arguments: &[Typed],
 ) -> Result<Typed, ElaborateError>
+    requires scope { (sc : Scope) × IsScope terms.old names.now frames.now.items sc }
+    requires within { All (λ x. x.id < length terms.old) arguments.now }
     ensures grows { Grows terms.old terms.new }
     ensures found { IfOk result (λ x. (sc : Scope) → IsScope terms.old names.now frames.now.items sc → (ts : spec.Terms) → AreTyped terms.old arguments.now ts → StandsAs (spec_application sc name.now ts) terms.new x) }
     ensures refused { IsErrOf result ElaborateError.Sort → (sc : Scope) → IsScope terms.old names.now frames.now.items sc → (ts : spec.Terms) → AreTyped terms.old arguments.now ts → spec_application sc name.now ts ≡ None }
@@ -155,6 +161,8 @@ fn expand(
     definition: &Definition,
     arguments: &[Typed],
 ) -> Result<Typed, ElaborateError>
+    requires body { definition.now.body.id < length terms.old }
+    requires within { All (λ x. x.id < length terms.old) arguments.now }
     ensures grows { Grows terms.old terms.new }
     ensures found { IfOk result (λ x. (d : SpecDefinition) → IsDefined terms.old definition.now d → RootFits d.parameters d.body → (ts : spec.Terms) → AreTyped terms.old arguments.now ts → StandsAs (expansion d ts) terms.new x) }
     ensures refused { IsErrOf result ElaborateError.Sort → (d : SpecDefinition) → IsDefined terms.old definition.now d → (ts : spec.Terms) → AreTyped terms.old arguments.now ts → expansion d ts ≡ None }
@@ -162,11 +170,6 @@ fn expand(
     term_stays();
     instance_keeps_normal();
     expansions_keep_sort();
-
-    // The body of a definition of another table has a number that isn't in this one.
-    if definition.body.id >= terms.len() {
-        return Err(ElaborateError::Sort);
-    }
     let kids = place_all(alloc, terms, definition.parameters.as_slice(), arguments)?;
     let id = instance(alloc, terms, definition.body.id, kids.as_slice())?;
     Ok(Typed {
@@ -182,6 +185,7 @@ fn place_all(
     sorts: &[Sort],
     arguments: &[Typed],
 ) -> Result<Vec<TermId>, ElaborateError>
+    requires within { All (λ x. x.id < length terms.old) arguments.now }
     ensures grows { Grows terms.old terms.new }
     ensures within { IfOk result (λ ids. All (λ i. i < length terms.new) ids.items) }
     ensures placed { IfOk result (λ ids. (ts : spec.Terms) → AreTyped terms.old arguments.now ts → Places (map sort_of sorts.now) ts terms.new ids.items) }
@@ -193,11 +197,6 @@ fn place_all(
     let mut ids = Vec::with_capacity(alloc, sorts.len())?;
     for i in 0..sorts.len() {
         let id = place(terms, sorts[i], arguments[i])?;
-
-        // An argument of another table has a number that isn't in this one.
-        if id >= terms.len() {
-            return Err(ElaborateError::Sort);
-        }
         ids.push(id)?;
     }
     Ok(ids)
@@ -205,7 +204,9 @@ fn place_all(
 
 /// A term where one of this sort is wanted.
 pub(crate) fn place(terms: &mut Terms, sort: Sort, term: Typed) -> Result<TermId, ElaborateError>
+    requires within { term.id < length terms.old }
     ensures grows { Grows terms.old terms.new }
+    ensures within { IfOk result (λ id. id < length terms.new) }
     ensures placed { IfOk result (λ id. (t : spec.Term) → IsTyped terms.old term t → StandsAs (placed (sort_of sort) t) terms.new (record { id = id; sort = sort })) }
     ensures refused { IsErrOf result ElaborateError.Sort → (ns : List Node) (t : spec.Term) → IsTyped ns term t → placed (sort_of sort) t ≡ None }
 {
@@ -227,6 +228,7 @@ fn let_term(
     terms: &mut Terms,
     trees: &[Tree],
 ) -> Result<Typed, ElaborateError>
+    requires scope { (sc : Scope) × IsScope terms.old names.now frames.old.items sc }
     ensures grows { Grows terms.old terms.new }
     ensures frames { OnOk result (frames.new.items ≡ frames.old.items) }
     ensures found { IfOk result (λ x. (sc : Scope) → IsScope terms.old names.now frames.old.items sc → StandsAs (spec_let_term sc (seen trees.now)) terms.new x) }
@@ -254,6 +256,7 @@ fn bind_all(
     terms: &mut Terms,
     trees: &[Tree],
 ) -> Result<Bindings, ElaborateError>
+    requires scope { (sc : Scope) × IsScope terms.old names.now frames.old.items sc }
     ensures grows { Grows terms.old terms.new }
     ensures frames { OnOk result (frames.new.items ≡ frames.old.items) }
     ensures bound { IfOk result (λ frame. (sc : Scope) → IsScope terms.old names.now frames.old.items sc → Binds sc (seen trees.now) terms.new frame) }
@@ -300,6 +303,7 @@ fn token_term(
     terms: &mut Terms,
     token: &Token,
 ) -> Result<Typed, ElaborateError>
+    requires scope { (sc : Scope) × IsScope terms.old names.now frames.now.items sc }
     ensures grows { Grows terms.old terms.new }
     ensures found { IfOk result (λ x. (sc : Scope) → IsScope terms.old names.now frames.now.items sc → StandsAs (spec_token_term sc (token_view token.now)) terms.new x) }
     ensures refused { IsErrOf result ElaborateError.Sort → (sc : Scope) → IsScope terms.old names.now frames.now.items sc → spec_token_term sc (token_view token.now) ≡ None }
@@ -320,6 +324,7 @@ fn name_term(
     terms: &mut Terms,
     name: &Text,
 ) -> Result<Typed, ElaborateError>
+    requires scope { (sc : Scope) × IsScope terms.old names.now frames.now.items sc }
     ensures grows { Grows terms.old terms.new }
     ensures found { IfOk result (λ x. (sc : Scope) → IsScope terms.old names.now frames.now.items sc → StandsAs (spec_name_term sc name.now) terms.new x) }
     ensures refused { IsErrOf result ElaborateError.Sort → (sc : Scope) → IsScope terms.old names.now frames.now.items sc → spec_name_term sc name.now ≡ None }
@@ -373,9 +378,9 @@ fn decimal(terms: &mut Terms, bytes: &[u8]) -> Result<Typed, ElaborateError>
 /// The number that the digits before and after a point spell, or none where they or their places go beyond the bounds.
 fn decimal_digits_value(front: &[u8], places: &[u8]) -> Option<u128>
     ensures value { IfSome result (λ n. n ≡ digits_value (front.now ++ places.now)) }
-    ensures bounded { IfSome result (λ n. n ≤ greatest_number) }
+    ensures bounded { IfSome result (λ n. n ≤ largest) }
     ensures short { IfSome result (λ n. length places.now ≤ place_limit) }
-    ensures none { IfNone result ((greatest_number < digits_value (front.now ++ places.now)) ⊎ (place_limit < length places.now)) }
+    ensures none { IfNone result ((largest < digits_value (front.now ++ places.now)) ⊎ (place_limit < length places.now)) }
 {
     if places.len() > PLACE_LIMIT {
         return None;

@@ -2,10 +2,10 @@
 //! names stand for. A function here says of a tree, or of the trees of a list, what the definition of its name says.
 ghost use Rattle.std.specs.Prelude.{◌≡◌, bytes_eq, IfSome, IfNone, Some, None, Bool, false};
 ghost use Rattle.std.specs.List.{list_any};
-ghost use Rattle.nz_sexpr.specs.View.{token_view, view};
+ghost use Rattle.nz_sexpr.specs.View.{token_view, view, seen};
 ghost use Rattle.nz_spec.specs.Tree.{leaf, node, trees, no_trees};
 ghost use Rattle.nz_spec.specs.Form as form;
-ghost use Rattle.nz_sort.specs.Form.{seen, IsHeadless, IsNotOne, IsNotTwo, IsNotThree};
+ghost use Rattle.nz_sort.specs.Form.{IsHeadless, IsNotOne, IsNotTwo, IsNotThree};
 
 pub(crate) mod command;
 pub(crate) mod term;
@@ -97,7 +97,7 @@ fn is_keyword(token: &Token) -> bool
 
 /// The keyword is this one.
 pub(crate) fn is_this_keyword(token: &Token, word: &[u8]) -> bool
-    ensures keyword { result ≡ form.is_keyword word.now (token_view token.now) }
+    ensures keyword { result ≡ form.is_the_keyword word.now (token_view token.now) }
 {
     match keyword_name(token) {
         Some(name) => name.as_bytes() == word,
@@ -109,7 +109,7 @@ pub(crate) fn is_this_keyword(token: &Token, word: &[u8]) -> bool
 
 /// The tree is this keyword.
 pub(crate) fn is_keyword_tree(tree: &Tree, word: &[u8]) -> bool
-    ensures keyword { result ≡ form.is_token (form.is_keyword word.now) (view tree.now) }
+    ensures keyword { result ≡ form.is_token (form.is_the_keyword word.now) (view tree.now) }
 {
     match tree {
         Tree::Word(token) => is_this_keyword(token, word),

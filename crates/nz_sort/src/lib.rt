@@ -17,8 +17,6 @@ mod refusal;
 mod scope;
 mod sorts;
 mod taken;
-#[cfg(test)]
-mod tests;
 mod tokens;
 mod typed;
 

@@ -1,10 +1,12 @@
 //! The limits of single commands.
 ghost use Rattle.std.specs.Prelude.{◌≡◌, ◌≤◌, ◌==◌, ◌&&◌, length, nat_lt, codes};
-ghost use Rattle.nz_sexpr.specs.View.{token_view, view};
+ghost use Rattle.nz_sexpr.specs.View.{token_view, view, seen};
 ghost use Rattle.nz_spec.specs.Bounds as bounds;
+ghost use Rattle.nz_spec.specs.Fraction as fractions;
 ghost use Rattle.nz_spec.specs.Form as form;
-ghost use Rattle.nz_spec.specs.Script as script;
-ghost use Rattle.nz_sort.specs.Form.{seen, command_meaning};
+ghost use Rattle.nz_spec.specs.Live as live_state;
+ghost use Rattle.nz_spec.specs.Taken as taking;
+ghost use Rattle.nz_sort.specs.Form.{command_meaning};
 
 use crate::form::command::{CommandName, attribute};
 use crate::form::{headed, is_keyword_tree};
@@ -19,7 +21,7 @@ const LEVEL_LIMIT: u128 = 1000;
 
 /// The command goes beyond a limit in its own way, where there are so many live constants and no level is pushed.
 pub(crate) fn passes_limit(constant_count: usize, name: CommandName, arguments: &[Tree]) -> bool
-    ensures limit { (s : script.State) → script.pushed_levels s ≡ 0 → length (script.constants_of s) ≡ constant_count → result ≡ script.passes_limit s (command_meaning name) (seen arguments.now) }
+    ensures limit { (s : live_state.State) → live_state.pushed_levels s ≡ 0 → length (live_state.constants_of s) ≡ constant_count → result ≡ taking.passes_limit s (command_meaning name) (seen arguments.now) }
 {
     match name {
         CommandName::DeclareConst => constant_count >= CONSTANT_LIMIT,
@@ -32,7 +34,7 @@ pub(crate) fn passes_limit(constant_count: usize, name: CommandName, arguments: 
 
 /// The levels that a `push` asks for are too many.
 fn pushes_too_many(arguments: &[Tree]) -> bool
-    ensures levels { result ≡ nat_lt script.level_limit (script.level_count (seen arguments.now)) }
+    ensures levels { result ≡ nat_lt taking.level_limit (taking.level_count (seen arguments.now)) }
 {
     match headed(arguments) {
         Some((count, _)) => is_above_level_limit(count),
@@ -41,7 +43,7 @@ fn pushes_too_many(arguments: &[Tree]) -> bool
 }
 
 fn is_above_level_limit(count: &Token) -> bool
-    ensures above { result ≡ nat_lt script.level_limit (bounds.numeral_value (token_view count.now)) }
+    ensures above { result ≡ nat_lt taking.level_limit (bounds.numeral_value (token_view count.now)) }
 {
     match count {
         Token::Numeral(digits) => match value_onto(0, digits.as_bytes()) {
@@ -54,7 +56,7 @@ fn is_above_level_limit(count: &Token) -> bool
 
 /// The weight of a wish is zero.
 fn is_wish_without_weight(arguments: &[Tree]) -> bool
-    ensures zero { result ≡ script.has_zero_weight (script.wish_attributes (seen arguments.now)) }
+    ensures zero { result ≡ taking.has_zero_weight (taking.wish_attributes (seen arguments.now)) }
 {
     match arguments.split_first() {
         Some((_, attributes)) => has_zero_weight(attributes),
@@ -63,7 +65,7 @@ fn is_wish_without_weight(arguments: &[Tree]) -> bool
 }
 
 fn has_zero_weight(attributes: &[Tree]) -> bool
-    ensures zero { result ≡ script.has_zero_weight (seen attributes.now) }
+    ensures zero { result ≡ taking.has_zero_weight (seen attributes.now) }
 {
     match attribute(attributes) {
         Some((key, value, others)) => is_zero_weight(key, value) || has_zero_weight(others),
@@ -72,7 +74,7 @@ fn has_zero_weight(attributes: &[Tree]) -> bool
 }
 
 fn is_zero_weight(key: &Tree, value: &Tree) -> bool
-    ensures zero { result ≡ (form.is_token (form.is_keyword (codes ":weight")) (view key.now) && form.is_token bounds.is_zero_token (view value.now)) }
+    ensures zero { result ≡ (form.is_token (form.is_the_keyword (codes ":weight")) (view key.now) && form.is_token bounds.is_zero_token (view value.now)) }
 {
     is_keyword_tree(key, b":weight") && is_zero_tree(value)
 }
@@ -99,7 +101,7 @@ fn is_zero(token: &Token) -> bool
 
 /// The digits after those that spell `start` spell zero.
 fn is_zero_after(start: u128, digits: &[u8]) -> bool
-    requires start { start ≤ bounds.greatest_number }
+    requires start { start ≤ fractions.largest }
     ensures zero { result ≡ (bounds.value_onto start digits.now == 0) }
 {
     match value_onto(start, digits) {

@@ -1,19 +1,24 @@
 //! The live state: what becomes of a command, and what it leaves.
-ghost use Rattle.std.specs.Prelude.{◌≡◌, All, ◌<◌, ◌+◌, ◌&&◌, ℕ, List, [], ◌∷◌, ◌++◌, length, map, take, OnOk, OnErr, IfOk, IfErr, IfSome, Some, None, ◌||◌, IsErrOf, Bool, false, nat_lt};
-ghost use Rattle.nz_sexpr.specs.View.{view};
+ghost use Rattle.std.specs.Prelude.{◌≡◌, All, ◌<◌, ◌+◌, ℕ, List, [], ◌∷◌, ◌++◌, length, map, take, OnOk, OnErr, IfOk, IfErr, IfSome, Some, None, ◌||◌, IsErrOf, Bool, false};
+ghost use Rattle.nz_sexpr.specs.View.{view, seen};
 ghost use Rattle.nz_spec.specs.Tree.{Trees};
 ghost use Rattle.nz_spec.specs.Bounds.{is_long_decimal, have_token as some_token};
 ghost use Rattle.nz_spec.specs.Table.{Node, term_in};
+ghost use Rattle.nz_spec.specs.Order.{HasCompanions};
 ghost use Rattle.nz_spec.specs.Term as spec;
-ghost use Rattle.nz_spec.specs.Linear.{is_linear as is_linear_term};
 ghost use Rattle.nz_spec.specs.Form.{assert_name, declare_const_name, declare_fun_name, define_fun_name, get_value_name};
-ghost use Rattle.nz_spec.specs.Script.{State, accepted, refused, outcome_of, outcome_named, outcome_by, passes_limit as beyond_limit, pushed_levels, start, declare_const, declaration_of, definition_of, definition_by, assertion_of, values_of_trees, bound_names, parameters_from, all_linear, clash, has_clash};
+ghost use Rattle.nz_spec.specs.Live.{State, pushed_levels, start};
+ghost use Rattle.nz_spec.specs.Command.{accepted, refused, declare_const};
+ghost use Rattle.nz_spec.specs.Script.{outcome_of, outcome_named, outcome_by, scope_of, declaration_of, definition_of, definition_by, assertion_of, values_of_trees, parameters_from, all_linear};
+ghost use Rattle.nz_spec.specs.Taken.{passes_limit as beyond_limit};
+ghost use Rattle.nz_spec.specs.Elaboration.{term_of, terms_of};
+ghost use Rattle.nz_spec.specs.Scoping.{bound_names, clash, has_clash};
 ghost use Rattle.nz_spec.specs.TermList.{IsTermList};
 ghost use Rattle.nz_term.specs.Constants.{sort_of};
-ghost use Rattle.nz_sort.specs.Form.{seen, command_meaning};
+ghost use Rattle.nz_sort.specs.Form.{command_meaning};
 ghost use Rattle.nz_sort.specs.Names.{named_by};
 ghost use Rattle.nz_sort.specs.Typed.{Grows, AreTyped};
-ghost use Rattle.nz_sort.specs.Elaborate.{StandsAs};
+ghost use Rattle.nz_sort.specs.Elaborate.{StandsAs, StandAs};
 ghost use Rattle.nz_sort.specs.Faults.{AreLive, is_listed};
 ghost use Rattle.nz_sort.specs.Items.{table_numbers};
 ghost use Rattle.nz_sort.specs.Live.{IsLive, Leaves, IsCarriedOut, IfSkipped, changed, show_values, standing_of};
@@ -43,7 +48,7 @@ use nz_base::{Memory, Text};
 use nz_sexpr::Tree;
 use nz_spec::elaboration::terms_fit;
 use nz_spec::table::term_stays;
-use nz_term::{Constant, Head, Sort, TermId, Terms, listing_order};
+use nz_term::{Constant, Head, Sort, TermId, Terms, add_companions, listing_order};
 use std::alloc::Global;
 use std::marker::Model;
 
@@ -60,17 +65,21 @@ pub struct Live {
     wishes: Vec<Wish>,
     /// The terms of the items that have one, of all kinds.
     accepted: Vec<TermId>,
-    /// How many items there are, definitions among them. It is the number of the next.
-    count: usize,
+    /// The number of the next item, definitions among them.
+    next: usize,
     holds_numbers: bool,
 }
 
 impl Model for Live {
+    ghost use Rattle.std.specs.Coded.{codes};
+    ghost use Rattle.nz_sexpr.specs.contracts.tree.Tree as tree;
     ghost use Rattle.nz_sort.specs.Live.{Standing, standing_of};
 
     ghost Value = { Standing };
 
-    ghost view = { λ l. standing_of l.names l.constants.items l.assertions.items l.goals.items l.wishes.items l.accepted.items l.count l.holds_numbers };
+    ghost coded = { Prim.hlevel (codes, tree.the_row.coded) };
+
+    ghost view = { λ l. standing_of l.names l.constants.items l.assertions.items l.goals.items l.wishes.items l.accepted.items l.next l.holds_numbers };
 }
 
 impl Live {
@@ -87,7 +96,7 @@ impl Live {
             goals: Vec::new(alloc),
             wishes: Vec::new(alloc),
             accepted: Vec::new(alloc),
-            count: 0,
+            next: 0,
             holds_numbers: false,
         }
     }
@@ -129,25 +138,18 @@ impl Live {
     }
 
     /// The terms of the live state, by which they are numbered: those of its items, in the order of acceptance, and then the
-    /// assumed ones. Each comes once, and behind all that it is made of. What the table hasn't of them is made.
-    ///
-    /// # Errors
-    ///
-    /// `Memory`. The table may have grown, and so it may where there is none.
+    /// assumed ones. Each comes once, and behind all that it is made of.
     pub fn term_list(
         &self,
         alloc: Global,
-        terms: &mut Terms,
+        terms: &Terms,
         assumed: &[TermId],
     ) -> Result<Vec<TermId>, Memory>
-        requires live { (s : State) × IsLive terms.old self.now s }
-        requires within { All (λ i. i < length terms.old) assumed.now }
-        ensures grows { Grows terms.old terms.new }
-        ensures live { (s : State) → IsLive terms.old self.now s → IsLive terms.new self.now s }
-        ensures list { IfOk result (λ ids. (s : State) → IsLive terms.old self.now s → IsTermList s (map (term_in terms.old) assumed.now) (map (term_in terms.new) ids.items)) }
-        ensures within { IfOk result (λ ids. All (λ i. i < length terms.new) ids.items) }
+        requires live { (s : State) × IsLive terms.now self.now s }
+        requires within { All (λ i. i < length terms.now) assumed.now }
+        ensures list { IfOk result (λ ids. (s : State) → IsLive terms.now self.now s → IsTermList s (map (term_in terms.now) assumed.now) (map (term_in terms.now) ids.items)) }
+        ensures within { IfOk result (λ ids. All (λ i. i < length terms.now) ids.items) }
     {
-        term_stays();
         let mut roots = Vec::from_slice(alloc, self.accepted.as_slice())?;
         roots.extend_from_slice(assumed)?;
         listing_order(alloc, terms, roots.as_slice())
@@ -162,6 +164,7 @@ impl Live {
     /// after `Unsupported`.
     #[tactic(auto, using(crate::proofs::Living::cut_back, crate::proofs::Living::kept_where_same))]
     pub fn command(&mut self, terms: &mut Terms, tree: &Tree) -> Result<Act, Refusal>
+        requires live { (s : State) × IsLive terms.old self.old s }
         ensures accepted { IfOk result (λ act. (s : State) → IsLive terms.old self.old s → IsCarriedOut s (view tree.now) (asked act) terms.new self.new) }
         ensures refused { IfErr result (λ refusal. IfSome (error_of refusal) (λ n. (s : State) → IsLive terms.old self.old s → outcome_of s (view tree.now) ≡ refused n)) }
         ensures kept { take (length terms.old) terms.new ≡ terms.old }
@@ -193,6 +196,7 @@ impl Live {
         name: CommandName,
         arguments: &[Tree],
     ) -> Result<Act, Refusal>
+        requires live { (s : State) × IsLive terms.old self.old s }
         ensures accepted { IfOk result (λ act. (s : State) → IsLive terms.old self.old s → Leaves s (seen arguments.now) (outcome_named s (command_meaning name) (seen arguments.now)) (asked act) terms.new self.new) }
         ensures refused { IfErr result (λ refusal. IfSome (error_of refusal) (λ n. (s : State) → IsLive terms.old self.old s → outcome_named s (command_meaning name) (seen arguments.now) ≡ refused n)) }
         ensures kept { take (length terms.old) terms.new ≡ terms.old }
@@ -232,6 +236,7 @@ impl Live {
         name: CommandName,
         arguments: &[Tree],
     ) -> Result<Act, Refusal>
+        requires live { (s : State) × IsLive terms.old self.old s }
         ensures accepted { IfOk result (λ act. (s : State) → IsLive terms.old self.old s → Leaves s (seen arguments.now) (outcome_by s (command_meaning name) (seen arguments.now)) (asked act) terms.new self.new) }
         ensures refused { IfErr result (λ refusal. IfSome (error_of refusal) (λ n. (s : State) → IsLive terms.old self.old s → outcome_by s (command_meaning name) (seen arguments.now) ≡ refused n)) }
         ensures kept { take (length terms.old) terms.new ≡ terms.old }
@@ -331,7 +336,7 @@ impl Live {
     {
         term_stays();
         match declared_sort(&self.names, name, sorts, sort) {
-            Err(refusal) => Err(refusal),
+            Err(broken) => Err(broken),
             Ok(sort) => match self.add_constant(terms, name, sort) {
                 Ok(()) => Ok(()),
                 Err(Memory) => Err(Refusal::Memory),
@@ -362,8 +367,8 @@ impl Live {
         ensures kept { OnOk result (self.new ≡ with_constant self.old name term) }
         ensures unchanged { OnErr result (self.new ≡ self.old) }
     {
-        let number = self.count;
-        let count = next_count(number)?;
+        let number = self.next;
+        let next = number_after(number)?;
         self.constants.reserve(1)?;
         self.accepted.reserve(1)?;
         self.names.insert(name, Named::Constant(term))?;
@@ -372,7 +377,7 @@ impl Live {
             term: term.id,
         });
         self.accepted.push_reserved(term.id);
-        self.count = count;
+        self.next = next;
         self.holds_numbers = self.holds_numbers || term.sort != Sort::Bool;
         Ok(())
     }
@@ -382,6 +387,7 @@ impl Live {
     /// Defines a name.
     #[tactic(auto, using(crate::proofs::Living::kept_where_same, crate::proofs::Living::kept_where_grown))]
     fn define_function(&mut self, terms: &mut Terms, arguments: &[Tree]) -> Result<(), Refusal>
+        requires live { (s : State) × IsLive terms.old self.old s }
         ensures accepted { OnOk result ((s : State) → IsLive terms.old self.old s → Leaves s (seen arguments.now) (outcome_by s define_fun_name (seen arguments.now)) changed terms.new self.new) }
         ensures refused { IfErr result (λ refusal. IfSome (error_of refusal) (λ n. (s : State) → IsLive terms.old self.old s → outcome_by s define_fun_name (seen arguments.now) ≡ refused n)) }
         ensures kept { take (length terms.old) terms.new ≡ terms.old }
@@ -403,7 +409,9 @@ impl Live {
 
     /// What is to stand for the name that is defined, and the rules on it.
     fn definition(&self, terms: &mut Terms, definiens: &Definiens) -> Result<Definition, Refusal>
+        requires live { (s : State) × IsLive terms.old self.now s }
         ensures grows { Grows terms.old terms.new }
+        ensures companions { OnOk result (HasCompanions terms.new) }
         ensures fresh { OnOk result (named_by self.now.names definiens.now.name.now ≡ None) }
         ensures accepted { IfOk result (λ d. (s : State) → IsLive terms.old self.now s → Defines definiens.now.name.now (definition_of s definiens.now.name.now (seen definiens.now.parameters.now) (view definiens.now.sort.now) (view definiens.now.body.now)) terms.new d) }
         ensures refused { IfErr result (λ refusal. IfSome (error_of refusal) (λ n. (s : State) → IsLive terms.old self.now s → definition_of s definiens.now.name.now (seen definiens.now.parameters.now) (view definiens.now.sort.now) (view definiens.now.body.now) ≡ refused n)) }
@@ -457,7 +465,9 @@ impl Live {
         parameters: Vec<Sort>,
         sort: Sort,
     ) -> Result<Definition, Refusal>
+        requires live { (s : State) × IsLive terms.old self.now s }
         ensures grows { Grows terms.old terms.new }
+        ensures companions { OnOk result (HasCompanions terms.new) }
         ensures accepted { IfOk result (λ d. (s : State) → IsLive terms.old self.now s → Defines definiens.now.name.now (definition_by s definiens.now.name.now (bound_names (seen definiens.now.parameters.now)) (Some (map sort_of parameters.items)) (Some (sort_of sort)) (view definiens.now.body.now)) terms.new d) }
         ensures refused { IfErr result (λ refusal. IfSome (error_of refusal) (λ n. (s : State) → IsLive terms.old self.now s → definition_by s definiens.now.name.now (bound_names (seen definiens.now.parameters.now)) (Some (map sort_of parameters.items)) (Some (sort_of sort)) (view definiens.now.body.now) ≡ refused n)) }
     {
@@ -466,7 +476,7 @@ impl Live {
             Err(ElaborateError::Sort) => Err(Refusal::Sort),
             Err(ElaborateError::Memory) => Err(Refusal::Memory),
             Ok(body) => {
-                if !is_linear(terms, body.id) {
+                if !terms.is_linear(body.id) {
                     return Err(Refusal::NotLinear);
                 }
                 Ok(Definition { parameters, body })
@@ -474,7 +484,7 @@ impl Live {
         }
     }
 
-    /// The term of the body of a definition, where one of this sort is wanted.
+    /// The term of the body of a definition, where one of this sort is wanted, with the companions of what is made.
     fn body(
         &self,
         terms: &mut Terms,
@@ -482,15 +492,18 @@ impl Live {
         sorts: &[Sort],
         sort: Sort,
     ) -> Result<Typed, ElaborateError>
+        requires live { (s : State) × IsLive terms.old self.now s }
         ensures grows { Grows terms.old terms.new }
+        ensures companions { OnOk result (HasCompanions terms.new) }
         ensures found { IfOk result (λ x. (s : State) → IsLive terms.old self.now s → StandsAs (body_of s (bound_names (seen definiens.now.parameters.now)) (map sort_of sorts.now) (sort_of sort) (view definiens.now.body.now)) terms.new x) }
         ensures refused { IsErrOf result ElaborateError.Sort → (s : State) → IsLive terms.old self.now s → body_of s (bound_names (seen definiens.now.parameters.now)) (map sort_of sorts.now) (sort_of sort) (view definiens.now.body.now) ≡ None }
     {
-        term_stays();
+        let mark = terms.mark();
         let frame = bind_parameters(self.alloc, terms, definiens.parameters, sorts)?;
         let mut frames = vec![in self.alloc; frame]?;
         let term = elaborate(self.alloc, &self.names, &mut frames, terms, definiens.body)?;
         let id = place(terms, sort, term)?;
+        add_companions(self.alloc, terms, mark)?;
         Ok(Typed { id, sort })
     }
 
@@ -510,9 +523,9 @@ impl Live {
         ensures kept { OnOk result (self.new ≡ with_definition self.old name definition) }
         ensures unchanged { OnErr result (self.new ≡ self.old) }
     {
-        let count = next_count(self.count)?;
+        let next = number_after(self.next)?;
         self.names.insert(name, Named::Definition(definition))?;
-        self.count = count;
+        self.next = next;
         Ok(())
     }
 
@@ -521,6 +534,7 @@ impl Live {
     /// Asserts the term of a tree.
     #[tactic(auto, using(crate::proofs::Living::kept_where_same, crate::proofs::Living::kept_where_grown))]
     fn assert_term(&mut self, terms: &mut Terms, arguments: &[Tree]) -> Result<(), Refusal>
+        requires live { (s : State) × IsLive terms.old self.old s }
         ensures accepted { OnOk result ((s : State) → IsLive terms.old self.old s → Leaves s (seen arguments.now) (outcome_by s assert_name (seen arguments.now)) changed terms.new self.new) }
         ensures refused { IfErr result (λ refusal. IfSome (error_of refusal) (λ n. (s : State) → IsLive terms.old self.old s → outcome_by s assert_name (seen arguments.now) ≡ refused n)) }
         ensures kept { take (length terms.old) terms.new ≡ terms.old }
@@ -533,7 +547,7 @@ impl Live {
         };
         match self.assertion(terms, tree) {
             Err(refusal) => Err(refusal),
-            Ok(term) => match self.keep_assertion(term, holds_number(terms, term)) {
+            Ok(term) => match self.keep_assertion(term, terms.holds_number(term)) {
                 Ok(()) => Ok(()),
                 Err(Memory) => Err(Refusal::Memory),
             },
@@ -542,7 +556,10 @@ impl Live {
 
     /// The term of a tree that may be asserted, and the rules on it.
     fn assertion(&self, terms: &mut Terms, tree: &Tree) -> Result<TermId, Refusal>
+        requires live { (s : State) × IsLive terms.old self.now s }
         ensures grows { Grows terms.old terms.new }
+        ensures companions { OnOk result (HasCompanions terms.new) }
+        ensures within { IfOk result (λ id. id < length terms.new) }
         ensures accepted { IfOk result (λ id. (s : State) → IsLive terms.old self.now s → Asserts (assertion_of s (view tree.now)) terms.new id) }
         ensures refused { IfErr result (λ refusal. IfSome (error_of refusal) (λ n. (s : State) → IsLive terms.old self.now s → assertion_of s (view tree.now) ≡ refused n)) }
     {
@@ -551,15 +568,14 @@ impl Live {
         if let Err(refusal) = check_faults(faults) {
             return Err(refusal);
         }
-        let mut frames = Vec::new(self.alloc);
-        match elaborate(self.alloc, &self.names, &mut frames, terms, tree) {
+        match self.root(terms, tree) {
             Err(ElaborateError::Sort) => Err(Refusal::Sort),
             Err(ElaborateError::Memory) => Err(Refusal::Memory),
             Ok(term) => {
                 if !is_bool(term.sort) {
                     return Err(Refusal::Sort);
                 }
-                if !is_linear(terms, term.id) {
+                if !terms.is_linear(term.id) {
                     return Err(Refusal::NotLinear);
                 }
                 Ok(term.id)
@@ -567,17 +583,33 @@ impl Live {
         }
     }
 
+    /// The term of a tree in the scope of the live names, with the companions of what is made.
+    fn root(&self, terms: &mut Terms, tree: &Tree) -> Result<Typed, ElaborateError>
+        requires live { (s : State) × IsLive terms.old self.now s }
+        ensures grows { Grows terms.old terms.new }
+        ensures companions { OnOk result (HasCompanions terms.new) }
+        ensures within { IfOk result (λ x. x.id < length terms.new) }
+        ensures found { IfOk result (λ x. (s : State) → IsLive terms.old self.now s → StandsAs (term_of (scope_of s) (view tree.now)) terms.new x) }
+        ensures refused { IsErrOf result ElaborateError.Sort → (s : State) → IsLive terms.old self.now s → term_of (scope_of s) (view tree.now) ≡ None }
+    {
+        let mark = terms.mark();
+        let mut frames = Vec::new(self.alloc);
+        let term = elaborate(self.alloc, &self.names, &mut frames, terms, tree)?;
+        add_companions(self.alloc, terms, mark)?;
+        Ok(term)
+    }
+
     /// Keeps the assertion of a term, which holds a number or doesn't.
     fn keep_assertion(&mut self, term: TermId, holds: bool) -> Result<(), Memory>
         ensures kept { OnOk result (self.new ≡ with_assertion self.old term holds) }
         ensures unchanged { OnErr result (self.new ≡ self.old) }
     {
-        let number = self.count;
-        let count = next_count(number)?;
+        let number = self.next;
+        let next = number_after(number)?;
         self.assertions.reserve(1)?;
         self.accepted.push(term)?;
         self.assertions.push_reserved(Accepted { number, term });
-        self.count = count;
+        self.next = next;
         self.holds_numbers = self.holds_numbers || holds;
         Ok(())
     }
@@ -587,6 +619,7 @@ impl Live {
     /// The terms whose values are asked for.
     #[tactic(auto, using(crate::proofs::Living::kept_where_same, crate::proofs::Living::kept_where_grown))]
     fn asked_values(&self, terms: &mut Terms, arguments: &[Tree]) -> Result<Vec<Typed>, Refusal>
+        requires live { (s : State) × IsLive terms.old self.now s }
         ensures accepted { IfOk result (λ xs. (s : State) → IsLive terms.old self.now s → Leaves s (seen arguments.now) (outcome_by s get_value_name (seen arguments.now)) (show_values xs.items) terms.new self.now) }
         ensures refused { IfErr result (λ refusal. IfSome (error_of refusal) (λ n. (s : State) → IsLive terms.old self.now s → outcome_by s get_value_name (seen arguments.now) ≡ refused n)) }
         ensures kept { take (length terms.old) terms.new ≡ terms.old }
@@ -600,7 +633,9 @@ impl Live {
 
     /// The terms of trees whose values may be asked for, and the rules on them.
     fn values(&self, terms: &mut Terms, trees: &[Tree]) -> Result<Vec<Typed>, Refusal>
+        requires live { (s : State) × IsLive terms.old self.now s }
         ensures grows { Grows terms.old terms.new }
+        ensures companions { OnOk result (HasCompanions terms.new) }
         ensures accepted { IfOk result (λ xs. (s : State) → IsLive terms.old self.now s → Shows (seen trees.now) (values_of_trees s (seen trees.now)) terms.new xs.items) }
         ensures refused { IfErr result (λ refusal. IfSome (error_of refusal) (λ n. (s : State) → IsLive terms.old self.now s → values_of_trees s (seen trees.now) ≡ refused n)) }
     {
@@ -609,8 +644,7 @@ impl Live {
         if let Err(refusal) = check_faults(faults) {
             return Err(refusal);
         }
-        let mut frames = Vec::new(self.alloc);
-        match elaborate_all(self.alloc, &self.names, &mut frames, terms, trees) {
+        match self.roots(terms, trees) {
             Err(ElaborateError::Sort) => Err(Refusal::Sort),
             Err(ElaborateError::Memory) => Err(Refusal::Memory),
             Ok(values) => {
@@ -621,6 +655,22 @@ impl Live {
             }
         }
     }
+
+    /// The terms of trees in the scope of the live names, with the companions of what is made.
+    fn roots(&self, terms: &mut Terms, trees: &[Tree]) -> Result<Vec<Typed>, ElaborateError>
+        requires live { (s : State) × IsLive terms.old self.now s }
+        ensures grows { Grows terms.old terms.new }
+        ensures companions { OnOk result (HasCompanions terms.new) }
+        ensures within { IfOk result (λ xs. All (λ x. x.id < length terms.new) xs.items) }
+        ensures found { IfOk result (λ xs. (s : State) → IsLive terms.old self.now s → StandAs (terms_of (scope_of s) (seen trees.now)) terms.new xs.items) }
+        ensures refused { IsErrOf result ElaborateError.Sort → (s : State) → IsLive terms.old self.now s → terms_of (scope_of s) (seen trees.now) ≡ None }
+    {
+        let mark = terms.mark();
+        let mut frames = Vec::new(self.alloc);
+        let values = elaborate_all(self.alloc, &self.names, &mut frames, terms, trees)?;
+        add_companions(self.alloc, terms, mark)?;
+        Ok(values)
+    }
 }
 
 /// Whether terms of this sort are true or false.
@@ -630,11 +680,11 @@ fn is_bool(sort: Sort) -> bool
     sort == Sort::Bool
 }
 
-/// The count after this one. As many items as would leave none find no memory.
-fn next_count(count: usize) -> Result<usize, Memory>
-    ensures next { IfOk result (λ next. next ≡ count + 1) }
+/// The number after this one. Where there is none, no item more finds memory.
+fn number_after(number: usize) -> Result<usize, Memory>
+    ensures next { IfOk result (λ next. next ≡ number + 1) }
 {
-    match count.checked_add(1) {
+    match number.checked_add(1) {
         Some(next) => Ok(next),
         None => Err(Memory),
     }
@@ -719,24 +769,15 @@ fn bind_parameter(
     Ok(())
 }
 
-/// Whether the term of a number is linear. A number that isn't in the table is that of no linear term.
-fn is_linear(terms: &Terms, id: TermId) -> bool
-    ensures linear { id < length terms.now → result ≡ is_linear_term (term_in terms.now id) }
-    ensures test { result ≡ (nat_lt id (length terms.now) && is_linear_term (term_in terms.now id)) }
-{
-    id < terms.len() && terms.is_linear(id)
-}
-
 /// Whether all of these terms are linear.
-fn are_linear(terms: &Terms, list: &[Typed]) -> bool
-    ensures linear { (ts : spec.Terms) → AreTyped terms.now list.now ts → result ≡ all_linear ts }
+fn are_linear(terms: &Terms, values: &[Typed]) -> bool
+    requires within { All (λ x. x.id < length terms.now) values.now }
+    ensures linear { (ts : spec.Terms) → AreTyped terms.now values.now ts → result ≡ all_linear ts }
 {
-    list.iter().all(|term| is_linear(terms, term.id))
-}
-
-/// Whether the term of a number, or one that it is made of, is a number. A number that isn't in the table is that of no such term.
-fn holds_number(terms: &Terms, id: TermId) -> bool
-    ensures holds { id < length terms.now → result ≡ spec.holds_number (term_in terms.now id) }
-{
-    id < terms.len() && terms.holds_number(id)
+    for value in values {
+        if !terms.is_linear(value.id) {
+            return false;
+        }
+    }
+    true
 }

@@ -12,7 +12,7 @@ ghost use Rattle.nz_sort.specs.Links.{grouping_head, link_pair};
 
 use crate::operators::Operator;
 use nz_base::Memory;
-use nz_term::{Head, Sort, TermId, Terms};
+use nz_term::{Head, NumberSort, Sort, TermId, Terms};
 use std::alloc::Global;
 
 /// The number of the normal term of an operator over these arguments, whose terms are normal and are read at this sort.
@@ -42,9 +42,9 @@ pub(crate) fn normal_term(
         Operator::AtMost => chained(alloc, terms, Link::AtMost, kids),
         Operator::Greater => chained(alloc, terms, Link::Greater, kids),
         Operator::AtLeast => chained(alloc, terms, Link::AtLeast, kids),
-        Operator::Plus => joined(terms, Head::Sum(sort), kids),
-        Operator::Times => joined(terms, Head::Product(sort), kids),
-        Operator::Minus => make(terms, Head::Difference(sort), kids),
+        Operator::Plus => joined(terms, Head::Sum(NumberSort::of(sort)), kids),
+        Operator::Times => joined(terms, Head::Product(NumberSort::of(sort)), kids),
+        Operator::Minus => make(terms, Head::Difference(NumberSort::of(sort)), kids),
         Operator::Over => grouped(terms, Grouping::Quotient, kids),
         Operator::Div => grouped(terms, Grouping::Div, kids),
         Operator::Mod => make(terms, Head::Mod, kids),

@@ -1,11 +1,11 @@
 //! The symbols of a term: which of them are in scope, and which names are bound that may not be.
 ghost use Rattle.std.specs.Prelude.{◌≡◌, ℕ, ◌||◌, List, [], Bool, false, not, bytes_eq, Some, None, OnOk, IfOk, IfSome, IfNone};
-ghost use Rattle.nz_sexpr.specs.View.{token_view, view};
+ghost use Rattle.nz_sexpr.specs.View.{token_view, view, seen};
 ghost use Rattle.nz_spec.specs.Tree.{node};
 ghost use Rattle.nz_spec.specs.Form.{is_one_of};
 ghost use Rattle.nz_spec.specs.Elaboration.{is_operator};
-ghost use Rattle.nz_spec.specs.Script.{bound_name, bound_names, names_bound, clash, is_unknown, has_unknown, have_unknown, has_unknown_in_let, has_unknown_bound, have_unknown_bound, has_unknown_pair, has_unknown_second, has_clash, have_clash, has_clash_in_let, has_clash_bound, have_clash_bound, has_clash_pair, has_clash_second};
-ghost use Rattle.nz_sort.specs.Form.{seen, IsHeadless};
+ghost use Rattle.nz_spec.specs.Scoping.{bound_name, bound_names, names_bound, clash, is_unknown, has_unknown, have_unknown, has_unknown_in_let, has_unknown_bound, have_unknown_bound, has_unknown_pair, has_unknown_second, has_clash, have_clash, has_clash_in_let, has_clash_bound, have_clash_bound, has_clash_pair, has_clash_second};
+ghost use Rattle.nz_sort.specs.Form.{IsHeadless};
 ghost use Rattle.nz_sort.specs.Faults.{is_listed, is_in_frame, AreLive, AreBound};
 
 use crate::form::term::{TermHead, term_head};

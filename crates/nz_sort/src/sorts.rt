@@ -1,11 +1,10 @@
 //! Sorts by their trees, and those of a definition's parameters.
 ghost use Rattle.std.specs.Prelude.{◌≡◌, map, Some, None, IfOk, IfSome, IfNone, option_map};
-ghost use Rattle.nz_sexpr.specs.View.{token_view, view};
+ghost use Rattle.nz_sexpr.specs.View.{token_view, view, seen};
 ghost use Rattle.nz_spec.specs.Tree.{node, no_trees};
 ghost use Rattle.nz_spec.specs.Elaboration.{sort_named};
 ghost use Rattle.nz_spec.specs.Script as script;
 ghost use Rattle.nz_term.specs.Constants.{sort_of};
-ghost use Rattle.nz_sort.specs.Form.{seen};
 
 use crate::form::symbol_of;
 use nz_base::Memory;

@@ -1,10 +1,11 @@
 //! What the program takes: commands of these names, over such arguments.
 ghost use Rattle.std.specs.Prelude.{◌≡◌, codes};
 ghost use Rattle.std.specs.List.{list_any};
-ghost use Rattle.nz_sexpr.specs.View.{view};
+ghost use Rattle.nz_sexpr.specs.View.{view, seen};
 ghost use Rattle.nz_spec.specs.Form as form;
-ghost use Rattle.nz_spec.specs.Script as script;
-ghost use Rattle.nz_sort.specs.Form.{seen, command_meaning};
+ghost use Rattle.nz_spec.specs.Live as live_state;
+ghost use Rattle.nz_spec.specs.Taken as taking;
+ghost use Rattle.nz_sort.specs.Form.{command_meaning};
 
 use crate::form::command::CommandName;
 use crate::form::{is_keyword_tree, is_symbol_tree, only};
@@ -22,7 +23,7 @@ const INFOS: [&[u8]; 6] = [
 
 /// The program takes commands of this name over such arguments. Where a live item holds a term over numbers, it takes no check.
 pub(crate) fn takes_command(holds_numbers: bool, name: CommandName, arguments: &[Tree]) -> bool
-    ensures taken { (s : script.State) → script.items_hold_numbers (script.items_of s.levels) ≡ holds_numbers → result ≡ script.takes_command s (command_meaning name) (seen arguments.now) }
+    ensures taken { (s : live_state.State) → taking.items_hold_numbers (live_state.items_of s.levels) ≡ holds_numbers → result ≡ taking.takes_command s (command_meaning name) (seen arguments.now) }
 {
     match name {
         CommandName::CheckSat => !holds_numbers,
@@ -53,7 +54,7 @@ pub(crate) fn takes_command(holds_numbers: bool, name: CommandName, arguments: &
 
 /// The info is one that the program tells.
 fn takes_info(arguments: &[Tree]) -> bool
-    ensures taken { result ≡ script.takes_info (seen arguments.now) }
+    ensures taken { result ≡ taking.takes_info (seen arguments.now) }
 {
     match only(arguments) {
         Some(key) => is_one_of_keywords(key, &INFOS),
@@ -62,14 +63,14 @@ fn takes_info(arguments: &[Tree]) -> bool
 }
 
 fn is_one_of_keywords(key: &Tree, words: &[&[u8]]) -> bool
-    ensures listed { result ≡ list_any (λ word. form.is_token (form.is_keyword word.now) (view key.now)) words.now }
+    ensures listed { result ≡ list_any (λ word. form.is_token (form.is_the_keyword word.now) (view key.now)) words.now }
 {
     words.iter().any(|word| is_keyword_tree(key, *word))
 }
 
 /// The option is known; of the priorities of goals only `lex`.
 fn takes_option(arguments: &[Tree]) -> bool
-    ensures taken { result ≡ script.takes_option (seen arguments.now) }
+    ensures taken { result ≡ taking.takes_option (seen arguments.now) }
 {
     let Some((key, values)) = arguments.split_first() else {
         return false;

@@ -1,9 +1,9 @@
 //! Tests of the tokens of a command, wherever they stand in it.
 ghost use Rattle.std.specs.Prelude.{◌≡◌, ◌<◌, ◌≤◌, IfSome, IfNone, nat_lt};
-ghost use Rattle.nz_sexpr.specs.View.{token_view, view};
+ghost use Rattle.nz_sexpr.specs.View.{token_view, view, seen};
 ghost use Rattle.nz_spec.specs.Tree.{before_point as front_of, after_point as places_of};
 ghost use Rattle.nz_spec.specs.Bounds as bounds;
-ghost use Rattle.nz_sort.specs.Form.{seen};
+ghost use Rattle.nz_spec.specs.Fraction as fractions;
 ghost use Rattle.nz_sort.specs.Tokens.{meaning_of};
 
 use nz_sexpr::{Token, Tree};
@@ -87,8 +87,8 @@ fn are_wide(digits: &[u8]) -> bool
 
 /// The digits after those that spell `start` spell a number above the greatest.
 fn are_wide_after(start: u128, digits: &[u8]) -> bool
-    requires { start ≤ bounds.greatest_number }
-    ensures wide { result ≡ nat_lt bounds.greatest_number (bounds.value_onto start digits.now) }
+    requires { start ≤ fractions.largest }
+    ensures wide { result ≡ nat_lt fractions.largest (bounds.value_onto start digits.now) }
 {
     value_onto(start, digits).is_none()
 }
@@ -119,10 +119,10 @@ pub(crate) fn around_point(bytes: &[u8]) -> (&[u8], &[u8])
 
 /// The number that the digits spell after those that spell `start`, or none where it is above the greatest.
 pub(crate) fn value_onto(start: u128, digits: &[u8]) -> Option<u128>
-    requires { start ≤ bounds.greatest_number }
+    requires { start ≤ fractions.largest }
     ensures value { IfSome result (λ value. value ≡ bounds.value_onto start digits.now) }
-    ensures bounded { IfSome result (λ value. value ≤ bounds.greatest_number) }
-    ensures wide { IfNone result (bounds.greatest_number < bounds.value_onto start digits.now) }
+    ensures bounded { IfSome result (λ value. value ≤ fractions.largest) }
+    ensures wide { IfNone result (fractions.largest < bounds.value_onto start digits.now) }
 {
     match u64::try_from(start) {
         Ok(start) => {
@@ -150,10 +150,10 @@ fn narrow_value_onto(start: u64, digits: &[u8]) -> (u64, &[u8])
 
 /// The same as `value_onto`, in 128 bits.
 fn wide_value_onto(start: u128, digits: &[u8]) -> Option<u128>
-    requires { start ≤ bounds.greatest_number }
+    requires { start ≤ fractions.largest }
     ensures value { IfSome result (λ value. value ≡ bounds.value_onto start digits.now) }
-    ensures bounded { IfSome result (λ value. value ≤ bounds.greatest_number) }
-    ensures wide { IfNone result (bounds.greatest_number < bounds.value_onto start digits.now) }
+    ensures bounded { IfSome result (λ value. value ≤ fractions.largest) }
+    ensures wide { IfNone result (fractions.largest < bounds.value_onto start digits.now) }
 {
     let mut value = start;
     for byte in digits {

@@ -1,15 +1,15 @@
 -- What is spelled as a number, as a fraction.
-use Rattle.std.proofs.Common.{◌≡◌, ℕ, zero, suc, ◌*◌, ◌/◌, ◌^◌, ◌<◌, ◌≤◌, ◌&&◌, Bool, true, false, not, IsTrue, nat_le, pos, ◌*ℤ◌, unsigned_abs, refl, sym, ap, subst, ◌∙◌, arith, true≢false}
+use Rattle.std.proofs.Common.{◌≡◌, ℕ, zero, suc, ◌/◌, ◌^◌, ◌<◌, ◌≤◌, ◌&&◌, Bool, true, false, not, IsTrue, nat_le, pos, ◌*ℤ◌, unsigned_abs, refl, sym, ap, subst, ◌∙◌, arith, true≢false}
 use Rattle.std.proofs.Math.Nat.{div-le_self, one-le-pow, pow-le-pow_right}
 use Rattle.std.proofs.lemmas.Bool.Decides.{nat_tests}
 use Rattle.nz_ints.proofs.Divisors.{gcd-one}
 use Rattle.nz_ints.proofs.Products.{mul-one, one-mul}
 use Rattle.nz_ints.proofs.Rounding.{unsigned_abs-int_div}
 use Rattle.nz_spec.specs.Fraction.{Fraction, denominator, over, whole, ◌/ℚ◌, flipped, reciprocal, gcd, reduce, ratio, largest, exceeds, IsNumber}
-use Rattle.nz_spec.specs.Term.{scaled, head_fits, decimal_number, DecimalsAreNumbers}
+use Rattle.nz_spec.specs.Term.{DecimalsAreNumbers}
 use Rattle.nz_spec.specs.Numerals.{NumeralsAreWhole}
 use Rattle.nz_spec.proofs.FractionArithmetic.{Parts, product_parts, whole_parts, by_parts}
-use Rattle.nz_spec.proofs.FractionLaws.{IsLowest, numerator-reduce, denominator-reduce, reduce-lowest, reduce-is}
+use Rattle.nz_spec.proofs.FractionLaws.{numerator-reduce, denominator-reduce, reduce-lowest, reduce-is}
 
 reciprocal_parts : (k : ℕ) → Parts (reciprocal (whole (pos (suc k)))) (pos 1) (pos (suc k))
 unfolding reciprocal flipped over denominator

@@ -1,12 +1,11 @@
 -- The examples are computed from the definitions: the script by its things, the short texts by reading them.
 use Rattle.std.proofs.Common.{◌≡◌, ℕ, List, [], ◌∷◌, None, codes, refl, subst, inl, map, rules}
-use Rattle.nz_spec.specs.Text.{Groups, no_groups, groups, single, gap, word, Thing, loose, command, Open}
-use Rattle.nz_spec.specs.Text.{Limits, Hears, AreLongest, script_pieces, script_limits, heard_from, text_of}
+use Rattle.nz_spec.specs.Text.{Groups, no_groups, groups, single, gap, word, Thing, loose, command, Open, Limits, Hears, AreLongest, script_pieces, script_limits, heard_from, text_of}
 use Rattle.nz_spec.specs.Run.{solve_limit}
-use Rattle.nz_spec.specs.Script.{start}
+use Rattle.nz_spec.specs.Right.{beginning}
 use Rattle.nz_spec.specs.Transcript.{Kept, IsTranscript, AreRight, texts_of}
 use Rattle.nz_spec.specs.Texts.{Sample, AreHeard, comment_samples, string_samples, quoted_samples, word_samples, group_samples, narrow_limits, limit_samples}
-use Rattle.nz_spec.specs.Reading.{hear_on, start as reading_start}
+use Rattle.nz_spec.specs.Reading.{hear_on, reading_start}
 use Rattle.nz_spec.proofs.Readings.{hears}
 use Rattle.nz_spec.specs.Example.{example_script, example_transcript, example_output}
 
@@ -42,20 +41,17 @@ longest = search rules
 told : map (λ (k : Kept). k.heard) example_transcript ≡ heard_from script_limits 0 things nothing_open
 told = refl
 
-right : AreRight solve_limit start example_transcript
+right : AreRight (beginning solve_limit) example_transcript
 right = search rules
 
 pub example_is_transcript : IsTranscript solve_limit example_script example_transcript
 example_is_transcript =
     record {
+      heard = heard_from script_limits 0 things nothing_open;
       rest = [];
-      front =
-          record {
-            heard = heard_from script_limits 0 things nothing_open;
-            hears = record { things = things; still_open = nothing_open; spelled = spelled; longest = longest; told = refl };
-            told = search rules;
-            right = right;
-          };
+      hears = record { things = things; still_open = nothing_open; spelled = spelled; longest = longest; told = refl };
+      told = search rules;
+      right = right;
       whole = inl refl;
     }
 

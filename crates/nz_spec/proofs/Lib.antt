@@ -21,3 +21,6 @@ pub mod Tables
 pub mod Tellings
 pub mod Transcripts
 pub mod TreeTerms
+mod Listed
+pub mod Scripts
+mod Uses

@@ -1,7 +1,7 @@
 -- A term and its normal term have one value.
 use Rattle.std.proofs.Common.{◌≡◌, Bool, true, false, not, ◌&&◌, ◌||◌, List, [], ◌∷◌, refl, sym, ap, ◌∙◌}
 use Rattle.std.specs.List.{list_all, list_any}
-use Rattle.nz_spec.specs.Term.{Sort, Head, constant, parameter, integer, decimal_number, verum, falsum, negation, conjunction, disjunction, implication, exclusion, equality, distinction, choice, less, at_most, greater, at_least, sum, difference, product, quotient, integer_quotient, modulus, magnitude, to_real, to_int, is_int, Term, apply, Terms, no_terms, terms, Value, truth, Assignment, is_true, are_equal, is_less, is_at_most, implied, all_true, excluded, are_chained, are_distinct, combined, carried_out, divided, head_value, value_of, values_of}
+use Rattle.nz_spec.specs.Term.{NumberSort, Head, constant, parameter, integer, decimal_number, verum, falsum, negation, conjunction, disjunction, implication, exclusion, equality, distinction, choice, less, at_most, greater, at_least, sum, difference, product, quotient, integer_quotient, modulus, magnitude, to_real, to_int, is_int, Term, apply, Terms, no_terms, terms, Value, truth, Assignment, is_true, are_equal, is_less, is_at_most, implied, all_true, excluded, are_chained, are_distinct, combined, carried_out, divided, head_value, value_of, values_of}
 use Rattle.nz_spec.specs.Fraction.{Quotient}
 use Rattle.nz_spec.specs.Normal.{paired, turned, implication_of, grouped_onto, neighbours_of, disequations_onto, disequations_of, joined_by, chained_by, normal_node, normals_of, NormalKeepsValue}
 
@@ -104,12 +104,12 @@ disjunction_keeps a no_terms = refl
 disjunction_keeps a (terms t no_terms) = refl
 disjunction_keeps a (terms t (terms u ts)) = refl
 
-sum_keeps : (a : Assignment) (s : Sort) (ts : Terms) → value_of a (joined_by (sum s) ts) ≡ head_value a (sum s) (values_of a ts)
+sum_keeps : (a : Assignment) (s : NumberSort) (ts : Terms) → value_of a (joined_by (sum s) ts) ≡ head_value a (sum s) (values_of a ts)
 sum_keeps a s no_terms = refl
 sum_keeps a s (terms t no_terms) = refl
 sum_keeps a s (terms t (terms u ts)) = refl
 
-product_keeps : (a : Assignment) (s : Sort) (ts : Terms) → value_of a (joined_by (product s) ts) ≡ head_value a (product s) (values_of a ts)
+product_keeps : (a : Assignment) (s : NumberSort) (ts : Terms) → value_of a (joined_by (product s) ts) ≡ head_value a (product s) (values_of a ts)
 product_keeps a s no_terms = refl
 product_keeps a s (terms t no_terms) = refl
 product_keeps a s (terms t (terms u ts)) = refl

@@ -2,8 +2,8 @@
 use Rattle.std.proofs.Common.{◌≡◌, ℕ, zero, suc, Bool, true, false, ◌&&◌, List, [], ◌∷◌, Option, Some, None, refl, sym, ◌∙◌, true≢false, if◌then◌else◌}
 use Rattle.std.specs.Bool.{⊤}
 use Rattle.std.specs.Prelude.{slice_get}
-use Rattle.nz_spec.specs.Term.{Sort, int_sort, real_sort, Head, to_real, Term, apply, Terms, no_terms, terms, sort_of}
-use Rattle.nz_spec.specs.Elaboration.{are_same_sort, has_sort, as_real, placed, term_at, terms_onto, all_placed}
+use Rattle.nz_spec.specs.Term.{Sort, int_sort, real_sort, Head, to_real, Term, apply, Terms, no_terms, terms, sort_of, are_same_sort}
+use Rattle.nz_spec.specs.Elaboration.{has_sort, as_real, placed, term_at, terms_onto, all_placed}
 use Rattle.nz_spec.proofs.Found.{IfFound, some_same, none_is_not}
 use Rattle.nz_spec.proofs.Sorted.{and_first, and_second, same_sorts}
 

@@ -1,7 +1,7 @@
 -- What the operands of an operator are, once they are read at the sort that their operator takes.
 use Rattle.std.proofs.Common.{◌≡◌, suc, Bool, true, false, not, ◌||◌, Option, Some, None, refl, sym, ap, ◌∙◌, true≢false, if◌then◌else◌}
-use Rattle.nz_spec.specs.Term.{Sort, bool_sort, int_sort, real_sort, to_real, Term, apply, Terms, no_terms, terms, sort_of, is_bool}
-use Rattle.nz_spec.specs.Elaboration.{are_same_sort, has_sort, is_number_term, all_terms, term_count, as_real, as_reals, number_sort, alike_sort, Operands, bools, ints, reals, numbers, alike, branches, operand_sort, read_at}
+use Rattle.nz_spec.specs.Term.{Sort, bool_sort, int_sort, real_sort, to_real, Term, apply, Terms, no_terms, terms, sort_of, is_bool, are_same_sort}
+use Rattle.nz_spec.specs.Elaboration.{has_sort, is_number_term, all_terms, term_count, as_real, as_reals, number_sort, alike_sort, Operands, bools, ints, reals, numbers, alike, branches, operand_sort, read_at}
 use Rattle.nz_spec.proofs.Found.{IfFound, found_weaker}
 use Rattle.nz_spec.proofs.Sorted.{and_first, and_second, and_both, fit_numbers}
 

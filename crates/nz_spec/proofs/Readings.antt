@@ -3,8 +3,8 @@ use Rattle.std.proofs.Common.{◌≡◌, ℕ, ◌+◌, ◌-◌, ◌≤◌, ◌||
 use Rattle.std.proofs.lemmas.Bool.{eqb-true}
 use Rattle.std.proofs.lemmas.List.{append-nil}
 use Rattle.nz_spec.specs.Tree.{Token, Tree, leaf, node, Trees, no_trees, trees}
-use Rattle.nz_spec.specs.Text.{ByteClass, blank_byte, word_byte, class_of, is_line_end, is_quote, is_bar, AllOfClass, BeginsWord, HasNone, EndsOrBegins, Filler, gap, comment, word, string, quoted, Unfinished, open_string, open_quoted, Piece, closing, filler, unfinished, with_quotes_doubled, spelling_of, unfinished_spelling, text_of, StandsBefore, AreLongest, Group, single, nest, Groups, no_groups, groups, group_pieces, groups_pieces, Thing, loose, unmatched, command, Open, open_pieces, script_pieces, is_blank, token_of, tree_onto, trees_of, is_bad_filler, is_bad_group, are_bad_groups, group_depth, groups_depth, Limits, unclosed, Heard, thing_length, command_what, heard_thing, heard_open, heard_from, Hears, OneReading}
-use Rattle.nz_spec.specs.Reading.{trees_from, Part, no_part, in_comment, in_word, in_string, after_quote, in_quoted, Reading, start, trees_of_filler, refused, what_of, taken_by, told_token_by, begins_at, goes_on, next_outside, told_outside, next_in_word, told_in_word, hear_on}
+use Rattle.nz_spec.specs.Text.{ByteClass, blank_byte, word_byte, class_of, is_line_end, is_quote, is_bar, AllOfClass, BeginsWord, HasNone, EndsOrBegins, Filler, gap, comment, word, string, quoted, Unfinished, open_string, open_quoted, Piece, closing, filler, unfinished, with_quotes_doubled, spelling_of, unfinished_spelling, text_of, StandsBefore, AreLongest, Group, single, nest, Groups, no_groups, groups, group_pieces, groups_pieces, Thing, loose, unmatched, command, Open, open_pieces, script_pieces, is_blank, token_of, tree_onto, group_trees, is_bad_filler, is_bad_group, are_bad_groups, group_depth, groups_depth, Limits, unclosed, Heard, thing_length, command_what, heard_thing, heard_open, heard_from, Hears, OneReading}
+use Rattle.nz_spec.specs.Reading.{trees_from, Part, no_part, in_comment, in_word, in_string, after_quote, in_quoted, Reading, reading_start, trees_of_filler, heard_faulty, what_of, taken_by, told_token_by, begins_at, goes_on, next_outside, told_outside, next_in_word, told_in_word, hear_on}
 use Rattle.nz_spec.proofs.Pieces.{line_end-blank, things_in, open_in, script-spelled, script-longest}
 
 -- a reading by its parts
@@ -90,7 +90,7 @@ string-ends limits w a f [] bad d [] h = refl
 string-ends limits w a f (l ∷ ls) bad d [] h = refl
 string-ends limits w a f [] bad d (x ∷ xs) h =
     let s : Reading = at_parts a f no_part [] bad d in
-    ap (λ (t : Bool). (if t then [] else refused f a ∷ told_outside (class_of x) limits s) ++ hear_on limits (if t then goes_on (in_string (w ++ x ∷ [])) s else next_outside (class_of x) x s) xs) h
+    ap (λ (t : Bool). (if t then [] else heard_faulty f a ∷ told_outside (class_of x) limits s) ++ hear_on limits (if t then goes_on (in_string (w ++ x ∷ [])) s else next_outside (class_of x) x s) xs) h
 string-ends limits w a f (l ∷ ls) bad d (x ∷ xs) h =
     let s : Reading = taken_by (string w) (l ∷ ls) (at_parts a f no_part (l ∷ ls) bad d) in
     ap (λ (t : Bool). (if t then [] else told_outside (class_of x) limits s) ++ hear_on limits (if t then goes_on (in_string (w ++ x ∷ [])) (at_parts a f no_part (l ∷ ls) bad d) else next_outside (class_of x) x s) xs) h
@@ -201,7 +201,7 @@ listed-word None rest = refl
 -- the trees of one group
 abbrev trees_at : Group → List Tree
 trees_at (single x) = trees_of_filler x
-trees_at (nest gs) = node (trees_of gs) ∷ []
+trees_at (nest gs) = node (group_trees gs) ∷ []
 
 listed-onto : (g : Group) (rest : Trees) → listed (tree_onto g rest) ≡ trees_at g ++ listed rest
 listed-onto (single x) rest = listed-word (token_of x) rest
@@ -242,15 +242,15 @@ mutual
       ∙ same_state limits f ls (text_of rest) _ _ _ _ _ _ _ _ refl refl refl (omega arith)
   group-heard limits (nest gs) rest a f l ls bad d h n =
       groups-heard limits gs (closing ∷ rest) (a + 1) f [] (l ∷ ls) bad (max d (length ls + 2)) h.1 (omega arith)
-      ∙ same_state limits f ls (text_of rest) _ _ _ _ _ _ _ _ (omega arith) (ap (λ k. l ++ node k ∷ []) (trees_from-listed (trees_of gs))) refl (omega arith)
+      ∙ same_state limits f ls (text_of rest) _ _ _ _ _ _ _ _ (omega arith) (ap (λ k. l ++ node k ∷ []) (trees_from-listed (group_trees gs))) refl (omega arith)
 
-  groups-heard : (limits : Limits) (gs : Groups) (rest : List Piece) (a f : ℕ) (l : List Tree) (ls : List (List Tree)) (bad : Bool) (d : ℕ) → AreLongest (groups_pieces gs rest) → length ls + 1 ≤ d → hear_on limits (at_parts a f no_part (l ∷ ls) bad d) (text_of (groups_pieces gs rest)) ≡ hear_on limits (at_parts (a + groups_size gs) f no_part ((l ++ listed (trees_of gs)) ∷ ls) (bad || are_bad_groups gs) (max d (length ls + 1 + groups_depth gs))) (text_of rest)
+  groups-heard : (limits : Limits) (gs : Groups) (rest : List Piece) (a f : ℕ) (l : List Tree) (ls : List (List Tree)) (bad : Bool) (d : ℕ) → AreLongest (groups_pieces gs rest) → length ls + 1 ≤ d → hear_on limits (at_parts a f no_part (l ∷ ls) bad d) (text_of (groups_pieces gs rest)) ≡ hear_on limits (at_parts (a + groups_size gs) f no_part ((l ++ listed (group_trees gs)) ∷ ls) (bad || are_bad_groups gs) (max d (length ls + 1 + groups_depth gs))) (text_of rest)
   groups-heard limits no_groups rest a f l ls bad d h n =
       same_state limits f ls (text_of rest) _ _ _ _ _ _ _ _ (omega arith) (sym (append-nil l)) (sym (or-false bad)) (omega arith)
   groups-heard limits (groups g gs) rest a f l ls bad d h n =
       group-heard limits g (groups_pieces gs rest) a f l ls bad d h n
       ∙ groups-heard limits gs rest (a + group_size g) f (l ++ trees_at g) ls (bad || is_bad_group g) (max d (length ls + 1 + group_depth g)) (group-longest g (groups_pieces gs rest) h) (omega arith)
-      ∙ same_state limits f ls (text_of rest) _ _ _ _ _ _ _ _ (omega arith) (append_assoc l (trees_at g) (listed (trees_of gs)) ∙ ap (λ k. l ++ k) (sym (listed-onto g (trees_of gs)))) (or-or bad (is_bad_group g) (are_bad_groups gs)) (omega arith)
+      ∙ same_state limits f ls (text_of rest) _ _ _ _ _ _ _ _ (omega arith) (append_assoc l (trees_at g) (listed (group_trees gs)) ∙ ap (λ k. l ++ k) (sym (listed-onto g (group_trees gs)))) (or-or bad (is_bad_group g) (are_bad_groups gs)) (omega arith)
 
 -- ---- The whole text
 
@@ -281,7 +281,7 @@ unclosed-heard limits [] (Some u) a f l ls bad d h n =
     ∙ ap (λ k. record { from = f; to = a + length k; what = unclosed } ∷ []) (sym (append-nil (unfinished_spelling u)))
 unclosed-heard limits (gs ∷ inner) last a f l ls bad d h n =
     groups-heard limits gs (open_pieces inner last) (a + 1) f [] (l ∷ ls) bad (max d (length ls + 2)) h.1 (omega arith)
-    ∙ unclosed-heard limits inner last (a + 1 + groups_size gs) f (listed (trees_of gs)) (l ∷ ls) (bad || are_bad_groups gs) _ (groups-longest gs (open_pieces inner last) h.1) (omega arith)
+    ∙ unclosed-heard limits inner last (a + 1 + groups_size gs) f (listed (group_trees gs)) (l ∷ ls) (bad || are_bad_groups gs) _ (groups-longest gs (open_pieces inner last) h.1) (omega arith)
     ∙ ap (λ k. record { from = f; to = k; what = unclosed } ∷ []) (omega (arith, groups-length gs (open_pieces inner last)))
 
 -- what is still open where no more things come
@@ -290,17 +290,17 @@ open-heard limits [] None a f bad d h = refl
 open-heard limits [] (Some u) a f bad d h = unfinished-heard limits u a f [] bad d h.0
 open-heard limits (gs ∷ inner) last a f bad d h =
     groups-heard limits gs (open_pieces inner last) (a + 1) a [] [] false 1 h.1 (omega arith)
-    ∙ unclosed-heard limits inner last (a + 1 + groups_size gs) a (listed (trees_of gs)) [] (are_bad_groups gs) _ (groups-longest gs (open_pieces inner last) h.1) (omega arith)
+    ∙ unclosed-heard limits inner last (a + 1 + groups_size gs) a (listed (group_trees gs)) [] (are_bad_groups gs) _ (groups-longest gs (open_pieces inner last) h.1) (omega arith)
     ∙ ap (λ k. record { from = a; to = k; what = unclosed } ∷ []) (omega (arith, groups-length gs (open_pieces inner last)))
 
 command-length : (gs : Groups) → thing_length (command gs) ≡ groups_size gs + 2
 command-length gs = omega (arith, groups-length gs (closing ∷ []))
 
-command-is : (limits : Limits) (gs : Groups) (a : ℕ) → what_of limits (listed (trees_of gs)) (at_parts (a + 1 + groups_size gs + 1) a no_part (listed (trees_of gs) ∷ []) (are_bad_groups gs) (max 1 (0 + 1 + groups_depth gs))) ≡ command_what limits gs
+command-is : (limits : Limits) (gs : Groups) (a : ℕ) → what_of limits (listed (group_trees gs)) (at_parts (a + 1 + groups_size gs + 1) a no_part (listed (group_trees gs) ∷ []) (are_bad_groups gs) (max 1 (0 + 1 + groups_depth gs))) ≡ command_what limits gs
 command-is limits gs a =
     let size : a + 1 + groups_size gs + 1 - a ≡ thing_length (command gs) = omega (arith, command-length gs) in
     let deep : max 1 (0 + 1 + groups_depth gs) ≡ suc (groups_depth gs) = omega arith in
-    rw (size, deep, trees_from-listed (trees_of gs)) refl
+    rw (size, deep, trees_from-listed (group_trees gs)) refl
 
 script-heard : (limits : Limits) (things : List Thing) (o : Open) (a f : ℕ) (bad : Bool) (d : ℕ) → AreLongest (script_pieces things o) → hear_on limits (at_parts a f no_part [] bad d) (text_of (script_pieces things o)) ≡ heard_from limits a things o
 script-heard limits [] o a f bad d h = open-heard limits o.lists o.last a f bad d h
@@ -309,11 +309,11 @@ script-heard limits (loose x ∷ ts) o a f bad d h =
     ∙ ap (λ k. heard_thing limits a (loose x) ++ k) (script-heard limits ts o (a + length (spelling_of x)) (from_after x a f) bad d h.1)
     ∙ ap (λ k. heard_thing limits a (loose x) ++ heard_from limits (a + length k) ts o) (sym (append-nil (spelling_of x)))
 script-heard limits (unmatched ∷ ts) o a f bad d h =
-    ap (λ k. refused a (a + 1) ∷ k) (script-heard limits ts o (a + 1) f bad d h.1)
+    ap (λ k. heard_faulty a (a + 1) ∷ k) (script-heard limits ts o (a + 1) f bad d h.1)
 script-heard limits (command gs ∷ ts) o a f bad d h =
     let rest : List Piece = script_pieces ts o in
     groups-heard limits gs (closing ∷ rest) (a + 1) a [] [] false 1 h.1 (omega arith)
-    ∙ ap (λ k. record { from = a; to = a + 1 + groups_size gs + 1; what = what_of limits (listed (trees_of gs)) (at_parts (a + 1 + groups_size gs + 1) a no_part (listed (trees_of gs) ∷ []) (are_bad_groups gs) (max 1 (0 + 1 + groups_depth gs))) } ∷ k)
+    ∙ ap (λ k. record { from = a; to = a + 1 + groups_size gs + 1; what = what_of limits (listed (group_trees gs)) (at_parts (a + 1 + groups_size gs + 1) a no_part (listed (group_trees gs) ∷ []) (are_bad_groups gs) (max 1 (0 + 1 + groups_depth gs))) } ∷ k)
     (script-heard limits ts o (a + 1 + groups_size gs + 1) a (are_bad_groups gs) (max 1 (0 + 1 + groups_depth gs)) (groups-longest gs (closing ∷ rest) h.1).1)
     ∙ (let size : a + 1 + groups_size gs + 1 ≡ a + thing_length (command gs) = omega (arith, command-length gs) in
     ap (λ k. record { from = a; to = a + 1 + groups_size gs + 1; what = k } ∷ heard_from limits (a + 1 + groups_size gs + 1) ts o) (command-is limits gs a)
@@ -322,18 +322,18 @@ script-heard limits (command gs ∷ ts) o a f bad d h =
 -- ---- The theorem
 
 -- what is heard in a text is what is told when it is read byte by byte
-pub hears : (limits : Limits) (bytes : List ℕ) → Hears limits bytes (hear_on limits start bytes)
+pub hears : (limits : Limits) (bytes : List ℕ) → Hears limits bytes (hear_on limits reading_start bytes)
 hears limits bytes =
     record {
       things = things_in bytes;
       still_open = open_in bytes;
       spelled = script-spelled bytes;
       longest = script-longest bytes;
-      told = ap (hear_on limits start) (sym (script-spelled bytes)) ∙ script-heard limits (things_in bytes) (open_in bytes) 0 0 false 0 (script-longest bytes);
+      told = ap (hear_on limits reading_start) (sym (script-spelled bytes)) ∙ script-heard limits (things_in bytes) (open_in bytes) 0 0 false 0 (script-longest bytes);
     }
 
-pub hears_one : (limits : Limits) (bytes : List ℕ) (others : List Heard) → Hears limits bytes others → others ≡ hear_on limits start bytes
-hears_one limits bytes others h = h.told ∙ sym (script-heard limits h.things h.still_open 0 0 false 0 h.longest) ∙ ap (hear_on limits start) h.spelled
+pub hears_one : (limits : Limits) (bytes : List ℕ) (others : List Heard) → Hears limits bytes others → others ≡ hear_on limits reading_start bytes
+hears_one limits bytes others h = h.told ∙ sym (script-heard limits h.things h.still_open 0 0 false 0 h.longest) ∙ ap (hear_on limits reading_start) h.spelled
 
 pub one_reading : OneReading
-one_reading limits bytes = (hear_on limits start bytes, hears limits bytes, hears_one limits bytes)
+one_reading limits bytes = (hear_on limits reading_start bytes, hears limits bytes, hears_one limits bytes)

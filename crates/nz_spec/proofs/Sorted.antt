@@ -6,9 +6,9 @@ use Rattle.std.specs.Prelude.{slice_get}
 use Rattle.std.proofs.Math.Nat.{div-le_self}
 use Rattle.nz_ints.specs.Division.{gcd}
 use Rattle.std.specs.List.{AllByRecursion}
-use Rattle.nz_spec.specs.Fraction.{Fraction, denominator, IsWhole, reduce, ◌+ℚ◌, neg_ℚ, ◌-ℚ◌, ◌*ℚ◌, outcome, exact, Operator, Sum, Difference, Product, Quotient}
-use Rattle.nz_spec.specs.Term.{Sort, bool_sort, int_sort, real_sort, Constant, Head, constant, parameter, integer, decimal_number, verum, falsum, negation, conjunction, disjunction, implication, exclusion, equality, distinction, choice, less, at_most, greater, at_least, sum, difference, product, quotient, integer_quotient, modulus, magnitude, to_real, to_int, is_int, head_sort, Term, apply, Terms, no_terms, terms, sort_of, is_bool, Value, truth, number, Assignment, is_true, number_of, IsOfSort, all_true, some_true, implied, excluded, combined, is_undefined, carried_out, divided, whole_number, default_value, head_value, value_of, values_of}
-use Rattle.nz_spec.specs.Elaboration.{are_same_sort, has_sort, all_terms, term_count}
+use Rattle.nz_spec.specs.Fraction.{Fraction, denominator, IsWhole, reduce, ◌+ℚ◌, neg_ℚ, ◌-ℚ◌, ◌*ℚ◌, outcome, exact, Arithmetic, Sum, Difference, Product, Quotient}
+use Rattle.nz_spec.specs.Term.{Sort, NumberSort, sort_over, bool_sort, int_sort, real_sort, Constant, Head, constant, parameter, integer, decimal_number, verum, falsum, negation, conjunction, disjunction, implication, exclusion, equality, distinction, choice, less, at_most, greater, at_least, sum, difference, product, quotient, integer_quotient, modulus, magnitude, to_real, to_int, is_int, head_sort, Term, apply, Terms, no_terms, terms, sort_of, is_bool, Value, truth, number, Assignment, is_true, number_of, IsOfSort, all_true, some_true, implied, excluded, combined, is_undefined, carried_out, divided, whole_number, default_value, head_value, value_of, values_of, are_same_sort}
+use Rattle.nz_spec.specs.Elaboration.{has_sort, all_terms, term_count}
 use Rattle.nz_spec.proofs.FractionArithmetic.{denominator-sum, denominator-product, denominator-neg}
 use Rattle.nz_spec.proofs.FractionLaws.{denominator-reduce, denominator_pos}
 
@@ -55,9 +55,9 @@ fit disjunction ts = all_terms (has_sort bool_sort) ts
 fit implication ts = all_terms (has_sort bool_sort) ts
 fit exclusion ts = all_terms (has_sort bool_sort) ts
 fit (choice s) ts = fit_branches s ts
-fit (sum s) ts = fit_numbers s ts
-fit (difference s) ts = fit_numbers s ts
-fit (product s) ts = fit_numbers s ts
+fit (sum s) ts = fit_numbers (sort_over s) ts
+fit (difference s) ts = fit_numbers (sort_over s) ts
+fit (product s) ts = fit_numbers (sort_over s) ts
 fit quotient ts = all_terms (has_sort real_sort) ts
 fit integer_quotient ts = all_terms (has_sort int_sort) ts
 fit to_real ts = all_terms (has_sort int_sort) ts
@@ -65,7 +65,7 @@ fit h ts = true
 
 -- the assignment gives the constant a value of its sort
 abbrev pub Gives : Assignment → Constant → Type 0
-Gives a c = IsOfSort c.sort (a c.name)
+Gives a c = IsOfSort c.sort (a c)
 
 -- a constant has a value of its sort, and a parameter the sort that is listed at its place
 abbrev pub Stands : Assignment → List Sort → Head → Type 0
@@ -121,7 +121,7 @@ product_one : (m n : ℕ) → m ≡ 1 → n ≡ 1 → m * n ≡ 1
 product_one m n e f = rw (e, f) refl
 
 -- the operations that make whole numbers of whole numbers
-abbrev KeepsWhole : Operator → Type 0
+abbrev KeepsWhole : Arithmetic → Type 0
 KeepsWhole op = (p q : Fraction) → IsWhole p → IsWhole q → IsWhole (outcome op p q)
 
 sum_whole : KeepsWhole Sum
@@ -149,10 +149,10 @@ chosen_is : (b : Bool) (s : Sort) (v w : Value) → IsOfSort s v → IsOfSort s 
 chosen_is true s v w i j = i
 chosen_is false s v w i j = j
 
-real_carried : (op : Operator) (v w : Value) → IsOfSort real_sort (carried_out op v w)
+real_carried : (op : Arithmetic) (v w : Value) → IsOfSort real_sort (carried_out op v w)
 real_carried op v w = chosen_is (is_undefined op (number_of w)) real_sort (whole_number (pos 0)) (number (outcome op (number_of v) (number_of w))) tt tt
 
-carried_is : (s : Sort) (op : Operator) → KeepsWhole op → not (is_bool s) ≡ true → (v w : Value) → IsOfSort s v → IsOfSort s w → IsOfSort s (carried_out op v w)
+carried_is : (s : Sort) (op : Arithmetic) → KeepsWhole op → not (is_bool s) ≡ true → (v w : Value) → IsOfSort s v → IsOfSort s w → IsOfSort s (carried_out op v w)
 carried_is bool_sort op k e v w i j = absurd (true≢false (sym e))
 carried_is int_sort op k e (truth b) w i j = absurd i
 carried_is int_sort op k e (number p) (truth b) i j = absurd j
@@ -204,27 +204,31 @@ choice_is a s (terms c (terms t (terms u (terms w ts)))) e h =
     let two : term_count ws ≡ 2 = eqb-true (term_count ws) 2 (and_first (term_count ws == 2) (all_terms (has_sort s) ws) rest) in
     absurd (omega (arith, two))
 
-sum_is : (a : Assignment) (s : Sort) (ts : Terms) → fit_numbers s ts ≡ true → HaveSorts a ts → IsOfSort s (head_value a (sum s) (values_of a ts))
-sum_is a s no_terms e h = whole_is s (pos 0) (and_first (not (is_bool s)) true e)
-sum_is a s (terms t ts) e h =
+sum_is : (a : Assignment) (n : NumberSort) (ts : Terms) → fit_numbers (sort_over n) ts ≡ true → HaveSorts a ts → IsOfSort (sort_over n) (head_value a (sum n) (values_of a ts))
+sum_is a n no_terms e h = let s = sort_over n in whole_is s (pos 0) (and_first (not (is_bool s)) true e)
+sum_is a n (terms t ts) e h =
+    let s = sort_over n in
     let wanted = and_first (not (is_bool s)) (all_terms (has_sort s) (terms t ts)) e in
     let all = all_of a s (terms t ts) (and_second (not (is_bool s)) (all_terms (has_sort s) (terms t ts)) e) h in
     combined_is s (carried_out Sum) (carried_is s Sum sum_whole wanted) (value_of a t) (values_of a ts) all.0 all.1
 
-product_is : (a : Assignment) (s : Sort) (ts : Terms) → fit_numbers s ts ≡ true → HaveSorts a ts → IsOfSort s (head_value a (product s) (values_of a ts))
-product_is a s no_terms e h = whole_is s (pos 1) (and_first (not (is_bool s)) true e)
-product_is a s (terms t ts) e h =
+product_is : (a : Assignment) (n : NumberSort) (ts : Terms) → fit_numbers (sort_over n) ts ≡ true → HaveSorts a ts → IsOfSort (sort_over n) (head_value a (product n) (values_of a ts))
+product_is a n no_terms e h = let s = sort_over n in whole_is s (pos 1) (and_first (not (is_bool s)) true e)
+product_is a n (terms t ts) e h =
+    let s = sort_over n in
     let wanted = and_first (not (is_bool s)) (all_terms (has_sort s) (terms t ts)) e in
     let all = all_of a s (terms t ts) (and_second (not (is_bool s)) (all_terms (has_sort s) (terms t ts)) e) h in
     combined_is s (carried_out Product) (carried_is s Product product_whole wanted) (value_of a t) (values_of a ts) all.0 all.1
 
-difference_is : (a : Assignment) (s : Sort) (ts : Terms) → fit_numbers s ts ≡ true → HaveSorts a ts → IsOfSort s (head_value a (difference s) (values_of a ts))
-difference_is a s no_terms e h = whole_is s (pos 0) (and_first (not (is_bool s)) true e)
-difference_is a s (terms t no_terms) e h =
+difference_is : (a : Assignment) (n : NumberSort) (ts : Terms) → fit_numbers (sort_over n) ts ≡ true → HaveSorts a ts → IsOfSort (sort_over n) (head_value a (difference n) (values_of a ts))
+difference_is a n no_terms e h = let s = sort_over n in whole_is s (pos 0) (and_first (not (is_bool s)) true e)
+difference_is a n (terms t no_terms) e h =
+    let s = sort_over n in
     let wanted = and_first (not (is_bool s)) (all_terms (has_sort s) (terms t no_terms)) e in
     let all = all_of a s (terms t no_terms) (and_second (not (is_bool s)) (all_terms (has_sort s) (terms t no_terms)) e) h in
     negated_is s (value_of a t) wanted all.0
-difference_is a s (terms t (terms u ts)) e h =
+difference_is a n (terms t (terms u ts)) e h =
+    let s = sort_over n in
     let us = terms u ts in
     let wanted = and_first (not (is_bool s)) (all_terms (has_sort s) (terms t us)) e in
     let all = all_of a s (terms t us) (and_second (not (is_bool s)) (all_terms (has_sort s) (terms t us)) e) h in

@@ -1,34 +1,37 @@
 -- Definitions and assertions stay well sorted, whatever is told.
-use Rattle.std.proofs.Common.{◌≡◌, ℕ, suc, ◌+◌, Bool, true, false, not, ◌||◌, List, [], ◌∷◌, ◌++◌, Option, Some, None, refl, sym, ap, subst, if◌then◌else◌, arith}
-use Rattle.std.proofs.lemmas.List.{append_assoc}
+use Rattle.std.proofs.Common.{◌≡◌, ℕ, suc, ◌+◌, Bool, true, false, not, ◌||◌, List, [], ◌∷◌, ◌++◌, Option, Some, None, refl, sym, ap, ◌∙◌, subst, if◌then◌else◌, arith}
+use Rattle.std.proofs.lemmas.List.{append_assoc, map-append}
 use Rattle.std.specs.Bool.{⊤}
-use Rattle.std.specs.Prelude.{slice_get, option_and_then, codes}
+use Rattle.std.specs.Prelude.{map, slice_get, option_and_then, codes}
 use Rattle.std.specs.List.{AllByRecursion}
 use Rattle.nz_spec.specs.Tree.{symbol_name, literal, Tree, leaf, node, Trees, no_trees, trees}
-use Rattle.nz_spec.specs.Form.{is_name, is_empty, is_keyword, is_symbol, has_form, CommandName, command_name, assert_name, check_sat_name, declare_const_name, declare_fun_name, define_fun_name, echo_name, exit_name, get_info_name, get_model_name, get_value_name, set_info_name, set_logic_name, set_option_name}
+use Rattle.nz_spec.specs.Form.{is_name, is_empty, is_the_keyword, is_symbol, has_form, CommandName, command_name, assert_name, check_sat_name, declare_const_name, declare_fun_name, define_fun_name, echo_name, exit_name, get_info_name, get_model_name, get_value_name, set_info_name, set_logic_name, set_option_name}
 use Rattle.nz_spec.specs.Bounds.{have_token, is_wide_token, is_long_decimal}
-use Rattle.nz_spec.specs.Term.{Sort, bool_sort, Term, Terms, sort_of, Assignment, IsOfSort, value_of}
+use Rattle.nz_spec.specs.Term.{Sort, bool_sort, Constant, Term, Terms, sort_of, Assignment, IsOfSort, value_of}
 use Rattle.nz_spec.specs.Normal.{normal_of}
 use Rattle.nz_spec.specs.Linear.{is_linear}
 use Rattle.nz_spec.specs.Elaboration.{has_sort, placed, Definition, term_of, terms_of}
-use Rattle.nz_spec.specs.Script.{State, start, Item, declared, defined, asserted, sought, wished, items_of, constants_in, definitions_in, assertions_in, assertions_of, with_item, Command, declare_const, define, assert_term, check_sat, get_value, get_info, get_levels, get_reason, name_info, version_info, authors_info, error_behavior_info, set_print_success, no_effect, Outcome, accepted, refused, not_taken, passes_limit, takes_command, is_live_name, scope_of, sort_of_tree, is_unknown_sort, any_tree, bound_names, clash, has_clash, have_clash, has_unknown, have_unknown, declaration_of, parameter_sorts, sorts_of_trees, parameters_from, body_scope, linear_outcome, definition_by, definition_of, asserted_outcome, assertion_of, all_linear, asked_of, values_of_trees, outcome_by, outcome_named, outcome_of}
-use Rattle.nz_spec.specs.Text.{What, whole}
-use Rattle.nz_spec.specs.Reply.{Reply, error, grown, effect, effect_of, after}
-use Rattle.nz_spec.specs.Transcript.{Kept, state_after}
-use Rattle.nz_spec.specs.Sorts.{GivesSorts, HaveTheirSorts, TermsHaveTheirSorts}
-use Rattle.nz_spec.proofs.Sorted.{same_sorts, IsSorted, value_is}
+use Rattle.nz_spec.specs.Live.{State, constants_of, LiveItem, numbered_items, Item, declared, defined, asserted, sought, wished, items_of, definitions_in, assertions_in, assertions_of, with_item, grown}
+use Rattle.nz_spec.specs.Command.{Command, declare_const, define, assert_term, check_sat, get_value, get_info, get_levels, get_reason, name_info, version_info, authors_info, error_behavior_info, set_print_success, no_effect, Outcome, accepted, refused, not_taken}
+use Rattle.nz_spec.specs.Taken.{passes_limit, takes_command}
+use Rattle.nz_spec.specs.Script.{is_live_name, scope_of, sort_of_tree, is_unknown_sort, any_tree, declaration_of, parameter_sorts, sorts_of_trees, parameters_from, body_scope, linear_outcome, definition_by, definition_of, asserted_outcome, assertion_of, all_linear, asked_of, values_of_trees, outcome_by, outcome_named, outcome_of}
+use Rattle.nz_spec.specs.Scoping.{bound_names, clash, has_clash, have_clash, has_unknown, have_unknown}
+use Rattle.nz_spec.specs.Text.{What, intact}
+use Rattle.nz_spec.specs.Reply.{Reply, error}
+use Rattle.nz_spec.specs.Right.{Context, beginning, effect, effect_of, after, context_after}
+use Rattle.nz_spec.specs.Transcript.{Kept, context_of}
+use Rattle.nz_spec.specs.Model.{IsAssignment}
+use Rattle.nz_spec.specs.Sorts.{HaveTheirSorts, TermsHaveTheirSorts}
+use Rattle.nz_spec.proofs.Sorted.{same_sorts, Gives, IsSorted, value_is}
 use Rattle.nz_spec.proofs.Found.{IfFound, and_then_found}
 use Rattle.nz_spec.proofs.Placed.{IsPlaced, is_placed}
 use Rattle.nz_spec.proofs.TreeTerms.{AreBound}
 use Rattle.nz_spec.proofs.SortedTrees.{sorted_real, IsSortedScope, tree_sorted}
 
-module _ (a : Assignment) where
+module _ (a : Assignment) (given : IsAssignment a) where
   -- a term of sort Bool
   abbrev IsStatement : Term → Type 0
   IsStatement t = IsSorted a [] t × (sort_of t ≡ bool_sort)
-
-  abbrev Given : List Item → Type 0
-  Given items = GivesSorts a (constants_in items)
 
   abbrev IsMadeOf : Definition → Type 0
   IsMadeOf d = IsSorted a d.parameters d.body
@@ -39,13 +42,9 @@ module _ (a : Assignment) where
 
   -- ---- One more item
 
-  constants_before : (items : List Item) (i : Item) → Given (items ++ i ∷ []) → Given items
-  constants_before [] i h = tt
-  constants_before (declared c ∷ items) i h = (h.0, constants_before items i h.1)
-  constants_before (defined d ∷ items) i h = constants_before items i h
-  constants_before (asserted t ∷ items) i h = constants_before items i h
-  constants_before (sought g ∷ items) i h = constants_before items i h
-  constants_before (wished w ∷ items) i h = constants_before items i h
+  constants_are : (cs : List Constant) → AllByRecursion (Gives a) cs
+  constants_are [] = tt
+  constants_are (c ∷ cs) = (given c, constants_are cs)
 
   definitions_with : (items : List Item) (i : Item) → AllByRecursion IsMadeOf (definitions_in items) → AllByRecursion IsMadeOf (definitions_in (i ∷ [])) → AllByRecursion IsMadeOf (definitions_in (items ++ i ∷ []))
   definitions_with [] i h k = k
@@ -63,21 +62,21 @@ module _ (a : Assignment) where
   assertions_with (sought g ∷ items) i h k = assertions_with items i h k
   assertions_with (wished w ∷ items) i h k = assertions_with items i h k
 
-  items_with : (levels : List (List Item)) (i : Item) → items_of (with_item levels i) ≡ items_of levels ++ i ∷ []
-  items_with [] i = refl
-  items_with (items ∷ older) i = sym (append_assoc (items_of older) items (i ∷ []))
+  items_with : (levels : List (List LiveItem)) (l : LiveItem) → items_of (with_item levels l) ≡ items_of levels ++ l.item ∷ []
+  items_with [] l = refl
+  items_with (items ∷ older) l =
+      ap (map (λ (k : LiveItem). k.item)) (sym (append_assoc (numbered_items older) items (l ∷ [])))
+      ∙ map-append (λ (k : LiveItem). k.item) (numbered_items older ++ items) (l ∷ [])
 
   abbrev IsSound : State → Type 0
-  IsSound s = Given (items_of s.levels) → AreSound (items_of s.levels)
+  IsSound s = AreSound (items_of s.levels)
 
-  grown_sound : (s : State) (i : Item) → IsSound s → (Given (items_of s.levels) → AreSound (i ∷ [])) → IsSound (grown s i)
+  grown_sound : (s : State) (i : Item) → IsSound s → AreSound (i ∷ []) → IsSound (grown s i)
   grown_sound s i sound new =
-      subst (λ items. Given items → AreSound items) (sym (items_with s.levels i))
-      (λ given.
-      let before = constants_before (items_of s.levels) i given in
-      record {
-        definitions = definitions_with (items_of s.levels) i (sound before).definitions (new before).definitions;
-        assertions = assertions_with (items_of s.levels) i (sound before).assertions (new before).assertions;
+      subst AreSound (sym (items_with s.levels (record { number = s.next; item = i })))
+      (record {
+        definitions = definitions_with (items_of s.levels) i sound.definitions new.definitions;
+        assertions = assertions_with (items_of s.levels) i sound.assertions new.assertions;
       })
 
   -- ---- Commands
@@ -122,12 +121,12 @@ module _ (a : Assignment) where
   body_good name sorts sort (Some t) h = linear_good (is_linear (normal_of t)) (define (record { name = name; parameters = sorts; body = t })) h.0
   body_good name sorts sort None h = tt
 
-  module _ (s : State) (given : Given (items_of s.levels)) (sound : AreSound (items_of s.levels)) where
+  module _ (s : State) (sound : AreSound (items_of s.levels)) where
     scope_is : IsSortedScope a [] (scope_of s)
-    scope_is = record { constants = given; definitions = sound.definitions; bound = tt }
+    scope_is = record { constants = constants_are (constants_of s); definitions = sound.definitions; bound = tt }
 
     body_scope_is : (names : List (List ℕ)) (sorts : List Sort) → IsSortedScope a sorts (body_scope s names sorts)
-    body_scope_is names sorts = record { constants = given; definitions = sound.definitions; bound = parameters_bound sorts sorts 0 names (λ j i e. let f : i ≡ j = omega (arith, e) in ap (slice_get sorts) f) }
+    body_scope_is names sorts = record { constants = constants_are (constants_of s); definitions = sound.definitions; bound = parameters_bound sorts sorts 0 names (λ j i e. let f : i ≡ j = omega (arith, e) in ap (slice_get sorts) f) }
 
     definition_by_good : (name : List ℕ) (names : List (List ℕ)) (m : Option (List Sort)) (n : Option Sort) (body : Tree) → IsGood (definition_by s name names m n body)
     definition_by_good name names (Some sorts) (Some sort) body =
@@ -199,8 +198,8 @@ module _ (a : Assignment) where
     command_good check_sat_name ts = tt
     command_good get_model_name ts = tt
     command_good get_info_name (trees (leaf k) no_trees) =
-        info_good (is_keyword (codes ":name") k) (is_keyword (codes ":version") k) (is_keyword (codes ":authors") k) (is_keyword (codes ":error-behavior") k) (is_keyword (codes ":assertion-stack-levels") k)
-    command_good set_option_name (trees (leaf k) (trees (leaf v) no_trees)) = option_good (is_keyword (codes ":print-success") k) (is_symbol (codes "true") v)
+        info_good (is_the_keyword (codes ":name") k) (is_the_keyword (codes ":version") k) (is_the_keyword (codes ":authors") k) (is_the_keyword (codes ":error-behavior") k) (is_the_keyword (codes ":assertion-stack-levels") k)
+    command_good set_option_name (trees (leaf k) (trees (leaf v) no_trees)) = option_good (is_the_keyword (codes ":print-success") k) (is_symbol (codes "true") v)
     command_good set_info_name ts = tt
     command_good set_logic_name ts = tt
     command_good echo_name (trees (leaf (literal bs)) no_trees) = tt
@@ -230,30 +229,30 @@ module _ (a : Assignment) where
 
   -- ---- States
 
-  command_sound : (s : State) (c : Command) (reply : Reply) → IsSound s → (Given (items_of s.levels) → IsGoodCommand c) → IsSound (effect s c reply)
-  command_sound s (declare_const c) reply sound good = grown_sound s (declared c) sound (λ given. record { definitions = tt; assertions = tt })
-  command_sound s (define d) reply sound good = grown_sound s (defined d) sound (λ given. record { definitions = (good given, tt); assertions = tt })
-  command_sound s (assert_term t) reply sound good = grown_sound s (asserted t) sound (λ given. record { definitions = tt; assertions = (good given, tt) })
-  command_sound s check_sat reply sound good = sound
+  command_sound : (s : State) (c : Command) (reply : Reply) → IsSound s → IsGoodCommand c → IsSound (effect s c reply)
+  command_sound s (declare_const c) reply sound good = grown_sound s (declared c) sound (record { definitions = tt; assertions = tt })
+  command_sound s (define d) reply sound good = grown_sound s (defined d) sound (record { definitions = (good, tt); assertions = tt })
+  command_sound s (assert_term t) reply sound good = grown_sound s (asserted t) sound (record { definitions = tt; assertions = (good, tt) })
+  command_sound s (check_sat assumed) reply sound good = sound
   command_sound s (set_print_success b) reply sound good = sound
   command_sound s c reply sound good = sound
 
-  effect_sound : (s : State) (o : Outcome) (reply : Reply) → IsSound s → (Given (items_of s.levels) → IsGood o) → IsSound (effect_of s o reply)
+  effect_sound : (s : State) (o : Outcome) (reply : Reply) → IsSound s → IsGood o → IsSound (effect_of s o reply)
   effect_sound s (accepted c) reply sound good = command_sound s c reply sound good
   effect_sound s (refused n) reply sound good = sound
   effect_sound s not_taken reply sound good = sound
 
   tree_sound : (s : State) (t : Tree) (reply : Reply) → IsSound s → IsSound (effect_of s (outcome_of s t) reply)
-  tree_sound s t reply sound = effect_sound s (outcome_of s t) reply sound (λ given. outcome_good s given (sound given) t)
+  tree_sound s t reply sound = effect_sound s (outcome_of s t) reply sound (outcome_good s sound t)
 
   after_sound : (s : State) (what : What) (reply : Reply) → IsSound s → IsSound (after s what reply)
-  after_sound s (whole t) (error n) sound = sound
-  after_sound s (whole t) reply sound = tree_sound s t reply sound
+  after_sound s (intact t) (error n) sound = sound
+  after_sound s (intact t) reply sound = tree_sound s t reply sound
   after_sound s what reply sound = sound
 
-  kept_sound : (s : State) (kept : List Kept) → IsSound s → IsSound (state_after s kept)
-  kept_sound s [] sound = sound
-  kept_sound s (k ∷ ks) sound = kept_sound (after s k.heard.what k.reply) ks (after_sound s k.heard.what k.reply sound)
+  kept_sound : (c : Context) (kept : List Kept) → IsSound c.state → IsSound (context_of c kept).state
+  kept_sound c [] sound = sound
+  kept_sound c (k ∷ ks) sound = kept_sound (context_after c k.heard.what k.reply) ks (after_sound c.state k.heard.what k.reply sound)
 
   found_is : (m : Option Term) (t : Term) → IfFound (IsSorted a []) m → m ≡ Some t → IsSorted a [] t
   found_is m t h e = subst (IfFound (IsSorted a [])) e h
@@ -262,12 +261,12 @@ module _ (a : Assignment) where
   statements_are [] h = tt
   statements_are (t ∷ ts) h = (subst (λ s. IsOfSort s (value_of a t)) h.0.1 (value_is a [] t h.0.0), statements_are ts h.1)
 
-  sound_sorts : (s : State) → IsSound s → Given (items_of s.levels) → HaveTheirSorts s a
-  sound_sorts s sound given =
+  sound_sorts : (s : State) → IsSound s → HaveTheirSorts s a
+  sound_sorts s sound =
       record {
-        terms = λ tree t e. value_is a [] t (found_is (term_of (scope_of s) tree) t (tree_sorted a [] (scope_of s) tree (scope_is s given (sound given))) e);
-        assertions = statements_are (assertions_of s) (sound given).assertions;
+        terms = λ tree t e. value_is a [] t (found_is (term_of (scope_of s) tree) t (tree_sorted a [] (scope_of s) tree (scope_is s sound)) e);
+        assertions = statements_are (assertions_of s) sound.assertions;
       }
 
 pub terms_have_their_sorts : TermsHaveTheirSorts
-terms_have_their_sorts kept a given = sound_sorts a (state_after start kept) (kept_sound a start kept (λ g. record { definitions = tt; assertions = tt })) given
+terms_have_their_sorts limit kept a given = sound_sorts a given (context_of (beginning limit) kept).state (kept_sound a given (beginning limit) kept (record { definitions = tt; assertions = tt }))

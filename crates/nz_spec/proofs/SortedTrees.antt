@@ -1,10 +1,10 @@
 -- A tree's term is well sorted, in a scope whose constants, definitions and bound terms are.
-use Rattle.std.proofs.Common.{◌≡◌, ℕ, suc, Bool, true, false, not, ◌&&◌, ◌==◌, List, Option, None, refl, ap, ◌∙◌, if◌then◌else◌, arith, eqb-true}
+use Rattle.std.proofs.Common.{◌≡◌, ℕ, suc, Bool, true, false, not, ◌&&◌, ◌==◌, List, Option, None, refl, sym, ap, ◌∙◌, true≢false, if◌then◌else◌, arith, eqb-true}
 use Rattle.std.specs.Bool.{⊤}
 use Rattle.std.specs.Prelude.{option_map}
 use Rattle.nz_spec.specs.Tree.{Tree}
-use Rattle.nz_spec.specs.Term.{Sort, bool_sort, int_sort, real_sort, Head, constant, parameter, conjunction, disjunction, implication, exclusion, choice, sum, difference, product, quotient, integer_quotient, to_real, head_sort, Term, apply, Terms, no_terms, terms, sort_of, is_bool, Assignment}
-use Rattle.nz_spec.specs.Elaboration.{Operator, true_operator, false_operator, not_operator, and_operator, or_operator, implies_operator, xor_operator, equals_operator, distinct_operator, ite_operator, at_most_operator, less_operator, at_least_operator, greater_operator, plus_operator, times_operator, minus_operator, over_operator, div_operator, mod_operator, abs_operator, to_real_operator, to_int_operator, is_int_operator, has_sort, all_terms, term_count, as_real, as_reals, takes, operands_of, operand_sort, read_at, operator_head, applied, Definition, instance_node, instance_of, instances_of, all_placed, expansion, Scope, term_of}
+use Rattle.nz_spec.specs.Term.{Sort, sort_over, bool_sort, int_sort, real_sort, Head, constant, parameter, conjunction, disjunction, implication, exclusion, choice, sum, difference, product, quotient, integer_quotient, to_real, head_sort, Term, apply, Terms, no_terms, terms, sort_of, is_bool, Assignment}
+use Rattle.nz_spec.specs.Elaboration.{Operator, true_operator, false_operator, not_operator, and_operator, or_operator, implies_operator, xor_operator, equals_operator, distinct_operator, ite_operator, at_most_operator, less_operator, at_least_operator, greater_operator, plus_operator, times_operator, minus_operator, over_operator, div_operator, mod_operator, abs_operator, to_real_operator, to_int_operator, is_int_operator, has_sort, all_terms, term_count, as_real, as_reals, takes, operands_of, operand_sort, read_at, numbers_at, operator_head, applied, Definition, instance_node, instance_of, instances_of, all_placed, expansion, Scope, term_of}
 use Rattle.nz_spec.proofs.ReadOperands.{Reads, count_read, operands_read}
 use Rattle.nz_spec.proofs.Found.{IfFound, map_found}
 use Rattle.nz_spec.proofs.Placed.{HaveSorts, AllAre, IsPlaced, ArePlaced, are_placed, at_place}
@@ -40,15 +40,21 @@ branches_same s (terms t ts) (terms u us) h = rw (h.0, count_same ts us h.1, all
 numbers_same : (s : Sort) (ts us : Terms) → SameSorts ts us → fit_numbers s us ≡ fit_numbers s ts
 numbers_same s ts us h = ap (λ b. not (is_bool s) && b) (all_same s ts us h)
 
+-- numbers of a sort are read at it
+numbers_fit : (s : Sort) (us : Terms) → fit_numbers s us ≡ true → fit_numbers (sort_over (numbers_at s)) us ≡ true
+numbers_fit bool_sort us e = absurd (true≢false (sym e))
+numbers_fit int_sort us e = e
+numbers_fit real_sort us e = e
+
 fit_same : (h : Head) (ts us : Terms) → SameSorts ts us → fit h us ≡ fit h ts
 fit_same conjunction ts us e = all_same bool_sort ts us e
 fit_same disjunction ts us e = all_same bool_sort ts us e
 fit_same implication ts us e = all_same bool_sort ts us e
 fit_same exclusion ts us e = all_same bool_sort ts us e
 fit_same (choice s) ts us e = branches_same s ts us e
-fit_same (sum s) ts us e = numbers_same s ts us e
-fit_same (difference s) ts us e = numbers_same s ts us e
-fit_same (product s) ts us e = numbers_same s ts us e
+fit_same (sum s) ts us e = numbers_same (sort_over s) ts us e
+fit_same (difference s) ts us e = numbers_same (sort_over s) ts us e
+fit_same (product s) ts us e = numbers_same (sort_over s) ts us e
 fit_same quotient ts us e = all_same real_sort ts us e
 fit_same integer_quotient ts us e = all_same int_sort ts us e
 fit_same to_real ts us e = all_same int_sort ts us e
@@ -100,9 +106,9 @@ module _ (a : Assignment) (ss : List Sort) where
   head_sorted less_operator s us n r = (tt, refl)
   head_sorted at_least_operator s us n r = (tt, refl)
   head_sorted greater_operator s us n r = (tt, refl)
-  head_sorted plus_operator s us n r = (tt, r)
-  head_sorted times_operator s us n r = (tt, r)
-  head_sorted minus_operator s us n r = (tt, r)
+  head_sorted plus_operator s us n r = (tt, numbers_fit s us r)
+  head_sorted times_operator s us n r = (tt, numbers_fit s us r)
+  head_sorted minus_operator s us n r = (tt, numbers_fit s us r)
   head_sorted over_operator s us n r = (tt, r)
   head_sorted div_operator s us n r = (tt, r)
   head_sorted mod_operator s us n r = (tt, refl)

@@ -1,13 +1,15 @@
 -- Terms of a table, and their numbers.
-use Rattle.std.proofs.Common.{◌≡◌, ℕ, Bool, true, false, zero, suc, ◌+◌, ◌<◌, List, [], ◌∷◌, ◌++◌, length, take, drop, get_or, Option, Some, refl, sym, ap, ◌∙◌, arith, length-append, length-take}
-use Rattle.std.specs.Prelude.{All, fold, slice_get, unwrap_or, if◌then◌else◌}
+use Rattle.std.proofs.Common.{◌≡◌, ℕ, Bool, true, false, zero, suc, ◌+◌, ◌<◌, List, [], ◌∷◌, ◌++◌, length, take, drop, get_or, ◌==◌, Option, Some, None, refl, sym, ap, subst, ◌∙◌, true≢false, eqb-true, eq-eqb, arith, length-append, length-take}
+use Rattle.std.specs.Prelude.{All, bytes_eq, fold, slice_get, unwrap_or, if◌then◌else◌}
+use Rattle.std.proofs.lemmas.Slice.Eq.{bytes_eq-Decides}
 use Rattle.std.proofs.Math.ListN.{get_or-append}
 use Rattle.std.proofs.Math.Seq.{get_or-append_seam, drop-cons}
 use Rattle.std.proofs.lemmas.List.{take-append-drop}
 use Rattle.std.proofs.lemmas.List.Sums.{fold-append}
 use Rattle.std.proofs.lemmas.Option.{slice_get_within, get_or_from_slice_get, slice_get-get_or}
-use Rattle.nz_spec.specs.Term.{falsum, Term, apply, no_terms, terms, Value, truth}
-use Rattle.nz_spec.specs.Table.{Node, terms_at, listed_term, with_term, term_in, IsTable, OneNumber, TermOfNode, TermStays, TermStaysInFront, TermsStay, listed_value, assignment_by, AssignsByNumber}
+use Rattle.nz_spec.specs.Term.{Sort, bool_sort, int_sort, real_sort, are_same_sort, Constant, are_same_constant, Head, constant, constant_of, falsum, Term, apply, no_terms, terms, Value, default_value}
+use Rattle.nz_spec.specs.Table.{Node, terms_at, listed_term, with_term, term_in, HasItsArguments, IsTable, OneNumber, TermOfNode, TermStays, TermStaysInFront, TermsStay, is_node_of, listed_value, assignment_by, AssignsByNumber}
+use Rattle.nz_spec.proofs.Sorted.{and_first, and_second, and_both, same_sorts}
 
 -- what a number past the end stands for
 abbrev unlisted : Term
@@ -124,15 +126,66 @@ one_below ns table (suc b) i j bound within there e =
 pub one_number : OneNumber
 one_number ns table i j within there e = one_below ns table (suc i) i j (omega arith) within there e
 
+-- ---- Assignments
+
+-- two tests that hold together are one
+same_tests : (b d : Bool) → (b ≡ true → d ≡ true) → (d ≡ true → b ≡ true) → b ≡ d
+same_tests true d f g = sym (f refl)
+same_tests false true f g = g refl
+same_tests false false f g = refl
+
+same_constant : (c d : Constant) → are_same_constant c d ≡ true → c ≡ d
+same_constant c d e =
+    let named : c.name ≡ d.name = (bytes_eq-Decides c.name d.name).0 (and_first (bytes_eq c.name d.name) (are_same_sort c.sort d.sort) e) in
+    let sorted : c.sort ≡ d.sort = same_sorts c.sort d.sort (and_second (bytes_eq c.name d.name) (are_same_sort c.sort d.sort) e) in
+    ap (λ x. let r : Constant = record { name = x; sort = c.sort } in r) named ∙ ap (λ x. let r : Constant = record { name = d.name; sort = x } in r) sorted
+
+sort_itself : (s : Sort) → are_same_sort s s ≡ true
+sort_itself bool_sort = refl
+sort_itself int_sort = refl
+sort_itself real_sort = refl
+
+constant_itself : (c : Constant) → are_same_constant c c ≡ true
+constant_itself c = and_both (bytes_eq c.name c.name) (are_same_sort c.sort c.sort) ((bytes_eq-Decides c.name c.name).1 refl) (sort_itself c.sort)
+
+-- a head that is a constant
+head_of_constant : (h : Head) (d : Constant) → constant_of h ≡ Some d → h ≡ constant d
+head_of_constant (constant c) d e = cc
+head_of_constant h d e = cc
+
+-- the head by which a node is found to be a constant's
+found_head : (h : Head) (c : Constant) (m : Option Constant) → constant_of h ≡ m → elim m [ Some d ↦ are_same_constant d c | None ↦ false ] ≡ true → h ≡ constant c
+found_head h c (Some d) e f = head_of_constant h d e ∙ ap constant (same_constant d c f)
+found_head h c None e f = cc
+
+leaf_kids : (h : Head) (kids : List ℕ) (c : Constant) → h ≡ constant c → HasItsArguments h kids → kids ≡ []
+leaf_kids h kids c e f = subst (λ g. HasItsArguments g kids) e f
+
+node_is : (ns : List Node) → IsTable ns → (i j : ℕ) (n : Node) (c : Constant) → slice_get ns i ≡ Some n → n.head ≡ constant c
+    → (o : Option Node) → slice_get ns j ≡ o → is_node_of o c ≡ true → (j == i) ≡ true
+node_is ns table i j n c at is None e f = absurd (true≢false (sym f))
+node_is ns table i j n c at is (Some m) e f =
+    let head : m.head ≡ constant c = found_head m.head c (constant_of m.head) refl f in
+    let same : m ≡ n = same_node m n (head ∙ sym is) (leaf_kids m.head m.kids c head (table.leaves j m e) ∙ sym (leaf_kids n.head n.kids c is (table.leaves i n at))) in
+    eq-eqb j i (table.once j i m e (at ∙ ap Some (sym same)))
+
+is_node : (ns : List Node) (i j : ℕ) (n : Node) (c : Constant) → slice_get ns i ≡ Some n → n.head ≡ constant c → (j == i) ≡ true → is_node_of (slice_get ns j) c ≡ true
+is_node ns i j n c at is e =
+    let there : slice_get ns j ≡ Some n = ap (slice_get ns) (eqb-true j i e) ∙ at in
+    ap (λ o. is_node_of o c) there
+    ∙ ap (λ h. elim (constant_of h) [ Some d ↦ are_same_constant d c | None ↦ false ]) is
+    ∙ constant_itself c
+
 -- one pair in front, where both tests of it answer alike
-one_more : (b d : Bool) (v : Value) (a : Value) (r : Option Value) → b ≡ d → a ≡ unwrap_or r (truth false) → (if b then v else a) ≡ unwrap_or (if d then Some v else r) (truth false)
-one_more true true v a r same rest = refl
-one_more true false v a r same rest = cc
-one_more false true v a r same rest = cc
-one_more false false v a r same rest = rest
+one_more : (b d : Bool) (v a w : Value) (r : Option Value) → b ≡ d → a ≡ unwrap_or r w → (if b then v else a) ≡ unwrap_or (if d then Some v else r) w
+one_more true true v a w r same rest = refl
+one_more true false v a w r same rest = cc
+one_more false true v a w r same rest = cc
+one_more false false v a w r same rest = rest
 
 pub assigns_by_number : AssignsByNumber
-assigns_by_number ns [] i name h = refl
-assigns_by_number ns (p ∷ ps) i name h =
-    one_more _ _ p.1 (assignment_by ns ps name) (listed_value ps i) (h 0 p (omega arith))
-    (assigns_by_number ns ps i name (λ k d below. h (suc k) d (omega arith)))
+assigns_by_number ns table [] i n c at is = refl
+assigns_by_number ns table (p ∷ ps) i n c at is =
+    one_more _ _ p.1 (assignment_by ns ps c) (default_value c.sort) (listed_value ps i)
+    (same_tests (is_node_of (slice_get ns p.0) c) (p.0 == i) (node_is ns table i p.0 n c at is (slice_get ns p.0) refl) (is_node ns i p.0 n c at is))
+    (assigns_by_number ns table ps i n c at is)

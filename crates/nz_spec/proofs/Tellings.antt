@@ -3,7 +3,7 @@ use Rattle.std.proofs.Common.{◌≡◌, ℕ, ◌+◌, List, [], ◌∷◌, ◌+
 use Rattle.std.proofs.lemmas.List.{append-nil}
 use Rattle.nz_spec.specs.Tree.{Tree}
 use Rattle.nz_spec.specs.Text.{Limits, Heard, What, faulty, unclosed}
-use Rattle.nz_spec.specs.Reading.{Part, no_part, in_comment, in_word, in_string, after_quote, in_quoted, Reading, start, next, told_at, read_on, told_on, told_open, hear_on}
+use Rattle.nz_spec.specs.Reading.{Part, no_part, in_comment, in_word, in_string, after_quote, in_quoted, Reading, reading_start, next, told_at, read_on, told_on, told_open, hear_on}
 use Rattle.nz_spec.specs.Told.{ReadingIsHeard, ReadingTellsFirst}
 use Rattle.nz_spec.proofs.Readings.{hears, hears_one}
 
@@ -13,8 +13,8 @@ hear_on-split limits s (b ∷ bytes) more =
     ap (λ k. told_at limits b s ++ k) (hear_on-split limits (next b s) bytes more)
     ∙ sym (append_assoc (told_at limits b s) (told_on limits (next b s) bytes) (hear_on limits (read_on (next b s) bytes) more))
 
-hear_on-end : (limits : Limits) (bytes : List ℕ) → hear_on limits start bytes ≡ told_on limits start bytes ++ told_open (read_on start bytes)
-hear_on-end limits bytes = ap (hear_on limits start) (sym (append-nil bytes)) ∙ hear_on-split limits start bytes []
+hear_on-end : (limits : Limits) (bytes : List ℕ) → hear_on limits reading_start bytes ≡ told_on limits reading_start bytes ++ told_open (read_on reading_start bytes)
+hear_on-end limits bytes = ap (hear_on limits reading_start) (sym (append-nil bytes)) ∙ hear_on-split limits reading_start bytes []
 
 pub reading_is_heard : ReadingIsHeard
 reading_is_heard limits bytes = rw (← hear_on-end limits bytes) (hears limits bytes)
@@ -68,14 +68,14 @@ open_longest limits p (l ∷ ls) s front others rest rest' hp hl h k =
 
 pub reading_tells_first : ReadingTellsFirst
 reading_tells_first limits bytes told h = record {
-  front = told_on limits start bytes;
+  front = told_on limits reading_start bytes;
   are_told = h;
-  complete = λ more heard k. (hear_on limits (read_on start bytes) more, hears_one limits (bytes ++ more) heard k ∙ hear_on-split limits start bytes more);
+  complete = λ more heard k. (hear_on limits (read_on reading_start bytes) more, hears_one limits (bytes ++ more) heard k ∙ hear_on-split limits reading_start bytes more);
   longest = λ others k.
-      let s : Reading = read_on start bytes in
+      let s : Reading = read_on reading_start bytes in
       let more : List ℕ = more_of s.part in
-      let u = k [] (hear_on limits start (bytes ++ [])) (hears limits (bytes ++ [])) in
-      let v = k more (hear_on limits start (bytes ++ more)) (hears limits (bytes ++ more)) in
-      open_longest limits s.part s.levels s (told_on limits start bytes) others u.0 v.0 refl refl
-      (sym (hear_on-split limits start bytes []) ∙ u.1) (sym (hear_on-split limits start bytes more) ∙ v.1);
+      let u = k [] (hear_on limits reading_start (bytes ++ [])) (hears limits (bytes ++ [])) in
+      let v = k more (hear_on limits reading_start (bytes ++ more)) (hears limits (bytes ++ more)) in
+      open_longest limits s.part s.levels s (told_on limits reading_start bytes) others u.0 v.0 refl refl
+      (sym (hear_on-split limits reading_start bytes []) ∙ u.1) (sym (hear_on-split limits reading_start bytes more) ∙ v.1);
 }

@@ -1,5 +1,6 @@
 -- The bounds on the numbers that a command may hold, wherever they stand in it.
-use Rattle.std.specs.Prelude.{ℕ, ◌+◌, ◌-◌, ◌*◌, ◌^◌, ◌||◌, ◌==◌, nat_lt, Bool, false, List, [], ◌∷◌, ◌++◌, length}
+use Rattle.std.specs.Prelude.{ℕ, ◌+◌, ◌-◌, ◌*◌, ◌||◌, ◌==◌, nat_lt, Bool, false, List, [], ◌∷◌, ◌++◌, length}
+use Rattle.nz_spec.specs.Fraction.{exceeds}
 use Rattle.nz_spec.specs.Tree.{Token, symbol, keyword, numeral, decimal, hexadecimal, binary, literal, Tree, leaf, node, Trees, no_trees, trees, before_point, after_point}
 
 -- the number that decimal digits spell, after those that spell this number
@@ -14,17 +15,13 @@ digits_value bs = value_onto 0 bs
 abbrev pub decimal_digits : List ℕ → List ℕ
 decimal_digits bs = before_point bs ++ after_point bs
 
--- the greatest numerator and the greatest denominator
-abbrev pub greatest_number : ℕ
-greatest_number = 2 ^ 127 - 1
-
 -- how many digits a decimal may have after its point
 abbrev pub place_limit : ℕ
 place_limit = 38
 
 -- the digits spell a number above the greatest
 abbrev pub are_wide : List ℕ → Bool
-are_wide bs = nat_lt greatest_number (digits_value bs)
+are_wide bs = exceeds (digits_value bs)
 
 abbrev pub is_wide_token : Token → Bool
 is_wide_token (numeral bs) = are_wide bs

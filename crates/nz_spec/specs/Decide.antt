@@ -1,11 +1,9 @@
--- What a search answers to a check: over the constants of a table of terms, and the terms that are asserted by level.
-use Rattle.std.specs.Prelude.{◌≡◌, ℕ, ◌+◌, ◌<◌, List, [], ◌∷◌, ◌++◌, length, map, flat_map, Option, Some, None, ⊤, All, bytes_eq, slice_get}
-use Rattle.std.specs.List.{AllByRecursion, IsDistinct}
-use Rattle.nz_spec.specs.Term.{Constant, Head, constant_of, Term, Value, Assignment, IsOfSort, IsTrueUnder}
-use Rattle.nz_spec.specs.Table.{Node, term_in}
-use Rattle.nz_spec.specs.Script.{Binding}
-use Rattle.nz_spec.specs.Reply.{assignment_of, ValuesFit, Note, atom_note}
-use Rattle.nz_spec.specs.Work.{DecisionEntry, LearnedEntry, WorkLine, UnitLine, NoteLine}
+-- What a search answers to a check, by numbers: over a table of terms, and the terms that are asserted by level.
+use Rattle.std.specs.Prelude.{◌≡◌, ℕ, ◌<◌, List, [], ◌∷◌, ◌++◌, length, map, flat_map, take, Some, None, All, slice_get}
+use Rattle.std.specs.List.{AllByRecursion}
+use Rattle.nz_spec.specs.Term.{Constant, Head, constant, constant_of, Term, Value, IsOfSort, ValueFits}
+use Rattle.nz_spec.specs.Table.{Node, term_in, assignment_by}
+use Rattle.nz_spec.specs.Model.{IsModel}
 
 -- ---- Constants and asserted terms
 
@@ -16,10 +14,6 @@ constants_of_head h = elim (constant_of h) [ Some c ↦ c ∷ [] | None ↦ [] ]
 -- the constants of a table, in its order
 abbrev pub constants_in_table : List Node → List Constant
 constants_in_table ns = flat_map (λ (n : Node). constants_of_head n.head) ns
-
--- no two of them have one name
-abbrev pub HasDistinctNames : List Node → Type 0
-HasDistinctNames ns = IsDistinct bytes_eq (map (λ (c : Constant). c.name) (constants_in_table ns))
 
 -- the numbers of the asserted terms, the oldest level first
 abbrev pub asserted_numbers : List (List ℕ) → List ℕ
@@ -39,37 +33,21 @@ AreInTable ns levels = All (λ (i : ℕ). i < length ns) (asserted_numbers level
 abbrev pub asserted_terms : List Node → List (List ℕ) → List Term
 asserted_terms ns levels = map (term_in ns) (asserted_numbers levels)
 
+-- a table that another begins with
+abbrev pub IsFrontOfTable : List Node → List Node → Type 0
+IsFrontOfTable front ns = take (length front) ns ≡ front
+
 -- ---- Models
 
--- The assignment gives each of these constants a value of its sort, and makes each of these terms true.
-pub record Satisfies (cs : List Constant) (ts : List Term) (a : Assignment) : Type 0 where
-  pub sorts : AllByRecursion (λ (c : Constant). IsOfSort c.sort (a c.name)) cs
-  pub assertions : AllByRecursion (IsTrueUnder a) ts
+-- each number is that of a constant, and its value is one of the constant's sort, and fits
+pub record IsValueOf (ns : List Node) (p : ℕ × Value) : Type 0 where
+  pub of : Constant
+  pub kids : List ℕ
+  pub node : slice_get ns p.0 ≡ Some (record { head = constant of; kids = kids })
+  pub sort : IsOfSort of.sort p.1
+  pub fits : ValueFits p.1
 
--- The bindings are of these constants, in their order, each to a truth or a number, and satisfy these terms.
-pub record AreModelOf (cs : List Constant) (ts : List Term) (bs : List Binding) : Type 0 where
-  pub constants : map (λ (b : Binding). b.constant) bs ≡ cs
-  pub numbers : ValuesFit bs
-  pub makes : Satisfies cs ts (assignment_of bs)
-
--- No assignment does.
-abbrev pub IsUnsatisfiable : List Constant → List Term → Type 0
-IsUnsatisfiable cs ts = (a : Assignment) → Satisfies cs ts a → ⊥
-
--- what the number of a constant and its value bind
-abbrev pub bindings_at : Option Node → Value → List Binding
-bindings_at None v = []
-bindings_at (Some n) v = map (λ (c : Constant). record { constant = c; value = v }) (constants_of_head n.head)
-
--- what a list of numbers of constants, each with a value, binds
-abbrev pub bindings_by : List Node → List (ℕ × Value) → List Binding
-bindings_by ns ps = flat_map (λ (p : ℕ × Value). bindings_at (slice_get ns p.0) p.1) ps
-
--- ---- Work
-
--- Each decision is of an atom that was noted before it, where so many were noted before these lines.
-abbrev pub AtomsAreNoted : ℕ → List (WorkLine Note) → Type 0
-AtomsAreNoted noted [] = ⊤
-AtomsAreNoted noted (NoteLine (atom_note term) ∷ lines) = AtomsAreNoted (noted + 1) lines
-AtomsAreNoted noted (UnitLine (DecisionEntry atom sign) ∷ lines) = (atom < noted) × AtomsAreNoted noted lines
-AtomsAreNoted noted (UnitLine (LearnedEntry keep lits) ∷ lines) = AtomsAreNoted noted lines
+-- The values are those of constants, and under them the asserted terms and the assumed ones are true.
+pub record AreModelValues (ns : List Node) (asserted assumed : List Term) (ps : List (ℕ × Value)) : Type 0 where
+  pub values : AllByRecursion (IsValueOf ns) ps
+  pub makes : IsModel asserted assumed (assignment_by ns ps)

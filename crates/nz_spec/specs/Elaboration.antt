@@ -1,11 +1,11 @@
 -- The terms that trees stand for (SMT-LIB 2.6, sections 3.6 and 4.2.3, and the theories Core and Reals_Ints): names in scope,
 -- sorts, `let` in parallel, and definitions by their bodies.
-use Rattle.std.specs.Prelude.{◌≡◌, ℕ, zero, suc, ◌&&◌, ◌||◌, ◌==◌, nat_lt, Bool, true, false, List, [], ◌∷◌, ◌++◌, length, Option, Some, None, option_map, option_and_then, is_some, slice_get, ⊤, codes, bytes_eq, if◌then◌else◌}
+use Rattle.std.specs.Prelude.{◌≡◌, ℕ, zero, suc, ◌&&◌, ◌||◌, ◌==◌, nat_lt, Bool, true, List, [], ◌∷◌, ◌++◌, length, Option, Some, None, option_map, option_and_then, is_some, unwrap_or, slice_get, ⊤, codes, bytes_eq, if◌then◌else◌}
 use Rattle.std.specs.List.{AllByRecursion}
 use Rattle.nz_spec.specs.Tree.{Token, symbol, keyword, numeral, decimal, hexadecimal, binary, literal, symbol_name, after_point, Tree, leaf, node, Trees, no_trees, trees}
 use Rattle.nz_spec.specs.Form.{tree_symbol, term_head, name_head, let_head, no_head}
 use Rattle.nz_spec.specs.Bounds.{digits_value, decimal_digits}
-use Rattle.nz_spec.specs.Term.{Sort, bool_sort, int_sort, real_sort, sort_of, head_fits, Constant, Head, constant, parameter, integer, decimal_number, verum, falsum, negation, conjunction, disjunction, implication, exclusion, equality, distinction, choice, less, at_most, greater, at_least, sum, difference, product, quotient, integer_quotient, modulus, magnitude, to_real, to_int, is_int, Term, apply, Terms, no_terms, terms}
+use Rattle.nz_spec.specs.Term.{Sort, bool_sort, int_sort, real_sort, sort_of, head_fits, NumberSort, over_int, over_real, are_same_sort, Constant, Head, constant, parameter, integer, decimal_number, verum, falsum, negation, conjunction, disjunction, implication, exclusion, equality, distinction, choice, less, at_most, greater, at_least, sum, difference, product, quotient, integer_quotient, modulus, magnitude, to_real, to_int, is_int, Term, apply, Terms, no_terms, terms, Value, Assignment, default_value, head_value, value_of, values_of}
 use Rattle.nz_spec.specs.Normal.{normal_of, normals_of}
 
 -- ---- Operators
@@ -59,12 +59,6 @@ abbrev pub is_operator : List ℕ → Bool
 is_operator name = is_some (operator_named name)
 
 -- ---- Sorts
-
-abbrev pub are_same_sort : Sort → Sort → Bool
-are_same_sort bool_sort bool_sort = true
-are_same_sort int_sort int_sort = true
-are_same_sort real_sort real_sort = true
-are_same_sort s t = false
 
 abbrev pub sort_named : List ℕ → Option Sort
 sort_named name =
@@ -190,6 +184,11 @@ read_at bool_sort ts = ts
 read_at int_sort ts = ts
 read_at real_sort ts = as_reals ts
 
+-- the sort of numbers that are read at a sort
+abbrev pub numbers_at : Sort → NumberSort
+numbers_at int_sort = over_int
+numbers_at s = over_real
+
 -- the head of an operator over arguments that are read at a sort
 abbrev pub operator_head : Operator → Sort → Head
 operator_head true_operator s = verum
@@ -206,9 +205,9 @@ operator_head at_most_operator s = at_most
 operator_head less_operator s = less
 operator_head at_least_operator s = at_least
 operator_head greater_operator s = greater
-operator_head plus_operator s = sum s
-operator_head times_operator s = product s
-operator_head minus_operator s = difference s
+operator_head plus_operator s = sum (numbers_at s)
+operator_head times_operator s = product (numbers_at s)
+operator_head minus_operator s = difference (numbers_at s)
 operator_head over_operator s = quotient
 operator_head div_operator s = integer_quotient
 operator_head mod_operator s = modulus
@@ -396,3 +395,21 @@ TermFits = (ss : List Sort) (sc : Scope) → ScopeFits ss sc → (t : Tree) (u :
 -- A use of a definition has the sort of its body.
 abbrev pub ExpansionKeepsSort : Type 0
 ExpansionKeepsSort = (d : Definition) → RootFits d.parameters d.body → (ts : Terms) (u : Term) → expansion d ts ≡ Some u → sort_of u ≡ sort_of d.body
+
+-- what a head makes of the values of its arguments, where the parameters have these values
+abbrev pub head_value_under : Assignment → List Value → Head → List Value → Value
+head_value_under a us (parameter i s) vs = unwrap_or (slice_get us i) (default_value s)
+head_value_under a us h vs = head_value a h vs
+
+-- the value of a body whose parameters have these values
+abbrev mutual
+  pub body_value : Assignment → List Value → Term → Value
+  body_value a us (apply h ts) = head_value_under a us h (body_values a us ts)
+
+  pub body_values : Assignment → List Value → Terms → List Value
+  body_values a us no_terms = []
+  body_values a us (terms t ts) = body_value a us t ∷ body_values a us ts
+
+-- A use of a definition has the value of its body under the values of the arguments.
+abbrev pub UseHasBodyValue : Type 0
+UseHasBodyValue = (a : Assignment) (d : Definition) (ts : Terms) (u : Term) → expansion d ts ≡ Some u → value_of a u ≡ body_value a (values_of a ts) d.body

@@ -1,9 +1,9 @@
 -- A worked example of the definitions: one script, what is heard in it, and its transcript.
 use Rattle.std.specs.Prelude.{ℕ, List, [], ◌∷◌, codes, true}
 use Rattle.nz_spec.specs.Tree.{symbol, leaf, node, Trees, no_trees, trees}
-use Rattle.nz_spec.specs.Text.{whole}
+use Rattle.nz_spec.specs.Text.{intact}
 use Rattle.nz_spec.specs.Term.{bool_sort, truth}
-use Rattle.nz_spec.specs.Script.{Binding}
+use Rattle.nz_spec.specs.Model.{Binding}
 use Rattle.nz_spec.specs.Reply.{Reply, quiet, sat, model, plain}
 use Rattle.nz_spec.specs.Transcript.{Kept}
 
@@ -19,7 +19,7 @@ abbrev pub p_is_true : List Binding
 p_is_true = record { constant = record { name = codes "p"; sort = bool_sort }; value = truth true } ∷ []
 
 abbrev pub example_kept : ℕ → ℕ → List (List ℕ) → Reply → Kept
-example_kept from to names reply = record { heard = record { from = from; to = to; what = whole (node (symbols names)) }; reply = reply; cause = plain }
+example_kept from to names reply = record { heard = record { from = from; to = to; what = intact (node (symbols names)) }; reply = reply; cause = plain }
 
 -- what a run of it keeps
 abbrev pub example_transcript : List Kept

@@ -63,8 +63,8 @@ abbrev pub is_symbol : List ℕ → Token → Bool
 is_symbol word t = elim (symbol_name t) [ Some name ↦ bytes_eq name word | None ↦ false ]
 
 -- the keyword is this one
-abbrev pub is_keyword : List ℕ → Token → Bool
-is_keyword word t = elim (keyword_name t) [ Some name ↦ bytes_eq name word | None ↦ false ]
+abbrev pub is_the_keyword : List ℕ → Token → Bool
+is_the_keyword word t = elim (keyword_name t) [ Some name ↦ bytes_eq name word | None ↦ false ]
 
 abbrev pub is_keyword_token : Token → Bool
 is_keyword_token t = is_some (keyword_name t)

@@ -155,25 +155,25 @@ is_wide_product p q =
     exceeds (unsigned_abs reduced.numerator) || exceeds (denominator reduced)
 
 -- the four operations that can be Wide
-pub data Operator : Type 0 where
-  Sum : Operator
-  Difference : Operator
-  Product : Operator
-  Quotient : Operator
+pub data Arithmetic : Type 0 where
+  Sum : Arithmetic
+  Difference : Arithmetic
+  Product : Arithmetic
+  Quotient : Arithmetic
 
 -- the exact value; a quotient's divisor is not 0
-unfoldable pub exact : Operator → Fraction → Fraction → Fraction
+unfoldable pub exact : Arithmetic → Fraction → Fraction → Fraction
 exact Sum p q = p +ℚ q
 exact Difference p q = p -ℚ q
 exact Product p q = p *ℚ q
 exact Quotient p q = p /ℚ q
 
 -- what an operation on numbers answers where it is not Wide: the exact value in lowest terms
-unfoldable pub outcome : Operator → Fraction → Fraction → Fraction
+unfoldable pub outcome : Arithmetic → Fraction → Fraction → Fraction
 outcome op p q = reduce (exact op p q)
 
 -- a difference is the sum with the negated second operand, a quotient the product with the reciprocal
-unfoldable pub is_wide : Operator → Fraction → Fraction → Bool
+unfoldable pub is_wide : Arithmetic → Fraction → Fraction → Bool
 is_wide Sum p q = is_wide_sum p q
 is_wide Difference p q = is_wide_sum p (neg_ℚ q)
 is_wide Product p q = is_wide_product p q
@@ -181,7 +181,7 @@ is_wide Quotient p q = is_wide_product p (reciprocal q)
 
 -- an operation with the operands that it was handed
 pub record Operation : Type 0 where
-  pub operator : Operator
+  pub operator : Arithmetic
   pub left : Fraction
   pub right : Fraction
 

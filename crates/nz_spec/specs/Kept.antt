@@ -1,10 +1,10 @@
 -- How a thing heard may be told: as it is, or as one for which there was no memory while it was read.
 use Rattle.std.specs.Prelude.{◌≡◌, List, [], ◌∷◌, ⊤}
-use Rattle.nz_spec.specs.Text.{What, whole, faulty, unclosed, unread, Heard}
+use Rattle.nz_spec.specs.Text.{What, intact, faulty, unclosed, unread, Heard}
 
 -- What a command is may give way to want of memory; anything else is told as it is.
 abbrev pub IsToldWhat : What → What → Type 0
-IsToldWhat unread (whole t) = ⊤
+IsToldWhat unread (intact t) = ⊤
 IsToldWhat unread (faulty n) = ⊤
 IsToldWhat unread unclosed = ⊥
 IsToldWhat told what = told ≡ what

@@ -1,4 +1,6 @@
+pub mod Atoms
 pub mod Bounds
+pub mod Command
 pub mod Decide
 pub mod Elaboration
 pub mod Example
@@ -7,6 +9,8 @@ pub mod Fraction
 pub mod Infinitesimal
 pub mod Kept
 pub mod Linear
+pub mod Live
+pub mod Model
 pub mod Normal
 pub mod Numerals
 pub mod Operations
@@ -14,11 +18,14 @@ pub mod Order
 pub mod Outside
 pub mod Reading
 pub mod Reply
+pub mod Right
 pub mod Run
 pub mod Samples
+pub mod Scoping
 pub mod Script
 pub mod Sorts
 pub mod Table
+pub mod Taken
 pub mod Term
 pub mod TermList
 pub mod Text
@@ -34,4 +41,5 @@ pub mod WorkedNormals
 pub mod WorkedNumbers
 pub mod WorkedReplies
 pub mod WorkedScript
+pub mod WorkedScripts
 pub mod WorkedTerms

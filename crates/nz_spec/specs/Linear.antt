@@ -2,23 +2,23 @@
 -- Source: SMT-LIB 2.6, logics LIRA and QF_LRA (linear arithmetic: products and quotients with a constant). That a constant
 -- term is one whose value, folded from the left, stays among the numbers is this solver's own.
 use Rattle.std.specs.Prelude.{ℕ, suc, ◌&&◌, ◌||◌, nat_lt, not, Bool, true, false, List, [], ◌∷◌, Option, Some, None, option_map, pos, if◌then◌else◌}
-use Rattle.nz_spec.specs.Fraction.{Fraction, whole, neg_ℚ, Operator, Sum, Difference, Product, Quotient, outcome, is_wide}
-use Rattle.nz_spec.specs.Term.{Head, integer, decimal_number, sum, difference, product, quotient, integer_quotient, modulus, to_real, Term, apply, Terms, no_terms, terms, scaled, is_zero, is_undefined}
+use Rattle.nz_spec.specs.Fraction.{Fraction, whole, neg_ℚ, Arithmetic, Sum, Difference, Product, Quotient, outcome, is_wide}
+use Rattle.nz_spec.specs.Term.{Head, integer, decimal_number, sum, difference, product, quotient, integer_quotient, modulus, to_real, Term, apply, Terms, no_terms, terms, decimal_value, is_zero, is_undefined}
 
 -- an operation on two constants, where it has a value among the numbers
-abbrev pub folded_step : Operator → Option Fraction → Option Fraction → Option Fraction
+abbrev pub folded_step : Arithmetic → Option Fraction → Option Fraction → Option Fraction
 folded_step op (Some p) (Some q) = if is_undefined op q || is_wide op p q then None else Some (outcome op p q)
 folded_step op (Some p) None = None
 folded_step op None q = None
 
-abbrev pub folded : Operator → Option Fraction → List (Option Fraction) → Option Fraction
+abbrev pub folded : Arithmetic → Option Fraction → List (Option Fraction) → Option Fraction
 folded op c [] = c
 folded op c (d ∷ ds) = folded op (folded_step op c d) ds
 
 -- the value of an operator over arguments that are constant where they have a value
 abbrev pub head_constant : Head → List (Option Fraction) → Option Fraction
 head_constant (integer n) cs = Some (whole (pos n))
-head_constant (decimal_number n places) cs = Some (scaled n places)
+head_constant (decimal_number n places) cs = Some (decimal_value n places)
 head_constant to_real (c ∷ []) = c
 head_constant (sum s) (c ∷ cs) = folded Sum c cs
 head_constant (difference s) (c ∷ []) = option_map neg_ℚ c

@@ -1,14 +1,14 @@
 -- The operations that the value of a term takes, in post-order: those of its arguments, from the left, and then its own.
 -- Both branches of `ite` are among them.
 use Rattle.std.specs.Prelude.{List, [], ◌∷◌, ◌++◌, if◌then◌else◌}
-use Rattle.nz_spec.specs.Fraction.{Fraction, Operator, Sum, Difference, Product, Quotient, Operation}
+use Rattle.nz_spec.specs.Fraction.{Fraction, Arithmetic, Sum, Difference, Product, Quotient, Operation}
 use Rattle.nz_spec.specs.Term.{Head, sum, difference, product, quotient, Term, apply, Terms, no_terms, terms, Value, number_of, is_undefined, carried_out, Assignment, values_of}
 
-abbrev pub operation_on : Operator → Fraction → Fraction → List Operation
+abbrev pub operation_on : Arithmetic → Fraction → Fraction → List Operation
 operation_on op p q = if is_undefined op q then [] else record { operator = op; left = p; right = q } ∷ []
 
 -- one operation of a value with each of the others, from the left
-abbrev pub operations_by : Operator → Value → List Value → List Operation
+abbrev pub operations_by : Arithmetic → Value → List Value → List Operation
 operations_by op v [] = []
 operations_by op v (w ∷ ws) = operation_on op (number_of v) (number_of w) ++ operations_by op (carried_out op v w) ws
 

@@ -1,7 +1,8 @@
 -- The order in which shared terms are taken: what a term is made of comes before it.
-use Rattle.std.specs.Prelude.{◌≡◌, ◌⊎◌, ℕ, List, [], ◌∷◌, ◌++◌, take, Some, All, Contains, slice_get}
+use Rattle.std.specs.Prelude.{◌≡◌, ◌⊎◌, ℕ, ◌<◌, List, [], ◌∷◌, ◌++◌, length, take, Some, All, Contains, slice_get}
+use Rattle.std.specs.List.{AllByRecursion}
 use Rattle.nz_spec.specs.Term.{Head, integer_quotient, modulus, to_int, is_int, Term, apply, Terms, no_terms, terms}
-use Rattle.nz_spec.specs.Table.{Node}
+use Rattle.nz_spec.specs.Table.{Node, term_in}
 
 -- The subterms of a term in post-order: those of its arguments, from the left, and then itself.
 abbrev mutual
@@ -19,6 +20,9 @@ companions modulus ts = apply integer_quotient ts ∷ []
 companions is_int ts = apply to_int ts ∷ []
 companions h ts = []
 
+abbrev pub companions_of : Term → List Term
+companions_of (apply h ts) = companions h ts
+
 -- The same order, where the companions of a term come just before it.
 abbrev mutual
   pub listing_order : Term → List Term
@@ -35,6 +39,14 @@ AreFirst seen (t ∷ ts) list =
     (Contains seen t × AreFirst seen ts list)
     ⊎ ((Contains seen t → ⊥) × (rest : List Term) × (list ≡ t ∷ rest) × AreFirst (t ∷ seen) ts rest)
 
+-- some number of the table is the term's
+abbrev pub IsInTable : List Node → Term → Type 0
+IsInTable ns t = (i : ℕ) × (i < length ns) × (term_in ns i ≡ t)
+
 -- In this list of numbers each comes behind the arguments of its node.
 abbrev pub ComeBehindArguments : List Node → List ℕ → Type 0
 ComeBehindArguments ns ids = (k i : ℕ) (n : Node) → slice_get ids k ≡ Some i → slice_get ns i ≡ Some n → All (Contains (take k ids)) n.kids
+
+-- The table has the companions of each of its terms.
+abbrev pub HasCompanions : List Node → Type 0
+HasCompanions ns = (i : ℕ) → i < length ns → AllByRecursion (IsInTable ns) (companions_of (term_in ns i))

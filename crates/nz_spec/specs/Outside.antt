@@ -1,6 +1,6 @@
 -- What a program knows of the outside: a source of bytes that it reads, and a sink of bytes that it writes.
 -- Either may tell its bytes or not, and each counts its own faults.
-use Rattle.std.specs.Prelude.{◌≡◌, ℕ, ◌+◌, ◌-◌, ◌^◌, ◌<◌, ◌≤◌, min, Bool, false, ◌&&◌, nat_eq, nat_lt, if◌then◌else◌, List, ◌++◌, length, take, drop, Option, is_some, Result, Ok, Err, IfOk, MatchResult}
+use Rattle.std.specs.Prelude.{◌≡◌, ℕ, suc, ◌-◌, ◌^◌, ◌<◌, ◌≤◌, min, Bool, false, ◌&&◌, nat_eq, nat_lt, if◌then◌else◌, List, ◌++◌, length, take, drop, Option, is_some, Result, Ok, Err, IfOk, MatchResult}
 use Rattle.std.specs.List.{list_any}
 use Rattle.std.specs.Io.KnownBytes.{Keeps, Appends, Consumes, IsAtEnd}
 
@@ -10,13 +10,13 @@ use Rattle.std.specs.Io.KnownBytes.{Keeps, Appends, Consumes, IsAtEnd}
 abbrev pub last_count : ℕ
 last_count = 2 ^ 64 - 1
 
--- the count rose, or stands at its last value, where it can rise no further
-abbrev pub HasRisen : ℕ → ℕ → ℕ → Type 0
-HasRisen last before now = min (before + 1) last ≤ now
+-- a count after one more; at its last value it stays
+abbrev pub raised : ℕ → ℕ → ℕ
+raised last n = if nat_lt n last then suc n else n
 
--- the count after one more, which stays at its last value
-abbrev pub next_count : ℕ → ℕ
-next_count n = min (n + 1) last_count
+-- the count of faults after a call that failed, or didn't
+abbrev pub counted : ℕ → Bool → ℕ → ℕ
+counted last failed n = if failed then raised last n else n
 
 -- ---- reads and writes
 
@@ -40,10 +40,6 @@ TakesFront old new result piece = MatchResult result (λ n. Appends old new (tak
 -- a front of these bytes was added to those held
 abbrev pub AddsFrontOf : Option (List ℕ) → Option (List ℕ) → List ℕ → Type 0
 AddsFrontOf old new bytes = (n : ℕ) × (n ≤ length bytes) × Appends old new (take n bytes)
-
--- a write that took nothing of a piece that isn't empty is a fault
-abbrev pub RefusesByFault : {E : Type 0} → ℕ → ℕ → ℕ → Result ℕ E → List ℕ → Type 0
-RefusesByFault last before now result piece = IfOk result (λ n. n ≡ 0 → 0 < length piece → HasRisen last before now)
 
 -- a write that took nothing of a piece that isn't empty
 abbrev pub is_refusal : {E : Type 0} → Result ℕ E → List ℕ → Bool
@@ -76,9 +72,10 @@ after_read input room = record input { left = drop (given_count input room) inpu
 abbrev pub read_buffer : MemoryInput → List ℕ → List ℕ
 read_buffer input buffer = let n = given_count input (length buffer) in take n input.left ++ drop n buffer
 
--- the bytes that were written, how many may be held in all, and the faults so far
+-- the bytes that were written, those of them that were handed on, how many may be held in all, and the faults so far
 pub record MemoryOutput : Type 0 where
   pub held : List ℕ
+  pub handed : List ℕ
   pub room : ℕ
   pub faults : ℕ
 
@@ -92,16 +89,19 @@ refuses output piece = nat_eq (taken_count output piece) 0 && nat_lt 0 (length p
 
 -- the output after one more fault
 abbrev pub after_fault : MemoryOutput → MemoryOutput
-after_fault output = record output { faults = next_count output.faults }
+after_fault output = record output { faults = raised last_count output.faults }
 
 -- the output after that write
 abbrev pub after_write : MemoryOutput → List ℕ → MemoryOutput
 after_write output piece =
-    record {
+    record output {
       held = output.held ++ take (taken_count output piece) piece;
-      room = output.room;
-      faults = if refuses output piece then next_count output.faults else output.faults;
+      faults = counted last_count (refuses output piece) output.faults;
     }
+
+-- the output after a flush: all that is held was handed on
+abbrev pub after_flush : MemoryOutput → MemoryOutput
+after_flush output = record output { handed = output.held }
 
 -- ---- faults that are planned
 
@@ -116,7 +116,7 @@ fails_next plan = list_any (λ call. nat_eq call plan.next) plan.fails
 
 -- the plan after one more call, whose number stays at its last value
 abbrev pub after_call : PlannedFaults → PlannedFaults
-after_call plan = record plan { next = next_count plan.next }
+after_call plan = record plan { next = raised last_count plan.next }
 
 -- an input whose reads fail where that is planned, and the faults so far
 pub record FaultyInput : Type 0 where
@@ -130,7 +130,7 @@ after_faulty_read source room =
     record {
       input = if fails_next source.plan then source.input else after_read source.input room;
       plan = after_call source.plan;
-      faults = if fails_next source.plan then next_count source.faults else source.faults;
+      faults = counted last_count (fails_next source.plan) source.faults;
     }
 
 -- an output whose writes and flushes fail where that is planned
@@ -146,10 +146,10 @@ after_faulty_write sink piece =
       plan = after_call sink.plan;
     }
 
--- the faulty output after a flush
+-- the faulty output after a flush, which hands on nothing where it fails
 abbrev pub after_faulty_flush : FaultyOutput → FaultyOutput
 after_faulty_flush sink =
     record {
-      output = if fails_next sink.plan then after_fault sink.output else sink.output;
+      output = if fails_next sink.plan then after_fault sink.output else after_flush sink.output;
       plan = after_call sink.plan;
     }

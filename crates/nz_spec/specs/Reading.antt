@@ -2,7 +2,7 @@
 -- these are the things that `Hears` tells is a theorem.
 use Rattle.std.specs.Prelude.{ℕ, ◌+◌, ◌-◌, ◌||◌, nat_lt, max, Bool, false, List, [], ◌∷◌, ◌++◌, length, Some, None, if◌then◌else◌}
 use Rattle.nz_spec.specs.Tree.{Tree, leaf, node, Trees, no_trees, trees}
-use Rattle.nz_spec.specs.Text.{ByteClass, blank_byte, left_byte, right_byte, comment_byte, quote_byte, bar_byte, word_byte, class_of, is_line_end, is_quote, is_bar, Filler, word, string, quoted, token_of, is_bad_filler, Limits, What, whole, faulty, unclosed, Heard}
+use Rattle.nz_spec.specs.Text.{ByteClass, blank_byte, left_byte, right_byte, comment_byte, quote_byte, bar_byte, word_byte, class_of, is_line_end, is_quote, is_bar, Filler, word, string, quoted, token_of, is_bad_filler, Limits, What, intact, faulty, unclosed, Heard}
 
 -- a list of trees, as a tree holds it
 abbrev pub trees_from : List Tree → Trees
@@ -28,8 +28,8 @@ pub record Reading : Type 0 where
   pub bad : Bool  -- some token of the command is bad
   pub deepest : ℕ  -- how deep the command's lists nest so far
 
-abbrev pub start : Reading
-start = record { at = 0; from = 0; part = no_part; levels = []; bad = false; deepest = 0 }
+abbrev pub reading_start : Reading
+reading_start = record { at = 0; from = 0; part = no_part; levels = []; bad = false; deepest = 0 }
 
 -- the innermost list with more trees
 abbrev pub with_trees : List Tree → List (List Tree) → List (List Tree)
@@ -46,8 +46,8 @@ with_closed [] = []
 with_closed (l ∷ ls) = with_trees (node (trees_from l) ∷ []) ls
 
 -- one place where a refused thing stands
-abbrev pub refused : ℕ → ℕ → Heard
-refused from to = record { from = from; to = to; what = faulty 1 }
+abbrev pub heard_faulty : ℕ → ℕ → Heard
+heard_faulty from to = record { from = from; to = to; what = faulty 1 }
 
 -- ---- A token ends
 
@@ -61,7 +61,7 @@ taken f s = taken_by f s.levels s
 
 -- outside any command it is told
 abbrev pub told_token_by : List (List Tree) → Reading → List Heard
-told_token_by [] s = refused s.from s.at ∷ []
+told_token_by [] s = heard_faulty s.from s.at ∷ []
 told_token_by (l ∷ ls) s = []
 
 abbrev pub told_token : Reading → List Heard
@@ -95,10 +95,10 @@ abbrev pub what_of : Limits → List Tree → Reading → What
 what_of limits l s =
     if s.bad then faulty 1
     else (if nat_lt limits.depth s.deepest || nat_lt limits.bytes (s.at - s.from) then faulty 6
-    else whole (node (trees_from l)))
+    else intact (node (trees_from l)))
 
 abbrev pub told_closed_by : Limits → List (List Tree) → Reading → List Heard
-told_closed_by limits [] s = refused s.at (s.at + 1) ∷ []
+told_closed_by limits [] s = heard_faulty s.at (s.at + 1) ∷ []
 told_closed_by limits (l ∷ []) s = record { from = s.from; to = s.at + 1; what = what_of limits l (passed s) } ∷ []
 told_closed_by limits (l ∷ m ∷ ls) s = []
 
@@ -186,9 +186,9 @@ told_on limits s (b ∷ bs) = told_at limits b s ++ told_on limits (next b s) bs
 abbrev pub told_part : Part → Reading → List Heard
 told_part no_part s = []
 told_part in_comment s = []
-told_part (in_word w) s = refused s.from s.at ∷ []
+told_part (in_word w) s = heard_faulty s.from s.at ∷ []
 told_part (in_string w) s = record { from = s.from; to = s.at; what = unclosed } ∷ []
-told_part (after_quote w) s = refused s.from s.at ∷ []
+told_part (after_quote w) s = heard_faulty s.from s.at ∷ []
 told_part (in_quoted w) s = record { from = s.from; to = s.at; what = unclosed } ∷ []
 
 abbrev pub told_open_by : List (List Tree) → Reading → List Heard

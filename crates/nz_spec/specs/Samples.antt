@@ -1,18 +1,20 @@
 -- Short texts with what they stand for: the trees and the terms of worked values.
-use Rattle.std.specs.Prelude.{ℕ, false, List, [], ◌∷◌, ◌++◌, map, Option, None, option_map, codes}
+use Rattle.std.specs.Prelude.{ℕ, suc, false, List, [], ◌∷◌, ◌++◌, map, length, Option, None, option_map, codes}
 use Rattle.nz_spec.specs.Tree.{Tree, node, no_trees}
-use Rattle.nz_spec.specs.Text.{Heard, What, whole, faulty, unclosed, unread, script_limits}
-use Rattle.nz_spec.specs.Reading.{start, hear_on}
+use Rattle.nz_spec.specs.Text.{Heard, What, intact, faulty, unclosed, unread, script_limits}
+use Rattle.nz_spec.specs.Reading.{reading_start, hear_on}
 use Rattle.nz_spec.specs.Term.{Sort, bool_sort, int_sort, real_sort, Constant, Head, constant, parameter, integer, less, quotient, to_real, Term, apply, no_terms, terms, Value, truth, value_of}
 use Rattle.nz_spec.specs.Normal.{paired, normal_of}
 use Rattle.nz_spec.specs.Elaboration.{Definition, Scope, term_of}
-use Rattle.nz_spec.specs.Script.{State, declared, defined, Outcome, outcome_of}
+use Rattle.nz_spec.specs.Live.{Item, declared, defined, LiveItem, LastAnswer, State}
+use Rattle.nz_spec.specs.Command.{Outcome}
+use Rattle.nz_spec.specs.Script.{outcome_of}
 
 -- ---- Trees
 
 -- the tree of what was heard, if it is one
 abbrev pub heard_tree : What → Tree
-heard_tree (whole t) = t
+heard_tree (intact t) = t
 heard_tree (faulty n) = node no_trees
 heard_tree unclosed = node no_trees
 heard_tree unread = node no_trees
@@ -23,7 +25,7 @@ first_tree (h ∷ hs) = heard_tree h.what
 
 -- the tree that is heard first in a text
 abbrev pub tree_in : List ℕ → Tree
-tree_in text = first_tree (hear_on script_limits start text)
+tree_in text = first_tree (hear_on script_limits reading_start text)
 
 -- ---- Constants and terms
 
@@ -81,20 +83,29 @@ abbrev pub sample_scope : Scope
 sample_scope = record { constants = sample_constants; definitions = sample_definitions; bound = [] }
 
 -- the term of a text among these, its normal term, and its value where it holds no constant
-abbrev pub term_in : List ℕ → Option Term
-term_in text = term_of sample_scope (tree_in text)
+abbrev pub sample_term : List ℕ → Option Term
+sample_term text = term_of sample_scope (tree_in text)
 
 abbrev pub normal_in : List ℕ → Option Term
-normal_in text = option_map normal_of (term_in text)
+normal_in text = option_map normal_of (sample_term text)
 
 abbrev pub value_in : List ℕ → Option Value
-value_in text = option_map (value_of (λ name. truth false)) (term_in text)
+value_in text = option_map (value_of (λ name. truth false)) (sample_term text)
 
 -- ---- Commands
 
+-- items by their numbers, the first of which is this one
+abbrev pub numbered_from : ℕ → List Item → List LiveItem
+numbered_from n [] = []
+numbered_from n (i ∷ items) = record { number = n; item = i } ∷ numbered_from (suc n) items
+
+-- one level of these items, and this last answer
+abbrev pub state_with : List Item → Option LastAnswer → State
+state_with items last = record { levels = numbered_from 0 items ∷ []; next = length items; last = last; options = record { prints_success = false } }
+
 -- these are declared and defined, and nothing else was done
 abbrev pub sample_state : State
-sample_state = record { levels = (map declared sample_constants ++ map defined sample_definitions) ∷ []; model = None; reason = None; options = record { prints_success = false } }
+sample_state = state_with (map declared sample_constants ++ map defined sample_definitions) None
 
 -- what becomes of the command of a text there
 abbrev pub outcome_in : List ℕ → Outcome

@@ -1,7 +1,7 @@
 -- A table of shared terms: a list of nodes, the oldest first, each with the places of its arguments in the list.
 -- A place is the number of the term that stands there.
-use Rattle.std.specs.Prelude.{◌≡◌, ℕ, ◌<◌, ◌≤◌, ◌==◌, Bool, false, IsTrue, List, [], ◌∷◌, ◌++◌, length, take, Option, Some, None, All, fold, slice_get, slice_index_or, bytes_eq, unwrap_or, if◌then◌else◌}
-use Rattle.nz_spec.specs.Term.{Head, falsum, constant_of, head_fits, Term, apply, Terms, no_terms, terms, Value, truth, Assignment}
+use Rattle.std.specs.Prelude.{◌≡◌, ℕ, ◌<◌, ◌≤◌, ◌==◌, Bool, false, IsTrue, List, [], ◌∷◌, ◌++◌, length, take, Option, Some, None, All, fold, slice_get, slice_index_or, unwrap_or, if◌then◌else◌, ⊤}
+use Rattle.nz_spec.specs.Term.{Constant, are_same_constant, Head, constant, falsum, constant_of, head_fits, Term, apply, Terms, no_terms, terms, Value, Assignment, default_value}
 
 pub record Node : Type 0 where
   pub head : Head
@@ -24,11 +24,16 @@ with_term ts n = ts ++ apply n.head (terms_at (listed_term ts) n.kids) ∷ []
 unfoldable pub term_in : List Node → ℕ → Term
 term_in ns i = listed_term (fold with_term [] ns) i
 
--- Arguments come before the node, no node stands twice, and what is spelled as a number is one.
+-- a constant has no arguments
+abbrev pub HasItsArguments : Head → List ℕ → Type 0
+HasItsArguments h kids = elim (constant_of h) [ Some c ↦ kids ≡ [] | None ↦ ⊤ ]
+
+-- Arguments come before the node, no node stands twice, what is spelled as a number is one, and a constant has no arguments.
 pub record IsTable (ns : List Node) : Type 0 where
   pub before : (i : ℕ) (n : Node) → slice_get ns i ≡ Some n → All (λ k. k < i) n.kids
   pub once : (i j : ℕ) (n : Node) → slice_get ns i ≡ Some n → slice_get ns j ≡ Some n → i ≡ j
   pub fits : (i : ℕ) (n : Node) → slice_get ns i ≡ Some n → IsTrue (head_fits n.head)
+  pub leaves : (i : ℕ) (n : Node) → slice_get ns i ≡ Some n → HasItsArguments n.head n.kids
 
 -- Equal terms have equal numbers.
 abbrev pub HasOneNumberEach : List Node → Type 0
@@ -57,27 +62,23 @@ TermsStay = (ns more : List Node) (is : List ℕ) → All (λ i. i < length ns) 
 
 -- ---- Assignments by numbers of constants
 
--- the head is the constant of this name
-abbrev pub is_constant_named : Head → List ℕ → Bool
-is_constant_named h name = elim (constant_of h) [ Some c ↦ bytes_eq c.name name | None ↦ false ]
-
-abbrev pub is_named : Option Node → List ℕ → Bool
-is_named None name = false
-is_named (Some n) name = is_constant_named n.head name
+-- the node is this constant
+abbrev pub is_node_of : Option Node → Constant → Bool
+is_node_of None c = false
+is_node_of (Some n) c = elim (constant_of n.head) [ Some d ↦ are_same_constant d c | None ↦ false ]
 
 -- the first value that is listed with a number
 abbrev pub listed_value : List (ℕ × Value) → ℕ → Option Value
 listed_value [] i = None
 listed_value (p ∷ ps) i = if p.0 == i then Some p.1 else listed_value ps i
 
--- what a list of numbers of constants, each with a value, gives a name: the first value of the constant of this name,
--- and `false` where it is not listed
+-- what a list of numbers of constants, each with a value, gives a constant: the first value that is listed with its number, and
+-- the default of its sort where none is
 abbrev pub assignment_by : List Node → List (ℕ × Value) → Assignment
-assignment_by ns [] name = truth false
-assignment_by ns (p ∷ ps) name = if is_named (slice_get ns p.0) name then p.1 else assignment_by ns ps name
+assignment_by ns [] c = default_value c.sort
+assignment_by ns (p ∷ ps) c = if is_node_of (slice_get ns p.0) c then p.1 else assignment_by ns ps c
 
--- Where just the pairs of a number are of the constant of a name, the assignment gives the name the value that is listed
--- with the number.
+-- In a table the assignment gives a constant the value that is listed with its number.
 abbrev pub AssignsByNumber : Type 0
-AssignsByNumber = (ns : List Node) (ps : List (ℕ × Value)) (i : ℕ) (name : List ℕ) → All (λ p. is_named (slice_get ns p.0) name ≡ (p.0 == i)) ps
-    → assignment_by ns ps name ≡ unwrap_or (listed_value ps i) (truth false)
+AssignsByNumber = (ns : List Node) → IsTable ns → (ps : List (ℕ × Value)) (i : ℕ) (n : Node) (c : Constant) → slice_get ns i ≡ Some n → n.head ≡ constant c
+    → assignment_by ns ps c ≡ unwrap_or (listed_value ps i) (default_value c.sort)

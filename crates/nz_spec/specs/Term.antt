@@ -1,7 +1,7 @@
 -- Terms, sorts and values (SMT-LIB 2.6, section 3.6, terms, and the theories Core and Reals_Ints).
-use Rattle.std.specs.Prelude.{◌≡◌, ℕ, suc, ◌^◌, ◌&&◌, ◌||◌, Bool, true, false, not, IsTrue, nat_le, List, [], ◌∷◌, ℤ, pos, negsuc, ◌+ℤ◌, ◌*ℤ◌, neg_ℤ, ◌≤ℤ◌, ◌<ℤ◌, unsigned_abs, ⊤, Option, Some, None, if◌then◌else◌}
+use Rattle.std.specs.Prelude.{◌≡◌, ℕ, suc, bytes_eq, ◌^◌, ◌&&◌, ◌||◌, Bool, true, false, not, IsTrue, nat_le, List, [], ◌∷◌, ℤ, pos, negsuc, ◌+ℤ◌, ◌*ℤ◌, neg_ℤ, ◌≤ℤ◌, ◌<ℤ◌, unsigned_abs, ⊤, Option, Some, None, if◌then◌else◌}
 use Rattle.std.specs.List.{list_all, list_any}
-use Rattle.nz_spec.specs.Fraction.{Fraction, whole, IsWhole, IsNumber, ratio, fraction_eq, fraction_le, fraction_lt, neg_ℚ, floor, floor_div, Operator, Sum, Difference, Product, Quotient, outcome, exceeds}
+use Rattle.nz_spec.specs.Fraction.{Fraction, whole, IsWhole, IsNumber, ratio, fraction_eq, fraction_le, fraction_lt, neg_ℚ, floor, floor_div, Arithmetic, Sum, Difference, Product, Quotient, outcome, exceeds}
 use Rattle.nz_spec.specs.Bounds.{place_limit}
 
 pub data Sort : Type 0 where
@@ -9,10 +9,29 @@ pub data Sort : Type 0 where
   int_sort : Sort
   real_sort : Sort
 
+-- the sorts of numbers, over which an operator may be
+pub data NumberSort : Type 0 where
+  over_int : NumberSort
+  over_real : NumberSort
+
+abbrev pub sort_over : NumberSort → Sort
+sort_over over_int = int_sort
+sort_over over_real = real_sort
+
+abbrev pub are_same_sort : Sort → Sort → Bool
+are_same_sort bool_sort bool_sort = true
+are_same_sort int_sort int_sort = true
+are_same_sort real_sort real_sort = true
+are_same_sort s t = false
+
 -- a declared constant
 pub record Constant : Type 0 where
   pub name : List ℕ
   pub sort : Sort
+
+-- the same name and the same sort
+abbrev pub are_same_constant : Constant → Constant → Bool
+are_same_constant c d = bytes_eq c.name d.name && are_same_sort c.sort d.sort
 
 -- What a term is of: an operator, a constant, or a number.
 pub data Head : Type 0 where
@@ -34,9 +53,9 @@ pub data Head : Type 0 where
   at_most : Head  -- <=
   greater : Head  -- >
   at_least : Head  -- >=
-  sum : Sort → Head  -- +, over Int or over Real
-  difference : Sort → Head  -- -, of one argument too
-  product : Sort → Head  -- *
+  sum : NumberSort → Head  -- +, over Int or over Real
+  difference : NumberSort → Head  -- -, of one argument too
+  product : NumberSort → Head  -- *
   quotient : Head  -- /
   integer_quotient : Head  -- div
   modulus : Head  -- mod
@@ -62,9 +81,9 @@ head_sort (parameter i s) = s
 head_sort (integer n) = int_sort
 head_sort (decimal_number n places) = real_sort
 head_sort (choice s) = s
-head_sort (sum s) = s
-head_sort (difference s) = s
-head_sort (product s) = s
+head_sort (sum s) = sort_over s
+head_sort (difference s) = sort_over s
+head_sort (product s) = sort_over s
 head_sort quotient = real_sort
 head_sort integer_quotient = int_sort
 head_sort modulus = int_sort
@@ -88,10 +107,15 @@ abbrev pub is_bool : Sort → Bool
 is_bool bool_sort = true
 is_bool s = false
 
--- the term, or one that it is made of, is of sort Int or Real
+-- a term of this head is of sort Int or Real, or asks something of one that is
+abbrev pub is_numeric : Head → Bool
+is_numeric is_int = true
+is_numeric h = not (is_bool (head_sort h))
+
+-- the term, or one that it is made of, is so
 abbrev mutual
   pub holds_number : Term → Bool
-  holds_number (apply h ts) = not (is_bool (head_sort h)) || hold_number ts
+  holds_number (apply h ts) = is_numeric h || hold_number ts
 
   pub hold_number : Terms → Bool
   hold_number no_terms = false
@@ -104,9 +128,9 @@ pub data Value : Type 0 where
   truth : Bool → Value
   number : Fraction → Value
 
--- what each constant stands for, by its name
+-- what each constant stands for
 abbrev pub Assignment : Type 0
-Assignment = List ℕ → Value
+Assignment = Constant → Value
 
 abbrev pub is_true : Value → Bool
 is_true (truth b) = b
@@ -185,12 +209,12 @@ abbrev pub is_zero : Fraction → Bool
 is_zero q = fraction_eq q (whole (pos 0))
 
 -- a quotient by 0 is no operation
-abbrev pub is_undefined : Operator → Fraction → Bool
+abbrev pub is_undefined : Arithmetic → Fraction → Bool
 is_undefined Quotient q = is_zero q
 is_undefined op q = false
 
 -- an operation on two numbers, of any size; a quotient by 0, which no linear term has, is 0
-abbrev pub carried_out : Operator → Value → Value → Value
+abbrev pub carried_out : Arithmetic → Value → Value → Value
 carried_out op v w = if is_undefined op (number_of w) then whole_number (pos 0) else number (outcome op (number_of v) (number_of w))
 
 -- `div` and `mod` by n other than 0: of m the q and the r with m = n*q + r and 0 <= r < |n|
@@ -221,14 +245,14 @@ abbrev pub divided : Value → Value → Value
 divided v w = whole_number (div_of (integer_of v) (integer_of w))
 
 -- a number of so many decimal places
-abbrev pub scaled : ℕ → ℕ → Fraction
-scaled digits places = ratio (pos digits) (pos (10 ^ places))
+abbrev pub decimal_value : ℕ → ℕ → Fraction
+decimal_value digits places = ratio (pos digits) (pos (10 ^ places))
 
 -- A decimal that fits is a number.
 abbrev pub DecimalsAreNumbers : Type 0
-DecimalsAreNumbers = (digits places : ℕ) → IsTrue (head_fits (decimal_number digits places)) → IsNumber (scaled digits places)
+DecimalsAreNumbers = (digits places : ℕ) → IsTrue (head_fits (decimal_number digits places)) → IsNumber (decimal_value digits places)
 
--- what a parameter stands for where nothing is put in its place
+-- what a constant stands for where nothing is said, and a parameter where nothing is put in its place
 abbrev pub default_value : Sort → Value
 default_value bool_sort = truth false
 default_value int_sort = whole_number (pos 0)
@@ -236,10 +260,10 @@ default_value real_sort = whole_number (pos 0)
 
 -- what an operator makes of the values of its arguments
 abbrev pub head_value : Assignment → Head → List Value → Value
-head_value a (constant c) vs = a c.name
+head_value a (constant c) vs = a c
 head_value a (parameter i s) vs = default_value s
 head_value a (integer n) vs = whole_number (pos n)
-head_value a (decimal_number n places) vs = number (scaled n places)
+head_value a (decimal_number n places) vs = number (decimal_value n places)
 head_value a verum vs = truth true
 head_value a falsum vs = truth false
 head_value a negation [] = truth false

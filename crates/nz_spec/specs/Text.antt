@@ -212,11 +212,11 @@ token_of (quoted bs) = if list_all is_quoted_byte bs then Some (symbol bs) else 
 abbrev mutual
   pub tree_onto : Group → Trees → Trees
   tree_onto (single f) rest = elim (token_of f) [ Some t ↦ trees (leaf t) rest | None ↦ rest ]
-  tree_onto (nest gs) rest = trees (node (trees_of gs)) rest
+  tree_onto (nest gs) rest = trees (node (group_trees gs)) rest
 
-  pub trees_of : Groups → Trees
-  trees_of no_groups = no_trees
-  trees_of (groups g gs) = tree_onto g (trees_of gs)
+  pub group_trees : Groups → Trees
+  group_trees no_groups = no_trees
+  group_trees (groups g gs) = tree_onto g (group_trees gs)
 
 -- a filler that is no token, and not blank
 abbrev pub is_bad_filler : Filler → Bool
@@ -249,7 +249,7 @@ pub record Limits : Type 0 where
 
 -- What a thing heard is. Its number is that of its error: 1 for a bad token, 6 for a limit.
 pub data What : Type 0 where
-  whole : Tree → What  -- a command without fault
+  intact : Tree → What  -- a command without fault
   faulty : ℕ → What  -- refused in reading
   unclosed : What  -- an incomplete command at the end
   unread : What  -- a command for which there was no memory while it was read
@@ -268,7 +268,7 @@ abbrev pub command_what : Limits → Groups → What
 command_what limits gs =
     if are_bad_groups gs then faulty 1
     else (if nat_lt limits.depth (suc (groups_depth gs)) || nat_lt limits.bytes (thing_length (command gs)) then faulty 6
-    else whole (node (trees_of gs)))
+    else intact (node (group_trees gs)))
 
 -- A thing is heard as one thing, but white space and comments as none; at is the place of its first byte.
 abbrev pub heard_thing : Limits → ℕ → Thing → List Heard

@@ -1,7 +1,7 @@
 -- Worked examples of the lexicon: short texts, and what is heard in each.
 use Rattle.std.specs.Prelude.{ℕ, ⊤, List, [], ◌∷◌, ◌++◌, codes}
 use Rattle.nz_spec.specs.Tree.{Token, symbol, keyword, numeral, decimal, hexadecimal, binary, literal, leaf, node, Trees, no_trees, trees}
-use Rattle.nz_spec.specs.Text.{Heard, What, whole, faulty, unclosed, Limits, Hears}
+use Rattle.nz_spec.specs.Text.{Heard, What, intact, faulty, unclosed, Limits, Hears}
 
 -- a text, and what is heard in it
 pub record Sample : Type 0 where
@@ -20,7 +20,7 @@ leaves (t ∷ ts) = trees (leaf t) (leaves ts)
 
 -- a command that is a list of tokens
 abbrev pub list_of : List Token → What
-list_of ts = whole (node (leaves ts))
+list_of ts = intact (node (leaves ts))
 
 -- Comments end with their line, or with the text, and may hold anything else; they end a word.
 abbrev pub comment_samples : List Sample
@@ -66,7 +66,7 @@ word_samples =
 -- What is heard is a list outside any list, or what stands outside any; a list that never closes reaches to the end.
 abbrev pub group_samples : List Sample
 group_samples =
-    hears_as (codes ") a(b())\t()") (heard_as 0 1 (faulty 1) ∷ heard_as 2 3 (faulty 1) ∷ heard_as 3 8 (whole (node (trees (leaf (symbol (codes "b"))) (trees (node no_trees) no_trees)))) ∷ heard_as 9 11 (list_of []) ∷ [])
+    hears_as (codes ") a(b())\t()") (heard_as 0 1 (faulty 1) ∷ heard_as 2 3 (faulty 1) ∷ heard_as 3 8 (intact (node (trees (leaf (symbol (codes "b"))) (trees (node no_trees) no_trees)))) ∷ heard_as 9 11 (list_of []) ∷ [])
     ∷ hears_as (codes "(a(1a)|b") (heard_as 0 8 unclosed ∷ [])
     ∷ []
 
@@ -77,7 +77,7 @@ narrow_limits = record { depth = 2; bytes = 8 }
 -- Under narrow limits: a bad token is told before a limit, and what never closes is told as that alone.
 abbrev pub limit_samples : List Sample
 limit_samples =
-    hears_as (codes "(a (b))(()())") (heard_as 0 7 (whole (node (trees (leaf (symbol (codes "a"))) (trees (node (leaves (symbol (codes "b") ∷ []))) no_trees)))) ∷ heard_as 7 13 (whole (node (trees (node no_trees) (trees (node no_trees) no_trees)))) ∷ [])
+    hears_as (codes "(a (b))(()())") (heard_as 0 7 (intact (node (trees (leaf (symbol (codes "a"))) (trees (node (leaves (symbol (codes "b") ∷ []))) no_trees)))) ∷ heard_as 7 13 (intact (node (trees (node no_trees) (trees (node no_trees) no_trees)))) ∷ [])
     ∷ hears_as (codes "((()))(a ;bcd)\n)") (heard_as 0 6 (faulty 6) ∷ heard_as 6 16 (faulty 6) ∷ [])
     ∷ hears_as (codes "(abcdef) (abcdefg)") (heard_as 0 8 (list_of (symbol (codes "abcdef") ∷ [])) ∷ heard_as 9 18 (faulty 6) ∷ [])
     ∷ hears_as (codes "(((1a)))((()") (heard_as 0 8 (faulty 1) ∷ heard_as 8 12 unclosed ∷ [])

@@ -2,7 +2,7 @@
 use Rattle.std.specs.Prelude.{◌≡◌, ℕ, List, ◌++◌}
 use Rattle.nz_spec.specs.Text.{Heard, Hears, Limits}
 use Rattle.nz_spec.specs.Kept.{AreToldAs}
-use Rattle.nz_spec.specs.Reading.{start, read_on, told_on, told_open}
+use Rattle.nz_spec.specs.Reading.{reading_start, read_on, told_on, told_open}
 
 -- What is told of a whole text: the things heard in it, in order.
 abbrev pub IsTold : Limits → List ℕ → List Heard → Type 0
@@ -23,8 +23,8 @@ pub record IsToldFirst (limits : Limits) (bytes : List ℕ) (told : List Heard) 
 
 -- A text read byte by byte: what is told at its bytes, and then of what is open, is heard in it.
 abbrev pub ReadingIsHeard : Type 0
-ReadingIsHeard = (limits : Limits) (bytes : List ℕ) → Hears limits bytes (told_on limits start bytes ++ told_open (read_on start bytes))
+ReadingIsHeard = (limits : Limits) (bytes : List ℕ) → Hears limits bytes (told_on limits reading_start bytes ++ told_open (read_on reading_start bytes))
 
 -- What is told at the bytes of a front is all that is complete in it.
 abbrev pub ReadingTellsFirst : Type 0
-ReadingTellsFirst = (limits : Limits) (bytes : List ℕ) (told : List Heard) → AreToldAs told (told_on limits start bytes) → IsToldFirst limits bytes told
+ReadingTellsFirst = (limits : Limits) (bytes : List ℕ) (told : List Heard) → AreToldAs told (told_on limits reading_start bytes) → IsToldFirst limits bytes told

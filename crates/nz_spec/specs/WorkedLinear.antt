@@ -7,8 +7,8 @@ use Rattle.nz_spec.specs.Samples.{normal_in}
 abbrev pub linear_in : List (List ℕ) → List (Option Bool)
 linear_in texts = map (λ text. option_map is_linear (normal_in text)) texts
 
-abbrev pub constants_in : List (List ℕ) → List (Option Fraction)
-constants_in texts = map (λ text. option_and_then constant_value (normal_in text)) texts
+abbrev pub constants_told : List (List ℕ) → List (Option Fraction)
+constants_told texts = map (λ text. option_and_then constant_value (normal_in text)) texts
 
 -- as many as these texts, each so
 abbrev pub all_as : Bool → List (List ℕ) → List (Option Bool)
@@ -36,7 +36,7 @@ pub record HasLinearTerms : Type 0 where
 
 -- The values of constant terms.
 pub record HasConstants : Type 0 where
-  pub whole_numbers : constants_in (codes "(+ 1 2)" ∷ codes "(- 5)" ∷ codes "(* 2 3 4)" ∷ codes "(- 170141183460469231731687303715884105727)" ∷ []) ≡ map (λ n. Some (whole n)) (pos 3 ∷ negsuc 4 ∷ pos 24 ∷ negsuc 170141183460469231731687303715884105726 ∷ [])
-  pub quotients : constants_in (codes "(/ 1 2)" ∷ codes "(/ 6 (- 4))" ∷ codes "(+ 1 0.5)" ∷ codes "(- 0.50 1)" ∷ []) ≡ map (λ q. Some q) (over (pos 1) 2 ∷ over (negsuc 2) 2 ∷ over (pos 3) 2 ∷ over (negsuc 0) 2 ∷ [])
-  pub none : constants_in (codes "(+ x 1)" ∷ codes "(/ 1 0)" ∷ codes "(+ 170141183460469231731687303715884105727 1)" ∷ codes "(- (- 170141183460469231731687303715884105727) 1)" ∷ codes "(to_int 2.0)" ∷ codes "(div 4 2)" ∷ codes "(ite true 1 2)" ∷ [])
+  pub whole_numbers : constants_told (codes "(+ 1 2)" ∷ codes "(- 5)" ∷ codes "(* 2 3 4)" ∷ codes "(- 170141183460469231731687303715884105727)" ∷ []) ≡ map (λ n. Some (whole n)) (pos 3 ∷ negsuc 4 ∷ pos 24 ∷ negsuc 170141183460469231731687303715884105726 ∷ [])
+  pub quotients : constants_told (codes "(/ 1 2)" ∷ codes "(/ 6 (- 4))" ∷ codes "(+ 1 0.5)" ∷ codes "(- 0.50 1)" ∷ []) ≡ map (λ q. Some q) (over (pos 1) 2 ∷ over (negsuc 2) 2 ∷ over (pos 3) 2 ∷ over (negsuc 0) 2 ∷ [])
+  pub none : constants_told (codes "(+ x 1)" ∷ codes "(/ 1 0)" ∷ codes "(+ 170141183460469231731687303715884105727 1)" ∷ codes "(- (- 170141183460469231731687303715884105727) 1)" ∷ codes "(to_int 2.0)" ∷ codes "(div 4 2)" ∷ codes "(ite true 1 2)" ∷ [])
       ≡ None ∷ None ∷ None ∷ None ∷ None ∷ None ∷ None ∷ []

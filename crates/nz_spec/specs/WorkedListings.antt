@@ -1,6 +1,6 @@
 -- Worked listings: the order in which a term list takes a term, with all that it takes besides.
 use Rattle.std.specs.Prelude.{◌≡◌, ℕ, List, [], ◌∷◌, Option, Some, option_map, codes}
-use Rattle.nz_spec.specs.Term.{int_sort, sum, integer_quotient, modulus, to_int, is_int, Term}
+use Rattle.nz_spec.specs.Term.{sum, integer_quotient, modulus, to_int, is_int, Term, over_int}
 use Rattle.nz_spec.specs.Normal.{negated, paired}
 use Rattle.nz_spec.specs.Order.{listing_order}
 use Rattle.nz_spec.specs.Samples.{over_one, x_term, y_term, u_term, numeral_term, normal_in}
@@ -20,4 +20,4 @@ pub record HasListings : Type 0 where
   pub test : listing_in (codes "(not (is_int u))") ≡ Some (u_term ∷ over_one to_int u_term ∷ over_one is_int u_term ∷ negated (over_one is_int u_term) ∷ [])
   pub nested : listing_in (codes "(mod (mod x y) 3)")
       ≡ Some (x_term ∷ y_term ∷ quotient_term ∷ remainder_term ∷ numeral_term 3 ∷ paired integer_quotient remainder_term (numeral_term 3) ∷ paired modulus remainder_term (numeral_term 3) ∷ [])
-  pub others : listing_in (codes "(+ (div x y) (to_int u))") ≡ Some (x_term ∷ y_term ∷ quotient_term ∷ u_term ∷ over_one to_int u_term ∷ paired (sum int_sort) quotient_term (over_one to_int u_term) ∷ [])
+  pub others : listing_in (codes "(+ (div x y) (to_int u))") ≡ Some (x_term ∷ y_term ∷ quotient_term ∷ u_term ∷ over_one to_int u_term ∷ paired (sum over_int) quotient_term (over_one to_int u_term) ∷ [])

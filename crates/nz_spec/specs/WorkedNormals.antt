@@ -1,6 +1,6 @@
 -- Worked normal terms over numbers: what is chained, pairwise or grouped is written out.
 use Rattle.std.specs.Prelude.{◌≡◌, Some, codes}
-use Rattle.nz_spec.specs.Term.{int_sort, conjunction, equality, less, at_most, sum, difference, quotient, integer_quotient, Term}
+use Rattle.nz_spec.specs.Term.{conjunction, equality, less, at_most, sum, difference, quotient, integer_quotient, Term, over_int}
 use Rattle.nz_spec.specs.Normal.{negated, paired}
 use Rattle.nz_spec.specs.Samples.{over_one, x_term, y_term, u_term, numeral_term, real_of, normal_in}
 use Rattle.nz_spec.specs.TruthTables.{of_three}
@@ -28,6 +28,6 @@ pub record HasGroups : Type 0 where
   pub whole_quotients : normal_in (codes "(div x y 3)") ≡ Some (paired integer_quotient (paired integer_quotient x_term y_term) (numeral_term 3))
   pub sum_of_one : normal_in (codes "(+ x)") ≡ Some x_term
   pub product_of_one : normal_in (codes "(* u)") ≡ Some u_term
-  pub sum_of_three : normal_in (codes "(+ x y 1)") ≡ Some (of_three (sum int_sort) x_term y_term one_term)
-  pub difference_of_three : normal_in (codes "(- x y 1)") ≡ Some (of_three (difference int_sort) x_term y_term one_term)
-  pub negated_number : normal_in (codes "(- x)") ≡ Some (over_one (difference int_sort) x_term)
+  pub sum_of_three : normal_in (codes "(+ x y 1)") ≡ Some (of_three (sum over_int) x_term y_term one_term)
+  pub difference_of_three : normal_in (codes "(- x y 1)") ≡ Some (of_three (difference over_int) x_term y_term one_term)
+  pub negated_number : normal_in (codes "(- x)") ≡ Some (over_one (difference over_int) x_term)

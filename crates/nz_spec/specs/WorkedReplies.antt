@@ -2,8 +2,11 @@
 use Rattle.std.specs.Prelude.{◌≡◌, ℕ, true, false, List, [], ◌∷◌, ◌++◌, map, pos, negsuc, Option, Some, None, codes}
 use Rattle.nz_spec.specs.Fraction.{Fraction, whole, over, largest, Sum, Difference, Product, Quotient}
 use Rattle.nz_spec.specs.Term.{bool_sort, int_sort, real_sort, Value, truth, number, whole_number}
-use Rattle.nz_spec.specs.Script.{Binding, units_spent, name_info, error_behavior_info, Outcome, accepted, get_value}
-use Rattle.nz_spec.specs.Reply.{value_text, wide_text, tree_text, quiet, success, sat, unsat, unknown, model, values, info, levels, reason, echoed, unsupported, error, reply_text, assignment_of, shown_under}
+use Rattle.nz_spec.specs.Model.{Binding, assignment_of}
+use Rattle.nz_spec.specs.Live.{units_spent}
+use Rattle.nz_spec.specs.Command.{name_info, error_behavior_info, Outcome, accepted, get_value}
+use Rattle.nz_spec.specs.Reply.{value_text, wide_text, tree_text, quiet, success, sat, unsat, unknown, model, values, info, levels, reason, echoed, unsupported, error, reply_text}
+use Rattle.nz_spec.specs.Right.{shown_under}
 use Rattle.nz_spec.specs.Samples.{constant_of_sort, tree_in, outcome_in, value_in}
 
 -- Values by their sorts. One of sort Real is a quotient in lowest terms, or a decimal where it is whole.

@@ -1,13 +1,16 @@
 -- A worked script: what becomes of commands, one at a time, where a few constants and definitions are live.
 use Rattle.std.specs.Prelude.{◌≡◌, ℕ, true, false, List, [], ◌∷◌, map, Some, None, codes}
 use Rattle.nz_spec.specs.Tree.{Tree, leaf, symbol, numeral}
-use Rattle.nz_spec.specs.Term.{bool_sort, int_sort, real_sort, parameter, less, sum, decimal_number}
+use Rattle.nz_spec.specs.Term.{bool_sort, int_sort, real_sort, over_int, parameter, less, sum, decimal_number}
 use Rattle.nz_spec.specs.Normal.{paired}
-use Rattle.nz_spec.specs.Script.{State, start, declared, asserted, declare_const, define, assert_term, get_model, get_value, get_info, name_info, get_levels, get_reason, set_print_success, no_effect, echo, exit, Outcome, accepted, refused, not_taken, outcome_of}
-use Rattle.nz_spec.specs.Text.{whole}
-use Rattle.nz_spec.specs.Reply.{Reply, quiet, success, unsat, values, error, unsupported, after}
+use Rattle.nz_spec.specs.Live.{State, start, declared, asserted, model_found, refutation}
+use Rattle.nz_spec.specs.Command.{declare_const, define, assert_term, get_model, get_value, get_info, name_info, get_levels, get_reason, set_print_success, no_effect, echo, exit, Outcome, accepted, refused, not_taken}
+use Rattle.nz_spec.specs.Script.{outcome_of}
+use Rattle.nz_spec.specs.Text.{intact}
+use Rattle.nz_spec.specs.Reply.{Reply, quiet, success, unsat, values, error, unsupported}
+use Rattle.nz_spec.specs.Right.{after}
 use Rattle.nz_spec.specs.TruthTables.{of_three}
-use Rattle.nz_spec.specs.Samples.{constant_of_sort, alone, a_term, x_term, u_term, numeral_term, real_of, half, above, below, tree_in, sample_constants, sample_state, outcome_in}
+use Rattle.nz_spec.specs.Samples.{constant_of_sort, alone, a_term, x_term, u_term, numeral_term, real_of, half, above, below, tree_in, sample_constants, state_with, outcome_in}
 
 abbrev pub outcomes_in : List (List ℕ) → List Outcome
 outcomes_in texts = map outcome_in texts
@@ -112,7 +115,7 @@ pub record HasRefusals : Type 0 where
 
 -- the same constants, and no definition
 abbrev pub constants_state : State
-constants_state = record sample_state { levels = map declared sample_constants ∷ [] }
+constants_state = state_with (map declared sample_constants) None
 
 -- Declarations, definitions and assertions: the definitions among them are those that the samples of terms go by. A body and
 -- an assertion are linear, and a body of sort Int where a Real is wanted is read as `to_real` of it.
@@ -125,7 +128,7 @@ pub record HasAdditions : Type 0 where
   pub parameters_hide : outcome_of constants_state (tree_in (codes "(define-fun below ((x Int) (y Int)) Bool (< x y))")) ≡ accepted (define below)
   pub widened : outcome_in (codes "(define-fun one () Real 1)") ≡ accepted (define (record { name = codes "one"; parameters = []; body = real_of (numeral_term 1) }))
   pub hides_definition : outcome_in (codes "(define-fun next ((half Int)) Int (+ half 1))")
-      ≡ accepted (define (record { name = codes "next"; parameters = int_sort ∷ []; body = paired (sum int_sort) (alone (parameter 0 int_sort)) (numeral_term 1) }))
+      ≡ accepted (define (record { name = codes "next"; parameters = int_sort ∷ []; body = paired (sum over_int) (alone (parameter 0 int_sort)) (numeral_term 1) }))
   pub asserts : outcome_in (codes "(assert (< x u 2))") ≡ accepted (assert_term (of_three less (real_of x_term) u_term (real_of (numeral_term 2))))
   pub vanishes : outcome_in (codes "(assert (let ((z (* x x))) a))") ≡ accepted (assert_term a_term)
   pub greatest : outcome_in (codes "(assert (< 170141183460469231731687303715884105727 x))") ≡ accepted (assert_term (paired less (numeral_term 170141183460469231731687303715884105727) x_term))
@@ -154,20 +157,20 @@ pub record HasAsking : Type 0 where
 
 -- a state with an answer to show
 abbrev pub answered : State
-answered = record { levels = (declared (constant_of_sort bool_sort (codes "a")) ∷ []) ∷ []; model = Some []; reason = None; options = record { prints_success = false } }
+answered = state_with (declared (constant_of_sort bool_sort (codes "a")) ∷ []) (Some (model_found []))
 
 -- the state after the command of a text and its reply
 abbrev pub left_by : State → List ℕ → Reply → State
-left_by s text reply = after s (whole (tree_in text)) reply
+left_by s text reply = after s (intact (tree_in text)) reply
 
 -- An accepted addition stands last, and ends the answer; what shows the answer leaves it, and so does whatever is refused.
 pub record HasEffects : Type 0 where
-  pub declares : left_by start (codes "(declare-const x Int)") quiet ≡ record start { levels = (declared (constant_of_sort int_sort (codes "x")) ∷ []) ∷ [] }
+  pub declares : left_by start (codes "(declare-const x Int)") quiet ≡ state_with (declared (constant_of_sort int_sort (codes "x")) ∷ []) None
   pub asserts : left_by answered (codes "(assert a)") quiet
-      ≡ record answered { levels = (declared (constant_of_sort bool_sort (codes "a")) ∷ asserted a_term ∷ []) ∷ []; model = None }
+      ≡ state_with (declared (constant_of_sort bool_sort (codes "a")) ∷ asserted a_term ∷ []) None
   pub shows : left_by answered (codes "(get-value (a))") (values []) ≡ answered
   pub refuses : left_by answered (codes "(assert q)") (error 2) ≡ answered
   pub passes : left_by answered (codes "(frob)") unsupported ≡ answered
   pub lacks_memory : left_by answered (codes "(assert a)") (error 11) ≡ answered
-  pub denies : left_by answered (codes "(check-sat)") unsat ≡ record answered { model = None }
+  pub denies : left_by answered (codes "(check-sat)") unsat ≡ record answered { last = Some refutation }
   pub sets : left_by answered (codes "(set-option :print-success true)") success ≡ record answered { options = record { prints_success = true } }

@@ -1,4 +1,5 @@
 //! Laws of commands.
+ghost use Rattle.nz_spec.specs.TermList.{NumbersAreListed};
 ghost use Rattle.nz_spec.specs.WorkedScript.{HasAdditions, HasAsking, HasEffects, HasRefusals};
 
 /// What becomes of commands, and what they leave, by the definitions alone.
@@ -7,4 +8,9 @@ pub fn worked_script()
     ensures additions { HasAdditions }
     ensures asking { HasAsking }
     ensures effects { HasEffects }
+{}
+
+/// The live items hold a number exactly where their term list has one.
+pub fn numbers_are_listed()
+    ensures listed { NumbersAreListed }
 {}

@@ -1,9 +1,8 @@
 //! Laws of terms.
-ghost use Rattle.nz_spec.specs.Term.{DecimalsAreNumbers};
+ghost use Rattle.nz_spec.specs.Term.{DecimalsAreNumbers, Divides, DividesOnce};
 ghost use Rattle.nz_spec.specs.Numerals.{NumeralsAreWhole};
 ghost use Rattle.nz_spec.specs.Normal.{NormalKeepsValue};
 ghost use Rattle.nz_spec.specs.Elaboration.{InstanceKeepsNormal};
-ghost use Rattle.nz_spec.specs.Term.{Divides, DividesOnce};
 ghost use Rattle.nz_spec.specs.TruthTables.{HasNormalTerms, HasPairs, HasTriples};
 ghost use Rattle.nz_spec.specs.WorkedLinear.{HasConstants, HasLinearTerms};
 ghost use Rattle.nz_spec.specs.WorkedListings.{HasListings};

@@ -3,14 +3,15 @@ use Rattle.std.proofs.Common.{◌≡◌, ℕ, zero, suc, List, [], ◌∷◌, tr
 use Rattle.std.specs.Prelude.{slice_index_or, bytes_eq}
 use Rattle.std.specs.Cmp.{first_so, second_so}
 use Rattle.std.proofs.lemmas.Slice.Eq.{bytes_eq-Decides}
+use Rattle.nz_spec.specs.Elaboration.{numbers_at}
 use Rattle.nz_spec.specs.Term as spec
-use Rattle.nz_spec.specs.Term.{bool_sort, int_sort, real_sort, constant, parameter, integer, decimal_number, verum, falsum, negation, conjunction, disjunction, exclusion, equality, choice, less, at_most, sum, difference, product, quotient, integer_quotient, modulus, magnitude, to_real, to_int, is_int}
+use Rattle.nz_spec.specs.Term.{bool_sort, int_sort, real_sort, over_int, over_real, sort_over, constant, parameter, integer, decimal_number, verum, falsum, negation, conjunction, disjunction, exclusion, equality, choice, less, at_most, sum, difference, product, quotient, integer_quotient, modulus, magnitude, to_real, to_int, is_int}
 use Rattle.nz_term.specs.declared.heads.Head.{Head}
 use Rattle.nz_term.specs.declared.heads.Head.TheVariants.{Constant, Parameter, Integer, Decimal, True, False, Not, And, Or, Xor, Equal, Ite, Less, AtMost, Sum, Difference, Product, Quotient, Div, Mod, Abs, ToReal, ToInt, IsInt}
 use Rattle.nz_term.specs.declared.nodes.Node.{Node}
 use Rattle.nz_term.specs.contracts.heads.HeadPartialEq.TheImpl as heads
 use Rattle.nz_term.specs.contracts.nodes.NodePartialEq.TheImpl as nodes
-use Rattle.nz_term.specs.Constants.{sort_of}
+use Rattle.nz_term.specs.Constants.{number_sort_of, sort_of}
 use Rattle.nz_term.specs.Heads.{head_of}
 use Rattle.nz_term.specs.Nodes.{node_of}
 use Rattle.nz_term.specs.Parts.{parts_of, sort_number}
@@ -27,11 +28,15 @@ sort_back bool_sort = refl
 sort_back int_sort = refl
 sort_back real_sort = refl
 
+numbers_back : (s : spec.NumberSort) → numbers_at (sort_numbered (sort_number (sort_over s))) ≡ s
+numbers_back over_int = refl
+numbers_back over_real = refl
+
 -- the heads by their kinds
 abbrev built : ℕ → spec.Sort → ℕ → ℕ → List ℕ → spec.Head
 built k s n p name =
     slice_index_or
-    (constant (record { name = name; sort = s }) ∷ parameter p s ∷ integer n ∷ decimal_number n p ∷ verum ∷ falsum ∷ negation ∷ conjunction ∷ disjunction ∷ exclusion ∷ equality ∷ choice s ∷ less ∷ at_most ∷ sum s ∷ difference s ∷ product s ∷ quotient ∷ integer_quotient ∷ modulus ∷ magnitude ∷ to_real ∷ to_int ∷ is_int ∷ [])
+    (constant (record { name = name; sort = s }) ∷ parameter p s ∷ integer n ∷ decimal_number n p ∷ verum ∷ falsum ∷ negation ∷ conjunction ∷ disjunction ∷ exclusion ∷ equality ∷ choice s ∷ less ∷ at_most ∷ sum (numbers_at s) ∷ difference (numbers_at s) ∷ product (numbers_at s) ∷ quotient ∷ integer_quotient ∷ modulus ∷ magnitude ∷ to_real ∷ to_int ∷ is_int ∷ [])
     k falsum
 
 abbrev built_of : List ℕ → spec.Head
@@ -53,9 +58,9 @@ head_back Equal = refl
 head_back (Ite s) = ap choice (sort_back (sort_of s))
 head_back Less = refl
 head_back AtMost = refl
-head_back (Sum s) = ap sum (sort_back (sort_of s))
-head_back (Difference s) = ap difference (sort_back (sort_of s))
-head_back (Product s) = ap product (sort_back (sort_of s))
+head_back (Sum s) = ap sum (numbers_back (number_sort_of s))
+head_back (Difference s) = ap difference (numbers_back (number_sort_of s))
+head_back (Product s) = ap product (numbers_back (number_sort_of s))
 head_back Quotient = refl
 head_back Div = refl
 head_back Mod = refl
@@ -85,9 +90,9 @@ parts_in equality = 10 ∷ 0 ∷ 0 ∷ 0 ∷ []
 parts_in (choice s) = 11 ∷ sort_number s ∷ 0 ∷ 0 ∷ []
 parts_in less = 12 ∷ 0 ∷ 0 ∷ 0 ∷ []
 parts_in at_most = 13 ∷ 0 ∷ 0 ∷ 0 ∷ []
-parts_in (sum s) = 14 ∷ sort_number s ∷ 0 ∷ 0 ∷ []
-parts_in (difference s) = 15 ∷ sort_number s ∷ 0 ∷ 0 ∷ []
-parts_in (product s) = 16 ∷ sort_number s ∷ 0 ∷ 0 ∷ []
+parts_in (sum s) = 14 ∷ sort_number (sort_over s) ∷ 0 ∷ 0 ∷ []
+parts_in (difference s) = 15 ∷ sort_number (sort_over s) ∷ 0 ∷ 0 ∷ []
+parts_in (product s) = 16 ∷ sort_number (sort_over s) ∷ 0 ∷ 0 ∷ []
 parts_in quotient = 17 ∷ 2 ∷ 0 ∷ 0 ∷ []
 parts_in integer_quotient = 18 ∷ 1 ∷ 0 ∷ 0 ∷ []
 parts_in modulus = 19 ∷ 1 ∷ 0 ∷ 0 ∷ []

@@ -1,14 +1,14 @@
 -- Instances of terms, made one after another in a table that grows.
 use Rattle.std.proofs.Common.{◌≡◌, inl, inr, ℕ, zero, suc, ◌+◌, ◌<◌, ◌≤◌, List, [], ◌∷◌, ◌++◌, length, map, take, set, get_or, slice_get, Option, Some, None, refl, sym, ap, subst, ◌∙◌, arith, append_assoc, append-nil, length-append, length-set, get_or-set_same, get_or-set_other}
-use Rattle.std.specs.Prelude.{◌⊎◌, All, Contains, option_map, slice_index}
+use Rattle.std.specs.Prelude.{◌⊎◌, ⊤, All, Contains, option_map, slice_index}
 use Rattle.std.proofs.lemmas.Bool.Decides.{eqb_tells}
 use Rattle.std.proofs.lemmas.List.{take_all}
 use Rattle.std.proofs.lemmas.List.Elements.{All-more, All-contains, All-weaker, All-take, All-append, All-map, All-from_recursion, recursion_from_All, All-head, All-tail}
 use Rattle.std.proofs.lemmas.Option.{none-some, same_Some, slice_get-get_or, slice_get_within, get_or_from_slice_get}
-use Rattle.nz_spec.specs.Term.{Head, parameter, Term, apply, Terms, terms}
+use Rattle.nz_spec.specs.Term.{Constant, constant_of, Head, parameter, Term, apply, Terms, terms}
 use Rattle.nz_spec.specs.Elaboration.{term_at, instance_of, instances_of}
 use Rattle.nz_spec.specs.Order.{ComeBehindArguments}
-use Rattle.nz_spec.specs.Table.{Node, term_in, terms_at}
+use Rattle.nz_spec.specs.Table.{HasItsArguments, Node, term_in, terms_at}
 use Rattle.nz_spec.proofs.Tables.{term_stays, terms_stay}
 use Rattle.nz_term.specs.Growth.{IsOperator, Grows}
 use Rattle.nz_term.specs.Instances.{argument_of, IsInstance, HasInstances}
@@ -57,6 +57,24 @@ node_kept old new g i n below at =
 pub within_more : (old new : List Node) → Grows old new → (is : List ℕ) → All (λ i. i < length old) is → All (λ i. i < length new) is
 within_more old new g is within =
     All-weaker (λ i. i < length old) (λ i. i < length new) (λ i below. let long = grows_longer old new g in omega arith) is within
+
+-- ---- Heads that are no constants
+
+-- a head with arguments is an operator's
+pub operator : (h : Head) (kids : List ℕ) → HasItsArguments h kids → (kids ≡ [] → ⊥) → IsOperator h
+operator h kids leaf some = by (constant_of h) leaf
+  where
+    by : (o : Option Constant) → elim o as (λ x. Type 0) [ Some c ↦ kids ≡ [] | None ↦ ⊤ ] → elim o as (λ x. Type 0) [ Some c ↦ ⊥ | None ↦ ⊤ ]
+    by (Some c) leaf = absurd (some leaf)
+    by None leaf = tt
+
+-- an operator may have any arguments
+pub free : (h : Head) (kids : List ℕ) → IsOperator h → HasItsArguments h kids
+free h kids operates = by (constant_of h) operates
+  where
+    by : (o : Option Constant) → elim o as (λ x. Type 0) [ Some c ↦ ⊥ | None ↦ ⊤ ] → elim o as (λ x. Type 0) [ Some c ↦ kids ≡ [] | None ↦ ⊤ ]
+    by (Some c) operates = absurd operates
+    by None operates = tt
 
 -- ---- The instance of one term
 

@@ -1,11 +1,11 @@
 -- What is known of terms, as tables grow and are cut.
-use Rattle.std.proofs.Common.{◌≡◌, inl, inr, ℕ, zero, suc, ◌+◌, ◌<◌, ◌≤◌, ◌&&◌, ◌||◌, Bool, not, List, [], ◌∷◌, ◌++◌, length, map, take, drop, get_or, Option, Some, None, refl, sym, ap, ◌∙◌, arith, append_assoc, append-nil, length-append, length-take}
+use Rattle.std.proofs.Common.{◌≡◌, inl, inr, ℕ, zero, suc, ◌+◌, ◌<◌, ◌≤◌, ◌&&◌, ◌||◌, Bool, List, [], ◌∷◌, ◌++◌, length, map, take, drop, get_or, Option, Some, None, refl, sym, ap, ◌∙◌, arith, append_assoc, append-nil, length-append, length-take}
 use Rattle.std.specs.Prelude.{fold, slice_index_or}
 use Rattle.std.proofs.lemmas.Bool.{cases_lt}
 use Rattle.std.proofs.lemmas.List.{at_drop_more, get_or_read, map-append, length-map, take-map, take-append-drop, take_all, take_at}
 use Rattle.std.proofs.lemmas.List.Sums.{fold-append}
-use Rattle.nz_spec.specs.Fraction.{Fraction, Operator}
-use Rattle.nz_spec.specs.Term.{Head, falsum, head_sort, is_bool, Term, apply, no_terms, holds_number, hold_number}
+use Rattle.nz_spec.specs.Fraction.{Fraction, Arithmetic}
+use Rattle.nz_spec.specs.Term.{Head, falsum, is_numeric, Term, apply, no_terms, holds_number, hold_number}
 use Rattle.nz_spec.specs.Linear.{constant_value, constant_values, head_constant, folded, are_divisors, is_linear_node, is_linear, are_linear}
 use Rattle.nz_spec.specs.Table.{Node, terms_at, listed_term, with_term, term_in}
 use Rattle.nz_term.specs.declared.facts.Fact.{Fact}
@@ -54,7 +54,7 @@ numbers_listed ts (i ∷ is) =
 pub fact_is : (ts : List Term) (fs : List Fact) (h : Head) (is : List ℕ) (c : Option Fraction) (linear number : Bool) → fs ≡ map fact_of ts
     → c ≡ head_constant h (constants_at fs is)
     → linear ≡ (is_linear_node h (constants_at fs is) && are_linear_at fs is)
-    → number ≡ (not (is_bool (head_sort h)) || hold_number_at fs is)
+    → number ≡ (is_numeric h || hold_number_at fs is)
     → fact_with c linear number ≡ fact_of (apply h (terms_at (listed_term ts) is))
 fact_is ts fs h is c linear number known constant linearly numbered =
     let us = terms_at (listed_term ts) is in
@@ -63,8 +63,8 @@ fact_is ts fs h is c linear number known constant linearly numbered =
     let by_linear : linear ≡ (is_linear_node h (constant_values us) && are_linear us) =
     linearly ∙ ap (λ cs. is_linear_node h cs && are_linear_at fs is) same
     ∙ ap (λ b. is_linear_node h (constant_values us) && b) (ap (λ l. are_linear_at l is) known ∙ linear_listed ts is) in
-    let by_number : number ≡ (not (is_bool (head_sort h)) || hold_number us) =
-    numbered ∙ ap (λ b. not (is_bool (head_sort h)) || b) (ap (λ l. hold_number_at l is) known ∙ numbers_listed ts is) in
+    let by_number : number ≡ (is_numeric h || hold_number us) =
+    numbered ∙ ap (λ b. is_numeric h || b) (ap (λ l. hold_number_at l is) known ∙ numbers_listed ts is) in
     ap (λ x. fact_with x linear number) by_constant
     ∙ ap (λ x. fact_with (head_constant h (constant_values us)) x number) by_linear
     ∙ ap (fact_with (head_constant h (constant_values us)) (is_linear_node h (constant_values us) && are_linear us)) by_number
@@ -157,7 +157,7 @@ pub next : {Y : Type 0} (F : List ℕ → Y) (is : List ℕ) (k i : ℕ) → k <
 next F is k i below read = at_drop_more F is k i below ∙ ap (λ x. F (x ∷ drop (k + 1) is)) (sym read)
 
 -- what comes to nothing stays so
-pub folded_none : (op : Operator) (cs : List (Option Fraction)) → folded op None cs ≡ None
+pub folded_none : (op : Arithmetic) (cs : List (Option Fraction)) → folded op None cs ≡ None
 folded_none op [] = refl
 folded_none op (c ∷ cs) = folded_none op cs
 

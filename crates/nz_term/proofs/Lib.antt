@@ -1,9 +1,10 @@
-pub mod Companions
+pub mod Adding
 pub mod Equality
 pub mod Firsts
 pub mod Instancing
 pub mod Keys
 pub mod Knowledge
+pub mod ListedTerms
 pub mod Numbers
 pub mod Places
 pub mod Tables

@@ -9,7 +9,7 @@ use Rattle.std.proofs.lemmas.Bool.Decides.{Decides-int_eq, nat_tests}
 use Rattle.std.proofs.lemmas.Int.{to_z_pos}
 use Rattle.nz_spec.specs.Bounds.{place_limit}
 use Rattle.nz_spec.specs.Fraction.{Fraction, IsNumber, denominator, exceeds, fraction_eq, largest, ratio}
-use Rattle.nz_spec.specs.Term.{decimal_number, head_fits, is_zero, scaled}
+use Rattle.nz_spec.specs.Term.{decimal_number, head_fits, is_zero, decimal_value}
 
 -- one of so few places fits
 pub power_below : (places : ℕ) → places ≤ place_limit → 10 ^ places < 2 ^ 127
@@ -26,7 +26,7 @@ is_not_zero q e z =
 
 -- a decimal that is a number, as it is made of its digits and its power of ten
 pub of_is : (o : Option Fraction) (num den : ℤ) (n p : ℕ) → (IsSome o ↔ ((den ≢ pos 0) × IsNumber (ratio num den))) → IfSome o (λ q. q ≡ ratio num den)
-    → num ≡ pos n → den ≡ pos (10 ^ p) → IsNumber (scaled n p) → o ≡ Some (scaled n p)
+    → num ≡ pos n → den ≡ pos (10 ^ p) → IsNumber (decimal_value n p) → o ≡ Some (decimal_value n p)
 of_is (Some q) num den n p some value over under number = ap Some (value ∙ ap (λ z. ratio z den) over ∙ ap (ratio (pos n)) under)
 of_is None num den n p some value over under number =
     let one : 1 ≤ 10 ^ p = one-le-pow p 10 (omega arith) in

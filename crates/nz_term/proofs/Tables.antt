@@ -1,15 +1,18 @@
 -- Tables that grow by a node, and that are cut.
-use Rattle.std.proofs.Common.{◌≡◌, ℕ, zero, suc, ◌<◌, ◌⊎◌, inl, inr, Bool, true, false, cond, List, [], ◌∷◌, ◌++◌, length, map, take, drop, Some, All, slice_get, refl, sym, ap, subst, ◌∙◌, arith}
+use Rattle.std.proofs.Common.{◌≡◌, ℕ, zero, suc, ◌<◌, ◌⊎◌, inl, inr, ◌||◌, Bool, true, false, cond, List, [], ◌∷◌, ◌++◌, length, map, take, drop, get_or, Option, Some, None, All, slice_get, refl, sym, ap, subst, ◌∙◌, arith, true≢false}
 use Rattle.std.proofs.lemmas.List.{map-append, take-append-drop}
-use Rattle.std.proofs.lemmas.Option.{slice_get-map}
-use Rattle.std.specs.Prelude.{option_map, IsTrue, OnOk, Result, Ok, Err}
+use Rattle.std.proofs.lemmas.List.Elements.{All-head, All-tail, All-weaker}
+use Rattle.std.proofs.lemmas.List.Quantifiers.{position-Some}
+use Rattle.std.proofs.lemmas.Option.{slice_get-map, slice_get-get_or, slice_get_within}
+use Rattle.std.specs.Prelude.{is_some, option_map, position, IsTrue, OnOk, Result, Ok, Err}
 use Rattle.std.specs.List.{IsDistinct, list_any}
 use Rattle.indexmap.specs.IndexSet.{insert_key}
 use Rattle.nz_spec.specs.Term.{apply, head_fits}
 use Rattle.nz_spec.specs.Table as table
-use Rattle.nz_spec.specs.Table.{IsTable, term_in, terms_at}
+use Rattle.nz_spec.specs.Table.{HasItsArguments, HasOneNumberEach, IsTable, term_in, terms_at}
 use Rattle.nz_spec.proofs.Tables as laws
 use Rattle.nz_term.specs.declared.nodes.Node.{Node}
+use Rattle.nz_term.specs.Found.{IsFound}
 use Rattle.nz_term.specs.Growth.{GoesOn}
 use Rattle.nz_term.specs.Nodes.{node_of}
 use Rattle.nz_term.specs.contracts.nodes.NodePartialEq.TheImpl as nodes
@@ -44,11 +47,16 @@ front_table ns m t =
       before = λ i n at. t.before i n (back i n at);
       once = λ i j n at beside. t.once i j n (back i n at) (back j n beside);
       fits = λ i n at. t.fits i n (back i n at);
+      leaves = λ i n at. t.leaves i n (back i n at);
     }
 
 grown_fits : (ns : List table.Node) (n : table.Node) → IsTable ns → IsTrue (head_fits n.head)
     → (i : ℕ) (m : table.Node) → slice_get (ns ++ n ∷ []) i ≡ Some m → IsTrue (head_fits m.head)
 grown_fits ns n t fits i m at = elim (came ns n i m at) [ inl there ↦ t.fits i m there | inr last ↦ subst (λ x. IsTrue (head_fits x.head)) last.1 fits ]
+
+grown_leaves : (ns : List table.Node) (n : table.Node) → IsTable ns → HasItsArguments n.head n.kids
+    → (i : ℕ) (m : table.Node) → slice_get (ns ++ n ∷ []) i ≡ Some m → HasItsArguments m.head m.kids
+grown_leaves ns n t leaf i m at = elim (came ns n i m at) [ inl there ↦ t.leaves i m there | inr last ↦ subst (λ x. HasItsArguments x.head x.kids) last.1 leaf ]
 
 grown_before : (ns : List table.Node) (n : table.Node) → IsTable ns → All (λ k. k < length ns) n.kids
     → (i : ℕ) (m : table.Node) → slice_get (ns ++ n ∷ []) i ≡ Some m → All (λ k. k < i) m.kids
@@ -87,8 +95,9 @@ made_grown ks k new e = by (list_any (node_eq k) ks) refl
     by false gone = inr (ap (map node_of) (e ∙ ap (λ c. cond c ks (ks ++ k ∷ [])) gone) ∙ map-append node_of ks (k ∷ []))
 
 pub made_table : (ks : List Node) (k : Node) (new : List Node) → new ≡ insert_key node_eq ks k → IsDistinct node_eq new
-    → IsTable (map node_of ks) → All (λ i. i < length (map node_of ks)) k.kids → IsTrue (head_fits (node_of k).head) → IsTable (map node_of new)
-made_table ks k new e distinct t within fits =
+    → IsTable (map node_of ks) → All (λ i. i < length (map node_of ks)) k.kids → IsTrue (head_fits (node_of k).head)
+    → HasItsArguments (node_of k).head (node_of k).kids → IsTable (map node_of new)
+made_table ks k new e distinct t within fits leaf =
     record {
       before = elim (made_grown ks k new e) [
         | inl same ↦ subst (λ l. (i : ℕ) (m : table.Node) → slice_get l i ≡ Some m → All (λ j. j < i) m.kids) (sym same) t.before
@@ -99,6 +108,10 @@ made_table ks k new e distinct t within fits =
         | inl same ↦ subst (λ l. (i : ℕ) (m : table.Node) → slice_get l i ≡ Some m → IsTrue (head_fits m.head)) (sym same) t.fits
         | inr more ↦ subst (λ l. (i : ℕ) (m : table.Node) → slice_get l i ≡ Some m → IsTrue (head_fits m.head)) (sym more) (grown_fits (map node_of ks) (node_of k) t fits)
       ];
+      leaves = elim (made_grown ks k new e) [
+        | inl same ↦ subst (λ l. (i : ℕ) (m : table.Node) → slice_get l i ≡ Some m → HasItsArguments m.head m.kids) (sym same) t.leaves
+        | inr more ↦ subst (λ l. (i : ℕ) (m : table.Node) → slice_get l i ≡ Some m → HasItsArguments m.head m.kids) (sym more) (grown_leaves (map node_of ks) (node_of k) t leaf)
+      ];
     }
 
 -- the node at the place where a key equal to it stands
@@ -106,6 +119,55 @@ pub made_node : (new : List Node) (k : Node) (id : ℕ) → (stored : Node) × (
     → slice_get (map node_of new) id ≡ Some (node_of k)
 made_node new k id found =
     slice_get-map node_of new id ∙ ap (option_map node_of) found.1 ∙ ap Some (sym (same_node k found.0 found.2))
+
+-- numbers of the same terms are the same
+same_numbers : (ns : List table.Node) → HasOneNumberEach ns → (is js : List ℕ) → All (λ i. i < length ns) is → All (λ j. j < length ns) js
+    → terms_at (term_in ns) is ≡ terms_at (term_in ns) js → is ≡ js
+same_numbers ns one [] [] h k e = refl
+same_numbers ns one [] (j ∷ js) h k e = cc
+same_numbers ns one (i ∷ is) [] h k e = cc
+same_numbers ns one (i ∷ is) (j ∷ js) h k e =
+    let first : term_in ns i ≡ term_in ns j = cc in
+    let rest : terms_at (term_in ns) is ≡ terms_at (term_in ns) js = cc in
+    let below = λ (i : ℕ). i < length ns in
+    ap (λ l. i ∷ l) (same_numbers ns one is js (All-tail below i is h) (All-tail below j js k) rest)
+    ∙ ap (λ n. n ∷ js) (one i j (All-head below i is h) (All-head below j js k) first)
+
+neither : (a b : Bool) → (a || b) ≡ false → (a ≡ false) × (b ≡ false)
+neither false b e = (refl, e)
+neither true b e = absurd (true≢false e)
+
+-- a key that no key is equal to is at no place
+missing : (ks : List Node) (k : Node) → list_any (node_eq k) ks ≡ false → (i : ℕ) → slice_get (map node_of ks) i ≡ Some (node_of k) → ⊥
+missing [] k gone i at = cc
+missing (y ∷ ys) k gone zero at =
+    let same : node_of y ≡ node_of k = cc in
+    true≢false (sym (tells_nodes k y (sym same)) ∙ (neither (node_eq k y) (list_any (node_eq k) ys) gone).0)
+missing (y ∷ ys) k gone (suc i) at = missing ys k (neither (node_eq k y) (list_any (node_eq k) ys) gone).1 i at
+
+-- where a key is looked up, its term is found
+pub found : (ks : List Node) (k : Node) (o : Option ℕ) → o ≡ position (node_eq k) ks → is_some o ≡ list_any (node_eq k) ks
+    → IsTable (map node_of ks) → All (λ i. i < length (map node_of ks)) k.kids
+    → IsFound (map node_of ks) (apply (node_of k).head (terms_at (term_in (map node_of ks)) k.kids)) o
+found ks k (Some i) at any t within =
+    let ns = map node_of ks in
+    let place = position-Some (node_eq k) ks i k (sym at) in
+    let there : slice_get ns i ≡ Some (node_of k) = made_node ks k i (get_or ks i k, slice_get-get_or ks i k place.0, place.1) in
+    (slice_get_within ns i (node_of k) there, laws.term_of_node ns t i (node_of k) there)
+found ks k None at any t within =
+    λ there.
+    let ns = map node_of ks in
+    let i = there.0 in
+    let n = get_or ns i (node_of k) in
+    let stands : slice_get ns i ≡ Some n = slice_get-get_or ns i (node_of k) there.1 in
+    let term : apply n.head (terms_at (term_in ns) n.kids) ≡ apply (node_of k).head (terms_at (term_in ns) k.kids) = sym (laws.term_of_node ns t i n stands) ∙ there.2 in
+    let head : n.head ≡ (node_of k).head = cc in
+    let arguments : terms_at (term_in ns) n.kids ≡ terms_at (term_in ns) k.kids = cc in
+    let inside : i < length ns = there.1 in
+    let below = All-weaker (λ j. j < i) (λ j. j < length ns) (λ j small. omega arith) n.kids (t.before i n stands) in
+    let kids : n.kids ≡ k.kids = same_numbers ns (laws.one_number ns t) n.kids k.kids below within arguments in
+    let same : n ≡ node_of k = λ j. record { head = head j; kids = kids j } in
+    missing ks k (sym any) i (stands ∙ ap Some same)
 
 -- what holds in any case holds after a success
 pub on_ok : {T E P : Type 0} (r : Result T E) → P → OnOk r P

@@ -1,7 +1,7 @@
 -- What a table knows of its terms.
 use Rattle.std.specs.Prelude.{◌≡◌, ℕ, List, [], ◌∷◌, map, fold, Bool, false, not, Option, Some, None, is_some, unwrap_or, slice_index_or, pos, if◌then◌else◌}
 use Rattle.std.specs.List.{list_all, list_any}
-use Rattle.nz_spec.specs.Fraction.{Fraction, whole, Operator}
+use Rattle.nz_spec.specs.Fraction.{Fraction, whole, Arithmetic}
 use Rattle.nz_spec.specs.Term.{Term, apply, no_terms, falsum, is_zero, holds_number}
 use Rattle.nz_spec.specs.Table.{Node, IsTable, with_term}
 use Rattle.nz_spec.specs.Linear.{constant_value, folded, is_linear}
@@ -35,7 +35,7 @@ abbrev pub hold_number_at : List Fact → List ℕ → Bool
 hold_number_at fs is = list_any (λ i. (fact_at fs i).holds_number) is
 
 -- an operation over all of these constants, from the left
-abbrev pub folded_all : Operator → List (Option Fraction) → Option Fraction
+abbrev pub folded_all : Arithmetic → List (Option Fraction) → Option Fraction
 folded_all op [] = None
 folded_all op (c ∷ cs) = folded op c cs
 

@@ -1,5 +1,6 @@
 pub mod Constants
 pub mod Facts
+pub mod Found
 pub mod Growth
 pub mod Heads
 pub mod Instances

@@ -1,8 +1,8 @@
 -- Term lists that are being made.
 use Rattle.std.specs.Prelude.{◌≡◌, ℕ, ◌<◌, ◌↔◌, List, [], ◌∷◌, ◌++◌, map, length, true, false, slice_index_or, All, Contains, Option, Some, None}
-use Rattle.nz_spec.specs.Term.{Head, integer_quotient, modulus, to_int, is_int, Term, apply}
+use Rattle.nz_spec.specs.Term.{Head, integer_quotient, modulus, to_int, is_int, Term}
 use Rattle.nz_spec.specs.Table.{Node, term_in}
-use Rattle.nz_spec.specs.Order.{companions, AreFirst}
+use Rattle.nz_spec.specs.Order.{companions_of, AreFirst}
 use Rattle.nz_term.specs.declared.listings.Listing.{Listing}
 
 -- the head of the companion of a term
@@ -10,9 +10,6 @@ abbrev pub companion_head : Head → Option Head
 companion_head modulus = Some integer_quotient
 companion_head is_int = Some to_int
 companion_head h = None
-
-abbrev pub companions_of : Term → List Term
-companions_of (apply h ts) = companions h ts
 
 -- a term as a term list takes it, behind its companions
 abbrev pub with_companions : Term → List Term

@@ -19,7 +19,7 @@ pub enum Value {
 }
 
 /// Numbers of constants, each with its value, in order. A contract sees them as a list of pairs; by a table they give
-/// each constant of the list its value, and any other `false`.
+/// each constant of the list its value, and any other the default of its sort.
 #[derive(Debug, Drop)]
 pub struct Assign {
     pairs: Vec<(TermId, Value)>,

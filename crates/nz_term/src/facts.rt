@@ -4,7 +4,7 @@ ghost use Rattle.nz_spec.specs.Bounds.{place_limit};
 ghost use Rattle.nz_spec.specs.Fraction.{exceeds, whole};
 ghost use Rattle.nz_spec.specs.Linear.{are_divisors, divides_by_constants, folded, folded_step, head_constant, is_linear_node, variable_count};
 ghost use Rattle.nz_spec.specs.Table.{listed_term, terms_at};
-ghost use Rattle.nz_spec.specs.Term.{Term, apply, bool_sort, decimal_number, difference, head_fits, head_sort, is_bool, is_zero, scaled};
+ghost use Rattle.nz_spec.specs.Term.{Term, apply, decimal_number, difference, head_fits, is_numeric, is_zero, over_int, decimal_value};
 ghost use Rattle.nz_term.specs.Facts.{are_linear_at, constant_in, constants_at, fact_at, fact_of, fact_with, folded_all, hold_number_at, is_divisor};
 ghost use Rattle.nz_frac.specs.Operations.{operator_of};
 ghost use Rattle.nz_term.specs.Heads.{head_of};
@@ -117,7 +117,7 @@ fn integer(n: u128) -> Option<Frac>
 /// The number of a decimal: its digits, and how many of them stand after the point.
 fn decimal(digits: u128, places: usize) -> Option<Frac>
     requires fits { IsTrue (head_fits (decimal_number digits places)) }
-    ensures number { result ≡ Some (scaled digits places) }
+    ensures number { result ≡ Some (decimal_value digits places) }
 {
     decimals_are_numbers();
     Frac::of(signed(digits), power_of_ten(places))
@@ -143,7 +143,7 @@ fn power_of_ten(places: usize) -> i128
 /// The negation of one constant, or the difference of several, from the left.
 fn difference(facts: &[Fact], kids: &[TermId]) -> Option<Frac>
     requires within { All (λ k. k < length facts.now) kids.now }
-    ensures difference { result ≡ head_constant (difference bool_sort) (constants_at facts.now kids.now) }
+    ensures difference { result ≡ head_constant (difference over_int) (constants_at facts.now kids.now) }
 {
     match kids {
         [kid] => Some(known(facts, *kid).constant()?.neg()),
@@ -294,22 +294,22 @@ fn are_linear(facts: &[Fact], kids: &[TermId]) -> bool
     true
 }
 
-/// Whether the term of this head over these terms, or one that it is made of, is of sort `Int` or `Real`.
+/// Whether the term of this head over these terms, or one that it is made of, is numeric.
 fn holds_number_over(facts: &[Fact], head: &Head, kids: &[TermId]) -> bool
     requires within { All (λ k. k < length facts.now) kids.now }
-    ensures holds { result ≡ (not (is_bool (head_sort (head_of head.now))) || hold_number_at facts.now kids.now) }
+    ensures holds { result ≡ (is_numeric (head_of head.now) || hold_number_at facts.now kids.now) }
 {
-    is_number(head) || hold_number(facts, kids)
+    is_numeric(head) || hold_number(facts, kids)
 }
 
-/// Whether a term of this head is of sort `Int` or `Real`.
-fn is_number(head: &Head) -> bool
-    ensures number { result ≡ not (is_bool (head_sort (head_of head.now))) }
+/// Whether a term of this head is of sort `Int` or `Real`, or asks something of one that is.
+fn is_numeric(head: &Head) -> bool
+    ensures numeric { result ≡ is_numeric (head_of head.now) }
 {
-    head.sort() != Sort::Bool
+    matches!(head, Head::IsInt) || head.sort() != Sort::Bool
 }
 
-/// Whether one of these terms is of sort `Int` or `Real`, or made of one that is.
+/// Whether one of these terms is numeric, or made of one that is.
 fn hold_number(facts: &[Fact], kids: &[TermId]) -> bool
     requires within { All (λ k. k < length facts.now) kids.now }
     ensures hold { result ≡ hold_number_at facts.now kids.now }

@@ -3,8 +3,9 @@ ghost use Rattle.std.specs.Prelude.{◌≡◌, bytes_eq};
 ghost use Rattle.std.specs.Cmp.{on_equiv, on_per, partial_equiv_from_equiv};
 ghost use Rattle.std.specs.Cmp.Lexicographic.{bytes_decides, nat_list_eq_equiv};
 ghost use Rattle.std.specs.Hash.{on_Alike, same_Alike};
-ghost use Rattle.nz_spec.specs.Term.{head_sort};
-ghost use Rattle.nz_term.specs.Constants.{sort_of};
+ghost use Rattle.nz_spec.specs.Elaboration.{numbers_at};
+ghost use Rattle.nz_spec.specs.Term.{head_sort, sort_over};
+ghost use Rattle.nz_term.specs.Constants.{number_sort_of, sort_of};
 ghost use Rattle.nz_term.specs.Heads.{head_of};
 ghost use Rattle.nz_term.specs.Parts.{digits_in, fed_of, kind_of, name_in, parts_of, place_in, sort_number};
 
@@ -29,6 +30,35 @@ impl Sort {
             Sort::Bool => 0,
             Sort::Int => 1,
             Sort::Real => 2,
+        }
+    }
+}
+
+/// A sort of numbers, over which an operator may be.
+#[derive(Clone, Copy, Debug, PartialEq, Eq, Hash)]
+pub enum NumberSort {
+    Int,
+    Real,
+}
+
+impl NumberSort {
+    /// The sort of numbers that are read at a sort.
+    pub fn of(sort: Sort) -> NumberSort
+        ensures of { number_sort_of result ≡ numbers_at (sort_of sort) }
+    {
+        match sort {
+            Sort::Int => NumberSort::Int,
+            Sort::Bool | Sort::Real => NumberSort::Real,
+        }
+    }
+
+    /// The sort that it is.
+    pub fn sort(self) -> Sort
+        ensures sort { sort_of result ≡ sort_over (number_sort_of self) }
+    {
+        match self {
+            NumberSort::Int => Sort::Int,
+            NumberSort::Real => Sort::Real,
         }
     }
 }
@@ -77,10 +107,10 @@ pub enum Head {
     Less,
     /// `<=`, of two arguments.
     AtMost,
-    Sum(Sort),
+    Sum(NumberSort),
     /// Of one argument, its negation.
-    Difference(Sort),
-    Product(Sort),
+    Difference(NumberSort),
+    Product(NumberSort),
     /// `/`, of two arguments.
     Quotient,
     /// `div`, of two arguments.
@@ -101,11 +131,8 @@ impl Head {
     {
         match self {
             Head::Constant(constant) => constant.sort,
-            Head::Parameter(_, sort)
-            | Head::Ite(sort)
-            | Head::Sum(sort)
-            | Head::Difference(sort)
-            | Head::Product(sort) => *sort,
+            Head::Parameter(_, sort) | Head::Ite(sort) => *sort,
+            Head::Sum(sort) | Head::Difference(sort) | Head::Product(sort) => sort.sort(),
             Head::Integer(_) | Head::Div | Head::Mod | Head::Abs | Head::ToInt => Sort::Int,
             Head::Decimal(_, _) | Head::Quotient | Head::ToReal => Sort::Real,
             _ => Sort::Bool,

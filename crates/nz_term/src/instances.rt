@@ -1,6 +1,5 @@
 //! Instances of definitions: a body with terms for its parameters.
-ghost use Rattle.std.specs.Prelude.{◌≡◌, ◌<◌, length, map, slice_index, All, IfOk, is_some};
-ghost use Rattle.nz_spec.specs.Term.{constant_of};
+ghost use Rattle.std.specs.Prelude.{◌≡◌, ◌<◌, length, map, slice_index, All, IfOk};
 ghost use Rattle.nz_spec.specs.Table.{term_in, terms_at};
 ghost use Rattle.nz_spec.specs.Elaboration.{instance_of};
 ghost use Rattle.nz_term.specs.Growth.{Grows};
@@ -62,11 +61,6 @@ fn node_instance(
     if instances.as_slice() == kids {
         return Ok(id);
     }
-
-    // A constant has no arguments that could change; were it to have some, its instance would be a new constant.
-    if is_constant(&node.head) {
-        return Err(Memory);
-    }
     let head = node.head.clone()?;
     terms.make(head, instances.as_slice())
 }
@@ -79,13 +73,6 @@ fn argument(head: &Head, arguments: &[TermId]) -> Option<TermId>
         Head::Parameter(place, _) => arguments.get(*place).copied(),
         _ => None,
     }
-}
-
-/// Whether the head is a declared constant.
-fn is_constant(head: &Head) -> bool
-    ensures constant { result ≡ is_some (constant_of (head_of head.now)) }
-{
-    matches!(head, Head::Constant(_))
 }
 
 /// What is listed for each of these numbers.

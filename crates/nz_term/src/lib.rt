@@ -5,6 +5,7 @@
 #![tactic(auto)]
 
 mod assign;
+mod companions;
 mod facts;
 mod heads;
 mod instances;
@@ -12,11 +13,10 @@ mod listings;
 mod nodes;
 mod order;
 mod terms;
-#[cfg(test)]
-mod tests;
 
 pub use assign::{Assign, Value};
-pub use heads::{Constant, Head, Sort};
+pub use companions::add_companions;
+pub use heads::{Constant, Head, NumberSort, Sort};
 pub use instances::instance;
 pub use listings::listing_order;
 pub use nodes::{Ids, Node, TermId};

@@ -1,14 +1,12 @@
 //! The order in which a term list has shared terms: that of their parts, with what it has besides these.
-ghost use Rattle.std.specs.Prelude.{◌≡◌, ◌<◌, ◌≤◌, ◌++◌, [], ◌∷◌, List, length, map, flat_map, All, IfOk, OnOk, option_map};
-ghost use Rattle.nz_spec.specs.Order.{listing_order, AreFirst};
+ghost use Rattle.std.specs.Prelude.{◌≡◌, ◌<◌, ◌++◌, [], ◌∷◌, List, length, map, flat_map, All, IfOk, OnOk};
+ghost use Rattle.nz_spec.specs.Order.{listing_order, AreFirst, HasCompanions};
 ghost use Rattle.nz_spec.specs.Table.{term_in, HasOneNumberEach};
 ghost use Rattle.nz_spec.specs.Table as table;
 ghost use Rattle.nz_spec.specs.Term as spec;
-ghost use Rattle.nz_term.specs.Growth.{Grows};
-ghost use Rattle.nz_term.specs.Heads.{head_of};
-ghost use Rattle.nz_term.specs.Listings.{companion_head, with_companions, AreCompanions, IsListing};
+ghost use Rattle.nz_term.specs.Listings.{with_companions, AreCompanions, IsListing};
 
-use crate::heads::Head;
+use crate::companions::companion_head;
 use crate::nodes::TermId;
 use crate::order::post_order;
 use crate::terms::Terms;
@@ -17,21 +15,18 @@ use nz_spec::table::one_number;
 use std::alloc::Global;
 
 /// The terms of these roots with all that they are made of, each once, as a term list has them: in post-order, and just
-/// before a remainder its quotient, before a test of an integer the rounded number, each made where the table hasn't it.
-pub fn listing_order(
-    alloc: Global,
-    terms: &mut Terms,
-    roots: &[TermId],
-) -> Result<Vec<TermId>, Memory>
-    requires within { All (λ r. r < length terms.old) roots.now }
-    ensures grows { Grows terms.old terms.new }
-    ensures order { IfOk result (λ ids. AreFirst [] (flat_map listing_order (map (term_in terms.old) roots.now)) (map (term_in terms.new) ids.items)) }
-    ensures within { IfOk result (λ ids. All (λ i. i < length terms.new) ids.items) }
+/// before a remainder its quotient, before a test of an integer the rounded number.
+pub fn listing_order(alloc: Global, terms: &Terms, roots: &[TermId]) -> Result<Vec<TermId>, Memory>
+    requires within { All (λ r. r < length terms.now) roots.now }
+    requires companions { HasCompanions terms.now }
+    ensures order { IfOk result (λ ids. AreFirst [] (flat_map listing_order (map (term_in terms.now) roots.now)) (map (term_in terms.now) ids.items)) }
+    ensures within { IfOk result (λ ids. All (λ i. i < length terms.now) ids.items) }
 {
+    one_number();
     let order = post_order(alloc, terms, roots)?;
     let mut listing = Listing::new(alloc, terms.len())?;
     for id in &order {
-        list_term(alloc, terms, &mut listing, *id)?;
+        list_term(terms, &mut listing, *id)?;
     }
     Ok(listing.ids)
 }
@@ -56,16 +51,6 @@ impl Listing {
         })
     }
 
-    /// Goes on in a table that has grown to so many terms.
-    fn reach(&mut self, count: usize) -> Result<(), Memory>
-        requires room { length self.old.is_listed.items ≤ count }
-        ensures room { OnOk result (length self.new.is_listed.items ≡ count) }
-        ensures listed { OnOk result ((ns new : List table.Node) (all : List spec.Term) → Grows ns new → count ≡ length new → IsListing ns all self.old → IsListing new all self.new) }
-    {
-        self.is_listed.resize(count, false)?;
-        Ok(())
-    }
-
     /// Puts a number at the end, where it isn't listed.
     fn list(&mut self, id: TermId) -> Result<(), Memory>
         requires room { id < length self.old.is_listed.items }
@@ -82,22 +67,14 @@ impl Listing {
 }
 
 /// Lists a term behind its companion, where it has one, each if it isn't listed.
-fn list_term(
-    alloc: Global,
-    terms: &mut Terms,
-    listing: &mut Listing,
-    id: TermId,
-) -> Result<(), Memory>
-    requires within { id < length terms.old }
-    requires room { length listing.old.is_listed.items ≡ length terms.old }
-    ensures grows { Grows terms.old terms.new }
-    ensures room { OnOk result (length listing.new.is_listed.items ≡ length terms.new) }
-    ensures listed { OnOk result ((all : List spec.Term) → IsListing terms.old all listing.old → IsListing terms.new (all ++ with_companions (term_in terms.old id)) listing.new) }
+fn list_term(terms: &Terms, listing: &mut Listing, id: TermId) -> Result<(), Memory>
+    requires within { id < length terms.now }
+    requires companions { HasCompanions terms.now }
+    requires room { length listing.old.is_listed.items ≡ length terms.now }
+    ensures room { OnOk result (length listing.new.is_listed.items ≡ length terms.now) }
+    ensures listed { OnOk result ((all : List spec.Term) → HasOneNumberEach terms.now → IsListing terms.now all listing.old → IsListing terms.now (all ++ with_companions (term_in terms.now id)) listing.new) }
 {
-    one_number();
-    let made = companion(alloc, terms, id)?;
-    listing.reach(terms.len())?;
-    match made {
+    match companion(terms, id)? {
         Some(companion) => {
             listing.list(companion)?;
             listing.list(id)
@@ -106,29 +83,15 @@ fn list_term(
     }
 }
 
-/// The number of what a term list has just before this term, made where the table hasn't it.
-fn companion(alloc: Global, terms: &mut Terms, id: TermId) -> Result<Option<TermId>, Memory>
-    requires within { id < length terms.old }
-    ensures grows { Grows terms.old terms.new }
-    ensures companion { IfOk result (AreCompanions terms.new (term_in terms.old id)) }
+/// The number of what a term list has just before this term.
+fn companion(terms: &Terms, id: TermId) -> Result<Option<TermId>, Memory>
+    requires within { id < length terms.now }
+    requires companions { HasCompanions terms.now }
+    ensures companion { IfOk result (AreCompanions terms.now (term_in terms.now id)) }
 {
     let node = terms.node(id);
-    let head = match companion_head(&node.head) {
-        Some(head) => head,
-        None => return Ok(None),
-    };
-    let kids = Vec::from_slice(alloc, node.kids.as_slice())?;
-    let made = terms.make(head, kids.as_slice())?;
-    Ok(Some(made))
-}
-
-/// The head of what a term list has just before a term of this head.
-fn companion_head(head: &Head) -> Option<Head>
-    ensures companion { option_map head_of result ≡ companion_head (head_of head.now) }
-{
-    match head {
-        Head::Mod => Some(Head::Div),
-        Head::IsInt => Some(Head::ToInt),
-        _ => None,
+    match companion_head(&node.head) {
+        Some(head) => terms.find(head, node.kids.as_slice()),
+        None => Ok(None),
     }
 }

@@ -2,8 +2,9 @@
 ghost use Rattle.std.specs.Prelude.{◌≡◌, ℕ, ◌<◌, ◌==◌, ◌⊎◌, [], ◌∷◌, ◌++◌, length, map, take, All, Some, IsTrue, IfOk, OnOk, OnErr, IsOkAnd, option_map, slice_get};
 ghost use Rattle.nz_spec.specs.Linear.{constant_value, is_linear};
 ghost use Rattle.nz_spec.specs.Term.{apply, head_fits, holds_number};
-ghost use Rattle.nz_spec.specs.Table.{IsTable, HasOneNumberEach, term_in, terms_at};
+ghost use Rattle.nz_spec.specs.Table.{HasItsArguments, HasOneNumberEach, IsTable, term_in, terms_at};
 ghost use Rattle.nz_term.specs.Facts.{fact_of};
+ghost use Rattle.nz_term.specs.Found.{IsFound};
 ghost use Rattle.nz_term.specs.Growth.{GoesOn};
 ghost use Rattle.nz_term.specs.Heads.{head_of};
 ghost use Rattle.nz_term.specs.Nodes.{node_of, node_with};
@@ -51,10 +52,11 @@ impl Terms {
     }
 
     /// The number of the term of this head over the terms of these numbers. A term that is there already has the number
-    /// that it had. A numeral or decimal must be a number.
+    /// that it had. A numeral or decimal must be a number, and a constant has no arguments.
     pub fn make(&mut self, head: Head, kids: &[TermId]) -> Result<TermId, Memory>
         requires within { All (λ k. k < length self.old) kids.now }
         requires fits { IsTrue (head_fits (head_of head)) }
+        requires leaves { HasItsArguments (head_of head) kids.now }
         ensures node { IfOk result (λ id. slice_get self.new id ≡ Some (node_with head kids.now)) }
         ensures term { IfOk result (λ id. term_in self.new id ≡ apply (head_of head) (terms_at (term_in self.old) kids.now)) }
         ensures grown { OnOk result ((self.new ≡ self.old) ⊎ (self.new ≡ self.old ++ node_with head kids.now ∷ [])) }
@@ -83,6 +85,19 @@ impl Terms {
         fact_over(self.facts.as_slice(), head, kids)
     }
 
+    /// The number of the term of this head over the terms of these numbers, where the table has it. The memory is for the
+    /// key that it is looked up by.
+    pub fn find(&self, head: Head, kids: &[TermId]) -> Result<Option<TermId>, Memory>
+        requires within { All (λ k. k < length self.now) kids.now }
+        ensures found { IfOk result (IsFound self.now (apply (head_of head) (terms_at (term_in self.now) kids.now))) }
+    {
+        let key = Node {
+            head,
+            kids: Ids::from_slice(*self.nodes.allocator(), kids)?,
+        };
+        Ok(self.nodes.get_index_of(&key))
+    }
+
     /// The node of a number.
     pub fn node(&self, id: TermId) -> &Node
         requires { id < length self.now }
@@ -90,6 +105,7 @@ impl Terms {
         ensures term { term_in self.now id ≡ apply (head_of result.now.head) (terms_at (term_in self.now) result.now.kids) }
         ensures before { All (λ k. k < id) result.now.kids }
         ensures fits { IsTrue (head_fits (head_of result.now.head)) }
+        ensures leaves { HasItsArguments (head_of result.now.head) result.now.kids }
     {
         &self.nodes.as_slice()[id]
     }
@@ -172,6 +188,7 @@ fn put(nodes: &mut IndexSet<Node>, node: Node) -> Result<TermId, Memory>
     requires table { IsTable (map node_of nodes.old.keys) }
     requires within { All (λ k. k < length (map node_of nodes.old.keys)) node.kids }
     requires fits { IsTrue (head_fits (head_of node.head)) }
+    requires leaves { HasItsArguments (head_of node.head) node.kids }
     ensures goes_on { GoesOn (map node_of nodes.old.keys) (node_of node) (map node_of nodes.new.keys) }
     ensures table { IsTable (map node_of nodes.new.keys) }
     ensures node { IfOk result (λ id. slice_get (map node_of nodes.new.keys) id ≡ Some (node_of node)) }

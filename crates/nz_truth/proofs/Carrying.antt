@@ -5,7 +5,7 @@ use Rattle.nz_frac.specs.Operations.{operation_of, operator_of}
 use Rattle.nz_frac.specs.declared.frac.Op.{Op}
 use Rattle.nz_frac.specs.declared.frac.Op.TheVariants as op
 use Rattle.nz_frac.specs.declared.frac.Wide.{Wide}
-use Rattle.nz_spec.specs.Fraction.{Fraction, Operator, Quotient, Operation, first_wide, is_wide, outcome, whole}
+use Rattle.nz_spec.specs.Fraction.{Fraction, Arithmetic, Quotient, Operation, first_wide, is_wide, outcome, whole}
 use Rattle.std.proofs.Math.Seq.{drop-cons}
 use Rattle.nz_spec.specs.Operations.{head_operations, operation_on, operations_by}
 use Rattle.nz_spec.specs.Term.{Assignment, Head, Value, carried_out, combined, head_value, number, number_of, is_undefined, is_zero, whole_number}
@@ -21,17 +21,17 @@ narrow true h = absurd (true≢false (sym (h.1 refl)))
 narrow false h = refl
 
 -- one operation that stays among the numbers
-pub stays : (op : Operator) (p q : Fraction) → is_undefined op q ≡ false → is_wide op p q ≡ false → first_wide (operation_on op p q) ≡ None
+pub stays : (op : Arithmetic) (p q : Fraction) → is_undefined op q ≡ false → is_wide op p q ≡ false → first_wide (operation_on op p q) ≡ None
 unfolding first_wide
 stays op p q defined e = rw (defined, e)
 
 -- and one that doesn't
-pub leaves : (op : Operator) (p q : Fraction) → is_undefined op q ≡ false → is_wide op p q ≡ true → first_wide (operation_on op p q) ≡ Some (record { operator = op; left = p; right = q })
+pub leaves : (op : Arithmetic) (p q : Fraction) → is_undefined op q ≡ false → is_wide op p q ≡ true → first_wide (operation_on op p q) ≡ Some (record { operator = op; left = p; right = q })
 unfolding first_wide
 leaves op p q defined e = rw (defined, e)
 
 -- what it comes to
-pub comes_to : (op : Operator) (p q r : Fraction) → is_undefined op q ≡ false → r ≡ outcome op p q → number r ≡ carried_out op (number p) (number q)
+pub comes_to : (op : Arithmetic) (p q r : Fraction) → is_undefined op q ≡ false → r ≡ outcome op p q → number r ≡ carried_out op (number p) (number q)
 comes_to op p q r defined e = rw defined (ap number e)
 
 -- ---- Operations of the code
@@ -90,18 +90,18 @@ pub from_item : {A : Type 0} (xs : List A) (k : ℕ) (x : A) → k < length xs �
 from_item xs k x inside e = drop-cons xs k x inside ∙ ap (λ y. y ∷ drop (suc k) xs) (sym e) ∙ ap (λ n. x ∷ drop n xs) (sym (add-one k))
 
 -- one step that is carried out
-pub same_value : (op : Operator) (v w : Value) (ws : List Value) (r : Fraction) → IsCarriedOut op (number_of v) (number_of w) r
+pub same_value : (op : Arithmetic) (v w : Value) (ws : List Value) (r : Fraction) → IsCarriedOut op (number_of v) (number_of w) r
     → combined (carried_out op) (number r) ws ≡ combined (carried_out op) v (w ∷ ws)
 same_value op v w ws r h = ap (λ x. combined (carried_out op) x ws) h.1
 
-pub same_stop : (op : Operator) (v w : Value) (ws : List Value) (r : Fraction) → IsCarriedOut op (number_of v) (number_of w) r
+pub same_stop : (op : Arithmetic) (v w : Value) (ws : List Value) (r : Fraction) → IsCarriedOut op (number_of v) (number_of w) r
     → first_wide (operations_by op (number r) ws) ≡ first_wide (operations_by op v (w ∷ ws))
 same_stop op v w ws r h =
     ap (λ x. first_wide (operations_by op x ws)) h.1
     ∙ sym (first_wide-none (operation_on op (number_of v) (number_of w)) (operations_by op (carried_out op v w) ws) h.0)
 
 -- and one that isn't
-pub stop_here : (op : Operator) (v w : Value) (ws : List Value) (x : Wide) → IsStopped op (number_of v) (number_of w) x
+pub stop_here : (op : Arithmetic) (v w : Value) (ws : List Value) (x : Wide) → IsStopped op (number_of v) (number_of w) x
     → first_wide (operations_by op v (w ∷ ws)) ≡ Some (operation_of x)
 stop_here op v w ws x h = first_wide-some (operation_on op (number_of v) (number_of w)) (operations_by op (carried_out op v w) ws) (operation_of x) h
 

@@ -1,5 +1,5 @@
 -- The truth of terms that hold no number, node by node.
-use Rattle.std.proofs.Common.{◌≡◌, inl, inr, ℕ, suc, ◌+◌, ◌<◌, ◌&&◌, ◌||◌, Bool, true, false, not, nat_lt, nat_eq, List, [], ◌∷◌, ◌++◌, length, map, take, drop, get_or, set, Option, Some, None, slice_get, slice_index_or, refl, sym, ap, subst, ◌∙◌, true≢false, arith, add-one, get_or-set_same, get_or-set_other, eqb-true}
+use Rattle.std.proofs.Common.{◌≡◌, inl, inr, ℕ, suc, ◌+◌, ◌<◌, ◌&&◌, ◌||◌, Bool, true, false, not, nat_lt, nat_eq, List, [], ◌∷◌, ◌++◌, length, map, take, drop, get_or, set, Option, Some, None, slice_get, slice_index_or, refl, sym, ap, subst, ◌∙◌, true≢false, arith, add-one, get_or-set_same, get_or-set_other}
 use Rattle.std.specs.Prelude.{Contains}
 use Rattle.std.specs.Bool.{beq}
 use Rattle.std.specs.List.{list_all, list_any, AllByRecursion}
@@ -7,17 +7,15 @@ use Rattle.std.proofs.Math.Seq.{drop-cons}
 use Rattle.std.proofs.lemmas.Bool.Decides.{eqb_tells, nat_tests}
 use Rattle.std.proofs.lemmas.List.Elements.{Contains-push_cases, recursion_from_All}
 use Rattle.std.proofs.lemmas.Option.{slice_get_within}
-use Rattle.std.proofs.lemmas.Slice.Eq.{bytes_eq-Decides}
 use Rattle.nz_spec.specs.Fraction.{denominator, floor, floor_div, fraction_eq, fraction_le, fraction_lt}
-use Rattle.nz_spec.specs.Term.{Assignment, Constant, Head, Sort, Value, all_true, apply, are_chained, are_equal, bool_sort, combined, constant, excluded, head_sort, head_value, holds_number, hold_number, int_sort, is_at_most, is_bool, is_int, is_less, is_true, IsOfSort, number, real_sort, some_true, truth, value_of, values_of}
-use Rattle.nz_spec.specs.Table.{Node, is_named, term_in, terms_at}
-use Rattle.nz_spec.specs.Decide.{HasDistinctNames, constants_in_table, constants_of_head}
+use Rattle.nz_spec.specs.Term.{Assignment, Constant, Head, Sort, Value, all_true, apply, are_chained, are_equal, bool_sort, combined, constant, excluded, head_sort, head_value, holds_number, hold_number, int_sort, is_at_most, is_bool, is_numeric, is_int, is_less, is_true, IsOfSort, number, real_sort, some_true, truth, value_of, values_of}
+use Rattle.nz_spec.specs.Table.{Node, IsTable, term_in, terms_at}
+use Rattle.nz_spec.specs.Decide.{constants_in_table, constants_of_head}
 use Rattle.nz_spec.specs.Order.{ComeBehindArguments}
-use Rattle.nz_spec.specs.Sorts.{GivesSorts}
+use Rattle.nz_spec.specs.Model.{IsAssignment}
 use Rattle.nz_truth.specs.Numbers.{AreNumbersOf, IsNumberOf}
-use Rattle.nz_truth.specs.Truths.{GivesTruths, IsTold, does_arithmetic, is_arithmetic, is_truth_head, values_by}
-use Rattle.nz_truth.proofs.Listing.{named_once}
-use Rattle.nz_truth.proofs.Numbering.{constants_around}
+use Rattle.nz_truth.specs.Truths.{GivesTruths, IsTold, values_by}
+use Rattle.nz_truth.proofs.Numbering.{constants_around, no_arguments}
 
 -- ---- Operators over truths
 
@@ -110,22 +108,28 @@ numbered ns (i ∷ is) (x ∷ xs) c ys h =
     let more = numbered ns is xs c ys h.1 in
     (more.0, (suc more.1.0, omega (arith, more.1.1), more.1.2), more.2)
 
+-- one node alone is of a constant
+same_node : (n m : Node) → n.head ≡ m.head → n.kids ≡ m.kids → n ≡ m
+same_node n m h k = ap (λ x. let r : Node = record { head = x; kids = n.kids } in r) h ∙ ap (λ x. let r : Node = record { head = m.head; kids = x } in r) k
+
+one_number : (ns : List Node) → IsTable ns → (i j : ℕ) (n m : Node) (c : Constant) → slice_get ns i ≡ Some n → slice_get ns j ≡ Some m → n.head ≡ constant c → m.head ≡ constant c → i ≡ j
+one_number ns table i j n m c at there e f =
+    let kids = no_arguments n.head n.kids c e (table.leaves i n at) ∙ sym (no_arguments m.head m.kids c f (table.leaves j m there)) in
+    table.once i j n at (there ∙ ap Some (sym (same_node n m (e ∙ sym f) kids)))
+
 -- so each node of a constant is among the numbers
-pub all_numbered : (ns : List Node) (ids : List ℕ) → HasDistinctNames ns → AreNumbersOf ns ids (constants_in_table ns) → (i : ℕ) (n : Node) (c : Constant) → slice_get ns i ≡ Some n
+pub all_numbered : (ns : List Node) (ids : List ℕ) → IsTable ns → AreNumbersOf ns ids (constants_in_table ns) → (i : ℕ) (n : Node) (c : Constant) → slice_get ns i ≡ Some n
     → n.head ≡ constant c → Contains ids i
-all_numbered ns ids d h i n c at e =
+all_numbered ns ids table h i n c at e =
     let front = constants_in_table (take i ns) in
     let back = constants_in_table (drop (suc i) ns) in
     let around : constants_in_table ns ≡ front ++ c ∷ back = constants_around ns i n at ∙ ap (λ x. front ++ (constants_of_head x ++ back)) e in
     let found = numbered ns ids front c back (subst (AreNumbersOf ns ids) around h) in
-    let j = found.0 in
-    let named : is_named (slice_get ns j) c.name ≡ true = ap (λ m. is_named m c.name) found.2.1 ∙ sym (sym ((bytes_eq-Decides c.name c.name).1 refl)) in
-    let same : j ≡ i = eqb-true j i (sym (named_once ns d i n c at e j) ∙ named) in
-    subst (Contains ids) same found.1
+    subst (Contains ids) (one_number ns table found.0 i _ n c found.2.1 at refl e) found.1
 
 -- the truth of the constant of a number
 pub told_head : Assignment → Head → Bool
-told_head a (constant c) = is_true (a c.name)
+told_head a (constant c) = is_true (a c)
 told_head a h = false
 
 pub told_node : Assignment → Option Node → Bool
@@ -135,17 +139,17 @@ told_node a (Some n) = told_head a n.head
 abbrev pub told_at : List Node → Assignment → ℕ → Bool
 told_at ns a i = told_node a (slice_get ns i)
 
-constant_at : (ns : List Node) (a : Assignment) (i : ℕ) (n : Node) (c : Constant) → slice_get ns i ≡ Some n → n.head ≡ constant c → told_at ns a i ≡ is_true (a c.name)
+constant_at : (ns : List Node) (a : Assignment) (i : ℕ) (n : Node) (c : Constant) → slice_get ns i ≡ Some n → n.head ≡ constant c → told_at ns a i ≡ is_true (a c)
 unfolding told_head told_node
 constant_at ns a i n c at e = ap (told_node a) at ∙ ap (told_head a) e
 
-numbers_map : (ns : List Node) (a : Assignment) (ids : List ℕ) (cs : List Constant) → AreNumbersOf ns ids cs → map (λ (c : Constant). is_true (a c.name)) cs ≡ map (told_at ns a) ids
+numbers_map : (ns : List Node) (a : Assignment) (ids : List ℕ) (cs : List Constant) → AreNumbersOf ns ids cs → map (λ (c : Constant). is_true (a c)) cs ≡ map (told_at ns a) ids
 numbers_map ns a [] [] h = refl
 numbers_map ns a [] (c ∷ cs) h = absurd h
 numbers_map ns a (i ∷ is) [] h = absurd h
 numbers_map ns a (i ∷ is) (c ∷ cs) h =
-    let here : is_true (a c.name) ≡ told_at ns a i = sym (constant_at ns a i _ c h.0.1 refl) in
-    let rest : map (λ (x : Constant). is_true (a x.name)) cs ≡ map (told_at ns a) is = numbers_map ns a is cs h.1 in
+    let here : is_true (a c) ≡ told_at ns a i = sym (constant_at ns a i _ c h.0.1 refl) in
+    let rest : map (λ (x : Constant). is_true (a x)) cs ≡ map (told_at ns a) is = numbers_map ns a is cs h.1 in
     cc
 
 -- what is decided is the truth of these constants
@@ -159,22 +163,13 @@ is_bool_of : (b c : Bool) → (not b || c) ≡ false → b ≡ true
 is_bool_of true c e = refl
 is_bool_of false c e = absurd (true≢false e)
 
-both_true : (b c : Bool) → b ≡ true → c ≡ false → (b && not c) ≡ true
-both_true true false e f = refl
-both_true true true e f = absurd (true≢false f)
-both_true false c e f = e
+numberless_head : (h : Head) (c : Bool) → (is_numeric h || c) ≡ false → is_bool (head_sort h) ≡ true
+numberless_head is_int c e = refl
+numberless_head h c e = is_bool_of (is_bool (head_sort h)) c e
 
--- the head of one makes a truth of truths
-pub truth_head : (ns : List Node) (i : ℕ) (h : Head) (ks : List ℕ) → term_in ns i ≡ apply h (terms_at (term_in ns) ks) → holds_number (term_in ns i) ≡ false
-    → does_arithmetic (term_in ns i) ≡ false → is_truth_head h ≡ true
-truth_head ns i h ks term none plain =
-    both_true (is_bool (head_sort h)) (is_arithmetic h)
-    (is_bool_of (is_bool (head_sort h)) (hold_number (terms_at (term_in ns) ks)) (sym (ap holds_number term) ∙ none))
-    (sym (ap does_arithmetic term) ∙ plain)
-
-first_true : (b c : Bool) → (b && c) ≡ true → b ≡ true
-first_true true c e = refl
-first_true false c e = e
+-- the head of one is of sort Bool
+pub truth_head : (ns : List Node) (i : ℕ) (h : Head) (ks : List ℕ) → term_in ns i ≡ apply h (terms_at (term_in ns) ks) → holds_number (term_in ns i) ≡ false → is_bool (head_sort h) ≡ true
+truth_head ns i h ks term none = numberless_head h (hold_number (terms_at (term_in ns) ks)) (sym (ap holds_number term) ∙ none)
 
 truth_of : (s : Sort) (v : Value) → is_bool s ≡ true → IsOfSort s v → truth (is_true v) ≡ v
 truth_of bool_sort (truth b) e h = refl
@@ -182,30 +177,17 @@ truth_of bool_sort (number q) e h = absurd h
 truth_of int_sort v e h = absurd (true≢false (sym e))
 truth_of real_sort v e h = absurd (true≢false (sym e))
 
-sort_here : (a : Assignment) (xs : List Constant) (c : Constant) (ys : List Constant) → GivesSorts a (xs ++ c ∷ ys) → IsOfSort c.sort (a c.name)
-sort_here a [] c ys h = h.0
-sort_here a (x ∷ xs) c ys h = sort_here a xs c ys h.1
-
--- a constant whose sort is Bool has a truth
-constant_truth : (ns : List Node) (a : Assignment) → GivesSorts a (constants_in_table ns) → (i : ℕ) (n : Node) (c : Constant) → slice_get ns i ≡ Some n → n.head ≡ constant c
-    → is_bool c.sort ≡ true → truth (is_true (a c.name)) ≡ a c.name
-constant_truth ns a s i n c at e bool =
-    let front = constants_in_table (take i ns) in
-    let back = constants_in_table (drop (suc i) ns) in
-    let around : constants_in_table ns ≡ front ++ c ∷ back = constants_around ns i n at ∙ ap (λ x. front ++ (constants_of_head x ++ back)) e in
-    truth_of c.sort (a c.name) bool (sort_here a front c back (subst (GivesSorts a) around s))
-
 -- ---- The walk
 
 -- The constants have their truth, and these terms are truths, which they have.
 pub record IsWalked (ns : List Node) (a : Assignment) (done : List ℕ) (values : List Bool) : Type 0 where
-  pub constants : (i : ℕ) (n : Node) (c : Constant) → slice_get ns i ≡ Some n → n.head ≡ constant c → slice_index_or values i false ≡ is_true (a c.name)
+  pub constants : (i : ℕ) (n : Node) (c : Constant) → slice_get ns i ≡ Some n → n.head ≡ constant c → slice_index_or values i false ≡ is_true (a c)
   pub terms : (i : ℕ) → Contains done i → truth (slice_index_or values i false) ≡ value_of a (term_in ns i)
 
-pub before_all : (ns : List Node) (a : Assignment) (ids : List ℕ) (values : List Bool) → HasDistinctNames ns → AreNumbersOf ns ids (constants_in_table ns)
+pub before_all : (ns : List Node) (a : Assignment) (ids : List ℕ) (values : List Bool) → IsTable ns → AreNumbersOf ns ids (constants_in_table ns)
     → ((i : ℕ) → Contains ids i → slice_index_or values i false ≡ told_at ns a i) → IsWalked ns a [] values
-before_all ns a ids values d numbers h = record {
-  constants = λ i n c at e. h i (all_numbered ns ids d numbers i n c at e) ∙ constant_at ns a i n c at e;
+before_all ns a ids values table numbers h = record {
+  constants = λ i n c at e. h i (all_numbered ns ids table numbers i n c at e) ∙ constant_at ns a i n c at e;
   terms = λ i m. absurd (omega (arith, m.1));
 }
 
@@ -228,11 +210,10 @@ same_values ns a f (k ∷ ks) h =
 
 module _ (ns : List Node) (a : Assignment) (i : ℕ) (n : Node) (at : slice_get ns i ≡ Some n) (term : term_in ns i ≡ apply n.head (terms_at (term_in ns) n.kids)) where
   -- a constant has what was decided
-  pub is_told : (done : List ℕ) (values : List Bool) → GivesSorts a (constants_in_table ns) → is_truth_head n.head ≡ true → IsWalked ns a done values
+  pub is_told : (done : List ℕ) (values : List Bool) → IsAssignment a → is_bool (head_sort n.head) ≡ true → IsWalked ns a done values
       → (h : Head) → n.head ≡ h → IsTold a h (slice_index_or values i false)
   is_told done values sorts of w (constant c) e =
-      let bool : is_bool c.sort ≡ true = first_true (is_bool c.sort) (not (is_arithmetic (constant c))) (sym (ap is_truth_head e) ∙ of) in
-      ap truth (w.constants i n c at e) ∙ constant_truth ns a sorts i n c at e bool
+      ap truth (w.constants i n c at e) ∙ truth_of c.sort (a c) (sym (ap (λ x. is_bool (head_sort x)) e) ∙ of) (sorts c)
   is_told done values sorts of w h e = tt
 
   -- the truth of a node, where its arguments have theirs
@@ -244,7 +225,7 @@ module _ (ns : List Node) (a : Assignment) (i : ℕ) (n : Node) (at : slice_get 
       e ∙ ap (head_value a n.head) (same_values ns a (λ j. slice_index_or values j false) n.kids kids) ∙ ap (value_of a) (sym term)
 
   -- the value of a constant's term
-  constant_value : (c : Constant) → n.head ≡ constant c → value_of a (term_in ns i) ≡ a c.name
+  constant_value : (c : Constant) → n.head ≡ constant c → value_of a (term_in ns i) ≡ a c
   constant_value c e = ap (value_of a) term ∙ ap (λ h. head_value a h (values_of a (terms_at (term_in ns) n.kids))) e
 
   -- one term more
@@ -252,7 +233,7 @@ module _ (ns : List Node) (a : Assignment) (i : ℕ) (n : Node) (at : slice_get 
       → IsWalked ns a (done ++ i ∷ []) (set values i b)
   one_more done values b within here w = record {
     constants = λ j m c there e.
-        written (λ x v. (p : Node) (d : Constant) → slice_get ns x ≡ Some p → p.head ≡ constant d → v ≡ is_true (a d.name)) values i b within
+        written (λ x v. (p : Node) (d : Constant) → slice_get ns x ≡ Some p → p.head ≡ constant d → v ≡ is_true (a d)) values i b within
         (λ p d q f. let same : n ≡ p = cc in ap is_true (here ∙ constant_value d (ap (λ (y : Node). y.head) same ∙ f)))
         j (w.constants j) m c there e;
     terms = λ j m. elim (Contains-push_cases done i j m) [

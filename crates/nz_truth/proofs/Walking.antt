@@ -1,5 +1,5 @@
 -- What terms come to along a list in which each comes behind its arguments.
-use Rattle.std.proofs.Common.{◌≡◌, inl, inr, ℕ, suc, ◌<◌, List, [], ◌∷◌, ◌++◌, length, map, take, set, get_or, Some, None, option_map, slice_get, refl, sym, ap, subst, ◌∙◌, arith, get_or-set_same, get_or-set_other}
+use Rattle.std.proofs.Common.{◌≡◌, inl, inr, ℕ, suc, ◌<◌, List, [], ◌∷◌, ◌++◌, length, map, take, set, get_or, Option, Some, None, option_map, slice_get, refl, sym, ap, subst, ◌∙◌, arith, get_or-set_same, get_or-set_other}
 use Rattle.std.specs.Prelude.{flat_map, unwrap_or, false}
 use Rattle.std.specs.List.{AllByRecursion}
 use Rattle.std.proofs.lemmas.Bool.Decides.{eqb_tells}
@@ -8,9 +8,8 @@ use Rattle.std.proofs.lemmas.Option.{slice_get_within}
 use Rattle.nz_spec.specs.Fraction.{Operation, first_wide}
 use Rattle.nz_spec.specs.Operations.{head_operations, operations_in, operations_of}
 use Rattle.nz_spec.specs.Term as spec
-use Rattle.nz_spec.specs.Term.{Head, Term, apply, Assignment, head_value, truth, value_of, values_of}
-use Rattle.nz_spec.specs.Table.{Node, AssignsByNumber, assignment_by, listed_value, term_in, terms_at}
-use Rattle.nz_spec.specs.Decide.{HasDistinctNames}
+use Rattle.nz_spec.specs.Term.{Head, Term, apply, Assignment, default_value, head_value, value_of, values_of}
+use Rattle.nz_spec.specs.Table.{Node, IsTable, AssignsByNumber, assignment_by, listed_value, term_in, terms_at}
 use Rattle.nz_spec.specs.Order.{ComeBehindArguments}
 use Rattle.nz_frac.specs.Operations.{operation_of}
 use Rattle.nz_frac.specs.declared.frac.Wide as wide
@@ -21,7 +20,6 @@ use Rattle.nz_truth.specs.Outcomes.{AreEvaluated, AreGiven, AreOutcomes, HasEval
 use Rattle.nz_truth.specs.declared.walk.Outcome.{Outcome}
 use Rattle.nz_truth.specs.declared.walk.Outcome.TheVariants as outcome
 use Rattle.nz_truth.proofs.Carrying.{first_wide-none, first_wide-some}
-use Rattle.nz_truth.proofs.Listing.{assigned}
 
 -- ---- Arguments
 
@@ -83,9 +81,10 @@ module _ (ns : List Node) (a : Assignment) (os : List Outcome) (i : ℕ) (h : He
 -- ---- The walk
 
 -- the values that are listed first are those of the constants
-pub given : AssignsByNumber → (ns : List Node) → HasDistinctNames ns → (ps : List (ℕ × spec.Value)) (vs : List values.Value)
-    → ((i : ℕ) → i < length ns → value_at vs i ≡ unwrap_or (listed_value ps i) (truth false)) → AreGiven ns (assignment_by ns ps) vs
-given law ns d ps vs listed i n c at e = listed i (slice_get_within ns i n at) ∙ assigned law ns d ps i n c at e
+pub given : AssignsByNumber → (ns : List Node) → IsTable ns → (ps : List (ℕ × spec.Value)) (vs : List (Option values.Value))
+    → ((i : ℕ) → i < length ns → value_at vs i ≡ listed_value ps i) → AreGiven ns (assignment_by ns ps) vs
+given law ns table ps vs listed i n c at e =
+    ap (λ o. unwrap_or o (default_value c.sort)) (listed i (slice_get_within ns i n at)) ∙ sym (law ns table ps i n c at e)
 
 -- where each of the numbers so far is known, so are the arguments of the next
 pub kids_known : (ns : List Node) (a : Assignment) (ids : List ℕ) (os : List Outcome) → ComeBehindArguments ns ids → (k i : ℕ) → slice_get ids k ≡ Some i

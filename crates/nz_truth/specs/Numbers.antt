@@ -13,3 +13,7 @@ AreNumbersOf ns [] [] = ⊤
 AreNumbersOf ns (i ∷ is) (c ∷ cs) = IsNumberOf ns i c × AreNumbersOf ns is cs
 AreNumbersOf ns [] (c ∷ cs) = ⊥
 AreNumbersOf ns (i ∷ is) [] = ⊥
+
+-- no number stands twice in the list
+abbrev pub HasNoneTwice : List ℕ → Type 0
+HasNoneTwice is = (i j k : ℕ) → slice_get is i ≡ Some k → slice_get is j ≡ Some k → i ≡ j

@@ -1,10 +1,10 @@
 -- What terms come to: a value, or the first operation that leaves the numbers.
-use Rattle.std.specs.Prelude.{◌≡◌, ℕ, ⊤, List, [], ◌∷◌, map, Option, Some, None, Contains, false, pos, slice_get, slice_index_or}
+use Rattle.std.specs.Prelude.{◌≡◌, ℕ, ⊤, List, [], ◌∷◌, map, Option, Some, None, option_map, unwrap_or, Contains, false, pos, slice_get, slice_index_or}
 use Rattle.std.specs.List.{AllByRecursion}
-use Rattle.nz_spec.specs.Fraction.{Fraction, Operator, Operation, first_wide}
+use Rattle.nz_spec.specs.Fraction.{Fraction, Arithmetic, Operation, first_wide}
 use Rattle.nz_spec.specs.Operations.{operation_on, operations_by, operations_of}
 use Rattle.nz_spec.specs.Term as spec
-use Rattle.nz_spec.specs.Term.{Assignment, Constant, Head, constant, integer, decimal_number, Term, value_of, carried_out, combined, number, whole_number, scaled}
+use Rattle.nz_spec.specs.Term.{Assignment, Constant, Head, constant, integer, decimal_number, Term, value_of, carried_out, combined, default_value, number, whole_number, decimal_value}
 use Rattle.nz_spec.specs.Table.{Node, term_in}
 use Rattle.nz_frac.specs.Operations.{operation_of}
 use Rattle.nz_frac.specs.declared.frac.Wide as wide
@@ -33,34 +33,34 @@ AreOutcomes ns a (i ∷ is) [] = ⊥
 -- ---- Operations
 
 -- one operation stays among the numbers, and comes to this one
-abbrev pub IsCarriedOut : Operator → Fraction → Fraction → Fraction → Type 0
+abbrev pub IsCarriedOut : Arithmetic → Fraction → Fraction → Fraction → Type 0
 IsCarriedOut op p q r = (first_wide (operation_on op p q) ≡ None) × (number r ≡ carried_out op (number p) (number q))
 
 -- one operation leaves the numbers
-abbrev pub IsStopped : Operator → Fraction → Fraction → wide.Wide → Type 0
+abbrev pub IsStopped : Arithmetic → Fraction → Fraction → wide.Wide → Type 0
 IsStopped op p q w = first_wide (operation_on op p q) ≡ Some (operation_of w)
 
 -- what comes of an operation over values, from the left; of none this value
-abbrev pub IsOperated : Operator → spec.Value → List spec.Value → Outcome → Type 0
+abbrev pub IsOperated : Arithmetic → spec.Value → List spec.Value → Outcome → Type 0
 IsOperated op of_none [] o = IsOutcomeOf [] of_none o
 IsOperated op of_none (v ∷ vs) o = IsOutcomeOf (operations_by op v vs) (combined (carried_out op) v vs) o
 
 -- the value is that of a head that its arguments don't tell
 abbrev pub IsGiven : Assignment → Head → spec.Value → Type 0
-IsGiven a (constant c) v = v ≡ a c.name
+IsGiven a (constant c) v = v ≡ a c
 IsGiven a (integer n) v = v ≡ whole_number (pos n)
-IsGiven a (decimal_number n places) v = v ≡ number (scaled n places)
+IsGiven a (decimal_number n places) v = v ≡ number (decimal_value n places)
 IsGiven a h v = ⊤
 
 -- ---- Lists by number
 
--- the value that is listed for a number
-abbrev pub value_at : List values.Value → ℕ → spec.Value
-value_at vs i = own.value_of (slice_index_or vs i (value.Truth false))
+-- the value that is kept for a number, if one is
+abbrev pub value_at : List (Option values.Value) → ℕ → Option spec.Value
+value_at vs i = option_map own.value_of (slice_index_or vs i None)
 
--- the values of the constants are those of their names
-abbrev pub AreGiven : List Node → Assignment → List values.Value → Type 0
-AreGiven ns a vs = (i : ℕ) (n : Node) (c : Constant) → slice_get ns i ≡ Some n → n.head ≡ constant c → value_at vs i ≡ a c.name
+-- these are the values of the constants, and where none is kept it is the default of the sort
+abbrev pub AreGiven : List Node → Assignment → List (Option values.Value) → Type 0
+AreGiven ns a vs = (i : ℕ) (n : Node) (c : Constant) → slice_get ns i ≡ Some n → n.head ≡ constant c → unwrap_or (value_at vs i) (default_value c.sort) ≡ a c
 
 -- what is listed for the term of a number
 abbrev pub outcome_at : List Outcome → ℕ → Outcome

@@ -2,7 +2,7 @@
 ghost use Rattle.std.specs.Prelude.{◌≡◌, ◌≢◌, false, map, pos, IfOk, IfErr};
 ghost use Rattle.nz_spec.specs.Fraction.{whole};
 ghost use Rattle.nz_spec.specs.Operations.{head_operations, operations_by};
-ghost use Rattle.nz_spec.specs.Term.{Assignment, Sort, difference as minus_head, carried_out, combined, head_value, is_zero, number, number_of};
+ghost use Rattle.nz_spec.specs.Term.{Assignment, NumberSort, difference as minus_head, carried_out, combined, head_value, is_zero, number, number_of};
 ghost use Rattle.nz_frac.specs.Operations.{operator_of};
 ghost use Rattle.nz_term.specs.Values.{value_of};
 ghost use Rattle.nz_truth.specs.Outcomes.{IsCarriedOut, IsOperated, IsOutcomeOf, IsStopped};
@@ -42,7 +42,7 @@ pub(crate) fn operated(op: Op, of_none: Value, args: &[Value]) -> Outcome
 /// The negation of one argument, or the difference of several, from the left.
 #[tactic(auto, unfolding(nz_spec::specs::Fraction::first_wide))]
 pub(crate) fn difference(args: &[Value]) -> Outcome
-    ensures outcome { (a : Assignment) → (s : Sort) → IsOutcomeOf (head_operations (minus_head s) (map value_of args.now)) (head_value a (minus_head s) (map value_of args.now)) result }
+    ensures outcome { (a : Assignment) → (s : NumberSort) → IsOutcomeOf (head_operations (minus_head s) (map value_of args.now)) (head_value a (minus_head s) (map value_of args.now)) result }
 {
     match args {
         [only] => Outcome::Value(Value::Number(number_of(only).neg())),

@@ -57,8 +57,8 @@ fn chain(relation: Relation, args: &[Value]) -> Outcome
     Outcome::Value(Value::Truth(are_chained(relation, args)))
 }
 
-/// What a parameter of this sort stands for.
-fn default_value(sort: Sort) -> Value
+/// What a parameter of this sort stands for, and a constant that nothing is given for.
+pub fn default_value(sort: Sort) -> Value
     ensures default { value_of result ≡ default_value (sort_of sort) }
 {
     match sort {

@@ -6,12 +6,11 @@ mod bools;
 mod chains;
 mod heads;
 mod integers;
-#[cfg(test)]
-mod tests;
 mod truth;
 mod value;
 mod walk;
 
+pub use heads::default_value;
 pub use truth::{are_true, constant_numbers, evaluate};
 pub use value::{EvalStop, Values, eval};
-pub use walk::{Outcome, outcomes};
+pub use walk::{Outcome, listed_values, outcomes};

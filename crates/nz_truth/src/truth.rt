@@ -1,14 +1,14 @@
 //! The truth of terms that hold no number, where the constants of their table are decided, each behind its arguments.
 ghost use Rattle.std.specs.Prelude.{◌≡◌, ℕ, ◌<◌, Bool, true, false, length, map, All, Contains, IfOk, slice_index_or};
 ghost use Rattle.std.specs.List.{list_all, list_any};
-ghost use Rattle.nz_spec.specs.Term.{Assignment, Sort, truth, is_true, value_of, head_value, holds_number, negation as not_head, exclusion as xor_head, equality as equal_head, choice as ite_head};
+ghost use Rattle.nz_spec.specs.Term.{Assignment, Sort, apply, constant, no_terms, truth, is_bool, is_true, value_of, head_sort, head_value, holds_number, negation as not_head, exclusion as xor_head, equality as equal_head, choice as ite_head};
 ghost use Rattle.nz_spec.specs.Table.{term_in};
-ghost use Rattle.nz_spec.specs.Decide.{constants_in_table, HasDistinctNames};
+ghost use Rattle.nz_spec.specs.Decide.{constants_in_table};
 ghost use Rattle.nz_spec.specs.Order.{ComeBehindArguments};
-ghost use Rattle.nz_spec.specs.Sorts.{GivesSorts};
+ghost use Rattle.nz_spec.specs.Model.{IsAssignment};
 ghost use Rattle.nz_term.specs.Heads.{head_of};
-ghost use Rattle.nz_truth.specs.Numbers.{AreNumbersOf};
-ghost use Rattle.nz_truth.specs.Truths.{GivesTruths, IsTold, does_arithmetic, is_truth_head, values_by};
+ghost use Rattle.nz_truth.specs.Numbers.{AreNumbersOf, HasNoneTwice};
+ghost use Rattle.nz_truth.specs.Truths.{GivesTruths, IsTold, values_by};
 
 use nz_term::{Head, Node, TermId, Terms};
 use std::alloc::{AllocError, Global};
@@ -23,14 +23,13 @@ pub fn evaluate(
 )
     requires room { length values.old ≡ length terms.now }
     requires constants { AreNumbersOf terms.now constants.now (constants_in_table terms.now) }
-    requires distinct { HasDistinctNames terms.now }
     requires whole { length decided.now ≡ length constants.now }
     requires within { All (λ i. i < length terms.now) order.now }
     requires behind { ComeBehindArguments terms.now order.now }
     requires truths { All (λ i. holds_number (term_in terms.now i) ≡ false) order.now }
-    requires operators { All (λ i. does_arithmetic (term_in terms.now i) ≡ false) order.now }
-    ensures truths { (a : Assignment) → GivesTruths terms.now decided.now a → GivesSorts a (constants_in_table terms.now) → (i : ℕ) → Contains order.now i → slice_index_or values.new i false ≡ is_true (value_of a (term_in terms.now i)) }
+    ensures truths { (a : Assignment) → GivesTruths terms.now decided.now a → IsAssignment a → (i : ℕ) → Contains order.now i → slice_index_or values.new i false ≡ is_true (value_of a (term_in terms.now i)) }
 {
+    prove!(values.len() == terms.len());
     decide(constants, decided, values);
     for id in order {
         values[*id] = node_truth(terms.node(*id), values[*id], values);
@@ -51,7 +50,7 @@ fn decide(constants: &[TermId], decided: &[bool], values: &mut [bool])
 // The truth of a node over that of its arguments; a constant has what was decided.
 fn node_truth(node: &Node, decided: bool, values: &[bool]) -> bool
     requires within { All (λ k. k < length values.now) node.now.kids }
-    requires truths { is_truth_head (head_of node.now.head) ≡ true }
+    requires truths { is_bool (head_sort (head_of node.now.head)) ≡ true }
     ensures value { (a : Assignment) → IsTold a (head_of node.now.head) decided → truth result ≡ head_value a (head_of node.now.head) (values_by (λ k. slice_index_or values.now k false) node.now.kids) }
 {
     let kids = node.kids.as_slice();
@@ -144,6 +143,9 @@ pub fn are_true(ids: &[TermId], values: &[bool]) -> bool
 /// The numbers of the constants of a table, in their order.
 pub fn constant_numbers(alloc: Global, terms: &Terms) -> Result<Vec<TermId>, AllocError>
     ensures numbers { IfOk result (λ ids. AreNumbersOf terms.now ids.items (constants_in_table terms.now)) }
+    ensures terms { IfOk result (λ ids. map (term_in terms.now) ids.items ≡ map (λ c. apply (constant c) no_terms) (constants_in_table terms.now)) }
+    ensures within { IfOk result (λ ids. All (λ i. i < length terms.now) ids.items) }
+    ensures once { IfOk result (λ ids. HasNoneTwice ids.items) }
 {
     let mut ids = Vec::new(alloc);
     for id in 0..terms.len() {

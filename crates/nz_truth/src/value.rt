@@ -4,7 +4,6 @@ ghost use Rattle.nz_spec.specs.Fraction.{first_wide};
 ghost use Rattle.nz_spec.specs.Operations.{operations_of};
 ghost use Rattle.nz_spec.specs.Term.{value_of};
 ghost use Rattle.nz_spec.specs.Table.{term_in, assignment_by};
-ghost use Rattle.nz_spec.specs.Decide.{HasDistinctNames};
 ghost use Rattle.nz_term.specs.Values as own;
 ghost use Rattle.nz_truth.specs.Stops.{IsStopAt};
 
@@ -70,8 +69,8 @@ impl From<AllocError> for EvalStop {
     }
 }
 
-/// The values of these roots, where the constants have the values that `assign` gives their numbers, and `false` where it
-/// gives none. Each shared term is evaluated once.
+/// The values of these roots, where the constants have the values that `assign` gives their numbers, and the defaults of
+/// their sorts where it gives none. Each shared term is evaluated once.
 ///
 /// # Errors
 ///
@@ -83,7 +82,6 @@ pub fn eval(
     assign: &Assign,
 ) -> Result<Values, EvalStop>
     requires within { All (λ r. r < length terms.now) roots.now }
-    requires distinct { HasDistinctNames terms.now }
     ensures values { IfOk result (λ vs. vs ≡ map (λ r. value_of (assignment_by terms.now assign.now) (term_in terms.now r)) roots.now) }
     ensures fits { IfOk result (λ vs. first_wide (flat_map (λ r. operations_of (assignment_by terms.now assign.now) (term_in terms.now r)) roots.now) ≡ None) }
     ensures wide { IfErr result (λ s. IsStopAt (first_wide (flat_map (λ r. operations_of (assignment_by terms.now assign.now) (term_in terms.now r)) roots.now)) s) }

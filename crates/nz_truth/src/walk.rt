@@ -1,13 +1,12 @@
 //! What terms come to, one after another, each behind its arguments.
-ghost use Rattle.std.specs.Prelude.{◌≡◌, ℕ, ◌<◌, false, length, All, IfOk, OnOk, slice_get, unwrap_or};
+ghost use Rattle.std.specs.Prelude.{◌≡◌, ℕ, ◌<◌, length, All, IfOk, OnOk, slice_get};
 ghost use Rattle.nz_spec.specs.Term as spec;
-ghost use Rattle.nz_spec.specs.Term.{Assignment, apply, truth};
+ghost use Rattle.nz_spec.specs.Term.{Assignment, apply};
 ghost use Rattle.nz_spec.specs.Table.{Node, term_in, listed_value, assignment_by};
-ghost use Rattle.nz_spec.specs.Decide.{HasDistinctNames};
 ghost use Rattle.nz_term.specs.Values.{value_of};
 ghost use Rattle.nz_truth.specs.Outcomes.{AreEvaluated, AreGiven, AreOutcomes, HasEvaluatedKids, IsGiven, IsOutcome, first_stop, outcomes_at, value_at, values_in};
 
-use crate::heads::outcome_over;
+use crate::heads::{default_value, outcome_over};
 use nz_base::Memory;
 use nz_frac::Wide;
 use nz_spec::table::{assigns_by_number, term_of_node};
@@ -23,8 +22,8 @@ pub enum Outcome {
     Wide(Wide),
 }
 
-/// What these roots come to, where the constants have the values that `assign` gives their numbers, and `false` where it
-/// gives none. Each shared term is evaluated once.
+/// What these roots come to, where the constants have the values that `assign` gives their numbers, and the defaults of their
+/// sorts where it gives none. Each shared term is evaluated once.
 pub fn outcomes(
     alloc: Global,
     terms: &Terms,
@@ -32,7 +31,6 @@ pub fn outcomes(
     assign: &Assign,
 ) -> Result<Vec<Outcome>, Memory>
     requires within { All (λ r. r < length terms.now) roots.now }
-    requires distinct { HasDistinctNames terms.now }
     ensures outcomes { IfOk result (λ os. AreOutcomes terms.now (assignment_by terms.now assign.now) roots.now os.items) }
 {
     let evaluated = evaluated(alloc, terms, roots, assign)?;
@@ -55,7 +53,7 @@ fn outcomes_at(
     Ok(found)
 }
 
-/// What the terms that these roots are made of come to, by their numbers, and `false` for the others.
+/// What the terms that these roots are made of come to, by their numbers; for the others it is of no meaning.
 pub(crate) fn evaluated(
     alloc: Global,
     terms: &Terms,
@@ -63,7 +61,6 @@ pub(crate) fn evaluated(
     assign: &Assign,
 ) -> Result<Vec<Outcome>, Memory>
     requires within { All (λ r. r < length terms.now) roots.now }
-    requires distinct { HasDistinctNames terms.now }
     ensures room { IfOk result (λ os. length os.items ≡ length terms.now) }
     ensures roots { IfOk result (λ os. AreEvaluated terms.now (assignment_by terms.now assign.now) roots.now os.items) }
 {
@@ -79,17 +76,21 @@ pub(crate) fn evaluated(
     Ok(outcomes)
 }
 
-/// The value that is listed first with each number below this one, and `false` with no pair of the number.
-fn listed_values(alloc: Global, assign: &Assign, count: usize) -> Result<Vec<Value>, AllocError>
+/// The value that is listed first with each number below this one; none without a pair of the number.
+pub fn listed_values(
+    alloc: Global,
+    assign: &Assign,
+    count: usize,
+) -> Result<Vec<Option<Value>>, AllocError>
     ensures count { IfOk result (λ vs. length vs.items ≡ count) }
-    ensures listed { IfOk result (λ vs. (i : ℕ) → i < count → value_at vs.items i ≡ unwrap_or (listed_value assign.now i) (truth false)) }
+    ensures listed { IfOk result (λ vs. (i : ℕ) → i < count → value_at vs.items i ≡ listed_value assign.now i) }
 {
-    let mut values = vec![in alloc; Value::Truth(false); count]?;
+    let mut values = vec![in alloc; None; count]?;
     // The first pair of a number is written last.
     for place in (0..assign.len()).rev() {
         let (id, value) = assign.get(place);
         if id < count {
-            values[id] = value;
+            values[id] = Some(value);
         }
     }
     Ok(values)
@@ -99,7 +100,7 @@ fn listed_values(alloc: Global, assign: &Assign, count: usize) -> Result<Vec<Val
 fn node_outcome(
     terms: &Terms,
     id: TermId,
-    given: &[Value],
+    given: &[Option<Value>],
     outcomes: &[Outcome],
     args: &mut Vec<Value>,
 ) -> Result<Outcome, AllocError>
@@ -115,15 +116,15 @@ fn node_outcome(
     }
 }
 
-/// The value of a numeral or a decimal, or what is given for a constant.
-fn leaf(terms: &Terms, id: TermId, given: &[Value]) -> Value
+/// The value of a numeral or a decimal, or of a constant: what is given, or the default of its sort.
+fn leaf(terms: &Terms, id: TermId, given: &[Option<Value>]) -> Value
     requires within { id < length terms.now }
     requires given { length given.now ≡ length terms.now }
     ensures given { (a : Assignment) → AreGiven terms.now a given.now → (n : Node) → slice_get terms.now id ≡ Some n → (ts : spec.Terms) → term_in terms.now id ≡ apply n.head ts → IsGiven a n.head (value_of result) }
 {
     match terms.constant(id) {
         Some(number) => Value::Number(number),
-        None => given[id],
+        None => given[id].unwrap_or(default_value(terms.head(id).sort())),
     }
 }
 

@@ -1,12 +1,10 @@
 //! The stack of decisions of a trial, each noted as it is made.
-ghost use Rattle.std.specs.Prelude.{◌≡◌, ℕ, ◌+◌, ◌-◌, ◌<◌, ◌≤◌, [], ◌∷◌, ◌++◌, length, true, false, replicate, Bool, not, map, OnOk, OnErr, IfOk, IfErr, MatchBool};
+ghost use Rattle.std.specs.Prelude.{◌≡◌, ℕ, ◌-◌, [], ◌∷◌, ◌++◌, length, true, false, replicate, Bool, not, map, OnOk, OnErr, IfOk, IfErr, MatchBool};
 ghost use Rattle.std.specs.List.{enumerate_from};
 ghost use Rattle.std.specs.Bool.{OnTrue, OnFalse};
-ghost use Rattle.nz_session.specs.Search.{IsTurnedAt, learned_clause};
-ghost use Rattle.nz_session.specs.SearchNotes.{HasSearched, IsCutShort, Turns, with_decision, with_clause};
-ghost use Rattle.nz_reply.specs.Notes.{noted_list};
+ghost use Rattle.nz_session.specs.Search.{IsTurnedAt};
+ghost use Rattle.nz_session.specs.SearchNotes.{AddsSteps, HasSearched, IsCutShort, Turns, with_decision, with_clause};
 ghost use Rattle.nz_session.specs.Verdicts.{OnSpent};
-ghost use Rattle.nz_spec.specs.Decide.{AtomsAreNoted};
 ghost use Rattle.nz_spec.specs.Work.{IsSpent};
 
 use crate::decide::Stop;
@@ -17,9 +15,9 @@ use std::alloc::{AllocError, Global};
 // Decides the next constant.
 fn decide(stack: &mut Vec<bool>, sign: bool, work: &mut Work<Note>) -> Result<(), Stop>
     ensures ok { OnOk result (stack.new.items ≡ stack.old.items ++ sign ∷ []) }
-    ensures noted { OnOk result (noted_list work.new ≡ with_decision (noted_list work.old) (length stack.old.items) sign) }
+    ensures noted { OnOk result (work.new ≡ with_decision work.old (length stack.old.items) sign) }
     ensures err { OnErr result (work.new ≡ work.old) }
-    ensures spent { IfErr result (λ stop. OnSpent stop (IsSpent (noted_list work.old))) }
+    ensures spent { IfErr result (λ stop. OnSpent stop (IsSpent work.old)) }
 {
     let atom = stack.len();
     stack.push(sign)?;
@@ -52,9 +50,9 @@ fn negations(alloc: Global, kept: &[bool]) -> Result<Vec<(usize, bool)>, AllocEr
 
 // Notes the clause that says that the decisions kept and the `false` above them make some assertion false.
 fn learn(alloc: Global, kept: &[bool], work: &mut Work<Note>) -> Result<(), Stop>
-    ensures noted { OnOk result (noted_list work.new ≡ with_clause (noted_list work.old) kept.now) }
+    ensures noted { OnOk result (work.new ≡ with_clause work.old kept.now) }
     ensures err { OnErr result (work.new ≡ work.old) }
-    ensures spent { IfErr result (λ stop. OnSpent stop (IsSpent (noted_list work.old))) }
+    ensures spent { IfErr result (λ stop. OnSpent stop (IsSpent work.old)) }
 {
     let mut lits = negations(alloc, kept)?;
     lits.push((kept.len(), true))?;
@@ -71,12 +69,11 @@ pub(super) fn decide_rest(
     stack: &mut Vec<bool>,
     work: &mut Work<Note>,
 ) -> Result<(), Stop>
-    requires { HasSearched count stack.old.items (noted_list work.old) }
+    requires { HasSearched count stack.old.items work.old }
     ensures full { OnOk result (stack.new.items ≡ stack.old.items ++ replicate (count - length stack.old.items) false) }
-    ensures searched { OnOk result (HasSearched count stack.new.items (noted_list work.new)) }
-    ensures limit { work.new.limit ≡ work.old.limit }
-    ensures noted { AtomsAreNoted 0 (noted_list work.new).lines }
-    ensures spent { IfErr result (λ stop. OnSpent stop (IsCutShort count (noted_list work.new))) }
+    ensures searched { OnOk result (HasSearched count stack.new.items work.new) }
+    ensures steps { AddsSteps count work.old work.new }
+    ensures spent { IfErr result (λ stop. OnSpent stop (IsCutShort count work.new)) }
 {
     while stack.len() < count {
         decide(stack, false, work)?;
@@ -87,13 +84,12 @@ pub(super) fn decide_rest(
 /// Turns the last decision that is `false` to `true`, and takes those above it off. None is `false` where it answers
 /// `false`.
 pub(super) fn turn_back(stack: &mut Vec<bool>, work: &mut Work<Note>) -> Result<bool, Stop>
-    requires { HasSearched (length stack.old.items) stack.old.items (noted_list work.old) }
-    ensures turned { IfOk result (λ more. OnTrue more (Turns stack.old.items stack.new.items (noted_list work.old) (noted_list work.new))) }
-    ensures searched { IfOk result (λ more. OnTrue more (HasSearched (length stack.old.items) stack.new.items (noted_list work.new))) }
+    requires { HasSearched (length stack.old.items) stack.old.items work.old }
+    ensures turned { IfOk result (λ more. OnTrue more (Turns stack.old.items stack.new.items work.old work.new)) }
+    ensures searched { IfOk result (λ more. OnTrue more (HasSearched (length stack.old.items) stack.new.items work.new)) }
     ensures whole { IfOk result (λ more. OnFalse more (stack.old.items ≡ replicate (length stack.old.items) true)) }
-    ensures limit { work.new.limit ≡ work.old.limit }
-    ensures noted { AtomsAreNoted 0 (noted_list work.new).lines }
-    ensures spent { IfErr result (λ stop. OnSpent stop (IsCutShort (length stack.old.items) (noted_list work.new))) }
+    ensures steps { AddsSteps (length stack.old.items) work.old work.new }
+    ensures spent { IfErr result (λ stop. OnSpent stop (IsCutShort (length stack.old.items) work.new)) }
 {
     let alloc = *stack.allocator();
     if !take_last_false(stack) {

@@ -2,7 +2,7 @@
 ghost use Rattle.std.specs.Prelude.{◌≡◌, ◌<◌, ◌≤◌, false, [], ◌∷◌, length, All, IfOk, IsTrue};
 ghost use Rattle.std.specs.Bool.{OnTrue};
 ghost use Rattle.std.specs.List.{AllByRecursion};
-ghost use Rattle.nz_spec.specs.Decide.{constants_in_table, constants_of_head, HasDistinctNames};
+ghost use Rattle.nz_spec.specs.Decide.{constants_in_table, constants_of_head};
 ghost use Rattle.nz_spec.specs.Table.{term_in};
 ghost use Rattle.nz_spec.specs.Term.{constant, bool_sort, head_fits, holds_number};
 ghost use Rattle.nz_term.specs.Heads.{head_of};
@@ -34,7 +34,6 @@ fn bool_constant(alloc: Global, name: u8) -> Result<Head, Memory>
 }
 
 fn no_terms(alloc: Global) -> Result<Terms, Memory>
-    ensures names { IfOk result HasDistinctNames }
     ensures bools { IfOk result (λ ns. AllByRecursion (λ c. c.sort ≡ bool_sort) (constants_in_table ns)) }
 {
     Terms::new(alloc)
@@ -42,7 +41,6 @@ fn no_terms(alloc: Global) -> Result<Terms, Memory>
 
 // A table of the constants p and q, with their numbers.
 fn two_constants(alloc: Global) -> Result<(Terms, TermId, TermId), Memory>
-    ensures names { IfOk result (λ t. HasDistinctNames t.0) }
     ensures bools { IfOk result (λ t. AllByRecursion (λ c. c.sort ≡ bool_sort) (constants_in_table t.0)) }
     ensures first { IfOk result (λ t. t.1 < length t.0) }
     ensures second { IfOk result (λ t. t.2 < length t.0) }
@@ -58,7 +56,6 @@ fn operation(terms: &mut Terms, head: Head, kids: &[TermId]) -> Result<TermId, M
     requires known { AllByRecursion (λ k. k < length terms.old) kids.now }
     requires operator { constants_of_head (head_of head) ≡ [] }
     requires fits { IsTrue (head_fits (head_of head)) }
-    ensures names { HasDistinctNames terms.old → HasDistinctNames terms.new }
     ensures bools { AllByRecursion (λ c. c.sort ≡ bool_sort) (constants_in_table terms.old) → AllByRecursion (λ c. c.sort ≡ bool_sort) (constants_in_table terms.new) }
     ensures longer { length terms.old ≤ length terms.new }
     ensures within { IfOk result (λ id. id < length terms.new) }
@@ -118,7 +115,6 @@ fn checked(
     limit: u64,
 ) -> Result<(Answer, u64), Memory>
     requires known { AllByRecursion (λ i. i < length terms.now) asserted.now }
-    requires names { HasDistinctNames terms.now }
     requires bools { AllByRecursion (λ c. c.sort ≡ bool_sort) (constants_in_table terms.now) }
 {
     if !are_numberless(terms, asserted) {
@@ -134,7 +130,6 @@ fn checked(
 // The values that a check of these finds.
 fn found(alloc: Global, terms: &Terms, asserted: &[TermId]) -> Result<Option<Assign>, Memory>
     requires known { AllByRecursion (λ i. i < length terms.now) asserted.now }
-    requires names { HasDistinctNames terms.now }
     requires bools { AllByRecursion (λ c. c.sort ≡ bool_sort) (constants_in_table terms.now) }
 {
     if !are_numberless(terms, asserted) {

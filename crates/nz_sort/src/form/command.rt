@@ -1,9 +1,9 @@
 //! The form of commands, by their names.
 ghost use Rattle.std.specs.Prelude.{◌≡◌, IfSome, IfNone, false};
-ghost use Rattle.nz_sexpr.specs.View.{token_view, view};
+ghost use Rattle.nz_sexpr.specs.View.{token_view, view, seen};
 ghost use Rattle.nz_spec.specs.Tree.{leaf, node, trees};
 ghost use Rattle.nz_spec.specs.Form as form;
-ghost use Rattle.nz_sort.specs.Form.{seen, command_meaning, attribute_meaning, IsShort};
+ghost use Rattle.nz_sort.specs.Form.{command_meaning, attribute_meaning, IsShort};
 
 use crate::form::term::{are_term_trees, is_term_tree};
 use crate::form::{

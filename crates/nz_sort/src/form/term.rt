@@ -1,9 +1,9 @@
 //! The form of terms.
 ghost use Rattle.std.specs.Prelude.{◌≡◌};
-ghost use Rattle.nz_sexpr.specs.View.{token_view, view};
+ghost use Rattle.nz_sexpr.specs.View.{token_view, view, seen};
 ghost use Rattle.nz_spec.specs.Tree.{node};
 ghost use Rattle.nz_spec.specs.Form as form;
-ghost use Rattle.nz_sort.specs.Form.{seen, head_meaning};
+ghost use Rattle.nz_sort.specs.Form.{head_meaning};
 
 use crate::form::{headed, is_empty, is_name, is_name_tree, is_number, is_symbol, pair};
 use nz_sexpr::{Token, Tree};

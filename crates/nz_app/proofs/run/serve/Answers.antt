@@ -1,27 +1,20 @@
-use Rattle.std.proofs.Common.{refl, arith, ◌^◌}
+use Rattle.std.proofs.Common.{arith, ◌^◌}
 use Rattle.std.proofs.KnownBytes.{Keeps-refl}
-use Rattle.nz_app.proofs.Turning.{reading_interrupted, took_many}
+use Rattle.nz_app.proofs.Turning.{interrupted_run, took_many}
 use Rattle.nz_app.proofs.run.serve.Goals as goal
-
-pub returns-in-Finished-clause-finished : goal.returns-in-Finished-clause-finished
-returns-in-Finished-clause-finished g c = λ _ limit begun. c.in-Finished.ensures.finished refl limit _ _ c.loop-read.read c.loop-read-test.true (c.loop-read.invariant.reading limit begun)
-
-pub returns-in-Cut-clause-cut : goal.returns-in-Cut-clause-cut
-returns-in-Cut-clause-cut g c = λ _ limit begun. c.in-Cut.ensures.cut refl limit _ _ c.loop-read.read c.loop-read-test.true (c.loop-read.invariant.reading limit begun)
 
 pub returns-clause-reads : goal.returns-clause-reads
 returns-clause-reads g c =
     λ _. (let reading = c.loop-read.invariant.reading c.requires.start.0 c.requires.start.1 in
-    took_many _ _ reading.read c.loop-read.read (2 ^ 32) reading.taken reading.long (let last = c.loop-read-test.false in omega arith))
+    took_many g.E.Decide.levels g.E.Decide.table c.requires.start.0 _ _ _ _ _ c.loop-read.read reading (2 ^ 32) (let last = c.loop-read-test.false in omega arith))
 
-pub returns-in-ReadFault-clause-interrupted : goal.returns-in-ReadFault-clause-interrupted
-returns-in-ReadFault-clause-interrupted g c =
-    λ _ limit begun. c.in-ReadFault.ensures.interrupted refl limit _ _ c.loop-read.read c.loop-read-test.true (c.loop-read.invariant.reading limit begun)
+pub returns-clause-ended : goal.returns-clause-ended
+returns-clause-ended g c =
+    λ limit begun. interrupted_run g.E.Decide.levels g.E.Decide.table limit _ _ _ _ _ c.loop-read.read (c.loop-read.invariant.reading limit begun) (let last = c.loop-read.auto.read-end in omega arith) _ (Keeps-refl _)
 
-pub returns-in-WriteFault-clause-broken_off : goal.returns-in-WriteFault-clause-broken_off
-returns-in-WriteFault-clause-broken_off g c =
-    λ _ limit begun. c.in-WriteFault.ensures.broken_off refl limit _ _ c.loop-read.read c.loop-read-test.true (c.loop-read.invariant.reading limit begun)
+pub read_once-requires : goal.read_once-requires
+read_once-requires g c =
+    (c.requires.start.0, g.S.Source.left c.args.input.now, g.K.Sink.held c.args.out.now, c.loop-read.read, c.loop-read.invariant.reading c.requires.start.0 c.requires.start.1, c.loop-read-test.true)
 
-pub returns-clause-interrupted : goal.returns-clause-interrupted
-returns-clause-interrupted g c =
-    λ _ limit begun. reading_interrupted g.E.Decide.levels limit _ _ _ _ _ _ c.loop-read.read (c.loop-read.invariant.reading limit begun) (Keeps-refl _)
+pub returns-in-Some-clause-ended : goal.returns-in-Some-clause-ended
+returns-in-Some-clause-ended g c = λ limit begun. c.in-Some.ensures.ended limit _ _ c.loop-read.read c.loop-read-test.true (c.loop-read.invariant.reading limit begun)

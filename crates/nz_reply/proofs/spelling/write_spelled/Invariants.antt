@@ -6,4 +6,4 @@ use Rattle.nz_reply.proofs.spelling.write_spelled.Given as goal
 
 abbrev pub invariant-loop-part : goal.invariant-loop-part
 invariant-loop-part g l =
-    HasWrittenTo (g.K.Sink.held l.fn.sink) (g.K.Sink.held l.sink) (g.K.Sink.faults l.fn.sink) (g.K.Sink.faults l.sink) (spelled l.parts) (spelled (drop l.part-index l.parts))
+    HasWrittenTo g.K.Sink.held g.K.Sink.faults l.fn.sink l.sink (spelled l.parts) (spelled (drop l.part-index l.parts))

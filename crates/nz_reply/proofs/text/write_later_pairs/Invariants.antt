@@ -7,5 +7,5 @@ use Rattle.nz_reply.proofs.text.write_later_pairs.Given as goal
 
 abbrev pub invariant-loop-index : goal.invariant-loop-index
 invariant-loop-index g l =
-    HasWrittenTo (g.K.Sink.held l.fn.sink) (g.K.Sink.held l.sink) (g.K.Sink.faults l.fn.sink) (g.K.Sink.faults l.sink)
+    HasWrittenTo g.K.Sink.held g.K.Sink.faults l.fn.sink l.sink
     (later_texts (pair_texts l.trees l.shows)) (later_texts (pair_texts (drop l.index l.trees) (drop l.index l.shows)))

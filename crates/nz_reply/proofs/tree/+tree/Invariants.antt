@@ -1,8 +1,8 @@
 use Rattle.std.proofs.Common.{◌+◌, ◌*◌, drop}
-use Rattle.nz_sexpr.specs.View.{view}
+use Rattle.nz_sexpr.specs.View.{view, seen}
 use Rattle.nz_spec.specs.Reply.{tree_texts}
-use Rattle.nz_reply.specs.Trees.{later_texts, tree_size, trees_size}
-use Rattle.nz_reply.specs.Values.{seen}
+use Rattle.nz_reply.specs.Trees.{later_texts}
+use Rattle.nz_sexpr.specs.Sizes.{tree_size, trees_size}
 use Rattle.nz_reply.proofs.Writing.{HasWrittenTo}
 use Rattle.nz_reply.proofs.tree.+tree.Given as goal
 
@@ -20,5 +20,5 @@ decreases-write_later g l = 3 * trees_size (seen l.list.now)
 
 abbrev pub invariant-write_later-loop-tree : goal.invariant-write_later-loop-tree
 invariant-write_later-loop-tree g l =
-    HasWrittenTo (g.K.Sink.held l.fn.sink) (g.K.Sink.held l.sink) (g.K.Sink.faults l.fn.sink) (g.K.Sink.faults l.sink)
+    HasWrittenTo g.K.Sink.held g.K.Sink.faults l.fn.sink l.sink
     (later_texts (tree_texts (seen l.list))) (later_texts (tree_texts (seen (drop l.tree-index l.list))))

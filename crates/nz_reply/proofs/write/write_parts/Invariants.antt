@@ -5,5 +5,4 @@ use Rattle.nz_reply.proofs.Writing.{HasWrittenTo}
 use Rattle.nz_reply.proofs.write.write_parts.Given as goal
 
 abbrev pub invariant-loop-part : goal.invariant-loop-part
-invariant-loop-part g l =
-    HasWrittenTo (g.K.Sink.held l.fn.sink) (g.K.Sink.held l.sink) (g.K.Sink.faults l.fn.sink) (g.K.Sink.faults l.sink) (parts_text l.parts) (parts_text (drop l.part-index l.parts))
+invariant-loop-part g l = HasWrittenTo g.K.Sink.held g.K.Sink.faults l.fn.sink l.sink (parts_text l.parts) (parts_text (drop l.part-index l.parts))

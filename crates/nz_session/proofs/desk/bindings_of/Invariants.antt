@@ -1,7 +1,8 @@
--- The bindings are those of the pairs so far.
-use Rattle.std.proofs.Common.{◌≡◌, take}
-use Rattle.nz_spec.specs.Decide.{bindings_by}
+-- What is bound so far, and then what the constants that are left are bound to, is all of it.
+use Rattle.std.proofs.Common.{◌≡◌, ◌++◌, drop}
+use Rattle.nz_sort.specs.Items.{table_numbers}
+use Rattle.nz_session.specs.Completed.{completed}
 use Rattle.nz_session.proofs.desk.bindings_of.Given as goal
 
-abbrev pub invariant-loop-index : goal.invariant-loop-index
-invariant-loop-index l = l.bindings ≡ bindings_by l.terms (take l.index l.assign)
+abbrev pub invariant-loop-accepted : goal.invariant-loop-accepted
+invariant-loop-accepted l = l.bindings ++ completed l.terms l.assign (table_numbers (drop l.accepted-index l.constants)) ≡ completed l.terms l.assign (table_numbers l.constants)

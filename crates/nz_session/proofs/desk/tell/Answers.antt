@@ -22,4 +22,5 @@ loop-count-preserved g c =
       levels = added ∙ ap (λ level. level ∷ []) (one_more c.args.assertions.now c.loop-count.count (record { number = 0; term = 0 }) c.loop-count-test.true);
       told = refl;
       within = omega arith;
+      table = c.in_ok-add.ensures.table ∙ c.loop-count.invariant.table;
     }

@@ -1,4 +1,5 @@
 -- Where the flush failed, the whole text was written before.
+use Rattle.std.proofs.Common.{rules}
 use Rattle.nz_spec.specs.Reply.{reply_text}
 use Rattle.nz_reply.specs.Replies.{reply_of}
 use Rattle.nz_session.proofs.Feeding.{front_whole}
@@ -7,5 +8,8 @@ use Rattle.nz_session.proofs.session.show.Goals as goal
 
 pub returns-in-Err-flush-clause-front : goal.returns-in-Err-flush-clause-front
 returns-in-Err-flush-clause-front g c =
-    front_whole (g.K.Sink.held c.args.sink.now) (g.K.Sink.held c.write_reply.new.sink) (g.K.Sink.held c.flush.new.self) (reply_text (reply_of (what_view c.args.what.now) c.args.reply.now))
-    c.in_default.ensures.whole c.in-Err-flush.ensures.bytes
+    search (
+      rules,
+      front_whole (g.K.Sink.held c.args.sink.now) (g.K.Sink.held c.write_reply.new.sink) (g.K.Sink.held c.flush.new.self) (reply_text (reply_of (what_view c.args.what.now) c.args.reply.now))
+          c.in_default.ensures.written.whole c.in-Err-flush.ensures.bytes,
+    )

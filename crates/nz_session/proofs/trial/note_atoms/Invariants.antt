@@ -1,11 +1,7 @@
-use Rattle.std.proofs.Common.{◌≡◌, []}
-use Rattle.nz_reply.specs.Notes.{noted_list}
-use Rattle.nz_session.specs.SearchNotes.{HasSearched}
+use Rattle.std.proofs.Common.{◌≡◌, take}
+use Rattle.nz_session.specs.SearchNotes.{with_atoms}
 use Rattle.nz_session.proofs.trial.note_atoms.Given as goal
 
--- so many atoms are noted, and nothing else
+-- the atoms so far are noted, and nothing else
 abbrev pub invariant-loop-id : goal.invariant-loop-id
-invariant-loop-id l = record {
-  searched : HasSearched l.id-index [] (noted_list l.work);
-  limit : l.work.limit ≡ l.fn.work.limit;
-}
+invariant-loop-id l = l.work ≡ with_atoms l.fn.work (take l.id-index l.constants)

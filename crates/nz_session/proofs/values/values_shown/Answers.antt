@@ -11,12 +11,14 @@ use Rattle.nz_session.specs.Valued.{AreShown, numbers_typed, outcomes_shown, val
 use Rattle.nz_session.proofs.Valuing.{typed_within, told_all}
 use Rattle.nz_session.proofs.values.values_shown.Goals as goal
 
-pub outcomes-requires-clause-within : goal.outcomes-requires-clause-within
-outcomes-requires-clause-within c =
+pub outcomes-requires : goal.outcomes-requires
+outcomes-requires c =
     let ns = c.args.terms.now in
     let P : ℕ → Type 0 = λ i. i < length ns in
-    subst (All P) (sym (c.deref.ensures.value ∙ c.in_ok-roots.ensures.numbers))
-    (All-from_recursion P (numbers_typed c.args.asked.now) (typed_within ns c.args.asked.now c.requires.typed.0 c.requires.typed.1))
+    record {
+      within = subst (All P) (sym (c.deref.ensures.value ∙ c.in_ok-roots.ensures.numbers))
+          (All-from_recursion P (numbers_typed c.args.asked.now) (typed_within ns c.args.asked.now c.requires.typed.0 c.requires.typed.1));
+    }
 
 pub returns : goal.returns
 returns c =
@@ -29,5 +31,5 @@ returns c =
     subst (λ (ps : List (ℕ × Value)). AreOutcomes ns (assignment_by ns ps) (numbers_typed xs) os) c.in_ok-assign.ensures.valued roots in
     record {
       shown = IfOk-weaker c.shows_of.result (λ (shows : List Shown). shows ≡ outcomes_shown xs c.deref-2.result.now) (AreShown ns (table_numbers c.args.constants.now) c.args.model.now xs)
-          (λ shows e ts h. e ∙ ap (outcomes_shown xs) c.deref-2.ensures.value ∙ told_all ns (assignment_by ns pairs) xs os ts h found) c.shows_of.ensures.shows;
+          (λ shows e ts h. e ∙ ap (outcomes_shown xs) c.deref-2.ensures.value ∙ told_all c.normal_keeps_value.ensures.keeps ns (assignment_by ns pairs) xs os ts h found) c.shows_of.ensures.shows;
     }

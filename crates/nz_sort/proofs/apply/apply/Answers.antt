@@ -1,4 +1,4 @@
-use Rattle.std.proofs.Common.{◌≡◌, true, false, length, sym, subst, ◌∙◌}
+use Rattle.std.proofs.Common.{◌≡◌, true, false, length, subst}
 use Rattle.nz_spec.specs.Normal.{normal_node}
 use Rattle.nz_spec.specs.Table.{term_in, terms_at}
 use Rattle.nz_spec.specs.Elaboration.{takes, operator_head}
@@ -6,12 +6,8 @@ use Rattle.nz_term.specs.Constants.{sort_of}
 use Rattle.nz_sort.specs.Typed.{StandsFor}
 use Rattle.nz_sort.specs.Operators.{operator_meaning, operands_meaning}
 use Rattle.nz_sort.proofs.Growing.{grows_more}
-use Rattle.nz_sort.proofs.Applying.{below_all, refused_outside, refused_count, refused_operands, applied_to}
+use Rattle.nz_sort.proofs.Applying.{refused_count, refused_operands, applied_to}
 use Rattle.nz_sort.proofs.apply.apply.Goals as goal
-
-pub returns-then-not-are_below-clause-refused : goal.returns-then-not-are_below-clause-refused
-returns-then-not-are_below-clause-refused c = λ err ts typed.
-    refused_outside (operator_meaning c.args.operator) _ c.args.terms.now c.args.arguments.now ts (sym c.are_below.ensures.below ∙ c.if-not-are_below.true) (cc) typed
 
 pub returns-then-not-takes-clause-refused : goal.returns-then-not-takes-clause-refused
 returns-then-not-takes-clause-refused c = λ err ts typed.
@@ -23,9 +19,6 @@ returns-in_default-clause-refused c = λ err ts typed.
     let counts : takes (operator_meaning c.args.operator) (length c.args.arguments.now) ≡ true = cc in
     refused_operands (operator_meaning c.args.operator) (operands_meaning c.operands_of.result) c.args.terms.now c.args.arguments.now ts counts c.operands_of.ensures.operands
     (c.in_default.ensures.sort c.args.terms.now ts typed) typed
-
-pub read_at-requires : goal.read_at-requires
-read_at-requires c = record { within = below_all _ _ c.args.arguments.now (sym c.are_below.ensures.below ∙ c.if-not-are_below.false) (cc) }
 
 pub returns-in_err-id-clause-grows : goal.returns-in_err-id-clause-grows
 returns-in_err-id-clause-grows c = grows_more _ _ _ c.in_ok-kids.ensures.grows c.in_err-id.ensures.grows

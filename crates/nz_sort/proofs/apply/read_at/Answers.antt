@@ -1,7 +1,7 @@
 use Rattle.std.proofs.Common.{◌≤◌, length, refl, arith}
 use Rattle.nz_term.specs.Constants.{sort_of}
 use Rattle.nz_sort.proofs.Growing.{grows_more, push_within}
-use Rattle.nz_sort.proofs.Applying.{item_within, reading_next, reading_ends}
+use Rattle.nz_sort.proofs.Applying.{reading_next, reading_ends}
 use Rattle.nz_sort.proofs.apply.read_at.Goals as goal
 
 pub loop-argument-preserved : goal.loop-argument-preserved
@@ -13,7 +13,7 @@ loop-argument-preserved c =
     let items = c.in_ok-push.ensures.items in
     record {
       grown = grows_more _ _ _ before.grown here.grows;
-      within = push_within _ _ c.loop-argument.ids.items _ c.in_ok-id.id here.grows before.within (here.within (item_within old c.loop-argument.terms _ _ c.args.arguments.now i before.grown (omega arith) c.requires.within refl)) items;
+      within = push_within _ _ c.loop-argument.ids.items _ c.in_ok-id.id here.grows before.within here.within items;
       reading = λ ts typed.
           reading_next (sort_of c.args.sort) old c.loop-argument.terms c.read_one.new.terms _ _ c.args.arguments.now c.loop-argument.ids.items _ i c.in_ok-id.id ts
           before.grown here.grows (omega arith) refl before.within here.read items (before.reading ts typed);

@@ -1,27 +1,35 @@
-use Rattle.std.proofs.Common.{◌≡◌, ◌<◌, ◌++◌, ◌∷◌, [], map, ap, ◌∙◌, subst, arith, rules}
+use Rattle.std.proofs.Common.{◌≡◌, ◌<◌, All, length, map, ap, sym, ◌∙◌, subst, arith, rules}
 use Rattle.std.proofs.lemmas.List.{take_all}
 use Rattle.std.proofs.lemmas.Result.{err_from_is_err_and}
 use Rattle.nz_sexpr.specs.declared.tree.Tree.TheViews.{the_lemmas}
 use Rattle.nz_sexpr.specs.declared.tree.Tree.TheFolds.{fold-roll-Tree, fold_out-Tree, fold-roll-TreeList, fold_out-TreeList}
-use Rattle.nz_sexpr.specs.View.{token_view, view}
+use Rattle.nz_sexpr.specs.View.{token_view, view, seen}
 use Rattle.nz_spec.specs.Tree.{node}
-use Rattle.nz_spec.specs.Elaboration.{term_of, let_term}
+use Rattle.nz_spec.specs.Elaboration.{binding, term_of, let_term}
+use Rattle.nz_sort.specs.declared.typed.Typed.{Typed}
 use Rattle.nz_sort.specs.Names.{IsScope}
-use Rattle.nz_sort.specs.Elaborate.{application_of, tree_size, trees_size}
-use Rattle.nz_sort.specs.Form.{seen}
+use Rattle.nz_sort.specs.Elaborate.{application_of}
+use Rattle.nz_sexpr.specs.Sizes.{tree_size, trees_size}
 use Rattle.nz_sort.proofs.Growing.{grows_more}
+use Rattle.nz_sort.proofs.Applying.{typed_within}
 use Rattle.nz_sort.proofs.Sizes.{item_smaller, bound_smaller}
 use Rattle.nz_sort.proofs.Elaborating.{EachStands, all_from_each, BindsSome, binds_all}
-use Rattle.nz_sort.proofs.Looping.{frames_kept, each_next, each_none, binds_next, binds_refused, binds_none}
+use Rattle.nz_sort.proofs.Looping.{frames_kept, scope_here, each_next, each_none, binds_next, binds_refused, binds_none}
 use Rattle.nz_sort.proofs.NameTerms.{found_as}
-use Rattle.nz_sort.proofs.ListTerms.{let_list, name_list, application_found, application_none, let_found, let_none}
+use Rattle.nz_sort.proofs.ListTerms.{body_scope, let_list, name_list, application_found, application_none, let_found, let_none}
 use Rattle.nz_sort.proofs.elaboration.+elaborate.Goals as goal
 
 pub elaborate_all-elaborate-requires : goal.elaborate_all-elaborate-requires
 elaborate_all-elaborate-requires t c =
     let smaller : tree_size (view c.tree-item.result) < trees_size (seen c.args.trees.now) =
-    item_smaller view c.args.trees.now c.loop-tree.tree-index c.tree-item.result c.loop-tree-test.true c.tree-item.is in
-    (omega arith, tt)
+    item_smaller view c.args.trees.now c.loop-tree.tree-index c.tree-item.result c.loop-tree-test.true c.tree-item.is in (
+      omega arith,
+      (
+        c.requires.scope.0,
+        scope_here c.args.terms.now c.loop-tree.terms c.args.names.now c.args.frames.now.items c.loop-tree.frames.items c.requires.scope.0
+            c.loop-tree.invariant.grown c.loop-tree.invariant.frames c.requires.scope.1,
+      ),
+    )
 
 pub elaborate_all-loop-tree-preserved : goal.elaborate_all-loop-tree-preserved
 elaborate_all-loop-tree-preserved t c =
@@ -50,6 +58,20 @@ elaborate_all-returns-clause-found t c = λ sc s.
     (let whole = take_all c.loop-tree.tree-index c.args.trees.now c.loop-tree-test.false in
     all_from_each sc _ _ _ (subst (λ l. EachStands sc c.loop-tree.terms (map view l) c.loop-tree.found.items) whole (c.loop-tree.invariant.each sc s)))
 
+pub application-apply_name-requires-clause-scope : goal.application-apply_name-requires-clause-scope
+application-apply_name-requires-clause-scope t c =
+    let here = c.in_ok-arguments.ensures in (
+      c.requires.scope.0,
+      scope_here c.args.terms.now c.elaborate_all.new.terms c.args.names.now c.args.frames.now.items c.elaborate_all.new.frames.items c.requires.scope.0
+          here.grows here.frames c.requires.scope.1,
+    )
+
+pub application-apply_name-requires-clause-within : goal.application-apply_name-requires-clause-within
+application-apply_name-requires-clause-within t c =
+    let all = c.in_ok-arguments.ensures.found c.requires.scope.0 c.requires.scope.1 in
+    subst (All (λ (x : Typed). x.id < length c.elaborate_all.new.terms)) (sym c.as_slice.ensures.value)
+    (typed_within c.elaborate_all.new.terms c.in_ok-arguments.arguments.items all.terms all.typed)
+
 pub application-returns-clause-found : goal.application-returns-clause-found
 application-returns-clause-found t c =
     let here = c.in_ok-arguments.ensures in
@@ -70,8 +92,14 @@ pub bind_all-elaborate-requires : goal.bind_all-elaborate-requires
 bind_all-elaborate-requires t c =
     let smaller : tree_size (view c.in-Some.value.now) < trees_size (seen c.args.trees.now) =
     bound_smaller view c.args.trees.now c.loop-tree.tree-index c.tree-item.result (view c.in-Some.value.now) c.in-Some.name.now c.loop-tree-test.true c.tree-item.is
-    c.in-Some.ensures.binding in
-    (omega arith, tt)
+    c.in-Some.ensures.binding in (
+      omega arith,
+      (
+        c.requires.scope.0,
+        scope_here c.args.terms.now c.loop-tree.terms c.args.names.now c.args.frames.now.items c.loop-tree.frames.items c.requires.scope.0
+            c.loop-tree.invariant.grown c.loop-tree.invariant.frames c.requires.scope.1,
+      ),
+    )
 
 pub bind_all-returns-in_err-term-clause-grows : goal.bind_all-returns-in_err-term-clause-grows
 bind_all-returns-in_err-term-clause-grows t c = grows_more _ _ _ c.loop-tree.invariant.grown c.in_err-term.ensures.grows
@@ -106,6 +134,19 @@ elaborate-returns-in-List-clause-found t c =
     let shape : view c.args.tree.now ≡ node (seen c.as_slice.result.now) = search (rules, the_lemmas, fold-roll-Tree, fold_out-Tree, fold-roll-TreeList, fold_out-TreeList) in
     found_as c.list_term.result (IsScope c.args.terms.now c.args.names.now c.args.frames.now.items) (λ sc. term_of sc (node (seen c.as_slice.result.now)))
     (λ sc. term_of sc (view c.args.tree.now)) c.list_term.new.terms (λ sc. ap (term_of sc) shape) c.list_term.ensures.found
+
+pub let_term-elaborate-requires : goal.let_term-elaborate-requires
+let_term-elaborate-requires t c =
+    let bound = c.in_ok-frame.ensures in
+    let all = bound.bound c.requires.scope.0 c.requires.scope.1 in
+    let size = ap trees_size c.in-Some.ensures.two in (
+      omega (arith, size),
+      (
+        binding c.requires.scope.0 all.pairs,
+        body_scope c.args.terms.now c.bind_all.new.terms c.args.names.now c.args.frames.now.items c.bind_all.new.frames.items c.push.new.self.items c.in_ok-frame.frame
+            c.requires.scope.0 (seen c.in-Some-trees_of.bindings.now) bound.grows bound.frames c.in_ok-push.ensures.items c.requires.scope.1 all,
+      ),
+    )
 
 pub let_term-returns-in_err-term-clause-refused : goal.let_term-returns-in_err-term-clause-refused
 let_term-returns-in_err-term-clause-refused t c = λ err.

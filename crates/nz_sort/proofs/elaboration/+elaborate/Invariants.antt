@@ -1,10 +1,9 @@
 use Rattle.std.proofs.Common.{◌≡◌, suc, map, take}
-use Rattle.nz_sexpr.specs.View.{view}
+use Rattle.nz_sexpr.specs.View.{view, seen}
 use Rattle.nz_spec.specs.Elaboration.{Scope}
-use Rattle.nz_sort.specs.Form.{seen}
 use Rattle.nz_sort.specs.Names.{IsScope}
 use Rattle.nz_sort.specs.Typed.{Grows}
-use Rattle.nz_sort.specs.Elaborate.{tree_size, trees_size}
+use Rattle.nz_sexpr.specs.Sizes.{tree_size, trees_size}
 use Rattle.nz_sort.proofs.Elaborating.{EachStands, BindsSome}
 use Rattle.nz_sort.proofs.elaboration.+elaborate.Given as goal
 

@@ -1,7 +1,7 @@
 use Rattle.std.proofs.Common.{arith}
 use Rattle.std.proofs.lemmas.Result.{err_from_is_err_and}
 use Rattle.nz_sort.proofs.Growing.{grows_more, push_within}
-use Rattle.nz_sort.proofs.Expanding.{placed_next, placed_none, placed_within, placed_all, placed_count}
+use Rattle.nz_sort.proofs.Expanding.{placed_next, placed_none, placed_all, placed_count}
 use Rattle.nz_sort.proofs.elaboration.place_all.Goals as goal
 
 pub returns-then-sorts-arguments-clause-refused : goal.returns-then-sorts-arguments-clause-refused
@@ -12,18 +12,12 @@ returns-in_err-id-clause-refused c = λ err.
     (let p = err_from_is_err_and c.from_residual-in_err-id.result c.from_residual-in_err-id.ensures.1 in
     placed_none c.args.terms.now c.args.sorts.now c.args.arguments.now c.loop-i.i _ _ (omega arith) (omega arith) (c.in_err-id.ensures.refused cc))
 
-pub returns-then-id-len-clause-refused : goal.returns-then-id-len-clause-refused
-returns-then-id-len-clause-refused c = λ err ts p.
-    (let within = placed_within c.args.terms.now c.loop-i.terms c.place.new.terms c.args.sorts.now c.args.arguments.now c.loop-i.i c.in_ok-id.id _ _
-    c.loop-i.invariant.grown (omega arith) c.in_ok-id.ensures.placed ts p in
-    absurd (omega arith))
-
 pub loop-i-preserved : goal.loop-i-preserved
 loop-i-preserved c =
     let before = c.loop-i.invariant in
     record {
       grown = grows_more _ _ _ before.grown c.in_ok-id.ensures.grows;
-      within = push_within c.loop-i.terms c.place.new.terms c.loop-i.ids.items c.push.new.self.items c.in_ok-id.id c.in_ok-id.ensures.grows before.within (omega arith) c.in_ok-push.ensures.items;
+      within = push_within c.loop-i.terms c.place.new.terms c.loop-i.ids.items c.push.new.self.items c.in_ok-id.id c.in_ok-id.ensures.grows before.within c.in_ok-id.ensures.within c.in_ok-push.ensures.items;
       placed = placed_next c.args.terms.now c.loop-i.terms c.place.new.terms c.args.sorts.now c.args.arguments.now c.loop-i.i c.in_ok-id.id _ _ c.loop-i.ids.items c.push.new.self.items
           before.grown c.in_ok-id.ensures.grows (omega arith) (omega arith) c.in_ok-push.ensures.items before.placed c.in_ok-id.ensures.placed;
     }

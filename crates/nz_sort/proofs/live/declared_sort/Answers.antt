@@ -1,7 +1,6 @@
 use Rattle.std.proofs.Common.{◌≡◌, ◌∙◌, false, sym}
-use Rattle.nz_sexpr.specs.View.{view}
+use Rattle.nz_sexpr.specs.View.{view, seen}
 use Rattle.nz_sort.specs.Faults.{is_listed}
-use Rattle.nz_sort.specs.Form.{seen}
 use Rattle.nz_sort.proofs.Forming.{empty_seen}
 use Rattle.nz_sort.proofs.Ruling.{takes_no_arguments}
 use Rattle.nz_sort.proofs.live.declared_sort.Goals as goal

@@ -1,11 +1,10 @@
 use Rattle.std.proofs.Common.{◌<◌, ◌||◌, [], ◌∷◌, ◌++◌, sym, ap, ◌∙◌, subst, refl, arith}
-use Rattle.nz_sexpr.specs.View.{token_view, view}
+use Rattle.nz_sexpr.specs.View.{token_view, view, seen}
 use Rattle.nz_spec.specs.Tree.{node}
 use Rattle.nz_spec.specs.Form.{let_head, name_head, no_head}
-use Rattle.nz_spec.specs.Script.{names_bound, is_unknown, has_unknown, has_unknown_in_let, have_unknown, has_clash, have_clash, has_unknown_pair, have_unknown_bound, has_clash_pair, have_clash_bound}
-use Rattle.nz_sort.specs.Elaborate.{tree_size, trees_size}
+use Rattle.nz_spec.specs.Scoping.{names_bound, is_unknown, has_unknown, has_unknown_in_let, have_unknown, has_clash, have_clash, has_unknown_pair, have_unknown_bound, has_clash_pair, have_clash_bound}
+use Rattle.nz_sexpr.specs.Sizes.{tree_size, trees_size}
 use Rattle.nz_sort.specs.Faults.{AreBound}
-use Rattle.nz_sort.specs.Form.{seen}
 use Rattle.nz_sort.proofs.Scoping.{frames_stay, found_next, found_all, tells_same, unknown_behind, unknown_headed, bound-push, unknown_in_let}
 use Rattle.nz_sort.proofs.Sizes.{item_smaller}
 use Rattle.nz_sort.proofs.scope.+faults.Goals as goal

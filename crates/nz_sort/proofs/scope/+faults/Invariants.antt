@@ -1,9 +1,8 @@
 use Rattle.std.proofs.Common.{◌≡◌, ℕ, ◌*◌, suc, ◌||◌, Bool, List, drop}
-use Rattle.nz_sexpr.specs.View.{view}
-use Rattle.nz_spec.specs.Script.{have_unknown, have_clash, have_unknown_bound, have_clash_bound}
-use Rattle.nz_sort.specs.Elaborate.{tree_size, trees_size}
+use Rattle.nz_sexpr.specs.View.{view, seen}
+use Rattle.nz_spec.specs.Scoping.{have_unknown, have_clash, have_unknown_bound, have_clash_bound}
+use Rattle.nz_sexpr.specs.Sizes.{tree_size, trees_size}
 use Rattle.nz_sort.specs.Faults.{AreLive, AreBound}
-use Rattle.nz_sort.specs.Form.{seen}
 use Rattle.nz_sort.proofs.scope.+faults.Given as goal
 
 abbrev pub decreases-faults_of : goal.decreases-faults_of

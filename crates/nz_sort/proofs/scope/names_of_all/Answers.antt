@@ -1,7 +1,7 @@
 use Rattle.std.proofs.Common.{◌≡◌, ◌||◌, ◌∷◌, ◌+◌, drop, sym, ◌∙◌, ap}
 use Rattle.nz_spec.specs.Form.{is_one_of}
-use Rattle.nz_spec.specs.Script.{bound_names}
-use Rattle.nz_sort.specs.Form.{seen}
+use Rattle.nz_spec.specs.Scoping.{bound_names}
+use Rattle.nz_sexpr.specs.View.{seen}
 use Rattle.nz_sort.proofs.Scoping.{clash_after, names_start, clash_start, names_turn, names_next, clash_next}
 use Rattle.nz_sort.proofs.scope.names_of_all.Goals as goal
 

@@ -1,7 +1,7 @@
 use Rattle.std.proofs.Common.{◌≡◌, ℕ, ◌||◌, List, drop}
 use Rattle.nz_spec.specs.Form.{is_one_of}
-use Rattle.nz_spec.specs.Script.{bound_names, clash}
-use Rattle.nz_sort.specs.Form.{seen}
+use Rattle.nz_spec.specs.Scoping.{bound_names, clash}
+use Rattle.nz_sexpr.specs.View.{seen}
 use Rattle.nz_sort.proofs.Scoping.{clash_after}
 use Rattle.nz_sort.proofs.scope.names_of_all.Given as goal
 

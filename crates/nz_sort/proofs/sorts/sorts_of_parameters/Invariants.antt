@@ -1,7 +1,7 @@
 use Rattle.std.proofs.Common.{◌≡◌, drop, map}
 use Rattle.nz_spec.specs.Script.{sorts_of_trees, parameter_sorts}
 use Rattle.nz_term.specs.Constants.{sort_of}
-use Rattle.nz_sort.specs.Form.{seen}
+use Rattle.nz_sexpr.specs.View.{seen}
 use Rattle.nz_sort.proofs.SortTrees.{sorts_before}
 use Rattle.nz_sort.proofs.sorts.sorts_of_parameters.Given as goal
 

@@ -1,8 +1,7 @@
 use Rattle.std.proofs.Common.{◌≡◌, drop}
-use Rattle.nz_sexpr.specs.View.{view}
+use Rattle.nz_sexpr.specs.View.{view, seen}
 use Rattle.nz_spec.specs.Bounds.{have_token}
-use Rattle.nz_sort.specs.Elaborate.{tree_size, trees_size}
-use Rattle.nz_sort.specs.Form.{seen}
+use Rattle.nz_sexpr.specs.Sizes.{tree_size, trees_size}
 use Rattle.nz_sort.specs.Tokens.{meaning_of}
 use Rattle.nz_sort.proofs.tokens.+tokens.Given as goal
 

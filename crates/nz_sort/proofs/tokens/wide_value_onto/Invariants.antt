@@ -1,9 +1,10 @@
 use Rattle.std.proofs.Common.{◌≡◌, ◌≤◌, drop}
-use Rattle.nz_spec.specs.Bounds.{value_onto, greatest_number}
+use Rattle.nz_spec.specs.Bounds.{value_onto}
+use Rattle.nz_spec.specs.Fraction.{largest}
 use Rattle.nz_sort.proofs.tokens.wide_value_onto.Given as goal
 
 abbrev pub invariant-loop-byte : goal.invariant-loop-byte
 invariant-loop-byte l = record {
   value : value_onto l.fn.start l.digits ≡ value_onto l.value (drop l.byte-index l.digits);
-  bounded : l.value ≤ greatest_number;
+  bounded : l.value ≤ largest;
 }

@@ -1,16 +1,17 @@
 -- The instance of a term by how its head and its arguments are.
-use Rattle.std.proofs.Common.{◌≡◌, ◌<◌, [], ◌∷◌, ◌++◌, length, map, slice_get, slice_index, All, false, Option, Some, None, is_some, sym, ap, subst, ◌∙◌}
-use Rattle.std.specs.Prelude.{◌⊎◌, ⊤, IfOk, Result, Ok, Err}
+use Rattle.std.proofs.Common.{◌≡◌, ◌<◌, List, [], ◌∷◌, ◌++◌, ℕ, length, map, slice_get, slice_index, All, false, Some, sym, ap, subst, ◌∙◌, true≢false}
+use Rattle.std.specs.Prelude.{◌⊎◌, bytes_eq, IfOk, Result, Ok, Err}
 use Rattle.std.proofs.lemmas.Option.{slice_get_within}
 use Rattle.std.specs.Cmp.Lexicographic.{bytes_decides}
-use Rattle.nz_spec.specs.Term.{Constant, Head, apply, constant_of}
-use Rattle.nz_spec.specs.Table.{term_in, terms_at}
+use Rattle.nz_spec.specs.Term.{Head, apply}
+use Rattle.nz_spec.specs.Table.{HasItsArguments, term_in, terms_at}
 use Rattle.nz_term.specs.Growth.{IsOperator}
 use Rattle.nz_term.specs.Heads.{head_of}
 use Rattle.nz_term.specs.Instances.{IsInstance}
 use Rattle.nz_term.specs.Nodes.{node_of, node_with}
-use Rattle.nz_term.proofs.Instancing.{argument_instance, grows_by, instances_within, made_instance, own_instance}
+use Rattle.nz_term.proofs.Instancing.{argument_instance, free, grows_by, instances_within, made_instance, operator, own_instance}
 use Rattle.nz_term.proofs.instances.node_instance.Goals as goal
+use Rattle.nz_term.proofs.instances.node_instance.Goals.{After-as_slice-2}
 
 pub returns-in-Some-clause-made : goal.returns-in-Some-clause-made
 returns-in-Some-clause-made c =
@@ -36,12 +37,24 @@ make-requires-clause-within c =
     c.as_slice-2.ensures.value ∙ c.in_ok-instances.ensures.listed ∙ ap (map (slice_index made)) c.as_slice-kids.ensures.ids in
     subst (All (λ k. k < length ns)) (sym listed) (instances_within ns c.args.arguments.now made n.kids (c.requires.done (node_of n) c.node-node.ensures.node))
 
-operator : (h : Head) → is_some (constant_of h) ≡ false → IsOperator h
-operator h e = by (constant_of h) e
-  where
-    by : (o : Option Constant) → is_some o ≡ false → elim o as (λ x. Type 0) [ Some c ↦ ⊥ | None ↦ ⊤ ]
-    by (Some c) e = cc
-    by None e = tt
+-- a head whose arguments have other instances is an operator's
+changed : (h : Head) (kids made shown instances again : List ℕ) → HasItsArguments h kids → shown ≡ kids → instances ≡ map (slice_index made) shown → again ≡ instances
+    → false ≡ bytes_eq again shown → IsOperator h
+changed h kids made shown instances again leaf same listed equal other =
+    operator h kids leaf (λ none.
+    let nothing : shown ≡ [] = same ∙ none in
+    true≢false (sym (ap (λ l. bytes_eq l shown) (equal ∙ listed ∙ ap (map (slice_index made)) nothing) ∙ ap (bytes_eq []) nothing) ∙ sym other))
+
+operates : (c : After-as_slice-2) → IsOperator (head_of c.node-node.result.now.head)
+operates c =
+    let n = c.node-node.result.now in
+    changed (head_of n.head) n.kids c.args.made.now c.as_slice-kids.result.now c.in_ok-instances.instances.items c.as_slice.result.now c.node-node.ensures.leaves c.as_slice-kids.ensures.ids
+    c.in_ok-instances.ensures.listed c.as_slice.ensures.value c.if-eq.ensures
+
+pub make-requires-clause-leaves : goal.make-requires-clause-leaves
+make-requires-clause-leaves c =
+    let same : head_of c.in_ok-head.head ≡ head_of c.node-node.result.now.head = ap head_of c.in_ok-head.ensures.cases in
+    free (head_of c.in_ok-head.head) c.as_slice-2.result.now (subst IsOperator (sym same) (operates c))
 
 both_ok : {T E : Type 0} (r : Result T E) (P Q R : T → Type 0) → ((x : T) → P x → Q x → R x) → IfOk r P → IfOk r Q → IfOk r R
 both_ok (Ok x) P Q R f p q = f x p q
@@ -58,7 +71,7 @@ returns-clause-made c =
     c.as_slice-2.ensures.value ∙ c.in_ok-instances.ensures.listed ∙ ap (map (slice_index made)) c.as_slice-kids.ensures.ids in
     let same : head_of c.in_ok-head.head ≡ head_of n.head = ap head_of c.in_ok-head.ensures.cases in
     let one = node_with c.in_ok-head.head kids in
-    let stays = subst IsOperator (sym same) (operator (head_of n.head) (sym c.if-is_constant.ensures.constant)) in
+    let stays = subst IsOperator (sym same) (operates (goal.at.returns-clause-made c).After-as_slice-2) in
     both_ok c.make.result
     (λ id. (slice_get new id ≡ Some one) × (term_in new id ≡ apply (head_of c.in_ok-head.head) (terms_at (term_in old) kids)))
     (λ id. (new ≡ old) ⊎ (new ≡ old ++ one ∷ []))

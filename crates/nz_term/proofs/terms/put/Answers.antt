@@ -17,7 +17,7 @@ returns-clause-goes_on c = made_grown c.args.nodes.now.keys c.args.node c.insert
 pub returns-clause-table : goal.returns-clause-table
 returns-clause-table c =
     made_table c.args.nodes.now.keys c.args.node c.insert_full.new.self.keys c.in_ok-id.ensures.keys c.insert_full.ensures.unique c.requires.table c.requires.within
-    c.requires.fits
+    c.requires.fits c.requires.leaves
 
 pub returns-clause-node : goal.returns-clause-node
 returns-clause-node c = made_node c.insert_full.new.self.keys c.args.node c.in_ok-id.id c.in_ok-id.ensures.stored

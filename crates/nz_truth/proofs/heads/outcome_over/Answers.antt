@@ -1,7 +1,7 @@
 -- Each operator that takes no operation by the clause of its function.
 use Rattle.std.proofs.Common.{map, refl, ap}
 use Rattle.nz_spec.specs.Term.{conjunction, choice, difference, disjunction, exclusion, integer_quotient, is_int, magnitude, modulus, negation, to_int, to_real}
-use Rattle.nz_term.specs.Constants.{sort_of}
+use Rattle.nz_term.specs.Constants.{number_sort_of, sort_of}
 use Rattle.nz_term.specs.Heads.{head_of}
 use Rattle.nz_term.specs.Values.{value_of}
 use Rattle.nz_truth.proofs.Carrying.{of_head, plain}
@@ -10,7 +10,7 @@ use Rattle.nz_truth.proofs.heads.outcome_over.Goals as goal
 pub returns-in-Difference : goal.returns-in-Difference
 returns-in-Difference c = record {
   outcome = λ a given.
-      of_head (head_of c.args.head.now) (difference (sort_of c.in-Difference.field-0)) a (map value_of c.args.args.now) c.difference.result (ap head_of c.in-Difference.is) (c.difference.ensures.outcome a (sort_of c.in-Difference.field-0));
+      of_head (head_of c.args.head.now) (difference (number_sort_of c.in-Difference.field-0)) a (map value_of c.args.args.now) c.difference.result (ap head_of c.in-Difference.is) (c.difference.ensures.outcome a (number_sort_of c.in-Difference.field-0));
 }
 
 pub returns-in-Ite : goal.returns-in-Ite

@@ -22,7 +22,7 @@ loop-id-init c =
     let ids = c.args.constants.now in
     record {
       room = c.decide.auto.values ∙ c.requires.room;
-      walked = λ a g s. before_all ns a ids c.decide.new.values c.requires.distinct c.requires.constants
+      walked = λ a g s. before_all ns a ids c.decide.new.values c.len.ensures.table c.requires.constants
           (c.decide.ensures.decided (told_at ns a) (decided_is ns a ids c.args.decided.now c.requires.constants g));
     }
 
@@ -38,7 +38,7 @@ loop-id-preserved c =
     let inside : k < length ids = omega arith in
     let place : slice_get ids k ≡ Some i = slice_get-get_or ids k 0 inside in
     let within : i < length values = omega (arith, c.requires.within k 0 inside, c.loop-id.invariant.room) in
-    let of = truth_head ns i n.head n.kids c.node.ensures.term (c.requires.truths k 0 inside) (c.requires.operators k 0 inside) in
+    let of = truth_head ns i n.head n.kids c.node.ensures.term (c.requires.truths k 0 inside) in
     record {
       room = length-set values i b ∙ c.loop-id.invariant.room;
       walked = λ a g s.
@@ -58,7 +58,7 @@ node_truth-requires c =
     let inside : k < length ids = omega arith in
     record {
       within = λ j d l. omega (arith, c.node.ensures.before j d l, c.requires.within k 0 inside, c.loop-id.invariant.room);
-      truths = truth_head ns i n.head n.kids c.node.ensures.term (c.requires.truths k 0 inside) (c.requires.operators k 0 inside);
+      truths = truth_head ns i n.head n.kids c.node.ensures.term (c.requires.truths k 0 inside);
     }
 
 pub returns : goal.returns

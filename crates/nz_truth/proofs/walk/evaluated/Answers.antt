@@ -23,7 +23,7 @@ loop-id-preserved c =
     let place : slice_get ids k ≡ Some i = slice_get-get_or ids k 0 inside in
     let known = subst (All (λ j. j < length ns)) (sym c.deref-id-items.ensures.value) c.in_ok-order.ensures.within in
     let within : i < length os = omega (arith, known k 0 inside, c.loop-id.invariant.room) in
-    let constants = given c.assigns_by_number.ensures.listed ns c.requires.distinct c.args.assign.now c.in_ok-given.given.items
+    let constants = given c.assigns_by_number.ensures.listed ns c.len.ensures.table c.args.assign.now c.in_ok-given.given.items
     (λ j below. c.in_ok-given.ensures.listed j (subst (λ n. j < n) (sym c.len.ensures.len) below)) in
     let kids = kids_known ns a ids os behind k i place c.loop-id.invariant.done in
     let here = c.in_ok-outcomes-2.ensures.outcome a (subst (AreGiven ns a) (sym c.deref.ensures.value) constants) (subst (HasEvaluatedKids ns a i) (sym c.deref-in-loop-id.ensures.value) kids) in

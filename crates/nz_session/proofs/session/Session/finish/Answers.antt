@@ -1,50 +1,36 @@
-use Rattle.std.proofs.Common.{sym, subst, List, inl, inr}
-use Rattle.nz_spec.specs.Text.{script_limits}
-use Rattle.nz_spec.specs.Script.{start}
+-- The last thing heard is served.
+use Rattle.std.proofs.Common.{true, sym, subst, inl, inr}
+use Rattle.nz_spec.specs.Right.{beginning}
 use Rattle.nz_spec.specs.Transcript.{AreRight}
-use Rattle.nz_reply.specs.declared.reply.Kept as kept
-use Rattle.nz_reply.specs.Replies.{all_kept}
-use Rattle.nz_session.specs.Serve.{IsFront, things_of}
-use Rattle.nz_session.proofs.Feeding.{breaks_off, finished, finish_broken, finish_cut, finish_quiet, writes_more, writes_nothing}
+use Rattle.nz_session.specs.Serve.{IsCut, kept_at}
+use Rattle.nz_session.proofs.Feeding.{finished, finish_broken, finish_cut, finish_quiet, kept_alike, writes_more, writes_nothing}
 use Rattle.nz_session.proofs.session.Session.finish.Goals as goal
+
+pub returns-in-None-clause-ended : goal.returns-in-None-clause-ended
+returns-in-None-clause-ended g c =
+    λ _ limit bytes serves. finish_quiet g.E.Decide.levels g.E.Decide.table limit bytes c.args.self.now serves c.finish.result c.finish.ensures.heard c.in-None.is
 
 pub returns-in-Some-clause-ended : goal.returns-in-Some-clause-ended
 returns-in-Some-clause-ended g c =
-    λ e limit bytes serves fits.
-    finished limit bytes (all_kept c.args.self.now.kept.items) c.finish.result
-    (c.finish.ensures.heard script_limits bytes (things_of (all_kept c.args.self.now.kept.items)) serves.reads serves.settled fits) c.in-Some.heard c.in-Some.is
-    (all_kept c.serve.new.kept.items) _ _ (c.serve.ensures.answered e)
-    ((elim e as (λ _. AreRight limit start (all_kept c.serve.new.kept.items)) [
+    λ e limit bytes serves.
+    finished g.E.Decide.levels g.E.Decide.table limit bytes c.args.self.now serves c.finish.result c.finish.ensures.heard c.in-Some.heard c.in-Some.is
+    (kept_at c.serve.new.desk c.serve.new.kept.items) _ _ (c.serve.ensures.answered e)
+    ((elim e as (λ _. AreRight (beginning limit) (kept_at c.serve.new.desk c.serve.new.kept.items)) [
       | inl went ↦ (c.serve.ensures.going went limit serves.going).right
       | inr left ↦ (c.serve.ensures.exited left limit serves.going).0
     ]))
 
+pub returns-in-Some-clause-written : goal.returns-in-Some-clause-written
+returns-in-Some-clause-written g c = λ e limit bytes serves. writes_more _ _ _ _ _ _ _ (writes_nothing _ (g.K.Sink.held c.args.sink.now)) (c.serve.ensures.answered e)
+
 pub returns-in-Some-clause-cut : goal.returns-in-Some-clause-cut
 returns-in-Some-clause-cut g c =
-    λ e limit bytes serves fits.
-    subst (λ (l : List kept.Kept). IsFront limit bytes (all_kept l)) (sym (c.serve.ensures.cut e))
-    (finish_cut limit bytes (all_kept c.args.self.now.kept.items) c.finish.result
-    (c.finish.ensures.heard script_limits bytes (things_of (all_kept c.args.self.now.kept.items)) serves.reads serves.settled fits)
-    serves.going.right)
-
-pub returns-in-Some-clause-written : goal.returns-in-Some-clause-written
-returns-in-Some-clause-written g c =
-    λ e. writes_more _ _ _ _ _ _ _ (writes_nothing (all_kept c.args.self.now.kept.items) (g.K.Sink.held c.args.sink.now)) (c.serve.ensures.answered e)
+    λ e limit bytes serves.
+    subst (IsCut limit true bytes) (sym (kept_alike c.args.self.now.desk c.serve.new.desk _ _ (c.serve.ensures.cut_desk e) (c.serve.ensures.cut e)))
+    (finish_cut g.E.Decide.levels g.E.Decide.table limit bytes c.args.self.now serves c.finish.result c.finish.ensures.heard c.in-Some.heard c.in-Some.is)
 
 pub returns-in-Some-clause-broken_off : goal.returns-in-Some-clause-broken_off
 returns-in-Some-clause-broken_off g c =
-    λ e limit bytes serves fits.
-    finish_broken limit bytes (all_kept c.args.self.now.kept.items) c.finish.result
-    (c.finish.ensures.heard script_limits bytes (things_of (all_kept c.args.self.now.kept.items)) serves.reads serves.settled fits) c.in-Some.heard c.in-Some.is
-    (all_kept c.serve.new.kept.items) _ _ (c.serve.ensures.broken_off_written e) (c.serve.ensures.broken_off e limit serves.going)
-
-pub returns-in-Some-clause-broken_off_written : goal.returns-in-Some-clause-broken_off_written
-returns-in-Some-clause-broken_off_written g c =
-    λ e. breaks_off _ _ _ _ _ _ _ (writes_nothing (all_kept c.args.self.now.kept.items) (g.K.Sink.held c.args.sink.now)) (c.serve.ensures.broken_off_written e)
-
-pub returns-in-None-clause-ended : goal.returns-in-None-clause-ended
-returns-in-None-clause-ended g c =
-    λ _ limit bytes serves fits.
-    finish_quiet limit bytes (all_kept c.args.self.now.kept.items) c.finish.result
-    (c.finish.ensures.heard script_limits bytes (things_of (all_kept c.args.self.now.kept.items)) serves.reads serves.settled fits) c.in-None.is
-    serves.going.right
+    λ e limit bytes serves.
+    finish_broken g.E.Decide.levels g.E.Decide.table limit bytes c.args.self.now serves c.finish.result c.finish.ensures.heard c.in-Some.heard c.in-Some.is
+    (kept_at c.serve.new.desk c.serve.new.kept.items) _ _ (c.serve.ensures.broken_off_written e) (c.serve.ensures.broken_off e limit serves.going)

@@ -1,4 +1,4 @@
-use Rattle.std.proofs.Common.{◌≡◌, ◌-◌, ℕ, length, take, sym, ap, ◌∙◌, Vec, Global}
+use Rattle.std.proofs.Common.{◌≡◌, ◌-◌, ℕ, length, take, refl, sym, ap, ◌∙◌, Vec, Global}
 use Rattle.std.proofs.lemmas.List.{take-map, length-map}
 use Rattle.nz_session.specs.Levels.{numbers_by_level}
 use Rattle.nz_session.proofs.trial.TrialDecide.pop.Goals as goal
@@ -13,4 +13,5 @@ returns c =
     ap (λ k. k - c.args.count) (c.len.ensures ∙ c.self.inside.levels.ok.0 ∙ sym (length-map levels numbers) ∙ ap length same) in
     record {
       rest = ap numbers_by_level c.truncate.ensures.items ∙ sym (take-map numbers n levels) ∙ ap (take n) same ∙ ap (λ k. take k c.args.self.now) count;
+      table = refl;
     }

@@ -1,6 +1,5 @@
 use Rattle.std.proofs.Common.{◌≡◌, ◌-◌, ◌≤◌, ◌++◌, false, replicate, length}
-use Rattle.nz_reply.specs.Notes.{noted_list}
-use Rattle.nz_session.specs.SearchNotes.{HasSearched}
+use Rattle.nz_session.specs.SearchNotes.{AddsSteps, HasSearched}
 use Rattle.nz_session.proofs.trial.stack.decide_rest.Given as goal
 
 -- so far `false` was decided throughout
@@ -8,8 +7,8 @@ abbrev pub invariant-loop-stack : goal.invariant-loop-stack
 invariant-loop-stack l = record {
   added : l.stack.items ≡ l.fn.stack.items ++ replicate (length l.stack.items - length l.fn.stack.items) false;
   longer : length l.fn.stack.items ≤ length l.stack.items;
-  searched : HasSearched l.count l.stack.items (noted_list l.work);
-  limit : l.work.limit ≡ l.fn.work.limit;
+  searched : HasSearched l.count l.stack.items l.work;
+  steps : AddsSteps l.count l.fn.work l.work;
 }
 
 abbrev pub decreases-loop-stack : goal.decreases-loop-stack

@@ -1,14 +1,7 @@
 use Rattle.std.proofs.Common.{[], subst, refl}
 use Rattle.nz_term.specs.Nodes.{node_with}
-use Rattle.nz_session.proofs.Growth.{GrowsBy, bools_grown, distinct_two}
+use Rattle.nz_session.proofs.Growth.{GrowsBy, bools_grown}
 use Rattle.nz_session.proofs.trial.tests.two_constants.Goals as goal
-
-pub returns-clause-names : goal.returns-clause-names
-returns-clause-names c =
-    let p = node_with c.in_ok-bool_constant.field-0 [] in
-    let q = node_with c.in_ok-bool_constant-2.field-0 [] in
-    let first : GrowsBy [] c.make.new.self p = subst (λ ns. GrowsBy ns c.make.new.self p) c.in_ok-terms.ensures.empty c.in_ok-p.ensures.grown in
-    distinct_two c.make.new.self c.make-2.new.self p q _ _ first c.in_ok-q.ensures.grown c.in_ok-bool_constant.ensures c.in_ok-bool_constant-2.ensures refl
 
 pub returns-clause-bools : goal.returns-clause-bools
 returns-clause-bools c =

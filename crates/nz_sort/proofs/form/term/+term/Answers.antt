@@ -1,7 +1,6 @@
 use Rattle.std.proofs.Common.{◌<◌, arith}
-use Rattle.nz_sexpr.specs.View.{view}
-use Rattle.nz_sort.specs.Elaborate.{tree_size, trees_size}
-use Rattle.nz_sort.specs.Form.{seen}
+use Rattle.nz_sexpr.specs.View.{view, seen}
+use Rattle.nz_sexpr.specs.Sizes.{tree_size, trees_size}
 use Rattle.nz_sort.proofs.Sizes.{item_smaller}
 use Rattle.nz_sort.proofs.form.term.+term.Goals as goal
 

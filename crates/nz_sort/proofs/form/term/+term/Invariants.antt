@@ -1,8 +1,7 @@
 use Rattle.std.proofs.Common.{◌≡◌, drop}
-use Rattle.nz_sexpr.specs.View.{view}
+use Rattle.nz_sexpr.specs.View.{view, seen}
 use Rattle.nz_spec.specs.Form.{are_term_trees, are_bindings}
-use Rattle.nz_sort.specs.Elaborate.{tree_size, trees_size}
-use Rattle.nz_sort.specs.Form.{seen}
+use Rattle.nz_sexpr.specs.Sizes.{tree_size, trees_size}
 use Rattle.nz_sort.proofs.form.term.+term.Given as goal
 
 abbrev pub decreases-is_term_tree : goal.decreases-is_term_tree

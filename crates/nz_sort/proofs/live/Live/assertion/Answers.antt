@@ -1,9 +1,8 @@
 use Rattle.std.proofs.Common.{◌∙◌, ap, sym, Err}
 use Rattle.nz_sexpr.specs.View.{view}
-use Rattle.nz_spec.specs.Script.{scope_of}
 use Rattle.nz_sort.specs.Acts.{error_of}
 use Rattle.nz_sort.specs.Live.{Standing}
-use Rattle.nz_sort.proofs.Living.{alike_term, live_scope, faulty_assertion, untyped_assertion, missorted_assertion, nonlinear_assertion, linear_assertion}
+use Rattle.nz_sort.proofs.Living.{alike_term, faulty_assertion, untyped_assertion, missorted_assertion, nonlinear_assertion, linear_assertion}
 use Rattle.nz_sort.proofs.Ruling.{if_some_by}
 use Rattle.nz_sort.proofs.live.Live.assertion.Goals as goal
 
@@ -21,14 +20,14 @@ returns-in-Err-Sort-clause-refused c = λ s live.
     untyped_assertion s (view c.args.tree.now)
     (alike_term _ c.args.self.now s _ _ (view c.args.tree.now) _ _ names c.new-bound.ensures.items live c.in_ok-faults.ensures.unknown c.in_ok-faults.ensures.clash
     ∙ c.in_default.ensures.none)
-    (c.in-Err-Sort.ensures.refused (ap Err c.in-Err-Sort.field-0-is) (scope_of s) (live_scope _ c.args.self.now s _ _ names c.new-frames.ensures.items live))
+    (c.in-Err-Sort.ensures.refused (ap Err c.in-Err-Sort.field-0-is) s live)
 
 pub returns-then-not-is_bool-clause-refused : goal.returns-then-not-is_bool-clause-refused
 returns-then-not-is_bool-clause-refused c = λ s live.
     let names = ap (λ (st : Standing). st.names) c.self.view_is in
     let known =
     alike_term _ c.args.self.now s _ _ (view c.args.tree.now) _ _ names c.new-bound.ensures.items live c.in_ok-faults.ensures.unknown c.in_ok-faults.ensures.clash ∙ c.in_default.ensures.none in
-    let found = c.in-Ok.ensures.found (scope_of s) (live_scope _ c.args.self.now s _ _ names c.new-frames.ensures.items live) in
+    let found = c.in-Ok.ensures.found s live in
     missorted_assertion s (view c.args.tree.now) _ c.in-Ok.term known found (sym c.is_bool.ensures.bool ∙ c.if-not-is_bool.true)
 
 pub returns-then-not-is_linear-clause-refused : goal.returns-then-not-is_linear-clause-refused
@@ -36,15 +35,15 @@ returns-then-not-is_linear-clause-refused c = λ s live.
     let names = ap (λ (st : Standing). st.names) c.self.view_is in
     let known =
     alike_term _ c.args.self.now s _ _ (view c.args.tree.now) _ _ names c.new-bound.ensures.items live c.in_ok-faults.ensures.unknown c.in_ok-faults.ensures.clash ∙ c.in_default.ensures.none in
-    let found = c.in-Ok.ensures.found (scope_of s) (live_scope _ c.args.self.now s _ _ names c.new-frames.ensures.items live) in
+    let found = c.in-Ok.ensures.found s live in
     nonlinear_assertion s (view c.args.tree.now) _ c.in-Ok.term known found (sym c.is_bool.ensures.bool ∙ c.if-not-is_bool.false)
-    (λ below. sym (c.is_linear.ensures.linear below) ∙ c.if-not-is_linear.true)
+    (sym c.is_linear.ensures.linear ∙ c.if-not-is_linear.true)
 
 pub returns-clause-accepted : goal.returns-clause-accepted
 returns-clause-accepted c = λ s live.
     let names = ap (λ (st : Standing). st.names) c.self.view_is in
     let known =
     alike_term _ c.args.self.now s _ _ (view c.args.tree.now) _ _ names c.new-bound.ensures.items live c.in_ok-faults.ensures.unknown c.in_ok-faults.ensures.clash ∙ c.in_default.ensures.none in
-    let found = c.in-Ok.ensures.found (scope_of s) (live_scope _ c.args.self.now s _ _ names c.new-frames.ensures.items live) in
+    let found = c.in-Ok.ensures.found s live in
     linear_assertion s (view c.args.tree.now) _ c.in-Ok.term known found (sym c.is_bool.ensures.bool ∙ c.if-not-is_bool.false)
-    (λ below. sym (c.is_linear.ensures.linear below) ∙ c.if-not-is_linear.false)
+    (sym c.is_linear.ensures.linear ∙ c.if-not-is_linear.false)

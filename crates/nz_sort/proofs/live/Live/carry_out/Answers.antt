@@ -1,6 +1,7 @@
 use Rattle.std.proofs.Common.{◌∙◌, ap}
 use Rattle.nz_spec.specs.Script.{outcome_by}
-use Rattle.nz_sort.specs.Form.{seen, command_meaning}
+use Rattle.nz_sort.specs.Form.{command_meaning}
+use Rattle.nz_sexpr.specs.View.{seen}
 use Rattle.nz_sort.proofs.live.Live.carry_out.Goals as goal
 
 pub returns-in-None-clause-refused : goal.returns-in-None-clause-refused

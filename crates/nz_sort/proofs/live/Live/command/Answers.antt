@@ -1,8 +1,7 @@
 use Rattle.std.proofs.Common.{◌∙◌, sym, subst}
-use Rattle.nz_sexpr.specs.View.{view}
+use Rattle.nz_sexpr.specs.View.{view, seen}
 use Rattle.nz_spec.specs.Script.{outcome_of}
 use Rattle.nz_sort.specs.Acts.{asked, error_of}
-use Rattle.nz_sort.specs.Form.{seen}
 use Rattle.nz_sort.specs.Live.{Leaves}
 use Rattle.nz_sort.proofs.Ruling.{if_some_weaker}
 use Rattle.nz_sort.proofs.live.Live.command.Goals as goal

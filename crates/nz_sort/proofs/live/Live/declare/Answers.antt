@@ -1,9 +1,8 @@
 use Rattle.std.proofs.Common.{◌∙◌, ap, sym}
-use Rattle.nz_sexpr.specs.View.{view}
+use Rattle.nz_sexpr.specs.View.{view, seen}
 use Rattle.nz_sort.specs.Acts.{error_of}
 use Rattle.nz_sort.specs.Commands.{declaration_where}
 use Rattle.nz_sort.specs.Faults.{is_listed}
-use Rattle.nz_sort.specs.Form.{seen}
 use Rattle.nz_sort.specs.Live.{Standing}
 use Rattle.nz_sort.specs.Names.{named_by}
 use Rattle.nz_sort.proofs.Living.{leaves_declared, refused_declaration}
@@ -13,7 +12,7 @@ use Rattle.nz_sort.proofs.live.Live.declare.Goals as goal
 pub returns-in-Err-clause-refused : goal.returns-in-Err-clause-refused
 returns-in-Err-clause-refused c =
     let names = ap (λ (st : Standing). st.names) c.self.view_is in
-    if_some_weaker (error_of c.in-Err.refusal)
+    if_some_weaker (error_of c.in-Err.broken)
     (λ n broken s live. refused_declaration c.args.terms.now c.args.self.now s c.args.name.now (seen c.args.sorts.now) (view c.args.sort.now) n
     (ap (λ l. declaration_where (is_listed l c.args.name.now) c.args.name.now (seen c.args.sorts.now) (view c.args.sort.now)) (sym names) ∙ broken) live)
     c.in-Err.ensures.refused

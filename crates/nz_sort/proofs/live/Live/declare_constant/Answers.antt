@@ -1,6 +1,6 @@
 use Rattle.std.proofs.Common.{sym, subst}
 use Rattle.std.proofs.lemmas.Result.{on_ok_weaker}
-use Rattle.nz_sort.specs.Form.{seen}
+use Rattle.nz_sexpr.specs.View.{seen}
 use Rattle.nz_sort.specs.Live.{IsAccepted, changed}
 use Rattle.nz_sort.proofs.live.Live.declare_constant.Goals as goal
 

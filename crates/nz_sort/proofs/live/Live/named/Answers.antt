@@ -1,7 +1,8 @@
 use Rattle.std.proofs.Common.{◌∙◌, ap, sym, subst}
 use Rattle.std.proofs.lemmas.Result.{IfOk-weaker, IfErr-weaker}
 use Rattle.nz_sort.specs.Acts.{asked, error_of}
-use Rattle.nz_sort.specs.Form.{seen, command_meaning}
+use Rattle.nz_sort.specs.Form.{command_meaning}
+use Rattle.nz_sexpr.specs.View.{seen}
 use Rattle.nz_sort.specs.Live.{Standing, Leaves}
 use Rattle.nz_sort.proofs.Ruling.{if_some_weaker, breaks_form, breaks_limit, breaks_width, is_skipped, is_taken}
 use Rattle.nz_sort.proofs.live.Live.named.Goals as goal

@@ -32,3 +32,6 @@ returns-clause-before c = c.self.invariant.table.before c.args.id (node_of c.ind
 
 pub returns-clause-fits : goal.returns-clause-fits
 returns-clause-fits c = c.self.invariant.table.fits c.args.id (node_of c.index-as_slice-id.result) (stands c)
+
+pub returns-clause-leaves : goal.returns-clause-leaves
+returns-clause-leaves c = c.self.invariant.table.leaves c.args.id (node_of c.index-as_slice-id.result) (stands c)

@@ -1,0 +1,15 @@
+-- A model of the live constants, by the values that a search gave some constants of the table.
+use Rattle.std.specs.Prelude.{ℕ, List, [], map, flat_map, Option, Some, None, slice_get}
+use Rattle.nz_spec.specs.Term.{Constant, Value}
+use Rattle.nz_spec.specs.Table.{Node, assignment_by}
+use Rattle.nz_spec.specs.Decide.{constants_of_head}
+use Rattle.nz_spec.specs.Model.{Binding}
+
+-- the constant of a node, with what the values give it
+abbrev pub bound_at : List Node → List (ℕ × Value) → Option Node → List Binding
+bound_at ns ps None = []
+bound_at ns ps (Some n) = map (λ (c : Constant). let b : Binding = record { constant = c; value = assignment_by ns ps c } in b) (constants_of_head n.head)
+
+-- so for each of these numbers
+abbrev pub completed : List Node → List (ℕ × Value) → List ℕ → List Binding
+completed ns ps ids = flat_map (λ (i : ℕ). bound_at ns ps (slice_get ns i)) ids

@@ -1,0 +1,315 @@
+//! Each public call of `nz_term` once on its happy path.
+ghost use Rattle.std.specs.Prelude.{◌<◌, length, IfOk};
+ghost use Rattle.nz_spec.specs.Order.{HasCompanions};
+
+use nz_base::Text;
+use nz_frac::Frac;
+use nz_term::{
+    Assign, Constant, Head, Ids, NumberSort, Sort, TermId, Terms, Value, add_companions, instance,
+    listing_order, post_order,
+};
+use std::alloc::Global;
+use std::test::Fail;
+
+fn bool_constant(alloc: Global, name: &[u8]) -> Result<Constant, Fail> {
+    Ok(Constant {
+        name: Text::from_slice(alloc, name)?,
+        sort: Sort::Bool,
+    })
+}
+
+// The table and the number of `(or p (not q))`, made from its leaves.
+fn clause(alloc: Global) -> Result<(Terms, TermId), Fail> {
+    let mut terms = Terms::new(alloc)?;
+    let p = terms.make(Head::Constant(bool_constant(alloc, b"p")?), &[])?;
+    let q = terms.make(Head::Constant(bool_constant(alloc, b"q")?), &[])?;
+    let not_q = terms.make(Head::Not, &[q])?;
+    let root = terms.make(Head::Or, &[p, not_q])?;
+    Ok((terms, root))
+}
+
+#[test]
+fn equal_terms_have_one_number(rt: HostRuntime) -> Result<(), Fail> {
+    let (mut terms, root) = clause(rt.alloc())?;
+    assert_eq!(rt; root, 3);
+    let p = terms.make(Head::Constant(bool_constant(rt.alloc(), b"p")?), &[])?;
+    assert_eq!(rt; p, 0);
+    assert_eq!(rt; terms.len(), 4);
+    let again = terms.make(Head::Or, &[0, 2])?;
+    assert_eq!(rt; again, 3);
+    Ok(())
+}
+
+#[test]
+fn the_order_of_arguments_matters(rt: HostRuntime) -> Result<(), Fail> {
+    let (mut terms, _) = clause(rt.alloc())?;
+    assert_eq!(rt; terms.len(), 4);
+    let swapped = terms.make(Head::Or, &[2, 0])?;
+    assert_eq!(rt; swapped, 4);
+    assert_eq!(rt; terms.len(), 5);
+    Ok(())
+}
+
+#[test]
+fn terms_of_different_operators_are_different(rt: HostRuntime) -> Result<(), Fail> {
+    let (mut terms, _) = clause(rt.alloc())?;
+    assert_eq!(rt; terms.len(), 4);
+    let excluded = terms.make(Head::Xor, &[0, 1])?;
+    assert_eq!(rt; excluded, 4);
+    let equal = terms.make(Head::Equal, &[0, 1])?;
+    assert_eq!(rt; equal, 5);
+    let chosen = terms.make(Head::Ite(Sort::Bool), &[0, 1, 2])?;
+    assert_eq!(rt; chosen, 6);
+    assert!(rt; Head::Xor != Head::Equal);
+    Ok(())
+}
+
+#[test]
+fn nodes_are_lent(rt: HostRuntime) -> Result<(), Fail> {
+    let (terms, root) = clause(rt.alloc())?;
+    assert!(rt; root < terms.len());
+    assert_eq!(rt; *terms.head(root), Head::Or);
+    assert_eq!(rt; terms.kids(root), [0, 2].as_slice());
+    let first = terms.node(0);
+    assert!(rt; first.head == Head::Constant(bool_constant(rt.alloc(), b"p")?));
+    assert!(rt; first.head != Head::Constant(bool_constant(rt.alloc(), b"q")?));
+    assert!(rt; first.head.clone()? == first.head);
+    assert!(rt; first.kids == Ids::from_slice(rt.alloc(), &[])?);
+    Ok(())
+}
+
+#[test]
+fn cut_goes_back_to_the_mark(rt: HostRuntime) -> Result<(), Fail> {
+    let (mut terms, root) = clause(rt.alloc())?;
+    assert!(rt; !terms.is_empty());
+    let mark = terms.mark();
+    let new = terms.make(Head::True, &[])?;
+    assert_eq!(rt; new, 4);
+    terms.cut(mark);
+    assert_eq!(rt; terms.len(), 4);
+    assert!(rt; root < terms.len());
+    assert_eq!(rt; *terms.head(root), Head::Or);
+    let other = terms.make(Head::False, &[])?;
+    assert_eq!(rt; other, 4);
+    Ok(())
+}
+
+#[test]
+fn values_are_found_by_number(rt: HostRuntime) -> Result<(), Fail> {
+    let mut model = Assign::new(rt.alloc())?;
+    assert!(rt; model.is_empty());
+    model.push(5, Value::Truth(true))?;
+    model.push(2, Value::Truth(false))?;
+    assert_eq!(rt; model.len(), 2);
+    assert_eq!(rt; model.get(1), (2, Value::Truth(false)));
+    assert_eq!(rt; model.value(5), Some(Value::Truth(true)));
+    assert_eq!(rt; model.value(0), None);
+    Ok(())
+}
+
+// A table with the negation of the negation .. of `p`, and its number.
+fn negations(alloc: Global, count: usize) -> Result<(Terms, TermId), Fail>
+    ensures within { IfOk result (λ made. made.1 < length made.0) }
+{
+    let mut terms = Terms::new(alloc)?;
+    let mut last = terms.make(Head::Constant(bool_constant(alloc, b"p")?), &[])?;
+    for _ in 0..count {
+        last = terms.make(Head::Not, &[last])?;
+    }
+    Ok((terms, last))
+}
+
+#[test]
+fn arguments_come_before_from_the_left(rt: HostRuntime) -> Result<(), Fail> {
+    let (mut terms, _) = clause(rt.alloc())?;
+    assert_eq!(rt; terms.len(), 4);
+    let root = terms.make(Head::And, &[3, 1, 2, 1])?;
+    assert_eq!(rt; root, 4);
+    assert_eq!(rt; terms.len(), 5);
+    let order = post_order(rt.alloc(), &terms, &[4])?;
+    assert_eq!(rt; order.as_slice(), [0, 1, 2, 3, 4].as_slice());
+    Ok(())
+}
+
+#[test]
+fn each_root_comes_once(rt: HostRuntime) -> Result<(), Fail> {
+    let (terms, _) = clause(rt.alloc())?;
+    assert_eq!(rt; terms.len(), 4);
+    let order = post_order(rt.alloc(), &terms, &[2, 3, 2])?;
+    assert_eq!(rt; order.as_slice(), [1, 2, 0, 3].as_slice());
+    Ok(())
+}
+
+#[test]
+fn no_root_leads_nowhere(rt: HostRuntime) -> Result<(), Fail> {
+    let (terms, _) = clause(rt.alloc())?;
+    let order = post_order(rt.alloc(), &terms, &[])?;
+    assert!(rt; order.is_empty());
+    Ok(())
+}
+
+#[test]
+fn a_long_chain_needs_no_deep_stack(rt: HostRuntime) -> Result<(), Fail> {
+    let (terms, last) = negations(rt.alloc(), 100_000)?;
+    let order = post_order(rt.alloc(), &terms, &[last])?;
+    assert_eq!(rt; order.len(), 100_001);
+    assert_eq!(rt; order.first(), Some(&0));
+    assert_eq!(rt; order.last(), Some(&100_000));
+    Ok(())
+}
+
+// The table and the number of `(mod x0 2)`, of a parameter, with the companions.
+fn remainder(alloc: Global) -> Result<(Terms, TermId), Fail>
+    ensures within { IfOk result (λ made. made.1 < length made.0) }
+    ensures companions { IfOk result (λ made. HasCompanions made.0) }
+{
+    let mut terms = Terms::new(alloc)?;
+    let parameter = terms.make(Head::Parameter(0, Sort::Int), &[])?;
+    let two = terms.make(Head::Integer(2), &[])?;
+    let rest = terms.make(Head::Mod, &[parameter, two])?;
+    add_companions(alloc, &mut terms, 0)?;
+    Ok((terms, rest))
+}
+
+#[test]
+fn a_quotient_comes_just_before_its_remainder(rt: HostRuntime) -> Result<(), Fail> {
+    let (terms, rest) = remainder(rt.alloc())?;
+    assert_eq!(rt; rest, 2);
+    let order = listing_order(rt.alloc(), &terms, &[rest])?;
+    assert_eq!(rt; order.as_slice(), [0, 1, 3, 2].as_slice());
+    assert_eq!(rt; terms.len(), 4);
+    Ok(())
+}
+
+#[test]
+fn a_term_is_found_by_its_head_and_arguments(rt: HostRuntime) -> Result<(), Fail> {
+    let (terms, _) = remainder(rt.alloc())?;
+    assert_eq!(rt; terms.len(), 4);
+    assert_eq!(rt; terms.find(Head::Div, &[0, 1])?, Some(3));
+    assert_eq!(rt; terms.find(Head::Div, &[1, 0])?, None);
+    assert_eq!(rt; terms.find(Head::Integer(3), &[])?, None);
+    Ok(())
+}
+
+// The table and the numbers of `(is_int x0)` and `(to_int x0)`, of a parameter, with the companions.
+fn rounded(alloc: Global) -> Result<(Terms, TermId, TermId), Fail>
+    ensures test { IfOk result (λ made. made.1 < length made.0) }
+    ensures number { IfOk result (λ made. made.2 < length made.0) }
+    ensures companions { IfOk result (λ made. HasCompanions made.0) }
+{
+    let mut terms = Terms::new(alloc)?;
+    let parameter = terms.make(Head::Parameter(0, Sort::Real), &[])?;
+    let test = terms.make(Head::IsInt, &[parameter])?;
+    let number = terms.make(Head::ToInt, &[parameter])?;
+    add_companions(alloc, &mut terms, 0)?;
+    Ok((terms, test, number))
+}
+
+#[test]
+fn a_rounded_number_is_listed_once(rt: HostRuntime) -> Result<(), Fail> {
+    let (terms, test, number) = rounded(rt.alloc())?;
+    let order = listing_order(rt.alloc(), &terms, &[test, number])?;
+    assert_eq!(rt; order.as_slice(), [0, 2, 1].as_slice());
+    assert_eq!(rt; terms.len(), 3);
+    Ok(())
+}
+
+// The table and the number of `(+ x0 (* 2 x0))`, of a parameter.
+fn tripled(alloc: Global) -> Result<(Terms, TermId), Fail>
+    ensures within { IfOk result (λ made. made.1 < length made.0) }
+{
+    let mut terms = Terms::new(alloc)?;
+    let parameter = terms.make(Head::Parameter(0, Sort::Int), &[])?;
+    let two = terms.make(Head::Integer(2), &[])?;
+    let double = terms.make(Head::Product(NumberSort::Int), &[two, parameter])?;
+    let sum = terms.make(Head::Sum(NumberSort::Int), &[parameter, double])?;
+    Ok((terms, sum))
+}
+
+// The argument holds the parameter too, which stays in it.
+#[test]
+fn an_argument_is_put_for_a_parameter(rt: HostRuntime) -> Result<(), Fail> {
+    let (mut terms, body) = tripled(rt.alloc())?;
+    let made = instance(rt.alloc(), &mut terms, body, &[body])?;
+    assert_eq!(rt; made, 5);
+    assert_eq!(rt; terms.len(), 6);
+    assert!(rt; made < terms.len());
+    assert_eq!(rt; terms.kids(made), [3, 4].as_slice());
+    Ok(())
+}
+
+#[test]
+fn a_body_without_its_parameters_stays(rt: HostRuntime) -> Result<(), Fail> {
+    let (mut terms, body) = tripled(rt.alloc())?;
+    let made = instance(rt.alloc(), &mut terms, body, &[])?;
+    assert_eq!(rt; made, body);
+    assert_eq!(rt; terms.len(), 4);
+    Ok(())
+}
+
+// The table and the number of `(+ 1.50 2)`.
+fn three_and_a_half(alloc: Global) -> Result<(Terms, TermId), Fail>
+    ensures within { IfOk result (λ made. made.1 < length made.0) }
+{
+    let mut terms = Terms::new(alloc)?;
+    let decimal = terms.make(Head::Decimal(150, 2), &[])?;
+    let two = terms.make(Head::Integer(2), &[])?;
+    let whole = terms.make(Head::ToReal, &[two])?;
+    let sum = terms.make(Head::Sum(NumberSort::Real), &[decimal, whole])?;
+    Ok((terms, sum))
+}
+
+#[test]
+fn constants_have_their_values(rt: HostRuntime) -> Result<(), Fail> {
+    let (terms, sum) = three_and_a_half(rt.alloc())?;
+    assert!(rt; terms.constant(sum) == Frac::of(7, 2));
+    assert!(rt; terms.is_linear(sum));
+    assert!(rt; terms.holds_number(sum));
+    Ok(())
+}
+
+#[test]
+fn a_parameter_is_no_constant(rt: HostRuntime) -> Result<(), Fail> {
+    let (terms, body) = tripled(rt.alloc())?;
+    assert!(rt; terms.constant(body).is_none());
+    assert!(rt; terms.is_linear(body));
+    assert!(rt; terms.holds_number(body));
+    Ok(())
+}
+
+// The table and the number of `(* x0 x0)`, or of `(/ x0 0)`.
+fn not_linear(alloc: Global, divides: bool) -> Result<(Terms, TermId), Fail>
+    ensures within { IfOk result (λ made. made.1 < length made.0) }
+{
+    let mut terms = Terms::new(alloc)?;
+    let parameter = terms.make(Head::Parameter(0, Sort::Real), &[])?;
+    let zero = terms.make(Head::Decimal(0, 1), &[])?;
+    let made = if divides {
+        terms.make(Head::Quotient, &[parameter, zero])?
+    } else {
+        terms.make(Head::Product(NumberSort::Real), &[parameter, parameter])?
+    };
+    Ok((terms, made))
+}
+
+#[test]
+fn products_of_variables_and_quotients_by_zero_are_not_linear(rt: HostRuntime) -> Result<(), Fail> {
+    let (terms, square) = not_linear(rt.alloc(), false)?;
+    assert!(rt; !terms.is_linear(square));
+    let (others, quotient) = not_linear(rt.alloc(), true)?;
+    assert!(rt; !others.is_linear(quotient));
+    Ok(())
+}
+
+#[test]
+fn numbers_are_read_at_a_sort(rt: HostRuntime) -> Result<(), Fail> {
+    for (sort, read) in [
+        (Sort::Bool, Sort::Real),
+        (Sort::Int, Sort::Int),
+        (Sort::Real, Sort::Real),
+    ] {
+        assert_eq!(rt; NumberSort::of(sort).sort(), read);
+        assert_eq!(rt; Head::Sum(NumberSort::of(sort)).sort(), read);
+    }
+    Ok(())
+}
