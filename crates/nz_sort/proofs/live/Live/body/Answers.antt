@@ -9,7 +9,8 @@ use Rattle.nz_sort.specs.Live.{Standing}
 use Rattle.nz_sort.specs.Commands.{body_of}
 use Rattle.nz_sort.proofs.Growing.{grows_more}
 use Rattle.nz_sort.proofs.Elaborating.{stands_kept}
-use Rattle.nz_sort.proofs.Living.{live_body_scope, companions_made, body_stands, body_unplaced}
+use Rattle.nz_sort.proofs.Defining.{body_stands, body_unplaced}
+use Rattle.nz_sort.proofs.Living.{live_body_scope, companions_made}
 use Rattle.nz_sort.proofs.live.Live.body.Goals as goal
 
 pub elaborate-requires : goal.elaborate-requires
@@ -38,6 +39,17 @@ place-requires c =
     live_body_scope c.args.terms.now c.bind_parameters.new.terms c.args.self.now s _ _ words sorts _ names c.in_ok-frames.ensures.items
     c.in_ok-frame.ensures.grows live c.in_ok-frame.ensures.bound in
     record { within = (c.in_ok-term.ensures.found (body_scope s words sorts) scope).typed.within }
+
+pub returns-in_err-id-clause-grows : goal.returns-in_err-id-clause-grows
+returns-in_err-id-clause-grows c = grows_more _ _ _ (grows_more _ _ _ c.in_ok-frame.ensures.grows c.in_ok-term.ensures.grows) c.in_err-id.ensures.grows
+
+pub returns-in_err-add_companions-clause-grows : goal.returns-in_err-add_companions-clause-grows
+returns-in_err-add_companions-clause-grows c =
+    grows_more _ _ _ (grows_more _ _ _ (grows_more _ _ _ c.in_ok-frame.ensures.grows c.in_ok-term.ensures.grows) c.in_ok-id.ensures.grows) c.in_err-add_companions.ensures.grows
+
+pub returns-clause-grows : goal.returns-clause-grows
+returns-clause-grows c =
+    grows_more _ _ _ (grows_more _ _ _ (grows_more _ _ _ c.in_ok-frame.ensures.grows c.in_ok-term.ensures.grows) c.in_ok-id.ensures.grows) c.in_ok-add_companions.ensures.grows
 
 pub returns-clause-companions : goal.returns-clause-companions
 returns-clause-companions c =
