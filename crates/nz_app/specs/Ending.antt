@@ -20,24 +20,15 @@ EndsAs WriteFault limit input rest before after kept = IsBrokenOff limit input r
 -- want of memory cut it short
 abbrev pub is_cut : End → Bool
 is_cut Cut = true
-is_cut Finished = false
-is_cut ReadFault = false
-is_cut WriteFault = false
-is_cut Reads = false
+is_cut end = false
 
 abbrev pub ends_by_read : End → Bool
 ends_by_read ReadFault = true
-ends_by_read Finished = false
-ends_by_read Cut = false
-ends_by_read WriteFault = false
-ends_by_read Reads = false
+ends_by_read end = false
 
 abbrev pub ends_by_write : End → Bool
 ends_by_write WriteFault = true
-ends_by_write Finished = false
-ends_by_write Cut = false
-ends_by_write ReadFault = false
-ends_by_write Reads = false
+ends_by_write end = false
 
 -- a read, or a write, failed where the run goes on or ends so
 abbrev pub reads_fail : Option End → Bool

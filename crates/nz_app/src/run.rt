@@ -139,18 +139,7 @@ fn is_out_of_memory(kept: &Kept) -> bool
 {
     match &kept.reply {
         Reply::Error(number) => *number == OUT_OF_MEMORY,
-        Reply::Quiet => false,
-        Reply::Success => false,
-        Reply::Sat(_) => false,
-        Reply::Unsat => false,
-        Reply::Unknown(_) => false,
-        Reply::Model(_) => false,
-        Reply::Values(_) => false,
-        Reply::Info(_) => false,
-        Reply::Levels(_) => false,
-        Reply::Reason(_) => false,
-        Reply::Echo => false,
-        Reply::Unsupported => false,
+        _ => false,
     }
 }
 
@@ -169,21 +158,7 @@ fn has_error(kept: &[Kept]) -> bool
 fn is_an_error(kept: &Kept) -> bool
     ensures error { (ns : List Node) → result ≡ is_error (kept_of ns kept.now) }
 {
-    match &kept.reply {
-        Reply::Error(_) => true,
-        Reply::Quiet => false,
-        Reply::Success => false,
-        Reply::Sat(_) => false,
-        Reply::Unsat => false,
-        Reply::Unknown(_) => false,
-        Reply::Model(_) => false,
-        Reply::Values(_) => false,
-        Reply::Info(_) => false,
-        Reply::Levels(_) => false,
-        Reply::Reason(_) => false,
-        Reply::Echo => false,
-        Reply::Unsupported => false,
-    }
+    matches!(&kept.reply, Reply::Error(_))
 }
 
 /// Want of memory cut the run short.

@@ -15,15 +15,13 @@ use Rattle.nz_reply.specs.declared.reply.Kept as code
 use Rattle.nz_reply.specs.Replies.{all_kept, AreKeptWithin}
 use Rattle.nz_session.specs.declared.desk.Desk.{Desk}
 use Rattle.nz_session.specs.declared.session.Fed.{Fed}
-use Rattle.nz_session.specs.declared.session.Fed.TheVariants.{Going, Exited, SinkFault, Cut}
+use Rattle.nz_session.specs.declared.session.Fed.TheVariants.{SinkFault}
 use Rattle.nz_session.specs.declared.session.Session.{Session}
 
 -- the sink failed
 abbrev pub is_sink_fault : Fed → Bool
 is_sink_fault SinkFault = true
-is_sink_fault Going = false
-is_sink_fault Exited = false
-is_sink_fault Cut = false
+is_sink_fault fed = false
 
 -- what was kept, by the table of a desk
 abbrev pub kept_at : {E : Type 0} → Desk E → List code.Kept → List Kept

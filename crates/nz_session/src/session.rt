@@ -6,7 +6,7 @@ ghost use Rattle.nz_spec.specs.Outside.{AddsFrontOf, counted};
 ghost use Rattle.nz_spec.specs.Reply.{error, reply_text};
 ghost use Rattle.nz_spec.specs.Live.{start};
 ghost use Rattle.nz_spec.specs.Right.{beginning};
-ghost use Rattle.nz_spec.specs.Transcript.{AreRight, EndsByExit};
+ghost use Rattle.nz_spec.specs.Transcript.{AreRight, EndsByExit, GoesOn};
 ghost use Rattle.nz_reply.specs.Replies.{reply_of};
 ghost use Rattle.nz_session.specs.Serve.{Answers, AnswersInPart, IsGoing, is_sink_fault, kept_at};
 
@@ -179,6 +179,8 @@ impl<E: Decide> Session<E> {
     pub fn finish<K: Sink>(&mut self, sink: &mut K) -> Fed
         requires { (limit : ℕ) × (bytes : List ℕ) × Serves E.levels E.table limit self.old bytes }
         ensures ended { (result ≡ Fed.Going) ⊎ (result ≡ Fed.Exited) → (limit : ℕ) (bytes : List ℕ) → Serves E.levels E.table limit self.old bytes → HasEnded limit bytes (kept_by self.new) }
+        ensures goes_on { result ≡ Fed.Going → (limit : ℕ) (bytes : List ℕ) → Serves E.levels E.table limit self.old bytes → GoesOn start (kept_by self.new) }
+        ensures exits { result ≡ Fed.Exited → (limit : ℕ) (bytes : List ℕ) → Serves E.levels E.table limit self.old bytes → EndsByExit start (kept_by self.new) }
         ensures written { (result ≡ Fed.Going) ⊎ (result ≡ Fed.Exited) → (limit : ℕ) (bytes : List ℕ) → Serves E.levels E.table limit self.old bytes → Writes (kept_by self.old) (kept_by self.new) (K.held sink.old) (K.held sink.new) }
         ensures cut { result ≡ Fed.Cut → (limit : ℕ) (bytes : List ℕ) → Serves E.levels E.table limit self.old bytes → IsCut limit true bytes (kept_by self.new) }
         ensures cut_written { result ≡ Fed.Cut → (limit : ℕ) (bytes : List ℕ) → Serves E.levels E.table limit self.old bytes → WritesCut (kept_by self.old) (kept_by self.new) (K.held sink.old) (K.held sink.new) }

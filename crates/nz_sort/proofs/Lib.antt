@@ -1,7 +1,11 @@
 pub mod Accepting
 pub mod Applying
+pub mod AskedValues
 pub mod Asking
+pub mod Asserting
 pub mod Decimals
+pub mod Declaring
+pub mod Defining
 pub mod Digits
 pub mod Elaborating
 pub mod Expanding
@@ -14,6 +18,7 @@ pub mod NameTerms
 pub mod Naming
 pub mod Normalizing
 pub mod Operating
+pub mod Parameters
 pub mod Ruling
 pub mod ScopeTerms
 pub mod Scoping

@@ -4,7 +4,7 @@ use Rattle.nz_spec.specs.Term.{parameter, Term, apply, no_terms}
 use Rattle.nz_term.specs.Constants.{sort_of}
 use Rattle.nz_sort.specs.Commands.{AreBoundAs}
 use Rattle.nz_sort.proofs.Growing.{grows_by}
-use Rattle.nz_sort.proofs.Living.{bound_next}
+use Rattle.nz_sort.proofs.Parameters.{bound_next}
 use Rattle.nz_sort.proofs.live.bind_parameter.Goals as goal
 
 pub returns-in_err-name-clause-grows : goal.returns-in_err-name-clause-grows

@@ -2,7 +2,7 @@ use Rattle.std.proofs.Common.{◌≡◌, ◌∙◌, Some, option_map, map, slice
 use Rattle.std.proofs.lemmas.Option.{slice_get-map, slice_get_read}
 use Rattle.nz_term.specs.Constants.{sort_of}
 use Rattle.nz_sort.proofs.Growing.{grows_more}
-use Rattle.nz_sort.proofs.Living.{binds_next}
+use Rattle.nz_sort.proofs.Parameters.{binds_next}
 use Rattle.nz_sort.proofs.live.bind_parameters.Goals as goal
 
 pub loop-parameter-preserved : goal.loop-parameter-preserved

@@ -1,7 +1,7 @@
 use Rattle.std.proofs.Common.{map}
 use Rattle.nz_term.specs.Constants.{sort_of}
 use Rattle.nz_sort.specs.Typed.{Grows}
-use Rattle.nz_sort.proofs.Living.{BindsFirst}
+use Rattle.nz_sort.proofs.Parameters.{BindsFirst}
 use Rattle.nz_sort.proofs.live.bind_parameters.Given as goal
 
 abbrev pub invariant-loop-parameter : goal.invariant-loop-parameter

@@ -20,6 +20,15 @@ returns-in-Some-clause-ended g c =
       | inr left ↦ (c.serve.ensures.exited left limit serves.going).0
     ]))
 
+pub returns-in-None-clause-goes_on : goal.returns-in-None-clause-goes_on
+returns-in-None-clause-goes_on g c = λ _ limit bytes serves. serves.going.goes_on
+
+pub returns-in-Some-clause-goes_on : goal.returns-in-Some-clause-goes_on
+returns-in-Some-clause-goes_on g c = λ went limit bytes serves. (c.serve.ensures.going went limit serves.going).goes_on
+
+pub returns-in-Some-clause-exits : goal.returns-in-Some-clause-exits
+returns-in-Some-clause-exits g c = λ left limit bytes serves. (c.serve.ensures.exited left limit serves.going).1
+
 pub returns-in-Some-clause-written : goal.returns-in-Some-clause-written
 returns-in-Some-clause-written g c = λ e limit bytes serves. writes_more _ _ _ _ _ _ _ (writes_nothing _ (g.K.Sink.held c.args.sink.now)) (c.serve.ensures.answered e)
 

@@ -5,7 +5,7 @@ use Rattle.nz_spec.specs.Script.{outcome_by}
 use Rattle.nz_sort.specs.Acts.{error_of}
 use Rattle.nz_sort.specs.Commands.{Shows}
 use Rattle.nz_sexpr.specs.View.{seen}
-use Rattle.nz_sort.proofs.Living.{ok_with, leaves_values}
+use Rattle.nz_sort.proofs.AskedValues.{ok_with, leaves_values}
 use Rattle.nz_sort.proofs.Ruling.{if_some_weaker}
 use Rattle.nz_sort.proofs.live.Live.asked_values.Goals as goal
 

@@ -3,7 +3,7 @@ use Rattle.nz_sexpr.specs.View.{view, seen}
 use Rattle.nz_spec.specs.Form.{assert_name}
 use Rattle.nz_spec.specs.Script.{outcome_by, assertion_of}
 use Rattle.nz_sort.specs.Live.{IsAccepted, changed}
-use Rattle.nz_sort.proofs.Living.{leaves_asserted}
+use Rattle.nz_sort.proofs.Asserting.{leaves_asserted}
 use Rattle.nz_sort.proofs.live.Live.assert_term.Goals as goal
 
 pub returns-in-Ok-keep_assertion-clause-accepted : goal.returns-in-Ok-keep_assertion-clause-accepted

@@ -2,7 +2,8 @@ use Rattle.std.proofs.Common.{◌∙◌, ap, sym, Err}
 use Rattle.nz_sexpr.specs.View.{view}
 use Rattle.nz_sort.specs.Acts.{error_of}
 use Rattle.nz_sort.specs.Live.{Standing}
-use Rattle.nz_sort.proofs.Living.{alike_term, faulty_assertion, untyped_assertion, missorted_assertion, nonlinear_assertion, linear_assertion}
+use Rattle.nz_sort.proofs.Asserting.{faulty_assertion, untyped_assertion, missorted_assertion, nonlinear_assertion, linear_assertion}
+use Rattle.nz_sort.proofs.Living.{alike_term}
 use Rattle.nz_sort.proofs.Ruling.{if_some_by}
 use Rattle.nz_sort.proofs.live.Live.assertion.Goals as goal
 

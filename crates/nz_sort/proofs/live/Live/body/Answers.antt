@@ -9,7 +9,8 @@ use Rattle.nz_sort.specs.Live.{Standing}
 use Rattle.nz_sort.specs.Commands.{body_of}
 use Rattle.nz_sort.proofs.Growing.{grows_more}
 use Rattle.nz_sort.proofs.Elaborating.{stands_kept}
-use Rattle.nz_sort.proofs.Living.{live_body_scope, companions_made, body_stands, body_unplaced}
+use Rattle.nz_sort.proofs.Defining.{body_stands, body_unplaced}
+use Rattle.nz_sort.proofs.Living.{live_body_scope, companions_made}
 use Rattle.nz_sort.proofs.live.Live.body.Goals as goal
 
 pub elaborate-requires : goal.elaborate-requires

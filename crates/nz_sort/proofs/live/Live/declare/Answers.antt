@@ -5,7 +5,7 @@ use Rattle.nz_sort.specs.Commands.{declaration_where}
 use Rattle.nz_sort.specs.Faults.{is_listed}
 use Rattle.nz_sort.specs.Live.{Standing}
 use Rattle.nz_sort.specs.Names.{named_by}
-use Rattle.nz_sort.proofs.Living.{leaves_declared, refused_declaration}
+use Rattle.nz_sort.proofs.Declaring.{leaves_declared, refused_declaration}
 use Rattle.nz_sort.proofs.Ruling.{if_some_weaker}
 use Rattle.nz_sort.proofs.live.Live.declare.Goals as goal
 

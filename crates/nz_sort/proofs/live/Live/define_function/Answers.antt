@@ -4,7 +4,7 @@ use Rattle.nz_spec.specs.Script.{outcome_by}
 use Rattle.nz_sort.specs.Commands.{Defines}
 use Rattle.nz_sexpr.specs.View.{seen}
 use Rattle.nz_sort.specs.Live.{IsAccepted, changed}
-use Rattle.nz_sort.proofs.Living.{leaves_defined}
+use Rattle.nz_sort.proofs.Defining.{leaves_defined}
 use Rattle.nz_sort.proofs.live.Live.define_function.Goals as goal
 
 pub returns-in-Ok-add_definition-clause-accepted : goal.returns-in-Ok-add_definition-clause-accepted

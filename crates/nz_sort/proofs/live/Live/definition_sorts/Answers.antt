@@ -1,7 +1,7 @@
 use Rattle.std.proofs.Common.{◌∙◌, refl, sym}
 use Rattle.nz_sexpr.specs.View.{view, seen}
 use Rattle.nz_sort.specs.Acts.{error_of}
-use Rattle.nz_sort.proofs.Living.{alike_definition, faultless_definition, faulty_definition}
+use Rattle.nz_sort.proofs.Defining.{alike_definition, faultless_definition, faulty_definition}
 use Rattle.nz_sort.proofs.Ruling.{if_some_by}
 use Rattle.nz_sort.proofs.live.Live.definition_sorts.Goals as goal
 

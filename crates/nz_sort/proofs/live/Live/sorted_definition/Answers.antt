@@ -4,7 +4,7 @@ use Rattle.nz_spec.specs.Scoping.{bound_names}
 use Rattle.nz_term.specs.Constants.{sort_of}
 use Rattle.nz_sort.specs.Commands.{body_of}
 use Rattle.nz_sort.specs.Elaborate.{StandsAs}
-use Rattle.nz_sort.proofs.Living.{linear_body}
+use Rattle.nz_sort.proofs.Defining.{linear_body}
 use Rattle.nz_sort.proofs.live.Live.sorted_definition.Goals as goal
 
 pub returns-clause-accepted : goal.returns-clause-accepted

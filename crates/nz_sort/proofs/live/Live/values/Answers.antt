@@ -3,7 +3,8 @@ use Rattle.nz_sort.specs.Acts.{error_of}
 use Rattle.nz_sexpr.specs.View.{seen}
 use Rattle.nz_sort.specs.Live.{Standing}
 use Rattle.nz_sort.specs.Typed.{AreTyped}
-use Rattle.nz_sort.proofs.Living.{alike_terms, faulty_values, untyped_values, nonlinear_values, linear_values}
+use Rattle.nz_sort.proofs.AskedValues.{faulty_values, untyped_values, nonlinear_values, linear_values}
+use Rattle.nz_sort.proofs.Living.{alike_terms}
 use Rattle.nz_sort.proofs.Ruling.{if_some_by}
 use Rattle.nz_sort.proofs.live.Live.values.Goals as goal
 
