@@ -1,3 +1,5 @@
+mod Listed
+mod Uses
 pub mod Decimals
 pub mod Divisions
 pub mod Examples
@@ -14,13 +16,11 @@ pub mod ReadOperands
 pub mod Readings
 pub mod Roots
 pub mod Rounds
+pub mod Scripts
 pub mod Sorted
 pub mod SortedStates
-pub mod SortedTrees
+pub mod SortedTerms
 pub mod Tables
 pub mod Tellings
 pub mod Transcripts
-pub mod TreeTerms
-mod Listed
-pub mod Scripts
-mod Uses
+pub mod WrittenTerms

@@ -4,10 +4,11 @@ pub mod Command
 pub mod Decide
 pub mod Elaboration
 pub mod Example
-pub mod Form
+pub mod Expression
 pub mod Fraction
 pub mod Infinitesimal
 pub mod Kept
+pub mod Limits
 pub mod Linear
 pub mod Live
 pub mod Model
@@ -16,8 +17,10 @@ pub mod Numerals
 pub mod Operations
 pub mod Order
 pub mod Outside
+pub mod Parse
 pub mod Reading
 pub mod Reply
+pub mod Request
 pub mod Right
 pub mod Run
 pub mod Samples
@@ -25,7 +28,6 @@ pub mod Scoping
 pub mod Script
 pub mod Sorts
 pub mod Table
-pub mod Taken
 pub mod Term
 pub mod TermList
 pub mod Text

@@ -1,14 +1,14 @@
--- A tree's term is well sorted, in a scope whose constants, definitions and bound terms are.
+-- A term that is written is well sorted, in a scope whose constants, definitions and bound terms are.
 use Rattle.std.proofs.Common.{◌≡◌, ℕ, suc, Bool, true, false, not, ◌&&◌, ◌==◌, List, Option, None, refl, sym, ap, ◌∙◌, true≢false, if◌then◌else◌, arith, eqb-true}
 use Rattle.std.specs.Bool.{⊤}
 use Rattle.std.specs.Prelude.{option_map}
-use Rattle.nz_spec.specs.Tree.{Tree}
+use Rattle.nz_spec.specs.Expression.{Expression}
 use Rattle.nz_spec.specs.Term.{Sort, sort_over, bool_sort, int_sort, real_sort, Head, constant, parameter, conjunction, disjunction, implication, exclusion, choice, sum, difference, product, quotient, integer_quotient, to_real, head_sort, Term, apply, Terms, no_terms, terms, sort_of, is_bool, Assignment}
 use Rattle.nz_spec.specs.Elaboration.{Operator, true_operator, false_operator, not_operator, and_operator, or_operator, implies_operator, xor_operator, equals_operator, distinct_operator, ite_operator, at_most_operator, less_operator, at_least_operator, greater_operator, plus_operator, times_operator, minus_operator, over_operator, div_operator, mod_operator, abs_operator, to_real_operator, to_int_operator, is_int_operator, has_sort, all_terms, term_count, as_real, as_reals, takes, operands_of, operand_sort, read_at, numbers_at, operator_head, applied, Definition, instance_node, instance_of, instances_of, all_placed, expansion, Scope, term_of}
 use Rattle.nz_spec.proofs.ReadOperands.{Reads, count_read, operands_read}
 use Rattle.nz_spec.proofs.Found.{IfFound, map_found}
 use Rattle.nz_spec.proofs.Placed.{HaveSorts, AllAre, IsPlaced, ArePlaced, are_placed, at_place}
-use Rattle.nz_spec.proofs.TreeTerms.{StaysSo, IsScope, tree_found}
+use Rattle.nz_spec.proofs.WrittenTerms.{StaysSo, IsScope, term_found}
 use Rattle.nz_spec.proofs.Sorted.{and_both, fit, fit_branches, fit_numbers, Gives, Stands, IsSorted, AreSorted}
 
 -- ---- Terms of the same sorts
@@ -179,5 +179,5 @@ module _ (a : Assignment) (ss : List Sort) where
   abbrev pub IsSortedScope : Scope → Type 0
   IsSortedScope sc = IsScope (IsSorted a ss) (Gives a) IsMade sc
 
-  pub tree_sorted : (sc : Scope) (t : Tree) → IsSortedScope sc → IsTerm (term_of sc t)
-  tree_sorted sc t g = tree_found (IsSorted a ss) (Gives a) IsMade stays_sorted sc t g
+  pub term_sorted : (sc : Scope) (e : Expression) → IsSortedScope sc → IsTerm (term_of sc e)
+  term_sorted sc e g = term_found (IsSorted a ss) (Gives a) IsMade stays_sorted sc e g

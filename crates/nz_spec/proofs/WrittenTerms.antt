@@ -1,12 +1,10 @@
--- What stays so under operators and uses of definitions, and holds of all that is in scope, holds of the term of each tree.
+-- What stays so under operators and uses of definitions, and holds of all that is in scope, holds of each term that is written.
 use Rattle.std.proofs.Common.{ℕ, Bool, true, false, List, [], ◌∷◌, ◌++◌, Option, Some, None, if◌then◌else◌, bytes_eq, length}
 use Rattle.std.specs.Prelude.{option_and_then, is_some}
 use Rattle.std.specs.List.{AllByRecursion}
-use Rattle.nz_spec.specs.Tree.{Token, symbol, keyword, numeral, decimal, hexadecimal, binary, literal, symbol_name, after_point, Tree, leaf, node, Trees, no_trees, trees}
-use Rattle.nz_spec.specs.Form.{TermHead, let_head, name_head, no_head, term_head, tree_symbol}
-use Rattle.nz_spec.specs.Bounds.{digits_value, decimal_digits}
-use Rattle.nz_spec.specs.Term.{head_fits, Constant, Head, constant, integer, decimal_number, Term, apply, Terms, no_terms}
-use Rattle.nz_spec.specs.Elaboration.{Operator, listed, operator_named, applied, fitting, Definition, terms_onto, expansion, Scope, constant_named, definition_named, binding, name_term, application, token_term, bound_onto, term_of, terms_of, let_term, bindings_in, bindings_of, binding_onto, bound_pair}
+use Rattle.nz_spec.specs.Expression.{Numeric, written_integer, written_decimal, Expression, written_number, written_name, written_use, written_let, Expressions, no_expressions, expressions, Locals, no_locals, locals}
+use Rattle.nz_spec.specs.Term.{Constant, constant, integer, decimal_number, Term, apply, Terms, no_terms}
+use Rattle.nz_spec.specs.Elaboration.{Operator, listed, operator_named, applied, Definition, terms_onto, expansion, Scope, constant_named, definition_named, binding, name_term, application, number_term, bound_onto, term_of, terms_of, bindings_of}
 use Rattle.nz_spec.proofs.Found.{IfFound, and_then_found, if_found}
 use Rattle.nz_spec.proofs.Placed.{AllAre}
 
@@ -72,71 +70,36 @@ module _ (P : Term → Type 0) (Q : Constant → Type 0) (R : Definition → Typ
         application_by (is_some (listed sc.bound name)) (is_some (constant_named sc.constants name)) (operator_named name) (definition_named sc.definitions name) ts
         (definition_found sc.definitions name g.definitions) h
 
-    number_found : (h : Head) → P (apply h no_terms) → IfFound P (fitting h)
-    number_found h p = if_found P (head_fits h) (Some (apply h no_terms)) None p tt
-
-    tokens : (sc : Scope) (t : Token) → IsScope sc → IfFound P (token_term sc t)
-    tokens sc (symbol name) g = names sc name g
-    tokens sc (numeral bs) g = number_found (integer (digits_value bs)) (k.numerals (digits_value bs))
-    tokens sc (decimal bs) g = number_found (decimal_number (digits_value (decimal_digits bs)) (length (after_point bs))) (k.decimals (digits_value (decimal_digits bs)) (length (after_point bs)))
-    tokens sc (keyword bs) g = tt
-    tokens sc (hexadecimal bs) g = tt
-    tokens sc (binary bs) g = tt
-    tokens sc (literal bs) g = tt
-
-    headed : (sc : Scope) (h : TermHead) (n : Option (List ℕ)) (ts : Option Terms) (l : Option Term) → IsScope sc → IfFound (AllAre P) ts → IfFound P l
-        → IfFound P (elim h [ let_head ↦ l | name_head ↦ elim n [ Some name ↦ option_and_then (application sc name) ts | None ↦ None ] | no_head ↦ None ])
-    headed sc let_head n ts l g i j = j
-    headed sc name_head (Some name) ts l g i j = and_then_found (AllAre P) P (application sc name) ts (λ us h. applications sc name us g h) i
-    headed sc name_head None ts l g i j = tt
-    headed sc no_head n ts l g i j = tt
+    number_found : (n : Option Numeric) → IfFound P (number_term n)
+    number_found (Some (written_integer n)) = k.numerals n
+    number_found (Some (written_decimal n places)) = k.decimals n places
+    number_found None = tt
 
     both_onto : (o : Option Term) (r : Option Terms) → IfFound P o → IfFound (AllAre P) r → IfFound (AllAre P) (terms_onto o r)
     both_onto (Some t) (Some ts) h i = (h, i)
     both_onto (Some t) None h i = tt
     both_onto None r h i = tt
 
-    under : (sc : Scope) (m : Option (List (List ℕ × Term))) (body : Tree) → IfFound (AreBound P) m → ((ps : List (List ℕ × Term)) → AreBound P ps → IfFound P (term_of (binding sc ps) body))
+    under : (sc : Scope) (m : Option (List (List ℕ × Term))) (body : Expression) → IfFound (AreBound P) m → ((ps : List (List ℕ × Term)) → AreBound P ps → IfFound P (term_of (binding sc ps) body))
         → IfFound P (elim m [ Some ps ↦ term_of (binding sc ps) body | None ↦ None ])
     under sc (Some ps) body h each = each ps h
     under sc None body h each = tt
 
-    pair_onto : (n : Option (List ℕ)) (o : Option Term) (m : Option (List (List ℕ × Term))) → IfFound P o → IfFound (AreBound P) m → IfFound (AreBound P) (bound_onto n o m)
-    pair_onto (Some name) (Some t) (Some ps) h i = (h, i)
-    pair_onto n o m h i = tt
+    pair_onto : (name : List ℕ) (o : Option Term) (m : Option (List (List ℕ × Term))) → IfFound P o → IfFound (AreBound P) m → IfFound (AreBound P) (bound_onto name o m)
+    pair_onto name (Some t) (Some ps) h i = (h, i)
+    pair_onto name o m h i = tt
 
     mutual
-      pub tree_found : (sc : Scope) (t : Tree) → IsScope sc → IfFound P (term_of sc t)
-      tree_found sc (leaf t) g = tokens sc t g
-      tree_found sc (node no_trees) g = tt
-      tree_found sc (node (trees (node inner) ts)) g = tt
-      tree_found sc (node (trees (leaf t) ts)) g = headed sc (term_head t) (symbol_name t) (terms_of sc ts) (let_term sc ts) g (trees_found sc ts g) (let_found sc ts g)
+      pub term_found : (sc : Scope) (e : Expression) → IsScope sc → IfFound P (term_of sc e)
+      term_found sc (written_number n) g = number_found n
+      term_found sc (written_name name) g = names sc name g
+      term_found sc (written_use name es) g = and_then_found (AllAre P) P (application sc name) (terms_of sc es) (λ us h. applications sc name us g h) (terms_found sc es g)
+      term_found sc (written_let ls e) g = under sc (bindings_of sc ls) e (bindings_found sc ls g) (λ ps h. term_found (binding sc ps) e (bound_scope sc ps g h))
 
-      pub trees_found : (sc : Scope) (ts : Trees) → IsScope sc → IfFound (AllAre P) (terms_of sc ts)
-      trees_found sc no_trees g = tt
-      trees_found sc (trees t ts) g = both_onto (term_of sc t) (terms_of sc ts) (tree_found sc t g) (trees_found sc ts g)
+      terms_found : (sc : Scope) (es : Expressions) → IsScope sc → IfFound (AllAre P) (terms_of sc es)
+      terms_found sc no_expressions g = tt
+      terms_found sc (expressions e es) g = both_onto (term_of sc e) (terms_of sc es) (term_found sc e g) (terms_found sc es g)
 
-      let_found : (sc : Scope) (ts : Trees) → IsScope sc → IfFound P (let_term sc ts)
-      let_found sc no_trees g = tt
-      let_found sc (trees bs no_trees) g = tt
-      let_found sc (trees bs (trees body no_trees)) g =
-          under sc (bindings_in sc bs) body (bindings_in_found sc bs g) (λ ps h. tree_found (binding sc ps) body (bound_scope sc ps g h))
-      let_found sc (trees bs (trees body (trees t ts))) g = tt
-
-      bindings_in_found : (sc : Scope) (t : Tree) → IsScope sc → IfFound (AreBound P) (bindings_in sc t)
-      bindings_in_found sc (leaf t) g = tt
-      bindings_in_found sc (node bs) g = bindings_found sc bs g
-
-      bindings_found : (sc : Scope) (bs : Trees) → IsScope sc → IfFound (AreBound P) (bindings_of sc bs)
-      bindings_found sc no_trees g = tt
-      bindings_found sc (trees b bs) g = binding_found sc b (bindings_of sc bs) g (bindings_found sc bs g)
-
-      binding_found : (sc : Scope) (b : Tree) (m : Option (List (List ℕ × Term))) → IsScope sc → IfFound (AreBound P) m → IfFound (AreBound P) (binding_onto sc b m)
-      binding_found sc (leaf t) m g h = tt
-      binding_found sc (node ts) m g h = pair_found sc ts m g h
-
-      pair_found : (sc : Scope) (ts : Trees) (m : Option (List (List ℕ × Term))) → IsScope sc → IfFound (AreBound P) m → IfFound (AreBound P) (bound_pair sc ts m)
-      pair_found sc no_trees m g h = tt
-      pair_found sc (trees x no_trees) m g h = tt
-      pair_found sc (trees x (trees t no_trees)) m g h = pair_onto (tree_symbol x) (term_of sc t) m (tree_found sc t g) h
-      pair_found sc (trees x (trees t (trees u us))) m g h = tt
+      bindings_found : (sc : Scope) (ls : Locals) → IsScope sc → IfFound (AreBound P) (bindings_of sc ls)
+      bindings_found sc no_locals g = tt
+      bindings_found sc (locals name e ls) g = pair_onto name (term_of sc e) (bindings_of sc ls) (term_found sc e g) (bindings_found sc ls g)
