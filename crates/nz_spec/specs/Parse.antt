@@ -55,25 +55,33 @@ abbrev pub name_or_none : Option (List ℕ) → TermHead
 name_or_none (Some name) = name_head name
 name_or_none None = no_head
 
+abbrev pub named_head : List ℕ → TermHead
+named_head name = if bytes_eq name (codes "let") then let_head else name_or_none (free_name name)
+
 abbrev pub term_head : Token → TermHead
-term_head (symbol name) = if bytes_eq name (codes "let") then let_head else name_or_none (free_name name)
+term_head (symbol name) = named_head name
 term_head t = no_head
 
-abbrev pub use_of : List ℕ → Expressions → Option Expression
-use_of name no_expressions = None
-use_of name es = Some (written_use name es)
+-- one term or more under a name; one binding or more, and the term in which they hold
+abbrev pub used : List ℕ → Option Expressions → Option Expression
+used name (Some (expressions e es)) = Some (written_use name (expressions e es))
+used name es = None
 
-abbrev pub let_of : Option Locals → Option Expression → Option Expression
-let_of (Some (locals name e ls)) (Some body) = Some (written_let (locals name e ls) body)
-let_of ls body = None
+abbrev pub bound : Option Locals → Option Expression → Option Expression
+bound (Some (locals name e ls)) (Some body) = Some (written_let (locals name e ls) body)
+bound ls body = None
 
 abbrev pub expressions_onto : Option Expression → Option Expressions → Option Expressions
 expressions_onto (Some e) (Some es) = Some (expressions e es)
 expressions_onto e es = None
 
-abbrev pub locals_onto : Option (List ℕ) → Option Expression → Option Locals → Option Locals
-locals_onto (Some name) (Some e) (Some ls) = Some (locals name e ls)
-locals_onto name e ls = None
+abbrev pub named : Option (List ℕ) → Option Expression → Option (List ℕ × Expression)
+named (Some name) (Some e) = Some (name, e)
+named name e = None
+
+abbrev pub locals_onto : Option (List ℕ × Expression) → Option Locals → Option Locals
+locals_onto (Some l) (Some ls) = Some (locals l.0 l.1 ls)
+locals_onto l ls = None
 
 -- a numeral, a decimal, a name, a name over one term or more, or a `let` of one name or more
 abbrev mutual
@@ -81,7 +89,7 @@ abbrev mutual
   expression_of (leaf t) = token_expression t
   expression_of (node no_trees) = None
   expression_of (node (trees (node inner) ts)) = None
-  expression_of (node (trees (leaf t) ts)) = elim (term_head t) [ name_head name ↦ option_and_then (use_of name) (expressions_of ts) | let_head ↦ let_in ts | no_head ↦ None ]
+  expression_of (node (trees (leaf t) ts)) = elim (term_head t) [ name_head name ↦ used name (expressions_of ts) | let_head ↦ let_in ts | no_head ↦ None ]
 
   pub expressions_of : Trees → Option Expressions
   expressions_of no_trees = Some no_expressions
@@ -91,7 +99,7 @@ abbrev mutual
   pub let_in : Trees → Option Expression
   let_in no_trees = None
   let_in (trees b no_trees) = None
-  let_in (trees b (trees body no_trees)) = let_of (locals_in b) (expression_of body)
+  let_in (trees b (trees body no_trees)) = bound (locals_in b) (expression_of body)
   let_in (trees b (trees body (trees t ts))) = None
 
   pub locals_in : Tree → Option Locals
@@ -100,18 +108,18 @@ abbrev mutual
 
   pub locals_of : Trees → Option Locals
   locals_of no_trees = Some no_locals
-  locals_of (trees b bs) = local_onto b (locals_of bs)
+  locals_of (trees b bs) = locals_onto (local_of b) (locals_of bs)
 
   -- a name, and the term that it stands for
-  pub local_onto : Tree → Option Locals → Option Locals
-  local_onto (leaf t) ls = None
-  local_onto (node ts) ls = pair_onto ts ls
+  pub local_of : Tree → Option (List ℕ × Expression)
+  local_of (leaf t) = None
+  local_of (node ts) = local_in ts
 
-  pub pair_onto : Trees → Option Locals → Option Locals
-  pair_onto no_trees ls = None
-  pair_onto (trees x no_trees) ls = None
-  pair_onto (trees x (trees t no_trees)) ls = locals_onto (name_of x) (expression_of t) ls
-  pair_onto (trees x (trees t (trees u us))) ls = None
+  pub local_in : Trees → Option (List ℕ × Expression)
+  local_in no_trees = None
+  local_in (trees x no_trees) = None
+  local_in (trees x (trees t no_trees)) = named (name_of x) (expression_of t)
+  local_in (trees x (trees t (trees u us))) = None
 
 -- ---- Parts of commands
 

@@ -1,0 +1,5 @@
+mod Digits
+mod Listing
+mod Parsing
+mod Sizes
+mod TermLists

@@ -1,0 +1,15 @@
+//! Commands as they are written: what a tree is as a command and as a term, if it is one.
+//!
+//! What comes of a tree borrows its names and its trees from it.
+#![tactic(auto)]
+
+mod command;
+mod expression;
+mod lists;
+mod names;
+mod numbers;
+mod terms;
+
+pub use expression::{Expression, Local, Number};
+pub use names::is_one_of;
+pub use numbers::{NumberFaults, number_faults};
