@@ -49,6 +49,14 @@ pub struct Question<'a> {
     pub expression: Expression<'a>,
 }
 
+/// How many levels are pushed or popped.
+#[derive(Clone, Copy, Debug, PartialEq, Eq)]
+pub enum LevelCount {
+    Within(u128),
+    /// Above the greatest number.
+    OutOfBounds,
+}
+
 /// In which order goals come.
 #[derive(Clone, Copy, Debug, PartialEq, Eq)]
 pub enum Priority {
@@ -97,9 +105,8 @@ pub enum Command<'a> {
     Optimize(Direction, Expression<'a>),
     CheckSat,
     CheckSatAssuming(Vec<Assumption<'a>>),
-    /// So many levels, where that is within the bounds on numbers.
-    Push(Option<u128>),
-    Pop(Option<u128>),
+    Push(LevelCount),
+    Pop(LevelCount),
     Reset,
     ResetAssertions,
     GetModel,

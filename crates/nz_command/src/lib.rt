@@ -8,8 +8,14 @@ mod expression;
 mod lists;
 mod names;
 mod numbers;
+mod parse;
+mod parts;
 mod terms;
 
+pub use command::{
+    Assumption, Attributes, Command, Direction, InfoKey, LevelCount, Parameter, Priority, Question,
+    Setting, WrittenSort,
+};
 pub use expression::{Expression, Local, Number};
-pub use names::is_one_of;
 pub use numbers::{NumberFaults, number_faults};
+pub use parse::parse;

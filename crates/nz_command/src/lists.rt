@@ -2,7 +2,7 @@
 ghost use Rattle.std.specs.Prelude.{◌≡◌, IfSome, IfNone};
 ghost use Rattle.nz_sexpr.specs.View.{token_view, view, seen};
 ghost use Rattle.nz_spec.specs.Tree.{leaf, trees, no_trees};
-ghost use Rattle.nz_command.specs.Lists.{IsHeadless, IsNotOne, IsNotTwo};
+ghost use Rattle.nz_command.specs.Lists.{IsHeadless, IsNotOne, IsNotTwo, IsNotThree, IsShort};
 
 use nz_sexpr::{Token, Tree};
 
@@ -28,6 +28,17 @@ pub(crate) fn pair(list: &[Tree]) -> Option<(&Tree, &Tree)>
     }
 }
 
+/// The three trees.
+pub(crate) fn triple(list: &[Tree]) -> Option<(&Tree, &Tree, &Tree)>
+    ensures three { IfSome result (λ p. seen list.now ≡ trees (view p.0.now) (trees (view p.1.now) (trees (view p.2.now) no_trees))) }
+    ensures none { IfNone result (IsNotThree (seen list.now)) }
+{
+    match list {
+        [first, second, third] => Some((first, second, third)),
+        _ => None,
+    }
+}
+
 /// The token that a list begins with, and the trees after it.
 pub(crate) fn headed(list: &[Tree]) -> Option<(&Token, &[Tree])>
     ensures head { IfSome result (λ p. seen list.now ≡ trees (leaf (token_view p.0.now)) (seen p.1.now)) }
@@ -38,4 +49,14 @@ pub(crate) fn headed(list: &[Tree]) -> Option<(&Token, &[Tree])>
         Tree::Word(token) => Some((token, rest)),
         Tree::List(_) => None,
     }
+}
+
+/// The first two trees, and those after them.
+pub(crate) fn first_two(list: &[Tree]) -> Option<(&Tree, &Tree, &[Tree])>
+    ensures two { IfSome result (λ p. seen list.now ≡ trees (view p.0.now) (trees (view p.1.now) (seen p.2.now))) }
+    ensures none { IfNone result (IsShort (seen list.now)) }
+{
+    let (first, others) = list.split_first()?;
+    let (second, others) = others.split_first()?;
+    Some((first, second, others))
 }

@@ -1,8 +1,9 @@
 //! Names: symbols that are no reserved words (SMT-LIB 2.6, section 3.1).
-ghost use Rattle.std.specs.Prelude.{◌≡◌, bytes_eq, option_map};
+ghost use Rattle.std.specs.Prelude.{◌≡◌, bytes_eq, map, option_map};
 ghost use Rattle.std.specs.List.{list_any};
 ghost use Rattle.nz_sexpr.specs.View.{token_view, view};
 ghost use Rattle.nz_spec.specs.Parse as parse;
+ghost use Rattle.nz_command.specs.Requests.{entry};
 
 use nz_base::Text;
 use nz_sexpr::{Token, Tree};
@@ -58,4 +59,16 @@ pub(crate) fn keyword_of(tree: &Tree) -> Option<&Text>
         Tree::Word(Token::Keyword(name)) => Some(name),
         _ => None,
     }
+}
+
+/// What stands in a table with this word.
+pub(crate) fn listed_with<T: Copy>(table: &[(&[u8], T)], word: &[u8]) -> Option<T>
+    ensures listed { result ≡ parse.listed_with (map entry table.now) word.now }
+{
+    for (listed, found) in table {
+        if word == *listed {
+            return Some(*found);
+        }
+    }
+    None
 }

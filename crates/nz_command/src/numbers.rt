@@ -78,7 +78,7 @@ fn token_faults(token: &Token) -> NumberFaults
 {
     match token {
         Token::Numeral(digits) => NumberFaults {
-            wide: value_onto(0, digits.as_bytes()).is_none(),
+            wide: numeral_value(digits.as_bytes()).is_none(),
             long: false,
         },
         Token::Decimal(bytes) => decimal_faults(bytes.as_bytes()),
@@ -111,13 +111,22 @@ pub(crate) fn token_number(token: &Token) -> Option<Number>
 }
 
 /// The number of a numeral.
-pub(crate) fn numeral(digits: &[u8]) -> Number
+fn numeral(digits: &[u8]) -> Number
     ensures number { number_view result ≡ fitting (written_integer (bounds.digits_value digits.now)) }
 {
-    match value_onto(0, digits) {
+    match numeral_value(digits) {
         Some(value) => Number::Integer(value),
         None => Number::OutOfBounds,
     }
+}
+
+/// The number that the digits of a numeral spell, or none where it is above the greatest.
+pub(crate) fn numeral_value(digits: &[u8]) -> Option<u128>
+    ensures value { IfSome result (λ value. value ≡ bounds.digits_value digits.now) }
+    ensures bounded { IfSome result (λ value. value ≤ fractions.largest) }
+    ensures wide { IfNone result (fractions.largest < bounds.digits_value digits.now) }
+{
+    value_onto(0, digits)
 }
 
 fn decimal(bytes: &[u8]) -> Number

@@ -154,20 +154,27 @@ abbrev pub sort_of : Tree → Option WrittenSort
 sort_of (leaf t) = option_map named_sort (token_name t)
 sort_of (node ts) = Some listed_sort
 
-abbrev pub parameter_of : Tree → Option Parameter
-parameter_of t = within (first name_of (λ name. one sort_of (λ sort. record { name = name; sort = sort }))) t
+abbrev pub parameter_in : Trees → Option Parameter
+parameter_in ts = first name_of (λ name. one sort_of (λ sort. record { name = name; sort = sort })) ts
 
--- a name, or `not` of one
-abbrev pub is_negation : Tree → Option Bool
-is_negation (leaf (symbol name)) = if bytes_eq name (codes "not") then Some true else None
-is_negation t = None
+abbrev pub parameter_of : Tree → Option Parameter
+parameter_of t = within parameter_in t
+
+abbrev pub is_negation : Tree → Bool
+is_negation (leaf (symbol name)) = bytes_eq name (codes "not")
+is_negation t = false
 
 abbrev pub assumed : Bool → List ℕ → Assumption
 assumed is_true name = record { name = name; is_true = is_true }
 
+abbrev pub negated_name : Trees → Option Assumption
+negated_name (trees operator (trees x no_trees)) = if is_negation operator then option_map (assumed false) (name_of x) else None
+negated_name ts = None
+
+-- a name, or `not` of one
 abbrev pub assumption_of : Tree → Option Assumption
 assumption_of (leaf t) = option_map (assumed true) (token_name t)
-assumption_of (node ts) = first is_negation (λ negates. one name_of (assumed false)) ts
+assumption_of (node ts) = negated_name ts
 
 abbrev pub question_of : Tree → Option Question
 question_of t = option_map (λ e. record { tree = t; expression = e }) (expression_of t)
@@ -180,14 +187,18 @@ abbrev pub literal_of : Tree → Option (List ℕ)
 literal_of (leaf (literal text)) = Some text
 literal_of t = None
 
--- how many levels: one if nothing stands there
+-- the number of a numeral, where it is within the bounds on numbers
+abbrev pub number_within : List ℕ → Option ℕ
+number_within bs = if are_wide bs then None else Some (digits_value bs)
+
 abbrev pub level_number : Tree → Option (Option ℕ)
-level_number (leaf (numeral bs)) = Some (if are_wide bs then None else Some (digits_value bs))
+level_number (leaf (numeral bs)) = Some (number_within bs)
 level_number t = None
 
-abbrev pub levels : (Option ℕ → Request) → Trees → Option Request
-levels made no_trees = Some (made (Some 1))
-levels made ts = one level_number made ts
+-- how many levels: one if nothing stands there
+abbrev pub level_count : Trees → Option (Option ℕ)
+level_count no_trees = Some (Some 1)
+level_count ts = one level_number (λ n. n) ts
 
 -- ---- Wishes
 
@@ -239,13 +250,16 @@ is_attribute_value (leaf (keyword name)) = false
 is_attribute_value (leaf (symbol name)) = is_some (free_name name)
 is_attribute_value t = true
 
+abbrev pub unknown_setting : Tree → Option Setting
+unknown_setting v = if is_attribute_value v then Some other_setting else None
+
 -- an option that is known has a value of its own; another has any attribute value
 abbrev pub setting_of : List ℕ → Tree → Option Setting
 setting_of name v =
     if bytes_eq name (codes ":print-success") then option_map success_setting (word_among truth_words v)
     else (if bytes_eq name (codes ":produce-models") then option_map models_setting (word_among truth_words v)
     else (if bytes_eq name (codes ":opt.priority") then option_map priority_setting (word_among priority_words v)
-    else (if is_attribute_value v then Some other_setting else None)))
+    else unknown_setting v))
 
 abbrev pub info_words : List (List ℕ × InfoKey)
 info_words =
@@ -261,6 +275,13 @@ info_of key ts = one (λ v. if is_attribute_value v then Some v else None) (λ v
 
 -- ---- Commands
 
+-- after its name: the sorts of its arguments and its own; parameters, a sort and a body
+abbrev pub function_of : List ℕ → Trees → Option Request
+function_of name ts = first (within (each sort_of)) (λ arguments. one sort_of (declares name arguments)) ts
+
+abbrev pub definition_of : List ℕ → Trees → Option Request
+definition_of name ts = first (within (each parameter_of)) (λ parameters. first sort_of (λ sort. one expression_of (defines name parameters sort))) ts
+
 -- the commands that the program knows, each with what its arguments are
 abbrev pub commands : List (List ℕ × (Trees → Option Request))
 commands =
@@ -269,8 +290,8 @@ commands =
     ∷ (codes "check-sat", none checks)
     ∷ (codes "check-sat-assuming", one (within (each assumption_of)) checks_assuming)
     ∷ (codes "declare-const", first name_of (λ name. one sort_of (declares name [])))
-    ∷ (codes "declare-fun", first name_of (λ name. first (within (each sort_of)) (λ arguments. one sort_of (declares name arguments))))
-    ∷ (codes "define-fun", first name_of (λ name. first (within (each parameter_of)) (λ parameters. first sort_of (λ sort. one expression_of (defines name parameters sort)))))
+    ∷ (codes "declare-fun", first name_of function_of)
+    ∷ (codes "define-fun", first name_of definition_of)
     ∷ (codes "echo", one literal_of echoes)
     ∷ (codes "exit", none exits)
     ∷ (codes "get-info", one keyword_of (λ name. shows_info (info_key name)))
@@ -279,8 +300,8 @@ commands =
     ∷ (codes "get-value", one (within some_questions) shows_values)
     ∷ (codes "maximize", one expression_of (seeks greatest))
     ∷ (codes "minimize", one expression_of (seeks least))
-    ∷ (codes "pop", levels pops)
-    ∷ (codes "push", levels pushes)
+    ∷ (codes "pop", λ ts. option_map pops (level_count ts))
+    ∷ (codes "push", λ ts. option_map pushes (level_count ts))
     ∷ (codes "reset", none resets)
     ∷ (codes "reset-assertions", none resets_assertions)
     ∷ (codes "set-info", first keyword_of info_of)
