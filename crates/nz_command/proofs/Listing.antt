@@ -1,9 +1,9 @@
 -- Lists of trees of another length.
-use Rattle.std.proofs.Common.{◌≡◌, suc, List, [], ◌∷◌, length, Some, None, refl, ap, arith}
+use Rattle.std.proofs.Common.{◌≡◌, ℕ, suc, List, [], ◌∷◌, length, Some, None, refl, ap, arith}
 use Rattle.nz_sexpr.specs.declared.tree.Tree as code
 use Rattle.nz_sexpr.specs.View.{seen}
 use Rattle.nz_spec.specs.Request.{Attributes}
-use Rattle.nz_spec.specs.Parse.{attributes_onto, level_count}
+use Rattle.nz_spec.specs.Parse.{attributes_onto, level_count, info_of, each, question_of, some_questions, none}
 use Rattle.nz_command.specs.Lists.{IsNotOne, IsNotTwo, IsNotThree, IsShort}
 
 pub not_one : (xs : List code.Tree) → (length xs ≡ 1 → ⊥) → IsNotOne (seen xs)
@@ -34,3 +34,17 @@ pub no_levels : (xs : List code.Tree) → (length xs ≡ 0 → ⊥) → IsNotOne
 no_levels [] some h = absurd (some refl)
 no_levels (x ∷ []) some h = absurd h
 no_levels (x ∷ y ∷ xs) some h = refl
+
+-- an info has one value at most
+pub no_info : (key : List ℕ) (xs : List code.Tree) → (length xs ≡ 0 → ⊥) → IsNotOne (seen xs) → None ≡ info_of key (seen xs)
+no_info key [] some h = absurd (some refl)
+no_info key (x ∷ []) some h = absurd h
+no_info key (x ∷ y ∷ xs) some h = refl
+
+pub some_listed : (xs : List code.Tree) → (length xs ≡ 0 → ⊥) → each question_of (seen xs) ≡ some_questions (seen xs)
+some_listed [] some = absurd (some refl)
+some_listed (x ∷ xs) some = refl
+
+pub none_left : {A : Type 0} (made : A) (xs : List code.Tree) → (length xs ≡ 0 → ⊥) → None ≡ none made (seen xs)
+none_left made [] some = absurd (some refl)
+none_left made (x ∷ xs) some = refl

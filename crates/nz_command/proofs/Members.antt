@@ -1,5 +1,5 @@
 -- Tables of words, and parts of a kind in a list.
-use Rattle.std.proofs.Common.{◌≡◌, ℕ, ◌<◌, ◌≤◌, ◌+◌, suc, List, [], ◌∷◌, ◌++◌, length, map, drop, get_or, Option, Some, None, Bor, Bool, true, false, bytes_eq, refl, sym, ap, ◌∙◌, subst, drop-cons, add-one}
+use Rattle.std.proofs.Common.{◌≡◌, ℕ, ◌<◌, ◌≤◌, ◌+◌, suc, List, [], ◌∷◌, ◌++◌, length, map, drop, get_or, Option, Some, None, option_map, if◌then◌else◌, Bor, Bool, true, false, bytes_eq, refl, sym, ap, ◌∙◌, subst, drop-cons, add-one}
 use Rattle.std.proofs.Math.ListN.{drop_of_length-le}
 use Rattle.nz_sexpr.specs.declared.tree.Tree as code
 use Rattle.nz_sexpr.specs.View.{view, seen}
@@ -22,6 +22,10 @@ module _ {A : Type 0} (table : List (Bor (List ℕ) × A)) (i : ℕ) (z : Bor (L
 
 pub listed_nowhere : {A : Type 0} (table : List (Bor (List ℕ) × A)) (i : ℕ) (word : List ℕ) (known : Option A) → known ≡ listed_with (map entry (drop i table)) word → length table ≤ i → None ≡ known
 listed_nowhere table i word known is past = sym (is ∙ ap (λ l. listed_with (map entry l) word) (drop_of_length-le table past))
+
+pub listed_if : {A : Type 0} {B : Type 0} (f : A → B) (b : Bool) (a : A) (m : Option A) → option_map f (if b then Some a else m) ≡ (if b then Some (f a) else option_map f m)
+listed_if f true a m = refl
+listed_if f false a m = refl
 
 module _ {A : Type 0} {Y : Type 0} (part : Tree → Option A) (made : Y → A) where
   abbrev pub EachSoFar : List code.Tree → ℕ → List Y → Type 0

@@ -3,8 +3,8 @@ use Rattle.std.specs.Prelude.{List, [], Option, option_map}
 use Rattle.nz_spec.specs.Tree.{Trees}
 use Rattle.nz_spec.specs.Request.{least, greatest, Request, declares, asserts, seeks, checks, checks_assuming, pushes, pops, resets, resets_assertions, shows_model, shows_values, shows_objectives, shows_info, sets_option, sets_nothing, echoes, exits}
 use Rattle.nz_spec.specs.Parse.{name_of, keyword_of, expression_of, none, one, first, within, each, sort_of, assumption_of, some_questions, literal_of, level_count, wish_of, setting_of, info_key, info_of, function_of, definition_of}
-use Rattle.nz_command.specs.declared.parse.CommandName.{CommandName}
-use Rattle.nz_command.specs.declared.parse.CommandName.TheVariants as names
+use Rattle.nz_command.specs.declared.grammar.CommandName.{CommandName}
+use Rattle.nz_command.specs.declared.grammar.CommandName.TheVariants as names
 
 abbrev pub arguments_of : CommandName → Trees → Option Request
 arguments_of names.Assert = one expression_of asserts

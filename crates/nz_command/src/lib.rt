@@ -5,10 +5,10 @@
 
 mod command;
 mod expression;
+mod grammar;
 mod lists;
 mod names;
 mod numbers;
-mod parse;
 mod parts;
 mod terms;
 
@@ -18,4 +18,4 @@ pub use command::{
 };
 pub use expression::{Expression, Local, Number};
 pub use numbers::{NumberFaults, number_faults};
-pub use parse::parse;
+pub use grammar::parse;

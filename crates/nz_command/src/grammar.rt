@@ -153,7 +153,7 @@ fn command<'a>(
 
 /// A command without arguments.
 fn alone<'a>(arguments: &[Tree], command: Command<'a>) -> Option<Command<'a>>
-    ensures parsed { option_map request result ≡ parse.none (request command) (seen arguments.now) }
+    ensures parsed { option_map request result ≡ parse.none (request command.entry) (seen arguments.now) }
 {
     if arguments.is_empty() {
         Some(command)
