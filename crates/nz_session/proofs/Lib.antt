@@ -5,7 +5,6 @@ pub mod Checking
 pub mod Elements
 pub mod Feeding
 pub mod Fronts
-pub mod Growth
 pub mod Leveling
 pub mod Noting
 pub mod Orders
