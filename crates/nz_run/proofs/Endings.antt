@@ -3,8 +3,8 @@ use Rattle.std.proofs.Common.{◌≡◌, ◌⊎◌, inl, inr, ℕ, ◌==◌, ◌
 use Rattle.std.specs.List.{list_any}
 use Rattle.nz_spec.specs.Transcript.{Kept}
 use Rattle.nz_spec.specs.Run.{IsBrokenOff, IsInterrupted, IsRun, is_error, is_memory_error, status_of}
-use Rattle.nz_run.specs.declared.run.End.{End}
-use Rattle.nz_run.specs.declared.run.End.TheVariants.{Finished, Cut, ReadFault, WriteFault, Reads}
+use Rattle.nz_run.specs.declared.program.End.{End}
+use Rattle.nz_run.specs.declared.program.End.TheVariants.{Finished, Cut, ReadFault, WriteFault, Reads}
 use Rattle.nz_run.specs.Ending.{Ends, EndsAs, ends_by_read, ends_by_write, is_cut, status_by}
 
 -- ---- The status of what was kept is 0, 1 or 5

@@ -2,8 +2,8 @@
 use Rattle.std.specs.Prelude.{◌≡◌, ◌⊎◌, ℕ, Bool, true, false, List, Option, Some, None}
 use Rattle.nz_spec.specs.Transcript.{Kept}
 use Rattle.nz_spec.specs.Run.{IsBrokenOff, IsInterrupted, IsRun, status_of}
-use Rattle.nz_run.specs.declared.run.End.{End}
-use Rattle.nz_run.specs.declared.run.End.TheVariants.{Finished, Cut, ReadFault, WriteFault, Reads}
+use Rattle.nz_run.specs.declared.program.End.{End}
+use Rattle.nz_run.specs.declared.program.End.TheVariants.{Finished, Cut, ReadFault, WriteFault, Reads}
 
 -- a status by which a run ended otherwise than at its end: bad words, a fault, no memory to begin with, or the last read
 abbrev pub Ends : ℕ → Type 0

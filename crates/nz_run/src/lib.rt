@@ -2,9 +2,9 @@
 #![tactic(auto)]
 
 mod command_line;
-mod run;
+mod program;
 mod words;
 
 pub use command_line::words_of;
-pub use run::{DONE, ERROR, Ended, MEMORY, READ_FAULT, READS, USAGE, WRITE_FAULT, run};
+pub use program::{DONE, ERROR, Ended, MEMORY, READ_FAULT, READS, USAGE, WRITE_FAULT, run};
 pub use words::USAGE_LINE;

@@ -1,7 +1,7 @@
 use Rattle.std.proofs.Common.{sym, ◌∙◌}
 use Rattle.nz_spec.specs.Run.{is_memory_error}
 use Rattle.nz_run.proofs.Statuses.{any_at, none_next}
-use Rattle.nz_run.proofs.run.wants_memory.Goals as goal
+use Rattle.nz_run.proofs.program.wants_memory.Goals as goal
 
 pub returns-then-is_out_of_memory : goal.returns-then-is_out_of_memory
 returns-then-is_out_of_memory c =

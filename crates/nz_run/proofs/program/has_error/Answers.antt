@@ -1,7 +1,7 @@
 use Rattle.std.proofs.Common.{sym, ◌∙◌}
 use Rattle.nz_spec.specs.Run.{is_error}
 use Rattle.nz_run.proofs.Statuses.{any_at, none_next}
-use Rattle.nz_run.proofs.run.has_error.Goals as goal
+use Rattle.nz_run.proofs.program.has_error.Goals as goal
 
 pub returns-then-is_an_error : goal.returns-then-is_an_error
 returns-then-is_an_error c =

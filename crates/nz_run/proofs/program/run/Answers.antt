@@ -5,7 +5,7 @@ use Rattle.nz_session.specs.Serve.{kept_by}
 use Rattle.nz_run.specs.Ending.{is_cut, status_by}
 use Rattle.nz_run.proofs.Endings.{answered, broken_off, interrupted, reads_told}
 use Rattle.nz_run.proofs.Turning.{begins}
-use Rattle.nz_run.proofs.run.run.Goals as goal
+use Rattle.nz_run.proofs.program.run.Goals as goal
 
 pub returns-clause-answered : goal.returns-clause-answered
 returns-clause-answered g c =

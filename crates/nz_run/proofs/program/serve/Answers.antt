@@ -1,7 +1,7 @@
 use Rattle.std.proofs.Common.{arith, ◌^◌}
 use Rattle.std.proofs.KnownBytes.{Keeps-refl}
 use Rattle.nz_run.proofs.Turning.{interrupted_run, took_many}
-use Rattle.nz_run.proofs.run.serve.Goals as goal
+use Rattle.nz_run.proofs.program.serve.Goals as goal
 
 pub returns-clause-reads : goal.returns-clause-reads
 returns-clause-reads g c =

@@ -1,7 +1,7 @@
 -- So many reads were made, and all is well.
 use Rattle.std.proofs.Common.{◌≡◌, ℕ}
 use Rattle.nz_run.specs.Reading.{IsReading}
-use Rattle.nz_run.proofs.run.serve.Given as goal
+use Rattle.nz_run.proofs.program.serve.Given as goal
 
 abbrev pub invariant-loop-read : goal.invariant-loop-read
 invariant-loop-read g l =
