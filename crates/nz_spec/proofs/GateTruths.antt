@@ -43,7 +43,7 @@ disjunction_is a no_terms = refl
 disjunction_is a (terms t no_terms) = sym (or-false (told a t))
 disjunction_is a (terms t (terms u us)) = some_told a (terms t (terms u us))
 
-all-append : {X : Type 0} (P : X → Type 0) (xs : List X) (x : X) → AllByRecursion P xs → P x → AllByRecursion P (xs ++ x ∷ [])
+pub all-append : {X : Type 0} (P : X → Type 0) (xs : List X) (x : X) → AllByRecursion P xs → P x → AllByRecursion P (xs ++ x ∷ [])
 all-append P [] x h k = (k, tt)
 all-append P (y ∷ ys) x h k = (h.0, all-append P ys x h.1 k)
 

@@ -1,4 +1,5 @@
 pub mod Decimals
+pub mod Derivations
 pub mod Divisions
 pub mod Examples
 pub mod Found
