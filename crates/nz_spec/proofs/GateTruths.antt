@@ -8,7 +8,7 @@ use Rattle.nz_spec.specs.Fraction.{Fraction}
 use Rattle.nz_spec.specs.Term.{Sort, bool_sort, int_sort, real_sort, NumberSort, over_int, over_real, Head, constant, parameter, integer, decimal_number, verum, falsum, negation, conjunction, disjunction, implication, exclusion, equality, distinction, choice, less, at_most, greater, at_least, sum, difference, product, quotient, integer_quotient, modulus, magnitude, to_real, to_int, is_int, Term, apply, Terms, no_terms, terms, Assignment, Value, truth, number, is_true, value_of, values_of, head_value, sort_of, is_bool, IsOfSort, all_true, some_true, implied, excluded, combined, default_value, are_equal, is_numeric, holds_number, hold_number}
 use Rattle.nz_spec.specs.Model.{IsAssignment}
 use Rattle.nz_spec.specs.Literal.{Literal, is_literal_true, Clause, is_clause_true, IsClauseTrue}
-use Rattle.nz_spec.specs.Gates.{holds, fails, list_of, conjunction_clauses, disjunction_clauses, clauses_over, gate_clauses, IsBoolean, HasBooleanArguments, GatesAreTrue, PlainTermsAreBoolean}
+use Rattle.nz_spec.specs.Gates.{holds, fails, list_of, is_boolean_term, conjunction_clauses, disjunction_clauses, clauses_over, gate_clauses, IsBoolean, HasBooleanArguments, GatesAreTrue, PlainTermsAreBoolean}
 use Rattle.nz_spec.proofs.Literals.{or_first, or_second}
 use Rattle.nz_spec.proofs.Sorted.{and_first, and_second}
 
@@ -88,14 +88,14 @@ not_or true = refl
 not_or false = refl
 
 conjunctions : (a : Assignment) (t : Term) (args : List Term) → told a t ≡ list_all (told a) args
-    → AllByRecursion (IsClauseTrue a) (conjunction_clauses t args)
+    → AllByRecursion (IsClauseTrue a) (conjunction_clauses holds fails is_boolean_term t args)
 conjunctions a t args e =
     all-append (IsClauseTrue a) (map (λ u. fails t ∷ holds u ∷ []) args) (holds t ∷ map fails args)
     (each_argument a t args (λ f. sym e ∙ f))
     (ap (λ b. b || is_clause_true a (map fails args)) e ∙ all_or_fails a args)
 
 disjunctions : (a : Assignment) (t : Term) (args : List Term) → told a t ≡ list_any (told a) args
-    → AllByRecursion (IsClauseTrue a) (disjunction_clauses t args)
+    → AllByRecursion (IsClauseTrue a) (disjunction_clauses holds fails is_boolean_term t args)
 disjunctions a t args e =
     all-append (IsClauseTrue a) (map (λ u. holds t ∷ fails u ∷ []) args) (fails t ∷ map holds args)
     (some_argument a t args (λ f. e ∙ f))
@@ -149,7 +149,7 @@ choice_rows : (c v w : Value)
 choice_rows c v w = chosen_rows (is_true c) v w
 
 gates_over : (a : Assignment) → IsAssignment a → (h : Head) (ts : Terms) → AllByRecursion IsBoolean (list_of ts)
-    → AllByRecursion (IsClauseTrue a) (clauses_over (apply h ts) h (list_of ts))
+    → AllByRecursion (IsClauseTrue a) (clauses_over holds fails is_boolean_term (apply h ts) h (list_of ts))
 gates_over a good verum no_terms s = (refl, tt)
 gates_over a good falsum no_terms s = (refl, tt)
 gates_over a good negation (terms u no_terms) s = negation_rows (told a u)
