@@ -1,0 +1,13 @@
+//! The proof kernel: the only place where a clause can come from. Each clause of a log follows, by given assertions, gates and
+//! resolution, from the assertions that are live at its level, and the log tells how.
+#![tactic(auto)]
+
+mod errors;
+mod gates;
+mod lits;
+// mod log;
+mod sets;
+
+pub use errors::LogStop;
+pub use lits::Lit;
+// pub use log::{ClauseId, Link, Log};
