@@ -1,5 +1,5 @@
 //! Why a rule gave no clause.
-ghost use Rattle.std.specs.Prelude.{◌≡◌, Some, codes};
+ghost use Rattle.std.specs.Prelude.{Some, codes};
 
 use nz_base::Memory;
 use std::alloc::{AllocError, AllocFailed};
@@ -24,7 +24,10 @@ impl fmt::Display for LogStop {
 impl Error for LogStop {}
 
 impl From<Memory> for LogStop {
-    ghost from_gives = { λ _ e. e ≡ LogStop.Memory };
+    ghost use Rattle.std.specs.Prelude.{◌≡◌};
+    ghost use Rattle.nz_log.specs.declared.errors.LogStop.TheVariants as stop;
+
+    ghost from_gives = { λ _ e. e ≡ stop.Memory };
 
     fn from(_error: Memory) -> LogStop {
         LogStop::Memory
@@ -32,7 +35,10 @@ impl From<Memory> for LogStop {
 }
 
 impl From<AllocError> for LogStop {
-    ghost from_gives = { λ _ e. e ≡ LogStop.Memory };
+    ghost use Rattle.std.specs.Prelude.{◌≡◌};
+    ghost use Rattle.nz_log.specs.declared.errors.LogStop.TheVariants as stop;
+
+    ghost from_gives = { λ _ e. e ≡ stop.Memory };
 
     fn from(_error: AllocError) -> LogStop {
         LogStop::Memory
@@ -40,7 +46,10 @@ impl From<AllocError> for LogStop {
 }
 
 impl<T: Drop> From<AllocFailed<T>> for LogStop {
-    ghost from_gives = { λ _ e. e ≡ LogStop.Memory };
+    ghost use Rattle.std.specs.Prelude.{◌≡◌};
+    ghost use Rattle.nz_log.specs.declared.errors.LogStop.TheVariants as stop;
+
+    ghost from_gives = { λ _ e. e ≡ stop.Memory };
 
     fn from(_error: AllocFailed<T>) -> LogStop {
         LogStop::Memory

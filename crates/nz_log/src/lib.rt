@@ -5,9 +5,11 @@
 mod errors;
 mod gates;
 mod lits;
-// mod log;
+mod log;
+mod origins;
 mod sets;
 
 pub use errors::LogStop;
 pub use lits::Lit;
-// pub use log::{ClauseId, Link, Log};
+pub use log::Log;
+pub use origins::{ClauseId, Link};

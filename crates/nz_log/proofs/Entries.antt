@@ -1,0 +1,37 @@
+-- How the clauses of a log change.
+use Rattle.std.proofs.Common.{◌≡◌, ◌≢◌, ℕ, zero, suc, ◌<◌, ◌≤◌, List, [], ◌∷◌, ◌++◌, length, map, Option, Some, None, refl, sym, ap, ◌∙◌, arith}
+use Rattle.std.specs.Prelude.{slice_get, unwrap_or, option_map}
+use Rattle.nz_log.specs.declared.origins.Stored.{Stored}
+use Rattle.nz_log.specs.Logs.{Entry, LogState, entry_at, Puts}
+use Rattle.nz_log.specs.Stored.{entry_of, log_of}
+
+-- a list with one more at its end, by places
+seam : {X Y : Type 0} (f : X → Y) (xs : List X) (x : X) (n : ℕ) → n ≡ length xs → slice_get (map f (xs ++ x ∷ [])) n ≡ Some (f x)
+seam f [] x zero e = refl
+seam f [] x (suc n) e = absurd (omega arith)
+seam f (y ∷ ys) x zero e = absurd (omega arith)
+seam f (y ∷ ys) x (suc n) e = seam f ys x n (omega arith)
+
+past : {X Y : Type 0} (f : X → Y) (xs : List X) (n : ℕ) → n ≡ length xs → slice_get (map f xs) n ≡ None
+past f [] n e = refl
+past f (y ∷ ys) zero e = absurd (omega arith)
+past f (y ∷ ys) (suc n) e = past f ys n (omega arith)
+
+beside : {X Y : Type 0} (f : X → Option Y) (xs : List X) (x : X) (n i : ℕ) → n ≡ length xs → i ≢ n
+    → unwrap_or (slice_get (map f (xs ++ x ∷ [])) i) None ≡ unwrap_or (slice_get (map f xs) i) None
+beside f [] x n zero e other = absurd (other (omega arith))
+beside f [] x n (suc i) e other = refl
+beside f (y ∷ ys) x n zero e other = refl
+beside f (y ∷ ys) x zero (suc i) e other = absurd (omega arith)
+beside f (y ∷ ys) x (suc n) (suc i) e other = beside f ys x n i (omega arith) (λ same. other (ap suc same))
+
+-- a clause more at the end
+pub puts_last : (clauses : List (Option Stored)) (told : List (Option ℕ)) (s : Stored) (n : ℕ) → n ≡ length clauses
+    → Puts (log_of clauses told) n (entry_of s) (log_of (clauses ++ Some s ∷ []) told)
+puts_last clauses told s n e =
+    record {
+      free = ap (λ o. unwrap_or o None) (past (option_map entry_of) clauses n e);
+      made = ap (λ o. unwrap_or o None) (seam (option_map entry_of) clauses (Some s) n e);
+      kept = λ i other. beside (option_map entry_of) clauses (Some s) n i e other;
+      told = refl;
+    }
