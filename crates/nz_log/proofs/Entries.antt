@@ -1,6 +1,6 @@
 -- How the clauses of a log change.
 use Rattle.std.proofs.Common.{◌≡◌, ◌≢◌, ℕ, zero, suc, ◌<◌, ◌≤◌, List, [], ◌∷◌, ◌++◌, length, map, Option, Some, None, refl, sym, ap, ◌∙◌, arith}
-use Rattle.std.specs.Prelude.{slice_get, unwrap_or, option_map}
+use Rattle.std.specs.Prelude.{slice_get, unwrap_or, option_map, IsSome}
 use Rattle.nz_log.specs.declared.origins.Stored.{Stored}
 use Rattle.nz_log.specs.Logs.{Entry, LogState, entry_at, Puts}
 use Rattle.nz_log.specs.Stored.{entry_of, log_of}
@@ -12,10 +12,12 @@ seam f [] x (suc n) e = absurd (omega arith)
 seam f (y ∷ ys) x zero e = absurd (omega arith)
 seam f (y ∷ ys) x (suc n) e = seam f ys x n (omega arith)
 
-past : {X Y : Type 0} (f : X → Y) (xs : List X) (n : ℕ) → n ≡ length xs → slice_get (map f xs) n ≡ None
-past f [] n e = refl
-past f (y ∷ ys) zero e = absurd (omega arith)
-past f (y ∷ ys) (suc n) e = past f ys n (omega arith)
+-- only what is in a list is there
+inside : {X Y : Type 0} (f : X → Option Y) (xs : List X) (n i : ℕ) → n ≡ length xs → IsSome (unwrap_or (slice_get (map f xs) i) None) → i < n
+inside f [] n i e live = cc
+inside f (y ∷ ys) zero i e live = absurd (omega arith)
+inside f (y ∷ ys) (suc n) zero e live = omega arith
+inside f (y ∷ ys) (suc n) (suc i) e live = let within : i < n = inside f ys n i (omega arith) live in omega arith
 
 beside : {X Y : Type 0} (f : X → Option Y) (xs : List X) (x : X) (n i : ℕ) → n ≡ length xs → i ≢ n
     → unwrap_or (slice_get (map f (xs ++ x ∷ [])) i) None ≡ unwrap_or (slice_get (map f xs) i) None
@@ -30,7 +32,7 @@ pub puts_last : (clauses : List (Option Stored)) (told : List (Option ℕ)) (s :
     → Puts (log_of clauses told) n (entry_of s) (log_of (clauses ++ Some s ∷ []) told)
 puts_last clauses told s n e =
     record {
-      free = ap (λ o. unwrap_or o None) (past (option_map entry_of) clauses n e);
+      above = λ i live. inside (option_map entry_of) clauses n i e live;
       made = ap (λ o. unwrap_or o None) (seam (option_map entry_of) clauses (Some s) n e);
       kept = λ i other. beside (option_map entry_of) clauses (Some s) n i e other;
       told = refl;

@@ -1,1 +1,4 @@
 pub mod Entries
+pub mod Members
+pub mod Naming
+pub mod Soundness

@@ -1,5 +1,5 @@
 -- What a log holds: clauses by number, each with its level and how it was made, and the levels told of terms.
-use Rattle.std.specs.Prelude.{◌≡◌, ◌≢◌, ℕ, max, min, nat_le, List, [], ◌∷◌, fold, Option, Some, None, IsSome, unwrap_or, slice_get, if◌then◌else◌}
+use Rattle.std.specs.Prelude.{◌≡◌, ◌≢◌, ℕ, ◌<◌, max, min, nat_le, List, [], ◌∷◌, fold, Option, Some, None, IsSome, unwrap_or, slice_get, if◌then◌else◌}
 use Rattle.nz_spec.specs.Table.{Node}
 use Rattle.nz_spec.specs.Literal.{once}
 use Rattle.nz_log.specs.declared.lits.Lit.{Lit}
@@ -74,9 +74,9 @@ lowest (Some n) level = min n level
 
 -- ---- Changes
 
--- A clause is put under a number that had none; the others stay.
+-- A clause is put under a number above those of the clauses that are there; these stay.
 pub record Puts (old : LogState) (id : ℕ) (e : Entry) (new : LogState) : Type 0 where
-  pub free : entry_at old id ≡ None
+  pub above : (i : ℕ) → IsLive old i → i < id
   pub made : entry_at new id ≡ Some e
   pub kept : (i : ℕ) → i ≢ id → entry_at new i ≡ entry_at old i
   pub told : new.told ≡ old.told
