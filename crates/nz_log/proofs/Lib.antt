@@ -1,4 +1,5 @@
 pub mod Entries
+pub mod GatesInOrder
 pub mod Members
 pub mod Naming
 pub mod Soundness

@@ -13,6 +13,7 @@ use crate::lits::Lit;
 use crate::origins::{ClauseId, Link, Origin, Stored};
 use crate::sets::{Literals, resolvent, set_of};
 use nz_base::Memory;
+use nz_spec::table::{one_number, term_of_node};
 use nz_term::{TermId, Terms};
 use smallvec::SmallVec;
 use std::alloc::Global;
@@ -164,6 +165,10 @@ impl Log {
         // Where the term is over Boolean ones, the log stays in order.
         ensures sound { (levels : List (List ℕ)) → HasBooleanArguments (term_in terms.now term) → IsLog terms.now levels self.old → IsLog terms.now levels self.new }
     {
+        one_number();
+        term_of_node();
+        let within = term < terms.len();
+        prove!(within);
         let alloc = *self.clauses.allocator();
         let Some(gate) = gate_literals(alloc, terms, term, j)? else {
             unreachable!()
