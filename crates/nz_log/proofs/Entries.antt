@@ -1,8 +1,9 @@
 -- How the clauses of a log change.
-use Rattle.std.proofs.Common.{◌≡◌, ◌≢◌, ℕ, zero, suc, ◌<◌, ◌≤◌, List, [], ◌∷◌, ◌++◌, length, map, Option, Some, None, refl, sym, ap, ◌∙◌, arith}
+use Rattle.std.proofs.Common.{◌≡◌, ◌≢◌, ℕ, zero, suc, ◌<◌, ◌≤◌, List, [], ◌∷◌, ◌++◌, length, map, get_or, Option, Some, None, refl, sym, ap, ◌∙◌, arith}
 use Rattle.std.specs.Prelude.{slice_get, unwrap_or, option_map, IsSome}
+use Rattle.std.proofs.lemmas.Option.{unwrap_or-slice_get}
 use Rattle.nz_log.specs.declared.origins.Stored.{Stored}
-use Rattle.nz_log.specs.Logs.{Entry, LogState, entry_at, Puts}
+use Rattle.nz_log.specs.Logs.{Entry, LogState, entry_at, kept_below, told_below, Drops, Puts}
 use Rattle.nz_log.specs.Stored.{entry_of, log_of}
 
 -- a list with one more at its end, by places
@@ -36,4 +37,20 @@ puts_last clauses told s n e =
       made = ap (λ o. unwrap_or o None) (seam (option_map entry_of) clauses (Some s) n e);
       kept = λ i other. beside (option_map entry_of) clauses (Some s) n i e other;
       told = refl;
+    }
+
+-- a clause by its place
+pub entry_read : (clauses : List (Option Stored)) (told : List (Option ℕ)) (i : ℕ) → entry_at (log_of clauses told) i ≡ option_map entry_of (get_or clauses i None)
+entry_read [] told i = refl
+entry_read (c ∷ cs) told zero = refl
+entry_read (c ∷ cs) told (suc i) = entry_read cs told i
+
+-- dropping by places
+pub drops_from : (old new : List (Option Stored)) (told told' : List (Option ℕ)) (level : ℕ)
+    → ((i : ℕ) → option_map entry_of (get_or new i None) ≡ kept_below level (option_map entry_of (get_or old i None)))
+    → ((t : ℕ) → get_or told' t None ≡ told_below level (get_or told t None)) → Drops (log_of old told) level (log_of new told')
+drops_from old new told told' level entries lowest =
+    record {
+      entries = λ i. entry_read new told' i ∙ entries i ∙ ap (kept_below level) (sym (entry_read old told i));
+      told = λ t. unwrap_or-slice_get told' t None ∙ lowest t ∙ ap (told_below level) (sym (unwrap_or-slice_get told t None));
     }

@@ -48,10 +48,12 @@ module _ (ns : List Node) (table : IsTable ns) (one : OneNumber) (node : TermOfN
   gate_in_order levels s id boolean =
       record {
         within = each-put (λ (l : Lit). l.term < length ns) are_same_lit the_clause [] tt clause_within;
-        made =
-          (within, boolean,
+        made = (
+          within,
+          boolean,
           ap (λ cs. option_map clause_of (slice_get cs j)) (sym (gates_named ns table node t the_node node_at))
-          ∙ ap (option_map clause_of) (slice_get-map (clause_in ns) (gates_at ns t) j)
-          ∙ ap (λ o. option_map clause_of (option_map (clause_in ns) o)) clause_at
-          ∙ ap Some (sym (clause_named ns table one the_clause clause_within)));
+              ∙ ap (option_map clause_of) (slice_get-map (clause_in ns) (gates_at ns t) j)
+              ∙ ap (λ o. option_map clause_of (option_map (clause_in ns) o)) clause_at
+              ∙ ap Some (sym (clause_named ns table one the_clause clause_within)),
+        );
       }

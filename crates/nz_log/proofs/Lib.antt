@@ -1,3 +1,4 @@
+pub mod Dropping
 pub mod Entries
 pub mod GatesInOrder
 pub mod Members

@@ -21,13 +21,14 @@ Keeps level s r = (i : ℕ) → IsLive s i → level_at s i ≤ level → entry_
 module _ (bound : ℕ) (s r : LogState) (keeps : Keeps bound s r) where
   premise_stays : (id level i : ℕ) → level ≤ bound → IsPremise s id level i → (entry_at r i ≡ entry_at s i) × IsPremise r id level i
   premise_stays id level i below p =
-      let same = keeps i p.live (let h : level_at s i ≤ level = p.level_within in omega arith) in
-      (same,
-      record {
-        live = subst (λ o. IsSome o) (sym same) p.live;
-        before = p.before;
-        level_within = subst (λ o. elim o [ None ↦ 0 | Some e ↦ e.level ] ≤ level) (sym same) p.level_within;
-      })
+      let same = keeps i p.live (let h : level_at s i ≤ level = p.level_within in omega arith) in (
+        same,
+        record {
+          live = subst (λ o. IsSome o) (sym same) p.live;
+          before = p.before;
+          level_within = subst (λ o. elim o [ None ↦ 0 | Some e ↦ e.level ] ≤ level) (sym same) p.level_within;
+        },
+      )
 
   links_stay : (ns : List Node) (id level : ℕ) → level ≤ bound → (ks : List Link) → AllByRecursion (IsLink ns s id level) ks → AllByRecursion (IsLink ns r id level) ks
   links_stay ns id level below [] h = tt
@@ -49,9 +50,11 @@ module _ (bound : ℕ) (s r : LogState) (keeps : Keeps bound s r) where
   made_stays ns levels id e below (assertion_of k) m = m
   made_stays ns levels id e below (gate_of t j) m = m
   made_stays ns levels id e below (chain_of first ks) m =
-      let p = premise_stays id e.level first below m.0 in
-      (p.1, links_stay ns id e.level below ks m.1,
-      m.2 ∙ ap (λ c. chained s c ks) (sym (same_literals first p.0)) ∙ chained_stays ns id e.level below (literals_at r first) ks m.1)
+      let p = premise_stays id e.level first below m.0 in (
+        p.1,
+        links_stay ns id e.level below ks m.1,
+        m.2 ∙ ap (λ c. chained s c ks) (sym (same_literals first p.0)) ∙ chained_stays ns id e.level below (literals_at r first) ks m.1,
+      )
 
   pub entry_stays : (ns : List Node) (levels : List (List ℕ)) (id : ℕ) (e : Entry) → e.level ≤ bound → IsEntry ns levels s id e → IsEntry ns levels r id e
   entry_stays ns levels id e below i = record { within = i.within; made = made_stays ns levels id e below e.origin i.made }
@@ -70,13 +73,14 @@ module _ (s r : LogState) (id : ℕ) (e : Entry) (puts : Puts s id e r) where
 
   pub puts_in_order : (ns : List Node) (levels : List (List ℕ)) → IsLog ns levels s → IsEntry ns levels s id e → IsLog ns levels r
   puts_in_order ns levels order i j f at =
-      elim (same_or_other j id)
-      [ inl same ↦
-          let one : e ≡ f = let both : Some e ≡ Some f = sym puts.made ∙ ap (entry_at r) (sym same) ∙ at in cc in
-          subst (IsEntry ns levels r j) one
-          (subst (λ n. IsEntry ns levels r n e) (sym same) (entry_stays e.level s r (puts_keeps e.level) ns levels id e (omega arith) i))
-      | inr other ↦
-          entry_stays f.level s r (puts_keeps f.level) ns levels j f (omega arith) (order j f (sym (puts.kept j other) ∙ at)) ]
+      elim (same_or_other j id) [
+        | inl same ↦
+            let one : e ≡ f = let both : Some e ≡ Some f = sym puts.made ∙ ap (entry_at r) (sym same) ∙ at in cc in
+            subst (IsEntry ns levels r j) one
+            (subst (λ n. IsEntry ns levels r n e) (sym same) (entry_stays e.level s r (puts_keeps e.level) ns levels id e (omega arith) i))
+        | inr other ↦
+            entry_stays f.level s r (puts_keeps f.level) ns levels j f (omega arith) (order j f (sym (puts.kept j other) ∙ at))
+      ]
 
 -- ---- A live assertion
 
@@ -138,9 +142,10 @@ module _ (ns : List Node) (levels : List (List ℕ)) (s : LogState) (order : IsL
   links_are id n above start [] live within below = tt
   links_are id n above start (k ∷ ks) live within below =
       let grows = links_grow (max start (level_at s k.clause)) ks in
-      let least : level_at s k.clause ≤ n = omega (arith, grows, below) in
-      (record { premise = record { live = live.0; before = above k.clause live.0; level_within = least }; within = within.0 },
-      links_are id n above (max start (level_at s k.clause)) ks live.1 within.1 below)
+      let least : level_at s k.clause ≤ n = omega (arith, grows, below) in (
+        record { premise = record { live = live.0; before = above k.clause live.0; level_within = least }; within = within.0 },
+        links_are id n above (max start (level_at s k.clause)) ks live.1 within.1 below,
+      )
 
   pub chain_in_order : (id first : ℕ) (ks : List Link) → ((i : ℕ) → IsLive s i → i < id) → IsLive s first → AllByRecursion (λ (k : Link). IsLive s k.clause) ks
       → AllByRecursion (λ (k : Link). k.literal.term < length ns) ks → IsEntry ns levels s id (chain_entry s first ks)
@@ -152,8 +157,9 @@ module _ (ns : List Node) (levels : List (List ℕ)) (s : LogState) (order : IsL
       let low : level_at s first ≤ level_with s start c = omega (arith, grows, from) in
       record {
         within = chained_within (literals_at s first) ks (within_at first (entry_at s first) refl);
-        made =
-          (record { live = live; before = above first live; level_within = low },
+        made = (
+          record { live = live; before = above first live; level_within = low },
           links_are id (level_with s start c) above (level_at s first) ks lives within grows,
-          refl);
+          refl,
+        );
       }

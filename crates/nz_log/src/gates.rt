@@ -23,7 +23,13 @@ pub fn gate_literals(alloc: Global, terms: &Terms, term: TermId, j: usize) -> Re
 }
 
 /// The same of the term of this head over these arguments, where each equation is of Boolean terms.
-fn clause_over(alloc: Global, head: &Head, term: TermId, kids: &[TermId], j: usize) -> Result<Gate, Memory>
+fn clause_over(
+    alloc: Global,
+    head: &Head,
+    term: TermId,
+    kids: &[TermId],
+    j: usize,
+) -> Result<Gate, Memory>
     ensures clause { IfOk result (λ c. option_map (λ v. v.items) c ≡ slice_get (gates_over term (head_of head.now) kids.now) j) }
 {
     match head {
@@ -116,7 +122,13 @@ fn equality_clause(alloc: Global, term: TermId, kids: &[TermId], j: usize) -> Re
     }
 }
 
-fn choice_clause(alloc: Global, sort: Sort, term: TermId, kids: &[TermId], j: usize) -> Result<Gate, Memory>
+fn choice_clause(
+    alloc: Global,
+    sort: Sort,
+    term: TermId,
+    kids: &[TermId],
+    j: usize,
+) -> Result<Gate, Memory>
     ensures clause { IfOk result (λ c. option_map (λ v. v.items) c ≡ slice_get (gates_over term (choice (sort_of sort)) kids.now) j) }
 {
     match sort {
@@ -125,7 +137,12 @@ fn choice_clause(alloc: Global, sort: Sort, term: TermId, kids: &[TermId], j: us
     }
 }
 
-fn boolean_choice_clause(alloc: Global, term: TermId, kids: &[TermId], j: usize) -> Result<Gate, Memory>
+fn boolean_choice_clause(
+    alloc: Global,
+    term: TermId,
+    kids: &[TermId],
+    j: usize,
+) -> Result<Gate, Memory>
     ensures clause { IfOk result (λ c. option_map (λ v. v.items) c ≡ slice_get (gates_over term (choice bool_sort) kids.now) j) }
 {
     let yes = Lit::holds(term);
@@ -150,7 +167,12 @@ fn boolean_choice_clause(alloc: Global, term: TermId, kids: &[TermId], j: usize)
     }
 }
 
-fn conjunction_clause(alloc: Global, term: TermId, kids: &[TermId], j: usize) -> Result<Gate, Memory>
+fn conjunction_clause(
+    alloc: Global,
+    term: TermId,
+    kids: &[TermId],
+    j: usize,
+) -> Result<Gate, Memory>
     ensures clause { IfOk result (λ c. option_map (λ v. v.items) c ≡ slice_get (gates_over term conjunction kids.now) j) }
 {
     if j < kids.len() {
@@ -162,7 +184,12 @@ fn conjunction_clause(alloc: Global, term: TermId, kids: &[TermId], j: usize) ->
     Ok(None)
 }
 
-fn disjunction_clause(alloc: Global, term: TermId, kids: &[TermId], j: usize) -> Result<Gate, Memory>
+fn disjunction_clause(
+    alloc: Global,
+    term: TermId,
+    kids: &[TermId],
+    j: usize,
+) -> Result<Gate, Memory>
     ensures clause { IfOk result (λ c. option_map (λ v. v.items) c ≡ slice_get (gates_over term disjunction kids.now) j) }
 {
     if j < kids.len() {

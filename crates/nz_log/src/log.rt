@@ -1,9 +1,9 @@
 //! The log of clauses.
-ghost use Rattle.std.specs.Prelude.{◌≡◌, ◌≢◌, ℕ, ◌<◌, List, length, All, Some, OnOk, OnErr, IfOk, IsOkAnd, slice_get};
+ghost use Rattle.std.specs.Prelude.{◌≡◌, ◌≢◌, ℕ, suc, ◌<◌, List, length, option_map, slice_index_or, take, None, All, Some, OnOk, OnErr, IfOk, IsOkAnd, slice_get};
 ghost use Rattle.nz_spec.specs.Table.{Node, term_in};
 ghost use Rattle.nz_spec.specs.Gates.{HasBooleanArguments};
 ghost use Rattle.nz_log.specs.Lits.{gates_at};
-ghost use Rattle.nz_log.specs.Logs.{IsLive, Puts, chain_entry, chained, empty_log, entry_at, gate_entry, given_entry, level_at, level_of_links, level_with, literals_at, lowest, resolvent_entry, told_level, told_of};
+ghost use Rattle.nz_log.specs.Logs.{Drops, IsLive, Puts, chain_entry, chained, empty_log, entry_at, gate_entry, given_entry, kept_below, level_at, level_of_links, level_with, literals_at, lowest, resolvent_entry, told_below, told_level, told_of};
 ghost use Rattle.nz_log.specs.Sound.{IsLog, live_at};
 ghost use Rattle.nz_log.specs.Stored.{entry_of};
 
@@ -203,7 +203,12 @@ impl Log {
         let alloc = *self.clauses.allocator();
         let mut literals = SmallVec::from_slice(alloc, self.clause(first))?;
         for link in links {
-            literals = resolvent(alloc, link.literal, literals.as_slice(), self.clause(link.clause))?;
+            literals = resolvent(
+                alloc,
+                link.literal,
+                literals.as_slice(),
+                self.clause(link.clause),
+            )?;
         }
         Ok(literals)
     }
@@ -239,7 +244,12 @@ impl Log {
     /// # Errors
     ///
     /// `Memory`. Then the log is as before.
-    pub fn resolve(&mut self, first: ClauseId, second: ClauseId, literal: Lit) -> Result<ClauseId, LogStop>
+    pub fn resolve(
+        &mut self,
+        first: ClauseId,
+        second: ClauseId,
+        literal: Lit,
+    ) -> Result<ClauseId, LogStop>
         requires first { IsLive self.old first }
         requires second { IsLive self.old second }
         ensures made { IfOk result (λ id. Puts self.old id (resolvent_entry self.old first second literal) self.new) }
@@ -251,5 +261,69 @@ impl Log {
             literal,
         };
         self.chain(first, &[link])
+    }
+
+    /// Leaves just the clauses whose level is at most this one, and what was told of it and of lower ones. Takes no memory.
+    pub fn drop_above(&mut self, level: usize)
+        ensures drops { Drops self.old level self.new }
+        // What stays is in order over the levels that stay.
+        ensures sound { (ns : List Node) (levels : List (List ℕ)) → IsLog ns levels self.old → IsLog ns (take (suc level) levels) self.new }
+    {
+        drop_clauses(&mut self.clauses, level);
+        drop_told(&mut self.told, level);
+        trim(&mut self.clauses);
+    }
+}
+
+/// Takes the gaps off the end.
+fn trim(clauses: &mut Vec<Option<Stored>>)
+    ensures kept { (i : ℕ) → slice_index_or clauses.new.items i None ≡ slice_index_or clauses.old.items i None }
+{
+    let mut kept = clauses.len();
+    while kept > 0 && clauses[kept - 1].is_none() {
+        kept -= 1;
+    }
+    clauses.truncate(kept);
+}
+
+/// Takes out the clauses above a level.
+fn drop_clauses(clauses: &mut Vec<Option<Stored>>, level: usize)
+    ensures kept { (i : ℕ) → option_map entry_of (slice_index_or clauses.new.items i None) ≡ kept_below level (option_map entry_of (slice_index_or clauses.old.items i None)) }
+{
+    for slot in clauses.iter_mut() {
+        drop_clause(slot, level);
+    }
+}
+
+/// Takes out a clause above a level.
+fn drop_clause(slot: &mut Option<Stored>, level: usize)
+    ensures kept { option_map entry_of slot.new ≡ kept_below level (option_map entry_of slot.old) }
+{
+    match slot {
+        Some(stored) => {
+            if stored.level > level {
+                *slot = None;
+            }
+        }
+        None => {}
+    }
+}
+
+/// Takes out what was told above a level.
+fn drop_told(told: &mut Vec<Option<usize>>, level: usize)
+    ensures kept { (i : ℕ) → slice_index_or told.new.items i None ≡ told_below level (slice_index_or told.old.items i None) }
+{
+    for slot in told.iter_mut() {
+        *slot = below(*slot, level);
+    }
+}
+
+/// What was told, if it is at most this level.
+fn below(told: Option<usize>, level: usize) -> Option<usize>
+    ensures below { result ≡ told_below level told }
+{
+    match told {
+        Some(lowest) => { if lowest <= level { Some(lowest) } else { None } }
+        None => None,
     }
 }

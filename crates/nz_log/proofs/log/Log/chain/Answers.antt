@@ -15,5 +15,5 @@ returns-clause-sound c ns levels within order =
     let made : IfOk c.put.result (λ id. Puts s id e c.put.new.self) = search rules in
     rule_in_order s c.put.new.self e c.put.result made c.put.ensures.unchanged ns levels
     (λ id above. chain_in_order ns levels s order id c.args.first ks above c.requires.first
-      (each_of (λ (k : Link). IsLive s k.clause) ks c.requires.live) (each_of (λ (k : Link). k.literal.term < length ns) ks within))
+    (each_of (λ (k : Link). IsLive s k.clause) ks c.requires.live) (each_of (λ (k : Link). k.literal.term < length ns) ks within))
     order

@@ -14,5 +14,5 @@ returns-clause-sound c levels boolean order =
     let made : IfOk c.put.result (λ id. Puts s id e c.put.new.self) = search rules in
     rule_in_order s c.put.new.self e c.put.result made c.put.ensures.unchanged ns levels
     (λ id above. gate_in_order ns c.len.ensures.table c.one_number.ensures.one c.term_of_node.ensures.node c.args.term c.args.j c.requires.within
-      c.requires.table levels s id boolean)
+    c.requires.table levels s id boolean)
     order
