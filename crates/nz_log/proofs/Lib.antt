@@ -4,3 +4,5 @@ pub mod GatesInOrder
 pub mod Members
 pub mod Naming
 pub mod Soundness
+pub mod Staying
+pub mod Truths

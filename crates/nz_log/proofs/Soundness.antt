@@ -85,7 +85,7 @@ module _ (s r : LogState) (id : ℕ) (e : Entry) (puts : Puts s id e r) where
 -- ---- A live assertion
 
 -- the numbers of more levels begin with those of fewer
-longer : (l xs ys : List ℕ) → ((k t : ℕ) → slice_get xs k ≡ Some t → slice_get ys k ≡ Some t) → (k t : ℕ)
+pub longer : (l xs ys : List ℕ) → ((k t : ℕ) → slice_get xs k ≡ Some t → slice_get ys k ≡ Some t) → (k t : ℕ)
     → slice_get (l ++ xs) k ≡ Some t → slice_get (l ++ ys) k ≡ Some t
 longer [] xs ys h k t e = h k t e
 longer (x ∷ l) xs ys h zero t e = e
@@ -119,7 +119,7 @@ rule_in_order s r e (Err x) made unchanged ns levels i order = subst (IsLog ns l
 -- ---- A chain of resolvents
 
 module _ (ns : List Node) (levels : List (List ℕ)) (s : LogState) (order : IsLog ns levels s) where
-  within_at : (i : ℕ) (o : Option Entry) → entry_at s i ≡ o → AreWithin ns (elim o [ None ↦ [] | Some e ↦ e.literals ])
+  pub within_at : (i : ℕ) (o : Option Entry) → entry_at s i ≡ o → AreWithin ns (elim o [ None ↦ [] | Some e ↦ e.literals ])
   within_at i None at = tt
   within_at i (Some e) at = (order i e at).within
 

@@ -1,10 +1,10 @@
 -- Logs whose clauses are in order: over a table of terms, and by level the numbers of the live assertions.
-use Rattle.std.specs.Prelude.{◌≡◌, ℕ, suc, ◌<◌, ◌≤◌, List, [], ◌∷◌, length, take, map, Option, Some, option_map, slice_get}
+use Rattle.std.specs.Prelude.{◌≡◌, ℕ, suc, ◌<◌, ◌≤◌, List, [], ◌∷◌, ◌++◌, length, take, map, Option, Some, option_map, slice_get}
 use Rattle.std.specs.List.{AllByRecursion}
 use Rattle.nz_spec.specs.Term.{Term, Assignment, IsTrueUnder}
-use Rattle.nz_spec.specs.Table.{Node, term_in}
+use Rattle.nz_spec.specs.Table.{Node, IsTable, term_in}
 use Rattle.nz_spec.specs.Model.{IsAssignment}
-use Rattle.nz_spec.specs.Decide.{asserted_numbers}
+use Rattle.nz_spec.specs.Decide.{asserted_numbers, with_number}
 use Rattle.nz_spec.specs.Literal.{clause_of, IsClauseTrue}
 use Rattle.nz_spec.specs.Gates.{gate_clauses, HasBooleanArguments}
 use Rattle.nz_log.specs.declared.lits.Lit.{Lit}
@@ -55,5 +55,16 @@ live_terms ns levels level = map (term_in ns) (live_at levels level)
 
 -- Each clause of a log is true under every assignment that makes the assertions live at its level true.
 abbrev pub ClausesAreTrue : Type 0
-ClausesAreTrue = (ns : List Node) (levels : List (List ℕ)) (s : LogState) → IsLog ns levels s → (i : ℕ) (e : Entry) → entry_at s i ≡ Some e
+ClausesAreTrue = (ns : List Node) → IsTable ns → (levels : List (List ℕ)) (s : LogState) → IsLog ns levels s → (i : ℕ) (e : Entry) → entry_at s i ≡ Some e
     → (a : Assignment) → IsAssignment a → AllByRecursion (IsTrueUnder a) (live_terms ns levels e.level) → IsClauseTrue a (clause_in ns e.literals)
+
+-- The assertions of each level are still there, at the same places.
+abbrev pub AreMore : (old new : List (List ℕ)) → Type 0
+AreMore old new = (level k t : ℕ) → slice_get (live_at old level) k ≡ Some t → slice_get (live_at new level) k ≡ Some t
+
+-- A log stays in order when the table grows, and when more is asserted.
+pub record LogsStay : Type 0 where
+  pub table : (ns more : List Node) (levels : List (List ℕ)) (s : LogState) → IsLog ns levels s → IsLog (ns ++ more) levels s
+  pub asserted : (ns : List Node) (old new : List (List ℕ)) (s : LogState) → AreMore old new → IsLog ns old s → IsLog ns new s
+  pub level : (levels : List (List ℕ)) → AreMore levels (levels ++ [] ∷ [])
+  pub number : (levels : List (List ℕ)) (t : ℕ) → AreMore levels (with_number levels t)

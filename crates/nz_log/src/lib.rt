@@ -4,6 +4,7 @@
 
 mod errors;
 mod gates;
+pub mod laws;
 mod lits;
 mod log;
 mod origins;

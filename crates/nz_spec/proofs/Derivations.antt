@@ -30,7 +30,7 @@ get_stays [] ys i x e = cc
 get_stays (z ∷ zs) ys zero x e = e
 get_stays (z ∷ zs) ys (suc i) x e = get_stays zs ys i x e
 
-mapped : {X Y : Type 0} (f : X → Y) (o : Option X) (y : Y) → option_map f o ≡ Some y → (x : X) × (o ≡ Some x) × (f x ≡ y)
+pub mapped : {X Y : Type 0} (f : X → Y) (o : Option X) (y : Y) → option_map f o ≡ Some y → (x : X) × (o ≡ Some x) × (f x ≡ y)
 mapped f None y e = cc
 mapped f (Some x) y e = let same : f x ≡ y = cc in (x, refl, same)
 
