@@ -16,7 +16,7 @@ kept_test level f e true t at =
     (same, subst (λ (g : Entry). g.level ≤ level) same (leb-true f.level level t))
 kept_test level f e false t at = cc
 
-kept_is : (level : ℕ) (o : Option Entry) (e : Entry) → kept_below level o ≡ Some e → (o ≡ Some e) × (e.level ≤ level)
+pub kept_is : (level : ℕ) (o : Option Entry) (e : Entry) → kept_below level o ≡ Some e → (o ≡ Some e) × (e.level ≤ level)
 kept_is level None e at = cc
 kept_is level (Some f) e at = let k = kept_test level f e (nat_le f.level level) refl at in (ap Some k.0, k.1)
 
@@ -26,7 +26,7 @@ is_kept level None live below = refl
 is_kept level (Some e) live below = ap (λ b. if b then Some e else None) (le-leb e.level level below)
 
 module _ (s r : LogState) (level : ℕ) (drops : Drops s level r) where
-  keeps : Keeps level s r
+  pub keeps : Keeps level s r
   keeps i live below = drops.entries i ∙ is_kept level (entry_at s i) live below
 
   live_stays : (levels : List (List ℕ)) (n : ℕ) → n ≤ level → live_at (take (suc level) levels) n ≡ live_at levels n

@@ -1,7 +1,6 @@
 -- How the clauses of a log change.
 use Rattle.std.proofs.Common.{◌≡◌, ◌≢◌, ℕ, zero, suc, ◌<◌, ◌≤◌, List, [], ◌∷◌, ◌++◌, length, map, get_or, Option, Some, None, refl, sym, ap, ◌∙◌, arith}
 use Rattle.std.specs.Prelude.{slice_get, unwrap_or, option_map, IsSome}
-use Rattle.std.proofs.lemmas.Option.{unwrap_or-slice_get}
 use Rattle.nz_log.specs.declared.origins.Stored.{Stored}
 use Rattle.nz_log.specs.Logs.{Entry, LogState, entry_at, kept_below, told_below, Drops, Puts}
 use Rattle.nz_log.specs.Stored.{entry_of, log_of}
@@ -52,5 +51,5 @@ pub drops_from : (old new : List (Option Stored)) (told told' : List (Option ℕ
 drops_from old new told told' level entries lowest =
     record {
       entries = λ i. entry_read new told' i ∙ entries i ∙ ap (kept_below level) (sym (entry_read old told i));
-      told = λ t. unwrap_or-slice_get told' t None ∙ lowest t ∙ ap (told_below level) (sym (unwrap_or-slice_get told t None));
+      told = lowest;
     }

@@ -3,6 +3,7 @@ pub mod Entries
 pub mod GatesInOrder
 pub mod Members
 pub mod Naming
+pub mod Ordering
 pub mod Soundness
 pub mod Staying
 pub mod Truths

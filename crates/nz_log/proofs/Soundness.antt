@@ -8,9 +8,9 @@ use Rattle.nz_spec.specs.Decide.{asserted_numbers}
 use Rattle.nz_log.specs.declared.lits.Lit.{Lit}
 use Rattle.nz_log.specs.declared.origins.Link.{Link}
 use Rattle.nz_log.specs.Lits.{yes, lit_resolvent}
-use Rattle.nz_log.specs.Logs.{Origin, assertion_of, gate_of, chain_of, Entry, LogState, entry_at, IsLive, literals_at, level_at, told_level, level_with, level_of_links, chained, chain_entry, given_entry, Puts}
+use Rattle.nz_log.specs.Logs.{IsPremise, Origin, assertion_of, gate_of, chain_of, Entry, LogState, entry_at, IsLive, literals_at, level_at, told_level, level_with, level_of_links, chained, chain_entry, given_entry, Puts}
 use Rattle.nz_log.proofs.Members.{each-resolvent}
-use Rattle.nz_log.specs.Sound.{live_at, AreWithin, IsPremise, IsLink, IsMade, IsEntry, IsLog}
+use Rattle.nz_log.specs.Sound.{live_at, AreWithin, IsLink, IsMade, IsEntry, IsLog}
 
 -- ---- Entries stay in order where what they rest on stays
 
@@ -19,7 +19,7 @@ abbrev pub Keeps : ℕ → LogState → LogState → Type 0
 Keeps level s r = (i : ℕ) → IsLive s i → level_at s i ≤ level → entry_at r i ≡ entry_at s i
 
 module _ (bound : ℕ) (s r : LogState) (keeps : Keeps bound s r) where
-  premise_stays : (id level i : ℕ) → level ≤ bound → IsPremise s id level i → (entry_at r i ≡ entry_at s i) × IsPremise r id level i
+  pub premise_stays : (id level i : ℕ) → level ≤ bound → IsPremise s id level i → (entry_at r i ≡ entry_at s i) × IsPremise r id level i
   premise_stays id level i below p =
       let same = keeps i p.live (let h : level_at s i ≤ level = p.level_within in omega arith) in (
         same,
@@ -61,14 +61,14 @@ module _ (bound : ℕ) (s r : LogState) (keeps : Keeps bound s r) where
 
 -- ---- A clause is put
 
-same_or_other : (i j : ℕ) → (i ≡ j) ⊎ (i ≢ j)
+pub same_or_other : (i j : ℕ) → (i ≡ j) ⊎ (i ≢ j)
 same_or_other zero zero = inl refl
 same_or_other zero (suc j) = inr (λ e. omega arith)
 same_or_other (suc i) zero = inr (λ e. omega arith)
 same_or_other (suc i) (suc j) = elim (same_or_other i j) [ inl e ↦ inl (ap suc e) | inr other ↦ inr (λ e. other (omega arith)) ]
 
 module _ (s r : LogState) (id : ℕ) (e : Entry) (puts : Puts s id e r) where
-  puts_keeps : (bound : ℕ) → Keeps bound s r
+  pub puts_keeps : (bound : ℕ) → Keeps bound s r
   puts_keeps bound i live below = puts.kept i (λ same. let h : i < id = puts.above i live in omega arith)
 
   pub puts_in_order : (ns : List Node) (levels : List (List ℕ)) → IsLog ns levels s → IsEntry ns levels s id e → IsLog ns levels r
@@ -118,6 +118,14 @@ rule_in_order s r e (Err x) made unchanged ns levels i order = subst (IsLog ns l
 
 -- ---- A chain of resolvents
 
+pub level_grows : (s : LogState) (level : ℕ) (c : List Lit) → level ≤ level_with s level c
+level_grows s level [] = omega arith
+level_grows s level (l ∷ ls) = let rest = level_grows s (max level (told_level s l.term)) ls in omega (arith, rest)
+
+pub links_grow : (s : LogState) (level : ℕ) (ks : List Link) → level ≤ level_of_links s level ks
+links_grow s level [] = omega arith
+links_grow s level (k ∷ ks) = let rest = links_grow s (max level (level_at s k.clause)) ks in omega (arith, rest)
+
 module _ (ns : List Node) (levels : List (List ℕ)) (s : LogState) (order : IsLog ns levels s) where
   pub within_at : (i : ℕ) (o : Option Entry) → entry_at s i ≡ o → AreWithin ns (elim o [ None ↦ [] | Some e ↦ e.literals ])
   within_at i None at = tt
@@ -129,19 +137,11 @@ module _ (ns : List Node) (levels : List (List ℕ)) (s : LogState) (order : IsL
       chained_within (lit_resolvent k.literal c (literals_at s k.clause)) ks
       (each-resolvent (λ (l : Lit). l.term < length ns) k.literal c (literals_at s k.clause) h (within_at k.clause (entry_at s k.clause) refl))
 
-  level_grows : (level : ℕ) (c : List Lit) → level ≤ level_with s level c
-  level_grows level [] = omega arith
-  level_grows level (l ∷ ls) = let rest = level_grows (max level (told_level s l.term)) ls in omega (arith, rest)
-
-  links_grow : (level : ℕ) (ks : List Link) → level ≤ level_of_links s level ks
-  links_grow level [] = omega arith
-  links_grow level (k ∷ ks) = let rest = links_grow (max level (level_at s k.clause)) ks in omega (arith, rest)
-
   links_are : (id n : ℕ) → ((i : ℕ) → IsLive s i → i < id) → (start : ℕ) (ks : List Link) → AllByRecursion (λ (k : Link). IsLive s k.clause) ks
       → AllByRecursion (λ (k : Link). k.literal.term < length ns) ks → level_of_links s start ks ≤ n → AllByRecursion (IsLink ns s id n) ks
   links_are id n above start [] live within below = tt
   links_are id n above start (k ∷ ks) live within below =
-      let grows = links_grow (max start (level_at s k.clause)) ks in
+      let grows = links_grow s (max start (level_at s k.clause)) ks in
       let least : level_at s k.clause ≤ n = omega (arith, grows, below) in (
         record { premise = record { live = live.0; before = above k.clause live.0; level_within = least }; within = within.0 },
         links_are id n above (max start (level_at s k.clause)) ks live.1 within.1 below,
@@ -152,8 +152,8 @@ module _ (ns : List Node) (levels : List (List ℕ)) (s : LogState) (order : IsL
   chain_in_order id first ks above live lives within =
       let c = chained s (literals_at s first) ks in
       let start = level_of_links s (level_at s first) ks in
-      let grows = level_grows start c in
-      let from = links_grow (level_at s first) ks in
+      let grows = level_grows s start c in
+      let from = links_grow s (level_at s first) ks in
       let low : level_at s first ≤ level_with s start c = omega (arith, grows, from) in
       record {
         within = chained_within (literals_at s first) ks (within_at first (entry_at s first) refl);

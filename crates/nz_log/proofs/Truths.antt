@@ -16,8 +16,8 @@ use Rattle.nz_spec.proofs.Derivations.{at_place, mapped}
 use Rattle.nz_log.specs.declared.lits.Lit.{Lit}
 use Rattle.nz_log.specs.declared.origins.Link.{Link}
 use Rattle.nz_log.specs.Lits.{yes, clause_in, lit_resolvent, literal_of}
-use Rattle.nz_log.specs.Logs.{Origin, assertion_of, gate_of, chain_of, Entry, LogState, entry_at, IsLive, literals_at, level_at, chained}
-use Rattle.nz_log.specs.Sound.{live_at, live_terms, AreWithin, IsPremise, IsLink, IsMade, IsEntry, IsLog, ClausesAreTrue}
+use Rattle.nz_log.specs.Logs.{IsPremise, Origin, assertion_of, gate_of, chain_of, Entry, LogState, entry_at, IsLive, literals_at, level_at, chained}
+use Rattle.nz_log.specs.Sound.{live_at, live_terms, AreWithin, IsLink, IsMade, IsEntry, IsLog, ClausesAreTrue}
 use Rattle.nz_log.proofs.Members.{each-resolvent}
 use Rattle.nz_log.proofs.Naming.{resolvent_named}
 use Rattle.nz_log.proofs.Soundness.{within_at}

@@ -1,5 +1,7 @@
 -- What a log holds: clauses by number, each with its level and how it was made, and the levels told of terms.
-use Rattle.std.specs.Prelude.{◌≡◌, ◌≢◌, ℕ, ◌<◌, max, min, nat_le, List, [], ◌∷◌, fold, Option, Some, None, IsSome, unwrap_or, slice_get, if◌then◌else◌}
+use Rattle.std.specs.Prelude.{◌≡◌, ◌≢◌, ℕ, ◌<◌, ◌≤◌, max, min, nat_le, List, [], ◌∷◌, length, fold, Option, Some, None, IsSome, unwrap_or, slice_get, slice_index_or, if◌then◌else◌}
+use Rattle.std.specs.Bool.{⊤}
+use Rattle.std.specs.List.{AllByRecursion}
 use Rattle.nz_spec.specs.Table.{Node}
 use Rattle.nz_spec.specs.Literal.{once}
 use Rattle.nz_log.specs.declared.lits.Lit.{Lit}
@@ -42,7 +44,7 @@ level_at s i = elim (entry_at s i) [ None ↦ 0 | Some e ↦ e.level ]
 
 -- the level told of a term, and 0 where none was told
 abbrev pub told_of : LogState → ℕ → Option ℕ
-told_of s t = unwrap_or (slice_get s.told t) None
+told_of s t = slice_index_or s.told t None
 
 abbrev pub told_level : LogState → ℕ → ℕ
 told_level s t = unwrap_or (told_of s t) 0
@@ -94,6 +96,25 @@ told_below level (Some n) = if nat_le n level then Some n else None
 pub record Drops (old : LogState) (level : ℕ) (new : LogState) : Type 0 where
   pub entries : (i : ℕ) → entry_at new i ≡ kept_below level (entry_at old i)
   pub told : (t : ℕ) → told_of new t ≡ told_below level (told_of old t)
+
+-- ---- What clauses rest on
+
+-- A clause that another one rests on: it was there before, and is of no higher level.
+pub record IsPremise (s : LogState) (id level i : ℕ) : Type 0 where
+  pub live : IsLive s i
+  pub before : i < id
+  pub level_within : level_at s i ≤ level
+
+-- what a clause of a number and level rests on, by how it was made; a chain has a link
+abbrev pub RestsOn : LogState → ℕ → ℕ → Origin → Type 0
+RestsOn s id level (assertion_of k) = ⊤
+RestsOn s id level (gate_of t j) = ⊤
+RestsOn s id level (chain_of first ks) =
+    IsPremise s id level first × (0 < length ks) × AllByRecursion (λ (k : Link). IsPremise s id level k.clause) ks
+
+-- Each clause rests on earlier ones of no higher level.
+abbrev pub IsOrdered : LogState → Type 0
+IsOrdered s = (i : ℕ) (e : Entry) → entry_at s i ≡ Some e → RestsOn s i e.level e.origin
 
 -- ---- What the rules make
 

@@ -10,7 +10,7 @@ use Rattle.nz_spec.specs.Gates.{gate_clauses, HasBooleanArguments}
 use Rattle.nz_log.specs.declared.lits.Lit.{Lit}
 use Rattle.nz_log.specs.declared.origins.Link.{Link}
 use Rattle.nz_log.specs.Lits.{yes, clause_in, gates_at}
-use Rattle.nz_log.specs.Logs.{Origin, assertion_of, gate_of, chain_of, Entry, LogState, entry_at, IsLive, literals_at, level_at, chained}
+use Rattle.nz_log.specs.Logs.{Origin, assertion_of, gate_of, chain_of, Entry, LogState, entry_at, IsLive, literals_at, level_at, chained, IsPremise}
 
 -- the numbers of the assertions that are live at a level
 abbrev pub live_at : List (List ℕ) → ℕ → List ℕ
@@ -19,12 +19,6 @@ live_at levels level = asserted_numbers (take (suc level) levels)
 -- the literals are of terms of the table
 abbrev pub AreWithin : List Node → List Lit → Type 0
 AreWithin ns c = AllByRecursion (λ (l : Lit). l.term < length ns) c
-
--- A clause that another one rests on: it was there before, and is of no higher level.
-pub record IsPremise (s : LogState) (id level i : ℕ) : Type 0 where
-  pub live : IsLive s i
-  pub before : i < id
-  pub level_within : level_at s i ≤ level
 
 -- A link rests on its clause, and resolves on a term of the table.
 pub record IsLink (ns : List Node) (s : LogState) (id level : ℕ) (k : Link) : Type 0 where

@@ -3,9 +3,9 @@ ghost use Rattle.std.specs.Prelude.{◌≡◌, ◌≢◌, ℕ, suc, ◌<◌, Lis
 ghost use Rattle.nz_spec.specs.Table.{Node, term_in};
 ghost use Rattle.nz_spec.specs.Gates.{HasBooleanArguments};
 ghost use Rattle.nz_log.specs.Lits.{gates_at};
-ghost use Rattle.nz_log.specs.Logs.{Drops, IsLive, Puts, chain_entry, chained, empty_log, entry_at, gate_entry, given_entry, kept_below, level_at, level_of_links, level_with, literals_at, lowest, resolvent_entry, told_below, told_level, told_of};
+ghost use Rattle.nz_log.specs.Logs.{Drops, IsLive, Puts, RestsOn, chain_entry, chained, empty_log, entry_at, gate_entry, given_entry, kept_below, level_at, level_of_links, level_with, literals_at, lowest, resolvent_entry, told_below, told_level, told_of};
 ghost use Rattle.nz_log.specs.Sound.{IsLog, live_at};
-ghost use Rattle.nz_log.specs.Stored.{entry_of};
+ghost use Rattle.nz_log.specs.Stored.{entry_of, origin_of};
 
 use crate::errors::LogStop;
 use crate::gates::gate_literals;
@@ -29,13 +29,15 @@ pub struct Log {
 }
 
 impl Model for Log {
-    ghost use Rattle.nz_log.specs.Logs.{LogState};
+    ghost use Rattle.nz_log.specs.Logs.{IsOrdered, LogState};
 
     ghost Value = { LogState };
 
     ghost use Rattle.nz_log.specs.Stored.{log_of};
 
     ghost view = { λ l. log_of l.clauses.items l.told.items };
+
+    ghost invariant = { λ l. IsOrdered (log_of l.clauses.items l.told.items) };
 }
 
 impl Log {
@@ -51,6 +53,7 @@ impl Log {
 
     /// Puts a clause under a number that had none.
     fn put(&mut self, stored: Stored) -> Result<ClauseId, LogStop>
+        requires rests { (id : ℕ) → ((i : ℕ) → IsLive self.old i → i < id) → RestsOn self.old id stored.level (origin_of stored.origin) }
         ensures made { IfOk result (λ id. Puts self.old id (entry_of stored) self.new) }
         ensures unchanged { OnErr result (self.new ≡ self.old) }
     {
@@ -118,18 +121,7 @@ impl Log {
         ensures clauses { self.new.entries ≡ self.old.entries }
         ensures unchanged { OnErr result (self.new ≡ self.old) }
     {
-        let Some(count) = term.checked_add(1) else {
-            return Err(Memory);
-        };
-        if self.told.len() < count {
-            self.told.resize(count, None)?;
-        }
-        let slot = &mut self.told[term];
-        *slot = Some(match *slot {
-            Some(lower) => lower.min(level),
-            None => level,
-        });
-        Ok(())
+        tell(&mut self.told, term, level)
     }
 
     /// The clause that the live assertion of this place and level is true.
@@ -273,6 +265,25 @@ impl Log {
         drop_told(&mut self.told, level);
         trim(&mut self.clauses);
     }
+}
+
+/// Tells a level of a term, where none lower was told.
+fn tell(told: &mut Vec<Option<usize>>, term: TermId, level: usize) -> Result<(), Memory>
+    ensures told { OnOk result (slice_index_or told.new.items term None ≡ Some (lowest (slice_index_or told.old.items term None) level)) }
+    ensures others { (t : ℕ) → t ≢ term → slice_index_or told.new.items t None ≡ slice_index_or told.old.items t None }
+    ensures unchanged { OnErr result (told.new.items ≡ told.old.items) }
+{
+    let Some(count) = term.checked_add(1) else {
+        return Err(Memory);
+    };
+    if told.len() < count {
+        told.resize(count, None)?;
+    }
+    told[term] = Some(match told[term] {
+        Some(lower) => lower.min(level),
+        None => level,
+    });
+    Ok(())
 }
 
 /// Takes the gaps off the end.
