@@ -1,12 +1,15 @@
 pub mod Decimals
+pub mod Derivations
 pub mod Divisions
 pub mod Examples
 pub mod Found
+pub mod GateTruths
 pub mod FractionArithmetic
 pub mod FractionLaws
 pub mod FractionOrder
 pub mod InfinitesimalLaws
 pub mod Instances
+pub mod Literals
 pub mod Normal
 pub mod Pieces
 pub mod Placed

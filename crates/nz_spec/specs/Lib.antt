@@ -6,9 +6,11 @@ pub mod Elaboration
 pub mod Example
 pub mod Form
 pub mod Fraction
+pub mod Gates
 pub mod Infinitesimal
 pub mod Kept
 pub mod Linear
+pub mod Literal
 pub mod Live
 pub mod Model
 pub mod Normal
@@ -24,6 +26,7 @@ pub mod Samples
 pub mod Scoping
 pub mod Script
 pub mod Sorts
+pub mod Steps
 pub mod Table
 pub mod Taken
 pub mod Term
@@ -42,4 +45,5 @@ pub mod WorkedNumbers
 pub mod WorkedReplies
 pub mod WorkedScript
 pub mod WorkedScripts
+pub mod WorkedSteps
 pub mod WorkedTerms

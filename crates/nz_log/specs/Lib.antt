@@ -1,0 +1,4 @@
+pub mod Lits
+pub mod Logs
+pub mod Sound
+pub mod Stored
