@@ -9,6 +9,7 @@ mod lits;
 mod log;
 mod origins;
 mod sets;
+mod steps;
 
 pub use errors::LogStop;
 pub use lits::Lit;

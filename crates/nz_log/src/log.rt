@@ -62,10 +62,19 @@ impl Log {
         Ok(id)
     }
 
+    /// How many numbers of clauses there are.
+    pub(crate) fn places(&self) -> usize
+        ensures places { result ≡ length self.now.entries }
+    {
+        self.clauses.len()
+    }
+
     /// The clause of a number.
-    fn stored(&self, id: ClauseId) -> &Stored
+    pub(crate) fn stored(&self, id: ClauseId) -> &Stored
         requires live { IsLive self.now id }
         ensures stored { entry_at self.now id ≡ Some (entry_of result.now) }
+        ensures inside { id < length self.now.entries }
+        ensures rests { RestsOn self.now id result.now.level (origin_of result.now.origin) }
     {
         match &self.clauses[id] {
             Some(stored) => stored,
