@@ -1,5 +1,5 @@
 -- Marks that are set.
-use Rattle.std.proofs.Common.{◌≡◌, ℕ, zero, suc, ◌<◌, ◌+◌, Bool, true, false, List, [], ◌∷◌, length, get_or, ◌⊎◌, inl, inr, refl, sym, ap, subst, ◌∙◌, arith, below_more}
+use Rattle.std.proofs.Common.{◌≡◌, ℕ, zero, suc, ◌<◌, ◌+◌, Bool, true, false, List, [], ◌∷◌, length, get_or, ◌⊎◌, inl, inr, refl, sym, ap, subst, ◌∙◌, true≢false, arith, below_more}
 use Rattle.std.specs.Prelude.{All, slice_set}
 use Rattle.nz_log.specs.declared.lits.Lit.{Lit}
 use Rattle.nz_log.specs.declared.origins.Link.{Link}
@@ -43,3 +43,9 @@ links_more ks marks i c within there behind k d below =
     (λ e. subst (λ (m : Link). is_marked (slice_set marks (get_or ks i c).clause true) m.clause ≡ true) (same_get ks i c e within)
     (set_here marks (get_or ks i c).clause there))
     k below d
+
+-- only what is in a list is marked
+pub marked_within : (marks : List Bool) (i : ℕ) → is_marked marks i ≡ true → i < length marks
+marked_within [] i e = absurd (true≢false (sym e))
+marked_within (m ∷ ms) zero e = omega arith
+marked_within (m ∷ ms) (suc i) e = let h : i < length ms = marked_within ms i e in omega arith

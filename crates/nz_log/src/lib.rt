@@ -15,3 +15,4 @@ pub use errors::LogStop;
 pub use lits::Lit;
 pub use log::Log;
 pub use origins::{ClauseId, Link};
+pub use steps::Step;
