@@ -1,5 +1,5 @@
 -- How the clauses of a log change.
-use Rattle.std.proofs.Common.{◌≡◌, ◌≢◌, ℕ, zero, suc, ◌<◌, ◌≤◌, List, [], ◌∷◌, ◌++◌, length, map, get_or, Option, Some, None, refl, sym, ap, ◌∙◌, arith}
+use Rattle.std.proofs.Common.{◌≡◌, ◌≢◌, ℕ, zero, suc, ◌<◌, ◌≤◌, List, [], ◌∷◌, ◌++◌, length, map, get_or, Option, Some, None, refl, sym, ap, subst, ◌∙◌, arith}
 use Rattle.std.specs.Prelude.{slice_get, unwrap_or, option_map, IsSome}
 use Rattle.nz_log.specs.declared.origins.Stored.{Stored}
 use Rattle.nz_log.specs.Logs.{Entry, LogState, entry_at, kept_below, told_below, Drops, Puts}
@@ -31,10 +31,15 @@ beside f (y ∷ ys) x (suc n) (suc i) e other = beside f ys x n i (omega arith) 
 pub puts_last : (clauses : List (Option Stored)) (told : List (Option ℕ)) (s : Stored) (n : ℕ) → n ≡ length clauses
     → Puts (log_of clauses told) n (entry_of s) (log_of (clauses ++ Some s ∷ []) told)
 puts_last clauses told s n e =
+    let f = option_map entry_of in
+    let made = ap (λ o. unwrap_or o None) (seam f clauses (Some s) n e) in
+    let kept = beside f clauses (Some s) n in
     record {
-      above = λ i live. inside (option_map entry_of) clauses n i e live;
-      made = ap (λ o. unwrap_or o None) (seam (option_map entry_of) clauses (Some s) n e);
-      kept = λ i other. beside (option_map entry_of) clauses (Some s) n i e other;
+      above = λ i live. inside f clauses n i e live;
+      made = made;
+      live = subst (λ o. IsSome o) (sym made) refl;
+      stay = λ i live. subst (λ o. IsSome o) (sym (kept i e (λ same. let h : i < n = inside f clauses n i e live in omega arith))) live;
+      kept = λ i other. kept i e other;
       told = refl;
     }
 

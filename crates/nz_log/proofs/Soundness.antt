@@ -91,7 +91,7 @@ longer [] xs ys h k t e = h k t e
 longer (x ∷ l) xs ys h zero t e = e
 longer (x ∷ l) xs ys h (suc k) t e = longer l xs ys h k t e
 
-live_grows : (levels : List (List ℕ)) (m n : ℕ) → m ≤ n → (k t : ℕ)
+pub live_grows : (levels : List (List ℕ)) (m n : ℕ) → m ≤ n → (k t : ℕ)
     → slice_get (asserted_numbers (take m levels)) k ≡ Some t → slice_get (asserted_numbers (take n levels)) k ≡ Some t
 live_grows [] zero n le k t e = cc
 live_grows [] (suc m) zero le k t e = absurd (omega arith)

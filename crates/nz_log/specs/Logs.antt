@@ -79,6 +79,8 @@ lowest (Some n) level = min n level
 -- A clause is put under a number above those of the clauses that are there; these stay.
 pub record Puts (old : LogState) (id : ℕ) (e : Entry) (new : LogState) : Type 0 where
   pub above : (i : ℕ) → IsLive old i → i < id
+  pub live : IsLive new id
+  pub stay : (i : ℕ) → IsLive old i → IsLive new i
   pub made : entry_at new id ≡ Some e
   pub kept : (i : ℕ) → i ≢ id → entry_at new i ≡ entry_at old i
   pub told : new.told ≡ old.told

@@ -9,8 +9,10 @@ mod lits;
 mod log;
 mod origins;
 mod sets;
+mod steps;
 
 pub use errors::LogStop;
 pub use lits::Lit;
 pub use log::Log;
 pub use origins::{ClauseId, Link};
+pub use steps::Step;

@@ -5,6 +5,7 @@ ghost use Rattle.nz_spec.specs.Gates.{HasBooleanArguments};
 ghost use Rattle.nz_log.specs.Lits.{gates_at};
 ghost use Rattle.nz_log.specs.Logs.{Drops, IsLive, Puts, RestsOn, chain_entry, chained, empty_log, entry_at, gate_entry, given_entry, kept_below, level_at, level_of_links, level_with, literals_at, lowest, resolvent_entry, told_below, told_level, told_of};
 ghost use Rattle.nz_log.specs.Sound.{IsLog, live_at};
+ghost use Rattle.nz_log.specs.Spelling.{AreStepsOf};
 ghost use Rattle.nz_log.specs.Stored.{entry_of, origin_of};
 
 use crate::errors::LogStop;
@@ -12,6 +13,7 @@ use crate::gates::gate_literals;
 use crate::lits::Lit;
 use crate::origins::{ClauseId, Link, Origin, Stored};
 use crate::sets::{Literals, resolvent, set_of};
+use crate::steps::{Step, spelled};
 use nz_base::Memory;
 use nz_spec::table::{one_number, term_of_node};
 use nz_term::{TermId, Terms};
@@ -62,10 +64,19 @@ impl Log {
         Ok(id)
     }
 
+    /// How many numbers of clauses there are.
+    pub(crate) fn places(&self) -> usize
+        ensures places { result ≡ length self.now.entries }
+    {
+        self.clauses.len()
+    }
+
     /// The clause of a number.
-    fn stored(&self, id: ClauseId) -> &Stored
+    pub(crate) fn stored(&self, id: ClauseId) -> &Stored
         requires live { IsLive self.now id }
         ensures stored { entry_at self.now id ≡ Some (entry_of result.now) }
+        ensures inside { id < length self.now.entries }
+        ensures rests { RestsOn self.now id result.now.level (origin_of result.now.origin) }
     {
         match &self.clauses[id] {
             Some(stored) => stored,
@@ -253,6 +264,19 @@ impl Log {
             literal,
         };
         self.chain(first, &[link])
+    }
+
+    /// The derivation of a clause: steps, numbered from 0, of which the last gives the clause, and each other one a clause that it
+    /// rests on.
+    ///
+    /// # Errors
+    ///
+    /// `Memory`.
+    pub fn steps(&self, id: ClauseId) -> Result<Vec<Step>, Memory>
+        requires live { IsLive self.now id }
+        ensures derives { IfOk result (λ steps. AreStepsOf self.now id steps.items) }
+    {
+        spelled(*self.clauses.allocator(), self, id)
     }
 
     /// Leaves just the clauses whose level is at most this one, and what was told of it and of lower ones. Takes no memory.

@@ -34,7 +34,7 @@ pub mapped : {X Y : Type 0} (f : X → Y) (o : Option X) (y : Y) → option_map 
 mapped f None y e = cc
 mapped f (Some x) y e = let same : f x ≡ y = cc in (x, refl, same)
 
-taken : {X Y : Type 0} (o : Option X) (f : X → Option Y) (y : Y) → elim o [ None ↦ None | Some x ↦ f x ] ≡ Some y
+pub taken : {X Y : Type 0} (o : Option X) (f : X → Option Y) (y : Y) → elim o [ None ↦ None | Some x ↦ f x ] ≡ Some y
     → (x : X) × (o ≡ Some x) × (f x ≡ Some y)
 taken None f y e = cc
 taken (Some x) f y e = (x, refl, e)

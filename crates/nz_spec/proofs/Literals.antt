@@ -137,7 +137,7 @@ negation_is a (term_literal t p) = turned_sign p (is_true (value_of a t))
 
 -- ---- Sets as lists
 
-or_either : (a b : Bool) → (a || b) ≡ true → (a ≡ true) ⊎ (b ≡ true)
+pub or_either : (a b : Bool) → (a || b) ≡ true → (a ≡ true) ⊎ (b ≡ true)
 or_either true b e = inl refl
 or_either false b e = inr e
 
