@@ -29,12 +29,12 @@ loop-id-preserved c =
     subst (λ l. AreEvaluated ns a l (outcome_in new)) (sym (take_more ids k 0 inside))
     (one_more ns a _ (get nat_eq old) (get nat_eq new) (outcome.Value (value.Truth false)) i c.in_ok-outcome.outcome c.in_ok-insert.ensures.updates.0 here c.loop-id.invariant)
 
-pub returns-clause-roots : goal.returns-clause-roots
-returns-clause-roots c =
+pub returns : goal.returns
+returns c =
     let ns = c.args.terms.now in
     let a = assignment_by ns c.args.assign.now in
     let ids = c.deref-id-items.result.now in
     let listed = subst (λ l. All (Contains l) c.args.roots.now) (sym c.deref-id-items.ensures.value) c.in_ok-order.ensures.roots in
     let all = take_all c.loop-id.id-index ids (omega arith) in
     let done = subst (λ l. AreEvaluated ns a l (outcome_in c.loop-id.outcomes)) all c.loop-id.invariant in
-    λ i m. done i (subst (Contains ids) m.2 (listed m.0 i m.1))
+    record { roots = λ i m. done i (subst (Contains ids) m.2 (listed m.0 i m.1)) }
