@@ -128,7 +128,10 @@ fn streams_pass_bytes_and_faults_on(rt: HostRuntime) -> Result<(), Fail> {
     assert_eq!(rt; read_from(&mut Input::new(Broken), &mut buf), Err(Failed));
 
     let mut written = Vec::new(rt.alloc());
-    assert_eq!(rt; write_to(&mut Output::new(rt.alloc(), &mut written)?, b"unsat"), Ok(5));
+    assert_eq!(rt;
+        write_to(&mut Output::new(rt.alloc(), &mut written)?, b"unsat"),
+        Ok(5)
+    );
     assert_eq!(rt; written.as_slice(), b"unsat".as_slice());
     Ok(())
 }

@@ -434,8 +434,6 @@ fn add_binding(
         return Ok(());
     };
     let constant = constant.clone()?;
-    let value = assign
-        .value(id)
-        .unwrap_or(default_value(constant.sort));
+    let value = assign.value(id).unwrap_or(default_value(constant.sort));
     bindings.push(Binding { constant, value })
 }

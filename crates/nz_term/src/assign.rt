@@ -97,11 +97,7 @@ impl Assign {
 }
 
 /// Adds a value to the first ones with their numbers, where it is the first with its number.
-fn add_first(
-    firsts: &mut HashMap<TermId, Value>,
-    id: TermId,
-    value: &Value,
-) -> Result<(), Memory>
+fn add_first(firsts: &mut HashMap<TermId, Value>, id: TermId, value: &Value) -> Result<(), Memory>
     ensures grown { OnOk result ((ps : List (ℕ × term.Value)) → HasFirsts firsts.old ps → HasFirsts firsts.new (ps ++ pair_of (id, value.now) ∷ [])) }
     ensures unchanged { OnErr result (firsts.new.entries ≡ firsts.old.entries) }
 {

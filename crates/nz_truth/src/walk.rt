@@ -47,14 +47,19 @@ fn outcomes_at(
 ) -> Result<Vec<Outcome>, AllocError>
     ensures outcomes { IfOk result (λ os. os.items ≡ map (outcome_in outcomes.now) ids.now) }
 {
-    ids.iter().map(|id| outcome_in(outcomes, *id)).collect(alloc)
+    ids.iter()
+        .map(|id| outcome_in(outcomes, *id))
+        .collect(alloc)
 }
 
 /// What is known of a term; where nothing is, the answer is of no meaning.
 fn outcome_in(outcomes: &HashMap<TermId, Outcome>, id: TermId) -> Outcome
     ensures outcome { result ≡ outcome_in outcomes.now id }
 {
-    outcomes.get(&id).copied().unwrap_or(Outcome::Value(Value::Truth(false)))
+    outcomes
+        .get(&id)
+        .copied()
+        .unwrap_or(Outcome::Value(Value::Truth(false)))
 }
 
 /// What the terms that these roots are made of come to, by their numbers.

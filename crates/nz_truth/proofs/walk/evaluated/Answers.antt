@@ -1,5 +1,5 @@
 -- One term after another, and so the roots in the end.
-use Rattle.std.proofs.Common.{◌≡◌, ◌<◌, length, get_or, slice_get, Some, false, sym, subst, ◌∙◌, arith}
+use Rattle.std.proofs.Common.{◌≡◌, ◌<◌, length, get_or, slice_get, Some, false, sym, subst, arith}
 use Rattle.std.specs.Prelude.{All, Contains, nat_eq}
 use Rattle.std.specs.HashMap.{get}
 use Rattle.std.proofs.lemmas.List.{take_all, take_more}

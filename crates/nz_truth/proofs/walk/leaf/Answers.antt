@@ -1,14 +1,14 @@
 -- A constant has what it is given, or else the default of its sort.
-use Rattle.std.proofs.Common.{◌≡◌, ℕ, List, Option, Some, None, option_map, slice_get, refl, sym, ap, ◌∙◌}
+use Rattle.std.proofs.Common.{◌≡◌, Option, Some, None, option_map, refl, sym, ap, ◌∙◌}
 use Rattle.std.specs.Prelude.{unwrap_or}
 use Rattle.std.proofs.lemmas.Option.{same_Some}
 use Rattle.nz_spec.specs.Linear.{constant_value}
 use Rattle.nz_spec.specs.Term.{Assignment, Constant, Head, constant, integer, decimal_number, Terms, Value, apply, default_value, head_sort}
-use Rattle.nz_spec.specs.Table.{Node, listed_value, term_in}
+use Rattle.nz_spec.specs.Table.{Node, listed_value}
 use Rattle.nz_term.specs.Heads.{head_of}
 use Rattle.nz_term.specs.Values.{value_of}
 use Rattle.nz_term.specs.declared.assign.Value as own
-use Rattle.nz_truth.specs.Outcomes.{AreGiven, IsGiven}
+use Rattle.nz_truth.specs.Outcomes.{IsGiven}
 use Rattle.nz_truth.proofs.walk.leaf.Goals as goal
 
 chosen : (o : Option own.Value) (d : own.Value) → value_of (unwrap_or o d) ≡ unwrap_or (option_map value_of o) (value_of d)
