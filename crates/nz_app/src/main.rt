@@ -7,11 +7,13 @@ use std::process::ExitCode;
 
 fn main(rt: HostRuntime) -> ExitCode {
     let status = match words_of(&rt, rt.alloc()) {
-        Ok(Some(words)) => {
-            let mut input = Input::new(rt.stdin());
-            let mut output = Output::new(rt.stdout());
-            run(rt.alloc(), words.as_slice(), &mut input, &mut output).status
-        }
+        Ok(Some(words)) => match Output::new(rt.alloc(), rt.stdout()) {
+            Ok(mut output) => {
+                let mut input = Input::new(rt.stdin());
+                run(rt.alloc(), words.as_slice(), &mut input, &mut output).status
+            }
+            Err(Memory) => MEMORY,
+        },
         Ok(None) => USAGE,
         Err(Memory) => MEMORY,
     };

@@ -13,4 +13,5 @@ pub mod SearchUnits
 pub mod Serving
 pub mod TrialValues
 pub mod Trials
+pub mod ValuesKept
 pub mod Valuing

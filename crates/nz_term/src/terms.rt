@@ -197,3 +197,10 @@ fn put(nodes: &mut IndexSet<Node>, node: Node) -> Result<TermId, Memory>
     let (id, _) = nodes.insert_full(node)?;
     Ok(id)
 }
+
+/// Says that the nodes of a table are one.
+pub fn known_table(terms: &Terms)
+    ensures table { IsTable terms.now }
+{
+    terms.len();
+}

@@ -129,11 +129,20 @@ fn streams_pass_bytes_and_faults_on(rt: HostRuntime) -> Result<(), Fail> {
     assert_eq!(rt; read_from(&mut Input::new(Broken), &mut buf), Err(Failed));
 
     let mut written = Vec::new(rt.alloc());
-    assert_eq!(rt; write_to(&mut Output::new(&mut written), b"unsat"), Ok(5));
+    assert_eq!(rt;
+        write_to(&mut Output::new(rt.alloc(), &mut written)?, b"unsat"),
+        Ok(5)
+    );
     assert_eq!(rt; written.as_slice(), b"unsat".as_slice());
-    let mut broken = Output::new(Broken);
-    assert_eq!(rt; broken.write(b"sat"), Err(Failed));
+    Ok(())
+}
+
+#[test]
+fn an_output_fails_where_its_block_is_handed_on(rt: HostRuntime) -> Result<(), Fail> {
+    let mut broken = Output::new(rt.alloc(), Broken)?;
+    assert_eq!(rt; broken.write(b"sat"), Ok(3));
     assert_eq!(rt; broken.flush(), Err(Failed));
+    assert_eq!(rt; write_all(&mut broken, &[b'.'; 8190]), Err(Failed));
     Ok(())
 }
 
