@@ -1,7 +1,7 @@
+pub mod ByteClasses
 pub mod Decimals
 pub mod Divisions
 pub mod Examples
-pub mod Found
 pub mod FractionArithmetic
 pub mod FractionLaws
 pub mod FractionOrder
