@@ -3,10 +3,10 @@ use Rattle.std.proofs.Common.{◌≡◌, ℕ, ◌≤◌, List, [], ◌∷◌, �
 use Rattle.std.specs.Prelude.{OnOk, OnErr, IfOk, IsOkAnd, ⊤}
 use Rattle.std.specs.List.{AllByRecursion}
 use Rattle.std.proofs.lemmas.Grind.{flat_map-append}
+use Rattle.nz_lists.proofs.Elements.{AllByRecursion-append}
 use Rattle.nz_spec.specs.Term.{bool_sort, Constant, constant, constant_of, Head}
 use Rattle.nz_spec.specs.Table.{Node, HasItsArguments}
 use Rattle.nz_spec.specs.Decide.{constants_in_table, constants_of_head}
-use Rattle.nz_session.proofs.Elements.{AllByRecursion-append}
 
 -- the table has at most this node more
 abbrev pub GrowsBy : List Node → List Node → Node → Type 0
