@@ -94,11 +94,6 @@ operations-free x h =
 
 -- ---- one more pair
 
-pub next : (ps : List (Delta × Delta)) (i : ℕ) (x : Delta × Delta) → x ≡ get_or ps i x → i < length ps → drop i ps ≡ x ∷ drop (i + 1) ps
-next ps i x e h =
-    drop-cons ps i x h
-    ∙ ap₂ (λ (y : Delta × Delta) (rest : List (Delta × Delta)). y ∷ rest) (sym e) (ap (λ (j : ℕ). drop j ps) (sym (add-one i)))
-
 pub limits-cons : (x : Pair) (xs : List Pair) (e : Fraction) → least_from e (limits (x ∷ xs)) ≡ least_from (least_from e (limits (x ∷ []))) (limits xs)
 unfolding limits least_from
 limits-cons x xs e = by_test (is_limiting x)

@@ -36,6 +36,14 @@ slice_index_or-map f (x ∷ xs) (suc i) d = slice_index_or-map f xs i d
 pub drop_read : {X : Type 0} (xs : List X) (i : ℕ) (x : X) → i < length xs → x ≡ get_or xs i x → drop i xs ≡ x ∷ drop (i + 1) xs
 drop_read xs i x inside is = drop_more xs i x inside ∙ ap (λ y. y ∷ drop (i + 1) xs) (sym is)
 
+-- or that is found there
+pub drop_found : {X : Type 0} (xs : List X) (i : ℕ) (x : X) → slice_get xs i ≡ Some x → drop i xs ≡ x ∷ drop (suc i) xs
+drop_found [] i x at = cc
+drop_found (y ∷ ys) zero x at =
+    let same : y ≡ x = cc in
+    ap (λ z. z ∷ ys) same
+drop_found (y ∷ ys) (suc i) x at = drop_found ys i x at
+
 -- ---- Facts of each element
 
 pub All-slice_get : {X : Type 0} (P : X → Type 0) (xs : List X) (i : ℕ) (x : X) → All P xs → slice_get xs i ≡ Some x → P x

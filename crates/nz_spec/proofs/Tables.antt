@@ -9,6 +9,7 @@ use Rattle.std.proofs.lemmas.List.Sums.{fold-append}
 use Rattle.std.proofs.lemmas.Option.{slice_get_within, get_or_from_slice_get, slice_get-get_or}
 use Rattle.std.proofs.lemmas.Bool.{and_from, and_parts}
 use Rattle.std.proofs.lemmas.List.Elements.{All-head, All-tail}
+use Rattle.nz_lists.proofs.Places.{drop_found}
 use Rattle.nz_lists.proofs.Tests.{same_tests}
 use Rattle.nz_spec.specs.Term.{Sort, bool_sort, int_sort, real_sort, are_same_sort, Constant, are_same_constant, Head, constant, constant_of, falsum, Term, apply, no_terms, terms, Value, default_value}
 use Rattle.nz_spec.specs.Table.{Node, terms_at, listed_term, with_term, term_in, HasItsArguments, IsTable, OneNumber, TermOfNode, TermStays, TermStaysInFront, TermsStay, is_node_of, listed_value, assignment_by, AssignsByNumber}
@@ -55,10 +56,7 @@ terms_stay ns more is within = terms_at-same (term_in (ns ++ more)) (term_in ns)
 
 -- a list round one of its nodes
 around : (ns : List Node) (i : ℕ) (n : Node) → slice_get ns i ≡ Some n → take i ns ++ n ∷ drop (suc i) ns ≡ ns
-around ns i n at =
-    ap (λ m. take i ns ++ m ∷ drop (suc i) ns) (sym (get_or_from_slice_get ns i n n at))
-    ∙ ap (λ l. take i ns ++ l) (sym (drop-cons ns i n (slice_get_within ns i n at)))
-    ∙ take-append-drop i ns
+around ns i n at = ap (λ l. take i ns ++ l) (sym (drop_found ns i n at)) ∙ take-append-drop i ns
 
 -- the term of the node behind a list of nodes
 term_behind : (ns more : List Node) (n : Node) → term_in (ns ++ n ∷ more) (length ns) ≡ apply n.head (terms_at (term_in ns) n.kids)
