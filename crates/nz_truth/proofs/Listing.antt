@@ -11,6 +11,14 @@ use Rattle.nz_truth.specs.Outcomes.{value_at}
 abbrev pub AreListed : List (ℕ × Value) → ℕ → List (Option own.Value) → Type 0
 AreListed ps count values = (i : ℕ) → i < count → value_at values i ≡ listed_value ps i
 
+-- a list from one of its pairs on
+pub from_pair : (ps : List (ℕ × Value)) (k : ℕ) (p : ℕ × Value) → slice_get ps k ≡ Some p → drop k ps ≡ p ∷ drop (suc k) ps
+from_pair [] k p at = cc
+from_pair (q ∷ ps) zero p at =
+    let same : q ≡ p = cc in
+    ap (λ x. x ∷ ps) same
+from_pair (q ∷ ps) (suc k) p at = from_pair ps k p at
+
 -- what a pair in front gives a number
 first_value : (p : ℕ × Value) (ps : List (ℕ × Value)) (i : ℕ) (b : Bool) → (p.0 == i) ≡ b → cond b (Some p.1) (listed_value ps i) ≡ listed_value (p ∷ ps) i
 first_value p ps i b e = ap (λ x. cond x (Some p.1) (listed_value ps i)) (sym e)

@@ -1,8 +1,7 @@
 -- One pair more, from the back.
 use Rattle.std.proofs.Common.{◌≡◌, suc, ◌-◌, ◌∷◌, Some, drop, refl, sym, ap, subst, ◌∙◌, arith, length-set, set}
-use Rattle.nz_lists.proofs.Places.{drop_found}
 use Rattle.nz_term.specs.Values.{pair_of}
-use Rattle.nz_truth.proofs.Listing.{AreListed, listed_more, listed_past}
+use Rattle.nz_truth.proofs.Listing.{AreListed, from_pair, listed_more, listed_past}
 use Rattle.nz_truth.proofs.walk.listed_values.Goals as goal
 
 pub loop-place-preserved-then-id-count : goal.loop-place-preserved-then-id-count
@@ -13,7 +12,7 @@ loop-place-preserved-then-id-count c =
     let p = pair_of c.get-id.result in
     let rest = drop c.loop-place.place ps in
     let next : suc k ≡ c.loop-place.place = omega arith in
-    let front : drop k ps ≡ p ∷ rest = drop_found ps k p c.get-id.ensures.pair ∙ ap (λ n. p ∷ drop n ps) next in
+    let front : drop k ps ≡ p ∷ rest = from_pair ps k p c.get-id.ensures.pair ∙ ap (λ n. p ∷ drop n ps) next in
     record {
       room = length-set c.loop-place.values.items p.0 (Some v) ∙ c.loop-place.invariant.room;
       listed = subst (λ l. AreListed l c.args.count (set c.loop-place.values.items p.0 (Some v))) (sym front)
@@ -27,7 +26,7 @@ loop-place-preserved c =
     let p = pair_of c.get-id.result in
     let rest = drop c.loop-place.place ps in
     let next : suc k ≡ c.loop-place.place = omega arith in
-    let front : drop k ps ≡ p ∷ rest = drop_found ps k p c.get-id.ensures.pair ∙ ap (λ n. p ∷ drop n ps) next in
+    let front : drop k ps ≡ p ∷ rest = from_pair ps k p c.get-id.ensures.pair ∙ ap (λ n. p ∷ drop n ps) next in
     record {
       room = c.loop-place.invariant.room;
       listed = subst (λ l. AreListed l c.args.count c.loop-place.values.items) (sym front)
