@@ -5,13 +5,13 @@ use Rattle.std.proofs.lemmas.Bool.Decides.{eqb_tells}
 use Rattle.std.proofs.lemmas.List.{take_all}
 use Rattle.std.proofs.lemmas.List.Elements.{All-more, All-contains, All-weaker, All-take, All-append, All-map, All-from_recursion, recursion_from_All, All-head, All-tail}
 use Rattle.std.proofs.lemmas.Option.{none-some, same_Some, slice_get-get_or, slice_get_within, get_or_from_slice_get}
-use Rattle.nz_lists.proofs.Places.{slice_get_kept}
 use Rattle.nz_spec.specs.Term.{Constant, constant_of, Head, parameter, Term, apply, Terms, terms}
 use Rattle.nz_spec.specs.Elaboration.{term_at, instance_of, instances_of}
 use Rattle.nz_spec.specs.Order.{ComeBehindArguments}
 use Rattle.nz_spec.specs.Table.{HasItsArguments, Node, term_in, terms_at}
 use Rattle.nz_term.specs.Growth.{IsOperator, Grows, KeepsTerms}
 use Rattle.nz_term.specs.Instances.{argument_of, IsInstance, HasInstances}
+use Rattle.nz_lists.proofs.Places.{slice_get_kept}
 
 -- ---- Tables that grow
 
