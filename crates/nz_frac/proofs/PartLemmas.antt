@@ -1,6 +1,6 @@
 -- From the parts of a `Frac` to its value and back: casts, signs, and what a number's denominator is.
-use Rattle.std.proofs.Common.{◌≡◌, ℕ, zero, suc, ◌*◌, ◌/◌, ◌<◌, ◌≤◌, Bool, true, false, ℤ, pos, negsuc, ◌-ℤ◌, neg_ℤ, unsigned_abs, int_lt, int_div, refl, arith, sym, ap, ap₂, ◌∙◌, to_z, of_z, le-ltb}
-use Rattle.std.proofs.lemmas.Int.{ints, to_z-of_z, to_z_pos, fits_signed_from_abs}
+use Rattle.std.proofs.Common.{◌≡◌, ℕ, ◌/◌, ◌<◌, ◌≤◌, Bool, true, false, ℤ, pos, negsuc, ◌-ℤ◌, neg_ℤ, unsigned_abs, int_lt, int_div, refl, arith, sym, ap, ap₂, ◌∙◌, to_z, of_z, le-ltb}
+use Rattle.std.proofs.lemmas.Int.{to_z_pos}
 use Rattle.std.specs.Int.{w128, ◌∣◌}
 use Rattle.std.proofs.Math.Nat.{div-mul_cancel}
 use Rattle.nz_ints.proofs.Sizes.{cast-back, factor_pos, unsigned_abs-neg, zero_minus}

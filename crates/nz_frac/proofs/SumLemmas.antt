@@ -1,5 +1,5 @@
 -- The sum over the least common multiple of the denominators, in lowest terms once a common divisor of the two is taken out.
-use Rattle.std.proofs.Common.{◌≡◌, ℕ, zero, suc, ◌*◌, ◌/◌, ◌<◌, ◌≤◌, Bool, true, false, ◌||◌, IsFalse, [], ◌∷◌, ℤ, pos, ◌+ℤ◌, ◌-ℤ◌, ◌*ℤ◌, neg_ℤ, unsigned_abs, int_div, refl, arith, sym, ap, ap₂, ◌∙◌, subst, mul_comm, mul-pos, ltb-false, le-ltb, le_trans, div-le_self, div-one, negsuc, to_z, of_z}
+use Rattle.std.proofs.Common.{◌≡◌, ℕ, zero, suc, ◌*◌, ◌/◌, ◌<◌, ◌≤◌, false, ◌||◌, IsFalse, [], ◌∷◌, ℤ, pos, ◌+ℤ◌, ◌-ℤ◌, ◌*ℤ◌, neg_ℤ, unsigned_abs, int_div, refl, arith, sym, ap, ap₂, ◌∙◌, subst, mul_comm, mul-pos, ltb-false, le-ltb, le_trans, div-le_self, div-one, negsuc, to_z, of_z}
 use Rattle.std.proofs.Math.Nat.{dvd-mul_left, dvd-mul_left_of_dvd, eq-one_of_dvd-one}
 use Rattle.std.specs.Int.{◌∣◌, w128}
 use Rattle.std.proofs.lemmas.Int.{unsigned_abs-mul, ints}

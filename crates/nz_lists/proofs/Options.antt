@@ -1,7 +1,7 @@
 -- What holds of what was found, if anything was.
-use Rattle.std.proofs.Common.{◌≡◌, Bool, true, false, Option, Some, None, if◌then◌else◌}
+use Rattle.std.proofs.Common.{Bool, true, false, Option, Some, None, if◌then◌else◌}
 use Rattle.std.specs.Bool.{⊤}
-use Rattle.std.specs.Prelude.{MatchOption, option_map, option_and_then}
+use Rattle.std.specs.Prelude.{option_map, option_and_then}
 
 -- P of what was found, if anything was
 abbrev pub IfFound : {A : Type 0} → (A → Type 0) → Option A → Type 0

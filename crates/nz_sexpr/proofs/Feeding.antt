@@ -1,8 +1,6 @@
 -- A reader that is fed bytes: what was read and told goes on with them.
-use Rattle.std.proofs.Common.{◌≡◌, ℕ, ◌+◌, ◌<◌, ◌^◌, List, [], ◌∷◌, ◌++◌, length, Option, Some, None, IsNone, is_some, true, false, if◌then◌else◌, get_or, take, drop, refl, sym, ◌∙◌, ap, subst, arith, append_assoc, append-nil, ◌≤◌, length-append, length-take, length-drop, ◌-◌, inl, inr}
+use Rattle.std.proofs.Common.{◌≡◌, ℕ, ◌+◌, ◌<◌, ◌^◌, List, [], ◌∷◌, ◌++◌, length, Option, Some, None, IsNone, is_some, true, false, if◌then◌else◌, take, drop, refl, sym, ◌∙◌, ap, subst, arith, append_assoc, append-nil, ◌≤◌, length-append, length-take, length-drop, ◌-◌, inl, inr}
 use Rattle.std.proofs.lemmas.Bool.{cases_lt}
-use Rattle.std.proofs.lemmas.Grind.{common_steps}
-use Rattle.std.proofs.Math.Seq.{take-add}
 use Rattle.std.proofs.lemmas.List.{take_rest}
 use Rattle.nz_lists.proofs.Fronts.{taken_more}
 use Rattle.nz_spec.specs.Tree.{Tree}

@@ -1,5 +1,5 @@
 -- Each text is in pieces, each the longest, and pieces are in groups.
-use Rattle.std.proofs.Common.{◌≡◌, ℕ, ◌||◌, Bool, true, false, List, [], ◌∷◌, ◌++◌, Option, Some, None, refl, sym, ◌∙◌, ap, subst, append_assoc, if◌then◌else◌, ◌==◌}
+use Rattle.std.proofs.Common.{◌≡◌, ℕ, Bool, true, false, List, [], ◌∷◌, ◌++◌, Option, Some, None, refl, sym, ◌∙◌, ap, subst, append_assoc, if◌then◌else◌, ◌==◌}
 use Rattle.std.proofs.lemmas.Bool.{eqb-true}
 use Rattle.std.specs.Bool.{⊤}
 use Rattle.nz_spec.specs.Text.{ByteClass, blank_byte, left_byte, right_byte, comment_byte, quote_byte, bar_byte, word_byte, class_of, is_line_end, is_quote, is_bar, AllOfClass, BeginsWord, HasNone, gap, comment, word, string, quoted, Unfinished, open_string, open_quoted, Piece, opening, closing, filler, unfinished, with_quotes_doubled, text_of, StandsBefore, AreLongest, Group, single, nest, Groups, no_groups, groups, group_pieces, groups_pieces, Thing, loose, unmatched, command, thing_pieces, Open, open_pieces, script_pieces}

@@ -1,5 +1,5 @@
 -- The worked scripts: what is heard in them by reading, and that each reply is right.
-use Rattle.std.proofs.Common.{◌≡◌, Bool, true, false, not, List, [], ◌∷◌, length, IsTrue, refl, sym, ap, ◌∙◌, subst, inl, append-nil, true≢false, arith}
+use Rattle.std.proofs.Common.{◌≡◌, Bool, true, false, List, [], ◌∷◌, length, refl, sym, ap, ◌∙◌, subst, inl, append-nil, true≢false, arith}
 use Rattle.std.specs.Fmt.{digits}
 use Rattle.std.specs.Prelude.{⊤, bytes_eq, codes, if◌then◌else◌}
 use Rattle.std.specs.List.{AllByRecursion}
