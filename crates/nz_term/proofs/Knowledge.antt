@@ -1,16 +1,16 @@
 -- What is known of terms, as tables grow and are cut.
-use Rattle.std.proofs.Common.{◌≡◌, inl, inr, ℕ, zero, suc, ◌+◌, ◌<◌, ◌≤◌, ◌&&◌, ◌||◌, Bool, List, [], ◌∷◌, ◌++◌, length, map, take, drop, get_or, Option, Some, None, refl, sym, ap, ◌∙◌, arith, append_assoc, append-nil, length-append, length-take}
-use Rattle.std.specs.Prelude.{fold, slice_index_or}
+use Rattle.std.proofs.Common.{◌≡◌, inl, inr, ℕ, ◌+◌, ◌<◌, ◌≤◌, ◌&&◌, ◌||◌, Bool, List, [], ◌∷◌, ◌++◌, length, map, take, drop, get_or, Option, Some, None, refl, sym, ap, ◌∙◌, arith, append_assoc, append-nil, length-append, length-take}
+use Rattle.std.specs.Prelude.{fold}
 use Rattle.std.proofs.lemmas.Bool.{cases_lt}
-use Rattle.std.proofs.lemmas.List.{at_drop_more, get_or_read, map-append, length-map, take-map, take-append-drop, take_all, take_at}
+use Rattle.std.proofs.lemmas.List.{get_or_read, map-append, length-map, take-map, take-append-drop, take_all, take_at}
 use Rattle.std.proofs.lemmas.List.Sums.{fold-append}
 use Rattle.nz_lists.proofs.Places.{slice_index_or-map}
-use Rattle.nz_spec.specs.Fraction.{Fraction, Arithmetic}
+use Rattle.nz_spec.specs.Fraction.{Fraction}
 use Rattle.nz_spec.specs.Term.{Head, falsum, is_numeric, Term, apply, no_terms, holds_number, hold_number}
-use Rattle.nz_spec.specs.Linear.{constant_value, constant_values, head_constant, folded, are_divisors, is_linear_node, is_linear, are_linear}
+use Rattle.nz_spec.specs.Linear.{constant_value, constant_values, head_constant, is_linear_node, is_linear, are_linear}
 use Rattle.nz_spec.specs.Table.{Node, terms_at, listed_term, with_term, term_in}
 use Rattle.nz_term.specs.declared.facts.Fact.{Fact}
-use Rattle.nz_term.specs.Facts.{fact_with, fact_of, constant_in, fact_at, constants_at, are_linear_at, hold_number_at, is_divisor, IsKnown}
+use Rattle.nz_term.specs.Facts.{fact_with, fact_of, constant_in, fact_at, constants_at, are_linear_at, hold_number_at, IsKnown}
 use Rattle.nz_term.specs.Growth.{GoesOn}
 use Rattle.nz_term.proofs.Tables.{front_table}
 

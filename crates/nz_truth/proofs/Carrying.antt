@@ -1,5 +1,5 @@
 -- Operations that are carried out, and those that leave the numbers.
-use Rattle.std.proofs.Common.{◌≡◌, Bool, true, false, IsTrue, pos, List, [], ◌∷◌, Some, None, refl, sym, ap, subst, ◌∙◌, true≢false, if◌then◌else◌, Result, Ok, Err, ◌++◌, ℕ, suc, ◌+◌, ◌<◌, length, drop, get_or, add-one}
+use Rattle.std.proofs.Common.{◌≡◌, Bool, true, false, IsTrue, pos, List, [], ◌∷◌, Some, None, refl, sym, ap, subst, ◌∙◌, if◌then◌else◌, Result, Ok, Err, ◌++◌}
 use Rattle.std.specs.Prelude.{◌↔◌, IsErr, IfOk, IfErr}
 use Rattle.nz_lists.proofs.Tests.{told_false}
 use Rattle.nz_frac.specs.Operations.{operation_of, operator_of}
@@ -7,7 +7,6 @@ use Rattle.nz_frac.specs.declared.frac.Op.{Op}
 use Rattle.nz_frac.specs.declared.frac.Op.TheVariants as op
 use Rattle.nz_frac.specs.declared.frac.Wide.{Wide}
 use Rattle.nz_spec.specs.Fraction.{Fraction, Arithmetic, Quotient, Operation, first_wide, is_wide, outcome, whole}
-use Rattle.std.proofs.Math.Seq.{drop-cons}
 use Rattle.nz_spec.specs.Operations.{head_operations, operation_on, operations_by}
 use Rattle.nz_spec.specs.Term.{Assignment, Head, Value, carried_out, combined, head_value, number, number_of, is_undefined, is_zero, whole_number}
 use Rattle.nz_term.specs.declared.assign.Value as own

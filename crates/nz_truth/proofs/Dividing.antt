@@ -1,11 +1,10 @@
 -- Quotients and remainders of integers.
-use Rattle.std.proofs.Common.{◌≡◌, ◌≢◌, ℕ, zero, suc, ◌+◌, ◌-◌, ◌*◌, ◌/◌, ◌%◌, ◌<◌, ◌≤◌, ℤ, pos, negsuc, ◌+ℤ◌, ◌*ℤ◌, neg_ℤ, unsigned_abs, int_lt, Bool, true, false, to_z, of_z, FitsSigned, Option, Some, None, refl, sym, ap, subst, ◌∙◌, arith, true≢false}
-use Rattle.std.specs.Prelude.{◌↔◌, IsSome, IfSome, unwrap_or}
+use Rattle.std.proofs.Common.{◌≡◌, ◌≢◌, ℕ, zero, suc, ◌+◌, ◌-◌, ◌*◌, ◌/◌, ◌%◌, ◌<◌, ◌≤◌, ℤ, pos, negsuc, ◌+ℤ◌, ◌*ℤ◌, neg_ℤ, unsigned_abs, int_lt, true, false, to_z, of_z, FitsSigned, refl, sym, ap, ◌∙◌, arith}
 use Rattle.std.specs.Int.{int_div_euclid, int_rem_euclid, w128}
 use Rattle.std.proofs.Math.IntN.{pos-*ℤ-pos, pos-*ℤ-negsuc, negsuc-*ℤ-pos, *ℤ-negsuc, *ℤ-zero, zero-*ℤ}
-use Rattle.std.proofs.Math.Nat.{div-add-mod, div-le_self, div-one, div-zero, mod-lt}
+use Rattle.std.proofs.Math.Nat.{div-add-mod, div-le_self, div-zero, mod-lt}
 use Rattle.std.proofs.lemmas.Int.{ints, to_z-of_z}
-use Rattle.nz_spec.specs.Fraction.{Fraction, IsNumber, floor_div, gcd, largest, ratio, whole, over}
+use Rattle.nz_spec.specs.Fraction.{floor_div}
 use Rattle.nz_spec.specs.Term.{div_of, mod_of}
 
 -- ---- Quotients
