@@ -1,8 +1,6 @@
 -- What stands at a place of a list, where the list grows, is mapped, or is gone along.
 use Rattle.std.proofs.Common.{◌≡◌, ℕ, zero, suc, ◌+◌, ◌<◌, ◌⊎◌, inl, inr, List, [], ◌∷◌, ◌++◌, length, map, drop, get_or, slice_get, slice_index_or, Some, refl, sym, ap, ◌∙◌, arith}
-use Rattle.std.specs.Prelude.{All}
 use Rattle.std.proofs.lemmas.List.{drop_more}
-use Rattle.std.proofs.lemmas.Option.{get_or_from_slice_get, slice_get_within}
 
 -- ---- Lists that grow
 
@@ -43,8 +41,3 @@ drop_found (y ∷ ys) zero x at =
     let same : y ≡ x = cc in
     ap (λ z. z ∷ ys) same
 drop_found (y ∷ ys) (suc i) x at = drop_found ys i x at
-
--- ---- Facts of each element
-
-pub All-slice_get : {X : Type 0} (P : X → Type 0) (xs : List X) (i : ℕ) (x : X) → All P xs → slice_get xs i ≡ Some x → P x
-All-slice_get P xs i x all at = rw (← get_or_from_slice_get xs i x x at) (all i x (slice_get_within xs i x at))
