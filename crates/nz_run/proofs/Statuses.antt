@@ -2,22 +2,12 @@
 use Rattle.std.proofs.Common.{ℕ, ◌+◌, ◌<◌, List, [], ◌∷◌, ◌++◌, length, get_or, take, Bool, true, false, ◌||◌, refl, sym, ap, ◌∙◌, zero, suc, ◌≡◌, arith}
 use Rattle.std.proofs.lemmas.List.{take_more}
 use Rattle.std.specs.List.{list_any}
+use Rattle.std.proofs.Math.Bool.{or-false, or_assoc}
+use Rattle.std.proofs.lemmas.Bool.{or_from, or_right}
 use Rattle.nz_spec.specs.Table.{Node}
 use Rattle.nz_spec.specs.Transcript.{Kept}
 use Rattle.nz_reply.specs.declared.reply.Kept as kept
 use Rattle.nz_reply.specs.Replies.{all_kept, kept_of}
-
-or_right : (a b : Bool) → b ≡ true → (a || b) ≡ true
-or_right true b h = refl
-or_right false b h = h
-
-or_false : (b : Bool) → (b || false) ≡ b
-or_false true = refl
-or_false false = refl
-
-or_assoc : (a b c : Bool) → ((a || b) || c) ≡ (a || (b || c))
-or_assoc true b c = refl
-or_assoc false b c = refl
 
 -- a reply that passes a test makes some reply pass it
 pub any_at : (ns : List Node) (test : Kept → Bool) (ks : List kept.Kept) (i : ℕ) (k : kept.Kept) → i < length ks → k ≡ get_or ks i k → test (kept_of ns k) ≡ true → list_any test (all_kept ns ks) ≡ true
@@ -25,12 +15,8 @@ any_at ns test [] i k h e t = absurd (omega arith)
 any_at ns test (j ∷ js) zero k h e t = ap (λ b. b || list_any test (all_kept ns js)) (ap (λ x. test (kept_of ns x)) (sym e) ∙ t)
 any_at ns test (j ∷ js) (suc i) k h e t = or_right (test (kept_of ns j)) (list_any test (all_kept ns js)) (any_at ns test js i k (omega arith) e t)
 
-or_falses : (a b : Bool) → a ≡ false → b ≡ false → (a || b) ≡ false
-or_falses true b h k = h
-or_falses false b h k = k
-
 any_last : (ns : List Node) (test : Kept → Bool) (ks : List kept.Kept) (k : kept.Kept) → list_any test (all_kept ns (ks ++ k ∷ [])) ≡ (list_any test (all_kept ns ks) || test (kept_of ns k))
-any_last ns test [] k = or_false (test (kept_of ns k))
+any_last ns test [] k = or-false (test (kept_of ns k))
 any_last ns test (j ∷ js) k = ap (λ b. test (kept_of ns j) || b) (any_last ns test js k) ∙ sym (or_assoc (test (kept_of ns j)) (list_any test (all_kept ns js)) (test (kept_of ns k)))
 
 -- no reply up to the next passes the test
@@ -40,4 +26,4 @@ none_next ns test ks i k below is none here =
     let more : take (i + 1) ks ≡ take i ks ++ k ∷ [] = take_more ks i k below ∙ ap (λ x. take i ks ++ x ∷ []) (sym is) in
     ap (λ l. list_any test (all_kept ns l)) more
     ∙ any_last ns test (take i ks) k
-    ∙ or_falses (list_any test (all_kept ns (take i ks))) (test (kept_of ns k)) none here
+    ∙ or_from (list_any test (all_kept ns (take i ks))) (test (kept_of ns k)) none here

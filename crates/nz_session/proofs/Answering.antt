@@ -2,6 +2,7 @@
 use Rattle.std.proofs.Common.{◌≡◌, inl, ℕ, ◌≤◌, Bool, true, false, List, [], ◌∷◌, length, map, take, Option, Some, None, Result, IfOk, option_map, refl, sym, ap, ◌∙◌, subst, arith, length-take, append-nil}
 use Rattle.std.specs.Prelude.{⊤, if◌then◌else◌}
 use Rattle.std.proofs.lemmas.List.{take-take}
+use Rattle.nz_lists.proofs.Fronts.{front_of_more}
 use Rattle.nz_spec.specs.Tree.{Tree}
 use Rattle.nz_spec.specs.Text.{intact}
 use Rattle.nz_spec.specs.Term.{Term}
@@ -27,14 +28,9 @@ use Rattle.nz_session.specs.declared.desk.LastAnswer as shown
 use Rattle.nz_reply.specs.declared.reply.Reply as said
 use Rattle.nz_reply.specs.declared.reply.Cause.TheVariants as why
 
--- ---- What is a front stays one where more comes
+-- ---- Assertions that were told
 
-pub front_of_more : {T : Type 0} (front old new : List T) → take (length front) old ≡ front → take (length old) new ≡ old → take (length front) new ≡ front
-front_of_more front old new e f =
-    let long : length front ≤ length old = omega (arith, ap length e, length-take (length front) old) in
-    sym (take-take (length front) (length old) new long) ∙ ap (take (length front)) f ∙ e
-
--- so the assertions that were told
+-- they stay where more comes
 told_of_more : (levels : List (List ℕ)) (told : Option ℕ) (old new : List ℕ) → take (length old) new ≡ old → IsTold levels told old → IsTold levels told new
 told_of_more levels None old new e h = h
 told_of_more levels (Some n) old new e h =

@@ -1,6 +1,6 @@
 -- The model of the live constants that is made of the values that a search gave.
-use Rattle.std.proofs.Common.{◌≡◌, inl, inr, ℕ, zero, suc, ◌+◌, ◌<◌, ◌≤◌, Bool, true, false, ◌&&◌, ◌||◌, IsTrue, List, [], ◌∷◌, ◌++◌, length, map, drop, Option, Some, None, option_map, refl, sym, ap, ◌∙◌, subst, get_or, true≢false, add-one, append-nil, append_assoc}
-use Rattle.std.specs.Prelude.{◌⊎◌, slice_get, bytes_eq, pos, unwrap_or, if◌then◌else◌}
+use Rattle.std.proofs.Common.{◌≡◌, inl, inr, ℕ, zero, suc, ◌+◌, ◌<◌, ◌≤◌, Bool, true, false, ◌||◌, IsTrue, List, [], ◌∷◌, ◌++◌, length, map, drop, Option, Some, None, option_map, refl, sym, ap, ◌∙◌, subst, get_or, true≢false, add-one, append-nil, append_assoc}
+use Rattle.std.specs.Prelude.{slice_get, bytes_eq, pos, unwrap_or, if◌then◌else◌}
 use Rattle.std.specs.List.{AllByRecursion, list_any}
 use Rattle.std.proofs.lemmas.Slice.Eq.{bytes_eq-Decides}
 use Rattle.std.proofs.lemmas.List.Folds.{list_any-append}
@@ -8,6 +8,8 @@ use Rattle.std.proofs.lemmas.List.Elements.{recursion_from_All}
 use Rattle.std.proofs.Math.Path.{fun_ext}
 use Rattle.std.proofs.Math.Seq.{drop-cons}
 use Rattle.std.proofs.lemmas.Option.{slice_get-get_or, slice_get_past}
+use Rattle.std.proofs.lemmas.Bool.{and_parts}
+use Rattle.nz_lists.proofs.Tests.{either_true}
 use Rattle.nz_spec.specs.Fraction.{IsNumber, whole}
 use Rattle.nz_spec.specs.Term.{Sort, bool_sort, int_sort, real_sort, are_same_sort, Constant, are_same_constant, Head, constant, falsum, constant_of, Term, apply, no_terms, Value, Assignment, default_value, ValueFits, DecimalsAreNumbers, IsTrueUnder, is_true}
 use Rattle.nz_spec.specs.Numerals.{NumeralsAreWhole}
@@ -25,15 +27,6 @@ use Rattle.nz_session.specs.Completed.{bound_at, completed}
 
 -- ---- Tests
 
-both_true : (a b : Bool) → (a && b) ≡ true → (a ≡ true) × (b ≡ true)
-both_true true b e = (refl, e)
-both_true false b e = absurd cc
-
-either_true : (a b : Bool) → (a ≡ true) ⊎ (b ≡ true) → (a || b) ≡ true
-either_true true b h = refl
-either_true false b (inl e) = absurd cc
-either_true false b (inr e) = e
-
 same_sorts : (s t : Sort) → are_same_sort s t ≡ true → s ≡ t
 same_sorts bool_sort bool_sort e = refl
 same_sorts int_sort int_sort e = refl
@@ -42,7 +35,7 @@ same_sorts s t e = cc
 
 same_constant : (c d : Constant) → are_same_constant c d ≡ true → c ≡ d
 same_constant c d e =
-    let both = both_true (bytes_eq c.name d.name) (are_same_sort c.sort d.sort) e in
+    let both = and_parts (bytes_eq c.name d.name) (are_same_sort c.sort d.sort) e in
     let named : c.name ≡ d.name = (bytes_eq-Decides c.name d.name).0 both.0 in
     let sorted : c.sort ≡ d.sort = same_sorts c.sort d.sort both.1 in
     ap (λ x. let r : Constant = record { name = x; sort = c.sort } in r) named ∙ ap (λ x. let r : Constant = record { name = d.name; sort = x } in r) sorted

@@ -2,7 +2,6 @@ pub mod Answering
 pub mod Assigning
 pub mod AtomsNoted
 pub mod Checking
-pub mod Elements
 pub mod Feeding
 pub mod Fronts
 pub mod Leveling

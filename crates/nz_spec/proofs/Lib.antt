@@ -1,12 +1,14 @@
+mod Listed
+mod Uses
+pub mod ByteClasses
 pub mod Decimals
 pub mod Derivations
 pub mod Divisions
 pub mod Examples
-pub mod Found
-pub mod GateTruths
 pub mod FractionArithmetic
 pub mod FractionLaws
 pub mod FractionOrder
+pub mod GateTruths
 pub mod InfinitesimalLaws
 pub mod Instances
 pub mod Literals
@@ -17,6 +19,7 @@ pub mod ReadOperands
 pub mod Readings
 pub mod Roots
 pub mod Rounds
+pub mod Scripts
 pub mod Sorted
 pub mod SortedStates
 pub mod SortedTrees
@@ -24,6 +27,3 @@ pub mod Tables
 pub mod Tellings
 pub mod Transcripts
 pub mod TreeTerms
-mod Listed
-pub mod Scripts
-mod Uses

@@ -4,6 +4,7 @@ use Rattle.std.proofs.lemmas.List.{append_assoc, map-append}
 use Rattle.std.specs.Bool.{⊤}
 use Rattle.std.specs.Prelude.{map, slice_get, option_and_then, codes}
 use Rattle.std.specs.List.{AllByRecursion}
+use Rattle.nz_lists.proofs.Options.{IfFound, and_then_found}
 use Rattle.nz_spec.specs.Tree.{symbol_name, literal, Tree, leaf, node, Trees, no_trees, trees}
 use Rattle.nz_spec.specs.Form.{is_name, is_empty, is_the_keyword, is_symbol, has_form, CommandName, command_name, assert_name, check_sat_name, declare_const_name, declare_fun_name, define_fun_name, echo_name, exit_name, get_info_name, get_model_name, get_value_name, set_info_name, set_logic_name, set_option_name}
 use Rattle.nz_spec.specs.Bounds.{have_token, is_wide_token, is_long_decimal}
@@ -23,7 +24,6 @@ use Rattle.nz_spec.specs.Transcript.{Kept, context_of}
 use Rattle.nz_spec.specs.Model.{IsAssignment}
 use Rattle.nz_spec.specs.Sorts.{HaveTheirSorts, TermsHaveTheirSorts}
 use Rattle.nz_spec.proofs.Sorted.{same_sorts, Gives, IsSorted, value_is}
-use Rattle.nz_spec.proofs.Found.{IfFound, and_then_found}
 use Rattle.nz_spec.proofs.Placed.{IsPlaced, is_placed}
 use Rattle.nz_spec.proofs.TreeTerms.{AreBound}
 use Rattle.nz_spec.proofs.SortedTrees.{sorted_real, IsSortedScope, tree_sorted}

@@ -2,12 +2,12 @@
 use Rattle.std.proofs.Common.{ℕ, Bool, true, false, List, [], ◌∷◌, ◌++◌, Option, Some, None, if◌then◌else◌, bytes_eq, length}
 use Rattle.std.specs.Prelude.{option_and_then, is_some}
 use Rattle.std.specs.List.{AllByRecursion}
+use Rattle.nz_lists.proofs.Options.{IfFound, and_then_found, if_found}
 use Rattle.nz_spec.specs.Tree.{Token, symbol, keyword, numeral, decimal, hexadecimal, binary, literal, symbol_name, after_point, Tree, leaf, node, Trees, no_trees, trees}
 use Rattle.nz_spec.specs.Form.{TermHead, let_head, name_head, no_head, term_head, tree_symbol}
 use Rattle.nz_spec.specs.Bounds.{digits_value, decimal_digits}
 use Rattle.nz_spec.specs.Term.{head_fits, Constant, Head, constant, integer, decimal_number, Term, apply, Terms, no_terms}
 use Rattle.nz_spec.specs.Elaboration.{Operator, listed, operator_named, applied, fitting, Definition, terms_onto, expansion, Scope, constant_named, definition_named, binding, name_term, application, token_term, bound_onto, term_of, terms_of, let_term, bindings_in, bindings_of, binding_onto, bound_pair}
-use Rattle.nz_spec.proofs.Found.{IfFound, and_then_found, if_found}
 use Rattle.nz_spec.proofs.Placed.{AllAre}
 
 -- each name is bound to a term that is so

@@ -10,23 +10,25 @@ use Rattle.nz_spec.specs.Term.{Constant, constant_of, Head, parameter, Term, app
 use Rattle.nz_spec.specs.Elaboration.{term_at, instance_of, instances_of}
 use Rattle.nz_spec.specs.Order.{ComeBehindArguments}
 use Rattle.nz_spec.specs.Table.{HasItsArguments, Node, term_in, terms_at}
-use Rattle.nz_spec.proofs.Tables.{term_stays, terms_stay}
-use Rattle.nz_term.specs.Growth.{IsOperator, Grows}
+use Rattle.nz_term.specs.Growth.{IsOperator, Grows, KeepsTerms}
 use Rattle.nz_term.specs.Instances.{argument_of, IsInstance, HasInstances}
-use Rattle.nz_term.proofs.Tables.{kept}
+use Rattle.nz_lists.proofs.Places.{slice_get_kept}
 
 -- ---- Tables that grow
 
 pub grows_not : (ns : List Node) → Grows ns ns
-grows_not ns = record { more = []; all = sym (append-nil ns); operators = tt }
+grows_not ns = record { more = []; all = sym (append-nil ns); operators = tt; stays = λ i below. refl }
 
 -- by a node, if it was not there
-pub grows_by : (ns : List Node) (n : Node) (new : List Node) → IsOperator n.head → (new ≡ ns) ⊎ (new ≡ ns ++ n ∷ []) → Grows ns new
-grows_by ns n new operator grown =
+pub grows_by : (ns : List Node) (n : Node) (new : List Node) → IsOperator n.head → KeepsTerms ns new → (new ≡ ns) ⊎ (new ≡ ns ++ n ∷ []) → Grows ns new
+grows_by ns n new operator stays grown =
     elim grown [
       | inl same ↦ subst (Grows ns) (sym same) (grows_not ns)
-      | inr one ↦ record { more = n ∷ []; all = one; operators = (operator, tt) }
+      | inr one ↦ record { more = n ∷ []; all = one; operators = (operator, tt); stays = stays }
     ]
+
+pub grows_longer : (old new : List Node) → Grows old new → length old ≤ length new
+grows_longer old new g = omega (arith, ap length g.all, length-append old g.more)
 
 pub grows_on : (a b c : List Node) → Grows a b → Grows b c → Grows a c
 grows_on a b c g h =
@@ -36,23 +38,25 @@ grows_on a b c g h =
       all = h.all ∙ ap (λ l. l ++ h.more) g.all ∙ append_assoc a g.more h.more;
       operators = recursion_from_All operates (g.more ++ h.more)
           (All-append operates g.more h.more (All-from_recursion operates g.more g.operators) (All-from_recursion operates h.more h.operators));
+      stays = λ i below. h.stays i (let long = grows_longer a b g in omega arith) ∙ g.stays i below;
     }
-
-pub grows_longer : (old new : List Node) → Grows old new → length old ≤ length new
-grows_longer old new g = omega (arith, ap length g.all, length-append old g.more)
 
 -- terms stay
 pub term_kept : (old new : List Node) → Grows old new → (i : ℕ) → i < length old → term_in new i ≡ term_in old i
-term_kept old new g i below = ap (λ l. term_in l i) g.all ∙ term_stays old g.more i below
+term_kept old new g i below = g.stays i below
 
 pub terms_kept : (old new : List Node) → Grows old new → (is : List ℕ) → All (λ i. i < length old) is → terms_at (term_in new) is ≡ terms_at (term_in old) is
-terms_kept old new g is within = ap (λ l. terms_at (term_in l) is) g.all ∙ terms_stay old g.more is within
+terms_kept old new g [] within = refl
+terms_kept old new g (i ∷ is) within =
+    let below = λ (j : ℕ). j < length old in
+    ap (λ t. terms t (terms_at (term_in new) is)) (g.stays i (All-head below i is within))
+    ∙ ap (terms (term_in old i)) (terms_kept old new g is (All-tail below i is within))
 
 -- and so do nodes
 pub node_kept : (old new : List Node) → Grows old new → (i : ℕ) (n : Node) → i < length old → slice_get new i ≡ Some n → slice_get old i ≡ Some n
 node_kept old new g i n below at =
     let there : slice_get old i ≡ Some (get_or old i n) = slice_get-get_or old i n below in
-    let still : slice_get new i ≡ Some (get_or old i n) = ap (λ l. slice_get l i) g.all ∙ kept old g.more i (get_or old i n) there in
+    let still : slice_get new i ≡ Some (get_or old i n) = ap (λ l. slice_get l i) g.all ∙ slice_get_kept old g.more i (get_or old i n) there in
     there ∙ sym still ∙ at
 
 pub within_more : (old new : List Node) → Grows old new → (is : List ℕ) → All (λ i. i < length old) is → All (λ i. i < length new) is

@@ -3,6 +3,7 @@ use Rattle.std.proofs.Common.{◌≡◌, ◌<◌, List, [], ◌∷◌, ◌++◌,
 use Rattle.std.specs.Prelude.{◌⊎◌, bytes_eq, IfOk, Result, Ok, Err}
 use Rattle.std.proofs.lemmas.Option.{slice_get_within}
 use Rattle.std.specs.Cmp.Lexicographic.{bytes_decides}
+use Rattle.nz_lists.proofs.Results.{both_ok}
 use Rattle.nz_spec.specs.Term.{Head, apply}
 use Rattle.nz_spec.specs.Table.{HasItsArguments, term_in, terms_at}
 use Rattle.nz_term.specs.Growth.{IsOperator}
@@ -56,10 +57,6 @@ make-requires-clause-leaves c =
     let same : head_of c.in_ok-head.head ≡ head_of c.node-node.result.now.head = ap head_of c.in_ok-head.ensures.cases in
     free (head_of c.in_ok-head.head) c.as_slice-2.result.now (subst IsOperator (sym same) (operates c))
 
-both_ok : {T E : Type 0} (r : Result T E) (P Q R : T → Type 0) → ((x : T) → P x → Q x → R x) → IfOk r P → IfOk r Q → IfOk r R
-both_ok (Ok x) P Q R f p q = f x p q
-both_ok (Err e) P Q R f p q = tt
-
 pub returns-clause-made : goal.returns-clause-made
 returns-clause-made c =
     let n = c.node-node.result.now in
@@ -78,7 +75,7 @@ returns-clause-made c =
     (λ id. IsInstance new c.args.arguments.now c.args.id id)
     (
     λ id there grown.
-    made_instance old new (grows_by old one new stays grown) c.args.arguments.now (instance_in made) c.args.id (head_of n.head) n.kids id c.requires.within (sym c.in_default.ensures.argument)
+    made_instance old new (grows_by old one new stays c.make.ensures.stays grown) c.args.arguments.now (instance_in made) c.args.id (head_of n.head) n.kids id c.requires.within (sym c.in_default.ensures.argument)
     c.node-node.ensures.term c.requires.id (c.requires.done (node_of n) c.node-node.ensures.node) (slice_get_within new id one there.0)
     (there.1 ∙ ap (λ h. apply h (terms_at (term_in old) kids)) same ∙ ap (λ l. apply (head_of n.head) (terms_at (term_in old) l)) listed)
     )

@@ -1,7 +1,7 @@
 -- What holds of what was found, if anything was.
-use Rattle.std.proofs.Common.{◌≡◌, Bool, true, false, Option, Some, None, sym, ap, true≢false, if◌then◌else◌}
+use Rattle.std.proofs.Common.{Bool, true, false, Option, Some, None, if◌then◌else◌}
 use Rattle.std.specs.Bool.{⊤}
-use Rattle.std.specs.Prelude.{option_map, option_and_then, is_some}
+use Rattle.std.specs.Prelude.{option_map, option_and_then}
 
 -- P of what was found, if anything was
 abbrev pub IfFound : {A : Type 0} → (A → Type 0) → Option A → Type 0
@@ -23,9 +23,3 @@ found_weaker P Q (Some x) k h = k x h
 pub if_found : {A : Type 0} (P : A → Type 0) (b : Bool) (o p : Option A) → IfFound P o → IfFound P p → IfFound P (if b then o else p)
 if_found P true o p h i = h
 if_found P false o p h i = i
-
-pub some_same : {A : Type 0} (x y : A) → Some x ≡ Some y → x ≡ y
-some_same x y e = ap (λ o. elim o [ Some z ↦ z | None ↦ x ]) e
-
-pub none_is_not : {A : Type 0} (x : A) → None ≡ Some x → ⊥
-none_is_not x e = true≢false (sym (ap is_some e))
