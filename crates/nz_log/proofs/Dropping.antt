@@ -1,12 +1,12 @@
 -- What stays when a level is dropped is in order.
-use Rattle.std.proofs.Common.{◌≡◌, ℕ, suc, ◌≤◌, Bool, true, false, List, take, Option, Some, None, refl, sym, ap, subst, ◌∙◌, true≢false, arith}
+use Rattle.std.proofs.Common.{◌≡◌, ℕ, suc, ◌≤◌, Bool, true, false, List, take, Option, Some, None, refl, sym, ap, subst, ◌∙◌, arith}
 use Rattle.std.specs.Prelude.{slice_get, nat_le, IsSome, if◌then◌else◌}
 use Rattle.std.proofs.lemmas.List.{take-take}
 use Rattle.std.proofs.lemmas.Bool.{leb-true, le-leb}
 use Rattle.nz_spec.specs.Table.{Node}
 use Rattle.nz_spec.specs.Decide.{asserted_numbers}
-use Rattle.nz_log.specs.Logs.{Origin, assertion_of, gate_of, chain_of, Entry, LogState, entry_at, IsLive, level_at, kept_below, Drops}
-use Rattle.nz_log.specs.Sound.{live_at, IsMade, IsEntry, IsLog}
+use Rattle.nz_log.specs.Logs.{Origin, assertion_of, gate_of, chain_of, Entry, LogState, entry_at, kept_below, Drops}
+use Rattle.nz_log.specs.Sound.{live_at, IsMade, IsLog}
 use Rattle.nz_log.proofs.Soundness.{Keeps, entry_stays}
 
 -- what is kept was there, at or below the level

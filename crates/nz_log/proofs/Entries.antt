@@ -1,8 +1,8 @@
 -- How the clauses of a log change.
-use Rattle.std.proofs.Common.{◌≡◌, ◌≢◌, ℕ, zero, suc, ◌<◌, ◌≤◌, List, [], ◌∷◌, ◌++◌, length, map, get_or, Option, Some, None, refl, sym, ap, subst, ◌∙◌, arith}
+use Rattle.std.proofs.Common.{◌≡◌, ◌≢◌, ℕ, zero, suc, ◌<◌, List, [], ◌∷◌, ◌++◌, length, map, get_or, Option, Some, None, refl, sym, ap, subst, ◌∙◌, arith}
 use Rattle.std.specs.Prelude.{slice_get, unwrap_or, option_map, IsSome}
 use Rattle.nz_log.specs.declared.origins.Stored.{Stored}
-use Rattle.nz_log.specs.Logs.{Entry, LogState, entry_at, kept_below, told_below, Drops, Puts}
+use Rattle.nz_log.specs.Logs.{entry_at, kept_below, told_below, Drops, Puts}
 use Rattle.nz_log.specs.Stored.{entry_of, log_of}
 
 -- a list with one more at its end, by places

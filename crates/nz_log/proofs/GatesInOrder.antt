@@ -1,13 +1,12 @@
 -- A clause of the gate table is in order.
-use Rattle.std.proofs.Common.{◌≡◌, ℕ, ◌<◌, List, [], ◌∷◌, length, map, get_or, Option, Some, None, refl, sym, ap, subst, ◌∙◌, arith}
-use Rattle.std.specs.Bool.{⊤}
+use Rattle.std.proofs.Common.{◌≡◌, ℕ, ◌<◌, List, [], ◌∷◌, length, get_or, Some, None, sym, ap, subst, ◌∙◌, arith}
 use Rattle.std.specs.Prelude.{slice_get, option_map, unwrap_or}
 use Rattle.std.specs.List.{AllByRecursion}
 use Rattle.std.proofs.lemmas.Option.{slice_get-get_or, slice_get-map, unwrap_or-slice_get}
 use Rattle.nz_spec.specs.Term.{falsum}
 use Rattle.nz_spec.specs.Table.{Node, IsTable, term_in, OneNumber, TermOfNode}
 use Rattle.nz_spec.specs.Literal.{clause_of}
-use Rattle.nz_spec.specs.Gates.{gate_clauses, clauses_over, HasBooleanArguments}
+use Rattle.nz_spec.specs.Gates.{clauses_over, HasBooleanArguments}
 use Rattle.nz_spec.proofs.Derivations.{at_place}
 use Rattle.nz_log.specs.declared.lits.Lit.{Lit}
 use Rattle.nz_log.specs.Lits.{yes, no, are_same_lit, clause_in, is_boolean_at, gates_at}

@@ -1,7 +1,6 @@
 -- Marks that are set.
-use Rattle.std.proofs.Common.{◌≡◌, ℕ, zero, suc, ◌<◌, ◌+◌, Bool, true, false, List, [], ◌∷◌, length, get_or, ◌⊎◌, inl, inr, refl, sym, ap, subst, ◌∙◌, true≢false, arith, below_more}
-use Rattle.std.specs.Prelude.{All, slice_set}
-use Rattle.nz_log.specs.declared.lits.Lit.{Lit}
+use Rattle.std.proofs.Common.{◌≡◌, ℕ, zero, suc, ◌<◌, ◌+◌, Bool, true, List, [], ◌∷◌, length, get_or, ◌⊎◌, inl, inr, refl, sym, ap, subst, ◌∙◌, true≢false, arith, below_more}
+use Rattle.std.specs.Prelude.{slice_set}
 use Rattle.nz_log.specs.declared.origins.Link.{Link}
 use Rattle.nz_log.specs.Spelling.{is_marked, IsMoreMarked, PassMarked}
 

@@ -1,12 +1,11 @@
 -- What holds of each literal of clauses holds of each of what is made of them.
-use Rattle.std.proofs.Common.{◌≡◌, ℕ, zero, suc, ◌<◌, ◌≤◌, Bool, true, false, not, List, [], ◌∷◌, ◌++◌, length, map, Option, Some, None, refl, arith}
+use Rattle.std.proofs.Common.{ℕ, suc, Bool, true, false, not, List, [], ◌∷◌, ◌++◌, map, arith}
 use Rattle.std.specs.Bool.{⊤}
-use Rattle.std.specs.Prelude.{All, filter, fold, slice_get, if◌then◌else◌}
+use Rattle.std.specs.Prelude.{All, fold, if◌then◌else◌}
 use Rattle.std.specs.List.{AllByRecursion, list_any}
 use Rattle.nz_spec.specs.Term.{Head, verum, falsum, negation, conjunction, disjunction, exclusion, equality, choice, bool_sort}
-use Rattle.nz_spec.specs.Literal.{with_one, once, without}
+use Rattle.nz_spec.specs.Literal.{with_one, without}
 use Rattle.nz_spec.specs.Gates.{clauses_over}
-use Rattle.nz_spec.proofs.Derivations.{at_place}
 use Rattle.nz_log.specs.declared.lits.Lit.{Lit}
 use Rattle.nz_log.specs.Lits.{yes, no, negated_lit, are_same_lit, lit_resolvent}
 

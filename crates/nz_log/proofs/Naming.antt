@@ -1,12 +1,11 @@
 -- What is made of numbered literals says what is made of the literals that they stand for.
-use Rattle.std.proofs.Common.{◌≡◌, ℕ, zero, suc, ◌<◌, Bool, true, false, not, ◌&&◌, ◌||◌, ◌==◌, List, [], ◌∷◌, ◌++◌, length, map, Option, Some, None, refl, sym, ap, subst, ◌∙◌, true≢false, eqb-true, eq-eqb, arith}
+use Rattle.std.proofs.Common.{◌≡◌, ℕ, ◌<◌, Bool, true, false, not, ◌&&◌, ◌||◌, ◌==◌, List, [], ◌∷◌, ◌++◌, length, map, Some, None, refl, sym, ap, ◌∙◌, eqb-true, eq-eqb}
 use Rattle.std.proofs.lemmas.List.{map-append}
-use Rattle.std.specs.Bool.{⊤}
-use Rattle.std.specs.Prelude.{All, filter, fold, slice_get, option_map, if◌then◌else◌}
+use Rattle.std.specs.Prelude.{fold, slice_get, if◌then◌else◌}
 use Rattle.std.specs.List.{AllByRecursion, list_any}
-use Rattle.nz_spec.specs.Term.{Head, verum, falsum, negation, conjunction, disjunction, exclusion, equality, choice, bool_sort, Term, apply, Terms, no_terms, terms}
+use Rattle.nz_spec.specs.Term.{Head, verum, falsum, negation, conjunction, disjunction, exclusion, equality, choice, bool_sort, Term, apply}
 use Rattle.nz_spec.specs.Table.{Node, IsTable, term_in, terms_at, OneNumber, TermOfNode}
-use Rattle.nz_spec.specs.Literal.{Literal, are_same_term, are_same_sign, are_same_literal, with_one, once, without, clause_of, resolvent, negation_of}
+use Rattle.nz_spec.specs.Literal.{Literal, are_same_term, are_same_sign, are_same_literal, with_one, once, without, clause_of, resolvent}
 use Rattle.nz_spec.specs.Gates.{holds, fails, list_of, is_boolean_term, clauses_over, gate_clauses}
 use Rattle.nz_spec.proofs.Literals.{same_term, one_term}
 use Rattle.nz_log.specs.declared.lits.Lit.{Lit}

@@ -1,7 +1,6 @@
 -- Which clauses one rests on: from the clause down to the first.
-use Rattle.std.proofs.Common.{◌≡◌, ℕ, zero, suc, ◌<◌, ◌≤◌, Bool, true, false, ◌&&◌, ◌||◌, List, [], ◌∷◌, length, get_or, Option, Some, None, ◌⊎◌, inl, inr, refl, sym, ap, subst, ◌∙◌, true≢false, arith}
-use Rattle.std.specs.Bool.{⊤}
-use Rattle.std.specs.Prelude.{All, IsSome, is_some, nat_le, nat_lt}
+use Rattle.std.proofs.Common.{◌≡◌, ℕ, zero, suc, ◌<◌, ◌≤◌, Bool, true, ◌&&◌, ◌||◌, List, [], ◌∷◌, length, get_or, Option, Some, None, ◌⊎◌, inl, inr, sym, ap, subst, ◌∙◌, arith}
+use Rattle.std.specs.Prelude.{All, is_some, nat_le, nat_lt}
 use Rattle.std.specs.List.{AllByRecursion}
 use Rattle.std.proofs.lemmas.Bool.{leb-true, le-leb, ltb-true, lt-ltb}
 use Rattle.nz_spec.proofs.Sorted.{and_first, and_second, and_both}
@@ -9,7 +8,7 @@ use Rattle.nz_spec.proofs.Literals.{or_first, or_second, or_either}
 use Rattle.nz_log.specs.declared.origins.Link.{Link}
 use Rattle.nz_log.specs.Logs.{IsPremise, RestsOn, Origin, assertion_of, gate_of, chain_of, Entry, LogState, entry_at, IsLive, level_at}
 use Rattle.nz_log.proofs.Soundness.{same_or_other}
-use Rattle.nz_log.specs.Spelling.{is_marked, IsMoreMarked, AreMarked, Pass, PassMarked, IsClosed, IsClosedAt, IsNeeded}
+use Rattle.nz_log.specs.Spelling.{is_marked, IsMoreMarked, AreMarked, Pass, PassMarked, IsClosed, IsClosedAt}
 
 -- the clauses from this number on are done
 pub record IsDone (s : LogState) (id : ℕ) (marks : List Bool) (i : ℕ) : Type 0 where

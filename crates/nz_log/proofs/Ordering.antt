@@ -1,12 +1,10 @@
 -- Clauses rest on earlier ones of no higher level: how that stays so.
-use Rattle.std.proofs.Common.{◌≡◌, ◌≢◌, ℕ, suc, ◌<◌, ◌≤◌, max, List, [], ◌∷◌, length, Option, Some, None, ◌⊎◌, inl, inr, refl, sym, ap, subst, ◌∙◌, arith}
-use Rattle.std.specs.Bool.{⊤}
-use Rattle.std.specs.Prelude.{All, IsSome}
+use Rattle.std.proofs.Common.{◌≡◌, ℕ, ◌<◌, ◌≤◌, max, List, [], ◌∷◌, length, Option, Some, inl, inr, refl, sym, ap, subst, ◌∙◌, arith}
+use Rattle.std.specs.Prelude.{All}
 use Rattle.std.specs.List.{AllByRecursion}
-use Rattle.nz_log.specs.declared.lits.Lit.{Lit}
 use Rattle.nz_log.specs.declared.origins.Link.{Link}
-use Rattle.nz_log.specs.Logs.{IsPremise, RestsOn, IsOrdered, Origin, assertion_of, gate_of, chain_of, Entry, LogState, entry_at, IsLive, literals_at, level_at, told_level, level_with, level_of_links, chained, chain_entry, kept_below, Puts, Drops}
-use Rattle.nz_log.proofs.Soundness.{Keeps, premise_stays, same_or_other, puts_keeps, level_grows, links_grow}
+use Rattle.nz_log.specs.Logs.{IsPremise, RestsOn, IsOrdered, Origin, assertion_of, gate_of, chain_of, Entry, LogState, entry_at, IsLive, level_at, level_of_links, Puts, Drops}
+use Rattle.nz_log.proofs.Soundness.{Keeps, premise_stays, same_or_other, puts_keeps, links_grow}
 use Rattle.nz_log.proofs.Dropping.{kept_is, keeps}
 use Rattle.nz_log.proofs.Members.{each_of}
 use Rattle.nz_log.specs.declared.origins.Stored.{Stored}

@@ -1,7 +1,6 @@
 -- Steps that are spelled out derive their clauses.
-use Rattle.std.proofs.Common.{◌≡◌, ℕ, zero, suc, ◌<◌, ◌≤◌, ◌+◌, Bool, true, false, List, [], ◌∷◌, ◌++◌, length, map, take, Option, Some, None, ◌⊎◌, inl, inr, refl, sym, ap, subst, ◌∙◌, true≢false, append_assoc, arith}
-use Rattle.std.specs.Bool.{⊤}
-use Rattle.std.specs.Prelude.{All, slice_get, slice_set, slice_index, option_map}
+use Rattle.std.proofs.Common.{◌≡◌, ℕ, zero, suc, ◌<◌, ◌≤◌, ◌+◌, Bool, true, false, List, [], ◌∷◌, ◌++◌, length, map, Some, None, inl, inr, refl, sym, ap, subst, ◌∙◌, true≢false, append_assoc, arith}
+use Rattle.std.specs.Prelude.{slice_get, slice_set, slice_index, option_map}
 use Rattle.std.specs.List.{AllByRecursion}
 use Rattle.std.proofs.lemmas.Option.{slice_get-map}
 use Rattle.std.proofs.lemmas.List.{append-nil, length-append, map-append}
@@ -10,15 +9,15 @@ use Rattle.nz_spec.specs.Table.{Node, IsTable, term_in, OneNumber}
 use Rattle.nz_spec.specs.Literal.{Clause, resolvent}
 use Rattle.nz_spec.specs.Gates.{holds}
 use Rattle.nz_spec.specs.Steps as spec
-use Rattle.nz_spec.specs.Steps.{given_step, gate_step, resolve_step, step_clause, clauses_behind, IsDerivation, Derives}
+use Rattle.nz_spec.specs.Steps.{step_clause, clauses_behind, IsDerivation, Derives}
 use Rattle.nz_spec.proofs.Derivations.{get_stays, derivations_grow, taken}
 use Rattle.nz_log.specs.declared.lits.Lit.{Lit}
 use Rattle.nz_log.specs.declared.origins.Link.{Link}
 use Rattle.nz_log.specs.declared.steps.Step.{Step}
 use Rattle.nz_log.specs.declared.steps.Step.TheVariants.{Given, Gate, Resolve}
-use Rattle.nz_log.specs.Lits.{yes, literal_of, clause_in, lit_resolvent}
-use Rattle.nz_log.specs.Logs.{IsPremise, RestsOn, Origin, assertion_of, gate_of, chain_of, Entry, LogState, entry_at, IsLive, literals_at, level_at, chained}
-use Rattle.nz_log.specs.Sound.{live_at, live_terms, AreWithin, IsLink, IsMade, IsEntry, IsLog}
+use Rattle.nz_log.specs.Lits.{literal_of, clause_in, lit_resolvent}
+use Rattle.nz_log.specs.Logs.{RestsOn, Origin, assertion_of, gate_of, chain_of, Entry, LogState, entry_at, literals_at, level_at, chained}
+use Rattle.nz_log.specs.Sound.{live_at, live_terms, AreWithin, IsLink, IsMade, IsLog}
 use Rattle.nz_log.specs.Spelling.{is_marked, AreMarked, chain_steps, chain_place, origin_steps, origin_place, step_of}
 use Rattle.nz_log.proofs.Members.{each_of, each-resolvent}
 use Rattle.nz_log.proofs.Naming.{resolvent_named}

@@ -1,19 +1,18 @@
 -- How a log stays in order when the table grows, or the assertions.
-use Rattle.std.proofs.Common.{◌≡◌, ℕ, zero, suc, ◌<◌, List, [], ◌∷◌, ◌++◌, length, map, take, Option, Some, None, refl, sym, ap, subst, ◌∙◌, arith}
-use Rattle.std.specs.Bool.{⊤}
+use Rattle.std.proofs.Common.{◌≡◌, ℕ, zero, suc, ◌<◌, List, [], ◌∷◌, ◌++◌, length, take, Some, refl, sym, ap, subst, ◌∙◌, arith}
 use Rattle.std.specs.Prelude.{slice_get, option_map}
 use Rattle.std.specs.List.{AllByRecursion}
 use Rattle.std.proofs.lemmas.List.{append-nil, length-append}
-use Rattle.nz_spec.specs.Table.{Node, term_in, TermStays}
+use Rattle.nz_spec.specs.Table.{Node, TermStays}
 use Rattle.nz_spec.specs.Decide.{asserted_numbers, with_number}
-use Rattle.nz_spec.specs.Literal.{Literal, term_literal, clause_of}
+use Rattle.nz_spec.specs.Literal.{term_literal, clause_of}
 use Rattle.nz_spec.specs.Gates.{gate_clauses, HasBooleanArguments}
 use Rattle.nz_spec.proofs.Derivations.{get_stays}
 use Rattle.nz_log.specs.declared.lits.Lit.{Lit}
 use Rattle.nz_log.specs.declared.origins.Link.{Link}
 use Rattle.nz_log.specs.Lits.{clause_in}
 use Rattle.nz_log.specs.Logs.{Origin, assertion_of, gate_of, chain_of, Entry, LogState}
-use Rattle.nz_log.specs.Sound.{live_at, AreWithin, IsLink, IsMade, IsEntry, IsLog, AreMore, LogsStay}
+use Rattle.nz_log.specs.Sound.{AreWithin, IsLink, IsMade, IsLog, AreMore, LogsStay}
 use Rattle.nz_log.proofs.Soundness.{longer}
 
 -- ---- More terms
@@ -89,6 +88,7 @@ number_more (l ∷ m ∷ ls) u (suc n) k t e =
 pub logs_stay : TermStays → LogsStay
 logs_stay stays =
     record {
+      start = λ ns levels i e at. cc;
       table = λ ns more levels s order. log_wider stays ns more levels s order;
       asserted = log_more;
       level = λ levels n. level_more levels (suc n);

@@ -1,6 +1,5 @@
 -- The clauses of a log in order are true.
-use Rattle.std.proofs.Common.{◌≡◌, ℕ, zero, suc, ◌<◌, ◌≤◌, Bool, true, false, ◌||◌, List, [], ◌∷◌, ◌++◌, length, map, take, Option, Some, None, refl, sym, ap, subst, ◌∙◌, arith}
-use Rattle.std.specs.Bool.{⊤}
+use Rattle.std.proofs.Common.{◌≡◌, ℕ, zero, suc, ◌<◌, ◌≤◌, false, List, [], ◌∷◌, ◌++◌, length, map, take, Option, Some, None, refl, sym, ap, subst, ◌∙◌, arith}
 use Rattle.std.specs.Prelude.{slice_get, option_map, IsSome}
 use Rattle.std.specs.List.{AllByRecursion}
 use Rattle.std.proofs.lemmas.Option.{slice_get-map}
@@ -8,16 +7,16 @@ use Rattle.nz_spec.specs.Term.{Term, Assignment, is_true, value_of, IsTrueUnder}
 use Rattle.nz_spec.specs.Table.{Node, IsTable, term_in, OneNumber}
 use Rattle.nz_spec.specs.Model.{IsAssignment}
 use Rattle.nz_spec.specs.Decide.{asserted_numbers}
-use Rattle.nz_spec.specs.Literal.{Clause, clause_of, IsClauseTrue}
+use Rattle.nz_spec.specs.Literal.{clause_of, IsClauseTrue}
 use Rattle.nz_spec.specs.Gates.{gate_clauses}
 use Rattle.nz_spec.proofs.Literals.{or_first, together, resolvent_is_true}
 use Rattle.nz_spec.proofs.GateTruths.{gates_are_true}
 use Rattle.nz_spec.proofs.Derivations.{at_place, mapped}
 use Rattle.nz_log.specs.declared.lits.Lit.{Lit}
 use Rattle.nz_log.specs.declared.origins.Link.{Link}
-use Rattle.nz_log.specs.Lits.{yes, clause_in, lit_resolvent, literal_of}
-use Rattle.nz_log.specs.Logs.{IsPremise, Origin, assertion_of, gate_of, chain_of, Entry, LogState, entry_at, IsLive, literals_at, level_at, chained}
-use Rattle.nz_log.specs.Sound.{live_at, live_terms, AreWithin, IsLink, IsMade, IsEntry, IsLog, ClausesAreTrue}
+use Rattle.nz_log.specs.Lits.{clause_in, lit_resolvent, literal_of}
+use Rattle.nz_log.specs.Logs.{IsPremise, Origin, assertion_of, gate_of, chain_of, Entry, LogState, entry_at, literals_at, level_at, chained}
+use Rattle.nz_log.specs.Sound.{live_at, live_terms, AreWithin, IsLink, IsMade, IsLog, ClausesAreTrue}
 use Rattle.nz_log.proofs.Members.{each-resolvent}
 use Rattle.nz_log.proofs.Naming.{resolvent_named}
 use Rattle.nz_log.proofs.Soundness.{within_at}

@@ -1,5 +1,5 @@
 -- Literals and clauses by the numbers of their terms.
-use Rattle.std.specs.Prelude.{ℕ, Bool, true, false, not, ◌&&◌, ◌==◌, List, [], ◌∷◌, ◌++◌, map, Option, Some, None, slice_get}
+use Rattle.std.specs.Prelude.{ℕ, Bool, true, false, not, ◌&&◌, ◌==◌, List, [], ◌∷◌, ◌++◌, map, Some, None, slice_get}
 use Rattle.nz_spec.specs.Term.{Head, sort_of, is_bool}
 use Rattle.nz_spec.specs.Table.{Node, term_in}
 use Rattle.nz_spec.specs.Literal.{Literal, term_literal, Clause, are_same_sign, once, without}

@@ -1,5 +1,5 @@
 -- Logs whose clauses are in order: over a table of terms, and by level the numbers of the live assertions.
-use Rattle.std.specs.Prelude.{◌≡◌, ℕ, suc, ◌<◌, ◌≤◌, List, [], ◌∷◌, ◌++◌, length, take, map, Option, Some, option_map, slice_get}
+use Rattle.std.specs.Prelude.{◌≡◌, ℕ, suc, ◌<◌, List, [], ◌∷◌, ◌++◌, length, take, map, Some, option_map, slice_get}
 use Rattle.std.specs.List.{AllByRecursion}
 use Rattle.nz_spec.specs.Term.{Term, Assignment, IsTrueUnder}
 use Rattle.nz_spec.specs.Table.{Node, IsTable, term_in}
@@ -9,8 +9,8 @@ use Rattle.nz_spec.specs.Literal.{clause_of, IsClauseTrue}
 use Rattle.nz_spec.specs.Gates.{gate_clauses, HasBooleanArguments}
 use Rattle.nz_log.specs.declared.lits.Lit.{Lit}
 use Rattle.nz_log.specs.declared.origins.Link.{Link}
-use Rattle.nz_log.specs.Lits.{yes, clause_in, gates_at}
-use Rattle.nz_log.specs.Logs.{Origin, assertion_of, gate_of, chain_of, Entry, LogState, entry_at, IsLive, literals_at, level_at, chained, IsPremise}
+use Rattle.nz_log.specs.Lits.{yes, clause_in}
+use Rattle.nz_log.specs.Logs.{Origin, assertion_of, gate_of, chain_of, Entry, LogState, empty_log, entry_at, literals_at, chained, IsPremise}
 
 -- the numbers of the assertions that are live at a level
 abbrev pub live_at : List (List ℕ) → ℕ → List ℕ
@@ -56,8 +56,9 @@ ClausesAreTrue = (ns : List Node) → IsTable ns → (levels : List (List ℕ)) 
 abbrev pub AreMore : (old new : List (List ℕ)) → Type 0
 AreMore old new = (level k t : ℕ) → slice_get (live_at old level) k ≡ Some t → slice_get (live_at new level) k ≡ Some t
 
--- A log stays in order when the table grows, and when more is asserted.
+-- A log without clauses is in order, and a log stays so when the table grows, and when more is asserted.
 pub record LogsStay : Type 0 where
+  pub start : (ns : List Node) (levels : List (List ℕ)) → IsLog ns levels empty_log
   pub table : (ns more : List Node) (levels : List (List ℕ)) (s : LogState) → IsLog ns levels s → IsLog (ns ++ more) levels s
   pub asserted : (ns : List Node) (old new : List (List ℕ)) (s : LogState) → AreMore old new → IsLog ns old s → IsLog ns new s
   pub level : (levels : List (List ℕ)) → AreMore levels (levels ++ [] ∷ [])

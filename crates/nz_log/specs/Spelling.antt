@@ -4,7 +4,6 @@ use Rattle.std.specs.Bool.{⊤}
 use Rattle.nz_spec.specs.Table.{Node, IsTable, term_in}
 use Rattle.nz_spec.specs.Steps as spec
 use Rattle.nz_spec.specs.Steps.{given_step, gate_step, resolve_step, Derives}
-use Rattle.nz_log.specs.declared.lits.Lit.{Lit}
 use Rattle.nz_log.specs.declared.origins.Link.{Link}
 use Rattle.nz_log.specs.declared.steps.Step.{Step}
 use Rattle.nz_log.specs.declared.steps.Step.TheVariants.{Given, Gate, Resolve}

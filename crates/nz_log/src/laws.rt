@@ -10,7 +10,7 @@ pub fn clauses_are_true()
     one_number();
 }
 
-/// A log stays in order when the table grows, and when more is asserted.
+/// A log without clauses is in order, and a log stays so when the table grows, and when more is asserted.
 pub fn logs_stay()
     ensures stay { LogsStay }
 {

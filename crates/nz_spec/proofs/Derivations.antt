@@ -1,13 +1,12 @@
 -- Derivations: what they derive is true, and how they go on.
-use Rattle.std.proofs.Common.{◌≡◌, ℕ, zero, suc, true, false, List, [], ◌∷◌, ◌++◌, Option, Some, None, refl, sym, ap, subst, ◌∙◌, true≢false}
-use Rattle.std.specs.Bool.{⊤}
+use Rattle.std.proofs.Common.{◌≡◌, ℕ, zero, suc, false, List, [], ◌∷◌, ◌++◌, Option, Some, None, refl, sym, ap, subst, ◌∙◌, true≢false}
 use Rattle.std.specs.Prelude.{slice_get, option_map}
 use Rattle.std.specs.List.{AllByRecursion}
 use Rattle.nz_spec.specs.Term.{Term, Assignment, is_true, value_of, IsTrueUnder}
-use Rattle.nz_spec.specs.Model.{IsAssignment, IsUnsatisfiable}
-use Rattle.nz_spec.specs.Literal.{Literal, Clause, clause_of, resolvent, IsClauseTrue}
+use Rattle.nz_spec.specs.Model.{IsAssignment}
+use Rattle.nz_spec.specs.Literal.{Clause, clause_of, resolvent, IsClauseTrue}
 use Rattle.nz_spec.specs.Gates.{holds, gate_clauses}
-use Rattle.nz_spec.specs.Steps.{Step, given_step, gate_step, resolve_step, step_clause, clauses_behind, IsDerivation, Derives, IsBooleanStep, DerivedClausesAreTrue, EmptyClauseRefutes, DerivationsGrow}
+use Rattle.nz_spec.specs.Steps.{Step, given_step, gate_step, resolve_step, step_clause, clauses_behind, IsBooleanStep, DerivedClausesAreTrue, EmptyClauseRefutes, DerivationsGrow}
 use Rattle.nz_spec.proofs.Literals.{or_first, together, resolvent_is_true}
 use Rattle.nz_spec.proofs.GateTruths.{all-append, gates_are_true}
 

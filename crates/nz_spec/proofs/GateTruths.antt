@@ -1,14 +1,12 @@
 -- The clauses of a gate are true: by the truths of the arguments.
-use Rattle.std.proofs.Common.{◌≡◌, ℕ, Bool, true, false, not, ◌&&◌, ◌||◌, List, [], ◌∷◌, ◌++◌, map, refl, sym, ap, ◌∙◌, true≢false}
-use Rattle.std.specs.Bool.{⊤}
+use Rattle.std.proofs.Common.{◌≡◌, Bool, true, false, not, ◌&&◌, ◌||◌, List, [], ◌∷◌, ◌++◌, map, refl, sym, ap, ◌∙◌, true≢false}
 use Rattle.std.specs.Prelude.{if◌then◌else◌}
 use Rattle.std.specs.List.{AllByRecursion, list_any, list_all}
 use Rattle.std.proofs.Math.Bool.{or-false}
-use Rattle.nz_spec.specs.Fraction.{Fraction}
-use Rattle.nz_spec.specs.Term.{Sort, bool_sort, int_sort, real_sort, NumberSort, over_int, over_real, Head, constant, parameter, integer, decimal_number, verum, falsum, negation, conjunction, disjunction, implication, exclusion, equality, distinction, choice, less, at_most, greater, at_least, sum, difference, product, quotient, integer_quotient, modulus, magnitude, to_real, to_int, is_int, Term, apply, Terms, no_terms, terms, Assignment, Value, truth, number, is_true, value_of, values_of, head_value, sort_of, is_bool, IsOfSort, all_true, some_true, implied, excluded, combined, default_value, are_equal, is_numeric, holds_number, hold_number}
+use Rattle.nz_spec.specs.Term.{Sort, bool_sort, int_sort, real_sort, over_int, over_real, Head, constant, parameter, integer, decimal_number, verum, falsum, negation, conjunction, disjunction, implication, exclusion, equality, distinction, choice, less, at_most, greater, at_least, sum, difference, product, quotient, integer_quotient, modulus, magnitude, to_real, to_int, is_int, Term, apply, Terms, no_terms, terms, Assignment, Value, truth, number, is_true, value_of, values_of, head_value, sort_of, is_bool, IsOfSort, all_true, some_true, implied, excluded, combined, default_value, are_equal, is_numeric, holds_number, hold_number}
 use Rattle.nz_spec.specs.Model.{IsAssignment}
-use Rattle.nz_spec.specs.Literal.{Literal, is_literal_true, Clause, is_clause_true, IsClauseTrue}
-use Rattle.nz_spec.specs.Gates.{holds, fails, list_of, is_boolean_term, conjunction_clauses, disjunction_clauses, clauses_over, gate_clauses, IsBoolean, HasBooleanArguments, GatesAreTrue, PlainTermsAreBoolean}
+use Rattle.nz_spec.specs.Literal.{Clause, is_clause_true, IsClauseTrue}
+use Rattle.nz_spec.specs.Gates.{holds, fails, list_of, is_boolean_term, conjunction_clauses, disjunction_clauses, clauses_over, IsBoolean, HasBooleanArguments, GatesAreTrue, PlainTermsAreBoolean}
 use Rattle.nz_spec.proofs.Literals.{or_first, or_second}
 use Rattle.nz_spec.proofs.Sorted.{and_first, and_second}
 
@@ -60,16 +58,18 @@ implied_by false false h = refl
 each_argument : (a : Assignment) (t : Term) (args : List Term) → (told a t ≡ true → list_all (told a) args ≡ true)
     → AllByRecursion (IsClauseTrue a) (map (λ u. fails t ∷ holds u ∷ []) args)
 each_argument a t [] h = tt
-each_argument a t (u ∷ us) h =
-    (implies (told a t) (told a u) (λ e. and_first (told a u) (list_all (told a) us) (h e)),
-    each_argument a t us (λ e. and_second (told a u) (list_all (told a) us) (h e)))
+each_argument a t (u ∷ us) h = (
+  implies (told a t) (told a u) (λ e. and_first (told a u) (list_all (told a) us) (h e)),
+  each_argument a t us (λ e. and_second (told a u) (list_all (told a) us) (h e)),
+)
 
 some_argument : (a : Assignment) (t : Term) (args : List Term) → (list_any (told a) args ≡ true → told a t ≡ true)
     → AllByRecursion (IsClauseTrue a) (map (λ u. holds t ∷ fails u ∷ []) args)
 some_argument a t [] h = tt
-some_argument a t (u ∷ us) h =
-    (implied_by (told a t) (told a u) (λ e. h (or_first (told a u) (list_any (told a) us) e)),
-    some_argument a t us (λ e. h (or_second (told a u) (list_any (told a) us) e)))
+some_argument a t (u ∷ us) h = (
+  implied_by (told a t) (told a u) (λ e. h (or_first (told a u) (list_any (told a) us) e)),
+  some_argument a t us (λ e. h (or_second (told a u) (list_any (told a) us) e)),
+)
 
 more_of_all : (v A B : Bool) → (A || B) ≡ true → ((v && A) || (not v || B)) ≡ true
 more_of_all true A B e = e
@@ -109,8 +109,8 @@ negation_rows false = (refl, (refl, tt))
 
 exclusion_rows : (v w : Value) → IsOfSort bool_sort v
     → (let t = not (are_equal v w) in AllTrue
-      ((not t || (is_true v || (is_true w || false))) ∷ (not t || (not (is_true v) || (not (is_true w) || false)))
-      ∷ (t || (not (is_true v) || (is_true w || false))) ∷ (t || (is_true v || (not (is_true w) || false))) ∷ []))
+    ((not t || (is_true v || (is_true w || false))) ∷ (not t || (not (is_true v) || (not (is_true w) || false)))
+    ∷ (t || (not (is_true v) || (is_true w || false))) ∷ (t || (is_true v || (not (is_true w) || false))) ∷ []))
 exclusion_rows (truth true) (truth true) s = (refl, (refl, (refl, (refl, tt))))
 exclusion_rows (truth true) (truth false) s = (refl, (refl, (refl, (refl, tt))))
 exclusion_rows (truth true) (number q) s = (refl, (refl, (refl, (refl, tt))))
@@ -121,8 +121,8 @@ exclusion_rows (number q) w s = absurd s
 
 equality_rows : (v w : Value) → IsOfSort bool_sort v
     → (let t = are_equal v w && true in AllTrue
-      ((not t || (not (is_true v) || (is_true w || false))) ∷ (not t || (is_true v || (not (is_true w) || false)))
-      ∷ (t || (is_true v || (is_true w || false))) ∷ (t || (not (is_true v) || (not (is_true w) || false))) ∷ []))
+    ((not t || (not (is_true v) || (is_true w || false))) ∷ (not t || (is_true v || (not (is_true w) || false)))
+    ∷ (t || (is_true v || (is_true w || false))) ∷ (t || (not (is_true v) || (not (is_true w) || false))) ∷ []))
 equality_rows (truth true) (truth true) s = (refl, (refl, (refl, (refl, tt))))
 equality_rows (truth true) (truth false) s = (refl, (refl, (refl, (refl, tt))))
 equality_rows (truth true) (number q) s = (refl, (refl, (refl, (refl, tt))))
@@ -137,15 +137,15 @@ on_test P false cs h k = k
 
 chosen_rows : (b : Bool) (v w : Value)
     → (let t = is_true (if b then v else w) in AllTrue
-      ((not t || (not b || (is_true v || false))) ∷ (not t || (b || (is_true w || false)))
-      ∷ (t || (not b || (not (is_true v) || false))) ∷ (t || (b || (not (is_true w) || false))) ∷ []))
+    ((not t || (not b || (is_true v || false))) ∷ (not t || (b || (is_true w || false)))
+    ∷ (t || (not b || (not (is_true v) || false))) ∷ (t || (b || (not (is_true w) || false))) ∷ []))
 chosen_rows true v w = (implies (is_true v) (is_true v) (λ e. e), (or_second (not (is_true v)) true refl, (implied_by (is_true v) (is_true v) (λ e. e), (or_second (is_true v) true refl, tt))))
 chosen_rows false v w = (or_second (not (is_true w)) true refl, (implies (is_true w) (is_true w) (λ e. e), (or_second (is_true w) true refl, (implied_by (is_true w) (is_true w) (λ e. e), tt))))
 
 choice_rows : (c v w : Value)
     → (let t = is_true (if is_true c then v else w) in AllTrue
-      ((not t || (not (is_true c) || (is_true v || false))) ∷ (not t || (is_true c || (is_true w || false)))
-      ∷ (t || (not (is_true c) || (not (is_true v) || false))) ∷ (t || (is_true c || (not (is_true w) || false))) ∷ []))
+    ((not t || (not (is_true c) || (is_true v || false))) ∷ (not t || (is_true c || (is_true w || false)))
+    ∷ (t || (not (is_true c) || (not (is_true v) || false))) ∷ (t || (is_true c || (not (is_true w) || false))) ∷ []))
 choice_rows c v w = chosen_rows (is_true c) v w
 
 gates_over : (a : Assignment) → IsAssignment a → (h : Head) (ts : Terms) → AllByRecursion IsBoolean (list_of ts)

@@ -1,13 +1,13 @@
 -- Which terms and literals are one, and clauses as sets.
-use Rattle.std.proofs.Common.{◌≡◌, ℕ, zero, suc, Bool, true, false, not, ◌&&◌, ◌||◌, List, [], ◌∷◌, ◌++◌, ◌⊎◌, inl, inr, refl, sym, ap, ◌∙◌, true≢false}
-use Rattle.std.specs.Prelude.{bytes_eq, slice_index_or, filter, fold, if◌then◌else◌}
+use Rattle.std.proofs.Common.{◌≡◌, ℕ, zero, suc, Bool, true, false, not, ◌||◌, List, [], ◌∷◌, ◌++◌, ◌⊎◌, inl, inr, refl, sym, ap, ◌∙◌, true≢false}
+use Rattle.std.specs.Prelude.{slice_index_or, fold, if◌then◌else◌}
 use Rattle.std.specs.List.{list_any}
 use Rattle.std.proofs.lemmas.Slice.Eq.{bytes_eq-Decides}
 use Rattle.std.proofs.Math.Bool.{or_assoc, or-false}
 use Rattle.std.proofs.lemmas.List.Folds.{list_any-append}
 use Rattle.nz_spec.specs.Elaboration.{numbers_at}
 use Rattle.nz_spec.specs.Term.{Sort, bool_sort, int_sort, real_sort, NumberSort, over_int, over_real, sort_over, Head, constant, parameter, integer, decimal_number, verum, falsum, negation, conjunction, disjunction, implication, exclusion, equality, distinction, choice, less, at_most, greater, at_least, sum, difference, product, quotient, integer_quotient, modulus, magnitude, to_real, to_int, is_int, Term, apply, Terms, no_terms, terms, Assignment, is_true, value_of}
-use Rattle.nz_spec.specs.Literal.{sort_number, head_numbers, are_same_head, are_same_term, are_same_terms, Literal, term_literal, negation_of, are_same_sign, are_same_literal, is_literal_true, with_one, once, without, Clause, is_clause_true, clause_of, resolvent, ResolventIsTrue, ClauseIsTrueTogether, TellsLiterals}
+use Rattle.nz_spec.specs.Literal.{sort_number, head_numbers, are_same_head, are_same_term, are_same_terms, Literal, term_literal, negation_of, are_same_sign, are_same_literal, is_literal_true, with_one, once, without, Clause, is_clause_true, ResolventIsTrue, ClauseIsTrueTogether, TellsLiterals}
 use Rattle.nz_spec.proofs.Sorted.{and_first, and_second, and_both}
 
 -- ---- A head from its numbers

@@ -1,5 +1,5 @@
 -- One more mark keeps what was marked, and is of a link.
-use Rattle.std.proofs.Common.{◌≡◌, ◌<◌, Bool, false, length, get_or, ◌∙◌, arith}
+use Rattle.std.proofs.Common.{◌<◌, false, length, get_or, ◌∙◌, arith}
 use Rattle.std.proofs.Math.ListN.{length-set}
 use Rattle.nz_log.specs.declared.origins.Link.{Link}
 use Rattle.nz_log.proofs.Marking.{links_more, set_keeps, set_passes}

@@ -1,8 +1,7 @@
 -- The clause of each number is spelled out behind those that it is made of.
-use Rattle.std.proofs.Common.{◌≡◌, ℕ, suc, ◌<◌, ◌≤◌, ◌++◌, List, length, true, false, Option, Some, None, ap, sym, subst, ◌∙◌, add-one, arith}
+use Rattle.std.proofs.Common.{◌≡◌, ℕ, ◌<◌, ◌≤◌, ◌++◌, List, length, true, false, Option, Some, None, ap, sym, subst, ◌∙◌, add-one, arith}
 use Rattle.std.proofs.Math.ListN.{length-set}
-use Rattle.nz_log.specs.declared.steps.Step.{Step}
-use Rattle.nz_log.specs.Logs.{Entry, level_at, entry_at}
+use Rattle.nz_log.specs.Logs.{Entry, level_at}
 use Rattle.nz_log.specs.Spelling.{is_marked, AreMarked, IsClosed, origin_place, origin_steps}
 use Rattle.nz_log.specs.Stored.{entry_of}
 use Rattle.nz_log.proofs.Marking.{marked_within, same_get}

@@ -6,8 +6,17 @@ pub returns : goal.returns
 returns c =
     record {
       gates = record {
-        truth = refl; falsehood = refl; negations = refl; conjunctions = refl; disjunctions = refl; exclusions = refl; equations = refl;
-        choices = refl; constants = refl; number_equations = refl; number_choices = refl
+        truth = refl;
+        falsehood = refl;
+        negations = refl;
+        conjunctions = refl;
+        disjunctions = refl;
+        exclusions = refl;
+        equations = refl;
+        choices = refl;
+        constants = refl;
+        number_equations = refl;
+        number_choices = refl;
       };
       resolvents = record { goes = refl; once = refl; turned = refl; missing = refl; repeated = refl };
       refutation = refl;

@@ -1,7 +1,7 @@
 -- The clauses by their places, and what rests on those that stay.
-use Rattle.std.proofs.Common.{◌≡◌, ℕ, get_or, None, rules, sym, ap, subst, ◌∙◌}
+use Rattle.std.proofs.Common.{ap, subst, ◌∙◌}
 use Rattle.std.specs.Prelude.{option_map}
-use Rattle.nz_log.specs.Logs.{LogState, Drops, kept_below, told_below}
+use Rattle.nz_log.specs.Logs.{LogState, Drops}
 use Rattle.nz_log.specs.Stored.{entry_of, log_of}
 use Rattle.nz_log.proofs.Dropping.{drops_in_order}
 use Rattle.nz_log.proofs.Entries.{drops_from}

@@ -1,5 +1,5 @@
 -- It is the chain of one link.
-use Rattle.std.proofs.Common.{◌<◌, length, rules}
+use Rattle.std.proofs.Common.{rules}
 use Rattle.nz_log.proofs.log.Log.resolve.Goals as goal
 
 pub returns-clause-sound : goal.returns-clause-sound
