@@ -48,6 +48,9 @@ fn opposites_are_refuted(rt: HostRuntime) -> Result<(), Fail> {
     let p = constant(&mut terms, rt.alloc(), b"p")?;
     let not_p = negation(&mut terms, p)?;
     let mut log = Log::new(rt.alloc())?;
+
+    // The refutation doesn't rest on this clause, so that its steps don't have it.
+    log.given(9, p, 0)?;
     let empty = refute(&mut log, &terms, p, not_p)?;
     assert_eq!(rt; log.clause(empty).len(), 0);
     assert_eq!(rt; log.level(empty), 1);
