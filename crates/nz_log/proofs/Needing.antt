@@ -3,7 +3,7 @@ use Rattle.std.proofs.Common.{◌≡◌, ℕ, zero, suc, ◌<◌, ◌≤◌, Boo
 use Rattle.std.specs.Prelude.{All, is_some, nat_le, nat_lt}
 use Rattle.std.specs.List.{AllByRecursion}
 use Rattle.std.proofs.lemmas.Bool.{leb-true, le-leb, ltb-true, lt-ltb}
-use Rattle.nz_spec.proofs.Sorted.{and_first, and_second, and_both}
+use Rattle.std.proofs.lemmas.Bool.{and_from, and_parts}
 use Rattle.nz_spec.proofs.Literals.{or_first, or_second, or_either}
 use Rattle.nz_log.specs.declared.origins.Link.{Link}
 use Rattle.nz_log.specs.Logs.{IsPremise, RestsOn, Origin, assertion_of, gate_of, chain_of, Entry, LogState, entry_at, IsLive, level_at}
@@ -69,10 +69,9 @@ done_step s id i old new e at rests here long more marked only done =
     let level : level_at s i ≡ e.level = ap (λ o. elim o [ None ↦ 0 | Some f ↦ f.level ]) at in
     let low : PassMarked (is_low s (level_at s id)) new =
     only (is_low s (level_at s id))
-    (λ j m. and_both (is_some (entry_at s j)) (nat_le (level_at s j) (level_at s id)) (done.live j m).0 (le-leb (level_at s j) (level_at s id) (done.live j m).1))
+    (λ j m. and_from (is_some (entry_at s j)) (nat_le (level_at s j) (level_at s id)) (done.live j m).0 (le-leb (level_at s j) (level_at s id) (done.live j m).1))
     (premises_pass s i e.level (is_low s (level_at s id))
-    (λ j p. and_both (is_some (entry_at s j)) (nat_le (level_at s j) (level_at s id)) p.live
-    (le-leb (level_at s j) (level_at s id) (omega (arith, p.level_within, level, (done.live i here).1))))
+    (λ j p. and_from (is_some (entry_at s j)) (nat_le (level_at s j) (level_at s id)) p.live (le-leb (level_at s j) (level_at s id) (omega (arith, p.level_within, level, (done.live i here).1))))
     e.origin rests) in
     let before : PassMarked (λ j. is_marked old j || nat_lt j i) new =
     only (λ j. is_marked old j || nat_lt j i) (λ j m. or_first (is_marked old j) (nat_lt j i) m)
@@ -80,8 +79,8 @@ done_step s id i old new e at rests here long more marked only done =
     record {
       long = long ∙ done.long;
       live = λ j m. (
-        and_first (is_some (entry_at s j)) (nat_le (level_at s j) (level_at s id)) (low j m),
-        leb-true (level_at s j) (level_at s id) (and_second (is_some (entry_at s j)) (nat_le (level_at s j) (level_at s id)) (low j m)),
+        (and_parts (is_some (entry_at s j)) (nat_le (level_at s j) (level_at s id)) (low j m)).0,
+        leb-true (level_at s j) (level_at s id) ((and_parts (is_some (entry_at s j)) (nat_le (level_at s j) (level_at s id)) (low j m)).1),
       );
       itself = more id done.itself;
       closed = λ j le m. closed_at s id i old new e at more marked done j le (or_either (is_marked old j) (nat_lt j i) (before j m));

@@ -8,7 +8,7 @@ use Rattle.nz_spec.specs.Model.{IsAssignment}
 use Rattle.nz_spec.specs.Literal.{Clause, is_clause_true, IsClauseTrue}
 use Rattle.nz_spec.specs.Gates.{holds, fails, list_of, is_boolean_term, conjunction_clauses, disjunction_clauses, clauses_over, IsBoolean, HasBooleanArguments, GatesAreTrue, PlainTermsAreBoolean}
 use Rattle.nz_spec.proofs.Literals.{or_first, or_second}
-use Rattle.nz_spec.proofs.Sorted.{and_first, and_second}
+use Rattle.std.proofs.lemmas.Bool.{and_parts}
 
 -- whether the term is true
 abbrev told : Assignment → Term → Bool
@@ -59,8 +59,8 @@ each_argument : (a : Assignment) (t : Term) (args : List Term) → (told a t ≡
     → AllByRecursion (IsClauseTrue a) (map (λ u. fails t ∷ holds u ∷ []) args)
 each_argument a t [] h = tt
 each_argument a t (u ∷ us) h = (
-  implies (told a t) (told a u) (λ e. and_first (told a u) (list_all (told a) us) (h e)),
-  each_argument a t us (λ e. and_second (told a u) (list_all (told a) us) (h e)),
+  implies (told a t) (told a u) (λ e. (and_parts (told a u) (list_all (told a) us) (h e)).0),
+  each_argument a t us (λ e. (and_parts (told a u) (list_all (told a) us) (h e)).1),
 )
 
 some_argument : (a : Assignment) (t : Term) (args : List Term) → (list_any (told a) args ≡ true → told a t ≡ true)

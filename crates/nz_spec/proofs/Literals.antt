@@ -8,7 +8,7 @@ use Rattle.std.proofs.lemmas.List.Folds.{list_any-append}
 use Rattle.nz_spec.specs.Elaboration.{numbers_at}
 use Rattle.nz_spec.specs.Term.{Sort, bool_sort, int_sort, real_sort, NumberSort, over_int, over_real, sort_over, Head, constant, parameter, integer, decimal_number, verum, falsum, negation, conjunction, disjunction, implication, exclusion, equality, distinction, choice, less, at_most, greater, at_least, sum, difference, product, quotient, integer_quotient, modulus, magnitude, to_real, to_int, is_int, Term, apply, Terms, no_terms, terms, Assignment, is_true, value_of}
 use Rattle.nz_spec.specs.Literal.{sort_number, head_numbers, are_same_head, are_same_term, are_same_terms, Literal, term_literal, negation_of, are_same_sign, are_same_literal, is_literal_true, with_one, once, without, Clause, is_clause_true, ResolventIsTrue, ClauseIsTrueTogether, TellsLiterals}
-use Rattle.nz_spec.proofs.Sorted.{and_first, and_second, and_both}
+use Rattle.std.proofs.lemmas.Bool.{and_from, and_parts}
 
 -- ---- A head from its numbers
 
@@ -86,24 +86,24 @@ one_head h = (bytes_eq-Decides (head_numbers h) (head_numbers h)).1 refl
 mutual
   pub same_term : (t u : Term) → are_same_term t u ≡ true → t ≡ u
   same_term (apply g ts) (apply h us) e =
-      ap (λ f. apply f ts) (same_head g h (and_first (are_same_head g h) (are_same_terms ts us) e))
-      ∙ ap (apply h) (same_terms ts us (and_second (are_same_head g h) (are_same_terms ts us) e))
+      ap (λ f. apply f ts) (same_head g h ((and_parts (are_same_head g h) (are_same_terms ts us) e).0))
+      ∙ ap (apply h) (same_terms ts us ((and_parts (are_same_head g h) (are_same_terms ts us) e).1))
 
   same_terms : (ts us : Terms) → are_same_terms ts us ≡ true → ts ≡ us
   same_terms no_terms no_terms e = refl
   same_terms no_terms (terms u us) e = absurd (true≢false (sym e))
   same_terms (terms t ts) no_terms e = absurd (true≢false (sym e))
   same_terms (terms t ts) (terms u us) e =
-      ap (λ v. terms v ts) (same_term t u (and_first (are_same_term t u) (are_same_terms ts us) e))
-      ∙ ap (terms u) (same_terms ts us (and_second (are_same_term t u) (are_same_terms ts us) e))
+      ap (λ v. terms v ts) (same_term t u ((and_parts (are_same_term t u) (are_same_terms ts us) e).0))
+      ∙ ap (terms u) (same_terms ts us ((and_parts (are_same_term t u) (are_same_terms ts us) e).1))
 
 mutual
   pub one_term : (t : Term) → are_same_term t t ≡ true
-  one_term (apply h ts) = and_both (are_same_head h h) (are_same_terms ts ts) (one_head h) (one_terms ts)
+  one_term (apply h ts) = and_from (are_same_head h h) (are_same_terms ts ts) (one_head h) (one_terms ts)
 
   one_terms : (ts : Terms) → are_same_terms ts ts ≡ true
   one_terms no_terms = refl
-  one_terms (terms t ts) = and_both (are_same_term t t) (are_same_terms ts ts) (one_term t) (one_terms ts)
+  one_terms (terms t ts) = and_from (are_same_term t t) (are_same_terms ts ts) (one_term t) (one_terms ts)
 
 -- ---- Literals
 
@@ -119,11 +119,11 @@ one_sign false = refl
 
 pub same_literal : (l m : Literal) → are_same_literal l m ≡ true → l ≡ m
 same_literal (term_literal t p) (term_literal u q) e =
-    ap (λ v. term_literal v p) (same_term t u (and_first (are_same_term t u) (are_same_sign p q) e))
-    ∙ ap (term_literal u) (same_sign p q (and_second (are_same_term t u) (are_same_sign p q) e))
+    ap (λ v. term_literal v p) (same_term t u ((and_parts (are_same_term t u) (are_same_sign p q) e).0))
+    ∙ ap (term_literal u) (same_sign p q ((and_parts (are_same_term t u) (are_same_sign p q) e).1))
 
 pub one_literal : (l : Literal) → are_same_literal l l ≡ true
-one_literal (term_literal t p) = and_both (are_same_term t t) (are_same_sign p p) (one_term t) (one_sign p)
+one_literal (term_literal t p) = and_from (are_same_term t t) (are_same_sign p p) (one_term t) (one_sign p)
 
 -- of a literal and its negation just one is true
 turned_sign : (p v : Bool) → are_same_sign (not p) v ≡ not (are_same_sign p v)
