@@ -7,8 +7,6 @@ mod errors;
 mod in_memory;
 mod outside;
 mod streams;
-#[cfg(test)]
-mod tests;
 mod text;
 mod work_list;
 

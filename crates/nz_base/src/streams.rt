@@ -1,13 +1,18 @@
 //! Any reader and writer of std, the standard streams among them, as a source and a sink.
-ghost use Rattle.std.specs.Prelude.{◌≡◌, ◌||◌, false, is_err};
+ghost use Rattle.std.specs.Prelude.{◌≡◌, ◌||◌, [], false, is_err, IfOk, OnOk};
 ghost use Rattle.std.specs.Io.{ReadsAtMost, WritesAtMost};
+ghost use Rattle.std.specs.Io.Buffered.{writer_buffer, writer_capacity, writer_contents, writer_inner};
 ghost use Rattle.std.specs.Io.KnownBytes.{Keeps, ReadConsumes, WriteAppends};
 ghost use Rattle.nz_spec.specs.Outside.{is_refusal};
 
-use crate::errors::Failed;
+use crate::errors::{Failed, Memory};
 use crate::outside::{Sink, Source};
-use std::io::{Read, Write};
+use std::alloc::Global;
+use std::io::{BufWriter, Read, Write};
 use std::marker::Model;
+
+/// How many bytes an output gathers before it hands them on.
+const BLOCK: usize = 8192;
 
 /// A reader as a source, which as a source tells nothing of its bytes. It keeps only whether it has failed, since the
 /// first fault ends a run.
@@ -64,30 +69,42 @@ impl<R: Read + Drop> Source for Input<R> {
     }
 }
 
-/// A writer as a sink, which as a sink tells nothing of its bytes. It keeps only whether it has failed, since the first
-/// fault ends a run.
+/// A writer as a sink, which as a sink tells nothing of its bytes. It gathers bytes in a block, which it hands on where
+/// that is full and at each flush. It keeps only whether it has failed, since the first fault ends a run.
 #[derive(Drop)]
 pub struct Output<W: Write + Drop> {
-    writer: W,
+    writer: BufWriter<W>,
     has_failed: bool,
 }
 
 impl<W: Write + Drop> Model for Output<W> {
     ghost use Rattle.nz_spec.specs.Outside.{Stream};
+    ghost use Rattle.std.specs.declared.alloc.Global.{Global};
+    ghost use Rattle.std.specs.declared.io.buffered.BufWriter.{BufWriter};
 
-    ghost Value = { Stream W };
+    ghost Value = { Stream (BufWriter W Global) };
 
     ghost view = { λ s. record { inner = s.writer; has_failed = s.has_failed } };
 }
 
 impl<W: Write + Drop> Output<W> {
-    /// A sink that writes to this writer.
-    pub fn new(writer: W) -> Self
-        ensures made { result ≡ record { inner = writer; has_failed = false } }
+    /// A sink that writes to this writer. Its block is all the memory that it takes.
+    ///
+    /// # Errors
+    ///
+    /// `Memory` where there is none for the block. Then the writer is dropped.
+    pub fn new(alloc: Global, writer: W) -> Result<Self, Memory>
+        ensures writer { IfOk result (λ o. writer_inner o.inner ≡ writer) }
+        ensures empty { IfOk result (λ o. writer_buffer o.inner ≡ []) }
+        ensures block { IfOk result (λ o. writer_capacity o.inner ≡ BLOCK) }
+        ensures sound { IfOk result (λ o. o.has_failed ≡ false) }
     {
-        Output {
-            writer,
-            has_failed: false,
+        match BufWriter::with_capacity(alloc, BLOCK, writer) {
+            Ok(writer) => Ok(Output {
+                writer,
+                has_failed: false,
+            }),
+            Err(_) => Err(Memory),
         }
     }
 }
@@ -108,7 +125,7 @@ impl<W: Write + Drop> Sink for Output<W> {
 
     fn write(&mut self, piece: &[u8]) -> Result<usize, Failed>
         ensures bound { WritesAtMost result piece.now }
-        ensures passed { WriteAppends (W.contents self.old.inner) (W.contents self.new.inner) result piece.now }
+        ensures passed { WriteAppends (writer_contents W.contents self.old.inner) (writer_contents W.contents self.new.inner) result piece.now }
         ensures flag { self.new.has_failed ≡ (self.old.has_failed || is_err result || is_refusal result piece.now) }
     {
         match self.writer.write(piece) {
@@ -126,7 +143,8 @@ impl<W: Write + Drop> Sink for Output<W> {
     }
 
     fn flush(&mut self) -> Result<(), Failed>
-        ensures passed { Keeps (W.contents self.old.inner) (W.contents self.new.inner) }
+        ensures passed { Keeps (writer_contents W.contents self.old.inner) (writer_contents W.contents self.new.inner) }
+        ensures none_left { OnOk result (writer_buffer self.new.inner ≡ []) }
         ensures flag { self.new.has_failed ≡ (self.old.has_failed || is_err result) }
     {
         match self.writer.flush() {

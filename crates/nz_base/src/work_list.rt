@@ -128,7 +128,8 @@ impl<T: Drop> Work<T> {
         self.lines[i as usize].lend()
     }
 
-    /// Takes the lines out, which leaves an empty list with limit 0. Takes no memory.
+    /// Takes the lines out, which leaves an empty list with limit 0. They keep no room beside their own, where a block of
+    /// that size can be had.
     pub fn take(&mut self) -> Lines<T>
         ensures lines { result ≡ self.old.lines }
         ensures left { self.new ≡ empty_work 0 }
@@ -136,6 +137,8 @@ impl<T: Drop> Work<T> {
         let none = Vec::new(*self.lines.allocator());
         self.units = 0;
         self.limit = 0;
-        Lines::new(mem::replace(&mut self.lines, none))
+        let mut lines = mem::replace(&mut self.lines, none);
+        lines.shrink_to_fit();
+        Lines::new(lines)
     }
 }

@@ -1,5 +1,5 @@
 -- The limits of pairs: their divisors are not 0, and one more pair leaves the lesser of what was there and its limit.
-use Rattle.std.proofs.Common.{◌≡◌, ℕ, ◌+◌, ◌<◌, Bool, true, false, refl, sym, ap, ap₂, ◌∙◌, subst, ℤ, pos, ◌*ℤ◌, ◌<ℤ◌, List, [], ◌∷◌, ◌++◌, map, length, drop, get_or, Some, None, Ordering, Less, Equal, Greater, is_lt, int_lt, int_le, not, arith, if◌then◌else◌, cond, drop-cons, add-one, append-nil, drop_of_length-le, ◌≤◌}
+use Rattle.std.proofs.Common.{◌≡◌, ℕ, Bool, true, false, refl, sym, ap, ◌∙◌, subst, ℤ, pos, ◌*ℤ◌, ◌<ℤ◌, List, [], ◌∷◌, ◌++◌, map, length, drop, Some, None, Ordering, Less, Equal, Greater, is_lt, int_lt, int_le, not, arith, if◌then◌else◌, cond, append-nil, drop_of_length-le, ◌≤◌}
 use Rattle.std.proofs.Math.IntN.{zero-*ℤ}
 use Rattle.std.proofs.lemmas.Int.{ints}
 use Rattle.nz_spec.specs.Fraction.{Fraction, denominator, whole, ◌=ℚ◌, ◌<ℚ◌, ◌+ℚ◌, neg_ℚ, fraction_cmp, fraction_lt, fraction_le, fraction_min, outcome, Difference, Operation, first_wide}
@@ -93,11 +93,6 @@ operations-free x h =
     ap (λ (b : Bool). first_wide (if b then limit_operations x ++ [] else [])) (limiting x false h)
 
 -- ---- one more pair
-
-pub next : (ps : List (Delta × Delta)) (i : ℕ) (x : Delta × Delta) → x ≡ get_or ps i x → i < length ps → drop i ps ≡ x ∷ drop (i + 1) ps
-next ps i x e h =
-    drop-cons ps i x h
-    ∙ ap₂ (λ (y : Delta × Delta) (rest : List (Delta × Delta)). y ∷ rest) (sym e) (ap (λ (j : ℕ). drop j ps) (sym (add-one i)))
 
 pub limits-cons : (x : Pair) (xs : List Pair) (e : Fraction) → least_from e (limits (x ∷ xs)) ≡ least_from (least_from e (limits (x ∷ []))) (limits xs)
 unfolding limits least_from

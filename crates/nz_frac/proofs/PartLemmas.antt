@@ -1,25 +1,19 @@
 -- From the parts of a `Frac` to its value and back: casts, signs, and what a number's denominator is.
-use Rattle.std.proofs.Common.{◌≡◌, ℕ, zero, suc, ◌*◌, ◌/◌, ◌<◌, ◌≤◌, Bool, true, false, ℤ, pos, negsuc, ◌-ℤ◌, neg_ℤ, unsigned_abs, int_lt, int_div, refl, arith, sym, ap, ap₂, ◌∙◌, to_z, of_z, le-ltb}
-use Rattle.std.proofs.lemmas.Int.{ints, to_z-of_z, to_z_pos, fits_signed_from_abs}
+use Rattle.std.proofs.Common.{◌≡◌, ℕ, ◌/◌, ◌<◌, ◌≤◌, Bool, true, false, ℤ, pos, negsuc, ◌-ℤ◌, neg_ℤ, unsigned_abs, int_lt, int_div, refl, arith, sym, ap, ap₂, ◌∙◌, to_z, of_z, le-ltb}
+use Rattle.std.proofs.lemmas.Int.{to_z_pos}
 use Rattle.std.specs.Int.{w128, ◌∣◌}
 use Rattle.std.proofs.Math.Nat.{div-mul_cancel}
+use Rattle.nz_ints.proofs.Sizes.{cast-back, factor_pos, unsigned_abs-neg, zero_minus}
 use Rattle.nz_spec.specs.Fraction.{Fraction, denominator, over, gcd, largest, neg_ℚ, reduce, IsNumber}
 use Rattle.nz_spec.proofs.FractionLaws.{denominator-over, reduce-lowest_is, IsLowest}
 use Rattle.nz_frac.specs.Parts.{AreParts, with_sign, value_of}
 
 -- ---- casts
 
--- a number from -M to M goes to its bits and back
-pub cast-back : (n : ℤ) → unsigned_abs n ≤ largest → to_z w128 (of_z w128 n) ≡ n
-cast-back n h = to_z-of_z w128 n (fits_signed_from_abs w128 n (omega arith))
-
 pub cast_natural : (n : ℕ) → n ≤ largest → to_z w128 n ≡ pos n
 cast_natural n h = to_z_pos w128 n (omega arith)
 
 -- ---- signs
-
-pub unsigned_abs-neg : (n : ℤ) → unsigned_abs (neg_ℤ n) ≡ unsigned_abs n
-unsigned_abs-neg n = omega (arith, ints)
 
 pub unsigned_abs-with_sign : (b : Bool) (n : ℕ) → unsigned_abs (with_sign b n) ≡ n
 unsigned_abs-with_sign true n = unsigned_abs-neg (pos n)
@@ -77,9 +71,6 @@ pub negated : (n : ℤ) → unsigned_abs n ≤ largest → to_z w128 (of_z w128 
 negated n h =
     let e : pos 0 -ℤ to_z w128 (of_z w128 n) ≡ neg_ℤ n = ap (λ (z : ℤ). pos 0 -ℤ z) (cast-back n h) ∙ zero_minus n in
     ap (λ (z : ℤ). to_z w128 (of_z w128 z)) e ∙ cast-back (neg_ℤ n) (rw (unsigned_abs-neg n) h)
-  where
-    zero_minus : (z : ℤ) → pos 0 -ℤ z ≡ neg_ℤ z
-    zero_minus z = omega (arith, ints)
 
 -- ---- what an operation answers
 
@@ -101,11 +92,7 @@ answers-from_over y a b n d en ed ey p l fa fb =
     }
 
 pub div_pos : (n s : ℕ) → s ∣ n → 0 < n → 0 < n / s
-div_pos n s h p = positive (n / s) s n (div-mul_cancel s h) p
-  where
-    positive : (m s n : ℕ) → m * s ≡ n → 0 < n → 0 < m
-    positive zero s n e p = absurd (omega arith)
-    positive (suc m) s n e p = omega arith
+div_pos n s h p = factor_pos (n / s) s n (div-mul_cancel s h) p
 
 -- ---- the parts of the value in lowest terms, which are those that the code has
 

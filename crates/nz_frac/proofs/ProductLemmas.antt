@@ -3,6 +3,9 @@ use Rattle.std.proofs.Common.{◌≡◌, ℕ, zero, suc, ◌*◌, ◌/◌, ◌<�
 use Rattle.std.proofs.Math.Nat.{dvd-mul_left, zero-div}
 use Rattle.std.specs.Int.{◌∣◌, w128}
 use Rattle.std.proofs.lemmas.Int.{unsigned_abs-mul, ints}
+use Rattle.std.proofs.lemmas.Bool.{or_from, or_parts}
+use Rattle.nz_ints.proofs.Products.{mul-one}
+use Rattle.nz_ints.proofs.Sizes.{abs_pos, cast-back, unsigned_abs-neg}
 use Rattle.nz_ints.proofs.Ring.{Atom, ◌⊗◌, Minus, solve}
 use Rattle.nz_ints.proofs.Divisors.{gcd-dvd_left, gcd-dvd_right, gcd_comm, gcd_pos, gcd-one, gcd-left, gcd-right, coprime-rests, coprime-mul, coprime-dvd}
 use Rattle.nz_ints.proofs.Rounding.{int_div-mul_cancel, unsigned_abs-int_div}
@@ -10,8 +13,8 @@ use Rattle.nz_spec.specs.Fraction.{Fraction, denominator, over, whole, gcd, larg
 use Rattle.nz_spec.proofs.FractionArithmetic.{numerator-product, denominator-product}
 use Rattle.nz_spec.proofs.FractionLaws.{denominator_pos, denominator-over, numerator-over, reduce-is, reduce-lowest, IsLowest}
 use Rattle.nz_frac.specs.Parts.{AreParts, value_of, with_sign, differ}
-use Rattle.nz_frac.proofs.PartLemmas.{cast-back, with_sign-div, unsigned_abs-neg, unsigned_abs-with_sign, den_is, num_is, lowest-from_parts, number-from_parts, Answers, answers-from_over, div_pos}
-use Rattle.nz_frac.proofs.SumLemmas.{or_left, or_right, or_false, within, exceeds-within, reduce-over}
+use Rattle.nz_frac.proofs.PartLemmas.{with_sign-div, unsigned_abs-with_sign, den_is, num_is, lowest-from_parts, number-from_parts, Answers, answers-from_over, div_pos}
+use Rattle.nz_frac.proofs.SumLemmas.{within, exceeds-within, reduce-over}
 
 -- ---- the parts of the product, as the code computes them
 
@@ -161,14 +164,14 @@ pub fits-from_wide : (p q : Fraction) → IsLowest p → IsLowest q → IsFalse 
 fits-from_wide p q h k w =
     let all : (exceeds (size p q) || exceeds (den p q)) ≡ false = sym (wide_is p q h k) ∙ w in
     record {
-      size_fits = within (size p q) (or_left (exceeds (size p q)) (exceeds (den p q)) all);
-      den_fits = within (den p q) (or_right (exceeds (size p q)) (exceeds (den p q)) all);
+      size_fits = within (size p q) (or_parts (exceeds (size p q)) (exceeds (den p q)) all).0;
+      den_fits = within (den p q) (or_parts (exceeds (size p q)) (exceeds (den p q)) all).1;
     }
 
 pub wide-from_fits : (p q : Fraction) → IsLowest p → IsLowest q → Fits p q → IsFalse (is_wide_product p q)
 wide-from_fits p q h k f =
     wide_is p q h k
-    ∙ or_false (exceeds (size p q)) (exceeds (den p q)) (exceeds-within (size p q) f.size_fits) (exceeds-within (den p q) f.den_fits)
+    ∙ or_from (exceeds (size p q)) (exceeds (den p q)) (exceeds-within (size p q) f.size_fits) (exceeds-within (den p q) f.den_fits)
 
 -- ---- n / d in lowest terms
 
@@ -183,13 +186,10 @@ whole-product n m (suc d) p = ap (λ (k : ℕ). over (n *ℤ m) k) (one_times (s
 times_minus_one : (n : ℤ) → n *ℤ negsuc 0 ≡ neg_ℤ n
 times_minus_one n = omega (arith, ints)
 
-times_one : (n : ℤ) → n *ℤ pos 1 ≡ n
-times_one n = omega (arith, ints)
-
 quotient_pos : (n : ℤ) (k : ℕ) → whole n /ℚ whole (pos (suc k)) ≡ over n (suc k)
 unfolding ◌/ℚ◌ reciprocal flipped
 quotient_pos n k =
-    whole-product n (pos 1) (suc k) (omega arith) ∙ ap (λ (m : ℤ). over m (suc k)) (times_one n)
+    whole-product n (pos 1) (suc k) (omega arith) ∙ ap (λ (m : ℤ). over m (suc k)) (mul-one n)
 
 quotient_neg : (n : ℤ) (k : ℕ) → whole n /ℚ whole (negsuc k) ≡ over (neg_ℤ n) (suc k)
 unfolding ◌/ℚ◌ reciprocal flipped
@@ -313,11 +313,6 @@ ratio_at n d {i} {j} {g} {s} {e} h ei ej eg es ee =
           ∙ ap₂ (λ (u v : ℕ). over (with_sign (differ (int_lt n (pos 0)) (int_lt d (pos 0))) u) v) (sym fs) (sym fe);
       positive = rw fe (div_pos (unsigned_abs d) (gcd (unsigned_abs n) (unsigned_abs d)) (gcd-dvd_right (unsigned_abs n) (unsigned_abs d)) (abs_pos d h));
     }
-  where
-    abs_pos : (z : ℤ) → (z ≡ pos 0 → ⊥) → 0 < unsigned_abs z
-    abs_pos (pos zero) h = absurd (h refl)
-    abs_pos (pos (suc k)) h = omega arith
-    abs_pos (negsuc k) h = omega arith
 
 pub divisor_pos : (d : ℤ) (i j g : ℕ) → (d ≡ pos 0 → ⊥) → j ≡ unsigned_abs d → g ≡ gcd i j → 0 < g
 divisor_pos (pos zero) i j g h ej eg = absurd (h refl)

@@ -2,11 +2,12 @@
 use Rattle.std.proofs.Common.{◌≡◌, ℕ, zero, suc, ◌-◌, ◌/◌, ◌<◌, ◌≤◌, Bool, true, false, ℤ, pos, negsuc, ◌-ℤ◌, neg_ℤ, unsigned_abs, int_lt, refl, arith, sym, ap, ap₂, ◌∙◌, to_z, of_z, le-ltb, div-one, div-le_self, le_trans}
 use Rattle.std.specs.Int.{w128}
 use Rattle.std.proofs.lemmas.Int.{ints}
+use Rattle.nz_ints.proofs.Sizes.{abs_pos, cast-back, unsigned_abs-neg, zero_minus}
 use Rattle.nz_ints.proofs.Divisors.{gcd-one, gcd_comm}
 use Rattle.nz_spec.specs.Fraction.{Fraction, denominator, over, whole, gcd, largest, neg_ℚ, floor_div, floor, ceiling, flipped, reciprocal}
 use Rattle.nz_spec.proofs.FractionLaws.{denominator-over, numerator-over}
 use Rattle.nz_frac.specs.Parts.{AreParts, value_of, with_sign}
-use Rattle.nz_frac.proofs.PartLemmas.{cast-back, cast_natural, unsigned_abs-neg, unsigned_abs-with_sign, den_is, num_is, Answers, answers-from_over}
+use Rattle.nz_frac.proofs.PartLemmas.{cast_natural, unsigned_abs-with_sign, den_is, num_is, Answers, answers-from_over}
 
 -- ---- integers
 
@@ -72,9 +73,6 @@ minus_and_one q h =
     ∙ ap (λ (z : ℤ). to_z w128 (of_z w128 z)) (one_less q)
     ∙ cast-back (negsuc q) h
   where
-    zero_minus : (z : ℤ) → pos 0 -ℤ z ≡ neg_ℤ z
-    zero_minus z = omega (arith, ints)
-
     one_less : (q : ℕ) → neg_ℤ (pos q) -ℤ pos 1 ≡ negsuc q
     one_less q = omega (arith, ints)
 
@@ -98,11 +96,6 @@ reciprocal-parts (pos zero) (suc k) p h = absurd (h refl)
 reciprocal-parts (pos (suc m)) (suc k) p h =
     ap (λ (b : Bool). over (with_sign b (suc k)) (suc m)) (sym (le-ltb (suc m) 0 (omega arith)))
 reciprocal-parts (negsuc m) (suc k) p h = refl
-
-abs_pos : (n : ℤ) → (n ≡ pos 0 → ⊥) → 0 < unsigned_abs n
-abs_pos (pos zero) h = absurd (h refl)
-abs_pos (pos (suc k)) h = omega arith
-abs_pos (negsuc k) h = omega arith
 
 pub reciprocal_answers : {n r : ℤ} {d i : ℕ} {q : Fraction} → AreParts n d → value_of n d ≡ q → (q.numerator ≡ pos 0 → ⊥) → i ≡ unsigned_abs (to_z w128 (of_z w128 n)) → r ≡ with_sign (int_lt (to_z w128 (of_z w128 n)) (pos 0)) d → Answers (reciprocal q) r i
 reciprocal_answers {n} {r} {d} {i} {q} s v h ei er =

@@ -1,8 +1,11 @@
 -- The sum over the least common multiple of the denominators, in lowest terms once a common divisor of the two is taken out.
-use Rattle.std.proofs.Common.{◌≡◌, ℕ, zero, suc, ◌*◌, ◌/◌, ◌<◌, ◌≤◌, Bool, true, false, ◌||◌, IsFalse, [], ◌∷◌, ℤ, pos, ◌+ℤ◌, ◌-ℤ◌, ◌*ℤ◌, neg_ℤ, unsigned_abs, int_div, refl, arith, sym, ap, ap₂, ◌∙◌, subst, mul_comm, mul-pos, ltb-false, le-ltb, le_trans, div-le_self, div-one, negsuc, to_z, of_z}
+use Rattle.std.proofs.Common.{◌≡◌, ℕ, zero, suc, ◌*◌, ◌/◌, ◌<◌, ◌≤◌, false, ◌||◌, IsFalse, [], ◌∷◌, ℤ, pos, ◌+ℤ◌, ◌-ℤ◌, ◌*ℤ◌, neg_ℤ, unsigned_abs, int_div, refl, arith, sym, ap, ap₂, ◌∙◌, subst, mul_comm, mul-pos, ltb-false, le-ltb, le_trans, div-le_self, div-one, negsuc, to_z, of_z}
 use Rattle.std.proofs.Math.Nat.{dvd-mul_left, dvd-mul_left_of_dvd, eq-one_of_dvd-one}
 use Rattle.std.specs.Int.{◌∣◌, w128}
 use Rattle.std.proofs.lemmas.Int.{unsigned_abs-mul, ints}
+use Rattle.std.proofs.lemmas.Bool.{or_from, or_parts}
+use Rattle.nz_ints.proofs.Products.{mul-one}
+use Rattle.nz_ints.proofs.Sizes.{cast-back}
 use Rattle.nz_ints.proofs.Ring.{Atom, ◌⊕◌, ◌⊗◌, Minus, solve}
 use Rattle.nz_ints.proofs.Divisors.{gcd-dvd_left, gcd-dvd_right, dvd-gcd, gcd_comm, gcd_pos, gcd-one, gcd-left, gcd-right, coprime-rests, coprime-mul, coprime-dvd, gcd-mul_coprime}
 use Rattle.nz_ints.proofs.Multiples.{lcm-div_left, lcm-div_right}
@@ -11,7 +14,7 @@ use Rattle.nz_spec.specs.Fraction.{Fraction, denominator, over, gcd, lcm, larges
 use Rattle.nz_spec.proofs.FractionArithmetic.{numerator-sum, denominator-sum}
 use Rattle.nz_spec.proofs.FractionLaws.{denominator_pos, denominator-over, numerator-over, reduce-alike, reduce-lowest, IsLowest}
 use Rattle.nz_frac.specs.Parts.{AreParts, value_of}
-use Rattle.nz_frac.proofs.PartLemmas.{cast-back, den_is, num_is, lowest-from_parts, Answers, answers-from_over, div_pos}
+use Rattle.nz_frac.proofs.PartLemmas.{den_is, num_is, lowest-from_parts, Answers, answers-from_over, div_pos}
 
 -- ---- the parts of the sum, as the code computes them
 
@@ -58,18 +61,6 @@ wide_is p q =
     e
     f
 
-pub or_left : (a b : Bool) → (a || b) ≡ false → a ≡ false
-or_left true b h = h
-or_left false b h = refl
-
-pub or_right : (a b : Bool) → (a || b) ≡ false → b ≡ false
-or_right true b h = absurd (cc)
-or_right false b h = h
-
-pub or_false : (a b : Bool) → a ≡ false → b ≡ false → (a || b) ≡ false
-or_false true b h k = h
-or_false false b h k = k
-
 pub within : (n : ℕ) → exceeds n ≡ false → n ≤ largest
 within n h = ltb-false largest n h
 
@@ -83,13 +74,14 @@ fits-from_wide p q h =
     let r = exceeds (unsigned_abs (right p q)) in
     let t = exceeds (unsigned_abs (top p q)) in
     let all : (m || l || r || t) ≡ false = sym (wide_is p q) ∙ h in
-    let three = or_left (m || l || r) t all in
-    let two = or_left (m || l) r three in
+    let last = or_parts (m || l || r) t all in
+    let three = or_parts (m || l) r last.0 in
+    let two = or_parts m l three.0 in
     record {
-      multiple_fits = within (multiple p q) (or_left m l two);
-      left_fits = within (unsigned_abs (left p q)) (or_right m l two);
-      right_fits = within (unsigned_abs (right p q)) (or_right (m || l) r three);
-      top_fits = within (unsigned_abs (top p q)) (or_right (m || l || r) t all);
+      multiple_fits = within (multiple p q) two.0;
+      left_fits = within (unsigned_abs (left p q)) two.1;
+      right_fits = within (unsigned_abs (right p q)) three.1;
+      top_fits = within (unsigned_abs (top p q)) last.1;
     }
 
 pub wide-from_fits : (p q : Fraction) → Fits p q → IsFalse (is_wide_sum p q)
@@ -99,9 +91,9 @@ wide-from_fits p q h =
     let r = exceeds (unsigned_abs (right p q)) in
     let t = exceeds (unsigned_abs (top p q)) in
     wide_is p q
-    ∙ or_false (m || l || r) t
-    (or_false (m || l) r
-    (or_false m l (exceeds-within (multiple p q) h.multiple_fits) (exceeds-within (unsigned_abs (left p q)) h.left_fits))
+    ∙ or_from (m || l || r) t
+    (or_from (m || l) r
+    (or_from m l (exceeds-within (multiple p q) h.multiple_fits) (exceeds-within (unsigned_abs (left p q)) h.left_fits))
     (exceeds-within (unsigned_abs (right p q)) h.right_fits))
     (exceeds-within (unsigned_abs (top p q)) h.top_fits)
 
@@ -370,13 +362,10 @@ found_whole {p} {q} {a} {c} {b} {d} s v t w eb ed =
     let one : 1 ≡ gcd b d = sym (ap₂ (λ (i j : ℕ). gcd i j) eb ed ∙ gcd-one 1) in
     at s v t w one (ap (λ (i : ℕ). i / 1) (sym eb)) (ap (λ (i : ℕ). i / 1) (sym ed))
 
-times_one : (z : ℤ) → z *ℤ pos 1 ≡ z
-times_one z = omega (arith, ints)
-
 -- the sum of the numerators is all there is to it
 pub whole_top : {p q : Fraction} {a c : ℤ} {d : ℕ} → At p q a c d 1 1 1 → a +ℤ c ≡ top p q
 whole_top {p} {q} {a} {c} h =
-    ap₂ (λ (i j : ℤ). i +ℤ j) (sym (times_one a) ∙ left_at h) (sym (times_one c) ∙ right_at h)
+    ap₂ (λ (i j : ℤ). i +ℤ j) (sym (mul-one a) ∙ left_at h) (sym (mul-one c) ∙ right_at h)
 
 pub no_whole_top : {p q : Fraction} {a c : ℤ} {d : ℕ} → At p q a c d 1 1 1 → (unsigned_abs (a +ℤ c) ≤ largest → ⊥) → IsFalse (is_wide_sum p q) → ⊥
 no_whole_top {p} {q} h none f = none (rw (whole_top h) (fits-from_wide p q f).top_fits)
@@ -387,8 +376,8 @@ found_top {p} {q} {a} {c} {d} h ed fa fc t s =
     record {
       fits = record {
         multiple_fits = rw (← k) (omega arith);
-        left_fits = rw (← left_at h) (rw (times_one a) fa);
-        right_fits = rw (← right_at h) (rw (times_one c) fc);
+        left_fits = rw (← left_at h) (rw (mul-one a) fa);
+        right_fits = rw (← right_at h) (rw (mul-one c) fc);
         top_fits = rw (← whole_top h) s.0;
       };
       top_is = s.1 ∙ whole_top h;

@@ -148,10 +148,15 @@ impl Frac {
     pub fn whole(n: i64) -> Frac
         ensures { result ≡ whole n }
     {
-        Frac {
-            num: n as i128,
-            den: 1,
-        }
+        Frac::integer(n as i128)
+    }
+
+    /// An integer from -M to M.
+    pub fn integer(n: i128) -> Frac
+        requires fits { unsigned_abs n ≤ largest }
+        ensures value { result ≡ whole n }
+    {
+        Frac { num: n, den: 1 }
     }
 
     /// The numerator in lowest terms, from -M to M.

@@ -3,3 +3,4 @@ pub mod Multiples
 pub mod Products
 pub mod Ring
 pub mod Rounding
+pub mod Sizes

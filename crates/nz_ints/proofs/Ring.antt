@@ -3,6 +3,7 @@
 use Rattle.std.proofs.Common.{◌≡◌, ℕ, zero, suc, Bool, true, false, ◌&&◌, eqb, leb, List, [], ◌∷◌, ℤ, pos, negsuc, ◌+ℤ◌, ◌-ℤ◌, ◌*ℤ◌, neg_ℤ, refl, arith, sym, ap, ap₂, ◌∙◌, true≢false, eqb-true}
 use Rattle.std.proofs.Math.IntN.{*ℤ_comm, +ℤ_comm, +ℤ_assoc, zero-*ℤ, *ℤ-zero, +ℤ_idl}
 use Rattle.std.proofs.lemmas.Int.{ints}
+use Rattle.std.proofs.lemmas.Bool.{and_parts}
 use Rattle.nz_ints.proofs.Products.{mul_assoc, mul-add, add-mul, mul-one, one-mul, minus_one-mul}
 
 -- ---- expressions
@@ -120,20 +121,12 @@ join-product xs (i ∷ m) n =
     ∙ ap (λ (z : ℤ). atom_at xs i *ℤ z) (join-product xs m n)
     ∙ sym (mul_assoc (atom_at xs i) (product xs m) (product xs n))
 
-and_left : (a b : Bool) → (a && b) ≡ true → a ≡ true
-and_left true b e = refl
-and_left false b e = e
-
-and_right : (a b : Bool) → (a && b) ≡ true → b ≡ true
-and_right true b e = e
-and_right false b e = absurd (true≢false (sym e))
-
 same-equal : (m n : List ℕ) → same m n ≡ true → m ≡ n
 same-equal [] [] e = refl
 same-equal [] (j ∷ n) e = absurd (true≢false (sym e))
 same-equal (i ∷ m) [] e = absurd (true≢false (sym e))
 same-equal (i ∷ m) (j ∷ n) e =
-    ap₂ (λ (k : ℕ) (l : List ℕ). k ∷ l) (eqb-true i j (and_left (eqb i j) (same m n) e)) (same-equal m n (and_right (eqb i j) (same m n) e))
+    ap₂ (λ (k : ℕ) (l : List ℕ). k ∷ l) (eqb-true i j (and_parts (eqb i j) (same m n) e).0) (same-equal m n (and_parts (eqb i j) (same m n) e).1)
 
 add_where-total : (b : Bool) (xs : List ℤ) (c d : ℤ) (m n : List ℕ) (p later : Polynomial) → same m n ≡ b → total xs later ≡ c *ℤ product xs m +ℤ total xs p → total xs (add_where b c d n p later) ≡ c *ℤ product xs m +ℤ (d *ℤ product xs n +ℤ total xs p)
 add_where-total true xs c d m n p later t e =
@@ -198,9 +191,9 @@ vanishes-total : (xs : List ℤ) (p : Polynomial) → vanishes p ≡ true → to
 vanishes-total xs End e = refl
 vanishes-total xs (More c m p) e =
     rw (
-      zero-from_is_zero c (and_left (is_zero c) (vanishes p) e),
+      zero-from_is_zero c (and_parts (is_zero c) (vanishes p) e).0,
       zero-*ℤ (product xs m),
-      vanishes-total xs p (and_right (is_zero c) (vanishes p) e),
+      vanishes-total xs p (and_parts (is_zero c) (vanishes p) e).1,
     )
     refl
 

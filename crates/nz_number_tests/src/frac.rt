@@ -44,6 +44,14 @@ fn makes_numbers_alone(rt: HostRuntime) -> Result<(), Fail> {
 }
 
 #[test]
+fn makes_integers(rt: HostRuntime) -> Result<(), Fail> {
+    assert_eq!(rt; parts(Frac::integer(M)), (M, 1));
+    assert_eq!(rt; parts(Frac::integer(-M)), (-M, 1));
+    assert_eq!(rt; parts(Frac::whole(i64::MIN)), (i64::MIN as i128, 1));
+    Ok(())
+}
+
+#[test]
 fn adds_up_to_the_edge(rt: HostRuntime) -> Result<(), Fail> {
     assert_eq!(rt; sum((1, 2), (1, 3))?, Some((5, 6)));
     assert_eq!(rt; sum((1, 6), (1, 3))?, Some((1, 2)));

@@ -1,6 +1,6 @@
 -- A text with each quote twice, run by run.
-use Rattle.std.proofs.Common.{◌≡◌, ℕ, ◌+◌, ◌-◌, ◌<◌, ◌≤◌, ◌==◌, Bool, false, List, [], ◌∷◌, ◌++◌, length, get_or, take, drop, if◌then◌else◌, refl, sym, ap, ◌∙◌, append-nil, append_assoc, arith, drop-cons, add-one}
-use Rattle.std.proofs.lemmas.List.{take_more, get_or-drop, length-drop, take_all, drop_all}
+use Rattle.std.proofs.Common.{◌≡◌, ℕ, ◌+◌, ◌-◌, ◌<◌, ◌≤◌, ◌==◌, Bool, false, List, [], ◌∷◌, ◌++◌, length, get_or, take, drop, if◌then◌else◌, sym, ap, ◌∙◌, append-nil, append_assoc, arith}
+use Rattle.std.proofs.lemmas.List.{take_more, get_or-drop, length-drop, take_all, drop_all, drop_more}
 use Rattle.nz_spec.specs.Text.{with_quotes_doubled}
 
 -- the run from its start up to a place
@@ -16,10 +16,6 @@ run_more bytes start index d before below =
     ap (λ (n : ℕ). take n (drop start bytes)) size
     ∙ take_more (drop start bytes) (index - start) d within
     ∙ ap (λ (b : ℕ). run bytes start index ++ b ∷ []) (get_or-drop start bytes (index - start) d ∙ ap (λ (i : ℕ). get_or bytes i d) place)
-
--- the bytes from a place on
-bytes_from : (bytes : List ℕ) (index d : ℕ) → index < length bytes → drop index bytes ≡ get_or bytes index d ∷ drop (index + 1) bytes
-bytes_from bytes index d below = rw (add-one, drop-cons bytes index d) refl
 
 -- what is still to be written where the run has come to a place
 abbrev pub rest_of_run : List ℕ → ℕ → ℕ → List ℕ
@@ -37,7 +33,7 @@ pub run_on : (bytes : List ℕ) (start index d : ℕ) → start ≤ index → in
 run_on bytes start index d before below plain =
     let b : ℕ = get_or bytes index d in
     let more : List ℕ = with_quotes_doubled (drop (index + 1) bytes) in
-    ap (λ (l : List ℕ). run bytes start index ++ l) (ap with_quotes_doubled (bytes_from bytes index d below) ∙ plain_byte b (drop (index + 1) bytes) plain)
+    ap (λ (l : List ℕ). run bytes start index ++ l) (ap with_quotes_doubled (drop_more bytes index d below) ∙ plain_byte b (drop (index + 1) bytes) plain)
     ∙ sym (append_assoc (run bytes start index) (b ∷ []) more)
     ∙ ap (λ (l : List ℕ). l ++ more) (sym (run_more bytes start index d before below))
 
@@ -54,7 +50,7 @@ run_ends bytes start index d before below is =
     let more : List ℕ = with_quotes_doubled (drop (index + 1) bytes) in
     let ended : run bytes start (index + 1) ≡ run bytes start index ++ 34 ∷ [] = run_more bytes start index d before below ∙ ap (λ (b : ℕ). run bytes start index ++ b ∷ []) is in
     let begun : run bytes index (index + 1) ≡ 34 ∷ [] = run_of_one bytes index d below ∙ ap (λ (b : ℕ). b ∷ []) is in
-    ap (λ (l : List ℕ). run bytes start index ++ l) (ap with_quotes_doubled (bytes_from bytes index d below) ∙ quote_byte (get_or bytes index d) (drop (index + 1) bytes) is)
+    ap (λ (l : List ℕ). run bytes start index ++ l) (ap with_quotes_doubled (drop_more bytes index d below) ∙ quote_byte (get_or bytes index d) (drop (index + 1) bytes) is)
     ∙ sym (append_assoc (run bytes start index) (34 ∷ []) (34 ∷ more))
     ∙ ap (λ (l : List ℕ). l ++ (34 ∷ more)) (sym ended)
     ∙ ap (λ (l : List ℕ). run bytes start (index + 1) ++ (l ++ more)) (sym begun)

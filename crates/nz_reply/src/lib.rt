@@ -6,8 +6,6 @@ mod number;
 mod reply;
 mod spelling;
 mod symbol;
-#[cfg(test)]
-mod tests;
 mod text;
 mod tree;
 mod write;

@@ -2,6 +2,7 @@
 use Rattle.std.proofs.Common.{◌≡◌, inl, ℕ, ◌≤◌, Bool, true, false, List, [], ◌∷◌, length, map, take, Option, Some, None, Result, IfOk, option_map, refl, sym, ap, ◌∙◌, subst, arith, length-take, append-nil}
 use Rattle.std.specs.Prelude.{⊤, if◌then◌else◌}
 use Rattle.std.proofs.lemmas.List.{take-take}
+use Rattle.nz_lists.proofs.Fronts.{front_of_more}
 use Rattle.nz_spec.specs.Tree.{Tree}
 use Rattle.nz_spec.specs.Text.{intact}
 use Rattle.nz_spec.specs.Term.{Term}
@@ -9,14 +10,15 @@ use Rattle.nz_spec.specs.Table.{Node, term_in}
 use Rattle.nz_spec.specs.Decide.{asserted_terms, IsFrontOfTable}
 use Rattle.nz_spec.specs.Model.{IsUnsatisfiable}
 use Rattle.nz_spec.specs.Live.{LastAnswer, model_found, State, Options}
-use Rattle.nz_spec.specs.Command.{Command, declare_const, define, assert_term, check_sat, get_model, get_value, get_info, get_levels, get_reason, set_print_success, no_effect, echo, exit, accepted}
+use Rattle.nz_spec.specs.Command.{Command, Info, declare_const, define, assert_term, check_sat, get_model, get_value, get_info, get_levels, get_reason, set_print_success, no_effect, echo, exit, accepted}
 use Rattle.nz_spec.specs.Script.{outcome_of}
 use Rattle.nz_spec.specs.Reply.{Reply, quiet, success, sat, unsat, unknown, model, values, info, levels as levels_reply, reason, echoed, unsupported, error, Cause, plain}
 use Rattle.nz_spec.specs.Right.{Context, done, IsRightCheck, IsRightCommand, IsRightOutcome, IsRight, IsExit, last_after, effect, effect_of, after}
 use Rattle.nz_sort.specs.Live.{Standing, IsLive, IsChange}
 use Rattle.nz_session.specs.Told.{IsTold}
 use Rattle.nz_reply.specs.Replies.{reply_of, cause_of, IsCauseWithin}
-use Rattle.nz_session.specs.Desk.{last_of, BindsConstants, Holds, IsAnswer}
+use Rattle.nz_session.specs.Desk.{last_of, BindsConstants, KeepsValues, Holds, IsAnswer}
+use Rattle.nz_session.proofs.ValuesKept.{values_stay}
 use Rattle.nz_session.specs.Verdicts.{OnUnsat}
 use Rattle.nz_session.specs.declared.decide.Verdict.{Verdict}
 use Rattle.nz_session.specs.declared.decide.Stop.{Stop}
@@ -26,14 +28,9 @@ use Rattle.nz_session.specs.declared.desk.LastAnswer as shown
 use Rattle.nz_reply.specs.declared.reply.Reply as said
 use Rattle.nz_reply.specs.declared.reply.Cause.TheVariants as why
 
--- ---- What is a front stays one where more comes
+-- ---- Assertions that were told
 
-pub front_of_more : {T : Type 0} (front old new : List T) → take (length front) old ≡ front → take (length old) new ≡ old → take (length front) new ≡ front
-front_of_more front old new e f =
-    let long : length front ≤ length old = omega (arith, ap length e, length-take (length front) old) in
-    sym (take-take (length front) (length old) new long) ∙ ap (take (length front)) f ∙ e
-
--- so the assertions that were told
+-- they stay where more comes
 told_of_more : (levels : List (List ℕ)) (told : Option ℕ) (old new : List ℕ) → take (length old) new ≡ old → IsTold levels told old → IsTold levels told new
 told_of_more levels None old new e h = h
 told_of_more levels (Some n) old new e h =
@@ -117,7 +114,7 @@ module _ {E : Type 0} (levels : E → List (List ℕ)) (table : E → List Node)
   -- nothing that is held is of the states before
   pub holds_next : (desk : Desk E) (c : Context) → Holds levels table desk c → Holds levels table desk (next c c.state)
   holds_next desk c h =
-      record { live = h.live; told = h.told; front = h.front; last = h.last; bound = h.bound; success = h.success; bounded = h.bounded }
+      record { live = h.live; told = h.told; front = h.front; last = h.last; bound = h.bound; values = h.values; success = h.success; bounded = h.bounded }
 
   -- the desk holds the context where what stands is another that stands for its state
   holds_kept : (old : Desk E) (c : Context) (ns : List Node) (l : Standing) → Holds levels table old c → GoesOn old ns l → IsLive ns l c.state
@@ -129,6 +126,7 @@ module _ {E : Type 0} (levels : E → List (List ℕ)) (table : E → List Node)
         front = front_of_more (table old.engine) old.terms ns h.front on.terms;
         last = h.last;
         bound = h.bound;
+        values = values_stay old.terms ns old.last on.terms h.values;
         success = h.success;
         bounded = h.bounded;
       }
@@ -148,6 +146,7 @@ module _ {E : Type 0} (levels : E → List (List ℕ)) (table : E → List Node)
         front = front_of_more (table old.engine) old.terms ns h.front on.terms;
         last = h.last;
         bound = binds_still c.state.last c.state c.state.last c.state.last c.state.options (record { prints_success = b }) h.bound;
+        values = values_stay old.terms ns old.last on.terms h.values;
         success = refl;
         bounded = h.bounded;
       }
@@ -162,6 +161,7 @@ module _ {E : Type 0} (levels : E → List (List ℕ)) (table : E → List Node)
         front = front_of_more (table old.engine) old.terms ns h.front on.terms;
         last = sym none;
         bound = subst (λ (o : Option LastAnswer). BindsConstants o s) (sym none) tt;
+        values = tt;
         success = h.success ∙ ap (λ (o : Options). o.prints_success) (sym same);
         bounded = h.bounded;
       }
@@ -213,6 +213,12 @@ goes_on_after_levels e = cc
 
 pub goes_on_after_setting : (b : Bool) → set_print_success b ≡ exit → ⊥
 goes_on_after_setting b e = cc
+
+pub goes_on_after_info : (i : Info) → get_info i ≡ exit → ⊥
+goes_on_after_info i e = cc
+
+pub goes_on_after_echo : (bytes : List ℕ) → echo bytes ≡ exit → ⊥
+goes_on_after_echo bytes e = cc
 
 pub goes_on_after_nothing : no_effect ≡ exit → ⊥
 goes_on_after_nothing e = cc
@@ -300,9 +306,9 @@ module _ {E : Type 0} (levels : E → List (List ℕ)) (table : E → List Node)
   -- the desk holds what it held before the check, but for what the last answer was
   checked_answer : (c : Context) (t : Tree) (answer : Answer) (desk : Desk E) (last : Option shown.LastAnswer) → Holds levels table (record desk { last = last }) c
       → answer.exits ≡ false → outcome_of c.state t ≡ accepted (check_sat []) → option_map last_of desk.last ≡ last_after (reply_of (intact t) answer.reply)
-      → IsRightCheck c [] (reply_of (intact t) answer.reply) (cause_of desk.terms answer.cause) → IsCauseWithin desk.terms answer.cause
+      → IsRightCheck c [] (reply_of (intact t) answer.reply) (cause_of desk.terms answer.cause) → IsCauseWithin desk.terms answer.cause → KeepsValues desk.terms desk.last
       → IsAnswer levels table c (intact t) answer desk
-  checked_answer c t answer desk last h stays e told right within =
+  checked_answer c t answer desk last h stays e told right within keeps =
       let r = reply_of (intact t) answer.reply in
       let w = cause_of desk.terms answer.cause in
       let kept : Holds levels table desk (next c (effect c.state (check_sat []) r)) =
@@ -312,6 +318,7 @@ module _ {E : Type 0} (levels : E → List (List ℕ)) (table : E → List Node)
         front = h.front;
         last = told;
         bound = binds_still (last_after r) c.state c.state.last (last_after r) c.state.options c.state.options (bound_after c r w right);
+        values = keeps;
         success = h.success;
         bounded = h.bounded;
       } in
@@ -320,6 +327,6 @@ module _ {E : Type 0} (levels : E → List (List ℕ)) (table : E → List Node)
 
   pub checked : (c : Context) (t : Tree) (q : said.Reply) (answer : Answer) (desk : Desk E) (last : Option shown.LastAnswer) → answer ≡ plainly q
       → Holds levels table (record desk { last = last }) c → outcome_of c.state t ≡ accepted (check_sat []) → option_map last_of desk.last ≡ last_after (reply_of (intact t) q)
-      → IsRightCheck c [] (reply_of (intact t) q) plain → IsAnswer levels table c (intact t) answer desk
-  checked c t q answer desk last is h e told right =
-      subst (λ (a : Answer). IsAnswer levels table c (intact t) a desk) (sym is) (checked_answer c t (plainly q) desk last h refl e told right tt)
+      → IsRightCheck c [] (reply_of (intact t) q) plain → KeepsValues desk.terms desk.last → IsAnswer levels table c (intact t) answer desk
+  checked c t q answer desk last is h e told right keeps =
+      subst (λ (a : Answer). IsAnswer levels table c (intact t) a desk) (sym is) (checked_answer c t (plainly q) desk last h refl e told right tt keeps)

@@ -1,13 +1,15 @@
 -- The model of the live constants that is made of the values that a search gave.
-use Rattle.std.proofs.Common.{◌≡◌, inl, inr, ℕ, zero, suc, ◌+◌, ◌<◌, ◌≤◌, Bool, true, false, ◌&&◌, ◌||◌, IsTrue, List, [], ◌∷◌, ◌++◌, length, map, drop, Option, Some, None, option_map, refl, sym, ap, ◌∙◌, subst, get_or, true≢false, add-one, append-nil, append_assoc}
-use Rattle.std.specs.Prelude.{◌⊎◌, slice_get, bytes_eq, pos, unwrap_or, if◌then◌else◌}
+use Rattle.std.proofs.Common.{◌≡◌, inl, inr, ℕ, zero, suc, ◌+◌, ◌<◌, ◌≤◌, Bool, true, false, ◌||◌, IsTrue, List, [], ◌∷◌, ◌++◌, length, map, drop, Option, Some, None, option_map, refl, sym, ap, ◌∙◌, subst, get_or, true≢false, add-one, append-nil, append_assoc}
+use Rattle.std.specs.Prelude.{slice_get, bytes_eq, pos, unwrap_or, if◌then◌else◌}
 use Rattle.std.specs.List.{AllByRecursion, list_any}
 use Rattle.std.proofs.lemmas.Slice.Eq.{bytes_eq-Decides}
 use Rattle.std.proofs.lemmas.List.Folds.{list_any-append}
 use Rattle.std.proofs.lemmas.List.Elements.{recursion_from_All}
 use Rattle.std.proofs.Math.Path.{fun_ext}
 use Rattle.std.proofs.Math.Seq.{drop-cons}
-use Rattle.std.proofs.lemmas.Option.{slice_get-get_or, slice_get_past, slice_get_within}
+use Rattle.std.proofs.lemmas.Option.{slice_get-get_or, slice_get_past}
+use Rattle.std.proofs.lemmas.Bool.{and_parts}
+use Rattle.nz_lists.proofs.Tests.{either_true}
 use Rattle.nz_spec.specs.Fraction.{IsNumber, whole}
 use Rattle.nz_spec.specs.Term.{Sort, bool_sort, int_sort, real_sort, are_same_sort, Constant, are_same_constant, Head, constant, falsum, constant_of, Term, apply, no_terms, Value, Assignment, default_value, ValueFits, DecimalsAreNumbers, IsTrueUnder, is_true}
 use Rattle.nz_spec.specs.Numerals.{NumeralsAreWhole}
@@ -21,19 +23,9 @@ use Rattle.nz_term.specs.declared.assign.Value as own
 use Rattle.nz_sort.specs.declared.items.Accepted.{Accepted}
 use Rattle.nz_sort.specs.Items.{table_numbers}
 use Rattle.nz_sort.specs.Live.{Standing, IsLive}
-use Rattle.nz_truth.specs.Outcomes.{value_at, AreGiven}
 use Rattle.nz_session.specs.Completed.{bound_at, completed}
 
 -- ---- Tests
-
-both_true : (a b : Bool) → (a && b) ≡ true → (a ≡ true) × (b ≡ true)
-both_true true b e = (refl, e)
-both_true false b e = absurd cc
-
-either_true : (a b : Bool) → (a ≡ true) ⊎ (b ≡ true) → (a || b) ≡ true
-either_true true b h = refl
-either_true false b (inl e) = absurd cc
-either_true false b (inr e) = e
 
 same_sorts : (s t : Sort) → are_same_sort s t ≡ true → s ≡ t
 same_sorts bool_sort bool_sort e = refl
@@ -43,7 +35,7 @@ same_sorts s t e = cc
 
 same_constant : (c d : Constant) → are_same_constant c d ≡ true → c ≡ d
 same_constant c d e =
-    let both = both_true (bytes_eq c.name d.name) (are_same_sort c.sort d.sort) e in
+    let both = and_parts (bytes_eq c.name d.name) (are_same_sort c.sort d.sort) e in
     let named : c.name ≡ d.name = (bytes_eq-Decides c.name d.name).0 both.0 in
     let sorted : c.sort ≡ d.sort = same_sorts c.sort d.sort both.1 in
     ap (λ x. let r : Constant = record { name = x; sort = c.sort } in r) named ∙ ap (λ x. let r : Constant = record { name = d.name; sort = x } in r) sorted
@@ -208,6 +200,16 @@ live_model decimals numerals keeps law ns table l s ps h v =
     (completed_constants ns ps law table (table_numbers l.constants) (constants_of s) within h.items.constants.terms.terms) v.values
     (model_of_normals keeps a (assertions_of s) [] (subst (λ ts. IsModel ts [] a) h.terms v.makes))
 
+-- its values are those that the search gave
+pub live_values : TermOfNode → (ns : List Node) → IsTable ns → (l : Standing) (s : State) (ps : List (ℕ × Value)) → IsLive ns l s
+    → assignment_by ns ps ≡ assignment_of (completed ns ps (table_numbers l.constants))
+live_values law ns table l s ps h =
+    let a : Assignment = assignment_by ns ps in
+    let within : AllByRecursion (λ i. i < length ns) (table_numbers l.constants) =
+    recursion_from_All (λ i. i < length ns) (table_numbers l.constants) h.items.constants.terms.within in
+    let bound = completed_constants ns ps law table (table_numbers l.constants) (constants_of s) within h.items.constants.terms.terms in
+    sym (ap assignment_of (bound ∙ ap (map (bound_by a)) (sym h.constants)) ∙ bound_assignment ns ps)
+
 -- where the table's assertions have none, neither has the live state
 pub no_live_model : NormalKeepsValue → (ns : List Node) (l : Standing) (s : State) → IsLive ns l s → IsUnsatisfiable (map (term_in ns) l.asserted) []
     → IsUnsatisfiable (assertions_of s) []
@@ -237,12 +239,6 @@ bound_by_head ns ps (Some n) h e =
     let same : n.head ≡ h = cc in
     ap (λ x. map (bound_by (assignment_by ns ps)) (constants_of_head x)) same
 
--- the values that are listed are those of the constants
-pub given_by_list : AssignsByNumber → (ns : List Node) → IsTable ns → (ps : List (ℕ × Value)) (vs : List (Option own.Value))
-    → ((i : ℕ) → i < length ns → value_at vs i ≡ listed_value ps i) → AreGiven ns (assignment_by ns ps) vs
-given_by_list law ns table ps vs listed i n c at e =
-    ap (λ o. unwrap_or o (default_value c.sort)) (listed i (slice_get_within ns i n at)) ∙ sym (law ns table ps i n c at e)
-
 head_node : (h : Head) (o : Option Node) → option_map (λ (n : Node). n.head) o ≡ Some h → (n : Node) × (o ≡ Some n) × (n.head ≡ h)
 head_node h None e = absurd cc
 head_node h (Some n) e = (n, refl, cc)
@@ -252,14 +248,14 @@ value_chosen None d = refl
 value_chosen (Some v) d = refl
 
 -- one binding more, of a constant that has a value or else the default of its sort
-pub given_binding : (ns : List Node) (ps : List (ℕ × Value)) (id : ℕ) (k : Constant) (vs : List (Option own.Value)) (o : Option own.Value) (d v : own.Value) (old new : List Binding)
-    → option_map (λ (n : Node). n.head) (slice_get ns id) ≡ Some (constant k) → get_or vs id None ≡ o → value_of d ≡ default_value k.sort → v ≡ unwrap_or o d
-    → AreGiven ns (assignment_by ns ps) vs → new ≡ old ++ record { constant = k; value = value_of v } ∷ []
+pub given_binding : AssignsByNumber → (ns : List Node) → IsTable ns → (ps : List (ℕ × Value)) (id : ℕ) (k : Constant) (o : Option own.Value) (d v : own.Value) (old new : List Binding)
+    → option_map (λ (n : Node). n.head) (slice_get ns id) ≡ Some (constant k) → option_map value_of o ≡ listed_value ps id → value_of d ≡ default_value k.sort → v ≡ unwrap_or o d
+    → new ≡ old ++ record { constant = k; value = value_of v } ∷ []
     → new ≡ old ++ bound_at ns ps (slice_get ns id)
-given_binding ns ps id k vs o d v old new head at none is given grown =
+given_binding law ns table ps id k o d v old new head at none is grown =
     let n = head_node (constant k) (slice_get ns id) head in
     let chosen : value_of v ≡ assignment_by ns ps k =
-    ap value_of is ∙ value_chosen o d ∙ ap (λ (m : Option own.Value). unwrap_or (option_map value_of m) (value_of d)) (sym at) ∙ ap (unwrap_or (value_at vs id)) none ∙ given id n.0 k n.1 n.2 in
+    ap value_of is ∙ value_chosen o d ∙ ap (λ m. unwrap_or m (value_of d)) at ∙ ap (unwrap_or (listed_value ps id)) none ∙ sym (law ns table ps id n.0 k n.1 n.2) in
     grown
     ∙ ap (λ w. let b : Binding = record { constant = k; value = w } in old ++ b ∷ []) chosen
     ∙ ap (λ bs. old ++ bs) (sym (bound_by_head ns ps (slice_get ns id) (constant k) head))

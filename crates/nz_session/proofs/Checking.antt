@@ -3,6 +3,8 @@ use Rattle.std.proofs.Common.{◌≡◌, ℕ, Bool, true, false, List, [], ◌�
 use Rattle.std.specs.Prelude.{not, ◌||◌, All, option_and_then, codes, flat_map, if◌then◌else◌}
 use Rattle.std.specs.List.{AllByRecursion, list_any}
 use Rattle.std.proofs.lemmas.List.Elements.{All-from_recursion}
+use Rattle.std.proofs.lemmas.Bool.{not-true, not-false, or_parts}
+use Rattle.nz_lists.proofs.Elements.{AllByRecursion-map}
 use Rattle.nz_spec.specs.Tree.{Token, symbol, keyword, numeral, hexadecimal, binary, literal, decimal, symbol_name, Tree, leaf, node, Trees, no_trees, trees}
 use Rattle.nz_spec.specs.Term.{Sort, bool_sort, int_sort, real_sort, Constant, constant, Term, apply, Terms, no_terms, is_bool, holds_number}
 use Rattle.nz_spec.specs.Normal.{normal_of}
@@ -18,7 +20,6 @@ use Rattle.nz_spec.specs.Taken.{items_hold_numbers, passes_limit, takes_command}
 use Rattle.nz_spec.specs.Command.{Command, declare_const, define, assert_term, check_sat, get_value, Outcome, accepted, refused}
 use Rattle.nz_spec.specs.Script.{outcome_of, outcome_named, outcome_by, declaration_of, definition_of, definition_by, linear_outcome, assertion_of, asserted_outcome, values_of_trees, info_asked, option_set, scope_of, body_scope, is_live_name, any_tree, is_unknown_sort, parameter_sorts, sorts_of_trees, sort_of_tree, all_linear, asked_of}
 use Rattle.nz_spec.specs.Scoping.{has_unknown, have_unknown, has_clash, have_clash, clash, bound_names}
-use Rattle.nz_session.proofs.Elements.{AllByRecursion-map}
 
 -- ---- Which outcomes are accepted checks
 
@@ -165,15 +166,11 @@ by_echo s (trees (leaf (decimal bs)) ts) = refl
 by_echo s (trees (leaf (hexadecimal bs)) ts) = refl
 by_echo s (trees (leaf (binary bs)) ts) = refl
 
-not_true : (b : Bool) → not b ≡ true → b ≡ false
-not_true true e = absurd cc
-not_true false e = refl
-
 -- an accepted check is taken as one: nothing live holds a number
 taken_check : (s : State) (name : CommandName) (ts : Trees) → is_check (outcome_by s name ts) ≡ true → takes_command s name ts ≡ true → items_hold_numbers (items_of s.levels) ≡ false
 taken_check s assert_name ts e f = absurd (let x = sym e ∙ by_assert s ts in cc)
 taken_check s assert_soft_name ts e f = absurd cc
-taken_check s check_sat_name ts e f = not_true (items_hold_numbers (items_of s.levels)) f
+taken_check s check_sat_name ts e f = not-true (items_hold_numbers (items_of s.levels)) f
 taken_check s check_sat_assuming_name ts e f = absurd cc
 taken_check s declare_const_name ts e f = absurd (let x = sym e ∙ by_const s ts in cc)
 taken_check s declare_fun_name ts e f = absurd (let x = sym e ∙ by_fun s ts in cc)
@@ -200,17 +197,13 @@ in_other : (b : Bool) (x y : Outcome) → is_check x ≡ false → is_check (if 
 in_other true x y f e = absurd (let z = sym f ∙ e in cc)
 in_other false x y f e = (refl, e)
 
-not_false : (b : Bool) → not b ≡ false → b ≡ true
-not_false true e = refl
-not_false false e = absurd cc
-
 named_check : (s : State) (name : CommandName) (ts : Trees) → is_check (outcome_named s name ts) ≡ true → items_hold_numbers (items_of s.levels) ≡ false
 named_check s name ts e =
     let formed = in_other (not (has_form name ts)) _ _ refl e in
     let limited = in_other (passes_limit s name ts || have_token is_long_decimal ts) _ _ refl formed.1 in
     let narrow = in_other (have_token is_wide_token ts) _ _ refl limited.1 in
     let taken = in_other (not (takes_command s name ts)) _ _ refl narrow.1 in
-    taken_check s name ts taken.1 (not_false (takes_command s name ts) taken.0)
+    taken_check s name ts taken.1 (not-false (takes_command s name ts) taken.0)
 
 by_symbol : (s : State) (ts : Trees) (o : Option (List ℕ)) → is_check (elim o [ Some name ↦ outcome_named s (command_name name) ts | None ↦ refused 1 ]) ≡ true → items_hold_numbers (items_of s.levels) ≡ false
 by_symbol s ts None e = absurd cc
@@ -227,10 +220,6 @@ numberless s t e = check_is_taken s t (ap is_check e)
 
 -- ---- Constants and assertions of items without numbers
 
-neither : (a b : Bool) → (a || b) ≡ false → (a ≡ false) × (b ≡ false)
-neither true b e = absurd cc
-neither false b e = (refl, e)
-
 is_bool_sort : (s : Sort) → (not (is_bool s) || false) ≡ false → s ≡ bool_sort
 is_bool_sort bool_sort e = refl
 is_bool_sort int_sort e = absurd cc
@@ -238,7 +227,7 @@ is_bool_sort real_sort e = absurd cc
 
 -- the first item of one term, and the others
 first_and_others : (t : Term) (ts : List Term) → list_any holds_number (t ∷ ts) ≡ false → (holds_number t ≡ false) × (list_any holds_number ts ≡ false)
-first_and_others t ts e = neither (holds_number t) (list_any holds_number ts) e
+first_and_others t ts e = or_parts (holds_number t) (list_any holds_number ts) e
 
 bool_constants : (items : List Item) → items_hold_numbers items ≡ false → AllByRecursion (λ (c : Constant). c.sort ≡ bool_sort) (constants_in items)
 bool_constants [] e = tt

@@ -1,7 +1,6 @@
 -- Terms by level, and constants by their numbers.
-use Rattle.std.proofs.Common.{inl, inr, ◌≡◌, ℕ, zero, suc, ◌+◌, ◌<◌, List, [], ◌∷◌, ◌++◌, length, set, get_or, refl, sym, ap, subst, ◌∙◌, arith, Vec, Global}
-use Rattle.std.proofs.lemmas.Bool.{cases_lt}
-use Rattle.std.proofs.lemmas.List.{get_or_default, map-set, set-get_or, length-map, get_or-map}
+use Rattle.std.proofs.Common.{◌≡◌, ℕ, zero, suc, ◌<◌, List, [], ◌∷◌, ◌++◌, length, set, get_or, refl, sym, ap, ◌∙◌, arith, Vec, Global}
+use Rattle.std.proofs.lemmas.List.{map-set, set-get_or, length-map, get_or-map}
 use Rattle.nz_spec.specs.Term.{Constant}
 use Rattle.nz_spec.specs.Table.{Node}
 use Rattle.nz_spec.specs.Decide.{with_number}
@@ -50,15 +49,3 @@ length-AreNumbersOf ns [] [] h = refl
 length-AreNumbersOf ns [] (d ∷ cs) h = absurd h
 length-AreNumbersOf ns (j ∷ is) [] h = absurd h
 length-AreNumbersOf ns (j ∷ is) (d ∷ cs) h = ap suc (length-AreNumbersOf ns is cs h.1)
-
--- ---- Elements, one after another
-
--- what holds of the first so many holds of one more
-pub holds_of_more : (P : ℕ → Type 0) (ids : List ℕ) (n e : ℕ) → n < length ids → ((k d : ℕ) → k < n → P (get_or ids k d)) → P (get_or ids n e) → (k d : ℕ) → k < n + 1 → P (get_or ids k d)
-holds_of_more P ids n e below h p k d l =
-    elim (cases_lt k n) [
-      | inl less ↦ h k d less
-      | inr past ↦
-          let same : n ≡ k = omega (arith, l, past) in
-          subst (λ j. P (get_or ids j d)) same (subst P (get_or_default ids n e d below) p)
-    ]

@@ -2,10 +2,8 @@ pub mod Answering
 pub mod Assigning
 pub mod AtomsNoted
 pub mod Checking
-pub mod Elements
 pub mod Feeding
 pub mod Fronts
-pub mod Growth
 pub mod Leveling
 pub mod Noting
 pub mod Orders
@@ -14,4 +12,5 @@ pub mod SearchUnits
 pub mod Serving
 pub mod TrialValues
 pub mod Trials
+pub mod ValuesKept
 pub mod Valuing

@@ -3,6 +3,7 @@ use Rattle.std.proofs.Common.{◌≡◌, ℕ, ◌+◌, ◌^◌, ◌≤◌, ◌<�
 use Rattle.std.proofs.lemmas.Nat.{pow_pos}
 use Rattle.std.proofs.lemmas.List.{map-append}
 use Rattle.std.proofs.lemmas.List.Sums.{sum_by-append}
+use Rattle.nz_lists.proofs.Elements.{AllByRecursion-append}
 use Rattle.nz_spec.specs.Work.{WorkEntry, DecisionEntry, WorkLine, UnitLine, NoteLine, WorkList, unit_count, is_unit, IsSpent}
 use Rattle.nz_spec.specs.Table.{Node}
 use Rattle.nz_reply.specs.declared.reply.Note.{Note}
@@ -12,7 +13,6 @@ use Rattle.nz_session.specs.declared.decide.Stop.TheVariants.{Spent, Memory}
 use Rattle.nz_session.specs.Verdicts.{OnSpent}
 use Rattle.nz_session.specs.Search.{IsTurnedAt}
 use Rattle.nz_session.specs.SearchNotes.{AddsSteps, HasSearched, IsCutShort, IsOfAtomBelow, Turns, with_atoms, with_clause, with_decision, with_steps}
-use Rattle.nz_session.proofs.Elements.{AllByRecursion-append}
 use Rattle.nz_session.proofs.SearchUnits.{turned_length, units_up_to-append, units_up_to-le, units_up_to-last_false, units_up_to-turned}
 
 unit_count-append : {T : Type 0} (xs ys : List (WorkLine T)) → unit_count (xs ++ ys) ≡ unit_count xs + unit_count ys

@@ -4,10 +4,10 @@ use Rattle.std.specs.Prelude.{All, flat_map}
 use Rattle.std.specs.List.{AllByRecursion}
 use Rattle.std.proofs.lemmas.Bool.{or_parts}
 use Rattle.std.proofs.lemmas.List.Elements.{All-from_recursion, All-map, recursion_from_All}
+use Rattle.nz_lists.proofs.Elements.{AllByRecursion-append, AllByRecursion-map}
 use Rattle.nz_spec.specs.Term.{is_numeric, Term, apply, Terms, no_terms, terms, holds_number, hold_number}
 use Rattle.nz_spec.specs.Table.{Node, term_in}
 use Rattle.nz_spec.specs.Order.{post_order, post_orders, AreFirst}
-use Rattle.nz_session.proofs.Elements.{AllByRecursion-append, AllByRecursion-map}
 
 abbrev HasNoNumber : Term → Type 0
 HasNoNumber t = holds_number t ≡ false

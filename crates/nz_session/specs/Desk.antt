@@ -1,10 +1,11 @@
 -- What a desk holds, and what its answers are.
-use Rattle.std.specs.Prelude.{◌≡◌, ℕ, true, false, List, map, option_map, Option, Some, ⊤}
+use Rattle.std.specs.Prelude.{◌≡◌, ℕ, ◌<◌, true, false, List, length, map, option_map, Option, Some, ⊤}
+use Rattle.std.specs.List.{AllByRecursion}
 use Rattle.nz_spec.specs.Text.{What}
-use Rattle.nz_spec.specs.Term.{Term}
-use Rattle.nz_spec.specs.Table.{Node, term_in}
+use Rattle.nz_spec.specs.Term.{Term, Value}
+use Rattle.nz_spec.specs.Table.{Node, assignment_by, term_in}
 use Rattle.nz_spec.specs.Decide.{IsFrontOfTable}
-use Rattle.nz_spec.specs.Model.{Binding}
+use Rattle.nz_spec.specs.Model.{Binding, assignment_of}
 use Rattle.nz_spec.specs.Live as live_state
 use Rattle.nz_spec.specs.Live.{State, constants_of}
 use Rattle.nz_spec.specs.Right.{Context, IsRight, IsExit, context_after}
@@ -27,7 +28,7 @@ asserted_in desk = map (term_in desk.terms) desk.live.asserted
 
 -- what the last answer was
 abbrev pub last_of : LastAnswer → live_state.LastAnswer
-last_of (Model bindings) = live_state.model_found bindings
+last_of (Model m) = live_state.model_found m.bindings
 last_of Refutation = live_state.refutation
 last_of (Undecided reason) = live_state.undecided (reason_of reason)
 
@@ -36,6 +37,16 @@ abbrev pub BindsConstants : Option live_state.LastAnswer → State → Type 0
 BindsConstants (Some (live_state.model_found bs)) s = map (λ (b : Binding). b.constant) bs ≡ constants_of s
 BindsConstants last s = ⊤
 
+-- The values by numbers give each constant what the bindings give it. Their numbers are of the table, so that it may go on.
+pub record AreValuesOf (ns : List Node) (bs : List Binding) (ps : List (ℕ × Value)) : Type 0 where
+  pub within : AllByRecursion (λ (p : ℕ × Value). p.0 < length ns) ps
+  pub assigns : assignment_by ns ps ≡ assignment_of bs
+
+-- the values that are kept of a model are those that it binds
+abbrev pub KeepsValues : List Node → Option LastAnswer → Type 0
+KeepsValues ns (Some (Model m)) = AreValuesOf ns m.bindings m.values
+KeepsValues ns last = ⊤
+
 -- The desk holds what a context says; what its engine was told stands in its table.
 pub record Holds {E : Type 0} (levels : E → List (List ℕ)) (table : E → List Node) (desk : Desk E) (c : Context) : Type 0 where
   pub live : IsLive desk.terms desk.live c.state
@@ -43,6 +54,7 @@ pub record Holds {E : Type 0} (levels : E → List (List ℕ)) (table : E → Li
   pub front : IsFrontOfTable (table desk.engine) desk.terms
   pub last : option_map last_of desk.last ≡ c.state.last
   pub bound : BindsConstants c.state.last c.state
+  pub values : KeepsValues desk.terms desk.last
   pub success : desk.prints_success ≡ c.state.options.prints_success
   pub bounded : desk.limit ≡ c.limit
 

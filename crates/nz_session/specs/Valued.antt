@@ -2,7 +2,6 @@
 use Rattle.std.specs.Prelude.{◌≡◌, ℕ, List, [], ◌∷◌, map}
 use Rattle.nz_spec.specs.Term.{Terms, no_terms, terms, Value, Assignment}
 use Rattle.nz_spec.specs.Table.{Node, assignment_by}
-use Rattle.nz_spec.specs.Model.{Binding}
 use Rattle.nz_spec.specs.Reply.{Shown, term_shown}
 use Rattle.nz_reply.specs.Values.{shown_of}
 use Rattle.nz_reply.specs.declared.reply.Shown.TheVariants as shows
@@ -11,12 +10,6 @@ use Rattle.nz_sort.specs.declared.typed.Typed.{Typed}
 use Rattle.nz_sort.specs.Typed.{AreTyped}
 use Rattle.nz_truth.specs.declared.walk.Outcome.{Outcome}
 use Rattle.nz_truth.specs.declared.walk.Outcome.TheVariants as outcome
-
--- numbers of constants, each with the value that is bound at its place
-abbrev pub valued : List ℕ → List Binding → List (ℕ × Value)
-valued [] bs = []
-valued (i ∷ is) [] = []
-valued (i ∷ is) (b ∷ bs) = (i, b.value) ∷ valued is bs
 
 -- the numbers of terms
 abbrev pub numbers_typed : List Typed → List ℕ
@@ -37,6 +30,6 @@ abbrev pub terms_shown : Assignment → Terms → List Shown
 terms_shown a no_terms = []
 terms_shown a (terms t ts) = term_shown a t ∷ terms_shown a ts
 
--- This is what is to be told of the terms of these numbers, where the constants of these numbers have the values of this model.
-abbrev pub AreShown : List Node → List ℕ → List Binding → List Typed → List Shown → Type 0
-AreShown ns constants model xs shown = (ts : Terms) → AreTyped ns xs ts → shown ≡ terms_shown (assignment_by ns (valued constants model)) ts
+-- This is what is to be told of the terms of these numbers, where the constants have the values that are listed with their numbers.
+abbrev pub AreShown : List Node → List (ℕ × Value) → List Typed → List Shown → Type 0
+AreShown ns ps xs shown = (ts : Terms) → AreTyped ns xs ts → shown ≡ terms_shown (assignment_by ns ps) ts

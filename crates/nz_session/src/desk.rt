@@ -1,5 +1,5 @@
 //! The desk: what a command acts on, and the answer to it.
-ghost use Rattle.std.specs.Prelude.{◌≡◌, ◌<◌, ◌*◌, ◌^◌, ℕ, List, [], ◌∷◌, ◌++◌, length, map, slice_get, All, IfOk, IfErr, IfSome, IfNone, OnOk, false};
+ghost use Rattle.std.specs.Prelude.{◌≡◌, ◌<◌, ◌*◌, ◌^◌, [], ◌∷◌, ◌++◌, length, map, slice_get, All, IfOk, IfErr, IfSome, IfNone, OnOk, false};
 ghost use Rattle.std.specs.List.{AllByRecursion};
 ghost use Rattle.nz_sexpr.specs.View.{view, what_view};
 ghost use Rattle.nz_spec.specs.Text as text;
@@ -13,7 +13,7 @@ ghost use Rattle.nz_spec.specs.Command.{Command};
 ghost use Rattle.nz_spec.specs.Taken.{items_hold_numbers};
 ghost use Rattle.nz_spec.specs.Right.{Context, done as done_by};
 ghost use Rattle.nz_spec.specs.Atoms.{AreAtoms};
-ghost use Rattle.nz_spec.specs.Table.{IsTable, assignment_by, term_in};
+ghost use Rattle.nz_spec.specs.Table.{term_in};
 ghost use Rattle.nz_spec.specs.Work.{IsSpent};
 ghost use Rattle.nz_reply.specs.Notes.{noted_list, AreNotedWithin};
 ghost use Rattle.nz_reply.specs.Infos.{info_of};
@@ -22,7 +22,6 @@ ghost use Rattle.nz_sort.specs.Acts.{error_of, info_meaning};
 ghost use Rattle.nz_sort.specs.Items.{table_numbers};
 ghost use Rattle.nz_sort.specs.Live.{AsksValues, arguments_of};
 ghost use Rattle.nz_sort.specs.Typed.{AreTyped};
-ghost use Rattle.nz_truth.specs.Outcomes.{AreGiven};
 ghost use Rattle.nz_session.specs.Completed.{bound_at, completed};
 ghost use Rattle.nz_session.specs.Told.{IsTold};
 ghost use Rattle.nz_session.specs.Verdicts.{IfSat, OnUnsat, OnSpent};
@@ -39,8 +38,8 @@ use nz_sexpr::{Tree, What};
 use nz_sort::{Accepted, Act, Info as InfoAsked, Live, Refusal, Typed};
 use nz_spec::table::{assigns_by_number, term_of_node};
 use nz_spec::term::{decimals_are_numbers, normal_keeps_value, numerals_are_whole};
-use nz_term::{Assign, Head, TermId, Terms, Value};
-use nz_truth::{default_value, listed_values};
+use nz_term::{Assign, Head, TermId, Terms, known_table};
+use nz_truth::default_value;
 use std::alloc::Global;
 
 /// What is said to a thing heard.
@@ -70,9 +69,18 @@ pub struct Desk<E: Decide> {
 /// What the last answer was, while it stands.
 #[derive(Debug, Drop)]
 pub enum LastAnswer {
-    Model(Bindings),
+    Model(FoundModel),
     Refutation,
     Undecided(Reason),
+}
+
+/// A model that was found.
+#[derive(Debug, Drop)]
+pub struct FoundModel {
+    /// What it binds the live constants to, in their order.
+    bindings: Bindings,
+    /// The values of the constants by their numbers, for the terms that are asked for.
+    values: Assign,
 }
 
 impl<E: Decide> Desk<E> {
@@ -164,7 +172,7 @@ impl<E: Decide> Desk<E> {
             self.limit,
         );
         match decided {
-            Ok(Verdict::Sat(assign)) => self.found(&assign),
+            Ok(Verdict::Sat(assign)) => self.found(assign),
             Ok(Verdict::Unsat) => {
                 self.last = Some(LastAnswer::Refutation);
                 said(Reply::Unsat)
@@ -186,8 +194,8 @@ impl<E: Decide> Desk<E> {
     }
 
     /// The answer where a model was found, which is kept for `get-model`.
-    fn found(&mut self, assign: &Assign) -> Answer
-        ensures right { (c : Context) (tree : script.Tree) → Holds E.levels E.table self.old c → outcome_of c.state tree ≡ accepted (check_sat []) → AreModelValues self.old.terms (asserted_in self.old) [] assign.now → IsAnswer E.levels E.table c (intact tree) result self.new }
+    fn found(&mut self, assign: Assign) -> Answer
+        ensures right { (c : Context) (tree : script.Tree) → Holds E.levels E.table self.old c → outcome_of c.state tree ≡ accepted (check_sat []) → AreModelValues self.old.terms (asserted_in self.old) [] assign → IsAnswer E.levels E.table c (intact tree) result self.new }
         ensures terms { table_of self.new ≡ table_of self.old }
     {
         known_table(&self.terms);
@@ -195,9 +203,13 @@ impl<E: Decide> Desk<E> {
         normal_keeps_value();
         decimals_are_numbers();
         numerals_are_whole();
-        match bindings_twice(self.alloc, &self.terms, self.live.constants(), assign) {
+        match bindings_twice(self.alloc, &self.terms, self.live.constants(), &assign) {
             Ok((shown, kept)) => {
-                self.last = Some(LastAnswer::Model(kept));
+                let model = FoundModel {
+                    bindings: kept,
+                    values: assign,
+                };
+                self.last = Some(LastAnswer::Model(model));
                 said(Reply::Sat(shown))
             }
             Err(Memory) => said(Reply::Error(OUT_OF_MEMORY)),
@@ -209,7 +221,7 @@ impl<E: Decide> Desk<E> {
         ensures right { (c : Context) (tree : script.Tree) → Holds E.levels E.table self.now c → outcome_of c.state tree ≡ accepted get_model → IsAnswer E.levels E.table c (intact tree) result self.now }
     {
         match &self.last {
-            Some(LastAnswer::Model(model)) => match model.copy(self.alloc) {
+            Some(LastAnswer::Model(model)) => match model.bindings.copy(self.alloc) {
                 Ok(shown) => said(Reply::Model(shown)),
                 Err(Memory) => said(Reply::Error(OUT_OF_MEMORY)),
             },
@@ -222,11 +234,9 @@ impl<E: Decide> Desk<E> {
         requires typed { (terms : term.Terms) × AreTyped self.now.terms asked.now terms }
         ensures right { (c : Context) (tree : script.Tree) (k : Command) → Holds E.levels E.table self.now c → outcome_of c.state tree ≡ accepted k → AsksValues self.now.terms asked.now (arguments_of tree) k → IsAnswer E.levels E.table c (intact tree) result self.now }
     {
-        known_table(&self.terms);
-        term_of_node();
         match &self.last {
             Some(LastAnswer::Model(model)) => {
-                match values_shown(self.alloc, &self.terms, self.live.constants(), model, asked) {
+                match values_shown(self.alloc, &self.terms, &model.values, asked) {
                     Ok(shows) => said(Reply::Values(shows)),
                     Err(Memory) => said(Reply::Error(OUT_OF_MEMORY)),
                 }
@@ -319,13 +329,6 @@ fn error_number(refusal: Refusal) -> u8
     }
 }
 
-/// Says that the terms of a table are those of its nodes.
-fn known_table(terms: &Terms)
-    ensures table { IsTable terms.now }
-{
-    terms.len();
-}
-
 /// Tells the engine the assertions that it hasn't been told, in its one level.
 fn tell<E: Decide>(
     engine: &mut E,
@@ -406,25 +409,24 @@ fn bindings_of(
 ) -> Result<Bindings, Memory>
     ensures bindings { IfOk result (λ bs. bs ≡ completed terms.now assign.now (table_numbers constants.now)) }
 {
-    assigns_by_number();
-    let values = listed_values(alloc, assign, terms.len())?;
     let mut bindings = Bindings::new(alloc);
     for accepted in constants {
-        add_binding(&mut bindings, terms, accepted.term, &values)?;
+        add_binding(&mut bindings, terms, accepted.term, assign)?;
     }
     Ok(bindings)
 }
 
-/// Adds what the constant of this number is bound to, where these are the values by number.
+/// Adds what the constant of this number is bound to.
 fn add_binding(
     bindings: &mut Bindings,
     terms: &Terms,
     id: TermId,
-    values: &[Option<Value>],
+    assign: &Assign,
 ) -> Result<(), Memory>
-    requires room { length values.now ≡ length terms.now }
-    ensures grown { OnOk result ((ps : List (ℕ × term.Value)) → AreGiven terms.now (assignment_by terms.now ps) values.now → bindings.new ≡ bindings.old ++ bound_at terms.now ps (slice_get terms.now id)) }
+    ensures grown { OnOk result (bindings.new ≡ bindings.old ++ bound_at terms.now assign.now (slice_get terms.now id)) }
 {
+    assigns_by_number();
+    known_table(terms);
     if id >= terms.len() {
         return Ok(());
     }
@@ -432,6 +434,6 @@ fn add_binding(
         return Ok(());
     };
     let constant = constant.clone()?;
-    let value = values[id].unwrap_or(default_value(constant.sort));
+    let value = assign.value(id).unwrap_or(default_value(constant.sort));
     bindings.push(Binding { constant, value })
 }

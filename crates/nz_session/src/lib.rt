@@ -4,8 +4,6 @@
 mod decide;
 mod desk;
 mod session;
-#[cfg(test)]
-mod tests;
 mod trial;
 mod values;
 

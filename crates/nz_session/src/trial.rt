@@ -13,8 +13,6 @@ ghost use Rattle.nz_session.specs.SearchNotes.{AddsSteps, HasSearched, IsCutShor
 ghost use Rattle.nz_session.specs.Verdicts.{OnSpent};
 
 mod stack;
-#[cfg(test)]
-mod tests;
 
 use crate::decide::{Decide, Stop, Verdict};
 use nz_base::{Memory, Work};

@@ -2,47 +2,31 @@
 ghost use Rattle.std.specs.Prelude.{◌≡◌, IfOk};
 ghost use Rattle.nz_spec.specs.Term as term;
 ghost use Rattle.nz_reply.specs.Values.{shown_of};
-ghost use Rattle.nz_sort.specs.Items.{table_numbers};
 ghost use Rattle.nz_sort.specs.Typed.{AreTyped};
-ghost use Rattle.nz_session.specs.Valued.{AreShown, numbers_typed, outcome_shown, outcomes_shown, valued};
+ghost use Rattle.nz_session.specs.Valued.{AreShown, numbers_typed, outcome_shown, outcomes_shown};
 
 use nz_base::Memory;
-use nz_reply::{Bindings, Shown, Shows};
-use nz_sort::{Accepted, Typed};
+use nz_reply::{Shown, Shows};
+use nz_sort::Typed;
 use nz_spec::term::normal_keeps_value;
-use nz_term::{Assign, Sort, TermId, Terms, Value};
+use nz_term::{Assign, Sort, TermId, Terms};
 use nz_truth::{Outcome, outcomes};
 use std::alloc::Global;
 
-/// What is told of these terms in a model, which binds these constants in their order.
+/// What is told of these terms, where the constants have the values that are listed with their numbers.
 pub(crate) fn values_shown(
     alloc: Global,
     terms: &Terms,
-    constants: &[Accepted],
-    model: &Bindings,
+    values: &Assign,
     asked: &[Typed],
 ) -> Result<Shows, Memory>
     requires typed { (ts : term.Terms) × AreTyped terms.now asked.now ts }
-    ensures shown { IfOk result (λ shows. AreShown terms.now (table_numbers constants.now) model.now asked.now shows) }
+    ensures shown { IfOk result (λ shows. AreShown terms.now values.now asked.now shows) }
 {
     normal_keeps_value();
-    let assign = assignment_by(alloc, constants, model)?;
     let roots = numbers_of(alloc, asked)?;
-    let found = outcomes(alloc, terms, &roots, &assign)?;
+    let found = outcomes(alloc, terms, &roots, values)?;
     shows_of(alloc, asked, &found)
-}
-
-/// The constants with the values that a model gives them, place by place.
-fn assignment_by(alloc: Global, constants: &[Accepted], model: &Bindings) -> Result<Assign, Memory>
-    ensures valued { IfOk result (λ ps. ps ≡ valued (table_numbers constants.now) model.now) }
-{
-    let mut assign = Assign::new(alloc)?;
-    for (place, constant) in constants.iter().enumerate() {
-        if let Some(value) = model.value(place) {
-            assign.push(constant.term, value)?;
-        }
-    }
-    Ok(assign)
 }
 
 /// The numbers of terms.

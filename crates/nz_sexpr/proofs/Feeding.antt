@@ -1,8 +1,8 @@
 -- A reader that is fed bytes: what was read and told goes on with them.
-use Rattle.std.proofs.Common.{◌≡◌, ℕ, ◌+◌, ◌<◌, ◌^◌, List, [], ◌∷◌, ◌++◌, length, Option, Some, None, IsNone, is_some, true, false, if◌then◌else◌, get_or, take, drop, refl, sym, ◌∙◌, ap, subst, arith, append_assoc, append-nil, ◌≤◌, length-append, length-take, length-drop, ◌-◌, inl, inr}
+use Rattle.std.proofs.Common.{◌≡◌, ℕ, ◌+◌, ◌<◌, ◌^◌, List, [], ◌∷◌, ◌++◌, length, Option, Some, None, IsNone, is_some, true, false, if◌then◌else◌, take, drop, refl, sym, ◌∙◌, ap, subst, arith, append_assoc, append-nil, ◌≤◌, length-append, length-take, length-drop, ◌-◌, inl, inr}
 use Rattle.std.proofs.lemmas.Bool.{cases_lt}
-use Rattle.std.proofs.lemmas.Grind.{common_steps}
-use Rattle.std.proofs.Math.Seq.{take-add}
+use Rattle.std.proofs.lemmas.List.{take_rest}
+use Rattle.nz_lists.proofs.Fronts.{taken_more}
 use Rattle.nz_spec.specs.Tree.{Tree}
 use Rattle.nz_spec.specs.Text.{Limits, Heard, ByteClass, word_byte, blank_byte, left_byte, right_byte, comment_byte, quote_byte, bar_byte, class_of, is_quote, is_bar, Filler, word, string, quoted}
 use Rattle.nz_spec.specs.Kept.{AreToldAs}
@@ -94,27 +94,15 @@ told_more limits bytes more things new h k =
     subst (AreToldAs (things ++ new)) (sym (told_on-append limits reading_start bytes more))
     (AreToldAs-append things new (told_on limits reading_start bytes) (told_on limits (read_on reading_start bytes) more) (subst (λ t. AreToldAs t (told_on limits reading_start bytes)) (append-nil things) h) k)
 
--- ---- Fronts of a piece
-
-pub take_one : (xs : List ℕ) → 0 < length xs → take 1 xs ≡ get_or xs 0 0 ∷ []
-take_one [] h = absurd (omega arith)
-take_one (x ∷ xs) h = refl
-
--- the bytes used so far, and the next ones used
-pub front_more : (bytes piece : List ℕ) (m n : ℕ) → (bytes ++ take m piece) ++ take n (drop m piece) ≡ bytes ++ take (m + n) piece
-front_more bytes piece m n = append_assoc bytes (take m piece) (take n (drop m piece)) ∙ ap (λ k. bytes ++ k) (sym (take-add m n piece))
-
--- the rest of a piece, as the code takes it
-rest_of : (piece : List ℕ) (m : ℕ) → take (length piece - m) (drop m piece) ≡ drop m piece
-rest_of piece m = grind (arith, common_steps)
+-- ---- Steps within a piece
 
 -- a step from there
 pub goes_on : (limits : Limits) (old new : Reader) (bytes piece : List ℕ) (things more : List Heard) (m n : ℕ) → m ≤ length piece → length bytes + length piece < 2 ^ 64 → Fits limits old (bytes ++ take m piece) things → ((bounds : Limits) (front : List ℕ) (before : List Heard) → Fits bounds old front before → length front + length (take (length piece - m) (drop m piece)) < 2 ^ 64 → Fits bounds new (front ++ take n (take (length piece - m) (drop m piece))) (before ++ more)) → Fits limits new (bytes ++ take (m + n) piece) (things ++ more)
 goes_on limits old new bytes piece things more m n within few h step =
     let front : List ℕ = bytes ++ take m piece in
-    let rest : take (length piece - m) (drop m piece) ≡ drop m piece = rest_of piece m in
+    let rest : take (length piece - m) (drop m piece) ≡ drop m piece = take_rest piece m in
     let few' : length front + length (take (length piece - m) (drop m piece)) < 2 ^ 64 = omega (arith, length-append bytes (take m piece), length-take m piece, length-drop m piece, ap length rest) in
-    subst (λ k. Fits limits new k (things ++ more)) (ap (λ k. front ++ take n k) rest ∙ front_more bytes piece m n) (step limits front things h few')
+    subst (λ k. Fits limits new k (things ++ more)) (ap (λ k. front ++ take n k) rest ∙ taken_more bytes piece m n) (step limits front things h few')
 
 -- a count goes on twice
 pub goes_on_by : (a m b n c : ℕ) → GoesOnBy a m b → GoesOnBy b n c → GoesOnBy a (m + n) c

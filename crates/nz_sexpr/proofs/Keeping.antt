@@ -1,5 +1,6 @@
 -- What is kept of an open command, and the reading whose token ends.
 use Rattle.std.proofs.Common.{◌≡◌, ℕ, ◌+◌, ◌-◌, ◌<◌, ◌^◌, ◌||◌, ◌&&◌, Bool, true, false, not, List, [], ◌∷◌, ◌++◌, length, Option, Some, None, IfSome, is_none, min, refl, sym, ◌∙◌, ap, ap₂, subst, arith}
+use Rattle.std.proofs.Math.Bool.{and-true, or-false, or-true}
 use Rattle.nz_spec.specs.Tree.{Token, Tree, leaf}
 use Rattle.std.specs.List.{list_all}
 use Rattle.std.proofs.lemmas.List.Folds.{list_all-append}
@@ -58,14 +59,6 @@ length-with_trees ts [] = refl
 length-with_trees ts (l ∷ ls) = refl
 
 -- ---- A token ends in a command
-
-pub or-false : (b : Bool) → b || false ≡ b
-or-false true = refl
-or-false false = refl
-
-or-true : (b : Bool) → b || true ≡ true
-or-true true = refl
-or-true false = refl
 
 -- the reading where a token of this kind ends, or a bad one
 abbrev ended_as : Option TokenKind → List ℕ → List (List Tree) → Reading → Reading
@@ -151,10 +144,6 @@ run_matches limits v s st run m n h few keeps =
     })
 
 -- ---- Two quotes
-
-and-true : (b : Bool) → b && true ≡ b
-and-true true = refl
-and-true false = refl
 
 pub quote_doubles : (limits : Limits) (v : Scan) (s : Reading) (st : Store) (w : List ℕ) (clean : Bool) → Matches limits v s → v.part ≡ part.AfterQuote clean → s.part ≡ after_quote w → s.at + 1 < 2 ^ 64 → Keeps (kept_of v.store) (kept_of st) (λ k. record k { text = k.text ++ 34 ∷ [] }) → Matches limits (record v { at = min (v.at + 1) (2 ^ 64 - 1); part = part.String clean; store = st }) (goes_on (in_string (w ++ 34 ∷ [])) s)
 quote_doubles limits v s st w clean m c p few keeps =

@@ -1,6 +1,7 @@
 -- Bytes at which nothing is told: no command and no token outside any ends there.
 use Rattle.std.proofs.Common.{◌≡◌, ℕ, ◌<◌, ◌==◌, ◌||◌, Bool, true, false, if◌then◌else◌, List, [], ◌∷◌, ◌++◌, length, nat_lt, refl, sym, ◌∙◌, ap, ap₂, subst, arith}
 use Rattle.std.proofs.lemmas.Bool.{ltb-true}
+use Rattle.std.proofs.Math.Bool.{or-false}
 use Rattle.nz_spec.specs.Tree.{Tree}
 use Rattle.nz_spec.specs.Text.{Limits, ByteClass, blank_byte, left_byte, right_byte, comment_byte, quote_byte, bar_byte, word_byte, class_of, is_blank_byte, is_quote, is_bar, Filler, word, string}
 use Rattle.nz_spec.specs.Reading as reading
@@ -8,7 +9,6 @@ use Rattle.nz_spec.specs.Reading.{no_part, in_comment, in_word, in_string, after
 use Rattle.nz_sexpr.specs.Part.{part_of, holds_no_token}
 use Rattle.nz_sexpr.specs.Matches.{is_quiet_at}
 use Rattle.nz_sexpr.specs.declared.part.Part.{Part}
-use Rattle.nz_sexpr.proofs.Keeping.{or-false}
 
 -- ---- The test of the code
 

@@ -2,6 +2,7 @@
 use Rattle.std.proofs.Common.{◌≡◌, ℕ, ◌==◌, ◌&&◌, not, Bool, true, false, if◌then◌else◌, List, [], ◌∷◌, refl, sym, ◌∙◌, ap, ap₂, subst, Option, Some, None, eqb-true, ne_eqb}
 use Rattle.std.specs.Prelude.{option_map}
 use Rattle.std.specs.List.{list_all}
+use Rattle.std.proofs.lemmas.Bool.{and_right}
 use Rattle.nz_spec.specs.Tree.{Token, symbol, keyword, numeral, decimal, hexadecimal, binary, literal, is_digit, is_symbol_byte, is_hexadecimal_digit, is_simple_symbol, is_numeral, is_decimal, is_keyword, is_hexadecimal, is_binary, are_digits, before_point, after_point, word_token}
 use Rattle.nz_spec.specs.Text.{string, quoted, token_of, is_literal_byte, is_quoted_byte}
 use Rattle.nz_spec.specs.Reading.{after_quote, in_quoted}
@@ -97,13 +98,9 @@ not_here test c n h k = ne_eqb c n (λ e. let f : true ≡ false = sym h ∙ ap 
 not_there : (test : ℕ → Bool) (c n : ℕ) → test c ≡ false → test n ≡ true → (c == n) ≡ false
 not_there test c n h k = ne_eqb c n (λ e. let f : false ≡ true = sym h ∙ ap test e ∙ k in cc)
 
-and_false : (a b : Bool) → b ≡ false → a && b ≡ false
-and_false true b h = h
-and_false false b h = refl
-
 no_numeral : (c : ℕ) (bs : List ℕ) → is_digit c ≡ false → is_numeral (c ∷ bs) ≡ false
 no_numeral c [] d = d
-no_numeral c (b ∷ bs) d = and_false (not (c == 48)) (is_digit c && list_all is_digit (b ∷ bs)) (ap (λ t. t && list_all is_digit (b ∷ bs)) d)
+no_numeral c (b ∷ bs) d = and_right (not (c == 48)) (is_digit c && list_all is_digit (b ∷ bs)) (ap (λ t. t && list_all is_digit (b ∷ bs)) d)
 
 no_decimal : (c : ℕ) (bs : List ℕ) → is_digit c ≡ false → is_decimal (c ∷ bs) ≡ false
 no_decimal c bs d =
@@ -211,11 +208,11 @@ abbrev prefixed : List ℕ → Bool → Bool → Bool → Bool → Option Token
 prefixed w x b h d = if x && h then Some (hexadecimal w) else (if b && d then Some (binary w) else None)
 
 hexadecimal_is : (b : ℕ) (bs : List ℕ) → is_hexadecimal (35 ∷ b ∷ bs) ≡ (b == 120) && some_all is_hexadecimal_digit bs
-hexadecimal_is b [] = sym (and_false (b == 120) false refl)
+hexadecimal_is b [] = sym (and_right (b == 120) false refl)
 hexadecimal_is b (d ∷ bs) = refl
 
 binary_is : (b : ℕ) (bs : List ℕ) → is_binary (35 ∷ b ∷ bs) ≡ (b == 98) && some_all is_binary_digit bs
-binary_is b [] = sym (and_false (b == 98) false refl)
+binary_is b [] = sym (and_right (b == 98) false refl)
 binary_is b (d ∷ bs) = refl
 
 hexadecimal_picked : (w : List ℕ) (k : Bool) → picked w false false false false k false ≡ of_kind w (kind_where k token.Hexadecimal)

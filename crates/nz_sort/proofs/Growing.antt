@@ -4,22 +4,25 @@ use Rattle.std.proofs.lemmas.List.Elements.{All-head, All-tail, All-push, All-we
 use Rattle.std.specs.List.{AllByRecursion}
 use Rattle.nz_spec.specs.Term.{Term, Terms, no_terms, terms}
 use Rattle.nz_spec.specs.Table.{Node, term_in, terms_at}
-use Rattle.nz_spec.proofs.Tables.{term_stays, terms_stay}
+use Rattle.nz_term.specs.Growth.{KeepsTerms}
 use Rattle.nz_sort.specs.Typed.{IsOperator, Grows, StandsFor, terms_before}
 
 -- ---- A table that grows
 
 pub grows_none : (ns : List Node) → Grows ns ns
-grows_none ns = record { more = []; all = sym (append-nil ns); operators = tt }
+grows_none ns = record { more = []; all = sym (append-nil ns); operators = tt; stays = λ i below. refl }
 
-pub grows_by : (old new : List Node) (n : Node) → IsOperator n.head → (new ≡ old) ⊎ (new ≡ old ++ n ∷ []) → Grows old new
-grows_by old new n o (inl e) = subst (Grows old) (sym e) (grows_none old)
-grows_by old new n o (inr e) = record { more = n ∷ []; all = e; operators = (o, tt) }
+pub grows_by : (old new : List Node) (n : Node) → IsOperator n.head → KeepsTerms old new → (new ≡ old) ⊎ (new ≡ old ++ n ∷ []) → Grows old new
+grows_by old new n o stays (inl e) = subst (Grows old) (sym e) (grows_none old)
+grows_by old new n o stays (inr e) = record { more = n ∷ []; all = e; operators = (o, tt); stays = stays }
 
 operators-append : (xs ys : List Node) → AllByRecursion (λ (n : Node). IsOperator n.head) xs → AllByRecursion (λ (n : Node). IsOperator n.head) ys
     → AllByRecursion (λ (n : Node). IsOperator n.head) (xs ++ ys)
 operators-append [] ys a b = b
 operators-append (x ∷ xs) ys a b = (a.0, operators-append xs ys a.1 b)
+
+pub longer : (old new : List Node) → Grows old new → length old ≤ length new
+longer old new g = omega (arith, simp length-append at (ap length g.all))
 
 pub grows_more : (old mid new : List Node) → Grows old mid → Grows mid new → Grows old new
 grows_more old mid new g h =
@@ -27,18 +30,20 @@ grows_more old mid new g h =
       more = g.more ++ h.more;
       all = h.all ∙ ap (λ l. l ++ h.more) g.all ∙ append_assoc old g.more h.more;
       operators = operators-append g.more h.more g.operators h.operators;
+      stays = λ i below. h.stays i (let long = longer old mid g in omega arith) ∙ g.stays i below;
     }
-
-pub longer : (old new : List Node) → Grows old new → length old ≤ length new
-longer old new g = omega (arith, simp length-append at (ap length g.all))
 
 -- ---- Numbers
 
 pub term_kept : (old new : List Node) → Grows old new → (i : ℕ) → i < length old → term_in new i ≡ term_in old i
-term_kept old new g i below = ap (λ l. term_in l i) g.all ∙ term_stays old g.more i below
+term_kept old new g i below = g.stays i below
 
 pub terms_kept : (old new : List Node) → Grows old new → (ids : List ℕ) → All (λ i. i < length old) ids → terms_at (term_in new) ids ≡ terms_at (term_in old) ids
-terms_kept old new g ids within = ap (λ l. terms_at (term_in l) ids) g.all ∙ terms_stay old g.more ids within
+terms_kept old new g [] within = refl
+terms_kept old new g (i ∷ is) within =
+    let below = λ (j : ℕ). j < length old in
+    ap (λ t. terms t (terms_at (term_in new) is)) (g.stays i (All-head below i is within))
+    ∙ ap (terms (term_in old i)) (terms_kept old new g is (All-tail below i is within))
 
 pub within_kept : (old new : List Node) → Grows old new → (ids : List ℕ) → All (λ i. i < length old) ids → All (λ i. i < length new) ids
 within_kept old new g ids a = All-weaker (λ i. i < length old) (λ i. i < length new) (λ i below. omega (arith, below, longer old new g)) ids a

@@ -309,7 +309,7 @@ pub kept_where_grown : (old new : List Node) → Grows old new → take (length 
 kept_where_grown old new g = ap (take (length old)) g.all ∙ take_front old g.more
 
 pub kept_where_same : (ns : List Node) → take (length ns) ns ≡ ns
-kept_where_same ns = kept_where_grown ns ns (record { more = []; all = sym (append-nil ns); operators = tt })
+kept_where_same ns = kept_where_grown ns ns (record { more = []; all = sym (append-nil ns); operators = tt; stays = λ i below. refl })
 
 pub kept_with_one : (old new : List Node) (n : Node) → (new ≡ old) ⊎ (new ≡ old ++ n ∷ []) → take (length old) new ≡ old
 kept_with_one old new n (inl e) = ap (take (length old)) e ∙ kept_where_same old

@@ -1,7 +1,8 @@
 -- What is spelled as a number, as a fraction.
-use Rattle.std.proofs.Common.{◌≡◌, ℕ, zero, suc, ◌/◌, ◌^◌, ◌<◌, ◌≤◌, ◌&&◌, Bool, true, false, not, IsTrue, nat_le, pos, ◌*ℤ◌, unsigned_abs, refl, sym, ap, subst, ◌∙◌, arith, true≢false}
+use Rattle.std.proofs.Common.{◌≡◌, ℕ, zero, suc, ◌/◌, ◌^◌, ◌<◌, ◌≤◌, not, IsTrue, nat_le, pos, ◌*ℤ◌, unsigned_abs, refl, sym, ap, subst, ◌∙◌, arith}
 use Rattle.std.proofs.Math.Nat.{div-le_self, one-le-pow, pow-le-pow_right}
 use Rattle.std.proofs.lemmas.Bool.Decides.{nat_tests}
+use Rattle.std.proofs.lemmas.Bool.{and_parts}
 use Rattle.nz_ints.proofs.Divisors.{gcd-one}
 use Rattle.nz_ints.proofs.Products.{mul-one, one-mul}
 use Rattle.nz_ints.proofs.Rounding.{unsigned_abs-int_div}
@@ -43,15 +44,6 @@ quotient_number n (suc k) above top bottom =
     let denominator_is : denominator q ≡ suc k = ap unsigned_abs (parts.den ∙ one-mul (pos (suc k))) in
     reduced q (subst (λ m. m ≤ largest) (sym numerator_is) top) (subst (λ m. m ≤ largest) (sym denominator_is) bottom)
 
--- both tests hold
-digits_fit : (a b : Bool) → IsTrue (a && b) → IsTrue a
-digits_fit true b h = refl
-digits_fit false b h = h
-
-places_fit : (a b : Bool) → IsTrue (a && b) → IsTrue b
-places_fit true b h = h
-places_fit false b h = absurd (true≢false (sym h))
-
 within_largest : (n : ℕ) → IsTrue (not (exceeds n)) → n ≤ largest
 within_largest n h = grind (arith, nat_tests)
 
@@ -65,9 +57,9 @@ power_fits places h =
 
 pub decimals_are_numbers : DecimalsAreNumbers
 decimals_are_numbers digits places fits =
-    let few = within_places places (places_fit (not (exceeds digits)) (nat_le places 38) fits) in
+    let few = within_places places (and_parts (not (exceeds digits)) (nat_le places 38) fits).1 in
     let some : 1 ≤ 10 ^ places = one-le-pow places 10 (omega arith) in
-    quotient_number digits (10 ^ places) (omega arith) (within_largest digits (digits_fit (not (exceeds digits)) (nat_le places 38) fits)) (power_fits places few)
+    quotient_number digits (10 ^ places) (omega arith) (within_largest digits (and_parts (not (exceeds digits)) (nat_le places 38) fits).0) (power_fits places few)
 
 pub numerals_are_whole : NumeralsAreWhole
 unfolding ratio denominator

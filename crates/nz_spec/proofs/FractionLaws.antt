@@ -3,6 +3,7 @@ use Rattle.std.proofs.Common.{◌≡◌, ℕ, zero, suc, ◌*◌, ◌/◌, ◌<�
 use Rattle.std.proofs.Math.IntN.{*ℤ_comm}
 use Rattle.std.proofs.Math.Nat.{div-mul_cancel}
 use Rattle.std.proofs.lemmas.Int.{ints, unsigned_abs-mul, by_lt_z}
+use Rattle.nz_ints.proofs.Sizes.{factor_pos}
 use Rattle.nz_ints.proofs.Products as products
 use Rattle.nz_ints.proofs.Divisors.{gcd-dvd_left, gcd-dvd_right, gcd_pos, coprime-rests, lowest-unique}
 use Rattle.nz_ints.proofs.Rounding.{int_div-mul_cancel, unsigned_abs-int_div}
@@ -143,11 +144,7 @@ rest_pos : (q : Fraction) → 0 < denominator q / gcd (unsigned_abs q.numerator)
 rest_pos q =
     let g = gcd (unsigned_abs q.numerator) (denominator q) in
     let e : denominator q / g * g ≡ denominator q = div-mul_cancel g (gcd-dvd_right (unsigned_abs q.numerator) (denominator q)) in
-    positive (denominator q / g) g (denominator q) e (denominator_pos q)
-  where
-    positive : (m g n : ℕ) → m * g ≡ n → 0 < n → 0 < m
-    positive zero g n e p = absurd (omega arith)
-    positive (suc m) g n e p = omega arith
+    factor_pos (denominator q / g) g (denominator q) e (denominator_pos q)
 
 pub numerator-reduce : (q : Fraction) → (reduce q).numerator ≡ int_div q.numerator (pos (gcd (unsigned_abs q.numerator) (denominator q)))
 unfolding reduce over

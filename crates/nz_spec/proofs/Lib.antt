@@ -1,14 +1,17 @@
 mod Listed
 mod Uses
+pub mod ByteClasses
 pub mod Decimals
+pub mod Derivations
 pub mod Divisions
 pub mod Examples
-pub mod Found
 pub mod FractionArithmetic
 pub mod FractionLaws
 pub mod FractionOrder
+pub mod GateTruths
 pub mod InfinitesimalLaws
 pub mod Instances
+pub mod Literals
 pub mod Normal
 pub mod Pieces
 pub mod Placed

@@ -1,7 +1,10 @@
 -- A term list has a number exactly where the live items hold one.
-use Rattle.std.proofs.Common.{◌≡◌, ℕ, zero, suc, ◌<◌, length, arith, Bool, true, false, not, ◌||◌, List, [], ◌∷◌, ◌++◌, inl, inr, refl, sym, ap, ◌∙◌, append-nil}
+use Rattle.std.proofs.Common.{◌≡◌, ℕ, zero, suc, ◌<◌, length, arith, Bool, false, not, ◌||◌, List, [], ◌∷◌, ◌++◌, inl, inr, refl, sym, ap, ◌∙◌, append-nil}
 use Rattle.std.specs.Prelude.{Contains, flat_map, slice_index_or}
 use Rattle.std.specs.List.{list_any}
+use Rattle.std.proofs.Math.Bool.{or-false, or_assoc, or_comm}
+use Rattle.std.proofs.lemmas.List.Folds.{list_any-append}
+use Rattle.nz_lists.proofs.Tests.{or_again}
 use Rattle.nz_spec.specs.Term.{Head, modulus, is_int, head_sort, Term, apply, Terms, no_terms, terms, sort_of, is_bool, is_numeric, holds_number, hold_number}
 use Rattle.nz_spec.specs.Order.{companions, listing_order, listing_orders, AreFirst}
 use Rattle.nz_spec.specs.Live.{items_of, item_terms}
@@ -9,26 +12,6 @@ use Rattle.nz_spec.specs.TermList.{NumbersAreListed}
 
 abbrev is_number : Term → Bool
 is_number t = not (is_bool (sort_of t))
-
--- ---- Tests of some element
-
-or_assoc : (a b c : Bool) → ((a || b) || c) ≡ (a || (b || c))
-or_assoc true b c = refl
-or_assoc false b c = refl
-
-or_false : (b : Bool) → (b || false) ≡ b
-or_false true = refl
-or_false false = refl
-
-or_swap : (a b : Bool) → (a || b) ≡ (b || a)
-or_swap true true = refl
-or_swap true false = refl
-or_swap false true = refl
-or_swap false false = refl
-
-any_append : (test : Term → Bool) (xs ys : List Term) → list_any test (xs ++ ys) ≡ (list_any test xs || list_any test ys)
-any_append test [] ys = refl
-any_append test (x ∷ xs) ys = ap (λ b. test x || b) (any_append test xs ys) ∙ sym (or_assoc (test x) (list_any test xs) (list_any test ys))
 
 -- ---- The order of a listing
 
@@ -41,32 +24,28 @@ mutual
   listed_number : (t : Term) → list_any is_number (listing_order t) ≡ holds_number t
   listed_number (apply h ts) =
       let others = list_any is_number (listing_orders ts) in
-      any_append is_number (listing_orders ts ++ companions h ts) (apply h ts ∷ [])
-      ∙ ap (λ b. b || list_any is_number (apply h ts ∷ [])) (any_append is_number (listing_orders ts) (companions h ts))
+      list_any-append is_number (listing_orders ts ++ companions h ts) (apply h ts ∷ [])
+      ∙ ap (λ b. b || list_any is_number (apply h ts ∷ [])) (list_any-append is_number (listing_orders ts) (companions h ts))
       ∙ or_assoc others (list_any is_number (companions h ts)) (list_any is_number (apply h ts ∷ []))
-      ∙ ap (λ b. others || b) (companion_numeric h ts false ∙ or_false (is_numeric h))
+      ∙ ap (λ b. others || b) (companion_numeric h ts false ∙ or-false (is_numeric h))
       ∙ ap (λ b. b || is_numeric h) (listed_numbers ts)
-      ∙ or_swap (hold_number ts) (is_numeric h)
+      ∙ or_comm (hold_number ts) (is_numeric h)
 
   listed_numbers : (ts : Terms) → list_any is_number (listing_orders ts) ≡ hold_number ts
   listed_numbers no_terms = refl
   listed_numbers (terms t ts) =
-      any_append is_number (listing_order t) (listing_orders ts)
+      list_any-append is_number (listing_order t) (listing_orders ts)
       ∙ ap (λ b. b || list_any is_number (listing_orders ts)) (listed_number t)
       ∙ ap (λ b. holds_number t || b) (listed_numbers ts)
 
 all_listed : (ts : List Term) → list_any is_number (flat_map listing_order ts) ≡ list_any holds_number ts
 all_listed [] = refl
 all_listed (t ∷ ts) =
-    any_append is_number (listing_order t) (flat_map listing_order ts)
+    list_any-append is_number (listing_order t) (flat_map listing_order ts)
     ∙ ap (λ b. b || list_any is_number (flat_map listing_order ts)) (listed_number t)
     ∙ ap (λ b. holds_number t || b) (all_listed ts)
 
 -- ---- Each term once
-
-or_again : (a b : Bool) → ((a || b) || a) ≡ (a || b)
-or_again true b = refl
-or_again false b = or_false b
 
 contained_at : (test : Term → Bool) (t : Term) (seen : List Term) (k : ℕ) → k < length seen → slice_index_or seen k t ≡ t → (list_any test seen || test t) ≡ list_any test seen
 contained_at test t [] k below e = absurd (omega arith)
@@ -87,9 +66,9 @@ once_same test seen (t ∷ ts) list (inl h) =
 once_same test seen (t ∷ ts) list (inr h) =
     ap (λ l. list_any test seen || list_any test l) h.2
     ∙ sym (or_assoc (list_any test seen) (test t) (list_any test h.1))
-    ∙ ap (λ b. b || list_any test h.1) (or_swap (list_any test seen) (test t))
+    ∙ ap (λ b. b || list_any test h.1) (or_comm (list_any test seen) (test t))
     ∙ once_same test (t ∷ seen) ts h.1 h.3
-    ∙ ap (λ b. b || list_any test ts) (or_swap (test t) (list_any test seen))
+    ∙ ap (λ b. b || list_any test ts) (or_comm (test t) (list_any test seen))
     ∙ or_assoc (list_any test seen) (test t) (list_any test ts)
 
 pub numbers_are_listed : NumbersAreListed

@@ -1,23 +1,11 @@
 -- A term and its normal term have one value.
-use Rattle.std.proofs.Common.{◌≡◌, Bool, true, false, not, ◌&&◌, ◌||◌, List, [], ◌∷◌, refl, sym, ap, ◌∙◌}
+use Rattle.std.proofs.Common.{◌≡◌, Bool, false, not, ◌&&◌, ◌||◌, List, [], ◌∷◌, refl, sym, ap, ◌∙◌}
 use Rattle.std.specs.List.{list_all, list_any}
+use Rattle.std.proofs.Math.Bool.{and-true, or-false}
+use Rattle.nz_lists.proofs.Tests.{not_or}
 use Rattle.nz_spec.specs.Term.{NumberSort, Head, constant, parameter, integer, decimal_number, verum, falsum, negation, conjunction, disjunction, implication, exclusion, equality, distinction, choice, less, at_most, greater, at_least, sum, difference, product, quotient, integer_quotient, modulus, magnitude, to_real, to_int, is_int, Term, apply, Terms, no_terms, terms, Value, truth, Assignment, is_true, are_equal, is_less, is_at_most, implied, all_true, excluded, are_chained, are_distinct, combined, carried_out, divided, head_value, value_of, values_of}
 use Rattle.nz_spec.specs.Fraction.{Quotient}
 use Rattle.nz_spec.specs.Normal.{paired, turned, implication_of, grouped_onto, neighbours_of, disequations_onto, disequations_of, joined_by, chained_by, normal_node, normals_of, NormalKeepsValue}
-
--- ---- Truth values
-
-and_true : (b : Bool) → (b && true) ≡ b
-and_true true = refl
-and_true false = refl
-
-or_false : (b : Bool) → (b || false) ≡ b
-or_false true = refl
-or_false false = refl
-
-not_or : (b c d : Bool) → (not b && (not c && d)) ≡ (not (b || c) && d)
-not_or true c d = refl
-not_or false c d = refl
 
 -- ---- The normal terms of an operator
 
@@ -27,7 +15,7 @@ implication_keeps a (terms t no_terms) = refl
 implication_keeps a (terms t (terms u ts)) =
     let premise = not (is_true (value_of a t)) in
     ap (λ v. truth (premise || (is_true v || false))) (implication_keeps a (terms u ts))
-    ∙ ap (λ b. truth (premise || b)) (or_false (is_true (implied (values_of a (terms u ts)))))
+    ∙ ap (λ b. truth (premise || b)) (or-false (is_true (implied (values_of a (terms u ts)))))
 
 -- what an operator of two arguments makes of pairs, one after another
 grouped_keeps : (a : Assignment) (h : Head) (f : Value → Value → Value) → ((v w : Value) → head_value a h (v ∷ w ∷ []) ≡ f v w)
@@ -52,11 +40,11 @@ chained_keeps : (a : Assignment) (pair : Term → Term → Term) (related : Valu
     → (ts : Terms) → value_of a (chained_by pair ts) ≡ truth (are_chained related (values_of a ts))
 chained_keeps a pair related same no_terms = refl
 chained_keeps a pair related same (terms t no_terms) = refl
-chained_keeps a pair related same (terms t (terms u no_terms)) = same t u ∙ ap truth (sym (and_true (related (value_of a t) (value_of a u))))
+chained_keeps a pair related same (terms t (terms u no_terms)) = same t u ∙ ap truth (sym (and-true (related (value_of a t) (value_of a u))))
 chained_keeps a pair related same (terms t (terms u (terms v ts))) = ap truth (neighbours_keep a pair related same (terms t (terms u (terms v ts))))
 
 pair_keeps : (related : Value → Value → Bool) (v w : Value) → truth (are_chained related (v ∷ w ∷ [])) ≡ truth (related v w)
-pair_keeps related v w = ap truth (and_true (related v w))
+pair_keeps related v w = ap truth (and-true (related v w))
 
 -- the disequations of one term are all true where its value is none of the others
 disequations_onto_keep : (a : Assignment) (t : Term) (ts others : Terms)
@@ -66,7 +54,7 @@ disequations_onto_keep a t no_terms others = refl
 disequations_onto_keep a t (terms u ts) others =
     let same = are_equal (value_of a t) (value_of a u) in
     let rest = list_all is_true (values_of a (disequations_onto t ts others)) in
-    ap (λ b. not b && rest) (and_true same)
+    ap (λ b. not b && rest) (and-true same)
     ∙ ap (λ b. not same && b) (disequations_onto_keep a t ts others)
     ∙ not_or same (list_any (are_equal (value_of a t)) (values_of a ts)) (list_all is_true (values_of a others))
 
@@ -91,7 +79,7 @@ disequations_truths a (terms t ts) = disequations_onto_truths a t ts (disequatio
 
 all_of_truths : (vs : List Value) → AreTruths vs → all_true vs ≡ truth (list_all is_true vs)
 all_of_truths [] h = refl
-all_of_truths (v ∷ []) (one_truth h) = ap truth (sym (and_true _))
+all_of_truths (v ∷ []) (one_truth h) = ap truth (sym (and-true _))
 all_of_truths (v ∷ w ∷ vs) h = refl
 
 conjunction_keeps : (a : Assignment) (ts : Terms) → value_of a (joined_by conjunction ts) ≡ head_value a conjunction (values_of a ts)

@@ -2,10 +2,12 @@
 use Rattle.std.proofs.Common.{◌≡◌, ℕ, zero, suc, Bool, true, false, ◌&&◌, List, [], ◌∷◌, Option, Some, None, refl, sym, ◌∙◌, true≢false, if◌then◌else◌}
 use Rattle.std.specs.Bool.{⊤}
 use Rattle.std.specs.Prelude.{slice_get}
+use Rattle.std.proofs.lemmas.Option.{none-some, same_Some}
+use Rattle.std.proofs.lemmas.Bool.{and_parts}
+use Rattle.nz_lists.proofs.Options.{IfFound}
 use Rattle.nz_spec.specs.Term.{Sort, int_sort, real_sort, Head, to_real, Term, apply, Terms, no_terms, terms, sort_of, are_same_sort}
 use Rattle.nz_spec.specs.Elaboration.{has_sort, as_real, placed, term_at, terms_onto, all_placed}
-use Rattle.nz_spec.proofs.Found.{IfFound, some_same, none_is_not}
-use Rattle.nz_spec.proofs.Sorted.{and_first, and_second, same_sorts}
+use Rattle.nz_spec.proofs.Sorted.{same_sorts}
 
 -- terms of these sorts, as many of them
 abbrev pub HaveSorts : List Sort → Terms → Type 0
@@ -34,9 +36,9 @@ module _ (P : Term → Type 0) where
   -- the term that is put in a parameter's place
   pub at_place : (rs : List Sort) (us : Terms) (i : ℕ) (s : Sort) → HaveSorts rs us → AllAre us → slice_get rs i ≡ Some s → (h : Head) (ts : Terms)
       → IsPlaced s (elim (term_at us i) [ Some t ↦ t | None ↦ apply h ts ])
-  at_place [] us i s m g e h ts = absurd (none_is_not s e)
+  at_place [] us i s m g e h ts = absurd (none-some s e)
   at_place (r ∷ rs) no_terms i s m g e h ts = absurd m
-  at_place (r ∷ rs) (terms u us) zero s m g e h ts = (g.0, m.0 ∙ some_same r s e)
+  at_place (r ∷ rs) (terms u us) zero s m g e h ts = (g.0, m.0 ∙ same_Some r s e)
   at_place (r ∷ rs) (terms u us) (suc i) s m g e h ts = at_place rs us i s m.1 g.1 e h ts
 
   module _ (keeps : (t : Term) → P t → P (as_real t)) where
@@ -44,8 +46,8 @@ module _ (P : Term → Type 0) where
         → IfFound (IsPlaced s) (if b then Some t else (if c then Some (as_real t) else None))
     placed_by true c s t e f h = (h, sym (same_sorts s (sort_of t) e))
     placed_by false true s t e f h =
-        let real = same_sorts s real_sort (and_first (are_same_sort s real_sort) (has_sort int_sort t) f) in
-        let whole = and_second (are_same_sort s real_sort) (has_sort int_sort t) f in
+        let real = same_sorts s real_sort (and_parts (are_same_sort s real_sort) (has_sort int_sort t) f).0 in
+        let whole = (and_parts (are_same_sort s real_sort) (has_sort int_sort t) f).1 in
         (keeps t h, real_sort_if (has_sort int_sort t) t whole ∙ sym real)
     placed_by false false s t e f h = tt
 

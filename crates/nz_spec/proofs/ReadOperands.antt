@@ -1,9 +1,10 @@
 -- What the operands of an operator are, once they are read at the sort that their operator takes.
 use Rattle.std.proofs.Common.{◌≡◌, suc, Bool, true, false, not, ◌||◌, Option, Some, None, refl, sym, ap, ◌∙◌, true≢false, if◌then◌else◌}
+use Rattle.std.proofs.lemmas.Bool.{and_from, and_parts}
+use Rattle.nz_lists.proofs.Options.{IfFound, found_weaker}
 use Rattle.nz_spec.specs.Term.{Sort, bool_sort, int_sort, real_sort, to_real, Term, apply, Terms, no_terms, terms, sort_of, is_bool, are_same_sort}
 use Rattle.nz_spec.specs.Elaboration.{has_sort, is_number_term, all_terms, term_count, as_real, as_reals, number_sort, alike_sort, Operands, bools, ints, reals, numbers, alike, branches, operand_sort, read_at}
-use Rattle.nz_spec.proofs.Found.{IfFound, found_weaker}
-use Rattle.nz_spec.proofs.Sorted.{and_first, and_second, and_both, fit_numbers}
+use Rattle.nz_spec.proofs.Sorted.{fit_numbers}
 
 -- ---- Conversions
 
@@ -24,9 +25,9 @@ real_sorted_if false c t e f h = f ∙ h
 all_real : (ts : Terms) → all_terms is_number_term ts ≡ true → all_terms (has_sort real_sort) (as_reals ts) ≡ true
 all_real no_terms e = refl
 all_real (terms t ts) e =
-    and_both (has_sort real_sort (as_real t)) (all_terms (has_sort real_sort) (as_reals ts))
-    (real_sorted_if (has_sort int_sort t) (has_sort real_sort t) t refl refl (and_first (is_number_term t) (all_terms is_number_term ts) e))
-    (all_real ts (and_second (is_number_term t) (all_terms is_number_term ts) e))
+    and_from (has_sort real_sort (as_real t)) (all_terms (has_sort real_sort) (as_reals ts))
+    (real_sorted_if (has_sort int_sort t) (has_sort real_sort t) t refl refl (and_parts (is_number_term t) (all_terms is_number_term ts) e).0)
+    (all_real ts (and_parts (is_number_term t) (all_terms is_number_term ts) e).1)
 
 bool_is_no_int : (s : Sort) → are_same_sort bool_sort s ≡ true → are_same_sort int_sort s ≡ true → ⊥
 bool_is_no_int bool_sort e f = true≢false (sym f)
@@ -68,7 +69,7 @@ alike_read : (ts : Terms) → IfFound (λ s. all_terms (has_sort s) (read_at s t
 alike_read ts =
     alike_by (all_terms (has_sort bool_sort) ts) (number_sort ts) ts refl
     (found_weaker (λ s. fit_numbers s (read_at s ts) ≡ true) (λ s. all_terms (has_sort s) (read_at s ts) ≡ true) (number_sort ts)
-    (λ s e. and_second (not (is_bool s)) (all_terms (has_sort s) (read_at s ts)) e) (numbers_read ts))
+    (λ s e. (and_parts (not (is_bool s)) (all_terms (has_sort s) (read_at s ts)) e).1) (numbers_read ts))
 
 -- a term of sort Bool is read as itself
 bool_read_by : (b : Bool) (c : Term) → has_sort int_sort c ≡ b → has_sort bool_sort c ≡ true → has_sort bool_sort (if b then apply to_real (terms c no_terms) else c) ≡ true

@@ -2,10 +2,12 @@
 use Rattle.std.proofs.Common.{◌≡◌, ℕ, ◌+◌, ◌-◌, ◌≤◌, ◌||◌, suc, max, Bool, true, false, List, [], ◌∷◌, ◌++◌, length, Option, Some, None, refl, sym, ◌∙◌, ap, arith, append_assoc, add-zero, length-append, if◌then◌else◌}
 use Rattle.std.proofs.lemmas.Bool.{eqb-true}
 use Rattle.std.proofs.lemmas.List.{append-nil}
+use Rattle.std.proofs.Math.Bool.{or-false, or_assoc}
 use Rattle.nz_spec.specs.Tree.{Token, Tree, leaf, node, Trees, no_trees, trees}
 use Rattle.nz_spec.specs.Text.{ByteClass, blank_byte, word_byte, class_of, is_line_end, is_quote, is_bar, AllOfClass, BeginsWord, HasNone, EndsOrBegins, Filler, gap, comment, word, string, quoted, Unfinished, open_string, open_quoted, Piece, closing, filler, unfinished, with_quotes_doubled, spelling_of, unfinished_spelling, text_of, StandsBefore, AreLongest, Group, single, nest, Groups, no_groups, groups, group_pieces, groups_pieces, Thing, loose, unmatched, command, Open, open_pieces, script_pieces, is_blank, token_of, tree_onto, group_trees, is_bad_filler, is_bad_group, are_bad_groups, group_depth, groups_depth, Limits, unclosed, Heard, thing_length, command_what, heard_thing, heard_open, heard_from, Hears, OneReading}
 use Rattle.nz_spec.specs.Reading.{trees_from, Part, no_part, in_comment, in_word, in_string, after_quote, in_quoted, Reading, reading_start, trees_of_filler, heard_faulty, what_of, taken_by, told_token_by, begins_at, goes_on, next_outside, told_outside, next_in_word, told_in_word, hear_on}
-use Rattle.nz_spec.proofs.Pieces.{line_end-blank, things_in, open_in, script-spelled, script-longest}
+use Rattle.nz_spec.proofs.ByteClasses.{line_end-blank}
+use Rattle.nz_spec.proofs.Pieces.{things_in, open_in, script-spelled, script-longest}
 
 -- a reading by its parts
 abbrev at_parts : ℕ → ℕ → Part → List (List Tree) → Bool → ℕ → Reading
@@ -207,14 +209,6 @@ listed-onto : (g : Group) (rest : Trees) → listed (tree_onto g rest) ≡ trees
 listed-onto (single x) rest = listed-word (token_of x) rest
 listed-onto (nest gs) rest = refl
 
-or-false : (b : Bool) → b || false ≡ b
-or-false true = refl
-or-false false = refl
-
-or-or : (a b c : Bool) → (a || b) || c ≡ a || (b || c)
-or-or true b c = refl
-or-or false b c = refl
-
 -- states that agree in their parts
 same_state : (limits : Limits) (f : ℕ) (ls : List (List Tree)) (rest : List ℕ) (a a' : ℕ) (l l' : List Tree) (bad bad' : Bool) (d d' : ℕ) → a ≡ a' → l ≡ l' → bad ≡ bad' → d ≡ d' → hear_on limits (at_parts a f no_part (l ∷ ls) bad d) rest ≡ hear_on limits (at_parts a' f no_part (l' ∷ ls) bad' d') rest
 same_state limits f ls rest a a' l l' bad bad' d d' ea el eb ed =
@@ -250,7 +244,7 @@ mutual
   groups-heard limits (groups g gs) rest a f l ls bad d h n =
       group-heard limits g (groups_pieces gs rest) a f l ls bad d h n
       ∙ groups-heard limits gs rest (a + group_size g) f (l ++ trees_at g) ls (bad || is_bad_group g) (max d (length ls + 1 + group_depth g)) (group-longest g (groups_pieces gs rest) h) (omega arith)
-      ∙ same_state limits f ls (text_of rest) _ _ _ _ _ _ _ _ (omega arith) (append_assoc l (trees_at g) (listed (group_trees gs)) ∙ ap (λ k. l ++ k) (sym (listed-onto g (group_trees gs)))) (or-or bad (is_bad_group g) (are_bad_groups gs)) (omega arith)
+      ∙ same_state limits f ls (text_of rest) _ _ _ _ _ _ _ _ (omega arith) (append_assoc l (trees_at g) (listed (group_trees gs)) ∙ ap (λ k. l ++ k) (sym (listed-onto g (group_trees gs)))) (or_assoc bad (is_bad_group g) (are_bad_groups gs)) (omega arith)
 
 -- ---- The whole text
 

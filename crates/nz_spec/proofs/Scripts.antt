@@ -1,9 +1,11 @@
 -- The worked scripts: what is heard in them by reading, and that each reply is right.
-use Rattle.std.proofs.Common.{◌≡◌, Bool, true, false, not, List, [], ◌∷◌, length, IsTrue, refl, sym, ap, ◌∙◌, subst, inl, append-nil, true≢false, arith}
+use Rattle.std.proofs.Common.{◌≡◌, Bool, true, false, List, [], ◌∷◌, length, refl, sym, ap, ◌∙◌, subst, inl, append-nil, true≢false, arith}
 use Rattle.std.specs.Fmt.{digits}
 use Rattle.std.specs.Prelude.{⊤, bytes_eq, codes, if◌then◌else◌}
 use Rattle.std.specs.List.{AllByRecursion}
+use Rattle.std.proofs.lemmas.Bool.{and_parts}
 use Rattle.nz_ints.specs.Division.{gcd_within, gcd, lcm, floor_div}
+use Rattle.nz_lists.proofs.Tests.{no_contradiction}
 use Rattle.nz_spec.specs.Fraction.{denominator, over, fraction_eq, fraction_le, fraction_lt, neg_ℚ, ◌+ℚ◌, ◌-ℚ◌, ◌*ℚ◌, ◌/ℚ◌, flipped, reciprocal, floor, reduce, is_wide_sum, is_wide_product, exact, outcome, is_wide, first_wide}
 use Rattle.nz_spec.specs.Term.{are_same_constant, Sort, bool_sort, int_sort, real_sort, are_same_sort, Value, IsOfSort, default_value, is_true, div_of, mod_of}
 use Rattle.nz_spec.specs.Model.{Binding, assignment_of, IsAssignment}
@@ -19,7 +21,7 @@ use Rattle.nz_spec.specs.Run.{solve_limit}
 use Rattle.nz_spec.specs.WorkedScripts.{Worked, replied, kept_of_worked, IsWorked, express_is, prices, errors}
 use Rattle.nz_spec.specs.Samples.{constant_of_sort}
 use Rattle.nz_spec.proofs.Readings.{hears}
-use Rattle.nz_spec.proofs.Sorted.{and_second, same_sorts}
+use Rattle.nz_spec.proofs.Sorted.{same_sorts}
 
 -- ---- What is told is what is heard
 
@@ -148,11 +150,7 @@ bindings_assign : (bs : List Binding) → AllByRecursion (λ (b : Binding). IsOf
 bindings_assign [] h c = default_is c.sort
 bindings_assign (b ∷ bs) h c =
     bound_or_default (are_same_constant b.constant c) b.constant.sort c.sort b.value (assignment_of bs c)
-    (λ e. same_sorts b.constant.sort c.sort (and_second (bytes_eq b.constant.name c.name) (are_same_sort b.constant.sort c.sort) e)) h.0 (bindings_assign bs h.1 c)
-
-both_hold : (b : Bool) → IsTrue b → IsTrue (not b) → ⊥
-both_hold true h k = true≢false (sym k)
-both_hold false h k = true≢false (sym h)
+    (λ e. same_sorts b.constant.sort c.sort (and_parts (bytes_eq b.constant.name c.name) (are_same_sort b.constant.sort c.sort) e).1) h.0 (bindings_assign bs h.1 c)
 
 prices_right : AreRight (beginning solve_limit) (kept_of_worked prices)
 unfolding digits gcd_within gcd lcm floor_div denominator over fraction_eq fraction_le fraction_lt neg_ℚ ◌+ℚ◌ ◌-ℚ◌ ◌*ℚ◌ ◌/ℚ◌ flipped reciprocal floor reduce is_wide_sum is_wide_product exact outcome is_wide first_wide div_of mod_of
@@ -179,7 +177,7 @@ prices_right =
                   inl (refl, refl),
                   refl,
                   (
-                    inl (λ a m. both_hold (is_true (a (constant_of_sort bool_sort (codes "express")))) m.asserted_hold.0 m.asserted_hold.1.0, refl),
+                    inl (λ a m. no_contradiction (is_true (a (constant_of_sort bool_sort (codes "express")))) m.asserted_hold.0 m.asserted_hold.1.0, refl),
                     refl,
                     (
                       inl (refl, refl),

@@ -4,6 +4,7 @@ use Rattle.std.proofs.Common.{◌≡◌, ℕ, Bool, true, false, not, ◌&&◌, 
 use Rattle.std.specs.Bool.{⊤}
 use Rattle.std.specs.Prelude.{slice_get}
 use Rattle.std.proofs.Math.Nat.{div-le_self}
+use Rattle.std.proofs.lemmas.Bool.{and_parts}
 use Rattle.nz_ints.specs.Division.{gcd}
 use Rattle.std.specs.List.{AllByRecursion}
 use Rattle.nz_spec.specs.Fraction.{Fraction, denominator, IsWhole, reduce, ◌+ℚ◌, neg_ℚ, ◌-ℚ◌, ◌*ℚ◌, outcome, exact, Arithmetic, Sum, Difference, Product, Quotient}
@@ -12,19 +13,7 @@ use Rattle.nz_spec.specs.Elaboration.{has_sort, all_terms, term_count}
 use Rattle.nz_spec.proofs.FractionArithmetic.{denominator-sum, denominator-product, denominator-neg}
 use Rattle.nz_spec.proofs.FractionLaws.{denominator-reduce, denominator_pos}
 
--- ---- Tests
-
-pub and_first : (a b : Bool) → (a && b) ≡ true → a ≡ true
-and_first true b e = refl
-and_first false b e = absurd (true≢false (sym e))
-
-pub and_second : (a b : Bool) → (a && b) ≡ true → b ≡ true
-and_second true b e = e
-and_second false b e = absurd (true≢false (sym e))
-
-pub and_both : (a b : Bool) → a ≡ true → b ≡ true → (a && b) ≡ true
-and_both true b e f = f
-and_both false b e f = e
+-- ---- Sorts
 
 pub same_sorts : (s t : Sort) → are_same_sort s t ≡ true → s ≡ t
 same_sorts bool_sort bool_sort e = refl
@@ -92,8 +81,8 @@ HaveSorts a (terms t ts) = IsOfSort (sort_of t) (value_of a t) × HaveSorts a ts
 all_of : (a : Assignment) (s : Sort) (ts : Terms) → all_terms (has_sort s) ts ≡ true → HaveSorts a ts → AllByRecursion (IsOfSort s) (values_of a ts)
 all_of a s no_terms e h = tt
 all_of a s (terms t ts) e h =
-    let first = and_first (has_sort s t) (all_terms (has_sort s) ts) e in
-    let second = and_second (has_sort s t) (all_terms (has_sort s) ts) e in
+    let first = (and_parts (has_sort s t) (all_terms (has_sort s) ts) e).0 in
+    let second = (and_parts (has_sort s t) (all_terms (has_sort s) ts) e).1 in
     (subst (λ r. IsOfSort r (value_of a t)) (sym (same_sorts s (sort_of t) first)) h.0, all_of a s ts second h.1)
 
 default_is : (s : Sort) → IsOfSort s (default_value s)
@@ -192,46 +181,46 @@ real_is (number q) i = tt
 
 choice_is : (a : Assignment) (s : Sort) (ts : Terms) → fit_branches s ts ≡ true → HaveSorts a ts → IsOfSort s (head_value a (choice s) (values_of a ts))
 choice_is a s no_terms e h = absurd (true≢false (sym e))
-choice_is a s (terms c no_terms) e h = absurd (true≢false (sym (and_second (has_sort bool_sort c) false e)))
-choice_is a s (terms c (terms t no_terms)) e h = absurd (true≢false (sym (and_second (has_sort bool_sort c) false e)))
+choice_is a s (terms c no_terms) e h = absurd (true≢false (sym (and_parts (has_sort bool_sort c) false e).1))
+choice_is a s (terms c (terms t no_terms)) e h = absurd (true≢false (sym (and_parts (has_sort bool_sort c) false e).1))
 choice_is a s (terms c (terms t (terms u no_terms))) e h =
-    let alike = and_second (has_sort bool_sort c) (all_terms (has_sort s) (terms t (terms u no_terms))) e in
+    let alike = (and_parts (has_sort bool_sort c) (all_terms (has_sort s) (terms t (terms u no_terms))) e).1 in
     let both = all_of a s (terms t (terms u no_terms)) alike h.1 in
     chosen_is (is_true (value_of a c)) s (value_of a t) (value_of a u) both.0 both.1.0
 choice_is a s (terms c (terms t (terms u (terms w ts)))) e h =
     let ws = terms t (terms u (terms w ts)) in
-    let rest = and_second (has_sort bool_sort c) ((term_count ws == 2) && all_terms (has_sort s) ws) e in
-    let two : term_count ws ≡ 2 = eqb-true (term_count ws) 2 (and_first (term_count ws == 2) (all_terms (has_sort s) ws) rest) in
+    let rest = (and_parts (has_sort bool_sort c) ((term_count ws == 2) && all_terms (has_sort s) ws) e).1 in
+    let two : term_count ws ≡ 2 = eqb-true (term_count ws) 2 (and_parts (term_count ws == 2) (all_terms (has_sort s) ws) rest).0 in
     absurd (omega (arith, two))
 
 sum_is : (a : Assignment) (n : NumberSort) (ts : Terms) → fit_numbers (sort_over n) ts ≡ true → HaveSorts a ts → IsOfSort (sort_over n) (head_value a (sum n) (values_of a ts))
-sum_is a n no_terms e h = let s = sort_over n in whole_is s (pos 0) (and_first (not (is_bool s)) true e)
+sum_is a n no_terms e h = let s = sort_over n in whole_is s (pos 0) (and_parts (not (is_bool s)) true e).0
 sum_is a n (terms t ts) e h =
     let s = sort_over n in
-    let wanted = and_first (not (is_bool s)) (all_terms (has_sort s) (terms t ts)) e in
-    let all = all_of a s (terms t ts) (and_second (not (is_bool s)) (all_terms (has_sort s) (terms t ts)) e) h in
+    let wanted = (and_parts (not (is_bool s)) (all_terms (has_sort s) (terms t ts)) e).0 in
+    let all = all_of a s (terms t ts) (and_parts (not (is_bool s)) (all_terms (has_sort s) (terms t ts)) e).1 h in
     combined_is s (carried_out Sum) (carried_is s Sum sum_whole wanted) (value_of a t) (values_of a ts) all.0 all.1
 
 product_is : (a : Assignment) (n : NumberSort) (ts : Terms) → fit_numbers (sort_over n) ts ≡ true → HaveSorts a ts → IsOfSort (sort_over n) (head_value a (product n) (values_of a ts))
-product_is a n no_terms e h = let s = sort_over n in whole_is s (pos 1) (and_first (not (is_bool s)) true e)
+product_is a n no_terms e h = let s = sort_over n in whole_is s (pos 1) (and_parts (not (is_bool s)) true e).0
 product_is a n (terms t ts) e h =
     let s = sort_over n in
-    let wanted = and_first (not (is_bool s)) (all_terms (has_sort s) (terms t ts)) e in
-    let all = all_of a s (terms t ts) (and_second (not (is_bool s)) (all_terms (has_sort s) (terms t ts)) e) h in
+    let wanted = (and_parts (not (is_bool s)) (all_terms (has_sort s) (terms t ts)) e).0 in
+    let all = all_of a s (terms t ts) (and_parts (not (is_bool s)) (all_terms (has_sort s) (terms t ts)) e).1 h in
     combined_is s (carried_out Product) (carried_is s Product product_whole wanted) (value_of a t) (values_of a ts) all.0 all.1
 
 difference_is : (a : Assignment) (n : NumberSort) (ts : Terms) → fit_numbers (sort_over n) ts ≡ true → HaveSorts a ts → IsOfSort (sort_over n) (head_value a (difference n) (values_of a ts))
-difference_is a n no_terms e h = let s = sort_over n in whole_is s (pos 0) (and_first (not (is_bool s)) true e)
+difference_is a n no_terms e h = let s = sort_over n in whole_is s (pos 0) (and_parts (not (is_bool s)) true e).0
 difference_is a n (terms t no_terms) e h =
     let s = sort_over n in
-    let wanted = and_first (not (is_bool s)) (all_terms (has_sort s) (terms t no_terms)) e in
-    let all = all_of a s (terms t no_terms) (and_second (not (is_bool s)) (all_terms (has_sort s) (terms t no_terms)) e) h in
+    let wanted = (and_parts (not (is_bool s)) (all_terms (has_sort s) (terms t no_terms)) e).0 in
+    let all = all_of a s (terms t no_terms) (and_parts (not (is_bool s)) (all_terms (has_sort s) (terms t no_terms)) e).1 h in
     negated_is s (value_of a t) wanted all.0
 difference_is a n (terms t (terms u ts)) e h =
     let s = sort_over n in
     let us = terms u ts in
-    let wanted = and_first (not (is_bool s)) (all_terms (has_sort s) (terms t us)) e in
-    let all = all_of a s (terms t us) (and_second (not (is_bool s)) (all_terms (has_sort s) (terms t us)) e) h in
+    let wanted = (and_parts (not (is_bool s)) (all_terms (has_sort s) (terms t us)) e).0 in
+    let all = all_of a s (terms t us) (and_parts (not (is_bool s)) (all_terms (has_sort s) (terms t us)) e).1 h in
     combined_is s (carried_out Difference) (carried_is s Difference difference_whole wanted) (value_of a t) (values_of a us) all.0 all.1
 
 head_is : (a : Assignment) (ss : List Sort) (h : Head) (ts : Terms) → Stands a ss h → fit h ts ≡ true → HaveSorts a ts → IsOfSort (head_sort h) (head_value a h (values_of a ts))

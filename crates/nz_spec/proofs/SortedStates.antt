@@ -9,6 +9,7 @@ use Rattle.nz_spec.specs.Expression.{Expression}
 use Rattle.nz_spec.specs.Request.{WrittenSort, Parameter, Question, lex_priority, box_priority, pareto_priority, Setting, success_setting, models_setting, priority_setting, other_setting, InfoKey, name_key, version_key, authors_key, behavior_key, levels_key, reason_key, other_key, Request, declares, defines, asserts, checks, shows_model, shows_values, shows_info, sets_option, sets_nothing, echoes, exits}
 use Rattle.nz_spec.specs.Parse.{request_of}
 use Rattle.nz_spec.specs.Bounds.{has_token, is_wide_token, is_long_decimal}
+use Rattle.nz_lists.proofs.Options.{IfFound, and_then_found}
 use Rattle.nz_spec.specs.Term.{Sort, bool_sort, Constant, Term, Terms, sort_of, Assignment, IsOfSort, value_of}
 use Rattle.nz_spec.specs.Normal.{normal_of}
 use Rattle.nz_spec.specs.Linear.{is_linear}
@@ -25,7 +26,6 @@ use Rattle.nz_spec.specs.Transcript.{Kept, context_of}
 use Rattle.nz_spec.specs.Model.{IsAssignment}
 use Rattle.nz_spec.specs.Sorts.{HaveTheirSorts, TermsHaveTheirSorts}
 use Rattle.nz_spec.proofs.Sorted.{same_sorts, Gives, IsSorted, value_is}
-use Rattle.nz_spec.proofs.Found.{IfFound, and_then_found}
 use Rattle.nz_spec.proofs.Placed.{IsPlaced, is_placed}
 use Rattle.nz_spec.proofs.WrittenTerms.{AreBound}
 use Rattle.nz_spec.proofs.SortedTerms.{sorted_real, IsSortedScope, term_sorted}

@@ -3,13 +3,14 @@ use Rattle.std.proofs.Common.{◌≡◌, ℕ, suc, Bool, true, false, not, ◌&&
 use Rattle.std.specs.Bool.{⊤}
 use Rattle.std.specs.Prelude.{option_map}
 use Rattle.nz_spec.specs.Expression.{Expression}
+use Rattle.std.proofs.lemmas.Bool.{and_from}
+use Rattle.nz_lists.proofs.Options.{IfFound, map_found}
 use Rattle.nz_spec.specs.Term.{Sort, sort_over, bool_sort, int_sort, real_sort, Head, constant, parameter, conjunction, disjunction, implication, exclusion, choice, sum, difference, product, quotient, integer_quotient, to_real, head_sort, Term, apply, Terms, no_terms, terms, sort_of, is_bool, Assignment}
 use Rattle.nz_spec.specs.Elaboration.{Operator, true_operator, false_operator, not_operator, and_operator, or_operator, implies_operator, xor_operator, equals_operator, distinct_operator, ite_operator, at_most_operator, less_operator, at_least_operator, greater_operator, plus_operator, times_operator, minus_operator, over_operator, div_operator, mod_operator, abs_operator, to_real_operator, to_int_operator, is_int_operator, has_sort, all_terms, term_count, as_real, as_reals, takes, operands_of, operand_sort, read_at, numbers_at, operator_head, applied, Definition, instance_node, instance_of, instances_of, all_placed, expansion, Scope, term_of}
 use Rattle.nz_spec.proofs.ReadOperands.{Reads, count_read, operands_read}
-use Rattle.nz_spec.proofs.Found.{IfFound, map_found}
 use Rattle.nz_spec.proofs.Placed.{HaveSorts, AllAre, IsPlaced, ArePlaced, are_placed, at_place}
 use Rattle.nz_spec.proofs.WrittenTerms.{StaysSo, IsScope, term_found}
-use Rattle.nz_spec.proofs.Sorted.{and_both, fit, fit_branches, fit_numbers, Gives, Stands, IsSorted, AreSorted}
+use Rattle.nz_spec.proofs.Sorted.{fit, fit_branches, fit_numbers, Gives, Stands, IsSorted, AreSorted}
 
 -- ---- Terms of the same sorts
 
@@ -72,7 +73,7 @@ module _ (a : Assignment) (ss : List Sort) where
   IsTerm o = IfFound (IsSorted a ss) o
 
   real_if : (b : Bool) (t : Term) → has_sort int_sort t ≡ b → IsSorted a ss t → IsSorted a ss (if b then apply to_real (terms t no_terms) else t)
-  real_if true t e h = (tt, and_both (has_sort int_sort t) true e refl, (h, tt))
+  real_if true t e h = (tt, and_from (has_sort int_sort t) true e refl, (h, tt))
   real_if false t e h = h
 
   pub sorted_real : (t : Term) → IsSorted a ss t → IsSorted a ss (as_real t)
@@ -101,7 +102,7 @@ module _ (a : Assignment) (ss : List Sort) where
   head_sorted equals_operator s us n r = (tt, refl)
   head_sorted distinct_operator s us n r = (tt, refl)
   head_sorted ite_operator s no_terms n r = absurd r
-  head_sorted ite_operator s (terms c us) n r = (tt, and_both (has_sort bool_sort c) ((term_count us == 2) && all_terms (has_sort s) us) r.0 (and_both (term_count us == 2) (all_terms (has_sort s) us) (two_left (term_count us) n) r.1))
+  head_sorted ite_operator s (terms c us) n r = (tt, and_from (has_sort bool_sort c) ((term_count us == 2) && all_terms (has_sort s) us) r.0 (and_from (term_count us == 2) (all_terms (has_sort s) us) (two_left (term_count us) n) r.1))
   head_sorted at_most_operator s us n r = (tt, refl)
   head_sorted less_operator s us n r = (tt, refl)
   head_sorted at_least_operator s us n r = (tt, refl)

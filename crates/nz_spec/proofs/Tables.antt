@@ -3,13 +3,17 @@ use Rattle.std.proofs.Common.{◌≡◌, ℕ, Bool, true, false, zero, suc, ◌+
 use Rattle.std.specs.Prelude.{All, bytes_eq, fold, slice_get, unwrap_or, if◌then◌else◌}
 use Rattle.std.proofs.lemmas.Slice.Eq.{bytes_eq-Decides}
 use Rattle.std.proofs.Math.ListN.{get_or-append}
-use Rattle.std.proofs.Math.Seq.{get_or-append_seam, drop-cons}
+use Rattle.std.proofs.Math.Seq.{get_or-append_seam}
 use Rattle.std.proofs.lemmas.List.{take-append-drop}
 use Rattle.std.proofs.lemmas.List.Sums.{fold-append}
-use Rattle.std.proofs.lemmas.Option.{slice_get_within, get_or_from_slice_get, slice_get-get_or}
+use Rattle.std.proofs.lemmas.Option.{slice_get_within, slice_get-get_or}
+use Rattle.std.proofs.lemmas.Bool.{and_from, and_parts}
+use Rattle.std.proofs.lemmas.List.Elements.{All-head, All-tail}
+use Rattle.nz_lists.proofs.Places.{drop_found}
+use Rattle.nz_lists.proofs.Tests.{same_tests}
 use Rattle.nz_spec.specs.Term.{Sort, bool_sort, int_sort, real_sort, are_same_sort, Constant, are_same_constant, Head, constant, constant_of, falsum, Term, apply, no_terms, terms, Value, default_value}
 use Rattle.nz_spec.specs.Table.{Node, terms_at, listed_term, with_term, term_in, HasItsArguments, IsTable, OneNumber, TermOfNode, TermStays, TermStaysInFront, TermsStay, is_node_of, listed_value, assignment_by, AssignsByNumber}
-use Rattle.nz_spec.proofs.Sorted.{and_first, and_second, and_both, same_sorts}
+use Rattle.nz_spec.proofs.Sorted.{same_sorts}
 
 -- what a number past the end stands for
 abbrev unlisted : Term
@@ -41,28 +45,18 @@ term_stays_in_front ns m i below within =
     let inside : i < length (take m ns) = omega (arith, length-take m ns) in
     sym (ap (λ l. term_in l i) (sym (take-append-drop m ns)) ∙ term_stays (take m ns) (drop m ns) i inside)
 
--- the facts of the rest of a list
-all-rest : (P : ℕ → Type 0) (i : ℕ) (is : List ℕ) → All P (i ∷ is) → All P is
-all-rest P i is h = λ k d below. h (suc k) d (omega arith)
-
-all-first : (P : ℕ → Type 0) (i : ℕ) (is : List ℕ) → All P (i ∷ is) → P i
-all-first P i is h = h 0 i (omega arith)
-
 -- the terms of numbers that stand for the same
 terms_at-same : (f g : ℕ → Term) (P : ℕ → Type 0) → ((i : ℕ) → P i → f i ≡ g i) → (is : List ℕ) → All P is → terms_at f is ≡ terms_at g is
 terms_at-same f g P same [] h = refl
 terms_at-same f g P same (i ∷ is) h =
-    ap (λ t. terms t (terms_at f is)) (same i (all-first P i is h)) ∙ ap (terms (g i)) (terms_at-same f g P same is (all-rest P i is h))
+    ap (λ t. terms t (terms_at f is)) (same i (All-head P i is h)) ∙ ap (terms (g i)) (terms_at-same f g P same is (All-tail P i is h))
 
 pub terms_stay : TermsStay
 terms_stay ns more is within = terms_at-same (term_in (ns ++ more)) (term_in ns) (λ i. i < length ns) (term_stays ns more) is within
 
 -- a list round one of its nodes
 around : (ns : List Node) (i : ℕ) (n : Node) → slice_get ns i ≡ Some n → take i ns ++ n ∷ drop (suc i) ns ≡ ns
-around ns i n at =
-    ap (λ m. take i ns ++ m ∷ drop (suc i) ns) (sym (get_or_from_slice_get ns i n n at))
-    ∙ ap (λ l. take i ns ++ l) (sym (drop-cons ns i n (slice_get_within ns i n at)))
-    ∙ take-append-drop i ns
+around ns i n at = ap (λ l. take i ns ++ l) (sym (drop_found ns i n at)) ∙ take-append-drop i ns
 
 -- the term of the node behind a list of nodes
 term_behind : (ns more : List Node) (n : Node) → term_in (ns ++ n ∷ more) (length ns) ≡ apply n.head (terms_at (term_in ns) n.kids)
@@ -99,8 +93,8 @@ same_numbers f P Q one (i ∷ is) [] h k e = cc
 same_numbers f P Q one (i ∷ is) (j ∷ js) h k e =
     let first : f i ≡ f j = cc in
     let rest : terms_at f is ≡ terms_at f js = cc in
-    ap (λ l. i ∷ l) (same_numbers f P Q one is js (all-rest P i is h) (all-rest Q j js k) rest)
-    ∙ ap (λ m. m ∷ js) (one i j (all-first P i is h) (all-first Q j js k) first)
+    ap (λ l. i ∷ l) (same_numbers f P Q one is js (All-tail P i is h) (All-tail Q j js k) rest)
+    ∙ ap (λ m. m ∷ js) (one i j (All-head P i is h) (All-head Q j js k) first)
 
 -- a node is its head and its arguments
 same_node : (n m : Node) → n.head ≡ m.head → n.kids ≡ m.kids → n ≡ m
@@ -128,16 +122,10 @@ one_number ns table i j within there e = one_below ns table (suc i) i j (omega a
 
 -- ---- Assignments
 
--- two tests that hold together are one
-same_tests : (b d : Bool) → (b ≡ true → d ≡ true) → (d ≡ true → b ≡ true) → b ≡ d
-same_tests true d f g = sym (f refl)
-same_tests false true f g = g refl
-same_tests false false f g = refl
-
 same_constant : (c d : Constant) → are_same_constant c d ≡ true → c ≡ d
 same_constant c d e =
-    let named : c.name ≡ d.name = (bytes_eq-Decides c.name d.name).0 (and_first (bytes_eq c.name d.name) (are_same_sort c.sort d.sort) e) in
-    let sorted : c.sort ≡ d.sort = same_sorts c.sort d.sort (and_second (bytes_eq c.name d.name) (are_same_sort c.sort d.sort) e) in
+    let named : c.name ≡ d.name = (bytes_eq-Decides c.name d.name).0 (and_parts (bytes_eq c.name d.name) (are_same_sort c.sort d.sort) e).0 in
+    let sorted : c.sort ≡ d.sort = same_sorts c.sort d.sort (and_parts (bytes_eq c.name d.name) (are_same_sort c.sort d.sort) e).1 in
     ap (λ x. let r : Constant = record { name = x; sort = c.sort } in r) named ∙ ap (λ x. let r : Constant = record { name = d.name; sort = x } in r) sorted
 
 sort_itself : (s : Sort) → are_same_sort s s ≡ true
@@ -146,7 +134,7 @@ sort_itself int_sort = refl
 sort_itself real_sort = refl
 
 constant_itself : (c : Constant) → are_same_constant c c ≡ true
-constant_itself c = and_both (bytes_eq c.name c.name) (are_same_sort c.sort c.sort) ((bytes_eq-Decides c.name c.name).1 refl) (sort_itself c.sort)
+constant_itself c = and_from (bytes_eq c.name c.name) (are_same_sort c.sort c.sort) ((bytes_eq-Decides c.name c.name).1 refl) (sort_itself c.sort)
 
 -- a head that is a constant
 head_of_constant : (h : Head) (d : Constant) → constant_of h ≡ Some d → h ≡ constant d

@@ -5,7 +5,7 @@ use Rattle.std.specs.List.{AllByRecursion}
 use Rattle.nz_spec.specs.Expression.{Numeric, written_integer, written_decimal, Expression, written_number, written_name, written_use, written_let, Expressions, no_expressions, expressions, Locals, no_locals, locals}
 use Rattle.nz_spec.specs.Term.{Constant, constant, integer, decimal_number, Term, apply, Terms, no_terms}
 use Rattle.nz_spec.specs.Elaboration.{Operator, listed, operator_named, applied, Definition, terms_onto, expansion, Scope, constant_named, definition_named, binding, name_term, application, number_term, bound_onto, term_of, terms_of, bindings_of}
-use Rattle.nz_spec.proofs.Found.{IfFound, and_then_found, if_found}
+use Rattle.nz_lists.proofs.Options.{IfFound, and_then_found, if_found}
 use Rattle.nz_spec.proofs.Placed.{AllAre}
 
 -- each name is bound to a term that is so

@@ -6,10 +6,12 @@ pub mod Elaboration
 pub mod Example
 pub mod Expression
 pub mod Fraction
+pub mod Gates
 pub mod Infinitesimal
 pub mod Kept
 pub mod Limits
 pub mod Linear
+pub mod Literal
 pub mod Live
 pub mod Model
 pub mod Normal
@@ -27,6 +29,7 @@ pub mod Samples
 pub mod Scoping
 pub mod Script
 pub mod Sorts
+pub mod Steps
 pub mod Table
 pub mod Term
 pub mod TermList
@@ -44,4 +47,5 @@ pub mod WorkedNumbers
 pub mod WorkedReplies
 pub mod WorkedScript
 pub mod WorkedScripts
+pub mod WorkedSteps
 pub mod WorkedTerms

@@ -1,43 +1,40 @@
 -- Companions that are made, one term after another in a table that grows.
-use Rattle.std.proofs.Common.{◌≡◌, inl, inr, ℕ, ◌+◌, ◌<◌, ◌≤◌, List, [], ◌∷◌, ◌++◌, length, take, drop, sym, ap, subst, ◌∙◌, arith, length-append, length-take}
+use Rattle.std.proofs.Common.{◌≡◌, inl, inr, ℕ, ◌+◌, ◌<◌, ◌≤◌, List, [], length, take, drop, sym, ap, subst, ◌∙◌, arith, length-take}
 use Rattle.std.specs.List.{AllByRecursion}
 use Rattle.std.proofs.lemmas.Bool.{cases_lt}
 use Rattle.std.proofs.lemmas.Bool.Decides.{eqb_tells}
 use Rattle.std.proofs.lemmas.List.{take-append-drop}
+use Rattle.nz_lists.proofs.Elements.{AllByRecursion-weaker}
 use Rattle.nz_spec.specs.Term.{Term}
-use Rattle.nz_spec.specs.Table.{Node, term_in}
+use Rattle.nz_spec.specs.Table.{Node, TermStays, term_in}
 use Rattle.nz_spec.specs.Order.{companions_of, HasCompanions, IsInTable}
-use Rattle.nz_spec.proofs.Tables.{term_stays}
-use Rattle.nz_term.specs.Growth.{Grows}
-use Rattle.nz_term.proofs.Instancing.{grows_not, grows_on, term_kept}
+use Rattle.nz_term.specs.Growth.{Grows, KeepsTerms}
+use Rattle.nz_term.proofs.Instancing.{grows_longer, grows_not, grows_on, term_kept}
 
 -- the table has the companions of this term
 abbrev Has : List Node → Term → Type 0
 Has ns t = AllByRecursion (IsInTable ns) (companions_of t)
 
-all_weaker : {X : Type 0} (P Q : X → Type 0) → ((x : X) → P x → Q x) → (xs : List X) → AllByRecursion P xs → AllByRecursion Q xs
-all_weaker P Q f [] h = tt
-all_weaker P Q f (x ∷ xs) h = (f x h.0, all_weaker P Q f xs h.1)
-
-in_longer : (old more : List Node) (t : Term) → IsInTable old t → IsInTable (old ++ more) t
-in_longer old more t there =
+in_longer : (old new : List Node) → length old ≤ length new → KeepsTerms old new → (t : Term) → IsInTable old t → IsInTable new t
+in_longer old new long stays t there =
     let below = there.1 in
-    (there.0, omega (arith, length-append old more), term_stays old more there.0 there.1 ∙ there.2)
+    (there.0, omega arith, stays there.0 below ∙ there.2)
 
 -- they stay when the table grows
 kept : (old new : List Node) → Grows old new → (t : Term) → Has old t → Has new t
 kept old new g t h =
-    subst (λ l. Has l t) (sym g.all) (all_weaker (IsInTable old) (IsInTable (old ++ g.more)) (in_longer old g.more) (companions_of t) h)
+    AllByRecursion-weaker (IsInTable old) (IsInTable new) (in_longer old new (grows_longer old new g) g.stays) (companions_of t) h
 
 -- and what the front of a table has, the table has
-in_front : (ns : List Node) (m : ℕ) → HasCompanions (take m ns) → (i : ℕ) → i < m → i < length ns → Has ns (term_in ns i)
-in_front ns m has i below inside =
+in_front : TermStays → (ns : List Node) (m : ℕ) → HasCompanions (take m ns) → (i : ℕ) → i < m → i < length ns → Has ns (term_in ns i)
+in_front stays ns m has i below inside =
     let front = take m ns in
-    let rest = drop m ns in
+    let whole = take-append-drop m ns in
     let within : i < length front = omega (arith, length-take m ns) in
-    subst (λ l. Has l (term_in l i)) (take-append-drop m ns)
-    (subst (Has (front ++ rest)) (sym (term_stays front rest i within))
-    (all_weaker (IsInTable front) (IsInTable (front ++ rest)) (in_longer front rest) (companions_of (term_in front i)) (has i within)))
+    let short : length front ≤ length ns = omega (arith, length-take m ns) in
+    let still : KeepsTerms front ns = λ j l. sym (ap (λ ms. term_in ms j) whole) ∙ stays front (drop m ns) j l in
+    subst (Has ns) (sym (still i within))
+    (AllByRecursion-weaker (IsInTable front) (IsInTable ns) (in_longer front ns short still) (companions_of (term_in front i)) (has i within))
 
 -- The terms below this number have their companions, if those of the front have theirs, and what is new has none.
 pub record AreAdded (old now : List Node) (from count : ℕ) : Type 0 where
@@ -45,10 +42,10 @@ pub record AreAdded (old now : List Node) (from count : ℕ) : Type 0 where
   pub had : HasCompanions (take from old) → (i : ℕ) → i < count → i < length old → Has now (term_in old i)
   pub alone : (i : ℕ) → length old ≤ i → i < length now → companions_of (term_in now i) ≡ []
 
-pub start : (old : List Node) (from : ℕ) → AreAdded old old from from
-start old from = record {
+pub start : TermStays → (old : List Node) (from : ℕ) → AreAdded old old from from
+start stays old from = record {
   grows = grows_not old;
-  had = in_front old from;
+  had = in_front stays old from;
   alone = λ i past below. absurd (omega arith);
 }
 

@@ -1,27 +1,23 @@
 -- What is known of terms, as tables grow and are cut.
-use Rattle.std.proofs.Common.{◌≡◌, inl, inr, ℕ, zero, suc, ◌+◌, ◌<◌, ◌≤◌, ◌&&◌, ◌||◌, Bool, List, [], ◌∷◌, ◌++◌, length, map, take, drop, get_or, Option, Some, None, refl, sym, ap, ◌∙◌, arith, append_assoc, append-nil, length-append, length-take}
-use Rattle.std.specs.Prelude.{fold, slice_index_or}
+use Rattle.std.proofs.Common.{◌≡◌, inl, inr, ℕ, ◌+◌, ◌<◌, ◌≤◌, ◌&&◌, ◌||◌, Bool, List, [], ◌∷◌, ◌++◌, length, map, take, drop, get_or, Option, Some, None, refl, sym, ap, ◌∙◌, arith, append_assoc, append-nil, length-append, length-take}
+use Rattle.std.specs.Prelude.{fold}
 use Rattle.std.proofs.lemmas.Bool.{cases_lt}
-use Rattle.std.proofs.lemmas.List.{at_drop_more, get_or_read, map-append, length-map, take-map, take-append-drop, take_all, take_at}
+use Rattle.std.proofs.lemmas.List.{get_or_read, map-append, length-map, take-map, take-append-drop, take_all, take_at}
 use Rattle.std.proofs.lemmas.List.Sums.{fold-append}
-use Rattle.nz_spec.specs.Fraction.{Fraction, Arithmetic}
+use Rattle.nz_lists.proofs.Places.{slice_index_or-map}
+use Rattle.nz_spec.specs.Fraction.{Fraction}
 use Rattle.nz_spec.specs.Term.{Head, falsum, is_numeric, Term, apply, no_terms, holds_number, hold_number}
-use Rattle.nz_spec.specs.Linear.{constant_value, constant_values, head_constant, folded, are_divisors, is_linear_node, is_linear, are_linear}
+use Rattle.nz_spec.specs.Linear.{constant_value, constant_values, head_constant, is_linear_node, is_linear, are_linear}
 use Rattle.nz_spec.specs.Table.{Node, terms_at, listed_term, with_term, term_in}
 use Rattle.nz_term.specs.declared.facts.Fact.{Fact}
-use Rattle.nz_term.specs.Facts.{fact_with, fact_of, constant_in, fact_at, constants_at, are_linear_at, hold_number_at, is_divisor, IsKnown}
+use Rattle.nz_term.specs.Facts.{fact_with, fact_of, constant_in, fact_at, constants_at, are_linear_at, hold_number_at, IsKnown}
 use Rattle.nz_term.specs.Growth.{GoesOn}
 use Rattle.nz_term.proofs.Tables.{front_table}
 
--- ---- What is listed for a number
-
-listed : {X Y : Type 0} (f : X → Y) (xs : List X) (i : ℕ) (d : X) → slice_index_or (map f xs) i (f d) ≡ f (slice_index_or xs i d)
-listed f [] i d = refl
-listed f (x ∷ xs) zero d = refl
-listed f (x ∷ xs) (suc i) d = listed f xs i d
+-- ---- What is slice_index_or-map for a number
 
 pub fact_listed : (ts : List Term) (i : ℕ) → fact_at (map fact_of ts) i ≡ fact_of (listed_term ts i)
-fact_listed ts i = listed fact_of ts i (apply falsum no_terms)
+fact_listed ts i = slice_index_or-map fact_of ts i (apply falsum no_terms)
 
 -- the value of a constant is kept
 pub constant_kept : (c : Option Fraction) (linear number : Bool) → constant_in (fact_with c linear number) ≡ c
@@ -149,18 +145,3 @@ pub known_constant : (ns : List Node) (fs : List Fact) → IsKnown ns fs → (i 
 known_constant ns fs k i x below read =
     let t = term_in ns i in
     ap constant_in (known ns fs k i x below read) ∙ constant_kept (constant_value t) (is_linear t) (holds_number t)
-
--- ---- Loops over arguments
-
--- a function of what is left, one step on
-pub next : {Y : Type 0} (F : List ℕ → Y) (is : List ℕ) (k i : ℕ) → k < length is → i ≡ get_or is k i → F (drop k is) ≡ F (i ∷ drop (k + 1) is)
-next F is k i below read = at_drop_more F is k i below ∙ ap (λ x. F (x ∷ drop (k + 1) is)) (sym read)
-
--- what comes to nothing stays so
-pub folded_none : (op : Arithmetic) (cs : List (Option Fraction)) → folded op None cs ≡ None
-folded_none op [] = refl
-folded_none op (c ∷ cs) = folded_none op cs
-
-pub divisors_next : (c : Option Fraction) (cs : List (Option Fraction)) → are_divisors (c ∷ cs) ≡ (is_divisor c && are_divisors cs)
-divisors_next None cs = refl
-divisors_next (Some q) cs = refl

@@ -4,6 +4,7 @@ pub mod Firsts
 pub mod Instancing
 pub mod Keys
 pub mod Knowledge
+pub mod Listed
 pub mod ListedTerms
 pub mod Numbers
 pub mod Places

@@ -1,9 +1,9 @@
 -- Term lists, made one term after another, each behind its companion.
-use Rattle.std.proofs.Common.{◌≡◌, inl, inr, ℕ, ◌+◌, ◌<◌, ◌≤◌, true, false, List, [], ◌∷◌, ◌++◌, length, map, take, replicate, set, slice_index, slice_index_or, refl, sym, ap, subst, ◌∙◌, arith, true≢false, append_assoc, append-nil, length-set, get_or-set_same, get_or-set_other}
+use Rattle.std.proofs.Common.{◌≡◌, inl, inr, ℕ, zero, suc, ◌+◌, ◌<◌, ◌≤◌, Bool, true, false, List, [], ◌∷◌, ◌++◌, length, map, take, replicate, set, slice_index, slice_index_or, refl, sym, ap, subst, ◌∙◌, arith, true≢false, append_assoc, append-nil, length-set, get_or-set_same, get_or-set_other}
 use Rattle.std.specs.Prelude.{◌↔◌, All, Contains, flat_map}
 use Rattle.std.proofs.lemmas.Bool.Decides.{eqb_tells}
 use Rattle.std.proofs.lemmas.Grind.{flat_map-append}
-use Rattle.std.proofs.lemmas.List.{length-replicate, map-append, take_all, take_more}
+use Rattle.std.proofs.lemmas.List.{get_or_read, length-replicate, map-append, take_all, take_more}
 use Rattle.std.proofs.lemmas.List.Elements.{All-push, All-nil, Contains-append_left, Contains-append_right, Contains-append_cases}
 use Rattle.nz_spec.specs.Term.{Term, apply, Terms, no_terms, terms}
 use Rattle.nz_spec.specs.Table.{Node, term_in, HasOneNumberEach}
@@ -13,7 +13,6 @@ use Rattle.nz_term.specs.Listings.{with_companions, IsListing}
 use Rattle.nz_term.proofs.Firsts.{again, anew, spread}
 use Rattle.nz_term.proofs.Places.{number_back}
 use Rattle.nz_term.proofs.Traversal.{none, alone}
-use Rattle.nz_term.proofs.Walks.{unmarked}
 
 -- ---- The order, term by term
 
@@ -35,6 +34,17 @@ roots_listing [] = refl
 roots_listing (t ∷ ts) =
     ap (λ l. l ++ flat_map listing_order ts) (listing_is t) ∙ ap (λ l. flat_map with_companions (post_order t) ++ l) (roots_listing ts)
     ∙ sym (flat_map-append with_companions (post_order t) (flat_map post_order ts))
+
+-- ---- Marks
+
+unmarked : (n i : ℕ) → slice_index_or (replicate n false) i false ≡ true → ⊥
+unmarked zero i e = cc
+unmarked (suc n) zero e = cc
+unmarked (suc n) (suc i) e = unmarked n i e
+
+-- what is read at a number within the list
+pub mark_read : (marks : List Bool) (i : ℕ) (x b : Bool) → i < length marks → x ≡ slice_index_or marks i x → x ≡ b → slice_index_or marks i false ≡ b
+mark_read marks i x b below e k = sym (get_or_read marks i x below e false) ∙ k
 
 -- ---- Numbers
 

@@ -1,8 +1,8 @@
--- The state of the loop that puts terms into their order: its stack, its marks and the numbers so far.
-use Rattle.std.proofs.Common.{◌≡◌, inl, inr, ℕ, zero, suc, ◌<◌, Bool, true, false, List, [], ◌∷◌, ◌++◌, length, map, reverse, replicate, set, slice_index_or, get_or, All, refl, sym, ap, subst, ◌∙◌, arith, true≢false, length-append, length-set, get_or-set_same, get_or-set_other}
+-- The state of the loop that puts terms into their order: its stack, what is done and the numbers so far.
+use Rattle.std.proofs.Common.{◌≡◌, ◌==◌, inl, inr, ℕ, suc, ◌<◌, Bool, true, false, cond, List, [], ◌∷◌, ◌++◌, length, map, reverse, get_or, All, refl, sym, ap, subst, ◌∙◌, arith, true≢false, length-append}
 use Rattle.std.specs.Prelude.{◌↔◌, Contains, flat_map, MatchOption, Option, Some, None, ⊤}
 use Rattle.std.proofs.lemmas.Bool.Decides.{eqb_tells}
-use Rattle.std.proofs.lemmas.List.{get_or_read, length-replicate, map-append, reverse-append, reverse-reverse}
+use Rattle.std.proofs.lemmas.List.{map-append, reverse-append, reverse-reverse}
 use Rattle.std.proofs.lemmas.List.Elements.{Contains-append_left, Contains-append_right, Contains-append_cases, All-push, All-nil}
 use Rattle.nz_spec.specs.Term.{Term}
 use Rattle.nz_spec.specs.Table.{Node, term_in, terms_at, HasOneNumberEach}
@@ -39,36 +39,30 @@ below_entries : (n : ℕ) (is : List ℕ) (s : List Step) → All (λ i. i < n) 
 below_entries n [] s h b = b
 below_entries n (i ∷ is) s h b = (h 0 i (omega arith), below_entries n is s (λ k d l. h (suc k) d (omega arith)) b)
 
--- ---- Marks
+-- ---- The terms that are done
 
--- the numbers that are marked are those of the terms that were seen
-abbrev pub Tell : (ℕ → Term) → ℕ → List Bool → List Term → Type 0
-Tell f n marks seen = (i : ℕ) → i < n → (slice_index_or marks i false ≡ true) ↔ Contains seen (f i)
+-- the numbers that pass the test are those of the terms that were seen
+abbrev pub Tell : (ℕ → Term) → ℕ → (ℕ → Bool) → List Term → Type 0
+Tell f n is_done seen = (i : ℕ) → i < n → (is_done i ≡ true) ↔ Contains seen (f i)
 
-pub unmarked : (n i : ℕ) → slice_index_or (replicate n false) i false ≡ true → ⊥
-unmarked zero i e = cc
-unmarked (suc n) zero e = cc
-unmarked (suc n) (suc i) e = unmarked n i e
-
--- what is read at a number within the list
-pub mark_read : (marks : List Bool) (i : ℕ) (x b : Bool) → i < length marks → x ≡ slice_index_or marks i x → x ≡ b → slice_index_or marks i false ≡ b
-mark_read marks i x b below e k = sym (get_or_read marks i x below e false) ∙ k
+-- the test after one number more
+abbrev pub IsWith : ℕ → (ℕ → Bool) → (ℕ → Bool) → Type 0
+IsWith j old new = (i : ℕ) → new i ≡ cond (j == i) true (old i)
 
 -- one more
-marked : (f : ℕ → Term) (n : ℕ) (marks : List Bool) (seen : List Term) (j : ℕ) → ((i k : ℕ) → i < n → k < n → f i ≡ f k → i ≡ k)
-    → length marks ≡ n → j < n → Tell f n marks seen → Tell f n (set marks j true) (f j ∷ seen)
-marked f n marks seen j one room below told i within =
-    let inside : j < length marks = omega arith in
-    elim (eqb_tells i j) [
+marked : (f : ℕ → Term) (n : ℕ) (old new : ℕ → Bool) (seen : List Term) (j : ℕ) → ((i k : ℕ) → i < n → k < n → f i ≡ f k → i ≡ k)
+    → IsWith j old new → j < n → Tell f n old seen → Tell f n new (f j ∷ seen)
+marked f n old new seen j one updated below told i within =
+    elim (eqb_tells j i) [
       | inl e ↦ (
-        λ m. Contains-append_left (f j ∷ []) seen (f i) (0, omega arith, ap f (sym e.1)),
-        λ k. ap (λ x. slice_index_or (set marks j true) x false) e.1 ∙ get_or-set_same marks j true false inside,
+        λ m. Contains-append_left (f j ∷ []) seen (f i) (0, omega arith, ap f e.1),
+        λ k. updated i ∙ ap (λ b. cond b true (old i)) e.0,
       )
       | inr e ↦
-          let same : slice_index_or (set marks j true) i false ≡ slice_index_or marks i false = get_or-set_other marks j i true false e.1 in (
+          let same : new i ≡ old i = updated i ∙ ap (λ b. cond b true (old i)) e.0 in (
             λ m. Contains-append_right (f j ∷ []) seen (f i) ((told i within).0 (sym same ∙ m)),
             λ k. elim (Contains-append_cases (f j ∷ []) seen (f i) k) [
-              | inl l ↦ absurd (e.1 (one i j within below (sym (alone (f j) (f i) l))))
+              | inl l ↦ absurd (e.1 (one j i below within (alone (f j) (f i) l)))
               | inr r ↦ same ∙ (told i within).1 r
             ],
           )
@@ -81,17 +75,16 @@ none_taken (Some x) P Q isnt h = absurd (isnt x refl)
 
 -- ---- The state
 
-pub record IsWalk (ns : List Node) (roots : List ℕ) (steps : List Step) (marks : List Bool) (order : List ℕ) : Type 0 where
+pub record IsWalk (ns : List Node) (roots : List ℕ) (steps : List Step) (is_done : ℕ → Bool) (order : List ℕ) : Type 0 where
   pub way : AreOnWay (term_in ns) (flat_map post_order (map (term_in ns) roots)) (reverse (map (term_in ns) order)) (map (term_in ns) order) (reverse steps)
-  pub told : Tell (term_in ns) (length ns) marks (reverse (map (term_in ns) order))
-  pub room : length marks ≡ length ns
+  pub told : Tell (term_in ns) (length ns) is_done (reverse (map (term_in ns) order))
   pub inside : AreBelow (length ns) (reverse steps)
   pub listed : All (λ i. i < length ns) order
 
 module _ (ns : List Node) (roots : List ℕ) where
-  pub start_walk : (steps : List Step) (marks : List Bool) (order : List ℕ) → All (λ r. r < length ns) roots
-      → steps ≡ [] ++ entries roots → marks ≡ replicate (length ns) false → order ≡ [] → IsWalk ns roots steps marks order
-  start_walk steps marks order within s m o =
+  pub start_walk : (steps : List Step) (is_done : ℕ → Bool) (order : List ℕ) → All (λ r. r < length ns) roots
+      → steps ≡ [] ++ entries roots → ((i : ℕ) → is_done i ≡ false) → order ≡ [] → IsWalk ns roots steps is_done order
+  start_walk steps is_done order within s blank_test o =
       let f = term_in ns in
       let stack : reverse steps ≡ map Enter roots ++ [] = ap reverse s ∙ stacked [] roots in
       let blank : map f order ≡ [] = ap (map f) o in
@@ -99,40 +92,38 @@ module _ (ns : List Node) (roots : List ℕ) where
         way = subst (λ l. AreOnWay f (flat_map post_order (map f roots)) (reverse l) l (reverse steps)) (sym blank)
             (subst (AreOnWay f (flat_map post_order (map f roots)) [] []) (sym stack) (start f roots));
         told = λ i below. (
-          λ e. absurd (unmarked (length ns) i (ap (λ l. slice_index_or l i false) (sym m) ∙ e)),
+          λ e. absurd (true≢false (sym e ∙ blank_test i)),
           λ k. absurd (none (f i) (subst (λ l. Contains (reverse l) (f i)) blank k)),
         );
-        room = ap length m ∙ length-replicate (length ns) false;
         inside = subst (AreBelow (length ns)) (sym stack) (below_entries (length ns) roots [] within tt);
         listed = subst (All (λ i. i < length ns)) (sym o) (All-nil (λ i. i < length ns));
       }
 
-  pub finish_walk : (steps : List Step) (marks : List Bool) (order : List ℕ) → steps ≡ [] → IsWalk ns roots steps marks order
+  pub finish_walk : (steps : List Step) (is_done : ℕ → Bool) (order : List ℕ) → steps ≡ [] → IsWalk ns roots steps is_done order
       → AreFirst [] (flat_map post_order (map (term_in ns) roots)) (map (term_in ns) order)
-  finish_walk steps marks order e w =
+  finish_walk steps is_done order e w =
       let f = term_in ns in
       finish f (flat_map post_order (map f roots)) (reverse (map f order)) (map f order)
       (subst (AreOnWay f (flat_map post_order (map f roots)) (reverse (map f order)) (map f order)) (ap reverse e) w.way)
 
   -- ---- Steps that were taken from the stack
 
-  pub enters_within : (steps : List Step) (i : ℕ) (marks : List Bool) (order : List ℕ) → IsWalk ns roots (steps ++ Enter i ∷ []) marks order → i < length ns
-  enters_within steps i marks order w = (subst (AreBelow (length ns)) (on_top steps (Enter i)) w.inside).0
+  pub enters_within : (steps : List Step) (i : ℕ) (is_done : ℕ → Bool) (order : List ℕ) → IsWalk ns roots (steps ++ Enter i ∷ []) is_done order → i < length ns
+  enters_within steps i is_done order w = (subst (AreBelow (length ns)) (on_top steps (Enter i)) w.inside).0
 
-  pub leaves_within : (steps : List Step) (i : ℕ) (marks : List Bool) (order : List ℕ) → IsWalk ns roots (steps ++ Leave i ∷ []) marks order → i < length ns
-  leaves_within steps i marks order w = (subst (AreBelow (length ns)) (on_top steps (Leave i)) w.inside).0
+  pub leaves_within : (steps : List Step) (i : ℕ) (is_done : ℕ → Bool) (order : List ℕ) → IsWalk ns roots (steps ++ Leave i ∷ []) is_done order → i < length ns
+  leaves_within steps i is_done order w = (subst (AreBelow (length ns)) (on_top steps (Leave i)) w.inside).0
 
-  pub skip_walk : (steps : List Step) (i : ℕ) (marks : List Bool) (order : List ℕ) → slice_index_or marks i false ≡ true
-      → IsWalk ns roots (steps ++ Enter i ∷ []) marks order → IsWalk ns roots steps marks order
-  skip_walk steps i marks order e w =
+  pub skip_walk : (steps : List Step) (i : ℕ) (is_done : ℕ → Bool) (order : List ℕ) → is_done i ≡ true
+      → IsWalk ns roots (steps ++ Enter i ∷ []) is_done order → IsWalk ns roots steps is_done order
+  skip_walk steps i is_done order e w =
       let f = term_in ns in
       let all = flat_map post_order (map f roots) in
       let done = map f order in
       record {
-        way = skip f all (reverse done) done i (reverse steps) ((w.told i (enters_within steps i marks order w)).0 e)
+        way = skip f all (reverse done) done i (reverse steps) ((w.told i (enters_within steps i is_done order w)).0 e)
             (subst (AreOnWay f all (reverse done) done) (on_top steps (Enter i)) w.way);
         told = w.told;
-        room = w.room;
         inside = (subst (AreBelow (length ns)) (on_top steps (Enter i)) w.inside).1;
         listed = w.listed;
       }
@@ -142,13 +133,13 @@ module _ (ns : List Node) (roots : List ℕ) where
   entered_stack steps after i a =
       ap reverse a.steps ∙ stacked (steps ++ Leave i ∷ []) a.kids ∙ ap (λ l. map Enter a.kids ++ l) (on_top steps (Leave i))
 
-  pub enter_walk : (steps after : List Step) (i : ℕ) (marks : List Bool) (order : List ℕ) → slice_index_or marks i false ≡ false
-      → EntersArguments ns i (steps ++ Leave i ∷ []) after → IsWalk ns roots (steps ++ Enter i ∷ []) marks order → IsWalk ns roots after marks order
-  enter_walk steps after i marks order e a w =
+  pub enter_walk : (steps after : List Step) (i : ℕ) (is_done : ℕ → Bool) (order : List ℕ) → is_done i ≡ false
+      → EntersArguments ns i (steps ++ Leave i ∷ []) after → IsWalk ns roots (steps ++ Enter i ∷ []) is_done order → IsWalk ns roots after is_done order
+  enter_walk steps after i is_done order e a w =
       let f = term_in ns in
       let all = flat_map post_order (map f roots) in
       let done = map f order in
-      let below = enters_within steps i marks order w in
+      let below = enters_within steps i is_done order w in
       let stack = entered_stack steps after i a in
       let new : Contains (reverse done) (f i) → ⊥ = λ k. true≢false (sym ((w.told i below).1 k) ∙ e) in
       let there = subst (AreBelow (length ns)) (on_top steps (Enter i)) w.inside in
@@ -157,19 +148,18 @@ module _ (ns : List Node) (roots : List ℕ) where
             (enter f all (reverse done) done i (reverse steps) a.head a.kids new a.term
             (subst (AreOnWay f all (reverse done) done) (on_top steps (Enter i)) w.way));
         told = w.told;
-        room = w.room;
         inside = subst (AreBelow (length ns)) (sym stack)
             (below_entries (length ns) a.kids (Leave i ∷ reverse steps) (λ k d l. let h : get_or a.kids k d < i = a.below k d l in omega arith) there);
         listed = w.listed;
       }
 
-  pub leave_walk : HasOneNumberEach ns → (steps : List Step) (i : ℕ) (marks : List Bool) (order : List ℕ)
-      → IsWalk ns roots (steps ++ Leave i ∷ []) marks order → IsWalk ns roots steps (set marks i true) (order ++ i ∷ [])
-  leave_walk one steps i marks order w =
+  pub leave_walk : HasOneNumberEach ns → (steps : List Step) (i : ℕ) (is_done next : ℕ → Bool) (order : List ℕ) → IsWith i is_done next
+      → IsWalk ns roots (steps ++ Leave i ∷ []) is_done order → IsWalk ns roots steps next (order ++ i ∷ [])
+  leave_walk one steps i is_done next order updated w =
       let f = term_in ns in
       let all = flat_map post_order (map f roots) in
       let done = map f order in
-      let below = leaves_within steps i marks order w in
+      let below = leaves_within steps i is_done order w in
       let more : map f (order ++ i ∷ []) ≡ done ++ f i ∷ [] = map-append f order (i ∷ []) in
       let turned : reverse (map f (order ++ i ∷ [])) ≡ f i ∷ reverse done = ap reverse more ∙ on_top done (f i) in
       let left : AreOnWay f all (f i ∷ reverse done) (done ++ f i ∷ []) (reverse steps) =
@@ -177,8 +167,7 @@ module _ (ns : List Node) (roots : List ℕ) where
       record {
         way = subst (λ l. AreOnWay f all l (map f (order ++ i ∷ [])) (reverse steps)) (sym turned)
             (subst (λ l. AreOnWay f all (f i ∷ reverse done) l (reverse steps)) (sym more) left);
-        told = subst (Tell f (length ns) (set marks i true)) (sym turned) (marked f (length ns) marks (reverse done) i one w.room below w.told);
-        room = length-set marks i true ∙ w.room;
+        told = subst (Tell f (length ns) next) (sym turned) (marked f (length ns) is_done next (reverse done) i one updated below w.told);
         inside = (subst (AreBelow (length ns)) (on_top steps (Leave i)) w.inside).1;
         listed = All-push (λ k. k < length ns) order i w.listed below;
       }

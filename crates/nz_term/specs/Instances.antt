@@ -1,5 +1,6 @@
 -- Instances of terms in a table, by numbers.
-use Rattle.std.specs.Prelude.{◌≡◌, ℕ, ◌<◌, List, length, slice_get, slice_index, Option, Some, None, All}
+use Rattle.std.specs.Prelude.{◌≡◌, ℕ, ◌<◌, nat_eq, List, length, slice_get, unwrap_or, Option, Some, None, All}
+use Rattle.std.specs.HashMap.{HashMap, get}
 use Rattle.nz_spec.specs.Term.{Head, parameter}
 use Rattle.nz_spec.specs.Table.{Node, term_in, terms_at}
 use Rattle.nz_spec.specs.Elaboration.{instance_of}
@@ -14,6 +15,10 @@ pub record IsInstance (ns : List Node) (us : List ℕ) (id made : ℕ) : Type 0 
   pub within : made < length ns
   pub term : term_in ns made ≡ instance_of (terms_at (term_in ns) us) (term_in ns id)
 
--- The list has the instance of each argument of a node.
-abbrev pub HasInstances : List Node → List ℕ → List ℕ → ℕ → Type 0
-HasInstances ns us made id = (n : Node) → slice_get ns id ≡ Some n → All (λ k. IsInstance ns us k (slice_index made k)) n.kids
+-- the number of the instance of a term; what has none in the map stays
+abbrev pub instance_in : {S : Type 0} → HashMap ℕ ℕ S → ℕ → ℕ
+instance_in made id = unwrap_or (get nat_eq made id) id
+
+-- These are the instances of the arguments of a node.
+abbrev pub HasInstances : List Node → List ℕ → (ℕ → ℕ) → ℕ → Type 0
+HasInstances ns us made id = (n : Node) → slice_get ns id ≡ Some n → All (λ k. IsInstance ns us k (made k)) n.kids

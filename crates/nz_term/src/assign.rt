@@ -1,12 +1,14 @@
 //! What a model gives: values of the constants of a table, by their numbers.
-ghost use Rattle.std.specs.Prelude.{◌≡◌, ◌<◌, ◌==◌, [], ◌∷◌, ◌++◌, length, Some, OnOk, OnErr, IsOkAnd, option_map, slice_get};
+ghost use Rattle.std.specs.Prelude.{◌≡◌, ℕ, ◌<◌, ◌==◌, List, [], ◌∷◌, ◌++◌, length, Some, OnOk, OnErr, IsOkAnd, option_map, slice_get};
+ghost use Rattle.nz_spec.specs.Term as term;
 ghost use Rattle.nz_spec.specs.Table.{listed_value};
-ghost use Rattle.nz_term.specs.Values.{value_of, pair_of};
+ghost use Rattle.nz_term.specs.Values.{value_of, pair_of, HasFirsts};
 
 use crate::nodes::TermId;
 use nz_base::Memory;
 use nz_frac::Frac;
 use std::alloc::Global;
+use std::collections::HashMap;
 use std::marker::Model;
 
 /// A value.
@@ -23,6 +25,8 @@ pub enum Value {
 #[derive(Debug, Drop)]
 pub struct Assign {
     pairs: Vec<(TermId, Value)>,
+    // The first value with each number, to be looked up at once.
+    firsts: HashMap<TermId, Value>,
 }
 
 impl Model for Assign {
@@ -34,6 +38,10 @@ impl Model for Assign {
     ghost use Rattle.nz_term.specs.Values.{pair_of};
 
     ghost view = { λ a. map pair_of a.pairs.items };
+
+    ghost use Rattle.nz_term.specs.Values.{HasFirsts};
+
+    ghost invariant = { λ a. HasFirsts a.firsts (map pair_of a.pairs.items) };
 }
 
 impl Assign {
@@ -43,6 +51,7 @@ impl Assign {
     {
         Ok(Assign {
             pairs: Vec::new(alloc),
+            firsts: HashMap::new(alloc),
         })
     }
 
@@ -51,7 +60,9 @@ impl Assign {
         ensures grown { OnOk result (self.new ≡ self.old ++ pair_of (id, value) ∷ []) }
         ensures unchanged { OnErr result (self.new ≡ self.old) }
     {
-        self.pairs.push((id, value))?;
+        self.pairs.reserve(1)?;
+        add_first(&mut self.firsts, id, &value)?;
+        self.pairs.push((id, value)).unwrap();
         Ok(())
     }
 
@@ -77,15 +88,22 @@ impl Assign {
         self.pairs[index]
     }
 
-    /// The value of a constant: the first in the list with its number.
+    /// The value of a constant: the first in the list with its number. Takes the same time however long the list is.
     pub fn value(&self, id: TermId) -> Option<Value>
         ensures value { option_map value_of result ≡ listed_value self.now id }
     {
-        for (listed, value) in self.pairs.iter() {
-            if *listed == id {
-                return Some(*value);
-            }
-        }
-        None
+        self.firsts.get(&id).copied()
     }
+}
+
+/// Adds a value to the first ones with their numbers, where it is the first with its number.
+fn add_first(firsts: &mut HashMap<TermId, Value>, id: TermId, value: &Value) -> Result<(), Memory>
+    ensures grown { OnOk result ((ps : List (ℕ × term.Value)) → HasFirsts firsts.old ps → HasFirsts firsts.new (ps ++ pair_of (id, value.now) ∷ [])) }
+    ensures unchanged { OnErr result (firsts.new.entries ≡ firsts.old.entries) }
+{
+    if firsts.contains_key(&id) {
+        return Ok(());
+    }
+    firsts.insert(id, *value)?;
+    Ok(())
 }

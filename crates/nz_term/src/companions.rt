@@ -12,6 +12,7 @@ use crate::heads::Head;
 use crate::nodes::TermId;
 use crate::terms::Terms;
 use nz_base::Memory;
+use nz_spec::table::term_stays;
 use std::alloc::Global;
 
 /// Makes the companions of the terms from this number on, each where the table hasn't it.
@@ -19,6 +20,7 @@ pub fn add_companions(alloc: Global, terms: &mut Terms, from: usize) -> Result<(
     ensures grows { Grows terms.old terms.new }
     ensures companions { OnOk result (HasCompanions (take from terms.old) → HasCompanions terms.new) }
 {
+    term_stays();
     for id in from..terms.len() {
         make_companion(alloc, terms, id)?;
     }

@@ -1,10 +1,10 @@
 //! Instances of definitions: a body with terms for its parameters.
-ghost use Rattle.std.specs.Prelude.{◌≡◌, ◌<◌, length, map, slice_index, All, IfOk};
+ghost use Rattle.std.specs.Prelude.{◌≡◌, ◌<◌, length, map, All, IfOk};
 ghost use Rattle.nz_spec.specs.Table.{term_in, terms_at};
 ghost use Rattle.nz_spec.specs.Elaboration.{instance_of};
 ghost use Rattle.nz_term.specs.Growth.{Grows};
 ghost use Rattle.nz_term.specs.Heads.{head_of};
-ghost use Rattle.nz_term.specs.Instances.{argument_of, IsInstance, HasInstances};
+ghost use Rattle.nz_term.specs.Instances.{argument_of, instance_in, IsInstance, HasInstances};
 
 use crate::heads::Head;
 use crate::nodes::TermId;
@@ -12,10 +12,12 @@ use crate::order::post_order;
 use crate::terms::Terms;
 use nz_base::Memory;
 use std::alloc::Global;
+use std::collections::HashMap;
 
 /// The term that a definition's body is with these terms for its parameters, made in the table.
 ///
-/// A parameter past the end stays. Each shared term of the body is made once, and none where nothing in it changes.
+/// A parameter past the end stays. Each shared term of the body is made once, and none where nothing in it changes. Takes
+/// time and memory in proportion to the body, whatever else the table has, and none without arguments.
 pub fn instance(
     alloc: Global,
     terms: &mut Terms,
@@ -28,13 +30,16 @@ pub fn instance(
     ensures within { IfOk result (λ id. id < length terms.new) }
     ensures made { IfOk result (λ id. term_in terms.new id ≡ instance_of (terms_at (term_in terms.old) arguments.now) (term_in terms.old body)) }
 {
-    let order = post_order(alloc, terms, &[body])?;
-    let mut made = vec![in alloc; 0; terms.len()]?;
-    for id in &order {
-        let number = node_instance(alloc, terms, *id, arguments, made.as_slice())?;
-        made[*id] = number;
+    if arguments.is_empty() {
+        return Ok(body);
     }
-    Ok(made[body])
+    let order = post_order(alloc, terms, &[body])?;
+    let mut made = HashMap::new(alloc);
+    for id in &order {
+        let number = node_instance(alloc, terms, *id, arguments, &made)?;
+        made.insert(*id, number)?;
+    }
+    Ok(instance_in(&made, body))
 }
 
 /// The number of the instance of a term, where those of its arguments are made.
@@ -43,12 +48,11 @@ fn node_instance(
     terms: &mut Terms,
     id: TermId,
     arguments: &[TermId],
-    made: &[TermId],
+    made: &HashMap<TermId, TermId>,
 ) -> Result<TermId, Memory>
     requires id { id < length terms.old }
     requires within { All (λ k. k < length terms.old) arguments.now }
-    requires room { id < length made.now }
-    requires done { HasInstances terms.old arguments.now made.now id }
+    requires done { HasInstances terms.old arguments.now (instance_in made.now) id }
     ensures grows { Grows terms.old terms.new }
     ensures made { IfOk result (λ made. IsInstance terms.new arguments.now id made) }
 {
@@ -75,14 +79,20 @@ fn argument(head: &Head, arguments: &[TermId]) -> Option<TermId>
     }
 }
 
-/// What is listed for each of these numbers.
-fn listed(alloc: Global, made: &[TermId], ids: &[TermId]) -> Result<Vec<TermId>, Memory>
-    requires within { All (λ k. k < length made.now) ids.now }
-    ensures listed { IfOk result (λ all. all.items ≡ map (slice_index made.now) ids.now) }
+/// The instances of these terms.
+fn listed(
+    alloc: Global,
+    made: &HashMap<TermId, TermId>,
+    ids: &[TermId],
+) -> Result<Vec<TermId>, Memory>
+    ensures listed { IfOk result (λ all. all.items ≡ map (instance_in made.now) ids.now) }
 {
-    let mut all = Vec::with_capacity(alloc, ids.len())?;
-    for id in ids {
-        all.push(made[*id])?;
-    }
-    Ok(all)
+    Ok(ids.iter().map(|id| instance_in(made, *id)).collect(alloc)?)
+}
+
+/// The instance of a term; what none was made of stays.
+fn instance_in(made: &HashMap<TermId, TermId>, id: TermId) -> TermId
+    ensures instance { result ≡ instance_in made.now id }
+{
+    made.get(&id).copied().unwrap_or(id)
 }

@@ -21,4 +21,4 @@ pub use instances::instance;
 pub use listings::listing_order;
 pub use nodes::{Ids, Node, TermId};
 pub use order::post_order;
-pub use terms::Terms;
+pub use terms::{Terms, known_table};

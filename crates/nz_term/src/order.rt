@@ -5,10 +5,11 @@ ghost use Rattle.nz_spec.specs.Order.{post_order, AreFirst, ComeBehindArguments}
 ghost use Rattle.nz_term.specs.Steps.{entries, EntersArguments};
 
 use crate::nodes::TermId;
-use crate::terms::Terms;
+use crate::terms::{Terms, known_table};
 use nz_base::Memory;
 use nz_spec::table::{one_number, term_of_node};
 use std::alloc::Global;
+use std::collections::HashSet;
 
 // What is left to do of a term.
 #[derive(Clone, Copy, Debug)]
@@ -38,7 +39,8 @@ fn enter_arguments(steps: &mut Vec<Step>, terms: &Terms, id: TermId) -> Result<(
 }
 
 /// The terms of these roots with all that they are made of, each once, in post-order: arguments come before, from the left.
-/// Takes time in proportion to these terms and their arguments, however deeply they nest.
+/// Takes time and memory in proportion to these terms and their arguments, however deeply they nest and whatever else the
+/// table has.
 pub fn post_order(alloc: Global, terms: &Terms, roots: &[TermId]) -> Result<Vec<TermId>, Memory>
     requires within { All (λ r. r < length terms.now) roots.now }
     ensures order { IfOk result (λ ids. AreFirst [] (flat_map post_order (map (term_in terms.now) roots.now)) (map (term_in terms.now) ids.items)) }
@@ -50,20 +52,21 @@ pub fn post_order(alloc: Global, terms: &Terms, roots: &[TermId]) -> Result<Vec<
 {
     one_number();
     term_of_node();
+    known_table(terms);
     let mut steps = Vec::new(alloc);
     enter_each(&mut steps, roots)?;
-    let mut is_done = vec![in alloc; false; terms.len()]?;
+    let mut done = HashSet::new(alloc);
     let mut order = Vec::new(alloc);
     while let Some(step) = steps.pop() {
         match step {
             Step::Enter(id) => {
-                if !is_done[id] {
+                if !done.contains(&id) {
                     steps.push(Step::Leave(id))?;
                     enter_arguments(&mut steps, terms, id)?;
                 }
             }
             Step::Leave(id) => {
-                is_done[id] = true;
+                done.insert(id)?;
                 order.push(id)?;
             }
         }

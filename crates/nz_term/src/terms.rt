@@ -5,7 +5,7 @@ ghost use Rattle.nz_spec.specs.Term.{apply, head_fits, holds_number};
 ghost use Rattle.nz_spec.specs.Table.{HasItsArguments, HasOneNumberEach, IsTable, term_in, terms_at};
 ghost use Rattle.nz_term.specs.Facts.{fact_of};
 ghost use Rattle.nz_term.specs.Found.{IsFound};
-ghost use Rattle.nz_term.specs.Growth.{GoesOn};
+ghost use Rattle.nz_term.specs.Growth.{GoesOn, KeepsTerms};
 ghost use Rattle.nz_term.specs.Heads.{head_of};
 ghost use Rattle.nz_term.specs.Nodes.{node_of, node_with};
 
@@ -15,6 +15,7 @@ use crate::nodes::{Ids, Node, TermId};
 use indexmap::IndexSet;
 use nz_base::Memory;
 use nz_frac::Frac;
+use nz_spec::table::{one_number, term_of_node, term_stays, terms_stay};
 use std::alloc::Global;
 use std::marker::Model;
 
@@ -60,12 +61,17 @@ impl Terms {
         ensures node { IfOk result (λ id. slice_get self.new id ≡ Some (node_with head kids.now)) }
         ensures term { IfOk result (λ id. term_in self.new id ≡ apply (head_of head) (terms_at (term_in self.old) kids.now)) }
         ensures grown { OnOk result ((self.new ≡ self.old) ⊎ (self.new ≡ self.old ++ node_with head kids.now ∷ [])) }
+        ensures stays { KeepsTerms self.old self.new }
 
         // Equal terms have equal numbers, here and before.
         ensures one_number { HasOneNumberEach self.new }
         ensures table { IsTable self.new }
         ensures unchanged { OnErr result (self.new ≡ self.old) }
     {
+        one_number();
+        term_of_node();
+        term_stays();
+        terms_stay();
         let fact = self.known(&head, kids);
         let kids = Ids::from_slice(*self.nodes.allocator(), kids)?;
         self.facts.push(fact)?;
@@ -91,6 +97,8 @@ impl Terms {
         requires within { All (λ k. k < length self.now) kids.now }
         ensures found { IfOk result (IsFound self.now (apply (head_of head) (terms_at (term_in self.now) kids.now))) }
     {
+        one_number();
+        term_of_node();
         let key = Node {
             head,
             kids: Ids::from_slice(*self.nodes.allocator(), kids)?,
@@ -107,6 +115,7 @@ impl Terms {
         ensures fits { IsTrue (head_fits (head_of result.now.head)) }
         ensures leaves { HasItsArguments (head_of result.now.head) result.now.kids }
     {
+        term_of_node();
         &self.nodes.as_slice()[id]
     }
 
@@ -196,4 +205,11 @@ fn put(nodes: &mut IndexSet<Node>, node: Node) -> Result<TermId, Memory>
 {
     let (id, _) = nodes.insert_full(node)?;
     Ok(id)
+}
+
+/// Says that the nodes of a table are one.
+pub fn known_table(terms: &Terms)
+    ensures table { IsTable terms.now }
+{
+    terms.len();
 }

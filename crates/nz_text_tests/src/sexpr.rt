@@ -1,4 +1,4 @@
-//! The reader on hostile scripts, for many cuttings.
+//! Of `nz_sexpr`: the reader on hostile scripts, for many cuttings.
 ghost use Rattle.std.specs.Prelude.{◌≤◌, ◌<◌, length};
 
 mod table;

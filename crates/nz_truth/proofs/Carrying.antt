@@ -1,12 +1,12 @@
 -- Operations that are carried out, and those that leave the numbers.
-use Rattle.std.proofs.Common.{◌≡◌, Bool, true, false, IsTrue, pos, List, [], ◌∷◌, Some, None, refl, sym, ap, subst, ◌∙◌, true≢false, if◌then◌else◌, Result, Ok, Err, ◌++◌, ℕ, suc, ◌+◌, ◌<◌, length, drop, get_or, add-one}
+use Rattle.std.proofs.Common.{◌≡◌, Bool, true, false, IsTrue, pos, List, [], ◌∷◌, Some, None, refl, sym, ap, subst, ◌∙◌, if◌then◌else◌, Result, Ok, Err, ◌++◌}
 use Rattle.std.specs.Prelude.{◌↔◌, IsErr, IfOk, IfErr}
+use Rattle.nz_lists.proofs.Tests.{told_false}
 use Rattle.nz_frac.specs.Operations.{operation_of, operator_of}
 use Rattle.nz_frac.specs.declared.frac.Op.{Op}
 use Rattle.nz_frac.specs.declared.frac.Op.TheVariants as op
 use Rattle.nz_frac.specs.declared.frac.Wide.{Wide}
 use Rattle.nz_spec.specs.Fraction.{Fraction, Arithmetic, Quotient, Operation, first_wide, is_wide, outcome, whole}
-use Rattle.std.proofs.Math.Seq.{drop-cons}
 use Rattle.nz_spec.specs.Operations.{head_operations, operation_on, operations_by}
 use Rattle.nz_spec.specs.Term.{Assignment, Head, Value, carried_out, combined, head_value, number, number_of, is_undefined, is_zero, whole_number}
 use Rattle.nz_term.specs.declared.assign.Value as own
@@ -14,11 +14,6 @@ use Rattle.nz_term.specs.Values.{value_of}
 use Rattle.nz_truth.specs.Outcomes.{IsCarriedOut, IsOutcomeOf, IsStopped}
 use Rattle.nz_truth.specs.declared.walk.Outcome.{Outcome}
 use Rattle.nz_truth.specs.declared.walk.Outcome.TheVariants as outcome
-
--- the test of an operation that was carried out
-narrow : (b : Bool) → (false ≡ true ↔ IsTrue b) → b ≡ false
-narrow true h = absurd (true≢false (sym (h.1 refl)))
-narrow false h = refl
 
 -- one operation that stays among the numbers
 pub stays : (op : Arithmetic) (p q : Fraction) → is_undefined op q ≡ false → is_wide op p q ≡ false → first_wide (operation_on op p q) ≡ None
@@ -39,7 +34,7 @@ comes_to op p q r defined e = rw defined (ap number e)
 pub carried : (o k : Op) (p q : Fraction) (r : Result Fraction Wide) → o ≡ k → is_undefined (operator_of k) q ≡ false → (IsErr r ↔ IsTrue (is_wide (operator_of k) p q))
     → IfOk r (λ x. x ≡ outcome (operator_of k) p q) → IfOk r (λ x. IsCarriedOut (operator_of o) p q x)
 carried o k p q (Ok x) same defined wide e =
-    subst (λ y. IsCarriedOut (operator_of y) p q x) (sym same) (stays (operator_of k) p q defined (narrow (is_wide (operator_of k) p q) wide), comes_to (operator_of k) p q x defined e)
+    subst (λ y. IsCarriedOut (operator_of y) p q x) (sym same) (stays (operator_of k) p q defined (told_false wide), comes_to (operator_of k) p q x defined e)
 carried o k p q (Err w) same defined wide e = tt
 
 pub stopped : (o k : Op) (p q : Fraction) (r : Result Fraction Wide) → o ≡ k → is_undefined (operator_of k) q ≡ false → (IsErr r ↔ IsTrue (is_wide (operator_of k) p q))
@@ -84,10 +79,6 @@ first_wide-some [] ys w e = cc
 first_wide-some (x ∷ xs) ys w e = append_some x w (is_wide x.operator x.left x.right) xs ys (first_wide-some xs ys w) e
 
 -- ---- An operation over values
-
--- a list from one of its elements on
-pub from_item : {A : Type 0} (xs : List A) (k : ℕ) (x : A) → k < length xs → x ≡ get_or xs k x → drop k xs ≡ x ∷ drop (k + 1) xs
-from_item xs k x inside e = drop-cons xs k x inside ∙ ap (λ y. y ∷ drop (suc k) xs) (sym e) ∙ ap (λ n. x ∷ drop n xs) (sym (add-one k))
 
 -- one step that is carried out
 pub same_value : (op : Arithmetic) (v w : Value) (ws : List Value) (r : Fraction) → IsCarriedOut op (number_of v) (number_of w) r

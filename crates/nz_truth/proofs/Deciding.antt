@@ -7,6 +7,7 @@ use Rattle.std.proofs.Math.Seq.{drop-cons}
 use Rattle.std.proofs.lemmas.Bool.Decides.{eqb_tells, nat_tests}
 use Rattle.std.proofs.lemmas.List.Elements.{Contains-push_cases, recursion_from_All}
 use Rattle.std.proofs.lemmas.Option.{slice_get_within}
+use Rattle.std.proofs.Math.Bool.{and-true, or-false}
 use Rattle.nz_spec.specs.Fraction.{denominator, floor, floor_div, fraction_eq, fraction_le, fraction_lt}
 use Rattle.nz_spec.specs.Term.{Assignment, Constant, Head, Sort, Value, all_true, apply, are_chained, are_equal, bool_sort, combined, constant, excluded, head_sort, head_value, holds_number, hold_number, int_sort, is_at_most, is_bool, is_numeric, is_int, is_less, is_true, IsOfSort, number, real_sort, some_true, truth, value_of, values_of}
 use Rattle.nz_spec.specs.Table.{Node, IsTable, term_in, terms_at}
@@ -27,22 +28,14 @@ any_by : (f : ℕ → Bool) (ks : List ℕ) → list_any f ks ≡ list_any is_tr
 any_by f [] = refl
 any_by f (k ∷ ks) = ap (λ b. f k || b) (any_by f ks)
 
-only : (b : Bool) → (b && true) ≡ b
-only true = refl
-only false = refl
-
-either : (b : Bool) → (b || false) ≡ b
-either true = refl
-either false = refl
-
 pub all_is : (f : ℕ → Bool) (ks : List ℕ) (b : Bool) → b ≡ list_all f ks → truth b ≡ all_true (values_by f ks)
 all_is f [] b e = ap truth e
-all_is f (k ∷ []) b e = ap truth (e ∙ only (f k))
+all_is f (k ∷ []) b e = ap truth (e ∙ and-true (f k))
 all_is f (k ∷ l ∷ ks) b e = ap truth (e ∙ all_by f (k ∷ l ∷ ks))
 
 pub any_is : (f : ℕ → Bool) (ks : List ℕ) (b : Bool) → b ≡ list_any f ks → truth b ≡ some_true (values_by f ks)
 any_is f [] b e = ap truth e
-any_is f (k ∷ []) b e = ap truth (e ∙ either (f k))
+any_is f (k ∷ []) b e = ap truth (e ∙ or-false (f k))
 any_is f (k ∷ l ∷ ks) b e = ap truth (e ∙ any_by f (k ∷ l ∷ ks))
 
 -- no truth is below another, since each counts as 0

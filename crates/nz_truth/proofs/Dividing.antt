@@ -1,16 +1,11 @@
--- Integers as numbers, their quotients and their remainders.
-use Rattle.std.proofs.Common.{◌≡◌, ◌≢◌, ℕ, zero, suc, ◌+◌, ◌-◌, ◌*◌, ◌/◌, ◌%◌, ◌<◌, ◌≤◌, ℤ, pos, negsuc, ◌+ℤ◌, ◌*ℤ◌, neg_ℤ, unsigned_abs, int_lt, Bool, true, false, to_z, of_z, FitsSigned, Option, Some, None, refl, sym, ap, subst, ◌∙◌, arith, true≢false}
-use Rattle.std.specs.Prelude.{◌↔◌, IsSome, IfSome, unwrap_or}
+-- Quotients and remainders of integers.
+use Rattle.std.proofs.Common.{◌≡◌, ◌≢◌, ℕ, zero, suc, ◌+◌, ◌-◌, ◌*◌, ◌/◌, ◌%◌, ◌<◌, ◌≤◌, ℤ, pos, negsuc, ◌+ℤ◌, ◌*ℤ◌, neg_ℤ, unsigned_abs, int_lt, true, false, to_z, of_z, FitsSigned, refl, sym, ap, ◌∙◌, arith}
 use Rattle.std.specs.Int.{int_div_euclid, int_rem_euclid, w128}
 use Rattle.std.proofs.Math.IntN.{pos-*ℤ-pos, pos-*ℤ-negsuc, negsuc-*ℤ-pos, *ℤ-negsuc, *ℤ-zero, zero-*ℤ}
-use Rattle.std.proofs.Math.Nat.{div-add-mod, div-le_self, div-one, div-zero, mod-lt}
+use Rattle.std.proofs.Math.Nat.{div-add-mod, div-le_self, div-zero, mod-lt}
 use Rattle.std.proofs.lemmas.Int.{ints, to_z-of_z}
-use Rattle.nz_spec.specs.Fraction.{Fraction, IsNumber, floor_div, gcd, largest, ratio, whole, over}
+use Rattle.nz_spec.specs.Fraction.{floor_div}
 use Rattle.nz_spec.specs.Term.{div_of, mod_of}
-use Rattle.nz_frac.specs.Parts.{differ, with_sign}
-use Rattle.nz_frac.proofs.PartLemmas.{cast-back, number-from_parts, over-value, with_sign-abs}
-use Rattle.nz_frac.proofs.ProductLemmas.{ratio-parts}
-use Rattle.nz_frac.proofs.RoundLemmas.{whole_parts}
 
 -- ---- Quotients
 
@@ -67,37 +62,6 @@ unfolding mod_of
 remainder_zero m n e =
     let none : pos 0 *ℤ div_of m (pos 0) ≡ pos 0 = zero-*ℤ (div_of m (pos 0)) in
     sym (ap (λ k. m +ℤ neg_ℤ (k *ℤ div_of m k)) e ∙ ap (λ k. m +ℤ neg_ℤ k) none ∙ omega (arith, ints))
-
--- ---- Integers as numbers
-
-no_more : (n : ℤ) → unsigned_abs n ≤ largest → gcd (unsigned_abs n) 1 ≡ 1
-no_more n h = subst (λ z. gcd (unsigned_abs z) 1 ≡ 1) (cast-back n h) (whole_parts n h).lowest
-
-whole_number : (n : ℤ) → unsigned_abs n ≤ largest → IsNumber (whole n)
-whole_number n h = subst (λ z. IsNumber (whole z)) (cast-back n h) (number-from_parts _ 1 _ (whole_parts n h) refl)
-
-as_it_is : (b : Bool) → differ b false ≡ b
-as_it_is true = refl
-as_it_is false = refl
-
-one_apart : pos 1 ≢ pos 0
-one_apart e = omega (arith, ints, e)
-
-ratio_one : (n : ℤ) → unsigned_abs n ≤ largest → ratio n (pos 1) ≡ whole n
-ratio_one n h =
-    ratio-parts n (pos 1) one_apart
-    ∙ ap (λ (k : ℕ). over (with_sign (differ (int_lt n (pos 0)) false) (unsigned_abs n / k)) (1 / k)) (no_more n h)
-    ∙ ap (λ (k : ℕ). over (with_sign (differ (int_lt n (pos 0)) false) k) 1) (div-one (unsigned_abs n))
-    ∙ ap (λ (b : Bool). over (with_sign b (unsigned_abs n)) 1) (as_it_is (int_lt n (pos 0)))
-    ∙ ap (λ (z : ℤ). over z 1) (with_sign-abs n)
-    ∙ over-value n 1
-
--- so the number of an integer that fits is made
-pub made : (o : Option Fraction) (n z : ℤ) → (IsSome o ↔ ((pos 1 ≢ pos 0) × IsNumber (ratio z (pos 1)))) → IfSome o (λ q. q ≡ ratio z (pos 1)) → z ≡ n → unsigned_abs n ≤ largest
-    → (q : Fraction) → unwrap_or o q ≡ whole n
-made (Some x) n z some value same h q = value ∙ ap (λ y. ratio y (pos 1)) same ∙ ratio_one n h
-made None n z some value same h q =
-    absurd (true≢false (sym (some.1 (one_apart, subst (λ y. IsNumber (ratio y (pos 1))) (sym same) (subst IsNumber (sym (ratio_one n h)) (whole_number n h))))))
 
 -- ---- Integers that are written and read back
 

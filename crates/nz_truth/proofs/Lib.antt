@@ -3,6 +3,5 @@ pub mod Comparing
 pub mod Deciding
 pub mod Dividing
 pub mod Gathering
-pub mod Listing
 pub mod Numbering
 pub mod Walking

@@ -1,11 +1,12 @@
 -- What terms come to: a value, or the first operation that leaves the numbers.
-use Rattle.std.specs.Prelude.{◌≡◌, ℕ, ⊤, List, [], ◌∷◌, map, Option, Some, None, option_map, unwrap_or, Contains, false, pos, slice_get, slice_index_or}
+use Rattle.std.specs.Prelude.{◌≡◌, ℕ, nat_eq, ⊤, List, [], ◌∷◌, Option, Some, None, unwrap_or, Contains, false, pos, slice_get}
+use Rattle.std.specs.HashMap.{HashMap, get}
 use Rattle.std.specs.List.{AllByRecursion}
 use Rattle.nz_spec.specs.Fraction.{Fraction, Arithmetic, Operation, first_wide}
 use Rattle.nz_spec.specs.Operations.{operation_on, operations_by, operations_of}
 use Rattle.nz_spec.specs.Term as spec
 use Rattle.nz_spec.specs.Term.{Assignment, Constant, Head, constant, integer, decimal_number, Term, value_of, carried_out, combined, default_value, number, whole_number, decimal_value}
-use Rattle.nz_spec.specs.Table.{Node, term_in}
+use Rattle.nz_spec.specs.Table.{Node, listed_value, term_in}
 use Rattle.nz_frac.specs.Operations.{operation_of}
 use Rattle.nz_frac.specs.declared.frac.Wide as wide
 use Rattle.nz_term.specs.Values as own
@@ -52,30 +53,23 @@ IsGiven a (integer n) v = v ≡ whole_number (pos n)
 IsGiven a (decimal_number n places) v = v ≡ number (decimal_value n places)
 IsGiven a h v = ⊤
 
--- ---- Lists by number
+-- ---- What is known by numbers
 
--- the value that is kept for a number, if one is
-abbrev pub value_at : List (Option values.Value) → ℕ → Option spec.Value
-value_at vs i = option_map own.value_of (slice_index_or vs i None)
+-- these pairs give the constants their values, and where none is listed it is the default of the sort
+abbrev pub AreGiven : List Node → Assignment → List (ℕ × spec.Value) → Type 0
+AreGiven ns a ps = (i : ℕ) (n : Node) (c : Constant) → slice_get ns i ≡ Some n → n.head ≡ constant c → unwrap_or (listed_value ps i) (default_value c.sort) ≡ a c
 
--- these are the values of the constants, and where none is kept it is the default of the sort
-abbrev pub AreGiven : List Node → Assignment → List (Option values.Value) → Type 0
-AreGiven ns a vs = (i : ℕ) (n : Node) (c : Constant) → slice_get ns i ≡ Some n → n.head ≡ constant c → unwrap_or (value_at vs i) (default_value c.sort) ≡ a c
+-- what the map has for the term of a number
+abbrev pub outcome_in : {S : Type 0} → HashMap ℕ Outcome S → ℕ → Outcome
+outcome_in os i = unwrap_or (get nat_eq os i) (outcome.Value (value.Truth false))
 
--- what is listed for the term of a number
-abbrev pub outcome_at : List Outcome → ℕ → Outcome
-outcome_at os i = slice_index_or os i (outcome.Value (value.Truth false))
+-- what is known of these numbers is what their terms come to
+abbrev pub AreEvaluated : List Node → Assignment → List ℕ → (ℕ → Outcome) → Type 0
+AreEvaluated ns a is known = (i : ℕ) → Contains is i → IsOutcome a (term_in ns i) (known i)
 
-abbrev pub outcomes_at : List Outcome → List ℕ → List Outcome
-outcomes_at os is = map (outcome_at os) is
-
--- what is listed for these numbers is what their terms come to
-abbrev pub AreEvaluated : List Node → Assignment → List ℕ → List Outcome → Type 0
-AreEvaluated ns a is os = (i : ℕ) → Contains is i → IsOutcome a (term_in ns i) (outcome_at os i)
-
--- so do the arguments of the term of a number
-abbrev pub HasEvaluatedKids : List Node → Assignment → ℕ → List Outcome → Type 0
-HasEvaluatedKids ns a i os = (n : Node) → slice_get ns i ≡ Some n → AllByRecursion (λ k. IsOutcome a (term_in ns k) (outcome_at os k)) n.kids
+-- so it is with the arguments of the term of a number
+abbrev pub HasEvaluatedKids : List Node → Assignment → ℕ → (ℕ → Outcome) → Type 0
+HasEvaluatedKids ns a i known = (n : Node) → slice_get ns i ≡ Some n → AllByRecursion (λ k. IsOutcome a (term_in ns k) (known k)) n.kids
 
 -- the first of these that is no value
 abbrev pub first_stop : List Outcome → Option wide.Wide

@@ -92,7 +92,7 @@ fn whole(n: i128) -> Value
     requires fits { unsigned_abs n ≤ largest }
     ensures whole { value_of result ≡ whole_number n }
 {
-    Value::Number(Frac::of(n, 1).unwrap_or(Frac::whole(0)))
+    Value::Number(Frac::integer(n))
 }
 
 /// The quotient of two integers. By 0 it is that of the definition: 0, or -1 of a number below 0.

@@ -13,4 +13,4 @@ mod walk;
 pub use heads::default_value;
 pub use truth::{are_true, constant_numbers, evaluate};
 pub use value::{EvalStop, Values, eval};
-pub use walk::{Outcome, listed_values, outcomes};
+pub use walk::{Outcome, outcomes};

@@ -1,12 +1,13 @@
 use Rattle.std.proofs.Common.{List, ◌+◌, pos, subst, map, drop, refl, ap, sym, ◌∙◌}
 use Rattle.std.proofs.lemmas.Result.{err_from_is_err_and}
+use Rattle.nz_lists.proofs.Places.{drop_read}
 use Rattle.nz_spec.specs.Fraction.{Fraction, whole, first_wide, ◌<ℚ◌, ◌≤ℚ◌}
 use Rattle.nz_spec.proofs.InfinitesimalLaws.{chosen-least, chosen-above, chosen-keeps}
 use Rattle.nz_spec.specs.Infinitesimal.{IsLeastLimit, AreOrderedAt, limits, least_from, delta_operations}
 use Rattle.nz_delta.specs.declared.delta.Delta.{Delta}
 use Rattle.nz_delta.specs.Pairs.{pair_of}
 use Rattle.nz_delta.proofs.WideLemmas.{refused_is}
-use Rattle.nz_delta.proofs.LimitLemmas.{next, limits-cons, operations-cons_none, operations-cons_some, chosen_from, ended, ended_operations}
+use Rattle.nz_delta.proofs.LimitLemmas.{limits-cons, operations-cons_none, operations-cons_some, chosen_from, ended, ended_operations}
 use Rattle.nz_delta.proofs.choose.choose_delta.Goals as goal
 
 pub loop-pair-init : goal.loop-pair-init
@@ -22,7 +23,7 @@ returns-in_err-delta-clause-wide c =
     refused_is c.from_residual.result p.0 _ p.1 p.2
     ∙ sym
     (c.loop-pair.invariant.wide
-    ∙ ap (λ (xs : List (Delta × Delta)). first_wide (delta_operations (map pair_of xs))) (next c.args.pairs.now c.loop-pair.pair-index c.pair-item.result c.pair-item.is c.loop-pair-test.true)
+    ∙ ap (λ (xs : List (Delta × Delta)). first_wide (delta_operations (map pair_of xs))) (drop_read c.args.pairs.now c.loop-pair.pair-index c.pair-item.result c.loop-pair-test.true c.pair-item.is)
     ∙ operations-cons_some (pair_of c.pair-item.result) (map pair_of (drop (c.loop-pair.pair-index + 1) c.args.pairs.now)) _ (sym c.in_err-delta.ensures.wide))
 
 pub loop-pair-preserved : goal.loop-pair-preserved
@@ -30,12 +31,12 @@ loop-pair-preserved c =
     record {
       value =
           c.loop-pair.invariant.value
-          ∙ ap (λ (xs : List (Delta × Delta)). least_from c.loop-pair.delta (limits (map pair_of xs))) (next c.args.pairs.now c.loop-pair.pair-index c.pair-item.result c.pair-item.is c.loop-pair-test.true)
+          ∙ ap (λ (xs : List (Delta × Delta)). least_from c.loop-pair.delta (limits (map pair_of xs))) (drop_read c.args.pairs.now c.loop-pair.pair-index c.pair-item.result c.loop-pair-test.true c.pair-item.is)
           ∙ limits-cons (pair_of c.pair-item.result) (map pair_of (drop (c.loop-pair.pair-index + 1) c.args.pairs.now)) c.loop-pair.delta
           ∙ ap (λ (e : Fraction). least_from e (limits (map pair_of (drop (c.loop-pair.pair-index + 1) c.args.pairs.now)))) (sym c.in_ok-delta.ensures.least);
       wide =
           c.loop-pair.invariant.wide
-          ∙ ap (λ (xs : List (Delta × Delta)). first_wide (delta_operations (map pair_of xs))) (next c.args.pairs.now c.loop-pair.pair-index c.pair-item.result c.pair-item.is c.loop-pair-test.true)
+          ∙ ap (λ (xs : List (Delta × Delta)). first_wide (delta_operations (map pair_of xs))) (drop_read c.args.pairs.now c.loop-pair.pair-index c.pair-item.result c.loop-pair-test.true c.pair-item.is)
           ∙ operations-cons_none (pair_of c.pair-item.result) (map pair_of (drop (c.loop-pair.pair-index + 1) c.args.pairs.now)) (sym c.in_ok-delta.ensures.wide);
     }
 

@@ -1,6 +1,5 @@
-use Rattle.std.proofs.Common.{◌≡◌, ◌<◌, length, Some, None, option_map, sym, ap, ◌∙◌, arith}
+use Rattle.std.proofs.Common.{◌≡◌, Some, option_map, sym, ap, ◌∙◌, arith}
 use Rattle.std.specs.Prelude.{slice_get}
-use Rattle.std.proofs.lemmas.List.{get_or_default}
 use Rattle.std.proofs.lemmas.Result.{on_ok_weaker}
 use Rattle.nz_spec.specs.Term.{constant}
 use Rattle.nz_spec.specs.Table.{Node}
@@ -10,7 +9,7 @@ use Rattle.nz_session.proofs.Assigning.{bound_past, given_binding}
 use Rattle.nz_session.proofs.desk.add_binding.Goals as goal
 
 pub returns-then-id-len : goal.returns-then-id-len
-returns-then-id-len c = record { grown = λ ps h. bound_past c.args.terms.now ps c.args.id c.args.bindings.now (omega (arith, c.len.ensures.len)) }
+returns-then-id-len c = record { grown = bound_past c.args.terms.now c.args.assign.now c.args.id c.args.bindings.now (omega (arith, c.len.ensures.len)) }
 
 pub returns : goal.returns
 returns c =
@@ -20,10 +19,8 @@ returns c =
     let copied : k ≡ c.in-Constant.constant = c.in_ok-constant.ensures.cases in
     let head : option_map (λ (n : Node). n.head) (slice_get ns id) ≡ Some (constant (constant_of k)) =
     c.head.ensures.head ∙ ap (λ h. Some (head_of h)) c.in-Constant.is ∙ ap (λ x. Some (constant (constant_of x))) (sym copied) in
-    let below : id < length c.args.values.now = omega (arith, c.if-id-len.false, c.len.ensures.len, c.requires.room) in
-    let at = get_or_default c.args.values.now id None c.index-values-id.result below ∙ sym c.index-values-id.is in
     record {
       grown = on_ok_weaker c.push.result
-          (λ grown. λ ps given. given_binding ns ps id (constant_of k) c.args.values.now c.index-values-id.result c.default_value.result c.unwrap_or-value.result c.args.bindings.now c.push.new.self
-          head at c.default_value.ensures.default c.unwrap_or-value.ensures given grown) c.push.ensures.grown;
+          (λ grown. given_binding c.assigns_by_number.ensures.listed ns c.known_table.ensures.table c.args.assign.now id (constant_of k) c.value.result c.default_value.result c.unwrap_or-value.result c.args.bindings.now c.push.new.self
+          head c.value.ensures.value c.default_value.ensures.default c.unwrap_or-value.ensures grown) c.push.ensures.grown;
     }

@@ -3,11 +3,9 @@ use Rattle.std.specs.Prelude.{All}
 use Rattle.std.proofs.lemmas.List.Elements.{All-from_recursion}
 use Rattle.std.proofs.lemmas.Result.{IfOk-weaker}
 use Rattle.nz_spec.specs.Table.{assignment_by}
-use Rattle.nz_sort.specs.Items.{table_numbers}
-use Rattle.nz_spec.specs.Term.{Value}
 use Rattle.nz_spec.specs.Reply.{Shown}
 use Rattle.nz_truth.specs.Outcomes.{AreOutcomes}
-use Rattle.nz_session.specs.Valued.{AreShown, numbers_typed, outcomes_shown, valued}
+use Rattle.nz_session.specs.Valued.{AreShown, numbers_typed, outcomes_shown}
 use Rattle.nz_session.proofs.Valuing.{typed_within, told_all}
 use Rattle.nz_session.proofs.values.values_shown.Goals as goal
 
@@ -25,11 +23,10 @@ returns c =
     let ns = c.args.terms.now in
     let xs = c.args.asked.now in
     let os = c.in_ok-found.found.items in
-    let pairs = valued (table_numbers c.args.constants.now) c.args.model.now in
-    let roots = subst (λ (ids : List ℕ). AreOutcomes ns (assignment_by ns c.in_ok-assign.assign) ids os) (c.deref.ensures.value ∙ c.in_ok-roots.ensures.numbers) c.in_ok-found.ensures.outcomes in
-    let found : AreOutcomes ns (assignment_by ns pairs) (numbers_typed xs) os =
-    subst (λ (ps : List (ℕ × Value)). AreOutcomes ns (assignment_by ns ps) (numbers_typed xs) os) c.in_ok-assign.ensures.valued roots in
+    let ps = c.args.values.now in
+    let found : AreOutcomes ns (assignment_by ns ps) (numbers_typed xs) os =
+    subst (λ (ids : List ℕ). AreOutcomes ns (assignment_by ns ps) ids os) (c.deref.ensures.value ∙ c.in_ok-roots.ensures.numbers) c.in_ok-found.ensures.outcomes in
     record {
-      shown = IfOk-weaker c.shows_of.result (λ (shows : List Shown). shows ≡ outcomes_shown xs c.deref-2.result.now) (AreShown ns (table_numbers c.args.constants.now) c.args.model.now xs)
-          (λ shows e ts h. e ∙ ap (outcomes_shown xs) c.deref-2.ensures.value ∙ told_all c.normal_keeps_value.ensures.keeps ns (assignment_by ns pairs) xs os ts h found) c.shows_of.ensures.shows;
+      shown = IfOk-weaker c.shows_of.result (λ (shows : List Shown). shows ≡ outcomes_shown xs c.deref-2.result.now) (AreShown ns ps xs)
+          (λ shows e ts h. e ∙ ap (outcomes_shown xs) c.deref-2.ensures.value ∙ told_all c.normal_keeps_value.ensures.keeps ns (assignment_by ns ps) xs os ts h found) c.shows_of.ensures.shows;
     }

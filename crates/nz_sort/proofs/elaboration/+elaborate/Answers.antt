@@ -148,6 +148,9 @@ let_term-elaborate-requires t c =
       ),
     )
 
+pub let_term-returns-in_err-term-clause-grows : goal.let_term-returns-in_err-term-clause-grows
+let_term-returns-in_err-term-clause-grows t c = grows_more _ _ _ c.in_ok-frame.ensures.grows c.in_err-term.ensures.grows
+
 pub let_term-returns-in_err-term-clause-refused : goal.let_term-returns-in_err-term-clause-refused
 let_term-returns-in_err-term-clause-refused t c = λ err.
     (let p = err_from_is_err_and c.from_residual-in_err-term.result c.from_residual-in_err-term.ensures.1 in

@@ -4,7 +4,7 @@ use Rattle.nz_term.proofs.Adding.{finish, start, step}
 use Rattle.nz_term.proofs.companions.add_companions.Goals as goal
 
 pub loop-id-init : goal.loop-id-init
-loop-id-init c = start c.args.terms.now c.args.from
+loop-id-init c = start c.term_stays.ensures.stays c.args.terms.now c.args.from
 
 pub loop-id-preserved : goal.loop-id-preserved
 loop-id-preserved c =

@@ -1,13 +1,14 @@
 -- The instance of a term by how its head and its arguments are.
-use Rattle.std.proofs.Common.{◌≡◌, ◌<◌, List, [], ◌∷◌, ◌++◌, ℕ, length, map, slice_get, slice_index, All, false, Some, sym, ap, subst, ◌∙◌, true≢false}
+use Rattle.std.proofs.Common.{◌≡◌, ◌<◌, List, [], ◌∷◌, ◌++◌, ℕ, length, map, slice_get, All, false, Some, sym, ap, subst, ◌∙◌, true≢false}
 use Rattle.std.specs.Prelude.{◌⊎◌, bytes_eq, IfOk, Result, Ok, Err}
 use Rattle.std.proofs.lemmas.Option.{slice_get_within}
 use Rattle.std.specs.Cmp.Lexicographic.{bytes_decides}
+use Rattle.nz_lists.proofs.Results.{both_ok}
 use Rattle.nz_spec.specs.Term.{Head, apply}
 use Rattle.nz_spec.specs.Table.{HasItsArguments, term_in, terms_at}
 use Rattle.nz_term.specs.Growth.{IsOperator}
 use Rattle.nz_term.specs.Heads.{head_of}
-use Rattle.nz_term.specs.Instances.{IsInstance}
+use Rattle.nz_term.specs.Instances.{IsInstance, instance_in}
 use Rattle.nz_term.specs.Nodes.{node_of, node_with}
 use Rattle.nz_term.proofs.Instancing.{argument_instance, free, grows_by, instances_within, made_instance, operator, own_instance}
 use Rattle.nz_term.proofs.instances.node_instance.Goals as goal
@@ -23,9 +24,9 @@ pub returns-then-eq-clause-made : goal.returns-then-eq-clause-made
 returns-then-eq-clause-made c =
     let n = c.node-node.result.now in
     let made = c.args.made.now in
-    let listed : c.in_ok-instances.instances.items ≡ map (slice_index made) n.kids = c.in_ok-instances.ensures.listed ∙ ap (map (slice_index made)) c.as_slice-kids.ensures.ids in
+    let listed : c.in_ok-instances.instances.items ≡ map (instance_in made) n.kids = c.in_ok-instances.ensures.listed ∙ ap (map (instance_in made)) c.as_slice-kids.ensures.ids in
     let equal : c.as_slice.result.now ≡ c.as_slice-kids.result.now = (bytes_decides c.as_slice.result.now c.as_slice-kids.result.now).0 (sym c.if-eq.ensures) in
-    own_instance c.args.terms.now c.args.arguments.now made c.args.id (head_of n.head) n.kids (sym c.in_default.ensures.argument) c.node-node.ensures.term c.requires.id
+    own_instance c.args.terms.now c.args.arguments.now (instance_in made) c.args.id (head_of n.head) n.kids (sym c.in_default.ensures.argument) c.node-node.ensures.term c.requires.id
     (c.requires.done (node_of n) c.node-node.ensures.node) (sym listed ∙ sym c.as_slice.ensures.value ∙ equal ∙ c.as_slice-kids.ensures.ids)
 
 pub make-requires-clause-within : goal.make-requires-clause-within
@@ -33,32 +34,28 @@ make-requires-clause-within c =
     let n = c.node-node.result.now in
     let ns = c.args.terms.now in
     let made = c.args.made.now in
-    let listed : c.as_slice-2.result.now ≡ map (slice_index made) n.kids =
-    c.as_slice-2.ensures.value ∙ c.in_ok-instances.ensures.listed ∙ ap (map (slice_index made)) c.as_slice-kids.ensures.ids in
-    subst (All (λ k. k < length ns)) (sym listed) (instances_within ns c.args.arguments.now made n.kids (c.requires.done (node_of n) c.node-node.ensures.node))
+    let listed : c.as_slice-2.result.now ≡ map (instance_in made) n.kids =
+    c.as_slice-2.ensures.value ∙ c.in_ok-instances.ensures.listed ∙ ap (map (instance_in made)) c.as_slice-kids.ensures.ids in
+    subst (All (λ k. k < length ns)) (sym listed) (instances_within ns c.args.arguments.now (instance_in made) n.kids (c.requires.done (node_of n) c.node-node.ensures.node))
 
 -- a head whose arguments have other instances is an operator's
-changed : (h : Head) (kids made shown instances again : List ℕ) → HasItsArguments h kids → shown ≡ kids → instances ≡ map (slice_index made) shown → again ≡ instances
+changed : (h : Head) (kids shown instances again : List ℕ) (made : ℕ → ℕ) → HasItsArguments h kids → shown ≡ kids → instances ≡ map made shown → again ≡ instances
     → false ≡ bytes_eq again shown → IsOperator h
-changed h kids made shown instances again leaf same listed equal other =
+changed h kids shown instances again made leaf same listed equal other =
     operator h kids leaf (λ none.
     let nothing : shown ≡ [] = same ∙ none in
-    true≢false (sym (ap (λ l. bytes_eq l shown) (equal ∙ listed ∙ ap (map (slice_index made)) nothing) ∙ ap (bytes_eq []) nothing) ∙ sym other))
+    true≢false (sym (ap (λ l. bytes_eq l shown) (equal ∙ listed ∙ ap (map made) nothing) ∙ ap (bytes_eq []) nothing) ∙ sym other))
 
 operates : (c : After-as_slice-2) → IsOperator (head_of c.node-node.result.now.head)
 operates c =
     let n = c.node-node.result.now in
-    changed (head_of n.head) n.kids c.args.made.now c.as_slice-kids.result.now c.in_ok-instances.instances.items c.as_slice.result.now c.node-node.ensures.leaves c.as_slice-kids.ensures.ids
+    changed (head_of n.head) n.kids c.as_slice-kids.result.now c.in_ok-instances.instances.items c.as_slice.result.now (instance_in c.args.made.now) c.node-node.ensures.leaves c.as_slice-kids.ensures.ids
     c.in_ok-instances.ensures.listed c.as_slice.ensures.value c.if-eq.ensures
 
 pub make-requires-clause-leaves : goal.make-requires-clause-leaves
 make-requires-clause-leaves c =
     let same : head_of c.in_ok-head.head ≡ head_of c.node-node.result.now.head = ap head_of c.in_ok-head.ensures.cases in
     free (head_of c.in_ok-head.head) c.as_slice-2.result.now (subst IsOperator (sym same) (operates c))
-
-both_ok : {T E : Type 0} (r : Result T E) (P Q R : T → Type 0) → ((x : T) → P x → Q x → R x) → IfOk r P → IfOk r Q → IfOk r R
-both_ok (Ok x) P Q R f p q = f x p q
-both_ok (Err e) P Q R f p q = tt
 
 pub returns-clause-made : goal.returns-clause-made
 returns-clause-made c =
@@ -67,8 +64,8 @@ returns-clause-made c =
     let new = c.make.new.self in
     let made = c.args.made.now in
     let kids = c.as_slice-2.result.now in
-    let listed : kids ≡ map (slice_index made) n.kids =
-    c.as_slice-2.ensures.value ∙ c.in_ok-instances.ensures.listed ∙ ap (map (slice_index made)) c.as_slice-kids.ensures.ids in
+    let listed : kids ≡ map (instance_in made) n.kids =
+    c.as_slice-2.ensures.value ∙ c.in_ok-instances.ensures.listed ∙ ap (map (instance_in made)) c.as_slice-kids.ensures.ids in
     let same : head_of c.in_ok-head.head ≡ head_of n.head = ap head_of c.in_ok-head.ensures.cases in
     let one = node_with c.in_ok-head.head kids in
     let stays = subst IsOperator (sym same) (operates (goal.at.returns-clause-made c).After-as_slice-2) in
@@ -78,7 +75,7 @@ returns-clause-made c =
     (λ id. IsInstance new c.args.arguments.now c.args.id id)
     (
     λ id there grown.
-    made_instance old new (grows_by old one new stays grown) c.args.arguments.now made c.args.id (head_of n.head) n.kids id c.requires.within (sym c.in_default.ensures.argument)
+    made_instance old new (grows_by old one new stays c.make.ensures.stays grown) c.args.arguments.now (instance_in made) c.args.id (head_of n.head) n.kids id c.requires.within (sym c.in_default.ensures.argument)
     c.node-node.ensures.term c.requires.id (c.requires.done (node_of n) c.node-node.ensures.node) (slice_get_within new id one there.0)
     (there.1 ∙ ap (λ h. apply h (terms_at (term_in old) kids)) same ∙ ap (λ l. apply (head_of n.head) (terms_at (term_in old) l)) listed)
     )

@@ -1,5 +1,6 @@
 -- One operation more, which is carried out or leaves the numbers.
 use Rattle.std.proofs.Common.{◌≡◌, ◌+◌, List, ◌∷◌, drop, map, sym, ap, subst, ◌∙◌, arith}
+use Rattle.nz_lists.proofs.Places.{drop_read}
 use Rattle.nz_spec.specs.Fraction.{Fraction, first_wide}
 use Rattle.nz_spec.specs.Operations.{operations_by}
 use Rattle.nz_spec.specs.Term.{carried_out, combined, number_of}
@@ -7,7 +8,7 @@ use Rattle.nz_frac.specs.Operations.{operator_of}
 use Rattle.nz_term.specs.declared.assign.Value.{Value}
 use Rattle.nz_term.specs.Values.{value_of}
 use Rattle.nz_truth.specs.Outcomes.{IsCarriedOut, IsStopped}
-use Rattle.nz_truth.proofs.Carrying.{from_item, same_stop, same_value, stop_here}
+use Rattle.nz_truth.proofs.Carrying.{same_stop, same_value, stop_here}
 use Rattle.nz_truth.proofs.arithmetic.operated_on.Goals as goal
 
 pub returns-in-Err : goal.returns-in-Err
@@ -17,7 +18,7 @@ returns-in-Err c =
     let v = value_of c.loop-other.value in
     let w = value_of c.other-item.result in
     let rest = drop (k + 1) c.args.others.now in
-    let left : drop k c.args.others.now ≡ c.other-item.result ∷ rest = from_item c.args.others.now k c.other-item.result (omega arith) c.other-item.is in
+    let left : drop k c.args.others.now ≡ c.other-item.result ∷ rest = drop_read c.args.others.now k c.other-item.result (omega arith) c.other-item.is in
     let here : IsStopped op (number_of v) (number_of w) c.in-Err.wide =
     subst (λ (q : Fraction). IsStopped op (number_of v) q c.in-Err.wide) c.number_of-in-loop-other.ensures.number
     (subst (λ (p : Fraction). IsStopped op p c.number_of-in-loop-other.result c.in-Err.wide) c.number_of.ensures.number c.in-Err.ensures.stopped) in
@@ -32,7 +33,7 @@ loop-other-preserved c =
     let v = value_of c.loop-other.value in
     let w = value_of c.other-item.result in
     let rest = drop (k + 1) c.args.others.now in
-    let left : drop k c.args.others.now ≡ c.other-item.result ∷ rest = from_item c.args.others.now k c.other-item.result (omega arith) c.other-item.is in
+    let left : drop k c.args.others.now ≡ c.other-item.result ∷ rest = drop_read c.args.others.now k c.other-item.result (omega arith) c.other-item.is in
     let here : IsCarriedOut op (number_of v) (number_of w) c.in-Ok.number =
     subst (λ (q : Fraction). IsCarriedOut op (number_of v) q c.in-Ok.number) c.number_of-in-loop-other.ensures.number
     (subst (λ (p : Fraction). IsCarriedOut op p c.number_of-in-loop-other.result c.in-Ok.number) c.number_of.ensures.number c.in-Ok.ensures.carried) in

@@ -2,7 +2,7 @@
 use Rattle.std.proofs.Common.{◌≡◌, ◌≤◌, ℤ, pos, int_lt, unsigned_abs, true, false, to_z, of_z, sym, ap, subst, ◌∙◌, arith}
 use Rattle.std.specs.Int.{int_div_euclid, w128}
 use Rattle.nz_spec.specs.Fraction.{largest}
-use Rattle.nz_frac.proofs.PartLemmas.{cast-back}
+use Rattle.nz_ints.proofs.Sizes.{cast-back}
 use Rattle.nz_truth.proofs.Dividing.{quotient_above, quotient_below, quotient_fits, quotient_is, read, zero_read}
 use Rattle.nz_truth.proofs.integers.divided.Goals as goal
 

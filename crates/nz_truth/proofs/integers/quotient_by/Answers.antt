@@ -1,12 +1,12 @@
 -- One quotient more.
 use Rattle.std.proofs.Common.{◌≡◌, ◌+◌, ℤ, List, ◌∷◌, drop, map, to_z, of_z, sym, ap, ◌∙◌, arith}
 use Rattle.std.specs.Int.{w128}
+use Rattle.nz_lists.proofs.Places.{drop_read}
 use Rattle.nz_spec.specs.Term as spec
 use Rattle.nz_spec.specs.Term.{combined, div_of, divided, integer_of, whole_number}
 use Rattle.nz_term.specs.declared.assign.Value.{Value}
 use Rattle.nz_term.specs.Values.{value_of}
-use Rattle.nz_frac.proofs.PartLemmas.{cast-back}
-use Rattle.nz_truth.proofs.Carrying.{from_item}
+use Rattle.nz_ints.proofs.Sizes.{cast-back}
 use Rattle.nz_truth.proofs.integers.quotient_by.Goals as goal
 
 pub loop-other-preserved : goal.loop-other-preserved
@@ -15,7 +15,7 @@ loop-other-preserved c =
     let v = value_of c.loop-other.value in
     let w = value_of c.other-item.result in
     let rest = drop (k + 1) c.args.others.now in
-    let left : drop k c.args.others.now ≡ c.other-item.result ∷ rest = from_item c.args.others.now k c.other-item.result (omega arith) c.other-item.is in
+    let left : drop k c.args.others.now ≡ c.other-item.result ∷ rest = drop_read c.args.others.now k c.other-item.result (omega arith) c.other-item.is in
     let value : value_of c.whole-value.result ≡ divided v w =
     c.whole-value.ensures.whole
     ∙ ap whole_number

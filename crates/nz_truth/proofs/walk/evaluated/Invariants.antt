@@ -1,11 +1,8 @@
 -- The terms so far have come to what they come to.
-use Rattle.std.proofs.Common.{◌≡◌, length, take}
+use Rattle.std.proofs.Common.{take}
 use Rattle.nz_spec.specs.Table.{assignment_by}
-use Rattle.nz_truth.specs.Outcomes.{AreEvaluated}
+use Rattle.nz_truth.specs.Outcomes.{AreEvaluated, outcome_in}
 use Rattle.nz_truth.proofs.walk.evaluated.Given as goal
 
 abbrev pub invariant-loop-id : goal.invariant-loop-id
-invariant-loop-id l = record {
-  room : length l.outcomes.items ≡ length l.terms;
-  done : AreEvaluated l.terms (assignment_by l.terms l.assign) (take l.id-index l.id-items) l.outcomes.items;
-}
+invariant-loop-id l = AreEvaluated l.terms (assignment_by l.terms l.assign) (take l.id-index l.id-items) (outcome_in l.outcomes)

@@ -6,26 +6,26 @@ use Rattle.nz_spec.specs.Table.{term_in, terms_at}
 use Rattle.nz_term.specs.Nodes.{node_of}
 use Rattle.nz_term.specs.declared.assign.Value.{Value}
 use Rattle.nz_term.specs.Values.{value_of}
-use Rattle.nz_truth.specs.Outcomes.{IsOutcomeOf, first_stop, outcomes_at, values_in}
+use Rattle.nz_truth.specs.Outcomes.{IsOutcomeOf, first_stop, outcome_in, values_in}
 use Rattle.nz_truth.proofs.Walking.{stopped_node, valued_node}
 use Rattle.nz_truth.proofs.walk.node_outcome.Goals as goal
 
 pub returns-in-Some : goal.returns-in-Some
 returns-in-Some c =
     let n = node_of c.node-node.result.now in
-    let os = c.args.outcomes.now in
-    let stop : Some c.in-Some.wide ≡ first_stop (outcomes_at os n.kids) = sym c.in-Some.is ∙ c.in_ok-wide.ensures.stop ∙ ap (λ l. first_stop (outcomes_at os l)) c.as_slice.ensures.ids in
+    let os = outcome_in c.args.outcomes.now in
+    let stop : Some c.in-Some.wide ≡ first_stop (map os n.kids) = sym c.in-Some.is ∙ c.in_ok-wide.ensures.stop ∙ ap (λ l. first_stop (map os l)) c.as_slice.ensures.ids in
     record { outcome = λ a given known. stopped_node c.args.terms.now a os c.args.id n.head n.kids c.node-node.ensures.term (known n c.node-node.ensures.node) c.in-Some.wide stop }
 
 pub returns-in-None : goal.returns-in-None
 returns-in-None c =
     let ns = c.args.terms.now in
     let n = node_of c.node-node.result.now in
-    let os = c.args.outcomes.now in
+    let os = outcome_in c.args.outcomes.now in
     let vs = c.gather.new.values.items in
     let here = sym c.in_ok-wide.ensures.stop ∙ c.in-None.is in
-    let none = sym here ∙ ap (λ l. first_stop (outcomes_at os l)) c.as_slice.ensures.ids in
-    let args : vs ≡ values_in (outcomes_at os n.kids) = c.in_ok-wide.ensures.values here ∙ ap (λ l. values_in (outcomes_at os l)) c.as_slice.ensures.ids in
+    let none = sym here ∙ ap (λ l. first_stop (map os l)) c.as_slice.ensures.ids in
+    let args : vs ≡ values_in (map os n.kids) = c.in_ok-wide.ensures.values here ∙ ap (λ l. values_in (map os l)) c.as_slice.ensures.ids in
     record {
       outcome = λ a given known.
           valued_node ns a os c.args.id n.head n.kids c.node-node.ensures.term (known n c.node-node.ensures.node) vs c.outcome_over.result none args

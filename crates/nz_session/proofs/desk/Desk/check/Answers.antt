@@ -23,4 +23,4 @@ returns-in-Ok-Unsat-clause-right g c x t h e =
     let unsat = rw (c.in-Ok-Unsat.field-0-is, c.assertions.ensures.terms) at c.in-Ok-Unsat.ensures.unsat in
     let none = no_live_model c.normal_keeps_value.ensures.keeps c.args.self.now.terms c.args.self.now.live x.state h.live unsat in
     checked g.E.Decide.levels g.E.Decide.table x t code.Unsat c.said.result _ c.args.self.now.last c.said.ensures.said
-    (record { live = h.live; told = told; front = c.decide-decided.ensures.front; last = h.last; bound = h.bound; success = h.success; bounded = h.bounded }) e refl (none, refl)
+    (record { live = h.live; told = told; front = c.decide-decided.ensures.front; last = h.last; bound = h.bound; values = h.values; success = h.success; bounded = h.bounded }) e refl (none, refl) tt

@@ -1,16 +1,19 @@
 use Rattle.std.proofs.Common.{List, [], refl, ap, sym, subst}
 use Rattle.nz_sexpr.specs.View.{view}
 use Rattle.nz_spec.specs.Live.{Options, pushed_levels}
-use Rattle.nz_spec.specs.Command.{Command, check_sat, get_model, get_reason, get_value, get_levels, set_print_success, no_effect, exit}
+use Rattle.nz_spec.specs.Command.{Command, check_sat, get_model, get_reason, get_value, get_info, get_levels, set_print_success, no_effect, echo, exit}
 use Rattle.nz_spec.specs.Script.{asked_of}
 use Rattle.nz_spec.specs.Text.{intact}
-use Rattle.nz_spec.specs.Reply.{levels}
+use Rattle.nz_spec.specs.Reply.{echoed, info, levels}
 use Rattle.nz_spec.specs.Right.{done, effect}
-use Rattle.nz_sort.specs.Live.{IsLive, IsCarriedOut, AsksValues, arguments_of, changed, check, show_model, show_values, show_reason, show_levels, print_success, nothing, leave}
+use Rattle.nz_sort.specs.Live.{IsLive, IsCarriedOut, AsksValues, arguments_of, changed, check, show_model, show_values, show_reason, show_info, show_levels, print_success, nothing, leave}
+use Rattle.nz_sort.specs.Live as asks
+use Rattle.nz_sort.specs.Acts.{info_meaning}
 use Rattle.nz_sort.specs.declared.typed.Typed.{Typed}
 use Rattle.nz_reply.specs.declared.reply.Reply.TheVariants as code
-use Rattle.nz_session.proofs.Answering.{GoesOn, accepted_as, kept_after, no_change, goes_on_after_levels, goes_on_after_nothing, goes_on_after_setting, holds_next, holds_set, changed_answer, done_answer, told_answer, exit_answer, tells_done}
+use Rattle.nz_session.proofs.Answering.{GoesOn, accepted_as, kept_after, no_change, goes_on_after_echo, goes_on_after_info, goes_on_after_levels, goes_on_after_nothing, goes_on_after_setting, holds_next, holds_set, changed_answer, done_answer, told_answer, exit_answer, tells_done}
 use Rattle.nz_session.proofs.Checking.{numberless}
+use Rattle.nz_session.proofs.Valuing.{echoed_literal}
 use Rattle.nz_session.proofs.desk.Desk.command.Goals as goal
 
 pub check-requires : goal.check-requires
@@ -80,6 +83,34 @@ returns-in-Ok-ShowValues-clause-right g c x h =
     let k : IsCarriedOut x.state t (show_values c.in-Ok-ShowValues.asked.items) ns l = carried x.state h.live in
     let kept = kept_after g.E.Decide.levels g.E.Decide.table c.args.self.now x ns l k.command (no_change k.command (get_value (asked_of k.asks.list k.asks.terms)) k.asks.is (λ y. y)) h on k.live in
     c.show_values.ensures.right x t k.command kept k.is (subst (λ (xs : List Typed). AsksValues ns xs (arguments_of t) k.command) (sym c.deref.ensures.value) k.asks)
+
+pub returns-in-Ok-ShowInfo-clause-right : goal.returns-in-Ok-ShowInfo-clause-right
+returns-in-Ok-ShowInfo-clause-right g c x h =
+    let t = view c.args.tree.now in
+    let ns = c.command.new.terms in
+    let l = c.command.new.self in
+    let i = info_meaning c.in-Ok-ShowInfo.info in
+    let on : GoesOn c.args.self.now ns l = record { terms = c.command.ensures.kept; asserted = c.command.ensures.front } in
+    let carried = rw c.in-Ok-ShowInfo.field-0-is at c.in-Ok-ShowInfo.ensures.accepted in
+    let k : IsCarriedOut x.state t (show_info i) ns l = carried x.state h.live in
+    let kept = kept_after g.E.Decide.levels g.E.Decide.table c.args.self.now x ns l k.command (no_change k.command (get_info i) k.asks (λ y. y)) h on k.live in
+    told_answer g.E.Decide.levels g.E.Decide.table x t (get_info i) (code.Info c.info_told.result) (info i) c.said-in-Ok-ShowInfo.result _ c.said-in-Ok-ShowInfo.ensures.said
+    (ap info c.info_told.ensures.info) tt (accepted_as x.state t k.command (get_info i) k.is k.asks) (refl, refl)
+    (holds_next g.E.Decide.levels g.E.Decide.table _ x kept) (goes_on_after_info i)
+
+pub returns-in-Ok-Echo-clause-right : goal.returns-in-Ok-Echo-clause-right
+returns-in-Ok-Echo-clause-right g c x h =
+    let t = view c.args.tree.now in
+    let ns = c.command.new.terms in
+    let l = c.command.new.self in
+    let on : GoesOn c.args.self.now ns l = record { terms = c.command.ensures.kept; asserted = c.command.ensures.front } in
+    let carried = rw c.in-Ok-Echo.field-0-is at c.in-Ok-Echo.ensures.accepted in
+    let k : IsCarriedOut x.state t asks.echo ns l = carried x.state h.live in
+    let bytes = k.asks.bytes in
+    let kept = kept_after g.E.Decide.levels g.E.Decide.table c.args.self.now x ns l k.command (no_change k.command (echo bytes) k.asks.is (λ y. y)) h on k.live in
+    told_answer g.E.Decide.levels g.E.Decide.table x t (echo bytes) code.Echo (echoed bytes) c.said-in-Ok-Echo.result _ c.said-in-Ok-Echo.ensures.said
+    (ap echoed (echoed_literal t bytes k.asks.only)) tt (accepted_as x.state t k.command (echo bytes) k.is k.asks.is) (refl, refl)
+    (holds_next g.E.Decide.levels g.E.Decide.table _ x kept) (goes_on_after_echo bytes)
 
 pub returns-in-Ok-ShowLevels-clause-right : goal.returns-in-Ok-ShowLevels-clause-right
 returns-in-Ok-ShowLevels-clause-right g c x h =

@@ -1,9 +1,10 @@
 use Rattle.std.proofs.Common.{◌≡◌, ◌++◌, ◌∷◌, sym, subst, arith, [], List, take, get_or, append-nil, append_assoc, length-take, ℕ, ◌+◌, ◌<◌, ◌^◌}
+use Rattle.nz_lists.proofs.Fronts.{take_one}
 use Rattle.nz_spec.specs.Text.{HasNone}
 use Rattle.nz_spec.specs.Kept.{AreToldAs}
 use Rattle.nz_spec.specs.Reading.{reading_start, read_on, told_on}
 use Rattle.nz_sexpr.specs.Matches.{Matches, told}
-use Rattle.nz_sexpr.proofs.Feeding.{read_on-append, told_more, bytes_read, take_one}
+use Rattle.nz_sexpr.proofs.Feeding.{read_on-append, told_more, bytes_read}
 use Rattle.nz_sexpr.specs.Part.{ends, part_of}
 use Rattle.nz_sexpr.proofs.Runs.{told_run}
 use Rattle.nz_sexpr.proofs.reader.Reader.step.Goals as goal
@@ -24,7 +25,7 @@ pub returns-then-is_quiet-clause-heard : goal.returns-then-is_quiet-clause-heard
 returns-then-is_quiet-clause-heard c limits bytes things fits few =
     let rest : List ℕ = c.args.rest.now in
     let byte : ℕ = get_or rest 0 0 in
-    let one : take 1 rest ≡ byte ∷ [] = take_one rest c.requires.rest in
+    let one : take 1 rest ≡ byte ∷ [] = take_one rest 0 c.requires.rest in
     let before : AreToldAs (things ++ []) (told_on limits reading_start bytes) = subst (λ o. AreToldAs (things ++ told o) (told_on limits reading_start bytes)) c.requires.settled fits.things in
     let few' : (read_on reading_start bytes).at + 1 < 2 ^ 64 = omega (arith, bytes_read bytes, c.requires.rest) in
     let none : AreToldAs [] (told_on limits (read_on reading_start bytes) (byte ∷ [])) = subst (AreToldAs []) (sym (append-nil _)) (c.read_quietly.ensures.heard limits (read_on reading_start bytes) fits.state few') in
@@ -40,7 +41,7 @@ returns-then-is_quiet-clause-heard c limits bytes things fits few =
 pub returns-clause-heard : goal.returns-clause-heard
 returns-clause-heard c limits bytes things fits few =
     let rest : List ℕ = c.args.rest.now in
-    let one : take 1 rest ≡ get_or rest 0 0 ∷ [] = take_one rest c.requires.rest in
+    let one : take 1 rest ≡ get_or rest 0 0 ∷ [] = take_one rest 0 c.requires.rest in
     let heard = told c.read_byte-heard.result.0 in
     let owed = told c.read_byte-heard.result.1 in
     let before : AreToldAs (things ++ []) (told_on limits reading_start bytes) = subst (λ o. AreToldAs (things ++ told o) (told_on limits reading_start bytes)) c.requires.settled fits.things in

@@ -40,6 +40,17 @@ place-requires c =
     c.in_ok-frame.ensures.grows live c.in_ok-frame.ensures.bound in
     record { within = (c.in_ok-term.ensures.found (body_scope s words sorts) scope).typed.within }
 
+pub returns-in_err-id-clause-grows : goal.returns-in_err-id-clause-grows
+returns-in_err-id-clause-grows c = grows_more _ _ _ (grows_more _ _ _ c.in_ok-frame.ensures.grows c.in_ok-term.ensures.grows) c.in_err-id.ensures.grows
+
+pub returns-in_err-add_companions-clause-grows : goal.returns-in_err-add_companions-clause-grows
+returns-in_err-add_companions-clause-grows c =
+    grows_more _ _ _ (grows_more _ _ _ (grows_more _ _ _ c.in_ok-frame.ensures.grows c.in_ok-term.ensures.grows) c.in_ok-id.ensures.grows) c.in_err-add_companions.ensures.grows
+
+pub returns-clause-grows : goal.returns-clause-grows
+returns-clause-grows c =
+    grows_more _ _ _ (grows_more _ _ _ (grows_more _ _ _ c.in_ok-frame.ensures.grows c.in_ok-term.ensures.grows) c.in_ok-id.ensures.grows) c.in_ok-add_companions.ensures.grows
+
 pub returns-clause-companions : goal.returns-clause-companions
 returns-clause-companions c =
     companions_made c.args.terms.now c.place.new.terms c.add_companions.new.terms c.mark-mark.result c.mark-mark.ensures.mark

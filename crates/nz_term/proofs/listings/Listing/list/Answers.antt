@@ -1,7 +1,6 @@
 -- A number is put at the end where it isn't marked.
 use Rattle.std.proofs.Common.{true, false, arith, refl}
-use Rattle.nz_term.proofs.ListedTerms.{list_again, list_anew}
-use Rattle.nz_term.proofs.Walks.{mark_read}
+use Rattle.nz_term.proofs.ListedTerms.{list_again, list_anew, mark_read}
 use Rattle.nz_term.proofs.listings.Listing.list.Goals as goal
 
 pub returns-then-index-clause-listed : goal.returns-then-index-clause-listed

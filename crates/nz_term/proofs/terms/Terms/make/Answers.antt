@@ -3,23 +3,23 @@ use Rattle.std.proofs.Common.{◌≡◌, ◌<◌, ◌++◌, [], ◌∷◌, lengt
 use Rattle.std.specs.Prelude.{IfOk}
 use Rattle.std.proofs.lemmas.List.{length-map}
 use Rattle.std.proofs.lemmas.Result.{IfOk-weaker, on_err_weaker}
+use Rattle.nz_lists.proofs.Results.{on_ok}
 use Rattle.nz_spec.specs.Term.{apply}
 use Rattle.nz_spec.specs.Table.{HasOneNumberEach, term_in, terms_at}
-use Rattle.nz_spec.proofs.Tables.{one_number}
 use Rattle.nz_term.specs.declared.nodes.Node.{Node}
 use Rattle.nz_term.specs.Facts.{fact_of}
-use Rattle.nz_term.specs.Growth.{GoesOn}
+use Rattle.nz_term.specs.Growth.{GoesOn, KeepsTerms}
 use Rattle.nz_term.specs.Heads.{head_of}
 use Rattle.nz_term.specs.Nodes.{node_of, node_with}
 use Rattle.nz_term.proofs.Knowledge.{facts_made}
-use Rattle.nz_term.proofs.Tables.{made_term, on_ok}
+use Rattle.nz_term.proofs.Tables.{grown_stays, made_term}
 use Rattle.nz_term.proofs.terms.Terms.make.Goals as goal
 
 pub returns-in_err-kids-clause-one_number : goal.returns-in_err-kids-clause-one_number
-returns-in_err-kids-clause-one_number c = subst HasOneNumberEach c.self.view_is (one_number _ c.self.invariant.table)
+returns-in_err-kids-clause-one_number c = subst HasOneNumberEach c.self.view_is (c.one_number.ensures.one _ c.self.invariant.table)
 
 pub returns-in_err-push-clause-one_number : goal.returns-in_err-push-clause-one_number
-returns-in_err-push-clause-one_number c = one_number _ c.self.invariant.table
+returns-in_err-push-clause-one_number c = c.one_number.ensures.one _ c.self.invariant.table
 
 pub put-made-requires-clause-within : goal.put-made-requires-clause-within
 put-made-requires-clause-within c =
@@ -59,7 +59,7 @@ returns-clause-term c =
     (λ id. term_in after id ≡ apply (head_of c.args.head) (terms_at (term_in c.args.self.now) c.args.kids.now))
     (
     λ id at.
-    made_term before (node_of node) after id c.put-made.ensures.table c.put-made.ensures.goes_on within at
+    made_term c.term_of_node.ensures.node c.terms_stay.ensures.stays before (node_of node) after id c.put-made.ensures.table c.put-made.ensures.goes_on within at
     ∙ ap (λ l. apply (head_of c.args.head) (terms_at (term_in l) node.kids)) c.self.view_is
     ∙ ap (λ ks. apply (head_of c.args.head) (terms_at (term_in c.args.self.now) ks)) c.in_ok-kids.ensures.ids
     )
@@ -73,8 +73,15 @@ returns-clause-grown c =
     (subst (λ ks. GoesOn (map node_of c.self.inside.nodes.keys) (node_with c.args.head ks) after) c.in_ok-kids.ensures.ids c.put-made.ensures.goes_on)
     )
 
+pub returns-clause-stays : goal.returns-clause-stays
+returns-clause-stays c =
+    let before = map node_of c.self.inside.nodes.keys in
+    let after = map node_of c.put-made.new.nodes.keys in
+    let node : Node = record { head = c.args.head; kids = c.in_ok-kids.kids } in
+    subst (λ l. KeepsTerms l after) c.self.view_is (grown_stays c.term_stays.ensures.stays before (node_of node) after c.put-made.ensures.goes_on)
+
 pub returns-clause-one_number : goal.returns-clause-one_number
-returns-clause-one_number c = one_number _ c.put-made.ensures.table
+returns-clause-one_number c = c.one_number.ensures.one _ c.put-made.ensures.table
 
 pub returns-clause-table : goal.returns-clause-table
 returns-clause-table c = c.put-made.ensures.table

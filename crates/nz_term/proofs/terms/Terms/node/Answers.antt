@@ -5,7 +5,6 @@ use Rattle.std.proofs.lemmas.List.{length-map}
 use Rattle.std.proofs.lemmas.Option.{slice_get-map, slice_get_read}
 use Rattle.nz_spec.specs.Term.{apply}
 use Rattle.nz_spec.specs.Table.{term_in, terms_at}
-use Rattle.nz_spec.proofs.Tables.{term_of_node}
 use Rattle.nz_term.specs.Heads.{head_of}
 use Rattle.nz_term.specs.Nodes.{node_of}
 use Rattle.nz_term.proofs.terms.Terms.node.Goals as goal
@@ -25,7 +24,7 @@ pub returns-clause-term : goal.returns-clause-term
 returns-clause-term c =
     let n = c.index-as_slice-id.result in
     subst (λ l. term_in l c.args.id ≡ apply (head_of n.head) (terms_at (term_in l) n.kids)) c.self.view_is
-    (term_of_node (map node_of c.self.inside.nodes.keys) c.self.invariant.table c.args.id (node_of n) (stands c))
+    (c.term_of_node.ensures.node (map node_of c.self.inside.nodes.keys) c.self.invariant.table c.args.id (node_of n) (stands c))
 
 pub returns-clause-before : goal.returns-clause-before
 returns-clause-before c = c.self.invariant.table.before c.args.id (node_of c.index-as_slice-id.result) (stands c)

@@ -1,0 +1,6 @@
+pub mod Elements
+pub mod Fronts
+pub mod Options
+pub mod Places
+pub mod Results
+pub mod Tests

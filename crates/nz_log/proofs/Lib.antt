@@ -1,0 +1,12 @@
+pub mod Dropping
+pub mod Entries
+pub mod GatesInOrder
+pub mod Marking
+pub mod Members
+pub mod Naming
+pub mod Needing
+pub mod Ordering
+pub mod Soundness
+pub mod Spelled
+pub mod Staying
+pub mod Truths

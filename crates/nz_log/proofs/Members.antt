@@ -1,0 +1,80 @@
+-- What holds of each literal of clauses holds of each of what is made of them.
+use Rattle.std.proofs.Common.{ℕ, suc, Bool, true, false, not, List, [], ◌∷◌, ◌++◌, map, arith}
+use Rattle.std.specs.Bool.{⊤}
+use Rattle.std.specs.Prelude.{All, fold, if◌then◌else◌}
+use Rattle.std.specs.List.{AllByRecursion, list_any}
+use Rattle.nz_spec.specs.Term.{Head, verum, falsum, negation, conjunction, disjunction, exclusion, equality, choice, bool_sort}
+use Rattle.nz_spec.specs.Literal.{with_one, without}
+use Rattle.nz_spec.specs.Gates.{clauses_over}
+use Rattle.nz_log.specs.declared.lits.Lit.{Lit}
+use Rattle.nz_log.specs.Lits.{yes, no, negated_lit, are_same_lit, lit_resolvent}
+
+module _ {X : Type 0} (P : X → Type 0) where
+  pub each_of : (xs : List X) → All P xs → AllByRecursion P xs
+  each_of [] h = tt
+  each_of (x ∷ xs) h = (h 0 x (omega arith), each_of xs (λ k d below. h (suc k) d (omega arith)))
+
+  pub each-append : (xs ys : List X) → AllByRecursion P xs → AllByRecursion P ys → AllByRecursion P (xs ++ ys)
+  each-append [] ys h k = k
+  each-append (x ∷ xs) ys h k = (h.0, each-append xs ys h.1 k)
+
+  with_at : (b : Bool) (xs : List X) (x : X) → AllByRecursion P xs → P x → AllByRecursion P (if b then xs else xs ++ x ∷ [])
+  with_at true xs x h p = h
+  with_at false xs x h p = each-append xs (x ∷ []) h (p, tt)
+
+  pub each-put : (same : X → X → Bool) (xs ys : List X) → AllByRecursion P ys → AllByRecursion P xs → AllByRecursion P (fold (with_one same) ys xs)
+  each-put same [] ys h k = h
+  each-put same (x ∷ xs) ys h k = each-put same xs (with_one same ys x) (with_at (list_any (same x) ys) ys x h k.0) k.1
+
+  kept_at : (b : Bool) (x : X) (xs : List X) → P x → AllByRecursion P xs → AllByRecursion P (if not b then x ∷ xs else xs)
+  kept_at true x xs p h = h
+  kept_at false x xs p h = (p, h)
+
+  pub each-without : (same : X → X → Bool) (x : X) (xs : List X) → AllByRecursion P xs → AllByRecursion P (without same x xs)
+  each-without same x [] h = tt
+  each-without same x (y ∷ ys) h = kept_at (same x y) y (without same x ys) h.0 (each-without same x ys h.1)
+
+pub each-resolvent : (P : Lit → Type 0) (l : Lit) (c d : List Lit) → AllByRecursion P c → AllByRecursion P d → AllByRecursion P (lit_resolvent l c d)
+each-resolvent P l c d h k =
+    each-put P are_same_lit (without are_same_lit l c ++ without are_same_lit (negated_lit l) d) [] tt
+    (each-append P (without are_same_lit l c) (without are_same_lit (negated_lit l) d) (each-without P are_same_lit l c h) (each-without P are_same_lit (negated_lit l) d k))
+
+-- ---- Gates
+
+module _ (P : ℕ → Type 0) where
+  abbrev pub On : Lit → Type 0
+  On l = P l.term
+
+  signs : (f : ℕ → Lit) → ((t : ℕ) → P t → On (f t)) → (ts : List ℕ) → AllByRecursion P ts → AllByRecursion On (map f ts)
+  signs f g [] h = tt
+  signs f g (t ∷ ts) h = (g t h.0, signs f g ts h.1)
+
+  pairs : (first : Lit) (f : ℕ → Lit) → On first → ((t : ℕ) → P t → On (f t)) → (ts : List ℕ) → AllByRecursion P ts
+      → AllByRecursion (AllByRecursion On) (map (λ t. first ∷ f t ∷ []) ts)
+  pairs first f p g [] h = tt
+  pairs first f p g (t ∷ ts) h = ((p, (g t h.0, tt)), pairs first f p g ts h.1)
+
+  on_test : (b : Bool) (cs : List (List Lit)) → AllByRecursion (AllByRecursion On) cs → AllByRecursion (AllByRecursion On) (if b then cs else [])
+  on_test true cs h = h
+  on_test false cs h = tt
+
+  -- the clauses of a gate are of the term and its arguments
+  pub each-gate : (b : ℕ → Bool) (t : ℕ) (h : Head) (ks : List ℕ) → P t → AllByRecursion P ks → AllByRecursion (AllByRecursion On) (clauses_over yes no b t h ks)
+  each-gate b t verum [] p q = ((p, tt), tt)
+  each-gate b t falsum [] p q = ((p, tt), tt)
+  each-gate b t negation (u ∷ []) p q = ((p, (q.0, tt)), ((p, (q.0, tt)), tt))
+  each-gate b t conjunction ks p q =
+      each-append (AllByRecursion On) (map (λ u. no t ∷ yes u ∷ []) ks) ((yes t ∷ map no ks) ∷ []) (pairs (no t) yes p (λ u r. r) ks q)
+      ((p, signs no (λ u r. r) ks q), tt)
+  each-gate b t disjunction ks p q =
+      each-append (AllByRecursion On) (map (λ u. yes t ∷ no u ∷ []) ks) ((no t ∷ map yes ks) ∷ []) (pairs (yes t) no p (λ u r. r) ks q)
+      ((p, signs yes (λ u r. r) ks q), tt)
+  each-gate b t exclusion (u ∷ v ∷ []) p q =
+      let row : P t × (P u × (P v × ⊤)) = (p, (q.0, (q.1.0, tt))) in (row, (row, (row, (row, tt))))
+  each-gate b t equality (u ∷ v ∷ []) p q =
+      let row : P t × (P u × (P v × ⊤)) = (p, (q.0, (q.1.0, tt))) in on_test (b u) _ (row, (row, (row, (row, tt))))
+  each-gate b t (choice bool_sort) (c ∷ u ∷ v ∷ []) p q =
+      let first : P t × (P c × (P u × ⊤)) = (p, (q.0, (q.1.0, tt))) in
+      let second : P t × (P c × (P v × ⊤)) = (p, (q.0, (q.1.1.0, tt))) in
+      (first, (second, (first, (second, tt))))
+  each-gate b t h ks p q = tt

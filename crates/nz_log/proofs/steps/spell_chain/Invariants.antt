@@ -1,0 +1,12 @@
+use Rattle.std.proofs.Common.{◌≡◌, ◌++◌, length, drop}
+use Rattle.nz_log.specs.Spelling.{chain_place, chain_steps}
+use Rattle.nz_log.proofs.steps.spell_chain.Given as goal
+
+-- the steps so far, with those of the links that are left, are all
+abbrev pub invariant-loop-link : goal.invariant-loop-link
+invariant-loop-link l =
+    record {
+      steps : l.steps.items ++ chain_steps l.places (length l.steps.items) l.current (drop l.link-index l.links)
+          ≡ l.fn.steps.items ++ chain_steps l.places (length l.fn.steps.items) l.first l.links;
+      place : chain_place (length l.steps.items) l.current (drop l.link-index l.links) ≡ chain_place (length l.fn.steps.items) l.first l.links;
+    }

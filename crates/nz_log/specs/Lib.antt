@@ -1,0 +1,5 @@
+pub mod Lits
+pub mod Logs
+pub mod Sound
+pub mod Spelling
+pub mod Stored

@@ -1,0 +1,140 @@
+-- What a log holds: clauses by number, each with its level and how it was made, and the levels told of terms.
+use Rattle.std.specs.Prelude.{◌≡◌, ◌≢◌, ℕ, ◌<◌, ◌≤◌, max, min, nat_le, List, [], ◌∷◌, length, fold, Option, Some, None, IsSome, unwrap_or, slice_get, slice_index_or, if◌then◌else◌}
+use Rattle.std.specs.Bool.{⊤}
+use Rattle.std.specs.List.{AllByRecursion}
+use Rattle.nz_spec.specs.Table.{Node}
+use Rattle.nz_spec.specs.Literal.{once}
+use Rattle.nz_log.specs.declared.lits.Lit.{Lit}
+use Rattle.nz_log.specs.declared.origins.Link.{Link}
+use Rattle.nz_log.specs.Lits.{yes, are_same_lit, lit_resolvent, gates_at}
+
+-- how a clause was made
+pub data Origin : Type 0 where
+  assertion_of : (k : ℕ) → Origin  -- it is a live assertion
+  gate_of : (term j : ℕ) → Origin  -- it is a clause of the gate table
+  chain_of : (first : ℕ) (links : List Link) → Origin  -- it is the last of a chain of resolvents
+
+pub record Entry : Type 0 where
+  pub literals : List Lit
+  pub level : ℕ
+  pub origin : Origin
+
+-- The clauses by number, with a gap where one was dropped, and by the numbers of terms the levels told.
+pub record LogState : Type 0 where
+  pub entries : List (Option Entry)
+  pub told : List (Option ℕ)
+
+abbrev pub empty_log : LogState
+empty_log = record { entries = []; told = [] }
+
+-- the clause of a number, where the log has one
+abbrev pub entry_at : LogState → ℕ → Option Entry
+entry_at s i = unwrap_or (slice_get s.entries i) None
+
+abbrev pub IsLive : LogState → ℕ → Type 0
+IsLive s i = IsSome (entry_at s i)
+
+abbrev pub literals_at : LogState → ℕ → List Lit
+literals_at s i = elim (entry_at s i) [ None ↦ [] | Some e ↦ e.literals ]
+
+abbrev pub level_at : LogState → ℕ → ℕ
+level_at s i = elim (entry_at s i) [ None ↦ 0 | Some e ↦ e.level ]
+
+-- ---- Levels
+
+-- the level told of a term, and 0 where none was told
+abbrev pub told_of : LogState → ℕ → Option ℕ
+told_of s t = slice_index_or s.told t None
+
+abbrev pub told_level : LogState → ℕ → ℕ
+told_level s t = unwrap_or (told_of s t) 0
+
+-- the greatest of a level and those told of the terms that the literals name
+abbrev pub level_with : LogState → ℕ → List Lit → ℕ
+level_with s level c = fold (λ n (l : Lit). max n (told_level s l.term)) level c
+
+-- the greatest of a level and those of the clauses of a chain
+abbrev pub level_of_links : LogState → ℕ → List Link → ℕ
+level_of_links s level ks = fold (λ n (k : Link). max n (level_at s k.clause)) level ks
+
+-- ---- Chains
+
+-- the resolvent of a clause with those of the links, one after another
+abbrev pub chained : LogState → List Lit → List Link → List Lit
+chained s c ks = fold (λ d (k : Link). lit_resolvent k.literal d (literals_at s k.clause)) c ks
+
+-- the clause of a chain, with its level
+abbrev pub chain_entry : LogState → ℕ → List Link → Entry
+chain_entry s first ks =
+    let c = chained s (literals_at s first) ks in
+    record { literals = c; level = level_with s (level_of_links s (level_at s first) ks) c; origin = chain_of first ks }
+
+-- the lowest of the levels told
+abbrev pub lowest : Option ℕ → ℕ → ℕ
+lowest None level = level
+lowest (Some n) level = min n level
+
+-- ---- Changes
+
+-- A clause is put under a number above those of the clauses that are there; these stay.
+pub record Puts (old : LogState) (id : ℕ) (e : Entry) (new : LogState) : Type 0 where
+  pub above : (i : ℕ) → IsLive old i → i < id
+  pub live : IsLive new id
+  pub stay : (i : ℕ) → IsLive old i → IsLive new i
+  pub made : entry_at new id ≡ Some e
+  pub kept : (i : ℕ) → i ≢ id → entry_at new i ≡ entry_at old i
+  pub told : new.told ≡ old.told
+
+-- a clause at or below the level
+abbrev pub kept_below : ℕ → Option Entry → Option Entry
+kept_below level None = None
+kept_below level (Some e) = if nat_le e.level level then Some e else None
+
+abbrev pub told_below : ℕ → Option ℕ → Option ℕ
+told_below level None = None
+told_below level (Some n) = if nat_le n level then Some n else None
+
+-- Just the clauses at or below the level stay, and what was told of it and of lower ones.
+pub record Drops (old : LogState) (level : ℕ) (new : LogState) : Type 0 where
+  pub entries : (i : ℕ) → entry_at new i ≡ kept_below level (entry_at old i)
+  pub told : (t : ℕ) → told_of new t ≡ told_below level (told_of old t)
+
+-- ---- What clauses rest on
+
+-- A clause that another one rests on: it was there before, and is of no higher level.
+pub record IsPremise (s : LogState) (id level i : ℕ) : Type 0 where
+  pub live : IsLive s i
+  pub before : i < id
+  pub level_within : level_at s i ≤ level
+
+-- what a clause of a number and level rests on, by how it was made; a chain has a link
+abbrev pub RestsOn : LogState → ℕ → ℕ → Origin → Type 0
+RestsOn s id level (assertion_of k) = ⊤
+RestsOn s id level (gate_of t j) = ⊤
+RestsOn s id level (chain_of first ks) =
+    IsPremise s id level first × (0 < length ks) × AllByRecursion (λ (k : Link). IsPremise s id level k.clause) ks
+
+-- Each clause rests on earlier ones of no higher level.
+abbrev pub IsOrdered : LogState → Type 0
+IsOrdered s = (i : ℕ) (e : Entry) → entry_at s i ≡ Some e → RestsOn s i e.level e.origin
+
+-- ---- What the rules make
+
+abbrev pub given_entry : LogState → ℕ → ℕ → ℕ → Entry
+given_entry s k t level = record { literals = yes t ∷ []; level = level_with s level (yes t ∷ []); origin = assertion_of k }
+
+-- the clause of a number of the gate table
+abbrev pub gate_entry : List Node → LogState → ℕ → ℕ → Entry
+gate_entry ns s t j =
+    let c = once are_same_lit (unwrap_or (slice_get (gates_at ns t) j) []) in
+    record { literals = c; level = level_with s 0 c; origin = gate_of t j }
+
+-- the resolvent of two clauses
+abbrev pub resolvent_entry : LogState → ℕ → ℕ → Lit → Entry
+resolvent_entry s first second l =
+    let c = lit_resolvent l (literals_at s first) (literals_at s second) in
+    record {
+      literals = c;
+      level = level_with s (max (level_at s first) (level_at s second)) c;
+      origin = chain_of first (record { clause = second; literal = l } ∷ []);
+    }

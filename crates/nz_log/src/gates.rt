@@ -1,0 +1,214 @@
+//! The clauses of the gate table, by the numbers of terms.
+ghost use Rattle.std.specs.Prelude.{◌≡◌, ◌<◌, ◌∷◌, [], length, Some, IfOk, option_map, slice_get};
+ghost use Rattle.nz_spec.specs.Term.{bool_sort, choice, conjunction, disjunction, equality, exclusion, negation};
+ghost use Rattle.nz_term.specs.Constants.{sort_of};
+ghost use Rattle.nz_term.specs.Heads.{head_of};
+ghost use Rattle.nz_log.specs.Lits.{gates_at, gates_over, only, signed};
+
+use crate::lits::Lit;
+use nz_base::Memory;
+use nz_term::{Head, Sort, TermId, Terms};
+use std::alloc::Global;
+
+/// The literals of a clause, where the gate table has one.
+type Gate = Option<Vec<Lit>>;
+
+/// The literals of the clause of this number of a term, if it has one.
+pub fn gate_literals(alloc: Global, terms: &Terms, term: TermId, j: usize) -> Result<Gate, Memory>
+    requires within { term < length terms.now }
+    ensures clause { IfOk result (λ c. j < length (gates_at terms.now term) → option_map (λ v. v.items) c ≡ slice_get (gates_at terms.now term) j) }
+{
+    let node = terms.node(term);
+    clause_over(alloc, &node.head, term, node.kids.as_slice(), j)
+}
+
+/// The same of the term of this head over these arguments, where each equation is of Boolean terms.
+fn clause_over(
+    alloc: Global,
+    head: &Head,
+    term: TermId,
+    kids: &[TermId],
+    j: usize,
+) -> Result<Gate, Memory>
+    ensures clause { IfOk result (λ c. option_map (λ v. v.items) c ≡ slice_get (gates_over term (head_of head.now) kids.now) j) }
+{
+    match head {
+        Head::True => only_clause(alloc, Lit::holds(term), kids, j),
+        Head::False => only_clause(alloc, Lit::fails(term), kids, j),
+        Head::Not => negation_clause(alloc, term, kids, j),
+        Head::And => conjunction_clause(alloc, term, kids, j),
+        Head::Or => disjunction_clause(alloc, term, kids, j),
+        Head::Xor => exclusion_clause(alloc, term, kids, j),
+        Head::Equal => equality_clause(alloc, term, kids, j),
+        Head::Ite(sort) => choice_clause(alloc, *sort, term, kids, j),
+        _ => Ok(None),
+    }
+}
+
+/// The clause of this number of these.
+fn row<const N: usize>(alloc: Global, rows: &[[Lit; N]], j: usize) -> Result<Gate, Memory>
+    ensures clause { IfOk result (λ c. option_map (λ v. v.items) c ≡ slice_get rows.now j) }
+{
+    match rows.get(j) {
+        Some(literals) => Ok(Some(Vec::from_slice(alloc, literals)?)),
+        None => Ok(None),
+    }
+}
+
+/// The one clause, of one literal, of a term without arguments.
+fn only_clause(alloc: Global, literal: Lit, kids: &[TermId], j: usize) -> Result<Gate, Memory>
+    ensures clause { IfOk result (λ c. option_map (λ v. v.items) c ≡ slice_get (only (literal ∷ []) kids.now) j) }
+{
+    match kids {
+        [] => row(alloc, &[[literal]], j),
+        _ => Ok(None),
+    }
+}
+
+fn negation_clause(alloc: Global, term: TermId, kids: &[TermId], j: usize) -> Result<Gate, Memory>
+    ensures clause { IfOk result (λ c. option_map (λ v. v.items) c ≡ slice_get (gates_over term negation kids.now) j) }
+{
+    let yes = Lit::holds(term);
+    let no = Lit::fails(term);
+    match kids {
+        [kid] => row(alloc, &[[no, Lit::fails(*kid)], [yes, Lit::holds(*kid)]], j),
+        _ => Ok(None),
+    }
+}
+
+fn exclusion_clause(alloc: Global, term: TermId, kids: &[TermId], j: usize) -> Result<Gate, Memory>
+    ensures clause { IfOk result (λ c. option_map (λ v. v.items) c ≡ slice_get (gates_over term exclusion kids.now) j) }
+{
+    let yes = Lit::holds(term);
+    let no = Lit::fails(term);
+    match kids {
+        [left, right] => {
+            let a = Lit::holds(*left);
+            let not_a = Lit::fails(*left);
+            let b = Lit::holds(*right);
+            let not_b = Lit::fails(*right);
+            let rows = [
+                [no, a, b],
+                [no, not_a, not_b],
+                [yes, not_a, b],
+                [yes, a, not_b],
+            ];
+            row(alloc, &rows, j)
+        }
+        _ => Ok(None),
+    }
+}
+
+fn equality_clause(alloc: Global, term: TermId, kids: &[TermId], j: usize) -> Result<Gate, Memory>
+    ensures clause { IfOk result (λ c. option_map (λ v. v.items) c ≡ slice_get (gates_over term equality kids.now) j) }
+{
+    let yes = Lit::holds(term);
+    let no = Lit::fails(term);
+    match kids {
+        [left, right] => {
+            let a = Lit::holds(*left);
+            let not_a = Lit::fails(*left);
+            let b = Lit::holds(*right);
+            let not_b = Lit::fails(*right);
+            let rows = [
+                [no, not_a, b],
+                [no, a, not_b],
+                [yes, a, b],
+                [yes, not_a, not_b],
+            ];
+            row(alloc, &rows, j)
+        }
+        _ => Ok(None),
+    }
+}
+
+fn choice_clause(
+    alloc: Global,
+    sort: Sort,
+    term: TermId,
+    kids: &[TermId],
+    j: usize,
+) -> Result<Gate, Memory>
+    ensures clause { IfOk result (λ c. option_map (λ v. v.items) c ≡ slice_get (gates_over term (choice (sort_of sort)) kids.now) j) }
+{
+    match sort {
+        Sort::Bool => boolean_choice_clause(alloc, term, kids, j),
+        Sort::Int | Sort::Real => Ok(None),
+    }
+}
+
+fn boolean_choice_clause(
+    alloc: Global,
+    term: TermId,
+    kids: &[TermId],
+    j: usize,
+) -> Result<Gate, Memory>
+    ensures clause { IfOk result (λ c. option_map (λ v. v.items) c ≡ slice_get (gates_over term (choice bool_sort) kids.now) j) }
+{
+    let yes = Lit::holds(term);
+    let no = Lit::fails(term);
+    match kids {
+        [condition, left, right] => {
+            let c = Lit::holds(*condition);
+            let not_c = Lit::fails(*condition);
+            let a = Lit::holds(*left);
+            let not_a = Lit::fails(*left);
+            let b = Lit::holds(*right);
+            let not_b = Lit::fails(*right);
+            let rows = [
+                [no, not_c, a],
+                [no, c, b],
+                [yes, not_c, not_a],
+                [yes, c, not_b],
+            ];
+            row(alloc, &rows, j)
+        }
+        _ => Ok(None),
+    }
+}
+
+fn conjunction_clause(
+    alloc: Global,
+    term: TermId,
+    kids: &[TermId],
+    j: usize,
+) -> Result<Gate, Memory>
+    ensures clause { IfOk result (λ c. option_map (λ v. v.items) c ≡ slice_get (gates_over term conjunction kids.now) j) }
+{
+    if j < kids.len() {
+        return row(alloc, &[[Lit::fails(term), Lit::holds(kids[j])]], 0);
+    }
+    if j == kids.len() {
+        return Ok(Some(signed(alloc, Lit::holds(term), kids, false)?));
+    }
+    Ok(None)
+}
+
+fn disjunction_clause(
+    alloc: Global,
+    term: TermId,
+    kids: &[TermId],
+    j: usize,
+) -> Result<Gate, Memory>
+    ensures clause { IfOk result (λ c. option_map (λ v. v.items) c ≡ slice_get (gates_over term disjunction kids.now) j) }
+{
+    if j < kids.len() {
+        return row(alloc, &[[Lit::holds(term), Lit::fails(kids[j])]], 0);
+    }
+    if j == kids.len() {
+        return Ok(Some(signed(alloc, Lit::fails(term), kids, true)?));
+    }
+    Ok(None)
+}
+
+/// A literal, and then those of these terms with a sign.
+fn signed(alloc: Global, first: Lit, kids: &[TermId], sign: bool) -> Result<Vec<Lit>, Memory>
+    ensures literals { IfOk result (λ v. v.items ≡ first ∷ signed sign kids.now) }
+{
+    let mut literals = Vec::new(alloc);
+    literals.push(first)?;
+    for kid in kids {
+        literals.push(Lit { term: *kid, sign })?;
+    }
+    Ok(literals)
+}

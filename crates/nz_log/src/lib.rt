@@ -1,0 +1,18 @@
+//! The proof kernel: the only place where a clause can come from. Each clause of a log follows, by given assertions, gates and
+//! resolution, from the assertions that are live at its level, and the log tells how.
+#![tactic(auto)]
+
+mod errors;
+mod gates;
+pub mod laws;
+mod lits;
+mod log;
+mod origins;
+mod sets;
+mod steps;
+
+pub use errors::LogStop;
+pub use lits::Lit;
+pub use log::Log;
+pub use origins::{ClauseId, Link};
+pub use steps::Step;

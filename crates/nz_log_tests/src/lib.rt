@@ -1,0 +1,5 @@
+//! Tests of the log of clauses, by public calls alone: a crate that has its tests inside is proved twice.
+#![tactic(auto)]
+
+#[cfg(test)]
+mod log;

@@ -1,0 +1,81 @@
+//! Each public call of `nz_log` once on its happy path.
+ghost use Rattle.std.specs.Prelude.{◌<◌, length, IfOk};
+ghost use Rattle.nz_log.specs.Lits.{gates_at};
+ghost use Rattle.nz_log.specs.Logs.{IsLive};
+
+use nz_base::{Memory, Text};
+use nz_log::{ClauseId, Lit, Log, LogStop, Step};
+use nz_term::{Constant, Head, Sort, TermId, Terms};
+use std::alloc::Global;
+use std::test::Fail;
+
+// A constant of sort `Bool`.
+fn constant(terms: &mut Terms, alloc: Global, name: &[u8]) -> Result<TermId, Memory>
+    ensures within { IfOk result (λ id. id < length terms.new) }
+{
+    let constant = Constant {
+        name: Text::from_slice(alloc, name)?,
+        sort: Sort::Bool,
+    };
+    terms.make(Head::Constant(constant), &[])
+}
+
+// The negation of a term, which the gate table has.
+fn negation(terms: &mut Terms, kid: TermId) -> Result<TermId, Memory>
+    requires within { kid < length terms.old }
+    ensures within { IfOk result (λ id. id < length terms.new) }
+    ensures table { IfOk result (λ id. 0 < length (gates_at terms.new id)) }
+{
+    terms.make(Head::Not, &[kid])
+}
+
+// The empty clause from two assertions, a term and its negation, and the clause of the gate table that ties them.
+fn refute(log: &mut Log, terms: &Terms, term: TermId, negation: TermId) -> Result<ClauseId, LogStop>
+    requires within { negation < length terms.now }
+    requires table { 0 < length (gates_at terms.now negation) }
+    ensures live { IfOk result (IsLive log.new) }
+{
+    let holds = log.given(0, term, 0)?;
+    let negated = log.given(1, negation, 1)?;
+    let gate = log.gate(terms, negation, 0)?;
+    let fails = log.resolve(negated, gate, Lit::holds(negation))?;
+    log.resolve(holds, fails, Lit::holds(term))
+}
+
+#[test]
+fn opposites_are_refuted(rt: HostRuntime) -> Result<(), Fail> {
+    let mut terms = Terms::new(rt.alloc())?;
+    let p = constant(&mut terms, rt.alloc(), b"p")?;
+    let not_p = negation(&mut terms, p)?;
+    let mut log = Log::new(rt.alloc())?;
+
+    // The refutation doesn't rest on this clause, so that its steps don't have it.
+    log.given(9, p, 0)?;
+    let empty = refute(&mut log, &terms, p, not_p)?;
+    assert_eq!(rt; log.clause(empty).len(), 0);
+    assert_eq!(rt; log.level(empty), 1);
+    let steps = log.steps(empty)?;
+    let wanted = [
+        Step::Given(0),
+        Step::Given(1),
+        Step::Gate(1, 0),
+        Step::Resolve(1, 2, Lit::holds(1)),
+        Step::Resolve(0, 3, Lit::holds(0)),
+    ];
+    assert_eq!(rt; steps.as_slice(), wanted.as_slice());
+    Ok(())
+}
+
+#[test]
+fn what_is_above_a_level_goes(rt: HostRuntime) -> Result<(), Fail> {
+    let mut log = Log::new(rt.alloc())?;
+    log.place(3, 2)?;
+    let low = log.given(0, 5, 1)?;
+    assert_eq!(rt; log.level(low), 1);
+    log.given(1, 3, 1)?;
+    log.drop_above(1);
+    let next = log.given(1, 3, 1)?;
+    assert_eq!(rt; next, 1);
+    assert_eq!(rt; log.level(next), 1);
+    Ok(())
+}

@@ -1,0 +1,10 @@
+-- None of the replies so far is one.
+use Rattle.std.proofs.Common.{◌≡◌, false, List, take}
+use Rattle.std.specs.List.{list_any}
+use Rattle.nz_spec.specs.Table.{Node}
+use Rattle.nz_spec.specs.Run.{is_memory_error}
+use Rattle.nz_reply.specs.Replies.{all_kept}
+use Rattle.nz_run.proofs.program.wants_memory.Given as goal
+
+abbrev pub invariant-loop-kept : goal.invariant-loop-kept
+invariant-loop-kept l = (ns : List Node) → list_any is_memory_error (all_kept ns (take l.kept-index l.kept)) ≡ false

@@ -1,0 +1,94 @@
+//! The scripts of `examples/` through the top call, and what each is answered. The gate runs the program over the files.
+use crate::run::run_pieces;
+use nz_base::PlainSink;
+use nz_run::DONE;
+use std::test::Fail;
+
+/// How many bytes the replies to an example may have.
+const ROOM: usize = 1000;
+
+/// A script of `examples/`, by its name there.
+struct Example {
+    name: &'static str,
+    script: &'static [u8],
+    replies: &'static [u8],
+}
+
+const EXAMPLES: &[Example] = &[
+    Example {
+        name: "core",
+        script: b"(declare-const p Bool)\n\
+            (declare-const q Bool)\n\
+            (declare-const r Bool)\n\
+            (assert (= (=> p q r) (or (not p) (not q) r)))\n\
+            (assert (xor p q r))\n\
+            (assert (= p q))\n\
+            (assert (distinct q r))\n\
+            (assert (not (distinct r p r)))\n\
+            (assert (not (= p r p)))\n\
+            (check-sat)\n\
+            (get-model)\n\
+            (assert (ite p r (=> r q)))\n\
+            (check-sat)\n",
+        replies: b"sat\n\
+            (\n\
+            (define-fun p () Bool false)\n\
+            (define-fun q () Bool false)\n\
+            (define-fun r () Bool true)\n\
+            )\n\
+            unsat\n",
+    },
+    Example {
+        name: "first",
+        script: b"(declare-const p Bool)\n\
+            (assert p)\n\
+            (check-sat)\n\
+            (get-model)\n\
+            (exit)\n",
+        replies: b"sat\n\
+            (\n\
+            (define-fun p () Bool true)\n\
+            )\n",
+    },
+    Example {
+        name: "terms",
+        script: b"(declare-const express Bool)\n\
+            (define-fun price ((weight Int)) Int (ite express (+ 5 (* 3 weight)) (+ 2 weight)))\n\
+            (assert express)\n\
+            (check-sat)\n\
+            (get-value ((price 4) (/ (price 4) 3) (div (- 7) 2)))\n\
+            (assert (not express))\n\
+            (check-sat)\n",
+        replies: b"sat\n\
+            (((price 4) 17) ((/ (price 4) 3) (/ 17.0 3.0)) ((div (- 7) 2) (- 4)))\n\
+            unsat\n",
+    },
+    Example {
+        name: "unsat",
+        script: b"(declare-const rain Bool)\n\
+            (declare-const sun Bool)\n\
+            (assert (or rain sun))\n\
+            (assert (not rain))\n\
+            (check-sat)\n\
+            (get-model)\n\
+            (assert (not (and sun true)))\n\
+            (check-sat)\n",
+        replies: b"sat\n\
+            (\n\
+            (define-fun rain () Bool false)\n\
+            (define-fun sun () Bool true)\n\
+            )\n\
+            unsat\n",
+    },
+];
+
+#[test]
+fn each_example_is_answered(rt: HostRuntime) -> Result<(), Fail> {
+    for example in EXAMPLES {
+        let mut out = PlainSink::new(rt.alloc(), ROOM)?;
+        let ended = run_pieces(rt.alloc(), example.script, 43, &mut out)?;
+        assert_eq!(rt; ended.status, DONE, "{}", example.name);
+        assert_eq!(rt; out.bytes(), example.replies, "{}", example.name);
+    }
+    Ok(())
+}

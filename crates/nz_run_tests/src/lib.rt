@@ -1,0 +1,13 @@
+//! The tests of the session and of whole runs, by public calls alone: a crate that has its tests inside is proved twice.
+#![tactic(auto)]
+
+#[cfg(test)]
+mod command_line;
+#[cfg(test)]
+mod examples;
+#[cfg(test)]
+mod run;
+#[cfg(test)]
+mod session;
+#[cfg(test)]
+mod trial;

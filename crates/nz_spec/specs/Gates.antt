@@ -1,0 +1,72 @@
+-- The gate table: the clauses that tie a Boolean operator to its arguments (Tseitin 1968), as a function of the term.
+use Rattle.std.specs.Prelude.{◌≡◌, Bool, true, false, List, [], ◌∷◌, ◌++◌, map, if◌then◌else◌}
+use Rattle.std.specs.List.{AllByRecursion}
+use Rattle.nz_spec.specs.Term.{Head, bool_sort, verum, falsum, negation, conjunction, disjunction, exclusion, equality, choice, Term, apply, Terms, no_terms, terms, Assignment, value_of, sort_of, is_bool, IsOfSort, holds_number}
+use Rattle.nz_spec.specs.Model.{IsAssignment}
+use Rattle.nz_spec.specs.Literal.{Literal, term_literal, Clause, IsClauseTrue}
+
+-- ---- The table, over terms that are named in any way, by what it is that one is true, or false, and whether one is Boolean
+
+module _ {A L : Type 0} (yes no : A → L) (is_boolean : A → Bool) where
+  -- where a conjunction is true, so is each argument; where all are, so is it
+  abbrev pub conjunction_clauses : A → List A → List (List L)
+  conjunction_clauses t args = map (λ u. no t ∷ yes u ∷ []) args ++ (yes t ∷ map no args) ∷ []
+
+  -- where an argument of a disjunction is true, so is it; where it is true, so is one of them
+  abbrev pub disjunction_clauses : A → List A → List (List L)
+  disjunction_clauses t args = map (λ u. yes t ∷ no u ∷ []) args ++ (no t ∷ map yes args) ∷ []
+
+  -- the clauses of a term of this head over these arguments
+  abbrev pub clauses_over : A → Head → List A → List (List L)
+  clauses_over t verum [] = (yes t ∷ []) ∷ []
+  clauses_over t falsum [] = (no t ∷ []) ∷ []
+  clauses_over t negation (u ∷ []) = (no t ∷ no u ∷ []) ∷ (yes t ∷ yes u ∷ []) ∷ []
+  clauses_over t conjunction args = conjunction_clauses t args
+  clauses_over t disjunction args = disjunction_clauses t args
+  clauses_over t exclusion (u ∷ v ∷ []) =
+      (no t ∷ yes u ∷ yes v ∷ []) ∷ (no t ∷ no u ∷ no v ∷ []) ∷ (yes t ∷ no u ∷ yes v ∷ []) ∷ (yes t ∷ yes u ∷ no v ∷ []) ∷ []
+  clauses_over t equality (u ∷ v ∷ []) =
+      if is_boolean u
+      then (no t ∷ no u ∷ yes v ∷ []) ∷ (no t ∷ yes u ∷ no v ∷ []) ∷ (yes t ∷ yes u ∷ yes v ∷ []) ∷ (yes t ∷ no u ∷ no v ∷ []) ∷ []
+      else []
+  clauses_over t (choice bool_sort) (c ∷ u ∷ v ∷ []) =
+      (no t ∷ no c ∷ yes u ∷ []) ∷ (no t ∷ yes c ∷ yes v ∷ []) ∷ (yes t ∷ no c ∷ no u ∷ []) ∷ (yes t ∷ yes c ∷ no v ∷ []) ∷ []
+  clauses_over t h args = []
+
+-- ---- Terms themselves
+
+-- the literal that the term is true, or false
+abbrev pub holds : Term → Literal
+holds t = term_literal t true
+
+abbrev pub fails : Term → Literal
+fails t = term_literal t false
+
+abbrev pub list_of : Terms → List Term
+list_of no_terms = []
+list_of (terms t ts) = t ∷ list_of ts
+
+abbrev pub is_boolean_term : Term → Bool
+is_boolean_term t = is_bool (sort_of t)
+
+-- the clauses of a term, in the order of the table; a term outside the table has none
+abbrev pub gate_clauses : Term → List Clause
+gate_clauses (apply h ts) = clauses_over holds fails is_boolean_term (apply h ts) h (list_of ts)
+
+-- ---- Laws
+
+-- The term has a truth under each assignment.
+abbrev pub IsBoolean : Term → Type 0
+IsBoolean t = (a : Assignment) → IsAssignment a → IsOfSort bool_sort (value_of a t)
+
+abbrev pub HasBooleanArguments : Term → Type 0
+HasBooleanArguments (apply h ts) = AllByRecursion IsBoolean (list_of ts)
+
+-- The clauses of a term over Boolean arguments are true under each assignment.
+abbrev pub GatesAreTrue : Type 0
+GatesAreTrue = (a : Assignment) → IsAssignment a → (t : Term) → HasBooleanArguments t → AllByRecursion (IsClauseTrue a) (gate_clauses t)
+
+-- A term that holds no number is Boolean, and so are its arguments.
+pub record PlainTermsAreBoolean : Type 0 where
+  pub itself : (t : Term) → holds_number t ≡ false → IsBoolean t
+  pub arguments : (t : Term) → holds_number t ≡ false → HasBooleanArguments t

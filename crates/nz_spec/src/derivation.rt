@@ -1,0 +1,40 @@
+//! Laws of literals, clauses, gates and derivations.
+ghost use Rattle.nz_spec.specs.Literal.{ClauseIsTrueTogether, ResolventIsTrue, TellsLiterals};
+ghost use Rattle.nz_spec.specs.Gates.{GatesAreTrue, PlainTermsAreBoolean};
+ghost use Rattle.nz_spec.specs.Steps.{DerivationsGrow, DerivedClausesAreTrue, EmptyClauseRefutes};
+ghost use Rattle.nz_spec.specs.WorkedSteps.{HasGateTable, HasRefutation, HasResolvents};
+
+/// Two literals are one where the test says so.
+pub fn tells_literals()
+    ensures tells { TellsLiterals }
+{}
+
+/// Literals are true together as a list and as a clause, and a resolvent is true where both clauses are.
+pub fn resolvent_is_true()
+    ensures together { ClauseIsTrueTogether }
+    ensures resolvent { ResolventIsTrue }
+{}
+
+/// The clauses of a term over Boolean arguments are true. A term that holds no number has such arguments.
+pub fn gates_are_true()
+    ensures gates { GatesAreTrue }
+    ensures plain { PlainTermsAreBoolean }
+{}
+
+/// What is derived is true wherever the live assertions are; so the empty clause refutes them.
+pub fn derived_clauses_are_true()
+    ensures clauses { DerivedClausesAreTrue }
+    ensures refutes { EmptyClauseRefutes }
+{}
+
+/// A derivation goes on by a step in order, and when more is asserted.
+pub fn derivations_grow()
+    ensures grow { DerivationsGrow }
+{}
+
+/// Gates, resolvents and a refutation, by the definitions alone.
+pub fn worked_derivations()
+    ensures gates { HasGateTable }
+    ensures resolvents { HasResolvents }
+    ensures refutation { HasRefutation }
+{}
