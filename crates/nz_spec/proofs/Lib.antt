@@ -1,5 +1,6 @@
 mod Listed
 mod Uses
+pub mod Arguments
 pub mod ByteClasses
 pub mod Decimals
 pub mod Derivations

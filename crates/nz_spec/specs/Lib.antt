@@ -1,3 +1,4 @@
+pub mod Argument
 pub mod Atoms
 pub mod Bounds
 pub mod Command
