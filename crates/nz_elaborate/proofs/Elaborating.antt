@@ -1,14 +1,15 @@
 -- Lemmas of elaboration: terms one after another, bindings one after another, and what stands over them.
 use Rattle.std.specs.Prelude.{⊤}
-use Rattle.std.proofs.Common.{◌≡◌, ℕ, ◌<◌, ◌+◌, ◌||◌, Bool, true, false, List, [], ◌∷◌, ◌++◌, length, map, drop, get_or, Option, None, Some, option_map, option_and_then, bytes_eq, cond, refl, subst, sym, ap, ◌∙◌, append_assoc, append-nil}
+use Rattle.std.proofs.Common.{◌≡◌, ℕ, ◌<◌, ◌+◌, ◌||◌, Bool, true, false, List, [], ◌∷◌, ◌++◌, length, map, drop, get_or, Option, None, Some, option_map, option_and_then, bytes_eq, cond, if◌then◌else◌, All, arith, refl, subst, sym, ap, ◌∙◌, append_assoc, append-nil}
 use Rattle.std.proofs.lemmas.List.{at_drop_more}
+use Rattle.std.proofs.lemmas.List.Elements.{All-nil, All-push, All-weaker}
 use Rattle.nz_command.specs.declared.expression.Expression as code
 use Rattle.nz_command.specs.declared.expression.Local as local
 use Rattle.nz_command.specs.View.{view, seen, local_view, seen_locals, expressions_from, locals_from}
-use Rattle.nz_spec.specs.Expression.{Expression, written_let, Expressions, no_expressions, expressions, Locals, no_locals, locals}
-use Rattle.nz_spec.specs.Term.{Term, Terms, no_terms, terms}
+use Rattle.nz_spec.specs.Expression.{Numeric, numeric_head, Expression, written_let, Expressions, no_expressions, expressions, Locals, no_locals, locals}
+use Rattle.nz_spec.specs.Term.{Head, head_fits, Term, apply, Terms, no_terms, terms}
 use Rattle.nz_spec.specs.Table.{Node}
-use Rattle.nz_spec.specs.Elaboration.{Scope, binding, listed, term_of, terms_of, terms_onto, bindings_of, bound_onto, application}
+use Rattle.nz_spec.specs.Elaboration.{Scope, binding, listed, term_of, terms_of, terms_onto, bindings_of, bound_onto, application, number_term}
 use Rattle.nz_elaborate.specs.declared.typed.Typed.{Typed}
 use Rattle.nz_elaborate.specs.declared.names.Named as named
 use Rattle.nz_elaborate.specs.declared.faults.Fault.{Fault}
@@ -16,9 +17,10 @@ use Rattle.nz_elaborate.specs.declared.faults.Fault.TheVariants as faults
 use Rattle.nz_elaborate.specs.declared.faults.Found.{Found}
 use Rattle.nz_elaborate.specs.declared.faults.Found.TheVariants as found
 use Rattle.nz_elaborate.specs.Typed.{Grows, IsTyped, AreTyped}
-use Rattle.nz_elaborate.specs.Names.{bound_in, first_of, SameTerm, AreBoundAs, IsScope}
+use Rattle.nz_elaborate.specs.Names.{bound_in, first_of, SameTerm, AreBoundAs, IsScope, AreNames}
 use Rattle.nz_elaborate.specs.Elaborate.{StandsAs, StandAs, Binds, application_of}
-use Rattle.nz_elaborate.specs.Faults.{joined, clash_fault, fault_in, term_in_found, terms_with, after, IsFound, Settles}
+use Rattle.nz_elaborate.specs.Faults.{joined, clash_fault, fault_in, term_in_found, terms_with, after, IsFoundWithin, IsFound, Settles}
+use Rattle.nz_elaborate.proofs.Growing.{longer}
 use Rattle.nz_elaborate.proofs.Staying.{typed_kept, all_typed_kept}
 use Rattle.nz_elaborate.proofs.ScopeTerms.{same_kept, listed_append, same_first, scope_kept, scope_within}
 use Rattle.nz_elaborate.proofs.Telling.{settles_next, settles_clash}
@@ -30,6 +32,9 @@ found_kept old new g (found.Term x) o s = record { term = s.term; is = s.is; typ
 found_kept old new g (found.Fault faults.Sort) o s = s
 found_kept old new g (found.Fault faults.Clash) o s = tt
 found_kept old new g (found.Fault faults.Unknown) o s = tt
+
+pub found_is : (ns : List Node) (f g : Found) (o : Option Term) → f ≡ g → IsFound g o ns → IsFound f o ns
+found_is ns f g o e h = subst (λ x. IsFound x o ns) (sym e) h
 
 -- where a fault is behind it, or none is
 pub found_after : (ns : List Node) (f : Option Fault) (g : Found) (o : Option Term) → Settles f (IsFound g o ns) (o ≡ None) → IsFound (after f g) o ns
@@ -59,7 +64,34 @@ found_no_term ns (found.Fault faults.Sort) o s e = s
 found_no_term ns (found.Fault faults.Clash) o s e = cc
 found_no_term ns (found.Fault faults.Unknown) o s e = cc
 
+pub none_within : (ns : List Node) (xs : List Typed) → xs ≡ [] → All (λ (x : Typed). x.id < length ns) xs
+none_within ns xs e = subst (All (λ (x : Typed). x.id < length ns)) (sym e) (All-nil (λ (x : Typed). x.id < length ns))
+
+-- the names, with frames that are as they were
+pub names_here : (names : List (List ℕ × named.Named)) (frames inner : List (List (List ℕ × Option Typed))) (is_live : List ℕ → Bool) (bound : List (List ℕ)) → inner ≡ frames
+    → AreNames names frames is_live bound → AreNames names inner is_live bound
+names_here names frames inner is_live bound e k = subst (λ l. AreNames names l is_live bound) (sym e) k
+
+-- ---- Numbers
+
+pub number_is : (n : Option Numeric) (h : Head) → Some h ≡ option_map numeric_head n → number_term n ≡ (if head_fits h then Some (apply h no_terms) else None)
+number_is None h e = cc
+number_is (Some m) h e = (let same : h ≡ numeric_head m = cc in ap (λ g. if head_fits g then Some (apply g no_terms) else None) (sym same))
+
+pub fits_is : (h : Head) → head_fits h ≡ true → (if head_fits h then Some (apply h no_terms) else None) ≡ Some (apply h no_terms)
+fits_is h e = ap (λ b. if b then Some (apply h no_terms) else None) e
+
 -- ---- Terms one after another
+
+found_within : (ns : List Node) (xs : List Typed) (f : Found) → All (λ (x : Typed). x.id < length ns) xs → IsFoundWithin ns f → All (λ (x : Typed). x.id < length ns) (terms_with xs f)
+found_within ns xs (found.Term x) within here = All-push (λ (y : Typed). y.id < length ns) xs x within here
+found_within ns xs (found.Fault f) within here = within
+
+pub all_within : (old new : List Node) (xs items : List Typed) (f : Found) → Grows old new → All (λ (x : Typed). x.id < length old) xs → IsFoundWithin new f → items ≡ terms_with xs f
+    → All (λ (x : Typed). x.id < length new) items
+all_within old new xs items f g within here e =
+    let kept : All (λ (x : Typed). x.id < length new) xs = All-weaker (λ (x : Typed). x.id < length old) (λ (x : Typed). x.id < length new) (λ x below. omega (arith, below, longer old new g)) xs within in
+    subst (All (λ (x : Typed). x.id < length new)) (sym e) (found_within new xs f kept here)
 
 abbrev pub terms_append : Terms → Terms → Terms
 terms_append no_terms us = us

@@ -9,5 +9,6 @@ pub mod Normalizing
 pub mod Operating
 pub mod ScopeTerms
 pub mod Scoping
+pub mod Sizes
 pub mod Staying
 pub mod Telling

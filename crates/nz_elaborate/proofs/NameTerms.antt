@@ -203,6 +203,10 @@ finds_definition old new entries frames name d r free e h none f a sc s =
 
 -- ---- A name over arguments
 
+pub not_bound : (o : Option (Option Typed)) → is_some o ≡ false → o ≡ None
+not_bound None e = refl
+not_bound (Some x) e = cc
+
 -- what is found of a name over arguments in a table that has grown
 abbrev pub FindsUse : List Node → List (List ℕ × named.Named) → List (List (List ℕ × Option Typed)) → List ℕ → List Typed → List Node → Found → Type 0
 FindsUse old entries frames name xs new f = (sc : Scope) → IsScope old entries frames sc → (ts : Terms) → AreTyped old xs ts → IsFound f (application sc name ts) new

@@ -47,9 +47,9 @@ fresh_here es i z names name below is made h =
     ap (λ l. listed l name) made ∙ ap (listed (map operator_entry (take i es))) is
     ∙ unlisted (take i es) (word (get_or es i z)) (fresh_first _ _ (fresh_cut es i z below h))
 
-pub fresh_next : (es : List (Bor (List ℕ) × Operator)) (i : ℕ) (z : Bor (List ℕ) × Operator) → i < length es → all_fresh (map word (take i es)) (map word (drop i es)) ≡ true
+pub fresh_next : (es : List (Bor (List ℕ) × Operator)) (i : ℕ) (z : Bor (List ℕ) × Operator) (name : List ℕ) → i < length es → name ≡ word (get_or es i z) → all_fresh (map word (take i es)) (map word (drop i es)) ≡ true
     → all_fresh (map word (take (i + 1) es)) (map word (drop (i + 1) es)) ≡ true
-fresh_next es i z below h =
+fresh_next es i z name below is h =
     ap (λ l. all_fresh l (map word (drop (i + 1) es))) (map_more word es i z below)
     ∙ ap (λ n. all_fresh (map word (take i es) ++ word (get_or es i z) ∷ []) (map word (drop n es))) (add-one i)
     ∙ fresh_rest _ _ (fresh_cut es i z below h)

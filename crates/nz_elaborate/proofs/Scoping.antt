@@ -11,9 +11,11 @@ use Rattle.nz_elaborate.specs.declared.typed.Typed.{Typed}
 use Rattle.nz_elaborate.specs.declared.names.Named as named
 use Rattle.nz_elaborate.specs.declared.names.Named.TheVariants as kinds
 use Rattle.nz_elaborate.specs.declared.faults.Fault.{Fault}
+use Rattle.nz_elaborate.specs.declared.faults.Found.{Found}
+use Rattle.nz_elaborate.specs.declared.faults.Found.TheVariants as found
 use Rattle.nz_elaborate.specs.Typed.{Grows}
 use Rattle.nz_elaborate.specs.Names.{named_by, bound_in, bound_by, first_of, is_operator_entry, SameNamed, IsScope, AreWithin, IsNamedWithin, IsBoundWithin, HasOperators, AreNames}
-use Rattle.nz_elaborate.specs.Faults.{joined, first_fault, clash_fault, TellsNames}
+use Rattle.nz_elaborate.specs.Faults.{joined, first_fault, clash_fault, term_in_found, IsFoundWithin, TellsNames}
 use Rattle.nz_elaborate.proofs.Growing.{longer}
 use Rattle.nz_elaborate.proofs.ScopeTerms.{bound_inner}
 use Rattle.nz_elaborate.proofs.Telling.{Leads, leads_next, leads_end, clash_names}
@@ -32,10 +34,14 @@ first_some : (x y : Option (Option Typed)) → is_some (first_of x y) ≡ (is_so
 first_some None y = refl
 first_some (Some x) y = refl
 
+-- a frame on frames that are as they were
+pub pushed : (between frames inner : List (List (List ℕ × Option Typed))) (frame : List (List ℕ × Option Typed)) → between ≡ frames → inner ≡ between ++ frame ∷ [] → inner ≡ frames ++ frame ∷ []
+pushed between frames inner frame same e = e ∙ ap (λ l. l ++ frame ∷ []) same
+
 -- the names of a frame more
-pub names_push : (entries : List (List ℕ × named.Named)) (frames : List (List (List ℕ × Option Typed))) (frame : List (List ℕ × Option Typed)) (is_live : List ℕ → Bool) (bound names : List (List ℕ))
+names_more : (entries : List (List ℕ × named.Named)) (frames : List (List (List ℕ × Option Typed))) (frame : List (List ℕ × Option Typed)) (is_live : List ℕ → Bool) (bound names : List (List ℕ))
     → AreNames entries frames is_live bound → ((name : List ℕ) → is_some (bound_in frame name) ≡ is_one_of names name) → AreNames entries (frames ++ frame ∷ []) is_live (names ++ bound)
-names_push entries frames frame is_live bound names k same =
+names_more entries frames frame is_live bound names k same =
     record {
       live = k.live;
       operators = k.operators;
@@ -44,19 +50,29 @@ names_push entries frames frame is_live bound names k same =
           ∙ ap (λ b. is_one_of names name || b) (k.framed name) ∙ sym (list_any-append (bytes_eq name) names bound);
     }
 
+pub names_push : (entries : List (List ℕ × named.Named)) (frames inner : List (List (List ℕ × Option Typed))) (frame : List (List ℕ × Option Typed)) (is_live : List ℕ → Bool) (bound names : List (List ℕ))
+    → inner ≡ frames ++ frame ∷ [] → AreNames entries frames is_live bound → ((name : List ℕ) → is_some (bound_in frame name) ≡ is_one_of names name)
+    → AreNames entries inner is_live (names ++ bound)
+names_push entries frames inner frame is_live bound names e k same =
+    subst (λ l. AreNames entries l is_live (names ++ bound)) (sym e) (names_more entries frames frame is_live bound names k same)
+
 -- ---- Numbers within the table
 
 first_within : (ns : List Node) (x y : Option (Option Typed)) → IfSome x (IsBoundWithin ns) → IfSome y (IsBoundWithin ns) → IfSome (first_of x y) (IsBoundWithin ns)
 first_within ns None y a b = b
 first_within ns (Some x) y a b = a
 
-pub within_push : (ns : List Node) (entries : List (List ℕ × named.Named)) (frames : List (List (List ℕ × Option Typed))) (frame : List (List ℕ × Option Typed)) → AreWithin ns entries frames
+within_more : (ns : List Node) (entries : List (List ℕ × named.Named)) (frames : List (List (List ℕ × Option Typed))) (frame : List (List ℕ × Option Typed)) → AreWithin ns entries frames
     → ((name : List ℕ) → IfSome (bound_in frame name) (IsBoundWithin ns)) → AreWithin ns entries (frames ++ frame ∷ [])
-within_push ns entries frames frame w inside =
+within_more ns entries frames frame w inside =
     record {
       live = w.live;
       bound = λ name. subst (λ o. IfSome o (IsBoundWithin ns)) (sym (bound_inner frames frame name)) (first_within ns (bound_in frame name) (bound_by frames name) (inside name) (w.bound name));
     }
+
+pub within_push : (ns : List Node) (entries : List (List ℕ × named.Named)) (frames inner : List (List (List ℕ × Option Typed))) (frame : List (List ℕ × Option Typed)) → inner ≡ frames ++ frame ∷ []
+    → AreWithin ns entries frames → ((name : List ℕ) → IfSome (bound_in frame name) (IsBoundWithin ns)) → AreWithin ns entries inner
+within_push ns entries frames inner frame e w inside = subst (AreWithin ns entries) (sym e) (within_more ns entries frames frame w inside)
 
 bound_kept : (old new : List Node) → Grows old new → (x : Option (Option Typed)) → IfSome x (IsBoundWithin old) → IfSome x (IsBoundWithin new)
 bound_kept old new g None h = tt
@@ -84,6 +100,13 @@ bound_in_kept old new g frame w name = bound_kept old new g (bound_in frame name
 
 one_within : (ns : List Node) (name other : List ℕ) (x : Option Typed) → IsBoundWithin ns x → IfSome (bound_in ((name, x) ∷ []) other) (IsBoundWithin ns)
 one_within ns name other x h = elim (bytes_eq other name) as (λ b. IfSome (cond b (Some x) None) (IsBoundWithin ns)) [ true ↦ h | false ↦ tt ]
+
+pub empty_within : (ns : List Node) (frame : List (List ℕ × Option Typed)) → frame ≡ [] → (name : List ℕ) → IfSome (bound_in frame name) (IsBoundWithin ns)
+empty_within ns frame e name = subst (λ l. IfSome (bound_in l name) (IsBoundWithin ns)) (sym e) tt
+
+pub found_bound_within : (ns : List Node) (f : Found) → IsFoundWithin ns f → IsBoundWithin ns (term_in_found f)
+found_bound_within ns (found.Term x) h = h
+found_bound_within ns (found.Fault f) h = tt
 
 -- one name more in a frame
 pub frame_within : (old new : List Node) (before after : List (List ℕ × Option Typed)) (name : List ℕ) (x : Option Typed) → Grows old new

@@ -55,6 +55,20 @@ pub tells_both : (f g : Option Fault) (u c v d : Bool) → TellsNames f u c → 
 tells_both f g u c v d p q =
     names_joined f g ∙ ap (λ x. joined x (of_names g)) p ∙ ap (joined (first_fault u c)) q ∙ fault_parts u c v d
 
+or_round : (a b : Bool) → (a || b) ≡ (b || a)
+or_round true true = refl
+or_round true false = refl
+or_round false true = refl
+or_round false false = refl
+
+or_none : (a : Bool) → (a || false) ≡ a
+or_none true = refl
+or_none false = refl
+
+-- a name behind its arguments
+pub tells_use : (f g : Option Fault) (u c v : Bool) → TellsNames f u c → TellsNames g v false → TellsNames (joined f g) (v || u) c
+tells_use f g u c v p q = tells_both f g u c v false p q ∙ ap (λ b. first_fault b (c || false)) (or_round u v) ∙ ap (first_fault (v || u)) (or_none c)
+
 pub clash_names : (c : Bool) → of_names (clash_fault c) ≡ first_fault false c
 clash_names true = refl
 clash_names false = refl
@@ -78,6 +92,9 @@ leads_next f g new u c v d unknown clash told is before =
 pub leads_end : (f : Option Fault) (unknown clash : Bool) → Leads f false false unknown clash → TellsNames f unknown clash
 leads_end f unknown clash before = sym (joined_none (of_names f)) ∙ before
 
+pub leads_none : (f : Option Fault) (u c : Bool) → f ≡ None → Leads f u c u c
+leads_none f u c e = ap (λ g. joined (of_names g) (first_fault u c)) e
+
 -- ---- What holds without a fault, and where a sort doesn't fit
 
 settles_joined : (f g : Option Fault) (P P' Q : Type 0) → Settles f P Q → (g ≡ None → P → P') → (g ≡ Some faults.Sort → P → Q) → Settles (joined f g) P' Q
@@ -97,6 +114,9 @@ settles_joined (Some faults.Sort) (Some faults.Sort) P P' Q p go stop = p
 
 pub settles_next : (f g new : Option Fault) (P P' Q : Type 0) → new ≡ joined f g → Settles f P Q → (g ≡ None → P → P') → (g ≡ Some faults.Sort → P → Q) → Settles new P' Q
 settles_next f g new P P' Q is before go stop = subst (λ n. Settles n P' Q) (sym is) (settles_joined f g P P' Q before go stop)
+
+pub settles_none : (f : Option Fault) (P Q : Type 0) → f ≡ None → P → Settles f P Q
+settles_none f P Q e p = subst (λ g. Settles g P Q) (sym e) p
 
 pub settles_clash : (f : Option Fault) (c : Bool) (P Q : Type 0) → Settles f P Q → Settles (joined f (clash_fault c)) P Q
 settles_clash f true P Q before = settles_next f (Some faults.Clash) _ P P Q refl before (λ e p. p) (λ e p. cc)

@@ -1,8 +1,8 @@
 -- What elaboration makes of terms that are written: terms in the table.
 use Rattle.std.specs.Prelude.{◌≡◌, ℕ, ◌<◌, Bool, true, false, List, [], length, map, All, Option, Some, option_and_then, ⊤}
 use Rattle.nz_spec.specs.Expression.{Expression, Expressions, Locals}
-use Rattle.nz_spec.specs.Term.{Sort, Term, Terms}
-use Rattle.nz_spec.specs.Normal.{normals_of}
+use Rattle.nz_spec.specs.Term.{Sort, Head, Term, apply, Terms, no_terms}
+use Rattle.nz_spec.specs.Normal.{normal_of, normals_of}
 use Rattle.nz_spec.specs.Table.{Node, term_in, terms_at}
 use Rattle.nz_spec.specs.Elaboration.{Scope, is_declared, terms_of, application, bindings_of, all_placed, listed}
 use Rattle.nz_spec.specs.Scoping.{has_unknown, have_unknown}
@@ -38,6 +38,10 @@ pub record Binds (sc : Scope) (ls : Locals) (ns : List Node) (frame : List (List
 -- a name over the terms of these arguments
 abbrev pub application_of : Scope → List ℕ → Expressions → Option Term
 application_of sc name es = option_and_then (application sc name) (terms_of sc es)
+
+-- the term of this head alone is normal
+abbrev pub IsNormalLeaf : Head → Type 0
+IsNormalLeaf h = normal_of (apply h no_terms) ≡ apply h no_terms
 
 -- ---- What is told of a term that is written
 

@@ -15,7 +15,7 @@ ghost use Rattle.nz_spec.specs.Elaboration.{Scope, term_of, terms_of, number_ter
 ghost use Rattle.nz_term.specs.Heads.{head_of};
 ghost use Rattle.nz_elaborate.specs.Names.{IsScope, AreWithin, AreNames, IsBoundWithin, bound_in};
 ghost use Rattle.nz_elaborate.specs.Typed.{Grows, IsOperator};
-ghost use Rattle.nz_elaborate.specs.Elaborate.{StandsAs, StandAs, Binds, ClashesFirst, IsWellNamed, is_unknown_in, are_unknown_in, application_of};
+ghost use Rattle.nz_elaborate.specs.Elaborate.{StandsAs, StandAs, Binds, ClashesFirst, IsWellNamed, is_unknown_in, are_unknown_in, application_of, IsNormalLeaf};
 ghost use Rattle.nz_elaborate.specs.Faults.{fault_in, TellsNames, IsFoundWithin, IsFound, Settles};
 
 use crate::faults::{ElaborateError, Fault, Found, FoundAll};
@@ -220,6 +220,7 @@ fn number_term(terms: &mut Terms, number: Number) -> Result<Found, Memory>
 fn number_head(number: Number) -> Option<Head>
     ensures head { option_map head_of result ≡ option_map numeric_head (number_view number) }
     ensures operator { IfSome result (λ head. IsOperator (head_of head)) }
+    ensures normal { IfSome result (λ head. IsNormalLeaf (head_of head)) }
 {
     match number {
         Number::Integer(value) => Some(Head::Integer(value)),
@@ -231,6 +232,7 @@ fn number_head(number: Number) -> Option<Head>
 /// The term of this head, which takes no arguments, where it is one.
 fn fitting_term(terms: &mut Terms, head: Head) -> Result<Found, Memory>
     requires operator { IsOperator (head_of head) }
+    requires normal { IsNormalLeaf (head_of head) }
     ensures grows { Grows terms.old terms.new }
     ensures within { IfOk result (IsFoundWithin terms.new) }
     ensures names { IfOk result (λ f. TellsNames (fault_in f) false false) }
