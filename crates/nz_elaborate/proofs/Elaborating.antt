@@ -5,6 +5,9 @@ use Rattle.std.proofs.lemmas.List.{at_drop_more}
 use Rattle.std.proofs.lemmas.List.Elements.{All-nil, All-push, All-weaker}
 use Rattle.nz_command.specs.declared.expression.Expression as code
 use Rattle.nz_command.specs.declared.expression.Local as local
+use Rattle.nz_command.specs.declared.command.Question as question
+use Rattle.nz_command.specs.Requests.{question_view}
+use Rattle.nz_spec.specs.Script.{asked_expressions}
 use Rattle.nz_command.specs.View.{view, seen, local_view, seen_locals, expressions_from, locals_from}
 use Rattle.nz_spec.specs.Expression.{Numeric, numeric_head, Expression, written_let, Expressions, no_expressions, expressions, Locals, no_locals, locals}
 use Rattle.nz_spec.specs.Term.{Head, head_fits, Term, apply, Terms, no_terms, terms}
@@ -156,6 +159,14 @@ pub seen_turn : {X : Type 0} (f : X → Expression) (xs : List X) (i : ℕ) (x :
     → expressions_from (map f (drop i xs)) ≡ expressions (f x) (expressions_from (map f (drop (i + 1) xs)))
 seen_turn f xs i x below is =
     at_drop_more (λ l. expressions_from (map f l)) xs i x below ∙ ap (λ y. expressions (f y) (expressions_from (map f (drop (i + 1) xs)))) (sym is)
+
+-- the term that a question asks for
+abbrev pub question_term : question.Question → Expression
+question_term q = view q.expression
+
+pub asked_are : (qs : List question.Question) → asked_expressions (map question_view qs) ≡ expressions_from (map question_term qs)
+asked_are [] = refl
+asked_are (q ∷ qs) = ap (expressions (view q.expression)) (asked_are qs)
 
 -- ---- A name over arguments
 

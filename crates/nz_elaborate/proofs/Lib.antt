@@ -1,3 +1,4 @@
+pub mod Answering
 pub mod Applying
 pub mod Defining
 pub mod Elaborating

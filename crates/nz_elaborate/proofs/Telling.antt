@@ -177,3 +177,8 @@ module _ {T : Type 0} where
   told_fine None (Err x) u c P Q R a n h g = absurd a
   told_fine (Some f) (Ok v) u c P Q R a n h g = absurd a
   told_fine (Some f) (Err x) u c P Q R a n h g = tt
+
+-- what an answer has by each scope
+pub ok_each : {T E S : Type 0} (r : Result T E) (P : S → Type 0) (Q : S → T → Type 0) → ((sc : S) → P sc → IfOk r (Q sc)) → IfOk r (λ v. (sc : S) → P sc → Q sc v)
+ok_each (Ok v) P Q h = h
+ok_each (Err e) P Q h = tt
