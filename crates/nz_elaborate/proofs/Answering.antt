@@ -39,13 +39,13 @@ stands_found ns f o (Err e) h = tt
 stands_found ns (found.Term y) o (Ok x) h = λ s. (let same : y ≡ x = cc in subst (StandsAs o ns) same s)
 stands_found ns (found.Fault g) o (Ok x) h = cc
 
-pub answer_refused : (ns : List Node) (f : Found) (o : Option Term) (r : Result Typed ElaborateError) (u c : Bool) → Answers (fault_in f) r → TellsNames (fault_in f) u c → IsFound f o ns
+pub no_term_answered : {T : Type 0} (ns : List Node) (f : Found) (o : Option Term) (r : Result T ElaborateError) (u c : Bool) → Answers (fault_in f) r → TellsNames (fault_in f) u c → IsFound f o ns
     → IsErrOf r told.Sort → IsWellNamed u c (o ≡ None)
-answer_refused ns f o r u c answer names here e = told_sort (fault_in f) r u c (IsFound f o ns) (o ≡ None) answer names (settled_found ns f o here) e
+no_term_answered ns f o r u c answer names here e = told_sort (fault_in f) r u c (IsFound f o ns) (o ≡ None) answer names (settled_found ns f o here) e
 
-pub answer_found : (ns : List Node) (f : Found) (o : Option Term) (r : Result Typed ElaborateError) (u c : Bool) → Answers (fault_in f) r → TellsNames (fault_in f) u c → IsFound f o ns
+pub term_answered : (ns : List Node) (f : Found) (o : Option Term) (r : Result Typed ElaborateError) (u c : Bool) → Answers (fault_in f) r → TellsNames (fault_in f) u c → IsFound f o ns
     → IfOk r (λ x. term_in_found f ≡ Some x) → IfOk r (λ x. IsWellNamed u c (StandsAs o ns x))
-answer_found ns f o r u c answer names here h =
+term_answered ns f o r u c answer names here h =
     told_fine (fault_in f) r u c (IsFound f o ns) (o ≡ None) (StandsAs o ns) answer names (settled_found ns f o here) (stands_found ns f o r h)
 
 -- ---- Terms that are asked for

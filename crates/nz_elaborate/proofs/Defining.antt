@@ -1,7 +1,7 @@
 -- Lemmas of definitions: their parameters one after another, and their bodies.
 use Rattle.std.specs.Prelude.{⊤, IfSome}
 use Rattle.std.specs.List.{list_any}
-use Rattle.std.proofs.Common.{◌≡◌, ℕ, suc, ◌<◌, ◌+◌, ◌||◌, Bool, true, false, List, [], ◌∷◌, ◌++◌, length, map, drop, get_or, Option, None, Some, option_map, option_and_then, refl, subst, sym, ap, ◌∙◌, append_assoc, append-nil, add-one}
+use Rattle.std.proofs.Common.{◌≡◌, ℕ, suc, ◌<◌, ◌+◌, ◌||◌, Bool, true, false, List, [], ◌∷◌, ◌++◌, length, map, drop, get_or, Option, None, Some, option_map, option_and_then, is_some, Result, Ok, Err, IfOk, refl, subst, sym, ap, ◌∙◌, append_assoc, append-nil, add-one}
 use Rattle.std.proofs.lemmas.List.{at_drop_more, map-append}
 use Rattle.nz_command.specs.declared.command.Parameter as code
 use Rattle.nz_command.specs.Requests.{sort_view, parameter_view}
@@ -9,24 +9,29 @@ use Rattle.nz_spec.specs.Expression.{Expression}
 use Rattle.nz_spec.specs.Request.{Parameter, WrittenSort}
 use Rattle.nz_spec.specs.Term.{Sort, parameter, Term, apply, no_terms}
 use Rattle.nz_spec.specs.Table.{Node}
-use Rattle.nz_spec.specs.Elaboration.{Scope, placed, term_of}
-use Rattle.nz_spec.specs.Script.{sort_written, sorts_written, sorts_onto, parameter_names, parameter_sorts, parameters_from}
+use Rattle.nz_spec.specs.Parse.{is_one_of}
+use Rattle.nz_spec.specs.Scoping.{clash, has_unknown, has_clash}
+use Rattle.nz_spec.specs.Elaboration.{Scope, placed, is_declared, term_of}
+use Rattle.nz_spec.specs.Script.{is_unknown_sort, sort_written, sorts_written, sorts_onto, parameter_names, parameter_sorts, parameters_from}
 use Rattle.nz_term.specs.declared.heads.Sort as sort
 use Rattle.nz_term.specs.Constants.{sort_of}
 use Rattle.nz_elaborate.specs.declared.typed.Typed.{Typed}
 use Rattle.nz_elaborate.specs.declared.names.Named as named
+use Rattle.nz_elaborate.specs.declared.names.Definition as definition
+use Rattle.nz_elaborate.specs.declared.faults.ElaborateError.{ElaborateError}
 use Rattle.nz_elaborate.specs.declared.faults.Fault.{Fault}
 use Rattle.nz_elaborate.specs.declared.faults.Fault.TheVariants as faults
 use Rattle.nz_elaborate.specs.declared.faults.Found.{Found}
 use Rattle.nz_elaborate.specs.declared.faults.Found.TheVariants as found
 use Rattle.nz_elaborate.specs.Typed.{Grows, IsTyped}
-use Rattle.nz_elaborate.specs.Names.{bound_in, first_of, AreBoundAs, IsScope}
-use Rattle.nz_elaborate.specs.Elaborate.{StandsAs}
-use Rattle.nz_elaborate.specs.Definitions.{under_parameters, body_term, placed_at, parameter_at, sorts_with, BindsParameters}
-use Rattle.nz_elaborate.specs.Faults.{joined, first_fault, of_names, clash_fault, fault_in, term_in_found, after, TellsNames, IsFound, Settles}
+use Rattle.nz_elaborate.specs.Names.{bound_in, first_of, AreBoundAs, IsScope, AreNames}
+use Rattle.nz_elaborate.specs.Elaborate.{StandsAs, IsWellNamed}
+use Rattle.nz_elaborate.specs.Definitions.{under_parameters, definition_unknown, definition_clash, body_term, definition_term, placed_at, parameter_at, sorts_with, HasBody, BindsParameters}
+use Rattle.nz_elaborate.specs.Faults.{joined, first_fault, of_names, clash_fault, fault_in, term_in_found, after, TellsNames, Answers, IsFound, Settles}
 use Rattle.nz_elaborate.proofs.ScopeTerms.{scope_kept}
-use Rattle.nz_elaborate.proofs.Telling.{settles_next, settles_clash}
-use Rattle.nz_elaborate.proofs.Elaborating.{found_term, found_no_term, found_after, bound_next}
+use Rattle.nz_elaborate.proofs.Telling.{settles_next, settles_clash, tells_both, well_named}
+use Rattle.nz_elaborate.proofs.Scoping.{names_of_scope}
+use Rattle.nz_elaborate.proofs.Elaborating.{found_term, found_no_term, found_after, fault_after, found_is, bound_next}
 
 -- ---- Parameters one after another
 
@@ -134,6 +139,11 @@ parameters_turn ps i x below is =
 
 -- ---- Bodies
 
+or_turn : (u w v : Bool) → (w || (u || v)) ≡ ((u || w) || v)
+or_turn true true v = refl
+or_turn true false v = refl
+or_turn false w v = refl
+
 -- the term of a body before it is placed, where the parameters have sorts
 abbrev pub under_term : Scope → List (List ℕ) → Option (List Sort) → Expression → Option Term
 under_term sc names (Some sorts) body = term_of (under_parameters sc names sorts) body
@@ -159,25 +169,80 @@ body_found start mid new entries frames frame None g ps sorts body sc grown push
     subst (λ l. IsScope mid entries l (under_parameters sc (parameter_names ps) sorts)) (sym pushed)
     (parameters_scope mid entries frame sc (parameter_names ps) sorts (scope_kept start mid grown entries [] sc s) binds.bound) in
     subst (λ o. IsFound g (under_term sc (parameter_names ps) o body) new) (sym binds.sorted) (found (under_parameters sc (parameter_names ps) sorts) here)
-body_found start mid new entries frames frame (Some faults.Unknown) g ps sorts body sc grown pushed s binds found = found_after new (Some faults.Unknown) g _ tt
-body_found start mid new entries frames frame (Some faults.Clash) g ps sorts body sc grown pushed s binds found = found_after new (Some faults.Clash) g _ tt
+body_found start mid new entries frames frame (Some faults.Unknown) g ps sorts body sc grown pushed s binds found = found_after new (Some faults.Unknown) g (under_term sc (parameter_names ps) (sorts_written (parameter_sorts ps)) body) tt
+body_found start mid new entries frames frame (Some faults.Clash) g ps sorts body sc grown pushed s binds found = found_after new (Some faults.Clash) g (under_term sc (parameter_names ps) (sorts_written (parameter_sorts ps)) body) tt
 body_found start mid new entries frames frame (Some faults.Sort) g ps sorts body sc grown pushed s binds found =
-    found_after new (Some faults.Sort) g _ (ap (λ o. under_term sc (parameter_names ps) o body) binds)
+    found_after new (Some faults.Sort) g (under_term sc (parameter_names ps) (sorts_written (parameter_sorts ps)) body) (ap (λ o. under_term sc (parameter_names ps) o body) binds)
 
-fine_names : (f : Option Fault) (u c v d : Bool) → TellsNames f u c → (u || v) ≡ false → (c || d) ≡ false → of_names f ≡ None
-fine_names f true c v d told e g = cc
-fine_names f false true v d told e g = cc
-fine_names f false false v d told e g = told
+-- what is told of the parameters, the sort and the body
+pub body_told : (f : Option Fault) (g k h : Found) (w u c v d : Bool) → TellsNames f u c → TellsNames (fault_in g) v d → k ≡ after f g
+    → ((unknown clashing : Bool) → TellsNames (fault_in k) unknown clashing → TellsNames (fault_in h) (w || unknown) clashing) → TellsNames (fault_in h) ((u || w) || v) (c || d)
+body_told f g k h w u c v d told inner is placed =
+    placed (u || v) (c || d) (ap (λ x. of_names (fault_in x)) is ∙ ap of_names (fault_after f g) ∙ tells_both f (fault_in g) u c v d told inner)
+    ∙ ap (λ b. first_fault b (c || d)) (or_turn u w v)
+
+-- the names of the body, in which the parameters alone are bound
+pub body_names : (start : List Node) (entries : List (List ℕ × named.Named)) (frames : List (List (List ℕ × Option Typed))) (frame : List (List ℕ × Option Typed)) (names : List (List ℕ)) (sc : Scope)
+    → frames ≡ frame ∷ [] → IsScope start entries [] sc → ((name : List ℕ) → is_some (bound_in frame name) ≡ is_one_of names name)
+    → AreNames entries frames (is_declared sc.constants sc.definitions) names
+body_names start entries frames frame names sc pushed s same =
+    let outer : AreNames entries [] (is_declared sc.constants sc.definitions) [] = names_of_scope start entries sc s in
+    subst (λ l. AreNames entries l (is_declared sc.constants sc.definitions) names) (sym pushed) (record { live = outer.live; operators = outer.operators; framed = λ name. same name })
+
+fine_names : (f : Option Fault) (u c w v d : Bool) → TellsNames f u c → ((u || w) || v) ≡ false → (c || d) ≡ false → of_names f ≡ None
+fine_names f true c w v d told e g = cc
+fine_names f false true w v d told e g = cc
+fine_names f false false w v d told e g = told
 
 no_body : (sc : Scope) (names : List (List ℕ)) (sorts : Option (List Sort)) (sort : Option Sort) (body : Expression) (t : Term) → sorts ≡ None → body_term sc names sorts sort body ≡ Some t → ⊥
 no_body sc names sorts sort body t none e =
     let gone : None ≡ Some t = sym (ap (λ o. body_term sc names o sort body) none) ∙ e in cc
 
+pub definition_told : (start : List Node) (entries : List (List ℕ × named.Named)) (frames : List (List (List ℕ × Option Typed))) (frame : List (List ℕ × Option Typed)) (f : Option Fault) (g k h : Found)
+    (ps : List Parameter) (w : WrittenSort) (body : Expression) (sc : Scope) → frames ≡ frame ∷ [] → IsScope start entries [] sc
+    → ((name : List ℕ) → is_some (bound_in frame name) ≡ is_one_of (parameter_names ps) name) → TellsNames f (list_any is_unknown_sort (parameter_sorts ps)) (clash (parameter_names ps))
+    → ((is_live : List ℕ → Bool) (bound : List (List ℕ)) → AreNames entries frames is_live bound → TellsNames (fault_in g) (has_unknown is_live bound body) (has_clash body)) → k ≡ after f g
+    → ((unknown clashing : Bool) → TellsNames (fault_in k) unknown clashing → TellsNames (fault_in h) (is_unknown_sort w || unknown) clashing)
+    → TellsNames (fault_in h) (definition_unknown sc ps w body) (definition_clash ps body)
+definition_told start entries frames frame f g k h ps w body sc pushed s binds told inner is placed =
+    let is_live : List ℕ → Bool = is_declared sc.constants sc.definitions in
+    let names : List (List ℕ) = parameter_names ps in
+    body_told f g k h (is_unknown_sort w) (list_any is_unknown_sort (parameter_sorts ps)) (clash names) (has_unknown is_live names body) (has_clash body) told
+    (inner is_live names (body_names start entries frames frame names sc pushed s binds)) is placed
+
+pub definition_is : (start mid new last : List Node) (entries : List (List ℕ × named.Named)) (frames : List (List (List ℕ × Option Typed))) (frame : List (List ℕ × Option Typed)) (f : Option Fault) (g k h : Found)
+    (ps : List Parameter) (sorts : List Sort) (w : WrittenSort) (body : Expression) (sc : Scope) → Grows start mid → frames ≡ frame ∷ [] → IsScope start entries [] sc
+    → Settles f (BindsParameters ps sorts mid frame) (sorts_written (parameter_sorts ps) ≡ None) → ((inner : Scope) → IsScope mid entries frames inner → IsFound g (term_of inner body) new) → k ≡ after f g
+    → ((o : Option Term) → IsFound k o new → IsFound h (placed_at (sort_written w) o) last) → IsFound h (definition_term sc ps w body) last
+definition_is start mid new last entries frames frame f g k h ps sorts w body sc grown pushed s binds found is placed =
+    let o : Option Term = under_term sc (parameter_names ps) (sorts_written (parameter_sorts ps)) body in
+    subst (λ p. IsFound h p last) (sym (body_placed sc (parameter_names ps) (sorts_written (parameter_sorts ps)) (sort_written w) body))
+    (placed o (found_is new k (after f g) o is (body_found start mid new entries frames frame f g ps sorts body sc grown pushed s binds found)))
+
 -- where there is a body, the parameters have these sorts
 pub parameters_sorted : (ns : List Node) (f : Option Fault) (sc : Scope) (ps : List Parameter) (sorts : List Sort) (frame : List (List ℕ × Option Typed)) (sort : Option Sort) (body : Expression) (t : Term)
-    (u c v d : Bool) → TellsNames f u c → (u || v) ≡ false → (c || d) ≡ false → Settles f (BindsParameters ps sorts ns frame) (sorts_written (parameter_sorts ps) ≡ None)
+    (u c w v d : Bool) → TellsNames f u c → Settles f (BindsParameters ps sorts ns frame) (sorts_written (parameter_sorts ps) ≡ None) → ((u || w) || v) ≡ false → (c || d) ≡ false
     → body_term sc (parameter_names ps) (sorts_written (parameter_sorts ps)) sort body ≡ Some t → sorts_written (parameter_sorts ps) ≡ Some sorts
-parameters_sorted ns None sc ps sorts frame sort body t u c v d told e g binds is = binds.sorted
-parameters_sorted ns (Some faults.Unknown) sc ps sorts frame sort body t u c v d told e g binds is = (let fine = fine_names (Some faults.Unknown) u c v d told e g in cc)
-parameters_sorted ns (Some faults.Clash) sc ps sorts frame sort body t u c v d told e g binds is = (let fine = fine_names (Some faults.Clash) u c v d told e g in cc)
-parameters_sorted ns (Some faults.Sort) sc ps sorts frame sort body t u c v d told e g binds is = absurd (no_body sc (parameter_names ps) (sorts_written (parameter_sorts ps)) sort body t binds is)
+parameters_sorted ns None sc ps sorts frame sort body t u c w v d told binds e g is = binds.sorted
+parameters_sorted ns (Some faults.Unknown) sc ps sorts frame sort body t u c w v d told binds e g is = (let fine = fine_names (Some faults.Unknown) u c w v d told e g in cc)
+parameters_sorted ns (Some faults.Clash) sc ps sorts frame sort body t u c w v d told binds e g is = (let fine = fine_names (Some faults.Clash) u c w v d told e g in cc)
+parameters_sorted ns (Some faults.Sort) sc ps sorts frame sort body t u c w v d told binds e g is =
+    absurd (no_body sc (parameter_names ps) (sorts_written (parameter_sorts ps)) sort body t binds is)
+
+pub body_answered : (ns : List Node) (h : Found) (r : Result definition.Definition ElaborateError) (u c : Bool) (sc : Scope) (ps : List Parameter) (w : WrittenSort) (body : Expression) (sorts : List sort.Sort)
+    → Answers (fault_in h) r → TellsNames (fault_in h) u c → IsFound h (definition_term sc ps w body) ns → IfOk r (λ d. d.parameters.items ≡ sorts) → IfOk r (λ d. term_in_found h ≡ Some d.body)
+    → ((t : Term) → u ≡ false → c ≡ false → definition_term sc ps w body ≡ Some t → sorts_written (parameter_sorts ps) ≡ Some (map sort_of sorts))
+    → IfOk r (λ d. IsWellNamed u c (HasBody sc ps w body ns d))
+body_answered ns h (Err e) u c sc ps w body sorts answer names here same is sorted = tt
+body_answered ns (found.Fault f) (Ok d) u c sc ps w body sorts answer names here same is sorted = absurd answer
+body_answered ns (found.Term x) (Ok d) u c sc ps w body sorts answer names here same is sorted =
+    let fine : IsWellNamed u c (StandsAs (definition_term sc ps w body) ns x) = well_named u c (StandsAs (definition_term sc ps w body) ns x) names here in
+    let placed : x ≡ d.body = cc in
+    record {
+      known = fine.known;
+      distinct = fine.distinct;
+      holds = record {
+        sorted = subst (λ l. sorts_written (parameter_sorts ps) ≡ Some (map sort_of l)) (sym same) (sorted here.term fine.known fine.distinct here.is);
+        stands = subst (StandsAs (definition_term sc ps w body) ns) placed here;
+      };
+    }

@@ -140,7 +140,7 @@ clash_first true c e = cc
 clash_first false true e = record { known = refl; clashes = refl }
 clash_first false false e = cc
 
-well_named : (u c : Bool) (P : Type 0) → None ≡ first_fault u c → P → IsWellNamed u c P
+pub well_named : (u c : Bool) (P : Type 0) → None ≡ first_fault u c → P → IsWellNamed u c P
 well_named true c P e p = cc
 well_named false true P e p = cc
 well_named false false P e p = record { known = refl; distinct = refl; holds = p }

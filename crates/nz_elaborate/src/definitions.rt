@@ -12,7 +12,7 @@ ghost use Rattle.nz_term.specs.Constants.{sort_of};
 ghost use Rattle.nz_elaborate.specs.Names.{IsScope, IsBoundWithin, HasOperators, bound_in, first_of, named_by, is_operator_entry};
 ghost use Rattle.nz_elaborate.specs.Typed.{Grows};
 ghost use Rattle.nz_elaborate.specs.Elaborate.{ClashesFirst, IsWellNamed, StandsAs};
-ghost use Rattle.nz_elaborate.specs.Faults.{Settles, TellsNames, IsFound, IsFoundWithin, clash_fault, fault_in, joined as joined_by, term_in_found};
+ghost use Rattle.nz_elaborate.specs.Faults.{Answers, Settles, TellsNames, IsFound, IsFoundWithin, clash_fault, fault_in, joined as joined_by, term_in_found};
 ghost use Rattle.nz_elaborate.specs.Definitions.{definition_unknown, definition_clash, definition_term, parameter_at, placed_at, sorts_with, HasBody, BindsParameters};
 
 use crate::elaboration::expression_term;
@@ -56,11 +56,19 @@ pub fn elaborate_body<'a>(
     frames.push(frame)?;
     let found = expression_term(alloc, names, &mut frames, terms, body)?;
     let found = placed_found(terms, sort, found.after(fault))?;
-    let body = found.settled()?;
-    Ok(Definition {
-        parameters: sorts,
-        body,
-    })
+    settled(sorts, found)
+}
+
+/// The definition of these parameters and this body, or the error of the body's fault.
+fn settled(parameters: Vec<Sort>, body: Found) -> Result<Definition, ElaborateError>
+    ensures answer { Answers (fault_in body) result }
+    ensures parameters { IfOk result (λ d. d.parameters.items ≡ parameters.items) }
+    ensures body { IfOk result (λ d. term_in_found body ≡ Some d.body) }
+{
+    match body {
+        Found::Term(body) => Ok(Definition { parameters, body }),
+        Found::Fault(fault) => Err(fault.error()),
+    }
 }
 
 /// What is found of a term where one of this sort is wanted.

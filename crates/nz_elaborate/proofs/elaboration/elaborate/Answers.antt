@@ -8,7 +8,7 @@ use Rattle.nz_elaborate.proofs.Telling.{told_unknown, told_clash, ok_each}
 use Rattle.nz_elaborate.proofs.Scoping.{within_of_scope, names_of_scope}
 use Rattle.nz_elaborate.proofs.Elaborating.{names_here, scope_here}
 use Rattle.nz_elaborate.proofs.Growing.{grows_none}
-use Rattle.nz_elaborate.proofs.Answering.{answer_found, answer_refused}
+use Rattle.nz_elaborate.proofs.Answering.{term_answered, no_term_answered}
 use Rattle.nz_elaborate.proofs.elaboration.elaborate.Goals as goal
 
 pub expression_term-requires : goal.expression_term-requires
@@ -35,7 +35,7 @@ returns-clause-found c =
     let new = c.expression_term.new.terms in
     ok_each c.settled.result (IsScope c.args.terms.now c.args.names.now []) (λ sc x. IsWellNamed (is_unknown_in sc e) (has_clash e) (StandsAs (term_of sc e) new x))
     (λ sc s.
-    answer_found new c.in_ok-found.found (term_of sc e) c.settled.result (is_unknown_in sc e) (has_clash e) c.settled.ensures.answer
+    term_answered new c.in_ok-found.found (term_of sc e) c.settled.result (is_unknown_in sc e) (has_clash e) c.settled.ensures.answer
     (c.in_ok-found.ensures.names (is_declared sc.constants sc.definitions) []
     (names_here c.args.names.now [] c.new-frames.result.items (is_declared sc.constants sc.definitions) [] c.new-frames.ensures.items (names_of_scope c.args.terms.now c.args.names.now sc s)))
     (c.in_ok-found.ensures.found sc (scope_here c.args.terms.now c.args.terms.now c.args.names.now [] c.new-frames.result.items sc (grows_none _) c.new-frames.ensures.items s))
@@ -43,7 +43,7 @@ returns-clause-found c =
 
 pub returns-clause-refused : goal.returns-clause-refused
 returns-clause-refused c = λ err sc s.
-    answer_refused c.expression_term.new.terms c.in_ok-found.found (term_of sc (view c.args.expression.now)) c.settled.result _ _ c.settled.ensures.answer
+    no_term_answered c.expression_term.new.terms c.in_ok-found.found (term_of sc (view c.args.expression.now)) c.settled.result _ _ c.settled.ensures.answer
     (c.in_ok-found.ensures.names (is_declared sc.constants sc.definitions) []
     (names_here c.args.names.now [] c.new-frames.result.items (is_declared sc.constants sc.definitions) [] c.new-frames.ensures.items (names_of_scope c.args.terms.now c.args.names.now sc s)))
     (c.in_ok-found.ensures.found sc (scope_here c.args.terms.now c.args.terms.now c.args.names.now [] c.new-frames.result.items sc (grows_none _) c.new-frames.ensures.items s)) err
