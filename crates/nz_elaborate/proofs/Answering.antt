@@ -1,14 +1,14 @@
 -- Lemmas of what is answered for terms that are asked for, by each scope that the names are.
-use Rattle.std.proofs.Common.{◌≡◌, ℕ, ◌≤◌, Bool, List, [], length, map, drop, Option, Some, None, Result, Ok, Err, IfOk, refl, subst, sym, ap}
+use Rattle.std.proofs.Common.{[], ◌≡◌, ℕ, ◌≤◌, Bool, List, length, map, drop, Option, Some, None, Result, Ok, Err, IfOk, subst, sym, ap}
 use Rattle.std.specs.Prelude.{IsErrOf}
 use Rattle.std.proofs.lemmas.List.{drop_all}
 use Rattle.nz_command.specs.declared.command.Question as question
 use Rattle.nz_command.specs.View.{expressions_from}
 use Rattle.nz_command.specs.Requests.{question_view}
-use Rattle.nz_spec.specs.Expression.{Expression, Expressions, no_expressions}
+use Rattle.nz_spec.specs.Expression.{Expressions}
 use Rattle.nz_spec.specs.Term.{Term}
 use Rattle.nz_spec.specs.Table.{Node}
-use Rattle.nz_spec.specs.Scoping.{have_unknown, have_clash, has_clash}
+use Rattle.nz_spec.specs.Scoping.{have_unknown, have_clash}
 use Rattle.nz_spec.specs.Script.{asked_expressions}
 use Rattle.nz_spec.specs.Elaboration.{Scope, is_declared, terms_of}
 use Rattle.nz_elaborate.specs.declared.typed.Typed.{Typed}

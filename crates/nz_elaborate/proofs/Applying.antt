@@ -1,9 +1,8 @@
 -- Operators over arguments that are in the table.
-use Rattle.std.proofs.Common.{◌≡◌, ℕ, suc, ◌+◌, ◌<◌, ◌≤◌, Bool, true, false, ◌&&◌, ◌||◌, List, [], ◌∷◌, ◌++◌, length, drop, get_or, All, Some, None, refl, sym, ap, ◌∙◌, subst, arith, add-one}
+use Rattle.std.proofs.Common.{[], ◌≡◌, ℕ, suc, ◌+◌, ◌<◌, ◌≤◌, Bool, true, false, ◌&&◌, ◌||◌, List, ◌∷◌, ◌++◌, length, drop, get_or, All, Some, None, refl, sym, ap, ◌∙◌, subst, add-one}
 use Rattle.std.specs.List.{list_all}
 use Rattle.std.proofs.Math.Seq.{drop-cons}
 use Rattle.std.proofs.lemmas.List.{drop_all}
-use Rattle.std.proofs.lemmas.List.Elements.{All-get_or, All-nil, All-cons}
 use Rattle.nz_spec.specs.Term as spec
 use Rattle.nz_spec.specs.Term.{Sort, bool_sort, int_sort, real_sort, Term, apply, Terms, no_terms, terms, head_sort, are_same_sort}
 use Rattle.nz_spec.specs.Normal.{normal_of, normals_of, normal_node}
@@ -12,7 +11,7 @@ use Rattle.nz_spec.specs.Elaboration.{Operator, Operands, all_terms, term_count,
 use Rattle.nz_term.specs.Constants.{sort_of}
 use Rattle.nz_elaborate.specs.declared.typed.Typed.{Typed}
 use Rattle.nz_elaborate.specs.Typed.{Grows, StandsFor, IsTyped, AreTyped, HasApplied, HasRead, read_term, terms_before}
-use Rattle.nz_elaborate.proofs.Growing.{longer, next_term, before-none}
+use Rattle.nz_elaborate.proofs.Growing.{next_term, before-none}
 use Rattle.nz_elaborate.proofs.Staying.{typed_kept}
 
 -- ---- Arguments and their terms
@@ -22,12 +21,6 @@ count_typed ns [] no_terms a = refl
 count_typed ns [] (terms t ts) a = absurd a
 count_typed ns (x ∷ xs) no_terms a = absurd a
 count_typed ns (x ∷ xs) (terms t ts) a = ap suc (count_typed ns xs ts a.1)
-
-pub typed_within : (ns : List Node) (xs : List Typed) (ts : Terms) → AreTyped ns xs ts → All (λ (x : Typed). x.id < length ns) xs
-typed_within ns [] no_terms a = All-nil (λ (x : Typed). x.id < length ns)
-typed_within ns [] (terms t ts) a = absurd a
-typed_within ns (x ∷ xs) no_terms a = absurd a
-typed_within ns (x ∷ xs) (terms t ts) a = All-cons (λ (y : Typed). y.id < length ns) x xs a.0.within (typed_within ns xs ts a.1)
 
 abbrev pub is_number_sort : Sort → Bool
 is_number_sort s = are_same_sort int_sort s || are_same_sort real_sort s
@@ -97,12 +90,6 @@ reads s old mid new x left ids items id (terms t us) ts g h within read e a whol
           ∙ ap (λ vs. terms_before (term_in mid) ids (normals_of vs)) (sym (read_next s t us))
           ∙ whole;
     }
-
-pub item_within : (old mid : List Node) (x z : Typed) (xs : List Typed) (i : ℕ) → Grows old mid → i < length xs → All (λ (y : Typed). y.id < length old) xs → x ≡ get_or xs i z
-    → x.id < length mid
-item_within old mid x z xs i g below within is =
-    let there : x.id < length old = subst (λ (y : Typed). y.id < length old) (sym is) (All-get_or (λ (y : Typed). y.id < length old) xs i z below within) in
-    omega (arith, there, longer old mid g)
 
 -- one argument more
 pub reading_next : (s : Sort) (old mid new : List Node) (x z : Typed) (xs : List Typed) (ids items : List ℕ) (i id : ℕ) (ts : Terms) → Grows old mid → Grows mid new

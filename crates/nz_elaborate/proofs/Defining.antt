@@ -1,7 +1,7 @@
 -- Lemmas of definitions: their parameters one after another, and their bodies.
-use Rattle.std.specs.Prelude.{⊤, IfSome}
+use Rattle.std.specs.Prelude.{IfSome}
 use Rattle.std.specs.List.{list_any}
-use Rattle.std.proofs.Common.{◌≡◌, ℕ, suc, ◌<◌, ◌+◌, ◌||◌, Bool, true, false, List, [], ◌∷◌, ◌++◌, length, map, drop, get_or, Option, None, Some, option_map, option_and_then, is_some, Result, Ok, Err, IfOk, refl, subst, sym, ap, ◌∙◌, append_assoc, append-nil, add-one}
+use Rattle.std.proofs.Common.{[], ◌≡◌, ℕ, suc, ◌<◌, ◌+◌, ◌||◌, Bool, true, false, List, ◌∷◌, ◌++◌, length, map, drop, get_or, Option, None, Some, option_map, is_some, Result, Ok, Err, IfOk, refl, subst, sym, ap, ◌∙◌, append_assoc, append-nil, add-one}
 use Rattle.std.proofs.lemmas.List.{at_drop_more, map-append}
 use Rattle.nz_command.specs.declared.command.Parameter as code
 use Rattle.nz_command.specs.Requests.{sort_view, parameter_view}

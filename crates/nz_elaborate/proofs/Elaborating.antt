@@ -1,15 +1,13 @@
 -- Lemmas of elaboration: terms one after another, bindings one after another, and what stands over them.
-use Rattle.std.specs.Prelude.{⊤}
-use Rattle.std.proofs.Common.{◌≡◌, ℕ, ◌<◌, ◌+◌, ◌||◌, Bool, true, false, List, [], ◌∷◌, ◌++◌, length, map, drop, get_or, Option, None, Some, option_map, option_and_then, bytes_eq, cond, if◌then◌else◌, All, arith, refl, subst, sym, ap, ◌∙◌, append_assoc, append-nil}
+use Rattle.std.proofs.Common.{[], ◌≡◌, ℕ, ◌<◌, ◌+◌, ◌||◌, Bool, true, false, List, ◌∷◌, ◌++◌, length, map, drop, get_or, Option, None, Some, option_map, option_and_then, bytes_eq, cond, if◌then◌else◌, All, arith, refl, subst, sym, ap, ◌∙◌, append_assoc, append-nil}
 use Rattle.std.proofs.lemmas.List.{at_drop_more}
 use Rattle.std.proofs.lemmas.List.Elements.{All-nil, All-push, All-weaker}
-use Rattle.nz_command.specs.declared.expression.Expression as code
 use Rattle.nz_command.specs.declared.expression.Local as local
 use Rattle.nz_command.specs.declared.command.Question as question
 use Rattle.nz_command.specs.Requests.{question_view}
 use Rattle.nz_spec.specs.Script.{asked_expressions}
-use Rattle.nz_command.specs.View.{view, seen, local_view, seen_locals, expressions_from, locals_from}
-use Rattle.nz_spec.specs.Expression.{Numeric, numeric_head, Expression, written_let, Expressions, no_expressions, expressions, Locals, no_locals, locals}
+use Rattle.nz_command.specs.View.{view, local_view, seen_locals, expressions_from, locals_from}
+use Rattle.nz_spec.specs.Expression.{Numeric, numeric_head, Expression, written_let, Expressions, expressions, Locals, no_locals, locals}
 use Rattle.nz_spec.specs.Term.{Head, head_fits, Term, apply, Terms, no_terms, terms}
 use Rattle.nz_spec.specs.Table.{Node}
 use Rattle.nz_spec.specs.Elaboration.{Scope, binding, listed, term_of, terms_of, terms_onto, bindings_of, bound_onto, application, number_term}
@@ -24,17 +22,11 @@ use Rattle.nz_elaborate.specs.Names.{bound_in, first_of, SameTerm, AreBoundAs, I
 use Rattle.nz_elaborate.specs.Elaborate.{StandsAs, StandAs, Binds, application_of}
 use Rattle.nz_elaborate.specs.Faults.{joined, clash_fault, fault_in, term_in_found, terms_with, after, IsFoundWithin, IsFound, Settles}
 use Rattle.nz_elaborate.proofs.Growing.{longer}
-use Rattle.nz_elaborate.proofs.Staying.{typed_kept, all_typed_kept}
+use Rattle.nz_elaborate.proofs.Staying.{all_typed_kept}
 use Rattle.nz_elaborate.proofs.ScopeTerms.{same_kept, listed_append, same_first, scope_kept, scope_within}
 use Rattle.nz_elaborate.proofs.Telling.{settles_next, settles_clash}
 
 -- ---- What is found
-
-pub found_kept : (old new : List Node) → Grows old new → (f : Found) (o : Option Term) → IsFound f o old → IsFound f o new
-found_kept old new g (found.Term x) o s = record { term = s.term; is = s.is; typed = typed_kept old new g x s.term s.typed }
-found_kept old new g (found.Fault faults.Sort) o s = s
-found_kept old new g (found.Fault faults.Clash) o s = tt
-found_kept old new g (found.Fault faults.Unknown) o s = tt
 
 pub found_is : (ns : List Node) (f g : Found) (o : Option Term) → f ≡ g → IsFound g o ns → IsFound f o ns
 found_is ns f g o e h = subst (λ x. IsFound x o ns) (sym e) h

@@ -1,5 +1,5 @@
 -- Numbers and their terms in a table that grows.
-use Rattle.std.proofs.Common.{◌≡◌, ◌⊎◌, inl, inr, ℕ, ◌<◌, ◌≤◌, List, [], ◌∷◌, ◌++◌, length, All, refl, sym, ap, ◌∙◌, append_assoc, append-nil, subst, arith, length-append}
+use Rattle.std.proofs.Common.{[], ◌≡◌, ◌⊎◌, ℕ, ◌<◌, ◌≤◌, List, ◌∷◌, ◌++◌, length, All, refl, sym, ap, ◌∙◌, append_assoc, append-nil, subst, arith, length-append}
 use Rattle.std.proofs.lemmas.List.Elements.{All-head, All-tail, All-push, All-weaker}
 use Rattle.std.specs.List.{AllByRecursion}
 use Rattle.nz_spec.specs.Term.{Term, Terms, no_terms, terms}
@@ -11,10 +11,6 @@ use Rattle.nz_elaborate.specs.Typed.{IsOperator, Grows, StandsFor, terms_before}
 
 pub grows_none : (ns : List Node) → Grows ns ns
 grows_none ns = record { more = []; all = sym (append-nil ns); operators = tt }
-
-pub grows_by : (old new : List Node) (n : Node) → IsOperator n.head → (new ≡ old) ⊎ (new ≡ old ++ n ∷ []) → Grows old new
-grows_by old new n o (inl e) = subst (Grows old) (sym e) (grows_none old)
-grows_by old new n o (inr e) = record { more = n ∷ []; all = e; operators = (o, tt) }
 
 operators-append : (xs ys : List Node) → AllByRecursion (λ (n : Node). IsOperator n.head) xs → AllByRecursion (λ (n : Node). IsOperator n.head) ys
     → AllByRecursion (λ (n : Node). IsOperator n.head) (xs ++ ys)
@@ -42,9 +38,6 @@ terms_kept old new g ids within = ap (λ l. terms_at (term_in l) ids) g.all ∙ 
 
 pub within_kept : (old new : List Node) → Grows old new → (ids : List ℕ) → All (λ i. i < length old) ids → All (λ i. i < length new) ids
 within_kept old new g ids a = All-weaker (λ i. i < length old) (λ i. i < length new) (λ i below. omega (arith, below, longer old new g)) ids a
-
-pub stands_kept : (old new : List Node) → Grows old new → (id : ℕ) (t : Term) → StandsFor old id t → StandsFor new id t
-stands_kept old new g id t s = record { within = omega (arith, s.within, longer old new g); term = term_kept old new g id s.within ∙ s.term }
 
 -- ---- Lists of numbers
 

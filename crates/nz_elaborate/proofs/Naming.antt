@@ -1,12 +1,11 @@
 -- Names and what is listed with them.
-use Rattle.std.proofs.Common.{◌≡◌, ◌<◌, ◌+◌, ℕ, length, drop, get_or, Bor, List, [], ◌∷◌, ◌++◌, Option, None, Some, IfSome, IfNone, option_copied, is_some, true, false, cond, bytes_eq, map, reverse, refl, sym, ap, ◌∙◌}
+use Rattle.std.proofs.Common.{[], ◌≡◌, ◌<◌, ◌+◌, ℕ, length, drop, get_or, Bor, List, ◌∷◌, ◌++◌, Option, None, Some, IfSome, IfNone, option_copied, is_some, true, false, cond, bytes_eq, map, reverse, refl, sym, ap, ◌∙◌}
 use Rattle.std.proofs.lemmas.Bool.{true≢false, false≢true}
 use Rattle.std.proofs.lemmas.List.{reverse-append, at_drop_more, length_push}
 use Rattle.std.specs.Map.{lookup}
 use Rattle.std.specs.Cmp.Lexicographic.{nat_list_eq_equiv}
 use Rattle.indexmap.specs.IndexMap.{insert_entry}
 use Rattle.nz_spec.specs.Elaboration.{listed}
-use Rattle.nz_spec.specs.Parse.{is_one_of}
 use Rattle.nz_elaborate.specs.declared.typed.Typed.{Typed}
 use Rattle.nz_elaborate.specs.Names.{bound_in, bound_by, first_of, frame_entry}
 

@@ -1,6 +1,5 @@
 -- The operators, put among the names one by one.
-use Rattle.std.specs.Prelude.{⊤}
-use Rattle.std.proofs.Common.{◌≡◌, ℕ, ◌<◌, ◌≤◌, ◌+◌, suc, ◌&&◌, ◌||◌, not, Bool, true, false, List, [], ◌∷◌, ◌++◌, length, map, take, drop, get_or, Bor, Option, None, Some, cond, bytes_eq, refl, subst, sym, ap, ◌∙◌, drop-cons, add-one}
+use Rattle.std.proofs.Common.{[], ◌≡◌, ℕ, ◌<◌, ◌≤◌, ◌+◌, suc, ◌&&◌, ◌||◌, not, Bool, true, false, List, ◌∷◌, ◌++◌, length, map, take, drop, get_or, Bor, None, Some, cond, bytes_eq, refl, subst, sym, ap, ◌∙◌, drop-cons, add-one}
 use Rattle.std.proofs.lemmas.List.{map_more, take_all}
 use Rattle.nz_spec.specs.Table.{Node}
 use Rattle.nz_spec.specs.Parse.{is_one_of}

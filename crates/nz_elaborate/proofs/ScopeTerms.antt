@@ -1,5 +1,5 @@
 -- Lemmas of the names in scope.
-use Rattle.std.proofs.Common.{◌≡◌, ℕ, List, [], ◌∷◌, ◌++◌, Option, None, Some, true, false, bytes_eq, cond, is_some, refl, sym, ap, ◌∙◌, subst}
+use Rattle.std.proofs.Common.{[], ◌≡◌, ℕ, List, ◌∷◌, ◌++◌, Option, None, Some, true, false, bytes_eq, cond, refl, sym, ap, ◌∙◌, subst}
 use Rattle.std.specs.List.{AllByRecursion}
 use Rattle.nz_spec.specs.Term.{Constant, constant, Term, apply, no_terms}
 use Rattle.nz_spec.specs.Table.{Node}
@@ -10,8 +10,7 @@ use Rattle.nz_elaborate.specs.declared.names.Definition as code
 use Rattle.nz_elaborate.specs.declared.names.Named as named
 use Rattle.nz_elaborate.specs.declared.names.Named.TheVariants as kinds
 use Rattle.nz_elaborate.specs.Operators.{operator_meaning}
-use Rattle.nz_elaborate.specs.Typed.{Grows, IsTyped}
-use Rattle.nz_elaborate.specs.Faults.{IsFound, bound_found}
+use Rattle.nz_elaborate.specs.Typed.{Grows}
 use Rattle.nz_elaborate.specs.Names.{named_by, bound_in, first_of, bound_by, IsDefined, SameTerm, SameNamed, IsScope}
 use Rattle.nz_elaborate.proofs.Staying.{typed_kept}
 
@@ -59,34 +58,11 @@ pub bound_none : (ns : List Node) (names : List (List ℕ × named.Named)) (fram
     → IsScope ns names frames sc → bound_by frames name ≡ None → listed sc.bound name ≡ None
 bound_none ns names frames sc name s e = same_none ns (listed sc.bound name) (subst (λ o. SameTerm ns o (listed sc.bound name)) e (s.bound name))
 
--- what is found of a bound name is what it is bound to
-pub same_bound : (ns : List Node) (x : Option Typed) (o : Option Term) → SameTerm ns (Some x) o → IsFound (bound_found x) o ns
-same_bound ns None o s = absurd s
-same_bound ns (Some x) None s = absurd s
-same_bound ns (Some x) (Some t) s = record { term = t; is = refl; typed = s }
-
-pub bound_some : (ns : List Node) (x : Option Typed) (o : Option Term) → SameTerm ns (Some x) o → is_some o ≡ true
-bound_some ns None o s = absurd s
-bound_some ns (Some x) None s = absurd s
-bound_some ns (Some x) (Some t) s = refl
-
 -- a live name is that of an operator
 pub same_operator : (ns : List Node) (o : operators.Operator) (p : Option Operator) (c : Option Constant) (d : Option Definition) → SameNamed ns (Some (kinds.Operator o)) p c d
     → p ≡ Some (operator_meaning o)
 same_operator ns o None c d s = absurd s
 same_operator ns o (Some p) c d s = ap Some (sym s)
-
--- a live name is that of a constant
-pub record IsConstant (ns : List Node) (o : Option Operator) (c : Option Constant) (x : Typed) : Type 0 where
-  pub found : Constant
-  pub is : c ≡ Some found
-  pub unnamed : o ≡ None
-  pub typed : IsTyped ns x (apply (constant found) no_terms)
-
-pub same_constant : (ns : List Node) (x : Typed) (o : Option Operator) (c : Option Constant) (d : Option Definition) → SameNamed ns (Some (kinds.Constant x)) o c d → IsConstant ns o c x
-same_constant ns x None (Some c) d s = record { found = c; is = refl; unnamed = refl; typed = s }
-same_constant ns x None None d s = absurd s
-same_constant ns x (Some p) c d s = absurd s
 
 -- a live name is that of a definition
 pub record IsDefinition (ns : List Node) (o : Option Operator) (c : Option Constant) (d : Option Definition) (e : code.Definition) : Type 0 where

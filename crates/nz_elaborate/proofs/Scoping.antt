@@ -1,12 +1,12 @@
 -- Lemmas of the names that are live and bound, and of names that clash.
-use Rattle.std.proofs.Common.{◌≡◌, ℕ, ◌<◌, ◌≤◌, ◌||◌, Bool, true, false, List, [], ◌∷◌, ◌++◌, length, Option, Some, None, IfSome, bytes_eq, cond, is_some, refl, subst, sym, ap, ◌∙◌, arith}
+use Rattle.std.proofs.Common.{[], ◌≡◌, ℕ, ◌<◌, ◌≤◌, ◌||◌, Bool, true, false, List, ◌∷◌, ◌++◌, Option, Some, None, IfSome, bytes_eq, cond, is_some, refl, subst, sym, ap, ◌∙◌, arith}
 use Rattle.std.proofs.lemmas.List.Folds.{list_any-append}
 use Rattle.std.specs.Cmp.Lexicographic.{nat_list_eq_equiv}
 use Rattle.nz_spec.specs.Parse.{is_one_of}
 use Rattle.nz_spec.specs.Scoping.{clash}
 use Rattle.nz_spec.specs.Term.{Constant, Term}
 use Rattle.nz_spec.specs.Table.{Node}
-use Rattle.nz_spec.specs.Elaboration.{Operator, is_operator, operator_named, is_declared, listed, constant_named, definition_named, Definition, Scope}
+use Rattle.nz_spec.specs.Elaboration.{Operator, is_operator, operator_named, is_declared, constant_named, definition_named, Definition, Scope}
 use Rattle.nz_elaborate.specs.declared.typed.Typed.{Typed}
 use Rattle.nz_elaborate.specs.declared.names.Named as named
 use Rattle.nz_elaborate.specs.declared.names.Named.TheVariants as kinds
@@ -18,7 +18,7 @@ use Rattle.nz_elaborate.specs.Names.{named_by, bound_in, bound_by, first_of, is_
 use Rattle.nz_elaborate.specs.Faults.{joined, first_fault, clash_fault, term_in_found, IsFoundWithin, TellsNames}
 use Rattle.nz_elaborate.proofs.Growing.{longer}
 use Rattle.nz_elaborate.proofs.ScopeTerms.{bound_inner}
-use Rattle.nz_elaborate.proofs.Telling.{Leads, leads_next, leads_end, clash_names}
+use Rattle.nz_elaborate.proofs.Telling.{Leads, leads_next, clash_names}
 
 or_none : (a : Bool) → (a || false) ≡ a
 or_none true = refl
@@ -93,10 +93,6 @@ within_kept old new g entries frames w =
 pub within_here : (start old : List Node) (entries : List (List ℕ × named.Named)) (frames inner : List (List (List ℕ × Option Typed))) → Grows start old → inner ≡ frames
     → AreWithin start entries frames → AreWithin old entries inner
 within_here start old entries frames inner g e w = subst (AreWithin old entries) (sym e) (within_kept start old g entries frames w)
-
-pub bound_in_kept : (old new : List Node) → Grows old new → (frame : List (List ℕ × Option Typed)) → ((name : List ℕ) → IfSome (bound_in frame name) (IsBoundWithin old))
-    → (name : List ℕ) → IfSome (bound_in frame name) (IsBoundWithin new)
-bound_in_kept old new g frame w name = bound_kept old new g (bound_in frame name) (w name)
 
 one_within : (ns : List Node) (name other : List ℕ) (x : Option Typed) → IsBoundWithin ns x → IfSome (bound_in ((name, x) ∷ []) other) (IsBoundWithin ns)
 one_within ns name other x h = elim (bytes_eq other name) as (λ b. IfSome (cond b (Some x) None) (IsBoundWithin ns)) [ true ↦ h | false ↦ tt ]
@@ -202,9 +198,6 @@ has_next all rest more before after name x e inserted h other =
     h other ∙ ap (λ ns. is_bound before other || is_one_of ns other) e
     ∙ sym (or_grouped (is_bound before other) (bytes_eq other name) (is_one_of more other)) ∙ ap (λ b. b || is_one_of more other) (sym (bound_more before after name x inserted other))
 
-pub has_all : (all rest : List (List ℕ)) (frame : List (List ℕ × Option Typed)) → rest ≡ [] → HasNames all frame rest → (name : List ℕ) → is_bound frame name ≡ is_one_of all name
-has_all all rest frame e h name = sym (h name ∙ ap (λ ns. is_bound frame name || is_one_of ns name) e ∙ or_none (is_bound frame name))
-
 -- ---- Names that clash
 
 -- one of these names meets the test
@@ -270,8 +263,3 @@ bind_next f g new before after name x names op u c v d unknown clashing is told 
     leads_next (joined f (clash_fault b)) g new u c v later unknown clashing told made
     (leads_next f (clash_fault b) (joined f (clash_fault b)) false b (u || v) (c || later) unknown clashing (clash_names b) refl split)
 
-pub bind_end : (f : Option Fault) (frame : List (List ℕ × Option Typed)) (names : List (List ℕ)) (u c unknown clashing : Bool) → names ≡ [] → u ≡ false → c ≡ false
-    → BindLeads f frame names u c unknown clashing → TellsNames f unknown clashing
-bind_end f frame names u c unknown clashing e none fine leads =
-    leads_end f unknown clashing
-    (subst (λ ns. BindLeads f frame ns false false unknown clashing) e (subst (λ d. BindLeads f frame names false d unknown clashing) fine (subst (λ v. BindLeads f frame names v c unknown clashing) none leads)))

@@ -1,5 +1,5 @@
 -- Lemmas of a table that grows: what stood for a term stands for it still.
-use Rattle.std.proofs.Common.{List, [], ◌∷◌, ◌∙◌, arith}
+use Rattle.std.proofs.Common.{[], List, ◌∷◌, ◌∙◌, arith}
 use Rattle.nz_spec.specs.Term.{Term, Terms, no_terms, terms}
 use Rattle.nz_spec.specs.Table.{Node}
 use Rattle.nz_elaborate.specs.declared.typed.Typed.{Typed}

@@ -1,12 +1,11 @@
 -- Lemmas of faults in their order, and of what they tell of names.
-use Rattle.std.specs.Prelude.{⊤}
 use Rattle.std.proofs.Common.{◌≡◌, ◌||◌, Bool, true, false, Option, Some, None, Result, Ok, Err, IfOk, refl, sym, ap, ◌∙◌, subst}
 use Rattle.std.specs.Prelude.{IsErrOf}
 use Rattle.nz_elaborate.specs.declared.faults.Fault.{Fault}
 use Rattle.nz_elaborate.specs.declared.faults.Fault.TheVariants as faults
 use Rattle.nz_elaborate.specs.declared.faults.ElaborateError.{ElaborateError}
 use Rattle.nz_elaborate.specs.declared.faults.ElaborateError.TheVariants as told
-use Rattle.nz_elaborate.specs.Faults.{first, joined, first_fault, clash_fault, of_names, TellsNames, error_of, Answers, Settles}
+use Rattle.nz_elaborate.specs.Faults.{first, joined, first_fault, clash_fault, of_names, TellsNames, Answers, Settles}
 use Rattle.nz_elaborate.specs.Elaborate.{ClashesFirst, IsWellNamed}
 
 -- ---- Faults that are joined
@@ -121,12 +120,6 @@ settles_none f P Q e p = subst (λ g. Settles g P Q) (sym e) p
 pub settles_clash : (f : Option Fault) (c : Bool) (P Q : Type 0) → Settles f P Q → Settles (joined f (clash_fault c)) P Q
 settles_clash f true P Q before = settles_next f (Some faults.Clash) _ P P Q refl before (λ e p. p) (λ e p. cc)
 settles_clash f false P Q before = settles_next f None _ P P Q refl before (λ e p. p) (λ e p. cc)
-
-pub settles_as : (f : Option Fault) (P P' Q Q' : Type 0) → (P → P') → (Q → Q') → Settles f P Q → Settles f P' Q'
-settles_as None P P' Q Q' p q h = p h
-settles_as (Some faults.Unknown) P P' Q Q' p q h = tt
-settles_as (Some faults.Clash) P P' Q Q' p q h = tt
-settles_as (Some faults.Sort) P P' Q Q' p q h = q h
 
 -- ---- What an answer tells
 

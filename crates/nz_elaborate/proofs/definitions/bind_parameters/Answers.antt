@@ -1,10 +1,10 @@
-use Rattle.std.proofs.Common.{◌≡◌, ◌+◌, ◌∷◌, ◌||◌, List, false, map, drop, refl, ap, sym, ◌∙◌, subst}
+use Rattle.std.proofs.Common.{◌≡◌, ◌+◌, ◌∷◌, ◌||◌, List, false, map, drop, ap, ◌∙◌, subst}
 use Rattle.std.specs.List.{list_any}
 use Rattle.std.proofs.lemmas.List.{drop_all}
 use Rattle.nz_command.specs.Requests.{parameter_view, sort_view}
 use Rattle.nz_spec.specs.Request.{Parameter}
 use Rattle.nz_spec.specs.Scoping.{clash}
-use Rattle.nz_spec.specs.Script.{is_unknown_sort, parameter_names, parameter_sorts, sort_written}
+use Rattle.nz_spec.specs.Script.{is_unknown_sort, parameter_names, parameter_sorts}
 use Rattle.nz_term.specs.Constants.{sort_of}
 use Rattle.nz_elaborate.specs.Names.{named_by, is_operator_entry}
 use Rattle.nz_elaborate.specs.Faults.{fault_in, term_in_found}

@@ -1,4 +1,4 @@
-use Rattle.std.proofs.Common.{◌≡◌, ℕ, Bool, false, List, map, drop}
+use Rattle.std.proofs.Common.{◌≡◌, ℕ, false, List, map, drop}
 use Rattle.std.specs.Prelude.{◌||◌, IfSome, None}
 use Rattle.std.specs.List.{list_any}
 use Rattle.nz_command.specs.Requests.{parameter_view}

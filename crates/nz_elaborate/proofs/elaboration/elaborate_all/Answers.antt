@@ -1,19 +1,18 @@
-use Rattle.std.proofs.Common.{◌≡◌, List, Vec, Global, [], None, map, drop, ◌+◌, length, refl, ap, sym, ◌∙◌, subst}
-use Rattle.std.proofs.lemmas.List.{drop_all}
+use Rattle.std.proofs.Common.{[], ◌≡◌, Vec, Global, None, map, drop, ◌+◌, ap, sym, ◌∙◌, subst}
 use Rattle.std.proofs.lemmas.Result.{IfOk-weaker}
-use Rattle.nz_command.specs.View.{view, expressions_from}
+use Rattle.nz_command.specs.View.{expressions_from}
 use Rattle.nz_command.specs.Requests.{question_view}
 use Rattle.nz_spec.specs.Expression.{Expressions, expressions}
 use Rattle.nz_spec.specs.Scoping.{has_unknown, has_clash, have_unknown, have_clash}
 use Rattle.nz_spec.specs.Script.{asked_expressions}
-use Rattle.nz_spec.specs.Elaboration.{Scope, is_declared, term_of, terms_of}
+use Rattle.nz_spec.specs.Elaboration.{term_of, terms_of}
 use Rattle.nz_elaborate.specs.declared.typed.Typed.{Typed}
 use Rattle.nz_elaborate.specs.Names.{IsScope}
 use Rattle.nz_elaborate.specs.Elaborate.{StandAs, IsWellNamed, are_unknown_in}
-use Rattle.nz_elaborate.specs.Faults.{TellsNames, Settles, fault_in}
+use Rattle.nz_elaborate.specs.Faults.{fault_in}
 use Rattle.nz_elaborate.proofs.Growing.{grows_none, grows_more}
 use Rattle.nz_elaborate.proofs.Telling.{Leads, leads_none, leads_next, settles_none, told_unknown, told_clash, told_sort, told_fine, ok_each}
-use Rattle.nz_elaborate.proofs.Scoping.{within_of_scope, within_here, names_of_scope}
+use Rattle.nz_elaborate.proofs.Scoping.{within_of_scope, within_here}
 use Rattle.nz_elaborate.proofs.Elaborating.{question_term, names_here, seen_turn, terms_start, terms_next, scope_here}
 use Rattle.nz_elaborate.proofs.Answering.{asked_told, asked_settled}
 use Rattle.nz_elaborate.proofs.elaboration.elaborate_all.Goals as goal

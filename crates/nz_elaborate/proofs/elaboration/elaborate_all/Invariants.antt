@@ -1,8 +1,7 @@
-use Rattle.std.proofs.Common.{◌≡◌, ℕ, ◌<◌, Bool, List, [], None, length, map, drop, All}
-use Rattle.nz_command.specs.View.{view, expressions_from}
+use Rattle.std.proofs.Common.{[], ◌≡◌, ℕ, ◌<◌, Bool, List, None, map, drop}
+use Rattle.nz_command.specs.View.{expressions_from}
 use Rattle.nz_spec.specs.Scoping.{have_unknown, have_clash}
 use Rattle.nz_spec.specs.Elaboration.{Scope, terms_of}
-use Rattle.nz_elaborate.specs.declared.typed.Typed.{Typed}
 use Rattle.nz_elaborate.specs.Names.{IsScope, AreNames}
 use Rattle.nz_elaborate.specs.Typed.{Grows}
 use Rattle.nz_elaborate.specs.Faults.{Settles}

@@ -1,4 +1,4 @@
-use Rattle.std.proofs.Common.{◌<◌, length, get_or, ◌∙◌, subst, arith, ◌∷◌, []}
+use Rattle.std.proofs.Common.{[], ◌<◌, length, get_or, ◌∙◌, subst, arith, ◌∷◌}
 use Rattle.std.proofs.lemmas.List.Elements.{All-get_or}
 use Rattle.nz_spec.specs.Term.{apply}
 use Rattle.nz_spec.specs.Table.{term_in, terms_at}

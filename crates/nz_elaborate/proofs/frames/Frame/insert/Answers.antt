@@ -1,4 +1,4 @@
-use Rattle.std.proofs.Common.{◌≡◌, ◌++◌, ◌∷◌, [], None, map, option_copied, ◌∙◌, ap}
+use Rattle.std.proofs.Common.{[], ◌≡◌, ◌++◌, ◌∷◌, None, map, option_copied, ◌∙◌, ap}
 use Rattle.nz_spec.specs.Elaboration.{listed}
 use Rattle.nz_elaborate.specs.Names.{bound_in, frame_entry}
 use Rattle.nz_elaborate.proofs.Naming.{lookup-frame, insert_entry-frame, bound_there, bound_added, not_there}

@@ -1,4 +1,4 @@
-use Rattle.std.proofs.Common.{◌++◌, ◌∷◌, [], ◌∙◌, ap}
+use Rattle.std.proofs.Common.{[], ◌++◌, ◌∷◌, ◌∙◌, ap}
 use Rattle.nz_spec.specs.Elaboration.{listed}
 use Rattle.nz_elaborate.proofs.Naming.{insert_entry-listed}
 use Rattle.nz_elaborate.proofs.names.Names.insert.Goals as goal
