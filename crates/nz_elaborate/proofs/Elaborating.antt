@@ -1,5 +1,5 @@
 -- Lemmas of elaboration: terms one after another, bindings one after another, and what stands over them.
-use Rattle.std.proofs.Common.{[], ◌≡◌, ℕ, ◌<◌, ◌+◌, ◌||◌, Bool, true, false, List, ◌∷◌, ◌++◌, length, map, drop, get_or, Option, None, Some, option_map, option_and_then, bytes_eq, cond, if◌then◌else◌, All, arith, refl, subst, sym, ap, ◌∙◌, append_assoc, append-nil}
+use Rattle.std.proofs.Common.{[], ◌≡◌, ℕ, ◌<◌, ◌+◌, Bool, true, false, List, ◌∷◌, ◌++◌, length, map, drop, get_or, Option, None, Some, option_map, option_and_then, bytes_eq, cond, if◌then◌else◌, All, arith, refl, subst, sym, ap, ◌∙◌, append_assoc, append-nil}
 use Rattle.std.proofs.lemmas.List.{at_drop_more}
 use Rattle.std.proofs.lemmas.List.Elements.{All-nil, All-push, All-weaker}
 use Rattle.nz_command.specs.declared.expression.Local as local

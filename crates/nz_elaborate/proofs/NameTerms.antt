@@ -1,5 +1,5 @@
 -- Lemmas of what names stand for, alone and over arguments.
-use Rattle.std.proofs.Common.{[], ◌≡◌, ℕ, ◌<◌, ◌||◌, true, false, List, Option, None, Some, Result, Ok, Err, IfOk, option_and_then, is_some, refl, sym, ap, ◌∙◌, subst}
+use Rattle.std.proofs.Common.{[], ◌≡◌, ℕ, true, false, List, Option, None, Some, Result, Ok, Err, IfOk, option_and_then, is_some, refl, sym, ap, ◌∙◌, subst}
 use Rattle.std.specs.Prelude.{IsErrOf}
 use Rattle.nz_spec.specs.Term.{Constant, constant, Term, apply, Terms, no_terms}
 use Rattle.nz_spec.specs.Table.{Node}

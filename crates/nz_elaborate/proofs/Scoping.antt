@@ -1,10 +1,10 @@
 -- Lemmas of the names that are live and bound, and of names that clash.
-use Rattle.std.proofs.Common.{[], ◌≡◌, ℕ, ◌<◌, ◌≤◌, ◌||◌, Bool, true, false, List, ◌∷◌, ◌++◌, Option, Some, None, IfSome, bytes_eq, cond, is_some, refl, subst, sym, ap, ◌∙◌, arith}
+use Rattle.std.proofs.Common.{[], ◌≡◌, ℕ, ◌||◌, Bool, true, false, List, ◌∷◌, ◌++◌, Option, Some, None, IfSome, bytes_eq, cond, is_some, refl, subst, sym, ap, ◌∙◌, arith}
 use Rattle.std.proofs.lemmas.List.Folds.{list_any-append}
 use Rattle.std.specs.Cmp.Lexicographic.{nat_list_eq_equiv}
 use Rattle.nz_spec.specs.Parse.{is_one_of}
 use Rattle.nz_spec.specs.Scoping.{clash}
-use Rattle.nz_spec.specs.Term.{Constant, Term}
+use Rattle.nz_spec.specs.Term.{Constant}
 use Rattle.nz_spec.specs.Table.{Node}
 use Rattle.nz_spec.specs.Elaboration.{Operator, is_operator, operator_named, is_declared, constant_named, definition_named, Definition, Scope}
 use Rattle.nz_elaborate.specs.declared.typed.Typed.{Typed}
@@ -262,4 +262,3 @@ bind_next f g new before after name x names op u c v d unknown clashing is told 
     let split : Leads f (u || v) (b || (c || later)) unknown clashing = subst (λ p. Leads f (u || v) p unknown clashing) parts leads in
     leads_next (joined f (clash_fault b)) g new u c v later unknown clashing told made
     (leads_next f (clash_fault b) (joined f (clash_fault b)) false b (u || v) (c || later) unknown clashing (clash_names b) refl split)
-

@@ -5,7 +5,7 @@ use Rattle.nz_elaborate.specs.declared.faults.Fault.{Fault}
 use Rattle.nz_elaborate.specs.declared.faults.Fault.TheVariants as faults
 use Rattle.nz_elaborate.specs.declared.faults.ElaborateError.{ElaborateError}
 use Rattle.nz_elaborate.specs.declared.faults.ElaborateError.TheVariants as told
-use Rattle.nz_elaborate.specs.Faults.{first, joined, first_fault, clash_fault, of_names, TellsNames, Answers, Settles}
+use Rattle.nz_elaborate.specs.Faults.{joined, first_fault, clash_fault, of_names, TellsNames, Answers, Settles}
 use Rattle.nz_elaborate.specs.Elaborate.{ClashesFirst, IsWellNamed}
 
 -- ---- Faults that are joined

@@ -14,7 +14,6 @@ use Rattle.nz_term.specs.declared.heads.Sort as sort
 use Rattle.nz_elaborate.specs.declared.names.Definition.{Definition}
 use Rattle.nz_elaborate.specs.declared.faults.Found.{Found}
 use Rattle.nz_elaborate.specs.declared.faults.Found.TheVariants as found
-use Rattle.nz_elaborate.specs.Typed.{IsTyped}
 use Rattle.nz_elaborate.specs.Names.{AreBoundAs}
 use Rattle.nz_elaborate.specs.Elaborate.{StandsAs}
 

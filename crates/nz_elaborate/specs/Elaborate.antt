@@ -1,10 +1,10 @@
 -- What elaboration makes of terms that are written: terms in the table.
-use Rattle.std.specs.Prelude.{◌≡◌, ℕ, ◌<◌, Bool, true, false, List, [], length, map, All, Option, Some, option_and_then, ⊤}
+use Rattle.std.specs.Prelude.{◌≡◌, ℕ, ◌<◌, Bool, true, false, List, [], length, All, Option, Some, option_and_then}
 use Rattle.nz_spec.specs.Expression.{Expression, Expressions, Locals}
 use Rattle.nz_spec.specs.Term.{Sort, Head, Term, apply, Terms, no_terms}
 use Rattle.nz_spec.specs.Normal.{normal_of, normals_of}
 use Rattle.nz_spec.specs.Table.{Node, term_in, terms_at}
-use Rattle.nz_spec.specs.Elaboration.{Scope, is_declared, terms_of, application, bindings_of, all_placed, listed}
+use Rattle.nz_spec.specs.Elaboration.{Scope, is_declared, terms_of, application, bindings_of, all_placed}
 use Rattle.nz_spec.specs.Scoping.{has_unknown, have_unknown}
 use Rattle.nz_elaborate.specs.declared.typed.Typed.{Typed}
 use Rattle.nz_elaborate.specs.Typed.{IsTyped, AreTyped}

@@ -2,7 +2,6 @@
 use Rattle.std.specs.Prelude.{◌≡◌, ℕ, ◌<◌, Bool, true, false, List, [], ◌∷◌, length, map, Option, Some, None, IfSome, is_some, ⊤}
 use Rattle.std.specs.Borrow.{Bor}
 use Rattle.std.specs.List.{AllByRecursion}
-use Rattle.nz_spec.specs.Term as spec
 use Rattle.nz_spec.specs.Term.{Constant, constant, Term, apply, no_terms}
 use Rattle.nz_spec.specs.Table.{Node}
 use Rattle.nz_spec.specs.Parse.{is_one_of}

@@ -1,4 +1,4 @@
-use Rattle.std.proofs.Common.{[], ◌≡◌, map, List}
+use Rattle.std.proofs.Common.{[], map, List}
 use Rattle.std.specs.List.{list_any}
 use Rattle.nz_command.specs.View.{view}
 use Rattle.nz_command.specs.Requests.{parameter_view, sort_view}

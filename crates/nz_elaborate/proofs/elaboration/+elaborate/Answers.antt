@@ -1,4 +1,4 @@
-use Rattle.std.proofs.Common.{◌≡◌, ◌<◌, ◌≤◌, ◌+◌, ◌||◌, ◌++◌, ◌∷◌, None, drop, refl, ap, sym, ◌∙◌, subst, arith, rules}
+use Rattle.std.proofs.Common.{◌≡◌, ◌<◌, ◌+◌, ◌||◌, ◌++◌, None, drop, refl, ap, sym, ◌∙◌, subst, arith, rules}
 use Rattle.std.proofs.lemmas.List.{drop_all}
 use Rattle.nz_command.specs.declared.expression.Expression.TheViews.{the_lemmas}
 use Rattle.nz_command.specs.declared.expression.Expression.TheFolds.{fold-roll-Expression, fold_out-Expression, fold-roll-Local, fold_out-Local}
@@ -8,7 +8,7 @@ use Rattle.nz_spec.specs.Scoping.{have_unknown, have_clash, has_unknown, has_cla
 use Rattle.nz_spec.specs.Elaboration.{term_of, terms_of, bindings_of}
 use Rattle.nz_elaborate.specs.Names.{named_by, is_operator_entry}
 use Rattle.nz_elaborate.specs.Elaborate.{application_of, StandAs}
-use Rattle.nz_elaborate.specs.Faults.{fault_in, term_in_found, after, TellsNames, Settles}
+use Rattle.nz_elaborate.specs.Faults.{fault_in, term_in_found, TellsNames, Settles}
 use Rattle.nz_elaborate.proofs.Growing.{grows_none, grows_more}
 use Rattle.nz_elaborate.proofs.Sizes.{expression_size, expressions_size, locals_size, item_smaller, local_smaller}
 use Rattle.nz_elaborate.proofs.Telling.{Leads, leads_next, leads_none, settles_none, tells_both, tells_use}
@@ -63,7 +63,7 @@ use_term-returns-clause-names t c = λ is_live bound k.
     (let all = c.in_ok-all.ensures in
     let name = c.in_ok-found.ensures.names is_live bound (names_here c.args.names.now c.args.frames.now.items c.expression_terms.new.frames.items is_live bound all.frames k) in
     let told = tells_use c.in_ok-all.all.fault (fault_in c.in_ok-found.found) (have_unknown is_live bound (seen c.args.arguments.now)) (have_clash (seen c.args.arguments.now))
-        (is_unknown is_live bound c.args.name.now) (all.names is_live bound k) name in
+    (is_unknown is_live bound c.args.name.now) (all.names is_live bound k) name in
     subst (λ f. TellsNames f (is_unknown is_live bound c.args.name.now || have_unknown is_live bound (seen c.args.arguments.now)) (have_clash (seen c.args.arguments.now)))
     (sym (ap fault_in c.after.ensures.after ∙ fault_after c.in_ok-all.all.fault c.in_ok-found.found)) told)
 
@@ -72,7 +72,7 @@ use_term-returns-clause-found t c = λ sc s.
     (let all = c.in_ok-all.ensures in
     let here = scope_here c.args.terms.now c.expression_terms.new.terms c.args.names.now c.args.frames.now.items c.expression_terms.new.frames.items sc all.grows all.frames s in
     let given = subst (λ l. Settles c.in_ok-all.all.fault (StandAs (terms_of sc (seen c.args.arguments.now)) c.expression_terms.new.terms l) (terms_of sc (seen c.args.arguments.now) ≡ None))
-        (sym c.as_slice.ensures.value) (all.found sc s) in
+    (sym c.as_slice.ensures.value) (all.found sc s) in
     found_is c.apply_name.new.terms _ _ (application_of sc c.args.name.now (seen c.args.arguments.now)) c.after.ensures.after
     (use_found c.expression_terms.new.terms c.apply_name.new.terms c.in_ok-all.all.fault c.in_ok-found.found sc c.args.name.now (seen c.args.arguments.now) c.as_slice.result.now given
     (c.in_ok-found.ensures.found sc here)))
@@ -96,9 +96,9 @@ let_term-returns-clause-names t c = λ is_live bound k.
     let ls = seen_locals c.args.locals.now in
     let body = view c.args.body.now in
     let inner = names_push c.args.names.now c.args.frames.now.items c.push.new.self.items c.in_ok-frame.field-0.frame is_live bound (local_names ls)
-        (pushed c.bind_all.new.frames.items c.args.frames.now.items c.push.new.self.items c.in_ok-frame.field-0.frame outside.frames c.in_ok-push.ensures.items) k outside.binds in
+    (pushed c.bind_all.new.frames.items c.args.frames.now.items c.push.new.self.items c.in_ok-frame.field-0.frame outside.frames c.in_ok-push.ensures.items) k outside.binds in
     let told = tells_both c.in_ok-frame.field-0.fault (fault_in c.in_ok-found.found) (locals_have_unknown is_live bound ls) (clash (local_names ls) || locals_have_clash ls)
-        (has_unknown is_live (local_names ls ++ bound) body) (has_clash body) (outside.names is_live bound k) (c.in_ok-found.ensures.names is_live (local_names ls ++ bound) inner) in
+    (has_unknown is_live (local_names ls ++ bound) body) (has_clash body) (outside.names is_live bound k) (c.in_ok-found.ensures.names is_live (local_names ls ++ bound) inner) in
     subst (λ f. TellsNames f (has_unknown is_live bound (written_let ls body)) (has_clash (written_let ls body)))
     (sym (ap fault_in c.after.ensures.after ∙ fault_after c.in_ok-frame.field-0.fault c.in_ok-found.found)) told)
 

@@ -1,4 +1,4 @@
-use Rattle.std.proofs.Common.{[], ◌≡◌, sym, subst}
+use Rattle.std.proofs.Common.{[], sym, subst}
 use Rattle.nz_command.specs.View.{view}
 use Rattle.nz_spec.specs.Scoping.{has_clash}
 use Rattle.nz_spec.specs.Elaboration.{is_declared, term_of}

@@ -1,4 +1,4 @@
-use Rattle.std.proofs.Common.{[], ◌≡◌, ℕ, ◌<◌, Bool, List, None, map, drop}
+use Rattle.std.proofs.Common.{[], ◌≡◌, ℕ, Bool, List, None, map, drop}
 use Rattle.nz_command.specs.View.{expressions_from}
 use Rattle.nz_spec.specs.Scoping.{have_unknown, have_clash}
 use Rattle.nz_spec.specs.Elaboration.{Scope, terms_of}

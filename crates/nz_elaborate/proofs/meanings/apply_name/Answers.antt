@@ -1,4 +1,4 @@
-use Rattle.std.proofs.Common.{◌≡◌, None, Some, is_some, false, sym, ap, ◌∙◌}
+use Rattle.std.proofs.Common.{◌≡◌, None, Some, sym, ap, ◌∙◌}
 use Rattle.std.proofs.lemmas.Result.{IfOk-weaker}
 use Rattle.nz_elaborate.specs.declared.names.Named.TheVariants as kinds
 use Rattle.nz_elaborate.specs.Names.{named_by, bound_by}
