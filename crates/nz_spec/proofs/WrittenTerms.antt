@@ -3,7 +3,7 @@ use Rattle.std.proofs.Common.{ℕ, Bool, true, false, List, [], ◌∷◌, ◌++
 use Rattle.std.specs.Prelude.{option_and_then, is_some}
 use Rattle.std.specs.List.{AllByRecursion}
 use Rattle.nz_spec.specs.Expression.{Numeric, written_integer, written_decimal, Expression, written_number, written_name, written_use, written_let, Expressions, no_expressions, expressions, Locals, no_locals, locals}
-use Rattle.nz_spec.specs.Term.{Constant, constant, integer, decimal_number, Term, apply, Terms, no_terms}
+use Rattle.nz_spec.specs.Term.{Constant, constant, integer, decimal_number, head_fits, Term, apply, Terms, no_terms}
 use Rattle.nz_spec.specs.Elaboration.{Operator, listed, operator_named, applied, Definition, terms_onto, expansion, Scope, constant_named, definition_named, binding, name_term, application, number_term, bound_onto, term_of, terms_of, bindings_of}
 use Rattle.nz_lists.proofs.Options.{IfFound, and_then_found, if_found}
 use Rattle.nz_spec.proofs.Placed.{AllAre}
@@ -70,9 +70,13 @@ module _ (P : Term → Type 0) (Q : Constant → Type 0) (R : Definition → Typ
         application_by (is_some (listed sc.bound name)) (is_some (constant_named sc.constants name)) (operator_named name) (definition_named sc.definitions name) ts
         (definition_found sc.definitions name g.definitions) h
 
+    fitting_found : (b : Bool) (t : Term) → P t → IfFound P (if b then Some t else None)
+    fitting_found true t h = h
+    fitting_found false t h = tt
+
     number_found : (n : Option Numeric) → IfFound P (number_term n)
-    number_found (Some (written_integer n)) = k.numerals n
-    number_found (Some (written_decimal n places)) = k.decimals n places
+    number_found (Some (written_integer n)) = fitting_found (head_fits (integer n)) (apply (integer n) no_terms) (k.numerals n)
+    number_found (Some (written_decimal n places)) = fitting_found (head_fits (decimal_number n places)) (apply (decimal_number n places) no_terms) (k.decimals n places)
     number_found None = tt
 
     both_onto : (o : Option Term) (r : Option Terms) → IfFound P o → IfFound (AllAre P) r → IfFound (AllAre P) (terms_onto o r)

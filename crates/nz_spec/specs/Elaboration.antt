@@ -319,9 +319,10 @@ application sc name ts =
       | None ↦ (if is_some (constant_named sc.constants name) then None else option_and_then (λ d. expansion d ts) (definition_named sc.definitions name))
     ])
 
--- the term of a number, where there is one
+-- the term of a number, where it is within the bounds on numbers
 abbrev pub number_term : Option Numeric → Option Term
-number_term n = option_map (λ m. apply (numeric_head m) no_terms) n
+number_term (Some n) = if head_fits (numeric_head n) then Some (apply (numeric_head n) no_terms) else None
+number_term None = None
 
 -- a name with what it stands for, before others
 abbrev pub bound_onto : List ℕ → Option Term → Option (List (List ℕ × Term)) → Option (List (List ℕ × Term))
