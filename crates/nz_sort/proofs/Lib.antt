@@ -1,12 +1,8 @@
 pub mod Accepting
 pub mod AskedValues
-pub mod Asking
 pub mod Asserting
 pub mod Declaring
 pub mod Defining
-pub mod Digits
-pub mod Forming
 pub mod Living
+pub mod Naming
 pub mod Ruling
-pub mod Sizes
-pub mod Zeros

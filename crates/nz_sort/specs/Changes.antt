@@ -56,6 +56,9 @@ pub record Shows (qs : List Question) (outcome : Outcome) (ns : List Node) (xs :
 
 -- ---- What is added
 
+abbrev pub constant_of : List ℕ → Sort → Constant
+constant_of name sort = record { name = name; sort = sort }
+
 -- what stands with a constant more
 abbrev pub with_constant : Standing → List ℕ → Typed → Standing
 with_constant before name term =

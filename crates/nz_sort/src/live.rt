@@ -1,5 +1,6 @@
 //! The live state: what becomes of a command, and what it leaves.
 ghost use Rattle.std.specs.Prelude.{◌≡◌, All, ◌<◌, ◌+◌, ℕ, List, [], length, map, take, OnOk, OnErr, IfOk, IfErr, IfSome, Some, None, ◌||◌};
+ghost use Rattle.std.specs.List.{list_any};
 ghost use Rattle.nz_sexpr.specs.View.{view};
 ghost use Rattle.nz_spec.specs.Bounds.{has_token, is_long_decimal};
 ghost use Rattle.nz_spec.specs.Table.{Node, term_in};
@@ -10,7 +11,7 @@ ghost use Rattle.nz_spec.specs.Parse.{request_of};
 ghost use Rattle.nz_spec.specs.Limits.{passes_limit as beyond_limit};
 ghost use Rattle.nz_spec.specs.Live.{State, pushed_levels, start};
 ghost use Rattle.nz_spec.specs.Command.{accepted, refused, declare_const};
-ghost use Rattle.nz_spec.specs.Script.{outcome_of, outcome_requested, outcome_by, declaration_of, definition_of, assertion_of, values_asked, all_linear, is_live_name, constant_declared};
+ghost use Rattle.nz_spec.specs.Script.{outcome_of, outcome_requested, outcome_by, declaration_of, definition_of, assertion_of, values_asked, all_linear, is_unknown_sort as is_unknown};
 ghost use Rattle.nz_spec.specs.TermList.{IsTermList};
 ghost use Rattle.nz_term.specs.Constants.{sort_of};
 ghost use Rattle.nz_command.specs.View.{view as written};
@@ -18,9 +19,9 @@ ghost use Rattle.nz_command.specs.Requests.{request, sort_view, parameter_view, 
 ghost use Rattle.nz_elaborate.specs.Names.{named_by};
 ghost use Rattle.nz_elaborate.specs.Typed.{Grows, AreTyped};
 ghost use Rattle.nz_sort.specs.Items.{table_numbers};
-ghost use Rattle.nz_sort.specs.Live.{IsLive, IsCarriedOut, IfSkipped, standing_of};
-ghost use Rattle.nz_sort.specs.Acts.{asked, error_of};
-ghost use Rattle.nz_sort.specs.Changes.{Comes, Defines, Asserts, Shows, HasAdded, with_constant, with_definition, with_assertion};
+ghost use Rattle.nz_sort.specs.Live.{IsLive, IsCarriedOut, IfSkipped, standing_of, check, unsupported};
+ghost use Rattle.nz_sort.specs.Acts.{asked, error_of, refusal_by};
+ghost use Rattle.nz_sort.specs.Changes.{Comes, Defines, Asserts, Shows, HasAdded, constant_of, with_constant, with_definition, with_assertion};
 
 use crate::acts::{Act, info_act, setting_act};
 use crate::items::{Accepted, Goal, Wish};
@@ -232,7 +233,7 @@ impl Live {
 
     /// Checks are over Bool alone, yet.
     fn check_act(&self) -> Act
-        ensures check { result ≡ (if self.now.holds_numbers then Act.Unsupported else Act.Check) }
+        ensures check { asked result ≡ (if self.now.holds_numbers then unsupported else check) }
     {
         if self.holds_numbers {
             Act::Unsupported
@@ -271,7 +272,7 @@ impl Live {
         sort: &WrittenSort,
     ) -> Result<Sort, Refusal>
         ensures fresh { OnOk result (named_by self.now.names name.now ≡ None) }
-        ensures accepted { IfOk result (λ found. (ns : List Node) (s : State) → IsLive ns self.now s → declaration_of s name.now (map sort_view sorts.now) (sort_view sort.now) ≡ accepted (declare_const (constant_declared name.now (sort_of found)))) }
+        ensures accepted { IfOk result (λ found. (ns : List Node) (s : State) → IsLive ns self.now s → declaration_of s name.now (map sort_view sorts.now) (sort_view sort.now) ≡ accepted (declare_const (constant_of name.now (sort_of found)))) }
         ensures refused { IfErr result (λ refusal. IfSome (error_of refusal) (λ n. (ns : List Node) (s : State) → IsLive ns self.now s → declaration_of s name.now (map sort_view sorts.now) (sort_view sort.now) ≡ refused n)) }
     {
         if has_unknown_sort(sorts) || is_unknown_sort(sort) {
