@@ -1,6 +1,8 @@
 -- Definitions: their parameters and their bodies.
 use Rattle.std.specs.Prelude.{◌≡◌, ℕ, ◌||◌, Bool, List, [], ◌∷◌, ◌++◌, map, Option, Some, None, option_map, option_and_then}
 use Rattle.std.specs.List.{list_any}
+use Rattle.nz_command.specs.declared.command.Parameter as code
+use Rattle.nz_command.specs.Requests.{parameter_view}
 use Rattle.nz_spec.specs.Expression.{Expression}
 use Rattle.nz_spec.specs.Request.{Parameter, WrittenSort}
 use Rattle.nz_spec.specs.Term.{Sort, parameter, Term, apply, no_terms}
@@ -16,6 +18,10 @@ use Rattle.nz_elaborate.specs.declared.faults.Found.{Found}
 use Rattle.nz_elaborate.specs.declared.faults.Found.TheVariants as found
 use Rattle.nz_elaborate.specs.Names.{AreBoundAs}
 use Rattle.nz_elaborate.specs.Elaborate.{StandsAs}
+
+-- the parameters, as they are written
+abbrev pub parameters_of : List code.Parameter → List Parameter
+parameters_of parameters = map parameter_view parameters
 
 -- the scope of a body, in which the parameters alone are bound
 abbrev pub under_parameters : Scope → List (List ℕ) → List Sort → Scope

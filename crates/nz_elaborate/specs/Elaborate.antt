@@ -1,11 +1,14 @@
 -- What elaboration makes of terms that are written: terms in the table.
-use Rattle.std.specs.Prelude.{◌≡◌, ℕ, ◌<◌, Bool, true, false, List, [], length, All, Option, Some, option_and_then}
+use Rattle.std.specs.Prelude.{◌≡◌, ℕ, ◌<◌, Bool, true, false, List, [], length, map, All, Option, Some, option_and_then}
 use Rattle.nz_spec.specs.Expression.{Expression, Expressions, Locals}
 use Rattle.nz_spec.specs.Term.{Sort, Head, Term, apply, Terms, no_terms}
 use Rattle.nz_spec.specs.Normal.{normal_of, normals_of}
 use Rattle.nz_spec.specs.Table.{Node, term_in, terms_at}
 use Rattle.nz_spec.specs.Elaboration.{Scope, is_declared, terms_of, application, bindings_of, all_placed}
 use Rattle.nz_spec.specs.Scoping.{has_unknown, have_unknown}
+use Rattle.nz_spec.specs.Script.{asked_expressions}
+use Rattle.nz_command.specs.declared.command.Question.{Question}
+use Rattle.nz_command.specs.Requests.{question_view}
 use Rattle.nz_elaborate.specs.declared.typed.Typed.{Typed}
 use Rattle.nz_elaborate.specs.Typed.{IsTyped, AreTyped}
 use Rattle.nz_elaborate.specs.Names.{AreBoundAs}
@@ -48,6 +51,10 @@ IsNormalLeaf h = normal_of (apply h no_terms) ≡ apply h no_terms
 -- a name isn't in scope, where none is bound
 abbrev pub is_unknown_in : Scope → Expression → Bool
 is_unknown_in sc e = has_unknown (is_declared sc.constants sc.definitions) [] e
+
+-- the terms that are asked for
+abbrev pub asked : List Question → Expressions
+asked questions = asked_expressions (map question_view questions)
 
 abbrev pub are_unknown_in : Scope → Expressions → Bool
 are_unknown_in sc es = have_unknown (is_declared sc.constants sc.definitions) [] es

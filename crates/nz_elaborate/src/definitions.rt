@@ -2,7 +2,7 @@
 ghost use Rattle.std.specs.Prelude.{◌≡◌, ℕ, ◌<◌, ◌||◌, Bool, true, false, List, [], ◌∷◌, length, map, Option, None, Some, IfOk, IfErr, IfSome, IsErrOf, OnOk, is_some, option_and_then};
 ghost use Rattle.std.specs.List.{list_any};
 ghost use Rattle.nz_command.specs.View.{view};
-ghost use Rattle.nz_command.specs.Requests.{sort_view, parameter_view};
+ghost use Rattle.nz_command.specs.Requests.{sort_view};
 ghost use Rattle.nz_spec.specs.Term as spec;
 ghost use Rattle.nz_spec.specs.Parse.{is_one_of};
 ghost use Rattle.nz_spec.specs.Script.{is_unknown_sort as is_unknown, parameter_names, parameter_sorts, sort_written, sorts_written};
@@ -13,7 +13,7 @@ ghost use Rattle.nz_elaborate.specs.Names.{IsScope, IsBoundWithin, HasOperators,
 ghost use Rattle.nz_elaborate.specs.Typed.{Grows};
 ghost use Rattle.nz_elaborate.specs.Elaborate.{ClashesFirst, IsWellNamed, StandsAs};
 ghost use Rattle.nz_elaborate.specs.Faults.{Answers, Settles, TellsNames, IsFound, IsFoundWithin, clash_fault, fault_in, joined as joined_by, term_in_found};
-ghost use Rattle.nz_elaborate.specs.Definitions.{definition_unknown, definition_clash, definition_term, parameter_at, placed_at, sorts_with, HasBody, BindsParameters};
+ghost use Rattle.nz_elaborate.specs.Definitions.{definition_unknown, definition_clash, definition_term, parameters_of, parameter_at, placed_at, sorts_with, HasBody, BindsParameters};
 
 use crate::elaboration::expression_term;
 use crate::faults::{ElaborateError, Fault, Found};
@@ -45,10 +45,10 @@ pub fn elaborate_body<'a>(
 ) -> Result<Definition, ElaborateError>
     requires scope { (sc : Scope) × IsScope terms.old names.now [] sc }
     ensures grows { Grows terms.old terms.new }
-    ensures unknown { IsErrOf result ElaborateError.Unknown → (sc : Scope) → IsScope terms.old names.now [] sc → definition_unknown sc (map parameter_view parameters.now) (sort_view sort.now) (view body.now) ≡ true }
-    ensures clash { IsErrOf result ElaborateError.Clash → (sc : Scope) → IsScope terms.old names.now [] sc → ClashesFirst (definition_unknown sc (map parameter_view parameters.now) (sort_view sort.now) (view body.now)) (definition_clash (map parameter_view parameters.now) (view body.now)) }
-    ensures found { IfOk result (λ d. (sc : Scope) → IsScope terms.old names.now [] sc → IsWellNamed (definition_unknown sc (map parameter_view parameters.now) (sort_view sort.now) (view body.now)) (definition_clash (map parameter_view parameters.now) (view body.now)) (HasBody sc (map parameter_view parameters.now) (sort_view sort.now) (view body.now) terms.new d)) }
-    ensures refused { IsErrOf result ElaborateError.Sort → (sc : Scope) → IsScope terms.old names.now [] sc → IsWellNamed (definition_unknown sc (map parameter_view parameters.now) (sort_view sort.now) (view body.now)) (definition_clash (map parameter_view parameters.now) (view body.now)) (definition_term sc (map parameter_view parameters.now) (sort_view sort.now) (view body.now) ≡ None) }
+    ensures unknown { IsErrOf result ElaborateError.Unknown → (sc : Scope) → IsScope terms.old names.now [] sc → definition_unknown sc (parameters_of parameters.now) (sort_view sort.now) (view body.now) ≡ true }
+    ensures clash { IsErrOf result ElaborateError.Clash → (sc : Scope) → IsScope terms.old names.now [] sc → ClashesFirst (definition_unknown sc (parameters_of parameters.now) (sort_view sort.now) (view body.now)) (definition_clash (parameters_of parameters.now) (view body.now)) }
+    ensures found { IfOk result (λ d. (sc : Scope) → IsScope terms.old names.now [] sc → IsWellNamed (definition_unknown sc (parameters_of parameters.now) (sort_view sort.now) (view body.now)) (definition_clash (parameters_of parameters.now) (view body.now)) (HasBody sc (parameters_of parameters.now) (sort_view sort.now) (view body.now) terms.new d)) }
+    ensures refused { IsErrOf result ElaborateError.Sort → (sc : Scope) → IsScope terms.old names.now [] sc → IsWellNamed (definition_unknown sc (parameters_of parameters.now) (sort_view sort.now) (view body.now)) (definition_clash (parameters_of parameters.now) (view body.now)) (definition_term sc (parameters_of parameters.now) (sort_view sort.now) (view body.now) ≡ None) }
 {
     let Parameters { bound, sorts } = bind_parameters(alloc, names, terms, parameters)?;
     let Bound { frame, fault } = bound;
@@ -133,9 +133,9 @@ fn bind_parameters<'a>(
     requires operators { HasOperators names.now }
     ensures grows { Grows terms.old terms.new }
     ensures within { IfOk result (λ ps. (name : List ℕ) → IfSome (bound_in ps.bound.frame name) (IsBoundWithin terms.new)) }
-    ensures binds { IfOk result (λ ps. (name : List ℕ) → is_some (bound_in ps.bound.frame name) ≡ is_one_of (parameter_names (map parameter_view parameters.now)) name) }
-    ensures names { IfOk result (λ ps. TellsNames ps.bound.fault (list_any is_unknown (parameter_sorts (map parameter_view parameters.now))) (clash (parameter_names (map parameter_view parameters.now)))) }
-    ensures found { IfOk result (λ ps. Settles ps.bound.fault (BindsParameters (map parameter_view parameters.now) (map sort_of ps.sorts.items) terms.new ps.bound.frame) (sorts_written (parameter_sorts (map parameter_view parameters.now)) ≡ None)) }
+    ensures binds { IfOk result (λ ps. (name : List ℕ) → is_some (bound_in ps.bound.frame name) ≡ is_one_of (parameter_names (parameters_of parameters.now)) name) }
+    ensures names { IfOk result (λ ps. TellsNames ps.bound.fault (list_any is_unknown (parameter_sorts (parameters_of parameters.now))) (clash (parameter_names (parameters_of parameters.now)))) }
+    ensures found { IfOk result (λ ps. Settles ps.bound.fault (BindsParameters (parameters_of parameters.now) (map sort_of ps.sorts.items) terms.new ps.bound.frame) (sorts_written (parameter_sorts (parameters_of parameters.now)) ≡ None)) }
 {
     let mut bound = Parameters {
         bound: Bound::new(alloc),

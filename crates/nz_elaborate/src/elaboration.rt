@@ -2,20 +2,18 @@
 //!
 //! The pass goes on behind a fault, since a name further on may break an earlier rule. A name whose own term has a fault is bound all the
 //! same, so that its uses are told from names that aren't in scope.
-ghost use Rattle.std.specs.Prelude.{◌≡◌, ℕ, ◌||◌, ◌<◌, All, Bool, true, false, List, [], ◌∷◌, ◌++◌, length, map, Option, None, Some, IfOk, OnOk, IfSome, IsErrOf, option_map, is_some, if◌then◌else◌};
+ghost use Rattle.std.specs.Prelude.{◌≡◌, ℕ, ◌||◌, ◌<◌, All, Bool, true, false, List, [], length, Option, None, Some, IfOk, OnOk, IfSome, IsErrOf, option_map, is_some, if◌then◌else◌};
 ghost use Rattle.nz_command.specs.View.{number_view, view, seen, seen_locals};
-ghost use Rattle.nz_command.specs.Requests.{question_view};
 ghost use Rattle.nz_spec.specs.Expression.{numeric_head, written_let, local_names};
 ghost use Rattle.nz_spec.specs.Term as spec;
 ghost use Rattle.nz_spec.specs.Term.{head_fits};
 ghost use Rattle.nz_spec.specs.Parse.{is_one_of};
 ghost use Rattle.nz_spec.specs.Scoping.{is_unknown, has_unknown, have_unknown, locals_have_unknown, clash, has_clash, have_clash, locals_have_clash};
-ghost use Rattle.nz_spec.specs.Script.{asked_expressions};
 ghost use Rattle.nz_spec.specs.Elaboration.{Scope, term_of, terms_of, number_term as spec_number_term, bindings_of};
 ghost use Rattle.nz_term.specs.Heads.{head_of};
 ghost use Rattle.nz_elaborate.specs.Names.{IsScope, AreWithin, AreNames, IsBoundWithin, bound_in};
 ghost use Rattle.nz_elaborate.specs.Typed.{Grows, IsOperator};
-ghost use Rattle.nz_elaborate.specs.Elaborate.{StandsAs, StandAs, Binds, ClashesFirst, IsWellNamed, is_unknown_in, are_unknown_in, application_of, IsNormalLeaf};
+ghost use Rattle.nz_elaborate.specs.Elaborate.{StandsAs, StandAs, Binds, ClashesFirst, IsWellNamed, is_unknown_in, are_unknown_in, asked, application_of, IsNormalLeaf};
 ghost use Rattle.nz_elaborate.specs.Faults.{fault_in, TellsNames, IsFoundWithin, IsFound, Settles};
 
 use crate::faults::{ElaborateError, Fault, Found, FoundAll};
@@ -66,10 +64,10 @@ pub fn elaborate_all(
 ) -> Result<Vec<Typed>, ElaborateError>
     requires scope { (sc : Scope) × IsScope terms.old names.now [] sc }
     ensures grows { Grows terms.old terms.new }
-    ensures unknown { IsErrOf result ElaborateError.Unknown → (sc : Scope) → IsScope terms.old names.now [] sc → are_unknown_in sc (asked_expressions (map question_view questions.now)) ≡ true }
-    ensures clash { IsErrOf result ElaborateError.Clash → (sc : Scope) → IsScope terms.old names.now [] sc → ClashesFirst (are_unknown_in sc (asked_expressions (map question_view questions.now))) (have_clash (asked_expressions (map question_view questions.now))) }
-    ensures found { IfOk result (λ xs. (sc : Scope) → IsScope terms.old names.now [] sc → IsWellNamed (are_unknown_in sc (asked_expressions (map question_view questions.now))) (have_clash (asked_expressions (map question_view questions.now))) (StandAs (terms_of sc (asked_expressions (map question_view questions.now))) terms.new xs.items)) }
-    ensures refused { IsErrOf result ElaborateError.Sort → (sc : Scope) → IsScope terms.old names.now [] sc → IsWellNamed (are_unknown_in sc (asked_expressions (map question_view questions.now))) (have_clash (asked_expressions (map question_view questions.now))) (terms_of sc (asked_expressions (map question_view questions.now)) ≡ None) }
+    ensures unknown { IsErrOf result ElaborateError.Unknown → (sc : Scope) → IsScope terms.old names.now [] sc → are_unknown_in sc (asked questions.now) ≡ true }
+    ensures clash { IsErrOf result ElaborateError.Clash → (sc : Scope) → IsScope terms.old names.now [] sc → ClashesFirst (are_unknown_in sc (asked questions.now)) (have_clash (asked questions.now)) }
+    ensures found { IfOk result (λ xs. (sc : Scope) → IsScope terms.old names.now [] sc → IsWellNamed (are_unknown_in sc (asked questions.now)) (have_clash (asked questions.now)) (StandAs (terms_of sc (asked questions.now)) terms.new xs.items)) }
+    ensures refused { IsErrOf result ElaborateError.Sort → (sc : Scope) → IsScope terms.old names.now [] sc → IsWellNamed (are_unknown_in sc (asked questions.now)) (have_clash (asked questions.now)) (terms_of sc (asked questions.now) ≡ None) }
 {
     let mut frames = Vec::new(alloc);
     let mut all = FoundAll::with_capacity(alloc, questions.len())?;
@@ -80,7 +78,11 @@ pub fn elaborate_all(
     all.settled()
 }
 
-/// What is found of a term, where the names of the frames are bound around it. The answer is `Memory` or no error.
+/// What is found of a term, where the names of the frames are bound around it.
+///
+/// # Errors
+///
+/// `Memory`. The frames are then of no use.
 #[cycle(elaborate)]
 pub(crate) fn expression_term<'a>(
     alloc: Global,

@@ -1,5 +1,5 @@
 //! The live names: those of the operators, which are declared from the start, and those of the constants and definitions.
-ghost use Rattle.std.specs.Prelude.{◌≡◌, List, [], ◌∷◌, ◌++◌, None, Some, IfOk, IfSome, IfNone, OnOk, OnErr, map};
+ghost use Rattle.std.specs.Prelude.{◌≡◌, List, [], ◌∷◌, ◌++◌, None, Some, IfOk, IfSome, IfNone, OnOk, OnErr};
 ghost use Rattle.nz_spec.specs.Table.{Node};
 ghost use Rattle.nz_elaborate.specs.Names.{named_by, is_operator_entry, nothing_declared, IsScope};
 

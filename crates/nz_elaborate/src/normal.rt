@@ -1,5 +1,5 @@
 //! Normal terms, made in the table from the numbers of their arguments: what is chained, pairwise or grouped is written out.
-ghost use Rattle.std.specs.Prelude.{◌≡◌, ◌<◌, length, All, IfOk, OnOk, IsTrue, true};
+ghost use Rattle.std.specs.Prelude.{◌≡◌, ◌<◌, length, All, IfOk, OnOk, IsTrue};
 ghost use Rattle.nz_spec.specs.Term.{Terms as Arguments, apply, conjunction, head_fits};
 ghost use Rattle.nz_spec.specs.Normal.{joined_by, disequations_onto, disequations_of, normal_node, grouped_by, chained_by, implication_of};
 ghost use Rattle.nz_spec.specs.Elaboration.{operator_head};

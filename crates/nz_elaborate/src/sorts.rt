@@ -1,5 +1,5 @@
 //! Sorts as they are written.
-ghost use Rattle.std.specs.Prelude.{◌≡◌, Some, None, IfOk, IfErr, option_map};
+ghost use Rattle.std.specs.Prelude.{◌≡◌, Some, None, option_map};
 ghost use Rattle.nz_spec.specs.Elaboration.{sort_named};
 ghost use Rattle.nz_spec.specs.Script as script;
 ghost use Rattle.nz_term.specs.Constants.{sort_of};

@@ -13,6 +13,7 @@ use Rattle.nz_elaborate.specs.Definitions.{definition_unknown, definition_clash,
 use Rattle.nz_elaborate.proofs.Telling.{told_unknown, told_clash, ok_each}
 use Rattle.nz_elaborate.proofs.Scoping.{within_of_scope, within_kept, within_push, pushed}
 use Rattle.nz_elaborate.proofs.Answering.{no_term_answered}
+use Rattle.nz_elaborate.proofs.Growing.{grows_more}
 use Rattle.nz_elaborate.proofs.Defining.{definition_told, definition_is, parameters_sorted, body_answered}
 use Rattle.nz_elaborate.proofs.definitions.elaborate_body.Goals as goal
 
@@ -79,3 +80,12 @@ returns-clause-found c =
     parameters_sorted c.bind_parameters.new.terms c.in_ok-bound.field-0.bound.fault sc ps (map sort_of sorts) c.in_ok-bound.field-0.bound.frame (sort_written w) body t
     (list_any is_unknown_sort (parameter_sorts ps)) (clash (parameter_names ps)) (is_unknown_sort w) (has_unknown (is_declared sc.constants sc.definitions) (parameter_names ps) body) (has_clash body)
     c.in_ok-bound.ensures.names c.in_ok-bound.ensures.found))
+
+pub returns-in_err-found-clause-grows : goal.returns-in_err-found-clause-grows
+returns-in_err-found-clause-grows c = grows_more _ _ _ c.in_ok-bound.ensures.grows c.in_err-found.ensures.grows
+
+pub returns-in_err-found-2-clause-grows : goal.returns-in_err-found-2-clause-grows
+returns-in_err-found-2-clause-grows c = grows_more _ _ _ c.in_ok-bound.ensures.grows (grows_more _ _ _ c.in_ok-found.ensures.grows c.in_err-found-2.ensures.grows)
+
+pub returns-clause-grows : goal.returns-clause-grows
+returns-clause-grows c = grows_more _ _ _ c.in_ok-bound.ensures.grows (grows_more _ _ _ c.in_ok-found.ensures.grows c.in_ok-found-2.ensures.grows)

@@ -215,3 +215,9 @@ expression_term-returns-in-Let-clause-found t c =
     let shape : view c.args.expression.now ≡ written_let (seen_locals c.as_slice-in-Let.result.now) (view c.deref.result.now) =
     search (rules, the_lemmas, fold-roll-Expression, fold_out-Expression, fold-roll-Local, fold_out-Local) in
     rw shape c.let_term.ensures.found
+
+pub let_term-returns-in_err-found-clause-grows : goal.let_term-returns-in_err-found-clause-grows
+let_term-returns-in_err-found-clause-grows t c = grows_more _ _ _ c.in_ok-frame.ensures.grows c.in_err-found.ensures.grows
+
+pub let_term-returns-clause-grows : goal.let_term-returns-clause-grows
+let_term-returns-clause-grows t c = grows_more _ _ _ c.in_ok-frame.ensures.grows c.in_ok-found.ensures.grows
