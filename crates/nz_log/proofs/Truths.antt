@@ -5,7 +5,7 @@ use Rattle.std.specs.List.{AllByRecursion}
 use Rattle.std.proofs.lemmas.Bool.{or_left}
 use Rattle.std.proofs.lemmas.Option.{slice_get-map}
 use Rattle.nz_spec.specs.Term.{Term, Assignment, is_true, value_of, IsTrueUnder}
-use Rattle.nz_spec.specs.Table.{Node, IsTable, term_in, OneNumber}
+use Rattle.nz_spec.specs.Table.{Node, term_in, OneNumber}
 use Rattle.nz_spec.specs.Model.{IsAssignment}
 use Rattle.nz_spec.specs.Decide.{asserted_numbers}
 use Rattle.nz_spec.specs.Literal.{clause_of, IsClauseTrue, TellsLiterals, ClauseIsTrueTogether, ResolventIsTrue}
