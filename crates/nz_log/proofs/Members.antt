@@ -1,8 +1,10 @@
 -- What holds of each literal of clauses holds of each of what is made of them.
-use Rattle.std.proofs.Common.{ℕ, suc, Bool, true, false, not, List, [], ◌∷◌, ◌++◌, map, arith}
+use Rattle.std.proofs.Common.{◌≡◌, ℕ, suc, Bool, true, false, not, List, [], ◌∷◌, ◌++◌, map, Some, subst, arith}
 use Rattle.std.specs.Bool.{⊤}
-use Rattle.std.specs.Prelude.{All, fold, if◌then◌else◌}
+use Rattle.std.specs.Prelude.{All, fold, slice_get, if◌then◌else◌}
 use Rattle.std.specs.List.{AllByRecursion, list_any}
+use Rattle.std.proofs.lemmas.List.Elements.{All-from_recursion, All-get_or}
+use Rattle.std.proofs.lemmas.Option.{get_or_from_slice_get, slice_get_within}
 use Rattle.nz_spec.specs.Term.{Head, verum, falsum, negation, conjunction, disjunction, exclusion, equality, choice, bool_sort}
 use Rattle.nz_spec.specs.Literal.{with_one, without}
 use Rattle.nz_spec.specs.Gates.{clauses_over}
@@ -13,6 +15,10 @@ module _ {X : Type 0} (P : X → Type 0) where
   pub each_of : (xs : List X) → All P xs → AllByRecursion P xs
   each_of [] h = tt
   each_of (x ∷ xs) h = (h 0 x (omega arith), each_of xs (λ k d below. h (suc k) d (omega arith)))
+
+  -- and so of the one at a place
+  pub each-at : (xs : List X) (i : ℕ) (x : X) → AllByRecursion P xs → slice_get xs i ≡ Some x → P x
+  each-at xs i x h at = subst P (get_or_from_slice_get xs i x x at) (All-get_or P xs i x (slice_get_within xs i x at) (All-from_recursion P xs h))
 
   pub each-append : (xs ys : List X) → AllByRecursion P xs → AllByRecursion P ys → AllByRecursion P (xs ++ ys)
   each-append [] ys h k = k

@@ -1,13 +1,14 @@
 -- What is made of numbered literals says what is made of the literals that they stand for.
 use Rattle.std.proofs.Common.{◌≡◌, ℕ, ◌<◌, Bool, true, false, not, ◌&&◌, ◌||◌, ◌==◌, List, [], ◌∷◌, ◌++◌, length, map, Some, None, refl, sym, ap, ◌∙◌, eqb-true, eq-eqb}
+use Rattle.std.proofs.lemmas.Bool.{and_from, and_parts}
 use Rattle.std.proofs.lemmas.List.{map-append}
 use Rattle.std.specs.Prelude.{fold, slice_get, if◌then◌else◌}
 use Rattle.std.specs.List.{AllByRecursion, list_any}
 use Rattle.nz_spec.specs.Term.{Head, verum, falsum, negation, conjunction, disjunction, exclusion, equality, choice, bool_sort, Term, apply}
 use Rattle.nz_spec.specs.Table.{Node, IsTable, term_in, terms_at, OneNumber, TermOfNode}
-use Rattle.nz_spec.specs.Literal.{Literal, are_same_term, are_same_sign, are_same_literal, with_one, once, without, clause_of, resolvent}
+use Rattle.nz_spec.specs.Literal.{Literal, term_literal, are_same_term, are_same_sign, are_same_literal, with_one, once, without, clause_of, resolvent, TellsLiterals}
 use Rattle.nz_spec.specs.Gates.{holds, fails, list_of, is_boolean_term, clauses_over, gate_clauses}
-use Rattle.nz_spec.proofs.Literals.{same_term, one_term}
+use Rattle.nz_lists.proofs.Tests.{same_tests}
 use Rattle.nz_log.specs.declared.lits.Lit.{Lit}
 use Rattle.nz_log.specs.Lits.{yes, no, negated_lit, are_same_lit, lit_resolvent, literal_of, clause_in, is_boolean_at, gates_at}
 use Rattle.nz_log.specs.Sound.{AreWithin}
@@ -50,22 +51,30 @@ module _ {A B : Type 0} (W : A → Type 0) (f : A → B) (same : A → A → Boo
 
 -- ---- Literals by numbers
 
-both_ways : (b c : Bool) → (b ≡ true → c ≡ true) → (c ≡ true → b ≡ true) → b ≡ c
-both_ways true true f g = refl
-both_ways true false f g = sym (f refl)
-both_ways false true f g = g refl
-both_ways false false f g = refl
+-- In this table two literals are one where their numbers and signs are.
+abbrev pub LiteralsAgree : List Node → Type 0
+LiteralsAgree ns = (l m : Lit) → l.term < length ns → m.term < length ns → are_same_literal (literal_of ns l) (literal_of ns m) ≡ are_same_lit l m
 
-module _ (ns : List Node) (table : IsTable ns) (one : OneNumber) where
+-- two terms are one where their literals of one sign are
+module _ (tells : TellsLiterals) where
+  same_term : (t u : Term) → are_same_term t u ≡ true → t ≡ u
+  same_term t u e =
+      let same : term_literal t true ≡ term_literal u true = tells.same (term_literal t true) (term_literal u true) (and_from (are_same_term t u) true e refl) in cc
+
+  one_term : (t : Term) → are_same_term t t ≡ true
+  one_term t = (and_parts (are_same_term t t) true (tells.one (term_literal t true))).0
+
+module _ (tells : TellsLiterals) (one : OneNumber) (ns : List Node) (table : IsTable ns) where
   same_terms : (i j : ℕ) → i < length ns → j < length ns → are_same_term (term_in ns i) (term_in ns j) ≡ (i == j)
   same_terms i j within there =
-      both_ways (are_same_term (term_in ns i) (term_in ns j)) (i == j)
-      (λ e. eq-eqb i j (one ns table i j within there (same_term (term_in ns i) (term_in ns j) e)))
-      (λ e. ap (λ k. are_same_term (term_in ns i) (term_in ns k)) (sym (eqb-true i j e)) ∙ one_term (term_in ns i))
+      same_tests (are_same_term (term_in ns i) (term_in ns j)) (i == j)
+      (λ e. eq-eqb i j (one ns table i j within there (same_term tells (term_in ns i) (term_in ns j) e)))
+      (λ e. ap (λ k. are_same_term (term_in ns i) (term_in ns k)) (sym (eqb-true i j e)) ∙ one_term tells (term_in ns i))
 
-  agree : (l m : Lit) → l.term < length ns → m.term < length ns → are_same_literal (literal_of ns l) (literal_of ns m) ≡ are_same_lit l m
-  agree l m within there = ap (λ b. b && are_same_sign l.sign m.sign) (same_terms l.term m.term within there)
+  pub literals_agree : LiteralsAgree ns
+  literals_agree l m within there = ap (λ b. b && are_same_sign l.sign m.sign) (same_terms l.term m.term within there)
 
+module _ (ns : List Node) (agree : LiteralsAgree ns) where
   pub clause_named : (c : List Lit) → AreWithin ns c → clause_in ns (once are_same_lit c) ≡ clause_of (clause_in ns c)
   clause_named c h = once_named (λ (l : Lit). l.term < length ns) (literal_of ns) are_same_lit are_same_literal agree c h
 

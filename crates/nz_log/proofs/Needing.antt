@@ -3,8 +3,7 @@ use Rattle.std.proofs.Common.{◌≡◌, ℕ, zero, suc, ◌<◌, ◌≤◌, Boo
 use Rattle.std.specs.Prelude.{All, is_some, nat_le, nat_lt}
 use Rattle.std.specs.List.{AllByRecursion}
 use Rattle.std.proofs.lemmas.Bool.{leb-true, le-leb, ltb-true, lt-ltb}
-use Rattle.std.proofs.lemmas.Bool.{and_from, and_parts}
-use Rattle.nz_spec.proofs.Literals.{or_first, or_second, or_either}
+use Rattle.std.proofs.lemmas.Bool.{and_from, and_parts, or_cases, or_left, or_right}
 use Rattle.nz_log.specs.declared.origins.Link.{Link}
 use Rattle.nz_log.specs.Logs.{IsPremise, RestsOn, Origin, assertion_of, gate_of, chain_of, Entry, LogState, entry_at, IsLive, level_at}
 use Rattle.nz_log.proofs.Soundness.{same_or_other}
@@ -74,8 +73,8 @@ done_step s id i old new e at rests here long more marked only done =
     (λ j p. and_from (is_some (entry_at s j)) (nat_le (level_at s j) (level_at s id)) p.live (le-leb (level_at s j) (level_at s id) (omega (arith, p.level_within, level, (done.live i here).1))))
     e.origin rests) in
     let before : PassMarked (λ j. is_marked old j || nat_lt j i) new =
-    only (λ j. is_marked old j || nat_lt j i) (λ j m. or_first (is_marked old j) (nat_lt j i) m)
-    (premises_pass s i e.level (λ j. is_marked old j || nat_lt j i) (λ j p. or_second (is_marked old j) (nat_lt j i) (lt-ltb j i p.before)) e.origin rests) in
+    only (λ j. is_marked old j || nat_lt j i) (λ j m. or_left (is_marked old j) (nat_lt j i) m)
+    (premises_pass s i e.level (λ j. is_marked old j || nat_lt j i) (λ j p. or_right (is_marked old j) (nat_lt j i) (lt-ltb j i p.before)) e.origin rests) in
     record {
       long = long ∙ done.long;
       live = λ j m. (
@@ -83,5 +82,5 @@ done_step s id i old new e at rests here long more marked only done =
         leb-true (level_at s j) (level_at s id) ((and_parts (is_some (entry_at s j)) (nat_le (level_at s j) (level_at s id)) (low j m)).1),
       );
       itself = more id done.itself;
-      closed = λ j le m. closed_at s id i old new e at more marked done j le (or_either (is_marked old j) (nat_lt j i) (before j m));
+      closed = λ j le m. closed_at s id i old new e at more marked done j le (or_cases (is_marked old j) (nat_lt j i) (before j m));
     }

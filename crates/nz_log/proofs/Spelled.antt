@@ -2,15 +2,15 @@
 use Rattle.std.proofs.Common.{◌≡◌, ℕ, zero, suc, ◌<◌, ◌≤◌, ◌+◌, Bool, true, false, List, [], ◌∷◌, ◌++◌, length, map, Some, None, inl, inr, refl, sym, ap, subst, ◌∙◌, true≢false, append_assoc, arith}
 use Rattle.std.specs.Prelude.{slice_get, slice_set, slice_index, option_map}
 use Rattle.std.specs.List.{AllByRecursion}
-use Rattle.std.proofs.lemmas.Option.{slice_get-map}
+use Rattle.std.proofs.lemmas.Option.{option_and_then_some, slice_get-map}
 use Rattle.std.proofs.lemmas.List.{append-nil, length-append, map-append}
 use Rattle.nz_spec.specs.Term.{Term}
-use Rattle.nz_spec.specs.Table.{Node, IsTable, term_in, OneNumber}
+use Rattle.nz_spec.specs.Table.{Node, term_in}
 use Rattle.nz_spec.specs.Literal.{Clause, resolvent}
 use Rattle.nz_spec.specs.Gates.{holds}
 use Rattle.nz_spec.specs.Steps as spec
-use Rattle.nz_spec.specs.Steps.{step_clause, clauses_behind, IsDerivation, Derives}
-use Rattle.nz_spec.proofs.Derivations.{get_stays, derivations_grow, taken}
+use Rattle.nz_spec.specs.Steps.{step_clause, clauses_behind, IsDerivation, Derives, DerivationsGrow}
+use Rattle.nz_lists.proofs.Places.{slice_get_kept}
 use Rattle.nz_log.specs.declared.lits.Lit.{Lit}
 use Rattle.nz_log.specs.declared.origins.Link.{Link}
 use Rattle.nz_log.specs.declared.steps.Step.{Step}
@@ -20,7 +20,7 @@ use Rattle.nz_log.specs.Logs.{RestsOn, Origin, assertion_of, gate_of, chain_of, 
 use Rattle.nz_log.specs.Sound.{live_at, live_terms, AreWithin, IsLink, IsMade, IsLog}
 use Rattle.nz_log.specs.Spelling.{is_marked, AreMarked, chain_steps, chain_place, origin_steps, origin_place, step_of}
 use Rattle.nz_log.proofs.Members.{each_of, each-resolvent}
-use Rattle.nz_log.proofs.Naming.{resolvent_named}
+use Rattle.nz_log.proofs.Naming.{LiteralsAgree, resolvent_named}
 use Rattle.nz_log.proofs.Soundness.{live_grows, within_at, same_or_other}
 
 -- ---- Derivations that go on
@@ -30,8 +30,8 @@ lengths : (asserted : List Term) (steps : List spec.Step) (earlier clauses : Lis
     → length clauses ≡ length earlier + length steps
 lengths asserted [] earlier clauses e = let same : earlier ≡ clauses = cc in omega (arith, ap length same)
 lengths asserted (s ∷ ss) earlier clauses e =
-    let m = taken (step_clause asserted earlier s) (λ c. clauses_behind asserted (earlier ++ c ∷ []) ss) clauses e in
-    omega (arith, lengths asserted ss (earlier ++ m.0 ∷ []) clauses m.2, length-append earlier (m.0 ∷ []))
+    option_and_then_some (λ c. clauses_behind asserted (earlier ++ c ∷ []) ss) (step_clause asserted earlier s) clauses e
+    (λ c at rest. omega (arith, lengths asserted ss (earlier ++ c ∷ []) clauses rest, length-append earlier (c ∷ [])))
 
 seam : {X : Type 0} (xs : List X) (x : X) (n : ℕ) → n ≡ length xs → slice_get (xs ++ x ∷ []) n ≡ Some x
 seam [] x zero e = refl
@@ -46,18 +46,18 @@ pub record IsBehind (asserted : List Term) (steps : List spec.Step) (before : Li
   pub kept : (i : ℕ) (x : Clause) → slice_get before i ≡ Some x → slice_get clauses i ≡ Some x
   pub here : slice_get clauses place ≡ Some c
 
-one_more : (asserted : List Term) (steps : List spec.Step) (before : List Clause) (s : spec.Step) (c : Clause) (n : ℕ) → n ≡ length steps
+one_more : DerivationsGrow → (asserted : List Term) (steps : List spec.Step) (before : List Clause) (s : spec.Step) (c : Clause) (n : ℕ) → n ≡ length steps
     → IsDerivation asserted steps before → step_clause asserted before s ≡ Some c → IsBehind asserted (steps ++ s ∷ []) before n c
-one_more asserted steps before s c n long d e =
+one_more grow asserted steps before s c n long d e =
     let count = lengths asserted steps [] before d in
     record {
       clauses = before ++ c ∷ [];
-      derivation = derivations_grow.step asserted steps before s c d e;
-      kept = λ i x at. get_stays before (c ∷ []) i x at;
+      derivation = grow.step asserted steps before s c d e;
+      kept = λ i x at. slice_get_kept before (c ∷ []) i x at;
       here = seam before c n (omega (arith, long, count));
     }
 
-module _ (ns : List Node) (table : IsTable ns) (one : OneNumber) (levels : List (List ℕ)) (s : LogState) (order : IsLog ns levels s) (asserted : List Term) where
+module _ (grow : DerivationsGrow) (ns : List Node) (agree : LiteralsAgree ns) (levels : List (List ℕ)) (s : LogState) (order : IsLog ns levels s) (asserted : List Term) where
   length-map : (xs : List Step) → length (map (step_of ns) xs) ≡ length xs
   length-map [] = refl
   length-map (x ∷ xs) = ap suc (length-map xs)
@@ -67,7 +67,7 @@ module _ (ns : List Node) (table : IsTable ns) (one : OneNumber) (levels : List 
       → IsBehind asserted (map (step_of ns) (steps ++ r ∷ [])) before n c
   push steps before r c n long d e =
       subst (λ rs. IsBehind asserted rs before n c) (sym (map-append (step_of ns) steps (r ∷ [])))
-      (one_more asserted (map (step_of ns) steps) before (step_of ns r) c n (long ∙ sym (length-map steps)) d e)
+      (one_more grow asserted (map (step_of ns) steps) before (step_of ns r) c n (long ∙ sym (length-map steps)) d e)
 
   -- a link whose clause has its place
   abbrev IsPlaced : List ℕ → List Clause → Link → Type 0
@@ -94,7 +94,7 @@ module _ (ns : List Node) (table : IsTable ns) (one : OneNumber) (levels : List 
       let gives : step_clause asserted before (step_of ns r) ≡ Some (clause_in ns next) =
       ap (λ o. elim o [ None ↦ None | Some x ↦ option_map (resolvent l x) (slice_get before place) ]) here
       ∙ ap (option_map (resolvent l (clause_in ns c))) h.0.0
-      ∙ ap Some (sym (resolvent_named ns table one k.literal c e h.0.1 w within)) in
+      ∙ ap Some (sym (resolvent_named ns agree k.literal c e h.0.1 w within)) in
       let pushed = push steps before r (clause_in ns next) n long d gives in
       let rest = chain_behind places ks (steps ++ r ∷ []) pushed.clauses next n (suc n)
       (each-resolvent (λ (m : Lit). m.term < length ns) k.literal c e w within)
@@ -106,11 +106,11 @@ module _ (ns : List Node) (table : IsTable ns) (one : OneNumber) (levels : List 
 
 -- ---- The steps of a clause
 
-module _ (ns : List Node) (table : IsTable ns) (one : OneNumber) (levels : List (List ℕ)) (s : LogState) (order : IsLog ns levels s)
+module _ (grow : DerivationsGrow) (ns : List Node) (agree : LiteralsAgree ns) (levels : List (List ℕ)) (s : LogState) (order : IsLog ns levels s)
     (level : ℕ) (marks : List Bool) (places : List ℕ) (before : List Clause) where
   links_placed : (id n : ℕ) → ((j : ℕ) → j < id → is_marked marks j ≡ true → slice_get before (slice_index places j) ≡ Some (clause_in ns (literals_at s j)))
       → (ks : List Link) → AllByRecursion (IsLink ns s id n) ks → AllByRecursion (λ (k : Link). is_marked marks k.clause ≡ true) ks
-      → AllByRecursion (IsPlaced ns table one levels s order (live_terms ns levels level) places before) ks
+      → AllByRecursion (IsPlaced grow ns agree levels s order (live_terms ns levels level) places before) ks
   links_placed id n at [] h m = tt
   links_placed id n at (k ∷ ks) h m = ((at k.clause h.0.premise.before m.0, h.0.within), links_placed id n at ks h.1 m.1)
 
@@ -120,15 +120,15 @@ module _ (ns : List Node) (table : IsTable ns) (one : OneNumber) (levels : List 
       → IsBehind (live_terms ns levels level) (map (step_of ns) (steps ++ origin_steps places n o)) before (origin_place places n o) (clause_in ns e.literals)
   origin_behind id e below (assertion_of k) m marked at steps n long d =
       let live = live_grows levels (suc e.level) (suc level) (omega arith) k m.0 m.1 in
-      push ns table one levels s order (live_terms ns levels level) steps before (Given k) (clause_in ns e.literals) n long d
+      push grow ns agree levels s order (live_terms ns levels level) steps before (Given k) (clause_in ns e.literals) n long d
       (ap (option_map (λ t. holds t ∷ [])) (slice_get-map (term_in ns) (live_at levels level) k ∙ ap (option_map (term_in ns)) live)
       ∙ ap Some (ap (clause_in ns) (sym m.2)))
   origin_behind id e below (gate_of t j) m marked at steps n long d =
-      push ns table one levels s order (live_terms ns levels level) steps before (Gate t j) (clause_in ns e.literals) n long d m.2
+      push grow ns agree levels s order (live_terms ns levels level) steps before (Gate t j) (clause_in ns e.literals) n long d m.2
   origin_behind id e below (chain_of first ks) m marked at steps n long d =
       subst (λ c. IsBehind (live_terms ns levels level) (map (step_of ns) (steps ++ chain_steps places n (slice_index places first) ks)) before
       (chain_place n (slice_index places first) ks) (clause_in ns c)) (sym m.2)
-      (chain_behind ns table one levels s order (live_terms ns levels level) places ks steps before (literals_at s first) (slice_index places first) n
+      (chain_behind grow ns agree levels s order (live_terms ns levels level) places ks steps before (literals_at s first) (slice_index places first) n
       (within_at ns levels s order first (entry_at s first) refl) long d (at first m.0.before marked.0)
       (links_placed id e.level at ks m.1 (each_of (λ (k : Link). is_marked marks k.clause ≡ true) ks marked.1)))
 
@@ -152,14 +152,14 @@ index_other (x ∷ xs) zero (suc j) v other = refl
 index_other (x ∷ xs) (suc i) zero v other = refl
 index_other (x ∷ xs) (suc i) (suc j) v other = index_other xs i j v (λ same. other (ap suc same))
 
-module _ (ns : List Node) (table : IsTable ns) (one : OneNumber) (levels : List (List ℕ)) (s : LogState) (order : IsLog ns levels s)
+module _ (grow : DerivationsGrow) (ns : List Node) (agree : LiteralsAgree ns) (levels : List (List ℕ)) (s : LogState) (order : IsLog ns levels s)
     (level : ℕ) (marks : List Bool) (places : List ℕ) (steps : List Step) (i : ℕ) (placed : ArePlaced ns levels s level marks places steps i) where
   -- the steps of the clause of the next number derive it
   next_behind : (e : Entry) → entry_at s i ≡ Some e → e.level ≤ level → AreMarked marks e.origin
       → IsBehind (live_terms ns levels level) (map (step_of ns) (steps ++ origin_steps places (length steps) e.origin)) placed.clauses
       (origin_place places (length steps) e.origin) (clause_in ns e.literals)
   next_behind e at below marked =
-      origin_behind ns table one levels s order level marks places placed.clauses i e below e.origin (order i e at).made marked placed.at steps (length steps) refl
+      origin_behind grow ns agree levels s order level marks places placed.clauses i e below e.origin (order i e at).made marked placed.at steps (length steps) refl
       placed.derivation
 
   pub placed_next : (e : Entry) → entry_at s i ≡ Some e → e.level ≤ level → AreMarked marks e.origin → i < length places
@@ -218,7 +218,7 @@ origin_last s id level places n (assertion_of k) r = omega arith
 origin_last s id level places n (gate_of t j) r = omega arith
 origin_last s id level places n (chain_of first ks) r = chain_last places n (slice_index places first) ks r.1
 
-module _ (ns : List Node) (table : IsTable ns) (one : OneNumber) (levels : List (List ℕ)) (s : LogState) (order : IsLog ns levels s)
+module _ (grow : DerivationsGrow) (ns : List Node) (agree : LiteralsAgree ns) (levels : List (List ℕ)) (s : LogState) (order : IsLog ns levels s)
     (marks : List Bool) (places : List ℕ) (steps : List Step) (id : ℕ) (placed : ArePlaced ns levels s (level_at s id) marks places steps id) where
   pub all_derive : (e : Entry) → entry_at s id ≡ Some e → RestsOn s id e.level e.origin → AreMarked marks e.origin
       → (next : List Step) → next ≡ steps ++ origin_steps places (length steps) e.origin
@@ -227,9 +227,9 @@ module _ (ns : List Node) (table : IsTable ns) (one : OneNumber) (levels : List 
       let same : level_at s id ≡ e.level = ap (λ o. elim o [ None ↦ 0 | Some f ↦ f.level ]) at in
       let all = steps ++ origin_steps places (length steps) e.origin in
       let asserted = live_terms ns levels (level_at s id) in
-      let b = next_behind ns table one levels s order (level_at s id) marks places steps id placed e at (omega (arith, same)) marked in
+      let b = next_behind grow ns agree levels s order (level_at s id) marks places steps id placed e at (omega (arith, same)) marked in
       let count = lengths asserted (map (step_of ns) all) [] b.clauses b.derivation in
-      let mapped = length-map ns table one levels s order asserted all in
+      let mapped = length-map grow ns agree levels s order asserted all in
       let place = origin_last s id e.level places (length steps) e.origin rests in
       let added = length-append steps (origin_steps places (length steps) e.origin) in
       let long : length b.clauses ≡ suc (origin_place places (length steps) e.origin) = omega (arith, count, mapped, place, added) in

@@ -7,7 +7,7 @@ use Rattle.nz_spec.specs.Table.{Node, TermStays}
 use Rattle.nz_spec.specs.Decide.{asserted_numbers, with_number}
 use Rattle.nz_spec.specs.Literal.{term_literal, clause_of}
 use Rattle.nz_spec.specs.Gates.{gate_clauses, HasBooleanArguments}
-use Rattle.nz_spec.proofs.Derivations.{get_stays}
+use Rattle.nz_lists.proofs.Places.{slice_get_kept}
 use Rattle.nz_log.specs.declared.lits.Lit.{Lit}
 use Rattle.nz_log.specs.declared.origins.Link.{Link}
 use Rattle.nz_log.specs.Lits.{clause_in}
@@ -80,7 +80,7 @@ number_more [] u n k t e = e
 number_more (l ∷ []) u zero k t e = e
 number_more (l ∷ []) u (suc n) k t e =
     let front : slice_get l k ≡ Some t = ap (λ xs. slice_get xs k) (sym (alone l n)) ∙ e in
-    ap (λ xs. slice_get xs k) (alone (l ++ u ∷ []) n) ∙ get_stays l (u ∷ []) k t front
+    ap (λ xs. slice_get xs k) (alone (l ++ u ∷ []) n) ∙ slice_get_kept l (u ∷ []) k t front
 number_more (l ∷ m ∷ ls) u zero k t e = e
 number_more (l ∷ m ∷ ls) u (suc n) k t e =
     longer l (asserted_numbers (take n (m ∷ ls))) (asserted_numbers (take n (with_number (m ∷ ls) u))) (number_more (m ∷ ls) u n) k t e

@@ -2,23 +2,21 @@
 use Rattle.std.proofs.Common.{◌≡◌, ℕ, zero, suc, ◌<◌, ◌≤◌, false, List, [], ◌∷◌, ◌++◌, length, map, take, Option, Some, None, refl, sym, ap, subst, ◌∙◌, arith}
 use Rattle.std.specs.Prelude.{slice_get, option_map, IsSome}
 use Rattle.std.specs.List.{AllByRecursion}
+use Rattle.std.proofs.lemmas.Bool.{or_left}
 use Rattle.std.proofs.lemmas.Option.{slice_get-map}
 use Rattle.nz_spec.specs.Term.{Term, Assignment, is_true, value_of, IsTrueUnder}
-use Rattle.nz_spec.specs.Table.{Node, IsTable, term_in, OneNumber}
+use Rattle.nz_spec.specs.Table.{Node, term_in, OneNumber}
 use Rattle.nz_spec.specs.Model.{IsAssignment}
 use Rattle.nz_spec.specs.Decide.{asserted_numbers}
-use Rattle.nz_spec.specs.Literal.{clause_of, IsClauseTrue}
-use Rattle.nz_spec.specs.Gates.{gate_clauses}
-use Rattle.nz_spec.proofs.Literals.{or_first, together, resolvent_is_true}
-use Rattle.nz_spec.proofs.GateTruths.{gates_are_true}
-use Rattle.nz_spec.proofs.Derivations.{at_place, mapped}
+use Rattle.nz_spec.specs.Literal.{clause_of, IsClauseTrue, TellsLiterals, ClauseIsTrueTogether, ResolventIsTrue}
+use Rattle.nz_spec.specs.Gates.{gate_clauses, GatesAreTrue}
 use Rattle.nz_log.specs.declared.lits.Lit.{Lit}
 use Rattle.nz_log.specs.declared.origins.Link.{Link}
 use Rattle.nz_log.specs.Lits.{clause_in, lit_resolvent, literal_of}
 use Rattle.nz_log.specs.Logs.{IsPremise, Origin, assertion_of, gate_of, chain_of, Entry, LogState, entry_at, literals_at, level_at, chained}
 use Rattle.nz_log.specs.Sound.{live_at, live_terms, AreWithin, IsLink, IsMade, IsLog, ClausesAreTrue}
-use Rattle.nz_log.proofs.Members.{each-resolvent}
-use Rattle.nz_log.proofs.Naming.{resolvent_named}
+use Rattle.nz_log.proofs.Members.{each-at, each-resolvent}
+use Rattle.nz_log.proofs.Naming.{LiteralsAgree, literals_agree, resolvent_named}
 use Rattle.nz_log.proofs.Soundness.{within_at}
 
 -- what holds of the terms of some levels holds of those of fewer
@@ -35,7 +33,13 @@ fewer P f [] (suc m) (suc n) le h = tt
 fewer P f (l ∷ ls) (suc m) (suc n) le h =
     fewer_behind P f l (asserted_numbers (take m ls)) (asserted_numbers (take n ls)) (fewer P f ls m n (omega arith)) h
 
-module _ (ns : List Node) (table : IsTable ns) (one : OneNumber) (levels : List (List ℕ)) (s : LogState) (order : IsLog ns levels s) (a : Assignment) (good : IsAssignment a) where
+-- what a map found, it found of something
+mapped : {X Y : Type 0} (f : X → Y) (o : Option X) (y : Y) → option_map f o ≡ Some y → (x : X) × (o ≡ Some x) × (f x ≡ y)
+mapped f None y e = cc
+mapped f (Some x) y e = let same : f x ≡ y = cc in (x, refl, same)
+
+module _ (gates : GatesAreTrue) (together : ClauseIsTrueTogether) (resolvents : ResolventIsTrue)
+    (ns : List Node) (agree : LiteralsAgree ns) (levels : List (List ℕ)) (s : LogState) (order : IsLog ns levels s) (a : Assignment) (good : IsAssignment a) where
   -- the clause of a number is true where the assertions up to a level are
   abbrev IsTrueAt : ℕ → ℕ → Type 0
   IsTrueAt level i = level_at s i ≤ level → AllByRecursion (IsTrueUnder a) (live_terms ns levels level) → IsClauseTrue a (clause_in ns (literals_at s i))
@@ -47,8 +51,8 @@ module _ (ns : List Node) (table : IsTable ns) (one : OneNumber) (levels : List 
       let d = literals_at s k.clause in
       let within = within_at ns levels s order k.clause (entry_at s k.clause) refl in
       let resolved =
-      subst (IsClauseTrue a) (sym (resolvent_named ns table one k.literal c d h.0.within w within))
-      (resolvent_is_true a (literal_of ns k.literal) (clause_in ns c) (clause_in ns d) t (premises k.clause h.0.premise)) in
+      subst (IsClauseTrue a) (sym (resolvent_named ns agree k.literal c d h.0.within w within))
+      (resolvents a (literal_of ns k.literal) (clause_in ns c) (clause_in ns d) t (premises k.clause h.0.premise)) in
       chain_is_true id level (lit_resolvent k.literal c d) ks
       (each-resolvent (λ (l : Lit). l.term < length ns) k.literal c d w within) resolved h.1 premises
 
@@ -58,11 +62,11 @@ module _ (ns : List Node) (table : IsTable ns) (one : OneNumber) (levels : List 
       let xs = live_at levels e.level in
       let at : slice_get (map (term_in ns) xs) k ≡ Some (term_in ns m.0) = slice_get-map (term_in ns) xs k ∙ ap (option_map (term_in ns)) m.1 in
       subst (λ c. IsClauseTrue a (clause_in ns c)) (sym m.2)
-      (or_first (is_true (value_of a (term_in ns m.0))) false (at_place (IsTrueUnder a) (map (term_in ns) xs) k (term_in ns m.0) model at))
+      (or_left (is_true (value_of a (term_in ns m.0))) false (each-at (IsTrueUnder a) (map (term_in ns) xs) k (term_in ns m.0) model at))
   entry_is_true id e w (gate_of t j) m model premises =
       let g = mapped clause_of (slice_get (gate_clauses (term_in ns t)) j) (clause_in ns e.literals) m.2 in
       subst (IsClauseTrue a) g.2
-      (together a g.0 ∙ at_place (IsClauseTrue a) (gate_clauses (term_in ns t)) j g.0 (gates_are_true a good (term_in ns t) m.1) g.1)
+      (together a g.0 ∙ each-at (IsClauseTrue a) (gate_clauses (term_in ns t)) j g.0 (gates a good (term_in ns t) m.1) g.1)
   entry_is_true id e w (chain_of first ks) m model premises =
       subst (λ c. IsClauseTrue a (clause_in ns c)) (sym m.2)
       (chain_is_true id e.level (literals_at s first) ks (within_at ns levels s order first (entry_at s first) refl) (premises first m.0) m.1 premises)
@@ -79,8 +83,8 @@ module _ (ns : List Node) (table : IsTable ns) (one : OneNumber) (levels : List 
       (entry_is_true id e i.within e.origin i.made here
       (λ j p. all_true n j e.level (let h : j < id = p.before in omega arith) (entry_at s j) refl p.live p.level_within here))
 
-pub clauses_are_true : OneNumber → ClausesAreTrue
-clauses_are_true one ns table levels s order i e at a good model =
+pub clauses_are_true : GatesAreTrue → ClauseIsTrueTogether → ResolventIsTrue → TellsLiterals → OneNumber → ClausesAreTrue
+clauses_are_true gates together resolvents tells one ns table levels s order i e at a good model =
     subst (λ o. IsClauseTrue a (clause_in ns (elim o [ None ↦ [] | Some f ↦ f.literals ]))) at
-    (all_true ns table one levels s order a good (suc i) i e.level (omega arith) (Some e) at refl
+    (all_true gates together resolvents ns (literals_agree tells one ns table) levels s order a good (suc i) i e.level (omega arith) (Some e) at refl
     (subst (λ o. elim o [ None ↦ 0 | Some f ↦ f.level ] ≤ e.level) (sym at) (omega arith)) model)

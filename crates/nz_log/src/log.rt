@@ -15,6 +15,7 @@ use crate::origins::{ClauseId, Link, Origin, Stored};
 use crate::sets::{Literals, resolvent, set_of};
 use crate::steps::{Step, spelled};
 use nz_base::Memory;
+use nz_spec::derivation::tells_literals;
 use nz_spec::table::{one_number, term_of_node};
 use nz_term::{TermId, Terms};
 use smallvec::SmallVec;
@@ -168,6 +169,7 @@ impl Log {
         // Where the term is over Boolean ones, the log stays in order.
         ensures sound { (levels : List (List ℕ)) → HasBooleanArguments (term_in terms.now term) → IsLog terms.now levels self.old → IsLog terms.now levels self.new }
     {
+        tells_literals();
         one_number();
         term_of_node();
         let within = term < terms.len();

@@ -8,6 +8,7 @@ use crate::lits::Lit;
 use crate::log::Log;
 use crate::origins::{ClauseId, Link, Origin};
 use nz_base::Memory;
+use nz_spec::derivation::{derivations_grow, tells_literals};
 use nz_spec::table::one_number;
 use nz_term::TermId;
 use std::alloc::Global;
@@ -77,6 +78,8 @@ pub fn spelled(alloc: Global, log: &Log, id: ClauseId) -> Result<Vec<Step>, Memo
     requires live { IsLive log.now id }
     ensures derives { IfOk result (λ steps. AreStepsOf log.now id steps.items) }
 {
+    derivations_grow();
+    tells_literals();
     one_number();
     let marks = needed(alloc, log, id)?;
     let mut places = vec![in alloc; 0; log.places()]?;

@@ -8,7 +8,7 @@ ghost use Rattle.nz_term.specs.Heads.{head_of};
 use nz_base::{Memory, Text};
 use nz_frac::{Op, Wide};
 use nz_term::{Assign, Constant, Head, NumberSort, Sort, TermId, Terms, Value};
-use nz_truth::{EvalStop, Outcome, Values, constant_numbers, eval, listed_values, outcomes};
+use nz_truth::{EvalStop, Outcome, Values, constant_numbers, eval, outcomes};
 use std::alloc::Global;
 use std::test::Fail;
 
@@ -386,15 +386,5 @@ fn constants_are_told_in_order(rt: HostRuntime) -> Result<(), Fail> {
     constant(rt.alloc(), &mut terms, Sort::Int)?;
     let numbers = constant_numbers(rt.alloc(), &terms)?;
     assert_eq!(rt; numbers.as_slice(), [0, 2].as_slice());
-    Ok(())
-}
-
-#[test]
-fn the_first_listed_value_of_a_number_counts(rt: HostRuntime) -> Result<(), Fail> {
-    let pairs = [(2, true), (0, false), (2, false), (5, true)];
-    let assign = assignment(rt.alloc(), &pairs)?;
-    let values = listed_values(rt.alloc(), &assign, 3)?;
-    let wanted = [Some(Value::Truth(false)), None, Some(Value::Truth(true))];
-    assert_eq!(rt; values.as_slice(), wanted.as_slice());
     Ok(())
 }

@@ -5,6 +5,7 @@ use Rattle.nz_log.specs.Logs.{Entry, level_at}
 use Rattle.nz_log.specs.Spelling.{is_marked, AreMarked, IsClosed, origin_place, origin_steps}
 use Rattle.nz_log.specs.Stored.{entry_of}
 use Rattle.nz_log.proofs.Marking.{marked_within, same_get}
+use Rattle.nz_log.proofs.Naming.{literals_agree}
 use Rattle.nz_log.proofs.Spelled.{ArePlaced, all_derive, placed_next, placed_skip}
 use Rattle.nz_log.proofs.steps.spelled.Goals as goal
 use Rattle.nz_log.proofs.steps.spelled.Goals.{then-index+in_ok-place, else-index}
@@ -19,7 +20,8 @@ loop-i-preserved c =
     let steps = c.loop-i.steps.items in
     let last = marked_within marks c.args.id need.itself in
     let within : i < length marks = omega (arith, last) in
-    let one = c.one_number.ensures.one in
+    let grow = c.derivations_grow.ensures.grow in
+    let agree = literals_agree c.tells_literals.ensures.tells c.one_number.ensures.one in
     elim c.if-index.branch [
       | then-index+in_ok-place w ↦
           let here : is_marked marks i ≡ true = same_get marks i false c.index.result.now within ∙ sym c.index.ensures ∙ w.if-index.true in
@@ -41,7 +43,7 @@ loop-i-preserved c =
             long = length-set places i _ ∙ c.loop-i.invariant.long;
             placed = λ ns levels table order.
                 rw add-one
-                (placed_next ns table one levels s order (level_at s c.args.id) marks places steps i (c.loop-i.invariant.placed ns levels table order)
+                (placed_next grow ns (agree ns table) levels s order (level_at s c.args.id) marks places steps i (c.loop-i.invariant.placed ns levels table order)
                 e at below marked room next spelled w.in_ok-place.place place_is);
           })
       | else-index w ↦
@@ -51,13 +53,14 @@ loop-i-preserved c =
             long = c.loop-i.invariant.long;
             placed = λ ns levels table order.
                 rw add-one
-                (placed_skip ns table one levels s order (level_at s c.args.id) marks places steps i (c.loop-i.invariant.placed ns levels table order) here);
+                (placed_skip grow ns (agree ns table) levels s order (level_at s c.args.id) marks places steps i (c.loop-i.invariant.placed ns levels table order) here);
           })
     ]
 
 pub returns : goal.returns
 returns c =
     let s = c.args.log.now in
+    let agree = literals_agree c.tells_literals.ensures.tells c.one_number.ensures.one in
     let marks = c.in_ok-marks.marks.items in
     let need = c.in_ok-marks.ensures.needed in
     let places = c.loop-i.places.items in
@@ -73,6 +76,6 @@ returns c =
     record {
       derives = λ ns levels table order.
           let N : ℕ → Type 0 = λ n. ArePlaced ns levels s (level_at s c.args.id) marks places steps n in
-          all_derive ns table c.one_number.ensures.one levels s order marks places steps c.args.id
+          all_derive c.derivations_grow.ensures.grow ns (agree ns table) levels s order marks places steps c.args.id
           (subst N end (c.loop-i.invariant.placed ns levels table order)) e at c.stored-2.ensures.rests marked next spelled;
     }

@@ -13,6 +13,6 @@ returns-clause-sound c levels boolean order =
     let e = gate_entry ns s c.args.term c.args.j in
     let made : IfOk c.put.result (λ id. Puts s id e c.put.new.self) = search rules in
     rule_in_order s c.put.new.self e c.put.result made c.put.ensures.unchanged ns levels
-    (λ id above. gate_in_order ns c.len.ensures.table c.one_number.ensures.one c.term_of_node.ensures.node c.args.term c.args.j c.requires.within
-    c.requires.table levels s id boolean)
+    (λ id above. gate_in_order c.tells_literals.ensures.tells c.one_number.ensures.one c.term_of_node.ensures.node ns c.len.ensures.table c.args.term c.args.j
+    c.requires.within c.requires.table levels s id boolean)
     order
