@@ -137,15 +137,15 @@ fn bind_parameters<'a>(
     ensures names { IfOk result (λ ps. TellsNames ps.bound.fault (list_any is_unknown (parameter_sorts (parameters_of parameters.now))) (clash (parameter_names (parameters_of parameters.now)))) }
     ensures found { IfOk result (λ ps. Settles ps.bound.fault (BindsParameters (parameters_of parameters.now) (map sort_of ps.sorts.items) terms.new ps.bound.frame) (sorts_written (parameter_sorts (parameters_of parameters.now)) ≡ None)) }
 {
-    let mut bound = Parameters {
+    let mut listed = Parameters {
         bound: Bound::new(alloc),
         sorts: Vec::with_capacity(alloc, parameters.len())?,
     };
     for (place, parameter) in parameters.iter().enumerate() {
         let found = parameter_term(terms, place, &parameter.sort)?;
-        bound.add(names, parameter.name, found)?;
+        listed.add(names, parameter.name, found)?;
     }
-    Ok(bound)
+    Ok(listed)
 }
 
 /// The parameter of this place and this sort.

@@ -36,7 +36,7 @@ loop-place-preserved c =
     let i = c.loop-place.place in
     let p = c.index-parameters-place.result in
     let found = c.in_ok-found.found in
-    let frame = c.loop-place.bound.bound.frame in
+    let frame = c.loop-place.listed.bound.frame in
     let later = c.add.new.self.bound.frame in
     let more_bound = c.in_ok-add.ensures.bound in
     let all : List Parameter = map parameter_view ps in
@@ -48,16 +48,16 @@ loop-place-preserved c =
       within = frame_within c.loop-place.terms c.parameter_term.new.terms frame later p.name.now (term_in_found found) here.grows before.within
           (found_bound_within c.parameter_term.new.terms found here.within) more_bound;
       binds = has_next (parameter_names all) (parameter_names rest) (parameter_names more) frame later p.name.now (term_in_found found) (ap parameter_names turn) more_bound before.binds;
-      names = bind_next c.loop-place.bound.bound.fault (fault_in found) c.add.new.self.bound.fault frame later p.name.now (term_in_found found) (parameter_names more)
+      names = bind_next c.loop-place.listed.bound.fault (fault_in found) c.add.new.self.bound.fault frame later p.name.now (term_in_found found) (parameter_names more)
           (is_operator_entry (named_by c.args.names.now p.name.now)) (is_unknown_sort (sort_view p.sort)) false (list_any is_unknown_sort (parameter_sorts more)) false
           (list_any is_unknown_sort (parameter_sorts all)) (clash (parameter_names all) || false) (c.requires.operators p.name.now) here.names c.in_ok-add.ensures.fault more_bound
-          (subst (λ r. BindLeads c.loop-place.bound.bound.fault frame (parameter_names r) (list_any is_unknown_sort (parameter_sorts r)) false (list_any is_unknown_sort (parameter_sorts all))
+          (subst (λ r. BindLeads c.loop-place.listed.bound.fault frame (parameter_names r) (list_any is_unknown_sort (parameter_sorts r)) false (list_any is_unknown_sort (parameter_sorts all))
           (clash (parameter_names all) || false)) turn before.names);
-      found = parameters_next c.loop-place.terms c.parameter_term.new.terms c.loop-place.bound.bound.fault _ found c.add.new.self.bound.fault frame later p.name.now all rest more (sort_view p.sort) i
-          c.loop-place.bound.sorts.items c.add.new.self.sorts.items here.grows c.in_ok-add.ensures.fault more_bound c.in_ok-add.ensures.sorts turn here.found here.sort before.found;
+      found = parameters_next c.loop-place.terms c.parameter_term.new.terms c.loop-place.listed.bound.fault _ found c.add.new.self.bound.fault frame later p.name.now all rest more (sort_view p.sort) i
+          c.loop-place.listed.sorts.items c.add.new.self.sorts.items here.grows c.in_ok-add.ensures.fault more_bound c.in_ok-add.ensures.sorts turn here.found here.sort before.found;
     }
 
 pub returns-clause-found : goal.returns-clause-found
 returns-clause-found c =
-    parameters_end c.loop-place.terms c.loop-place.bound.bound.fault (map parameter_view c.args.parameters.now) _ c.loop-place.place (map sort_of c.loop-place.bound.sorts.items)
-    c.loop-place.bound.bound.frame (ap (map parameter_view) (drop_all c.loop-place.place c.args.parameters.now c.loop-place-test.false)) c.loop-place.invariant.found
+    parameters_end c.loop-place.terms c.loop-place.listed.bound.fault (map parameter_view c.args.parameters.now) _ c.loop-place.place (map sort_of c.loop-place.listed.sorts.items)
+    c.loop-place.listed.bound.frame (ap (map parameter_view) (drop_all c.loop-place.place c.args.parameters.now c.loop-place-test.false)) c.loop-place.invariant.found

@@ -15,12 +15,12 @@ use Rattle.nz_elaborate.proofs.definitions.bind_parameters.Given as goal
 abbrev pub invariant-loop-place : goal.invariant-loop-place
 invariant-loop-place l = record {
   grown : Grows l.fn.terms l.terms;
-  within : (name : List ℕ) → IfSome (bound_in l.bound.bound.frame name) (IsBoundWithin l.terms);
-  binds : HasNames (parameter_names (map parameter_view l.parameters)) l.bound.bound.frame (parameter_names (map parameter_view (drop l.place l.parameters)));
-  names : BindLeads l.bound.bound.fault l.bound.bound.frame (parameter_names (map parameter_view (drop l.place l.parameters)))
+  within : (name : List ℕ) → IfSome (bound_in l.listed.bound.frame name) (IsBoundWithin l.terms);
+  binds : HasNames (parameter_names (map parameter_view l.parameters)) l.listed.bound.frame (parameter_names (map parameter_view (drop l.place l.parameters)));
+  names : BindLeads l.listed.bound.fault l.listed.bound.frame (parameter_names (map parameter_view (drop l.place l.parameters)))
       (list_any is_unknown_sort (parameter_sorts (map parameter_view (drop l.place l.parameters)))) false
       (list_any is_unknown_sort (parameter_sorts (map parameter_view l.parameters))) (clash (parameter_names (map parameter_view l.parameters)) || false);
-  found : Settles l.bound.bound.fault
-      (HasParameters (map parameter_view l.parameters) (map parameter_view (drop l.place l.parameters)) l.place (map sort_of l.bound.sorts.items) l.terms l.bound.bound.frame)
+  found : Settles l.listed.bound.fault
+      (HasParameters (map parameter_view l.parameters) (map parameter_view (drop l.place l.parameters)) l.place (map sort_of l.listed.sorts.items) l.terms l.listed.bound.frame)
       (sorts_written (parameter_sorts (map parameter_view l.parameters)) ≡ None);
 }
