@@ -12,12 +12,13 @@ use Rattle.nz_spec.specs.Elaboration.{Definition, RootFits, TermFits, term_of, h
 use Rattle.nz_spec.specs.Live.{State, defined, numbered_items, constants_of, definitions_of, assertions_of, grown}
 use Rattle.nz_spec.specs.Script.{is_live_name, scope_of, body_scope, parameters_from, parameter_names, parameter_sorts, sorts_written, sort_written, linear_outcome, definition_by, definition_of}
 use Rattle.nz_spec.specs.Command.{define, Outcome, refused}
+use Rattle.nz_spec.specs.Scoping.{clash, has_clash}
 use Rattle.nz_term.specs.Constants.{sort_of}
 use Rattle.nz_elaborate.specs.declared.typed.Typed.{Typed}
 use Rattle.nz_elaborate.specs.declared.names.Definition as code
 use Rattle.nz_elaborate.specs.Names.{IsDefined}
 use Rattle.nz_elaborate.specs.Definitions.{definition_unknown, definition_clash, body_term, definition_term, HasBody}
-use Rattle.nz_elaborate.specs.Elaborate.{IsWellNamed}
+use Rattle.nz_elaborate.specs.Elaborate.{ClashesFirst, IsWellNamed}
 use Rattle.nz_elaborate.specs.Typed.{Grows, IsTyped}
 use Rattle.nz_sort.specs.declared.acts.Act.TheVariants as acts
 use Rattle.nz_sort.specs.Live.{Standing, IsLive}
@@ -25,7 +26,7 @@ use Rattle.nz_sort.specs.Changes.{Comes, Defines, with_definition}
 use Rattle.nz_sort.proofs.Accepting.{stand_longer, has_definition}
 use Rattle.nz_sort.proofs.Naming.{scope_by, scope_stays, scope_with_definition}
 use Rattle.nz_sort.proofs.Living.{assertions_with, constants_with, definitions_with, items_with, kept_where_grown, next_after, pushed_with, same_constants, scope_as}
-use Rattle.nz_sort.proofs.Ruling.{past_names, take_whole}
+use Rattle.nz_sort.proofs.Ruling.{unknown_first, clash_next, past_names, take_whole}
 
 -- ---- What a definition leaves
 
@@ -112,14 +113,38 @@ body_fits fit s names (Some others) (Some sort) body sorts t definitions same is
 
 -- ---- The rules on a definition
 
+either : (b x y : Bool) → (x || y) ≡ true → (b || x || y) ≡ true
+either true x y e = refl
+either false x y e = e
+
+-- what comes behind the rules on names
+abbrev by_sorts : State → List ℕ → List Parameter → WrittenSort → Expression → Outcome
+by_sorts s name parameters sort body = definition_by s name (parameter_names parameters) (sorts_written (parameter_sorts parameters)) (sort_written sort) body
+
+pub unknown_definition : (s : State) (name : List ℕ) (parameters : List Parameter) (sort : WrittenSort) (body : Expression) → definition_unknown (scope_of s) parameters sort body ≡ true
+    → definition_of s name parameters sort body ≡ refused 2
+unknown_definition s name parameters sort body e =
+    unknown_first (definition_unknown (scope_of s) parameters sort body) (is_live_name s name || clash (parameter_names parameters) || has_clash body) (by_sorts s name parameters sort body) e
+
+pub declared_definition : (s : State) (name : List ℕ) (parameters : List Parameter) (sort : WrittenSort) (body : Expression) → definition_unknown (scope_of s) parameters sort body ≡ false
+    → is_live_name s name ≡ true → definition_of s name parameters sort body ≡ refused 9
+declared_definition s name parameters sort body known live =
+    clash_next (definition_unknown (scope_of s) parameters sort body) (is_live_name s name || clash (parameter_names parameters) || has_clash body) (by_sorts s name parameters sort body) known
+    (ap (λ b. b || clash (parameter_names parameters) || has_clash body) live)
+
+pub clashing_definition : (s : State) (name : List ℕ) (parameters : List Parameter) (sort : WrittenSort) (body : Expression)
+    → ClashesFirst (definition_unknown (scope_of s) parameters sort body) (definition_clash parameters body) → definition_of s name parameters sort body ≡ refused 9
+clashing_definition s name parameters sort body h =
+    clash_next (definition_unknown (scope_of s) parameters sort body) (is_live_name s name || clash (parameter_names parameters) || has_clash body) (by_sorts s name parameters sort body) h.known
+    (either (is_live_name s name) (clash (parameter_names parameters)) (has_clash body) h.clashes)
+
 -- a definition whose names are well, by its sorts and its body
 past : (s : State) (name : List ℕ) (parameters : List Parameter) (sort : WrittenSort) (body : Expression)
     → definition_unknown (scope_of s) parameters sort body ≡ false → is_live_name s name ≡ false → definition_clash parameters body ≡ false
-    → definition_of s name parameters sort body ≡ definition_by s name (parameter_names parameters) (sorts_written (parameter_sorts parameters)) (sort_written sort) body
+    → definition_of s name parameters sort body ≡ by_sorts s name parameters sort body
 past s name parameters sort body known fresh distinct =
-    past_names (definition_unknown (scope_of s) parameters sort body) (is_live_name s name || definition_clash parameters body)
-    (definition_by s name (parameter_names parameters) (sorts_written (parameter_sorts parameters)) (sort_written sort) body) known
-    (ap (λ b. b || definition_clash parameters body) fresh ∙ distinct)
+    past_names (definition_unknown (scope_of s) parameters sort body) (is_live_name s name || clash (parameter_names parameters) || has_clash body) (by_sorts s name parameters sort body) known
+    (ap (λ b. b || clash (parameter_names parameters) || has_clash body) fresh ∙ distinct)
 
 -- what becomes of a body
 abbrev body_outcome : List ℕ → List Sort → Option Term → Outcome

@@ -1,5 +1,5 @@
 -- The live state after commands.
-use Rattle.std.proofs.Common.{◌||◌, ◌+◌, ◌-◌, ◌≤◌, ◌≡◌, ◌⊎◌, inl, inr, ℕ, zero, suc, ◌<◌, List, [], ◌∷◌, ◌++◌, length, map, take, None, Some, true, false, cond, bytes_eq, slice_get, refl, sym, ap, ◌∙◌, append_assoc, append-nil, length-append, subst, arith}
+use Rattle.std.proofs.Common.{◌||◌, ◌+◌, ◌-◌, ◌≤◌, ◌≡◌, ◌⊎◌, inl, inr, ℕ, zero, suc, ◌<◌, List, [], ◌∷◌, ◌++◌, length, map, take, Option, None, Some, IfSome, IfNone, is_some, true, false, cond, bytes_eq, slice_get, refl, sym, ap, ◌∙◌, append_assoc, append-nil, length-append, subst, arith}
 use Rattle.std.proofs.lemmas.Grind.{flat_map-append}
 use Rattle.std.proofs.lemmas.List.{length-map}
 use Rattle.std.specs.Cmp.Lexicographic.{nat_list_eq_equiv}
@@ -12,19 +12,21 @@ use Rattle.nz_spec.specs.Order.{companions_of, IsInTable, HasCompanions}
 use Rattle.nz_spec.specs.Decide.{constants_of_head, constants_in_table}
 use Rattle.nz_spec.specs.Elaboration.{Definition, constant_named}
 use Rattle.nz_spec.specs.Live.{State, LiveItem, Item, numbered_items, items_of, constants_in, definitions_in, assertions_in, constants_of, definitions_of, assertions_of, with_item, grown}
+use Rattle.std.specs.Borrow.{Bor}
+use Rattle.nz_spec.specs.Script.{scope_of, is_live_name}
 use Rattle.nz_spec.specs.Request.{Request}
 use Rattle.nz_spec.specs.Command.{Command, Outcome, accepted}
 use Rattle.nz_spec.specs.Reply.{Reply}
 use Rattle.nz_spec.specs.Right.{effect}
 use Rattle.nz_elaborate.specs.declared.names.Named as naming
-use Rattle.nz_elaborate.specs.Names.{IsScope}
+use Rattle.nz_elaborate.specs.Names.{IsScope, named_by}
 use Rattle.nz_elaborate.specs.declared.typed.Typed.{Typed}
-use Rattle.nz_elaborate.specs.Typed.{IsOperator, Grows, IsTyped, AreTyped}
+use Rattle.nz_elaborate.specs.Typed.{IsOperator, Grows, StandsFor, IsTyped, AreTyped}
 use Rattle.nz_sort.specs.declared.items.Accepted.{Accepted}
 use Rattle.nz_sort.specs.Items.{table_numbers, items_in}
 use Rattle.nz_sort.specs.Live.{Standing, HasItems, IsLive, IsAccepted, Leaves, IfSkipped, Ask, Asks, changed, check, show_model, show_values, show_reason, show_info, show_levels, print_success, nothing, echo, leave, unsupported}
 use Rattle.nz_sort.specs.Acts.{is_check}
-use Rattle.nz_sort.proofs.Naming.{scope_by, scope_stays}
+use Rattle.nz_sort.proofs.Naming.{scope_by, scope_stays, are_live}
 use Rattle.nz_sort.proofs.Accepting.{items_in-last, constants_in-append, definitions_in-append, assertions_in-append, stand_longer, items_kept}
 
 -- ---- Items
@@ -147,7 +149,7 @@ not_before old new id c none longer at below =
 
 -- ---- Tables that are kept
 
-take_front : (xs ys : List Node) → take (length xs) (xs ++ ys) ≡ xs
+pub take_front : (xs ys : List Node) → take (length xs) (xs ++ ys) ≡ xs
 take_front [] ys = refl
 take_front (x ∷ xs) ys = ap (λ l. x ∷ l) (take_front xs ys)
 
@@ -192,6 +194,9 @@ all_typed_kept old new g [] no_terms h = tt
 all_typed_kept old new g [] (terms t ts) h = absurd h
 all_typed_kept old new g (x ∷ xs) no_terms h = absurd h
 all_typed_kept old new g (x ∷ xs) (terms t ts) h = (typed_kept old new g x t h.0, all_typed_kept old new g xs ts h.1)
+
+pub stands_kept : (old new : List Node) → Grows old new → (id : ℕ) → id < length old → StandsFor new id (term_in old id)
+stands_kept old new g id within = record { within = omega (arith, within, longer old new g); term = g.stays id within }
 
 -- ---- Companions
 
@@ -276,7 +281,7 @@ live_grown stays old new standing s g companions live =
     }
 
 -- an accepted command leaves what its ask says, where that is no check
-leaves_by : (s : State) (r : Request) (outcome : Outcome) (ask : Ask) (ns : List Node) (standing : Standing) (c : Command) → is_check ask ≡ false → Asks ns ask r c
+pub leaves_by : (s : State) (r : Request) (outcome : Outcome) (ask : Ask) (ns : List Node) (standing : Standing) (c : Command) → is_check ask ≡ false → Asks ns ask r c
     → IsAccepted s r outcome ask ns standing → Leaves s r outcome ask ns standing
 leaves_by s r outcome changed ns standing c other asks h = h
 leaves_by s r outcome check ns standing c other asks h = cc
@@ -305,3 +310,18 @@ if_skipped nothing p = tt
 if_skipped echo p = tt
 if_skipped leave p = tt
 if_skipped unsupported p = p
+
+-- ---- The scope of the live names
+
+pub live_scope : (ns : List Node) (standing : Standing) (s : State) (names : List (List ℕ × naming.Named)) → names ≡ standing.names → IsLive ns standing s → IsScope ns names [] (scope_of s)
+live_scope ns standing s names e live = subst (λ l. IsScope ns l [] (scope_of s)) (sym e) live.named
+
+is_listed : {A B : Type 0} (o : Option A) (p : Option B) (f : A → B) → IfSome o (λ a. p ≡ Some (f a)) → IfNone o (p ≡ None) → is_some o ≡ is_some p
+is_listed (Some a) p f some none = sym (ap is_some some)
+is_listed None p f some none = sym (ap is_some none)
+
+-- whether a name that is looked up is live
+pub looked_up : (ns : List Node) (standing : Standing) (s : State) (names : List (List ℕ × naming.Named)) (name : List ℕ) (o : Option (Bor naming.Named)) → names ≡ standing.names
+    → IsLive ns standing s → IfSome o (λ n. named_by names name ≡ Some n.now) → IfNone o (named_by names name ≡ None) → is_live_name s name ≡ is_some o
+looked_up ns standing s names name o e live some none =
+    sym (are_live ns names (scope_of s) name (live_scope ns standing s names e live)) ∙ sym (is_listed o (named_by names name) (λ n. n.now) some none)

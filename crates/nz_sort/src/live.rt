@@ -1,5 +1,5 @@
 //! The live state: what becomes of a command, and what it leaves.
-ghost use Rattle.std.specs.Prelude.{◌≡◌, All, ◌<◌, ◌+◌, ℕ, List, [], length, map, take, OnOk, OnErr, IfOk, IfErr, IfSome, Some, None, ◌||◌};
+ghost use Rattle.std.specs.Prelude.{◌≡◌, All, ◌<◌, ◌+◌, ℕ, List, [], length, map, take, OnOk, OnErr, IfOk, IfErr, IfSome, Some, None, ◌||◌, false, if◌then◌else◌};
 ghost use Rattle.std.specs.List.{list_any};
 ghost use Rattle.nz_sexpr.specs.View.{view};
 ghost use Rattle.nz_spec.specs.Bounds.{has_token, is_long_decimal};
@@ -372,14 +372,14 @@ impl Live {
         let is_declared = self.names.get(name).is_some();
         let mark = terms.mark();
         match elaborate_body(self.alloc, &self.names, terms, parameters, sort, body) {
-            Err(ElaborateError::Unknown) => Err(Refusal::UnknownSymbol),
-            Err(ElaborateError::Clash) => Err(Refusal::Declared),
-            Err(ElaborateError::Sort) => Err(if is_declared {
-                Refusal::Declared
-            } else {
-                Refusal::Sort
-            }),
-            Err(ElaborateError::Memory) => Err(Refusal::Memory),
+            Err(ElaborateError::Sort) => {
+                if is_declared {
+                    Err(Refusal::Declared)
+                } else {
+                    Err(Refusal::Sort)
+                }
+            }
+            Err(error) => Err(refusal_of(error)),
             Ok(definition) => {
                 if is_declared {
                     return Err(Refusal::Declared);
@@ -524,7 +524,7 @@ fn refusal_of(error: ElaborateError) -> Refusal
 fn has_unknown_sort(sorts: &[WrittenSort]) -> bool
     ensures unknown { result ≡ list_any is_unknown (map sort_view sorts.now) }
 {
-    sorts.iter().any(is_unknown_sort)
+    sorts.iter().any(|sort| is_unknown_sort(sort))
 }
 
 /// The number after this one. Where there is none, no item more finds memory.
