@@ -1,5 +1,5 @@
 -- Declarations: the rules on one, and what it leaves.
-use Rattle.std.proofs.Common.{◌||◌, ◌+◌, ◌-◌, ◌≡◌, ◌⊎◌, inl, inr, ℕ, ◌<◌, List, [], ◌∷◌, ◌++◌, length, map, take, None, Some, is_some, Ok, Bool, true, false, slice_get, refl, sym, ap, ◌∙◌, append-nil, subst}
+use Rattle.std.proofs.Common.{◌||◌, ◌+◌, ◌-◌, ◌≡◌, ◌⊎◌, inl, inr, ℕ, ◌<◌, List, [], ◌∷◌, ◌++◌, length, map, take, None, Some, is_some, Ok, Bool, true, false, nat_eq, slice_get, refl, sym, ap, ◌∙◌, append-nil, subst}
 use Rattle.std.specs.List.{list_any}
 use Rattle.std.proofs.lemmas.Grind.{flat_map-append}
 use Rattle.std.proofs.lemmas.Option.{slice_get_within}
@@ -12,6 +12,8 @@ use Rattle.nz_spec.specs.Request.{WrittenSort, declares}
 use Rattle.nz_spec.specs.Live.{State, declared, numbered_items, constants_of, definitions_of, assertions_of, grown}
 use Rattle.nz_spec.specs.Script.{is_live_name, is_unknown_sort, constant_sort, declaration_of}
 use Rattle.nz_spec.specs.Command.{declare_const, accepted, refused}
+use Rattle.nz_command.specs.Requests.{sort_view}
+use Rattle.nz_command.specs.declared.command.WrittenSort as code
 use Rattle.nz_elaborate.specs.Names.{named_by}
 use Rattle.nz_sort.specs.declared.acts.Act.TheVariants as acts
 use Rattle.nz_sort.specs.Live.{Standing, IsLive}
@@ -95,3 +97,13 @@ no_sort s name sorts sort e f g = rw (e, f, g) refl
 pub has_sort : (s : State) (name : List ℕ) (sorts : List WrittenSort) (sort : WrittenSort) (found : Sort) → (list_any is_unknown_sort sorts || is_unknown_sort sort) ≡ false
     → is_live_name s name ≡ false → constant_sort sorts sort ≡ Some found → declaration_of s name sorts sort ≡ accepted (declare_const (constant_of name found))
 has_sort s name sorts sort found e f g = rw (e, f, g) refl
+
+pub unknown_each : (ws : List code.WrittenSort) → list_any (λ w. is_unknown_sort (sort_view w)) ws ≡ list_any is_unknown_sort (map sort_view ws)
+unknown_each [] = refl
+unknown_each (w ∷ ws) = ap (λ b. is_unknown_sort (sort_view w) || b) (unknown_each ws)
+
+-- a sort behind arguments is that of no constant
+pub has_arguments : (ws : List code.WrittenSort) (sort : WrittenSort) → nat_eq (length ws) 0 ≡ false → constant_sort (map sort_view ws) sort ≡ None
+has_arguments [] sort e = cc
+has_arguments (w ∷ ws) sort e = refl
+

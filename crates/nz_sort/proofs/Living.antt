@@ -1,7 +1,8 @@
 -- The live state after commands.
-use Rattle.std.proofs.Common.{◌||◌, ◌+◌, ◌-◌, ◌≤◌, ◌≡◌, ◌⊎◌, inl, inr, ℕ, zero, suc, ◌<◌, List, [], ◌∷◌, ◌++◌, length, map, take, Option, None, Some, IfSome, IfNone, is_some, true, false, cond, bytes_eq, slice_get, refl, sym, ap, ◌∙◌, append_assoc, append-nil, length-append, subst, arith}
+use Rattle.std.proofs.Common.{◌||◌, ◌+◌, ◌-◌, ◌≤◌, ◌≡◌, ◌⊎◌, inl, inr, ℕ, zero, suc, ◌<◌, List, [], ◌∷◌, ◌++◌, length, map, take, All, Option, None, Some, IfSome, IfNone, is_some, true, false, cond, bytes_eq, slice_get, refl, sym, ap, ◌∙◌, append_assoc, append-nil, length-append, subst, arith}
 use Rattle.std.proofs.lemmas.Grind.{flat_map-append}
 use Rattle.std.proofs.lemmas.List.{length-map}
+use Rattle.std.proofs.lemmas.List.Elements.{All-cons, All-nil}
 use Rattle.std.specs.Cmp.Lexicographic.{nat_list_eq_equiv}
 use Rattle.std.specs.List.{AllByRecursion}
 use Rattle.std.proofs.lemmas.Bool.{cases_lt}
@@ -11,7 +12,7 @@ use Rattle.nz_spec.specs.Table.{Node, term_in, TermStays}
 use Rattle.nz_spec.specs.Order.{companions_of, IsInTable, HasCompanions}
 use Rattle.nz_spec.specs.Decide.{constants_of_head, constants_in_table}
 use Rattle.nz_spec.specs.Elaboration.{Definition, constant_named}
-use Rattle.nz_spec.specs.Live.{State, LiveItem, Item, numbered_items, items_of, constants_in, definitions_in, assertions_in, constants_of, definitions_of, assertions_of, with_item, grown}
+use Rattle.nz_spec.specs.Live.{State, LiveItem, Item, numbered_items, items_of, constants_in, definitions_in, assertions_in, constants_of, definitions_of, assertions_of, with_item, grown, start}
 use Rattle.std.specs.Borrow.{Bor}
 use Rattle.nz_spec.specs.Script.{scope_of, is_live_name}
 use Rattle.nz_spec.specs.Request.{Request}
@@ -19,12 +20,14 @@ use Rattle.nz_spec.specs.Command.{Command, Outcome, accepted}
 use Rattle.nz_spec.specs.Reply.{Reply}
 use Rattle.nz_spec.specs.Right.{effect}
 use Rattle.nz_elaborate.specs.declared.names.Named as naming
-use Rattle.nz_elaborate.specs.Names.{IsScope, named_by}
+use Rattle.nz_elaborate.specs.Names.{IsScope, named_by, nothing_declared}
 use Rattle.nz_elaborate.specs.declared.typed.Typed.{Typed}
 use Rattle.nz_elaborate.specs.Typed.{IsOperator, Grows, StandsFor, IsTyped, AreTyped}
 use Rattle.nz_sort.specs.declared.items.Accepted.{Accepted}
-use Rattle.nz_sort.specs.Items.{table_numbers, items_in}
-use Rattle.nz_sort.specs.Live.{Standing, HasItems, IsLive, IsAccepted, Leaves, IfSkipped, Ask, Asks, changed, check, show_model, show_values, show_reason, show_info, show_levels, print_success, nothing, echo, leave, unsupported}
+use Rattle.nz_sort.specs.declared.items.Goal.{Goal}
+use Rattle.nz_sort.specs.declared.items.Wish.{Wish}
+use Rattle.nz_sort.specs.Items.{table_numbers, items_in, StandForAll}
+use Rattle.nz_sort.specs.Live.{Standing, standing_of, HasItems, IsLive, IsAccepted, Leaves, IfSkipped, Ask, Asks, changed, check, show_model, show_values, show_reason, show_info, show_levels, print_success, nothing, echo, leave, unsupported}
 use Rattle.nz_sort.specs.Acts.{is_check}
 use Rattle.nz_sort.proofs.Naming.{scope_by, scope_stays, are_live}
 use Rattle.nz_sort.proofs.Accepting.{items_in-last, constants_in-append, definitions_in-append, assertions_in-append, stand_longer, items_kept}
@@ -149,7 +152,7 @@ not_before old new id c none longer at below =
 
 -- ---- Tables that are kept
 
-pub take_front : (xs ys : List Node) → take (length xs) (xs ++ ys) ≡ xs
+pub take_front : {A : Type 0} (xs ys : List A) → take (length xs) (xs ++ ys) ≡ xs
 take_front [] ys = refl
 take_front (x ∷ xs) ys = ap (λ l. x ∷ l) (take_front xs ys)
 
@@ -325,3 +328,41 @@ pub looked_up : (ns : List Node) (standing : Standing) (s : State) (names : List
     → IsLive ns standing s → IfSome o (λ n. named_by names name ≡ Some n.now) → IfNone o (named_by names name ≡ None) → is_live_name s name ≡ is_some o
 looked_up ns standing s names name o e live some none =
     sym (are_live ns names (scope_of s) name (live_scope ns standing s names e live)) ∙ sym (is_listed o (named_by names name) (λ n. n.now) some none)
+
+-- ---- The start
+
+pub live_at_start : (names : List (List ℕ × naming.Named)) (cs assertions : List Accepted) (gs : List Goal) (ws : List Wish) (ids : List ℕ) → cs ≡ [] → assertions ≡ [] → gs ≡ [] → ws ≡ [] → ids ≡ []
+    → IsScope [] names [] nothing_declared → IsLive [] (standing_of names cs assertions gs ws ids 0 false) start
+live_at_start names cs assertions gs ws ids a b d e f h =
+    subst (λ l. IsLive [] (standing_of names l assertions gs ws ids 0 false) start) (sym a)
+    (subst (λ l. IsLive [] (standing_of names [] l gs ws ids 0 false) start) (sym b)
+    (subst (λ l. IsLive [] (standing_of names [] [] l ws ids 0 false) start) (sym d)
+    (subst (λ l. IsLive [] (standing_of names [] [] [] l ids 0 false) start) (sym e)
+    (subst (λ l. IsLive [] (standing_of names [] [] [] [] l 0 false) start) (sym f)
+    (let none = λ (i : ℕ). i < 0 in
+    let nothing : StandForAll [] [] [] = record { within = All-nil none; terms = refl } in
+    record {
+      named = h;
+      constants = refl;
+      companions = λ i below. absurd (omega (arith, below));
+      within = All-nil none;
+      terms = refl;
+      items =
+          record {
+            constants = record { numbers = refl; terms = nothing };
+            assertions = record { numbers = refl; terms = nothing };
+            goals = record { items = record { numbers = refl; terms = nothing }; directions = refl; shown = refl };
+            wishes = record { items = record { numbers = refl; terms = nothing }; weights = refl; numerals = refl; groups = refl };
+            all = nothing;
+            numbers = refl;
+          };
+      next = refl;
+      unpushed = refl;
+    })))))
+
+-- the numbers of typed terms are in the table
+pub all_within : (ns : List Node) (xs : List Typed) (ts : Terms) → AreTyped ns xs ts → All (λ (x : Typed). x.id < length ns) xs
+all_within ns [] no_terms h = All-nil (λ (x : Typed). x.id < length ns)
+all_within ns [] (terms t ts) h = absurd h
+all_within ns (x ∷ xs) no_terms h = absurd h
+all_within ns (x ∷ xs) (terms t ts) h = All-cons (λ (y : Typed). y.id < length ns) x xs h.0.within (all_within ns xs ts h.1)

@@ -3,11 +3,12 @@ use Rattle.std.proofs.Common.{◌≡◌, ◌||◌, ◌-◌, ℕ, List, [], ◌�
 use Rattle.nz_spec.specs.Tree.{Tree}
 use Rattle.nz_spec.specs.Bounds.{has_token, is_wide_token, is_long_decimal}
 use Rattle.nz_spec.specs.Table.{Node}
-use Rattle.nz_spec.specs.Request.{Request, checks}
+use Rattle.nz_spec.specs.Request.{Request, checks, other_request}
+use Rattle.nz_spec.specs.Parse.{request_of}
 use Rattle.nz_spec.specs.Live.{State}
 use Rattle.nz_spec.specs.Limits.{passes_limit}
 use Rattle.nz_spec.specs.Command.{Command, check_sat, Outcome, accepted, refused, not_taken}
-use Rattle.nz_spec.specs.Script.{outcome_requested, outcome_by}
+use Rattle.nz_spec.specs.Script.{outcome_of, outcome_requested, outcome_by}
 use Rattle.nz_spec.specs.Reply.{Reply}
 use Rattle.nz_spec.specs.Right.{effect}
 use Rattle.nz_elaborate.specs.declared.faults.ElaborateError.{ElaborateError}
@@ -16,8 +17,8 @@ use Rattle.nz_elaborate.specs.Elaborate.{ClashesFirst, IsWellNamed}
 use Rattle.nz_sort.specs.declared.acts.Act.{Act}
 use Rattle.nz_sort.specs.declared.refusal.Refusal.{Refusal}
 use Rattle.nz_sort.specs.Acts.{asked, error_of, refusal_by, is_check, AsksBy}
-use Rattle.nz_sort.specs.Changes.{Comes}
-use Rattle.nz_sort.specs.Live.{Standing, IsLive, Leaves, Ask, Asks, check, unsupported}
+use Rattle.nz_sort.specs.Changes.{Comes, ComesBy}
+use Rattle.nz_sort.specs.Live.{Standing, IsLive, IsCarriedOut, Leaves, Ask, Asks, changed, check, show_model, show_values, show_reason, show_info, show_levels, print_success, nothing, echo, leave, unsupported}
 use Rattle.nz_sort.proofs.Living.{leaves_asked, leaves_by, if_skipped, kept_where_same}
 
 pub if_some_weaker : {P Q : ℕ → Type 0} (o : Option ℕ) → ((n : ℕ) → P n → Q n) → IfSome o P → IfSome o Q
@@ -175,3 +176,41 @@ comes_alike old new before after r becomes others (Err refusal) alike h =
       skipped = tt;
       front = h.front;
     }
+
+-- ---- Trees that are commands, or none
+
+outcome_parsed : (s : State) (t : Tree) (o : Option Request) → request_of t ≡ o → outcome_of s t ≡ elim o [ Some r ↦ outcome_requested s t r | None ↦ refused 1 ]
+outcome_parsed s t o e = ap (λ (p : Option Request). elim p [ Some r ↦ outcome_requested s t r | None ↦ refused 1 ]) e
+
+-- what is refused leaves nothing
+no_leaving : (s : State) (r : Request) (n : ℕ) (ask : Ask) (ns : List Node) (standing : Standing) → Leaves s r (refused n) ask ns standing → ⊥
+no_leaving s r n changed ns standing h = let no = h.is in cc
+no_leaving s r n check ns standing h = let no = h.0.is in cc
+no_leaving s r n show_model ns standing h = let no = h.is in cc
+no_leaving s r n (show_values xs) ns standing h = let no = h.is in cc
+no_leaving s r n show_reason ns standing h = let no = h.is in cc
+no_leaving s r n (show_info i) ns standing h = let no = h.is in cc
+no_leaving s r n show_levels ns standing h = let no = h.is in cc
+no_leaving s r n (print_success b) ns standing h = let no = h.is in cc
+no_leaving s r n nothing ns standing h = let no = h.is in cc
+no_leaving s r n echo ns standing h = let no = h.is in cc
+no_leaving s r n leave ns standing h = let no = h.is in cc
+no_leaving s r n unsupported ns standing h = let no = h.is in cc
+
+pub carried : (old new : List Node) (before after : Standing) (t : Tree) (o : Option Request) (act : Act) (s : State) → request_of t ≡ o → ComesBy old new before after t o (Ok act)
+    → IsLive old before s → IsCarriedOut s t (asked act) new after
+carried old new before after t None act s e h live = absurd (no_leaving s other_request 1 (asked act) new after (h.accepted s live))
+carried old new before after t (Some r) act s e h live =
+    record { request = r; parsed = e; leaves = subst (λ o. Leaves s r o (asked act) new after) (sym (outcome_parsed s t (Some r) e)) (h.accepted s live) }
+
+pub broken : (old new : List Node) (before after : Standing) (t : Tree) (o : Option Request) (refusal : Refusal) → request_of t ≡ o → ComesBy old new before after t o (Err refusal)
+    → IfSome (error_of refusal) (λ n. (s : State) → IsLive old before s → outcome_of s t ≡ refused n)
+broken old new before after t None refusal e h = if_some_weaker (error_of refusal) (λ n told s live. outcome_parsed s t None e ∙ told s live) h.refused
+broken old new before after t (Some r) refusal e h = if_some_weaker (error_of refusal) (λ n told s live. outcome_parsed s t (Some r) e ∙ told s live) h.refused
+
+-- what comes, of whatever command
+pub some_comes : (old new : List Node) (before after : Standing) (t : Tree) (o : Option Request) (result : Result Act Refusal) → ComesBy old new before after t o result
+    → (r : Request) × (becomes : State → Outcome) × Comes old new before after r becomes result
+some_comes old new before after t None result h = (other_request, λ s. refused 1, h)
+some_comes old new before after t (Some r) result h = (r, λ s. outcome_requested s t r, h)
+

@@ -1,13 +1,14 @@
 -- What is added to what stands, and what comes of a command.
-use Rattle.std.specs.Prelude.{◌≡◌, ℕ, ◌||◌, ◌+◌, not, Bool, List, [], ◌∷◌, ◌++◌, length, take, Some, slice_get, ◌⊎◌, Result, OnErr, IfOk, IfErr, IfSome}
+use Rattle.std.specs.Prelude.{◌≡◌, ℕ, ◌||◌, ◌+◌, not, Bool, List, [], ◌∷◌, ◌++◌, length, take, Option, Some, None, slice_get, ◌⊎◌, Result, OnErr, IfOk, IfErr, IfSome}
+use Rattle.nz_spec.specs.Tree.{Tree}
 use Rattle.nz_spec.specs.Term.{Sort, is_bool, Constant, constant, Term, Terms, apply, no_terms}
 use Rattle.nz_spec.specs.Normal.{normal_of}
 use Rattle.nz_spec.specs.Table.{Node, term_in}
 use Rattle.nz_spec.specs.Elaboration.{Definition as SpecDefinition, RootFits}
-use Rattle.nz_spec.specs.Request.{Question, Request}
+use Rattle.nz_spec.specs.Request.{Question, Request, other_request}
 use Rattle.nz_spec.specs.Live.{State}
 use Rattle.nz_spec.specs.Command.{define, assert_term, get_value, Outcome, accepted, refused}
-use Rattle.nz_spec.specs.Script.{asked_of}
+use Rattle.nz_spec.specs.Script.{asked_of, outcome_requested}
 use Rattle.nz_term.specs.Constants.{sort_of}
 use Rattle.nz_elaborate.specs.declared.typed.Typed.{Typed}
 use Rattle.nz_elaborate.specs.declared.names.Definition.{Definition}
@@ -31,6 +32,11 @@ pub record Comes (old new : List Node) (before after : Standing) (r : Request) (
   pub skipped_terms : IfOk result (λ act. IfSkipped (asked act) (new ≡ old))
   pub skipped : IfOk result (λ act. IfSkipped (asked act) (after ≡ before))
   pub front : take (length before.asserted) after.asserted ≡ before.asserted
+
+-- What comes of a tree that is this command, or none.
+abbrev pub ComesBy : List Node → List Node → Standing → Standing → Tree → Option Request → Result Act Refusal → Type 0
+ComesBy old new before after t (Some r) result = Comes old new before after r (λ s. outcome_requested s t r) result
+ComesBy old new before after t None result = Comes old new before after other_request (λ s. refused 1) result
 
 -- ---- Definitions, assertions and values
 

@@ -21,7 +21,7 @@ ghost use Rattle.nz_elaborate.specs.Typed.{Grows, AreTyped};
 ghost use Rattle.nz_sort.specs.Items.{table_numbers};
 ghost use Rattle.nz_sort.specs.Live.{IsLive, IsCarriedOut, IfSkipped, standing_of, check, unsupported};
 ghost use Rattle.nz_sort.specs.Acts.{asked, error_of, refusal_by};
-ghost use Rattle.nz_sort.specs.Changes.{Comes, Defines, Asserts, Shows, HasAdded, constant_of, with_constant, with_definition, with_assertion};
+ghost use Rattle.nz_sort.specs.Changes.{Comes, ComesBy, Defines, Asserts, Shows, HasAdded, constant_of, with_constant, with_definition, with_assertion};
 
 use crate::acts::{Act, info_act, setting_act};
 use crate::items::{Accepted, Goal, Wish};
@@ -182,8 +182,7 @@ impl Live {
     /// below.
     fn carried_out(&mut self, terms: &mut Terms, tree: &Tree) -> Result<Act, Refusal>
         requires live { (s : State) × IsLive terms.old self.old s }
-        ensures form { IfErr result (λ refusal. request_of (view tree.now) ≡ None → IfSome (error_of refusal) (λ n. n ≡ 1)) }
-        ensures comes { (r : requests.Request) → request_of (view tree.now) ≡ Some r → Comes terms.old terms.new self.old self.new r (λ s. outcome_requested s (view tree.now) r) result }
+        ensures comes { ComesBy terms.old terms.new self.old self.new (view tree.now) (request_of (view tree.now)) result }
     {
         match parse(self.alloc, tree)? {
             Some(command) => self.ruled(terms, tree, &command),
@@ -379,7 +378,9 @@ impl Live {
                     Err(Refusal::Sort)
                 }
             }
-            Err(error) => Err(refusal_of(error)),
+            Err(ElaborateError::Unknown) => Err(Refusal::UnknownSymbol),
+            Err(ElaborateError::Clash) => Err(Refusal::Declared),
+            Err(ElaborateError::Memory) => Err(Refusal::Memory),
             Ok(definition) => {
                 if is_declared {
                     return Err(Refusal::Declared);
@@ -522,7 +523,7 @@ fn refusal_of(error: ElaborateError) -> Refusal
 
 /// One of the sorts is by a name that no sort has.
 fn has_unknown_sort(sorts: &[WrittenSort]) -> bool
-    ensures unknown { result ≡ list_any is_unknown (map sort_view sorts.now) }
+    ensures unknown { result ≡ list_any (λ w. is_unknown (sort_view w)) sorts.now }
 {
     sorts.iter().any(|sort| is_unknown_sort(sort))
 }
