@@ -55,7 +55,6 @@ live_still : (ns : List Node) (l : Standing) (s : State) (x y : Option LastAnswe
 live_still ns l s x y o p h =
     record {
       named = h.named;
-      fits = h.fits;
       constants = h.constants;
       companions = h.companions;
       within = h.within;

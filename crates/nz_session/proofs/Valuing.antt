@@ -16,9 +16,13 @@ use Rattle.nz_spec.specs.Reply.{Shown, shown_value, shown_wide, term_shown, valu
 use Rattle.nz_spec.specs.Right.{Context, shown_under, AreRightValues}
 use Rattle.nz_spec.specs.Tree.{Tree, literal, leaf, node, Trees, no_trees, trees}
 use Rattle.nz_spec.specs.Text.{intact}
-use Rattle.nz_sort.specs.declared.typed.Typed.{Typed}
-use Rattle.nz_sort.specs.Typed.{IsTyped, AreTyped}
-use Rattle.nz_sort.specs.Live.{AsksValues, arguments_of}
+use Rattle.nz_elaborate.specs.declared.typed.Typed.{Typed}
+use Rattle.nz_elaborate.specs.Typed.{IsTyped, AreTyped}
+use Rattle.nz_spec.specs.Reading.{trees_from}
+use Rattle.nz_spec.specs.Request.{Question, Request, shows_values, echoes}
+use Rattle.nz_spec.specs.Parse.{request_of}
+use Rattle.nz_spec.specs.Argument.{argument_of, Tells, ArgumentTells}
+use Rattle.nz_sort.specs.Live.{AsksValues}
 use Rattle.nz_reply.specs.Replies.{reply_of}
 use Rattle.nz_reply.specs.Values.{asked_by, echoed_by, with_shown}
 use Rattle.nz_reply.specs.declared.reply.Reply.TheVariants as code
@@ -70,38 +74,36 @@ told_end xs os all total (inr e) h = sym (append-nil all) ∙ ap (λ l. all ++ l
 
 -- ---- The values that are asked for
 
-told_trees : (a : Assignment) (ts : Trees) (us : Terms) → with_shown ts (terms_shown a us) ≡ map (shown_under a) (asked_of ts us)
-told_trees a no_trees us = refl
-told_trees a (trees t ts) no_terms = refl
-told_trees a (trees t ts) (terms u us) = ap (λ l. (t, term_shown a u) ∷ l) (told_trees a ts us)
+abbrev question_trees : List Question → List Tree
+question_trees qs = map (λ (q : Question). q.tree) qs
 
-asked_by_list : (t : Tree) (list : Trees) → arguments_of t ≡ trees (node list) no_trees → asked_by t ≡ list
-asked_by_list (leaf x) list e = absurd cc
-asked_by_list (node no_trees) list e = absurd cc
-asked_by_list (node (trees k ts)) list e = ap (λ us. asked_by (node (trees k us))) e
+told_trees : (a : Assignment) (qs : List Question) (us : Terms) → with_shown (trees_from (question_trees qs)) (terms_shown a us) ≡ map (shown_under a) (asked_of qs us)
+told_trees a [] us = refl
+told_trees a (q ∷ qs) no_terms = refl
+told_trees a (q ∷ qs) (terms u us) = ap (λ l. (q.tree, term_shown a u) ∷ l) (told_trees a qs us)
+
+-- what a command shows stands in its argument
+values_told : ArgumentTells → (t : Tree) (r : Request) (qs : List Question) → request_of t ≡ Some r → r ≡ shows_values qs → asked_by t ≡ trees_from (question_trees qs)
+values_told tells t r qs e f = subst (Tells (argument_of t)) (e ∙ ap Some f) (tells t)
+
+pub echo_told : ArgumentTells → (t : Tree) (r : Request) (text : List ℕ) → request_of t ≡ Some r → r ≡ echoes text → echoed_by t ≡ text
+echo_told tells t r text e f = subst (Tells (argument_of t)) (e ∙ ap Some f) (tells t)
 
 -- ---- The answer to get-value
 
-pub values_answer : {E : Type 0} (levels : E → List (List ℕ)) (table : E → List Node) (c : Context) (t : Tree) (k : Command) (xs : List Typed) (shows : List Shown) (m : FoundModel) (answer : Answer) (desk : Desk E)
+pub values_answer : {E : Type 0} (levels : E → List (List ℕ)) (table : E → List Node) (tells : ArgumentTells) (c : Context) (t : Tree) (r : Request) (k : Command) (xs : List Typed) (shows : List Shown) (m : FoundModel) (answer : Answer) (desk : Desk E)
     → answer ≡ plainly (code.Values shows) → Holds levels table desk c → desk.last ≡ Some (Model m)
-    → outcome_of c.state t ≡ accepted k → AsksValues desk.terms xs (arguments_of t) k → AreShown desk.terms m.values xs shows
+    → request_of t ≡ Some r → outcome_of c.state t ≡ accepted k → AsksValues desk.terms xs r k → AreShown desk.terms m.values xs shows
     → IsAnswer levels table c (intact t) answer desk
-values_answer levels table c t k xs shows m answer desk is h kept e q shown =
+values_answer levels table tells c t r k xs shows m answer desk is h kept parsed e q shown =
     let ns = desk.terms in
     let last : c.state.last ≡ Some (model_found m.bindings) = sym h.last ∙ ap (option_map last_of) kept in
     let values : AreValuesOf ns m.bindings m.values = subst (KeepsValues ns) kept h.values in
     let list : shows ≡ terms_shown (assignment_of m.bindings) q.terms = shown q.terms q.typed ∙ ap (λ a. terms_shown a q.terms) values.assigns in
-    let asks : List Asked = asked_of q.list q.terms in
+    let asks : List Asked = asked_of q.questions q.terms in
     let told : List (Tree × Shown) = map (shown_under (assignment_of m.bindings)) asks in
     let tells : reply_of (intact t) (code.Values shows) ≡ values_reply told =
-    ap values_reply (ap (λ ts. with_shown ts shows) (asked_by_list t q.list q.only) ∙ ap (with_shown q.list) list ∙ told_trees (assignment_of m.bindings) q.list q.terms) in
+    ap values_reply (ap (λ ts. with_shown ts shows) (values_told tells t r q.questions parsed q.request) ∙ ap (with_shown (trees_from (question_trees q.questions))) list ∙ told_trees (assignment_of m.bindings) q.questions q.terms) in
     let right : AreRightValues c.state.last asks (values_reply told) = subst (λ (o : Option LastAnswer). AreRightValues o asks (values_reply told)) (sym last) refl in
     told_answer levels table c t (get_value asks) (code.Values shows) (values_reply told) answer desk is tells tt (e ∙ ap accepted q.is) (right, refl)
     (holds_next levels table desk c h) (λ x. cc)
-
--- ---- The answer to echo
-
-pub echoed_literal : (t : Tree) (bytes : List ℕ) → arguments_of t ≡ trees (leaf (literal bytes)) no_trees → echoed_by t ≡ bytes
-echoed_literal (leaf x) bytes e = absurd cc
-echoed_literal (node no_trees) bytes e = absurd cc
-echoed_literal (node (trees k ts)) bytes e = ap (λ us. echoed_by (node (trees k us))) e

@@ -6,8 +6,8 @@ use Rattle.nz_spec.specs.Reply.{Shown, term_shown}
 use Rattle.nz_reply.specs.Values.{shown_of}
 use Rattle.nz_reply.specs.declared.reply.Shown.TheVariants as shows
 use Rattle.nz_term.specs.declared.heads.Sort.{Sort}
-use Rattle.nz_sort.specs.declared.typed.Typed.{Typed}
-use Rattle.nz_sort.specs.Typed.{AreTyped}
+use Rattle.nz_elaborate.specs.declared.typed.Typed.{Typed}
+use Rattle.nz_elaborate.specs.Typed.{AreTyped}
 use Rattle.nz_truth.specs.declared.walk.Outcome.{Outcome}
 use Rattle.nz_truth.specs.declared.walk.Outcome.TheVariants as outcome
 

@@ -1,5 +1,5 @@
 //! The desk: what a command acts on, and the answer to it.
-ghost use Rattle.std.specs.Prelude.{◌≡◌, ◌<◌, ◌*◌, ◌^◌, [], ◌∷◌, ◌++◌, length, map, slice_get, All, IfOk, IfErr, IfSome, IfNone, OnOk, false};
+ghost use Rattle.std.specs.Prelude.{◌≡◌, ◌<◌, ◌*◌, ◌^◌, [], ◌∷◌, ◌++◌, length, map, slice_get, All, Some, IfOk, IfErr, IfSome, IfNone, OnOk, false};
 ghost use Rattle.std.specs.List.{AllByRecursion};
 ghost use Rattle.nz_sexpr.specs.View.{view, what_view};
 ghost use Rattle.nz_spec.specs.Text as text;
@@ -8,9 +8,10 @@ ghost use Rattle.nz_spec.specs.Term as term;
 ghost use Rattle.nz_spec.specs.Term.{bool_sort, holds_number};
 ghost use Rattle.nz_spec.specs.Decide.{constants_in_table, IsFrontOfTable, AreModelValues};
 ghost use Rattle.nz_spec.specs.Model.{IsUnsatisfiable};
-ghost use Rattle.nz_spec.specs.Live.{items_of};
+ghost use Rattle.nz_spec.specs.Live.{items_of, items_hold_numbers};
+ghost use Rattle.nz_spec.specs.Request.{Request};
+ghost use Rattle.nz_spec.specs.Parse.{request_of};
 ghost use Rattle.nz_spec.specs.Command.{Command};
-ghost use Rattle.nz_spec.specs.Taken.{items_hold_numbers};
 ghost use Rattle.nz_spec.specs.Right.{Context, done as done_by};
 ghost use Rattle.nz_spec.specs.Atoms.{AreAtoms};
 ghost use Rattle.nz_spec.specs.Table.{term_in};
@@ -20,8 +21,8 @@ ghost use Rattle.nz_reply.specs.Infos.{info_of};
 ghost use Rattle.nz_reply.specs.Replies.{reply_of};
 ghost use Rattle.nz_sort.specs.Acts.{error_of, info_meaning};
 ghost use Rattle.nz_sort.specs.Items.{table_numbers};
-ghost use Rattle.nz_sort.specs.Live.{AsksValues, arguments_of};
-ghost use Rattle.nz_sort.specs.Typed.{AreTyped};
+ghost use Rattle.nz_sort.specs.Live.{AsksValues};
+ghost use Rattle.nz_elaborate.specs.Typed.{AreTyped};
 ghost use Rattle.nz_session.specs.Completed.{bound_at, completed};
 ghost use Rattle.nz_session.specs.Told.{IsTold};
 ghost use Rattle.nz_session.specs.Verdicts.{IfSat, OnUnsat, OnSpent};
@@ -29,13 +30,15 @@ ghost use Rattle.nz_session.specs.Verdicts.{IfSat, OnUnsat, OnSpent};
 use crate::decide::{Decide, Stop, Verdict};
 use crate::values::values_shown;
 use nz_base::{Memory, Work};
+use nz_elaborate::Typed;
 use nz_reply::{
     ALREADY_DECLARED, Binding, Bindings, Cause, INCOMPLETE_COMMAND, Info, LIMIT, NO_ANSWER,
     NOT_LINEAR, NUMBER_TOO_WIDE, Note, OUT_OF_MEMORY, Reason, Reply, SORT, SYNTAX, SpentList,
     UNKNOWN_SYMBOL,
 };
 use nz_sexpr::{Tree, What};
-use nz_sort::{Accepted, Act, Info as InfoAsked, Live, Refusal, Typed};
+use nz_sort::{Accepted, Act, Info as InfoAsked, Live, Refusal};
+use nz_spec::script::argument_tells;
 use nz_spec::table::{assigns_by_number, term_of_node};
 use nz_spec::term::{decimals_are_numbers, normal_keeps_value, numerals_are_whole};
 use nz_term::{Assign, Head, TermId, Terms, known_table};
@@ -99,7 +102,7 @@ impl<E: Decide> Desk<E> {
         Ok(Desk {
             alloc,
             terms: Terms::new(alloc)?,
-            live: Live::new(alloc),
+            live: Live::new(alloc)?,
             engine,
             told: None,
             work: Work::new(alloc)?,
@@ -129,6 +132,7 @@ impl<E: Decide> Desk<E> {
         ensures right { (c : Context) → Holds E.levels E.table self.old c → IsAnswer E.levels E.table c (intact (view tree.now)) result self.new }
         ensures front { IsFrontOfTable (table_of self.old) (table_of self.new) }
     {
+        argument_tells();
         match self.live.command(&mut self.terms, tree) {
             Err(refusal) => said(Reply::Error(error_number(refusal))),
             Ok(Act::Changed) => {
@@ -232,8 +236,9 @@ impl<E: Decide> Desk<E> {
     /// The answer to `get-value` of these terms.
     fn show_values(&self, asked: &[Typed]) -> Answer
         requires typed { (terms : term.Terms) × AreTyped self.now.terms asked.now terms }
-        ensures right { (c : Context) (tree : script.Tree) (k : Command) → Holds E.levels E.table self.now c → outcome_of c.state tree ≡ accepted k → AsksValues self.now.terms asked.now (arguments_of tree) k → IsAnswer E.levels E.table c (intact tree) result self.now }
+        ensures right { (c : Context) (tree : script.Tree) (r : Request) (k : Command) → Holds E.levels E.table self.now c → request_of tree ≡ Some r → outcome_of c.state tree ≡ accepted k → AsksValues self.now.terms asked.now r k → IsAnswer E.levels E.table c (intact tree) result self.now }
     {
+        argument_tells();
         match &self.last {
             Some(LastAnswer::Model(model)) => {
                 match values_shown(self.alloc, &self.terms, &model.values, asked) {

@@ -2,12 +2,12 @@
 ghost use Rattle.std.specs.Prelude.{◌≡◌, IfOk};
 ghost use Rattle.nz_spec.specs.Term as term;
 ghost use Rattle.nz_reply.specs.Values.{shown_of};
-ghost use Rattle.nz_sort.specs.Typed.{AreTyped};
+ghost use Rattle.nz_elaborate.specs.Typed.{AreTyped};
 ghost use Rattle.nz_session.specs.Valued.{AreShown, numbers_typed, outcome_shown, outcomes_shown};
 
 use nz_base::Memory;
+use nz_elaborate::Typed;
 use nz_reply::{Shown, Shows};
-use nz_sort::Typed;
 use nz_spec::term::normal_keeps_value;
 use nz_term::{Assign, Sort, TermId, Terms};
 use nz_truth::{Outcome, outcomes};

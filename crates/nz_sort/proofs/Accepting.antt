@@ -9,18 +9,17 @@ use Rattle.nz_spec.specs.Term.{is_bool, Constant, constant, Term, apply, no_term
 use Rattle.nz_spec.specs.Normal.{normal_of}
 use Rattle.nz_spec.specs.Table.{Node, term_in, TermStays}
 use Rattle.nz_spec.specs.Elaboration.{Definition as SpecDefinition}
-use Rattle.nz_spec.specs.Live.{LiveItem, Item, cost_of, declared, defined, asserted, sought, wished, constants_in, definitions_in, assertions_in, goals_in, wishes_in, is_constant, is_assertion, is_goal, is_wish, numbers_of, item_terms}
-use Rattle.nz_spec.specs.Taken.{items_hold_numbers}
+use Rattle.nz_spec.specs.Live.{LiveItem, Item, cost_of, declared, defined, asserted, sought, wished, constants_in, definitions_in, assertions_in, goals_in, wishes_in, is_constant, is_assertion, is_goal, is_wish, numbers_of, item_terms, items_hold_numbers}
 use Rattle.nz_spec.specs.Live as live_state
 use Rattle.nz_term.specs.Constants.{sort_of}
-use Rattle.nz_sort.specs.declared.typed.Typed.{Typed}
-use Rattle.nz_sort.specs.declared.names.Definition.{Definition}
+use Rattle.nz_elaborate.specs.declared.typed.Typed.{Typed}
+use Rattle.nz_elaborate.specs.declared.names.Definition.{Definition}
 use Rattle.nz_sort.specs.declared.items.Accepted.{Accepted}
 use Rattle.nz_sort.specs.declared.items.Goal.{Goal}
 use Rattle.nz_sort.specs.declared.items.Wish.{Wish}
 use Rattle.nz_sort.specs.Items.{table_numbers, items_in, StandForAll, AreItems, AreConstants, AreAssertions, AreGoals, AreWishes}
 use Rattle.nz_sort.specs.Live.{Standing, HasItems}
-use Rattle.nz_sort.specs.Commands.{with_constant, with_definition, with_assertion}
+use Rattle.nz_sort.specs.Changes.{with_constant, with_definition, with_assertion}
 
 -- ---- Kinds of items, with one at the end
 
@@ -63,10 +62,6 @@ wishes_in-append (defined d ∷ xs) ys = wishes_in-append xs ys
 wishes_in-append (asserted t ∷ xs) ys = wishes_in-append xs ys
 wishes_in-append (sought g ∷ xs) ys = wishes_in-append xs ys
 wishes_in-append (wished w ∷ xs) ys = ap (λ l. w ∷ l) (wishes_in-append xs ys)
-
-pub or_assoc : (a b c : Bool) → ((a || b) || c) ≡ (a || (b || c))
-or_assoc true b c = refl
-or_assoc false b c = refl
 
 or_false : (b : Bool) → (b || false) ≡ b
 or_false true = refl

@@ -1,75 +1,70 @@
--- The rules on terms whose values are asked for, and what asking leaves.
-use Rattle.std.proofs.Common.{◌&&◌, ◌≡◌, ℕ, List, [], ◌∷◌, Option, None, Some, Result, Ok, Err, OnOk, IfOk, true, false, refl, sym, ap, ◌∙◌}
+-- Terms whose values are asked for: the rules on them, and what asking leaves.
+use Rattle.std.proofs.Common.{◌&&◌, ◌≡◌, ℕ, List, [], ◌∷◌, Option, None, Some, Ok, true, false, Bool, refl, sym, ap, ◌∙◌, subst}
 use Rattle.std.specs.List.{list_all}
-use Rattle.nz_spec.specs.Tree.{node, Trees, no_trees, trees}
 use Rattle.nz_spec.specs.Term.{Terms, no_terms, terms}
 use Rattle.nz_spec.specs.Normal.{normal_of}
 use Rattle.nz_spec.specs.Table.{Node, term_in, TermStays}
 use Rattle.nz_spec.specs.Order.{HasCompanions}
 use Rattle.nz_spec.specs.Linear.{is_linear}
 use Rattle.nz_spec.specs.Elaboration.{terms_of}
+use Rattle.nz_spec.specs.Request.{Question, shows_values}
 use Rattle.nz_spec.specs.Live.{State}
-use Rattle.nz_spec.specs.Script.{is_live_name, scope_of, asked_of, all_linear, linear_outcome, values_of_trees}
+use Rattle.nz_spec.specs.Script.{scope_of, asked_expressions, asked_of, all_linear, linear_outcome, values_asked}
 use Rattle.nz_spec.specs.Command.{get_value, Outcome, refused}
-use Rattle.nz_spec.specs.Scoping.{have_unknown, have_clash}
-use Rattle.nz_sort.specs.declared.typed.Typed.{Typed}
-use Rattle.nz_sort.specs.Typed.{Grows, AreTyped}
-use Rattle.nz_sort.specs.Live.{Standing, IsLive, IsAccepted, show_values}
-use Rattle.nz_sort.specs.Commands.{fault_error, Shows}
-use Rattle.nz_sort.specs.Elaborate.{StandAs}
-use Rattle.nz_sort.proofs.Ruling.{past_faults, at_fault}
-use Rattle.nz_sort.proofs.Living.{live_grown}
+use Rattle.nz_spec.specs.Scoping.{have_clash}
+use Rattle.nz_elaborate.specs.declared.typed.Typed.{Typed}
+use Rattle.nz_elaborate.specs.Elaborate.{StandAs, are_unknown_in, IsWellNamed}
+use Rattle.nz_elaborate.specs.Typed.{Grows, AreTyped}
+use Rattle.nz_sort.specs.declared.acts.Act.{Act}
+use Rattle.nz_sort.specs.Acts.{asked}
+use Rattle.nz_sort.specs.Live.{Standing, IsLive, Leaves, IfSkipped, show_values}
+use Rattle.nz_sort.specs.Changes.{Comes, Shows}
+use Rattle.nz_sort.proofs.Living.{kept_where_grown, live_grown}
+use Rattle.nz_sort.proofs.Ruling.{past_names, take_whole}
 
-abbrev values_outcome : Trees → Option Terms → Outcome
-values_outcome ts (Some us) = linear_outcome (all_linear us) (get_value (asked_of ts us))
-values_outcome ts None = refused 3
+-- what becomes of the terms, behind the rules on names
+abbrev pub terms_outcome : List Question → Option Terms → Outcome
+terms_outcome qs o = elim o [ Some us ↦ linear_outcome (all_linear us) (get_value (asked_of qs us)) | None ↦ refused 3 ]
 
-values_past : (s : State) (ts : Trees) (o : Option Terms) → fault_error (have_unknown (is_live_name s) [] ts) (have_clash ts) ≡ None → terms_of (scope_of s) ts ≡ o
-    → values_of_trees s ts ≡ values_outcome ts o
-values_past s ts o known is =
-    past_faults (have_unknown (is_live_name s) [] ts) (have_clash ts)
-    (elim (terms_of (scope_of s) ts) [ Some us ↦ linear_outcome (all_linear us) (get_value (asked_of ts us)) | None ↦ refused 3 ]) known
-    ∙ ap (λ (p : Option Terms). elim p [ Some us ↦ linear_outcome (all_linear us) (get_value (asked_of ts us)) | None ↦ refused 3 ]) is
-    ∙ (elim o as (λ (p : Option Terms). elim p [ Some us ↦ linear_outcome (all_linear us) (get_value (asked_of ts us)) | None ↦ refused 3 ] ≡ values_outcome ts p) [
-      | Some us ↦ refl
-      | None ↦ refl
-    ])
+past : (s : State) (qs : List Question) (ns : List Node) (xs : List Typed) (linear : Bool)
+    → (h : IsWellNamed (are_unknown_in (scope_of s) (asked_expressions qs)) (have_clash (asked_expressions qs)) (StandAs (terms_of (scope_of s) (asked_expressions qs)) ns xs))
+    → ((us : Terms) → AreTyped ns xs us → linear ≡ all_linear us) → values_asked s qs ≡ linear_outcome linear (get_value (asked_of qs h.holds.terms))
+past s qs ns xs linear h told =
+    past_names (are_unknown_in (scope_of s) (asked_expressions qs)) (have_clash (asked_expressions qs)) (terms_outcome qs (terms_of (scope_of s) (asked_expressions qs))) h.known h.distinct
+    ∙ ap (terms_outcome qs) h.holds.are
+    ∙ ap (λ b. linear_outcome b (get_value (asked_of qs h.holds.terms))) (sym (told h.holds.terms h.holds.typed))
 
-pub faulty_values : (s : State) (ts : Trees) (n : ℕ) → fault_error (have_unknown (is_live_name s) [] ts) (have_clash ts) ≡ Some n → values_of_trees s ts ≡ refused n
-faulty_values s ts n fault =
-    at_fault (have_unknown (is_live_name s) [] ts) (have_clash ts)
-    (elim (terms_of (scope_of s) ts) [ Some us ↦ linear_outcome (all_linear us) (get_value (asked_of ts us)) | None ↦ refused 3 ]) n fault
+pub nonlinear_values : (s : State) (qs : List Question) (ns : List Node) (xs : List Typed)
+    → IsWellNamed (are_unknown_in (scope_of s) (asked_expressions qs)) (have_clash (asked_expressions qs)) (StandAs (terms_of (scope_of s) (asked_expressions qs)) ns xs)
+    → ((us : Terms) → AreTyped ns xs us → false ≡ all_linear us) → values_asked s qs ≡ refused 4
+nonlinear_values s qs ns xs h crooked = past s qs ns xs false h crooked
 
-pub untyped_values : (s : State) (ts : Trees) → fault_error (have_unknown (is_live_name s) [] ts) (have_clash ts) ≡ None → terms_of (scope_of s) ts ≡ None → values_of_trees s ts ≡ refused 3
-untyped_values s ts known none = values_past s ts None known none
+-- the table may have grown by companions since
+pub linear_values : (s : State) (qs : List Question) (mid new : List Node) (xs : List Typed)
+    → IsWellNamed (are_unknown_in (scope_of s) (asked_expressions qs)) (have_clash (asked_expressions qs)) (StandAs (terms_of (scope_of s) (asked_expressions qs)) mid xs)
+    → ((us : Terms) → AreTyped mid xs us → true ≡ all_linear us) → ((us : Terms) → AreTyped mid xs us → AreTyped new xs us) → Shows qs (values_asked s qs) new xs
+linear_values s qs mid new xs h straight stays =
+    record { terms = h.holds.terms; is = past s qs mid xs true h straight; typed = stays h.holds.terms h.holds.typed }
 
-pub nonlinear_values : (s : State) (ts : Trees) (ns : List Node) (xs : List Typed) → fault_error (have_unknown (is_live_name s) [] ts) (have_clash ts) ≡ None
-    → StandAs (terms_of (scope_of s) ts) ns xs → ((us : Terms) → AreTyped ns xs us → false ≡ all_linear us) → values_of_trees s ts ≡ refused 4
-nonlinear_values s ts ns xs known found crooked =
-    values_past s ts (Some found.terms) known found.are ∙ ap (λ b. linear_outcome b (get_value (asked_of ts found.terms))) (sym (crooked found.terms found.typed))
-
-pub linear_values : (s : State) (ts : Trees) (ns : List Node) (xs : List Typed) → fault_error (have_unknown (is_live_name s) [] ts) (have_clash ts) ≡ None
-    → StandAs (terms_of (scope_of s) ts) ns xs → ((us : Terms) → AreTyped ns xs us → true ≡ all_linear us) → Shows ts (values_of_trees s ts) ns xs
-linear_values s ts ns xs known found straight =
+pub comes_values : TermStays → (old new : List Node) (standing : Standing) (qs : List Question) (xs : List Typed) (act : Act) → asked act ≡ show_values xs → Grows old new → HasCompanions new
+    → ((s : State) → IsLive old standing s → Shows qs (values_asked s qs) new xs) → Comes old new standing standing (shows_values qs) (λ s. values_asked s qs) (Ok act)
+comes_values stays old new standing qs xs act e g companions may =
     record {
-      terms = found.terms;
-      is = values_past s ts (Some found.terms) known found.are ∙ ap (λ b. linear_outcome b (get_value (asked_of ts found.terms))) (sym (straight found.terms found.typed));
-      typed = found.typed;
-    }
-
--- what is returned, where something else holds too
-pub ok_with : {T E Q : Type 0} {P R : T → Type 0} (r : Result T E) → OnOk r Q → (Q → (x : T) → P x → R x) → IfOk r P → IfOk r R
-ok_with (Ok x) q f p = f q x p
-ok_with (Err e) q f p = tt
-
-pub leaves_values : TermStays → (old new : List Node) (standing : Standing) (s : State) (arguments ts : Trees) (outcome : Outcome) (xs : List Typed) → IsLive old standing s → Grows old new
-    → HasCompanions new → arguments ≡ trees (node ts) no_trees → Shows ts outcome new xs → IsAccepted s arguments outcome (show_values xs) new standing
-leaves_values stays old new standing s arguments ts outcome xs live g companions only h =
-    record {
-      command = get_value (asked_of ts h.terms);
-      is = h.is;
-      asks = record { list = ts; terms = h.terms; only = only; typed = h.typed; is = refl };
-      live = λ reply. live_grown stays old new standing s g companions live;
+      accepted = λ s live.
+          let h = may s live in
+          subst (λ ask. Leaves s (shows_values qs) (values_asked s qs) ask new standing) (sym e)
+          (record {
+            command = get_value (asked_of qs h.terms);
+            is = h.is;
+            asks = record { questions = qs; terms = h.terms; request = refl; typed = h.typed; is = refl };
+            live = λ reply. live_grown stays old new standing s g companions live;
+          });
+      refused = tt;
+      kept = kept_where_grown old new g;
+      unchanged = tt;
+      skipped_terms = subst (λ ask. IfSkipped ask (new ≡ old)) (sym e) tt;
+      skipped = subst (λ ask. IfSkipped ask (standing ≡ standing)) (sym e) tt;
+      front = take_whole standing.asserted;
     }
 
 -- all terms of a list are linear, where all that are numbered so are

@@ -1,30 +1,33 @@
 -- Assertions: the rules on one, and what it leaves.
-use Rattle.std.proofs.Common.{◌-◌, ◌≡◌, ℕ, List, [], ◌∷◌, map, Option, None, Some, Bool, true, false, cond, refl, sym, ap, ◌∙◌, append-nil, subst}
+use Rattle.std.proofs.Common.{◌-◌, ◌≡◌, ℕ, List, [], ◌∷◌, map, take, length, Option, None, Some, Ok, Bool, true, false, cond, refl, sym, ap, ◌∙◌, append-nil, subst}
 use Rattle.std.proofs.lemmas.List.{map-append}
-use Rattle.nz_spec.specs.Tree.{Tree, Trees}
-use Rattle.nz_spec.specs.Term.{is_bool, Sort, bool_sort, int_sort, real_sort, Term, terms, holds_number, are_same_sort}
+use Rattle.nz_spec.specs.Term.{Sort, bool_sort, Term, holds_number, are_same_sort}
 use Rattle.nz_spec.specs.Normal.{normal_of}
 use Rattle.nz_spec.specs.Table.{Node, term_in, TermStays}
 use Rattle.nz_spec.specs.Order.{HasCompanions}
 use Rattle.nz_spec.specs.Linear.{is_linear}
-use Rattle.nz_spec.specs.Elaboration.{term_of, has_sort}
+use Rattle.nz_spec.specs.Expression.{Expression}
+use Rattle.nz_spec.specs.Request.{asserts}
+use Rattle.nz_spec.specs.Elaboration.{has_sort, term_of}
 use Rattle.nz_spec.specs.Live.{State, asserted, numbered_items, constants_of, definitions_of, assertions_of, grown}
-use Rattle.nz_spec.specs.Script.{is_live_name, scope_of, linear_outcome, asserted_outcome, assertion_of}
+use Rattle.nz_spec.specs.Script.{scope_of, linear_outcome, asserted_outcome, assertion_of}
 use Rattle.nz_spec.specs.Command.{assert_term, Outcome, refused}
-use Rattle.nz_spec.specs.Scoping.{has_unknown, has_clash}
+use Rattle.nz_spec.specs.Scoping.{has_clash}
 use Rattle.nz_term.specs.Constants.{sort_of}
-use Rattle.nz_sort.specs.declared.typed.Typed.{Typed}
-use Rattle.nz_sort.specs.Typed.{Grows, StandsFor}
-use Rattle.nz_sort.specs.Live.{Standing, IsLive, DefinitionsFit, IsAccepted, changed}
-use Rattle.nz_sort.specs.Commands.{fault_error, Asserts, with_assertion}
-use Rattle.nz_sort.specs.Elaborate.{StandsAs}
-use Rattle.nz_sort.proofs.Ruling.{past_faults, at_fault}
+use Rattle.nz_elaborate.specs.declared.typed.Typed.{Typed}
+use Rattle.nz_elaborate.specs.Elaborate.{StandsAs, is_unknown_in, IsWellNamed}
+use Rattle.nz_elaborate.specs.Typed.{Grows, StandsFor}
+use Rattle.nz_sort.specs.declared.acts.Act.TheVariants as acts
+use Rattle.nz_sort.specs.Live.{Standing, IsLive}
+use Rattle.nz_sort.specs.Changes.{Comes, Asserts, with_assertion}
 use Rattle.nz_sort.proofs.Accepting.{stand_longer, stand_last, has_assertion}
-use Rattle.nz_sort.proofs.Living.{assertions_with, constants_with, definitions_with, items_with, names_same, names_stay, next_after, pushed_with, same_constants}
+use Rattle.nz_sort.proofs.Naming.{scope_by, scope_stays}
+use Rattle.nz_sort.proofs.Living.{assertions_with, constants_with, definitions_with, items_with, kept_where_grown, next_after, pushed_with, same_constants, scope_as, take_front}
+use Rattle.nz_sort.proofs.Ruling.{past_names}
 
 -- ---- What an assertion leaves
 
-pub live_asserted : TermStays → (old new : List Node) (before : Standing) (s : State) (t : Term) (id : ℕ) (holds : Bool) → IsLive old before s → Grows old new
+live_asserted : TermStays → (old new : List Node) (before : Standing) (s : State) (t : Term) (id : ℕ) (holds : Bool) → IsLive old before s → Grows old new
     → HasCompanions new → StandsFor new id (normal_of t) → holds ≡ holds_number (normal_of t) → IsLive new (with_assertion before id holds) (grown s (asserted t))
 live_asserted stays old new before s t id holds live g companions stands number =
     let more : State = grown s (asserted t) in
@@ -34,8 +37,8 @@ live_asserted stays old new before s t id holds live g companions stands number 
     stand_last new before.asserted (map normal_of (assertions_of s)) id (normal_of t)
     (stand_longer stays old new g.more before.asserted (map normal_of (assertions_of s)) g.all (record { within = live.within; terms = live.terms })) stands.within stands.term in
     record {
-      named = names_same new before.names s more same alike (names_stay stays old new g.more before.names s g.all live.named);
-      fits = subst DefinitionsFit (sym alike) live.fits;
+      named = scope_as new before.names more (constants_of s) (definitions_of s) same alike
+          (scope_stays stays old new g.more before.names (scope_by (constants_of s) (definitions_of s)) g.all live.named);
       constants = same_constants old new g ∙ live.constants ∙ sym same;
       companions = companions;
       within = stand.within;
@@ -47,66 +50,62 @@ live_asserted stays old new before s t id holds live g companions stands number 
       unpushed = pushed_with s.levels (record { number = s.next; item = asserted t }) ∙ live.unpushed;
     }
 
--- ---- The rules on a term that is asserted
+pub comes_asserted : TermStays → (old new : List Node) (before after : Standing) (e : Expression) (id : ℕ) (holds : Bool) → Grows old new → HasCompanions new
+    → ((s : State) → IsLive old before s → Asserts (assertion_of s e) new id) → holds ≡ holds_number (term_in new id) → after ≡ with_assertion before id holds
+    → Comes old new before after (asserts e) (λ s. assertion_of s e) (Ok acts.Changed)
+comes_asserted stays old new before after e id holds g companions may number more =
+    record {
+      accepted = λ s live.
+          let h = may s live in
+          record {
+            command = assert_term h.term;
+            is = h.is;
+            asks = tt;
+            live = λ reply. subst (λ st. IsLive new st (grown s (asserted h.term))) (sym more)
+                (live_asserted stays old new before s h.term id holds live g companions h.stands (number ∙ ap holds_number h.stands.term));
+          };
+      refused = tt;
+      kept = kept_where_grown old new g;
+      unchanged = tt;
+      skipped_terms = tt;
+      skipped = tt;
+      front = ap (λ (st : Standing). take (length before.asserted) st.asserted) more ∙ take_front before.asserted (id ∷ []);
+    }
 
--- what becomes of the assertion of a term
-abbrev term_outcome : Option Term → Outcome
-term_outcome (Some t) = asserted_outcome t
-term_outcome None = refused 3
+-- ---- The rules on an assertion
 
-assertion_past : (s : State) (tree : Tree) (o : Option Term) → fault_error (has_unknown (is_live_name s) [] tree) (has_clash tree) ≡ None → term_of (scope_of s) tree ≡ o
-    → assertion_of s tree ≡ term_outcome o
-assertion_past s tree o known is =
-    past_faults (has_unknown (is_live_name s) [] tree) (has_clash tree) (elim (term_of (scope_of s) tree) [ Some u ↦ asserted_outcome u | None ↦ refused 3 ]) known
-    ∙ ap (λ (p : Option Term). elim p [ Some u ↦ asserted_outcome u | None ↦ refused 3 ]) is
-    ∙ (elim o as (λ (p : Option Term). elim p [ Some u ↦ asserted_outcome u | None ↦ refused 3 ] ≡ term_outcome p) [
-      | Some u ↦ refl
-      | None ↦ refl
-    ])
+-- what becomes of the assertion of a term, behind the rules on names
+abbrev pub term_outcome : Option Term → Outcome
+term_outcome o = elim o [ Some t ↦ asserted_outcome t | None ↦ refused 3 ]
 
-same_bool : (k : Sort) → are_same_sort bool_sort k ≡ is_bool k
-same_bool bool_sort = refl
-same_bool int_sort = refl
-same_bool real_sort = refl
+past : (s : State) (e : Expression) (ns : List Node) (x : Typed) (h : IsWellNamed (is_unknown_in (scope_of s) e) (has_clash e) (StandsAs (term_of (scope_of s) e) ns x))
+    → assertion_of s e ≡ asserted_outcome h.holds.term
+past s e ns x h = past_names (is_unknown_in (scope_of s) e) (has_clash e) (term_outcome (term_of (scope_of s) e)) h.known h.distinct ∙ ap term_outcome h.holds.is
 
 by_sort : (t : Term) (b : Bool) → has_sort bool_sort t ≡ b → asserted_outcome t ≡ cond b (linear_outcome (is_linear (normal_of t)) (assert_term t)) (refused 3)
 by_sort t b e = ap (λ c. cond c (linear_outcome (is_linear (normal_of t)) (assert_term t)) (refused 3)) e
 
-pub faulty_assertion : (s : State) (tree : Tree) (n : ℕ) → fault_error (has_unknown (is_live_name s) [] tree) (has_clash tree) ≡ Some n → assertion_of s tree ≡ refused n
-faulty_assertion s tree n fault =
-    at_fault (has_unknown (is_live_name s) [] tree) (has_clash tree) (elim (term_of (scope_of s) tree) [ Some u ↦ asserted_outcome u | None ↦ refused 3 ]) n fault
+pub missorted_assertion : (s : State) (e : Expression) (ns : List Node) (x : Typed) → IsWellNamed (is_unknown_in (scope_of s) e) (has_clash e) (StandsAs (term_of (scope_of s) e) ns x)
+    → are_same_sort bool_sort (sort_of x.sort) ≡ false → assertion_of s e ≡ refused 3
+missorted_assertion s e ns x h other = past s e ns x h ∙ by_sort h.holds.term false (ap (are_same_sort bool_sort) (sym h.holds.typed.sort) ∙ other)
 
-pub untyped_assertion : (s : State) (tree : Tree) → fault_error (has_unknown (is_live_name s) [] tree) (has_clash tree) ≡ None → term_of (scope_of s) tree ≡ None → assertion_of s tree ≡ refused 3
-untyped_assertion s tree known none = assertion_past s tree None known none
+of_bool : (s : State) (e : Expression) (ns : List Node) (x : Typed) (linear : Bool) (h : IsWellNamed (is_unknown_in (scope_of s) e) (has_clash e) (StandsAs (term_of (scope_of s) e) ns x))
+    → are_same_sort bool_sort (sort_of x.sort) ≡ true → is_linear (term_in ns x.id) ≡ linear → assertion_of s e ≡ linear_outcome linear (assert_term h.holds.term)
+of_bool s e ns x linear h bool is =
+    past s e ns x h
+    ∙ by_sort h.holds.term true (ap (are_same_sort bool_sort) (sym h.holds.typed.sort) ∙ bool)
+    ∙ ap (λ b. linear_outcome b (assert_term h.holds.term)) (ap is_linear (sym h.holds.typed.normal) ∙ is)
 
-pub missorted_assertion : (s : State) (tree : Tree) (ns : List Node) (x : Typed) → fault_error (has_unknown (is_live_name s) [] tree) (has_clash tree) ≡ None
-    → StandsAs (term_of (scope_of s) tree) ns x → is_bool (sort_of x.sort) ≡ false → assertion_of s tree ≡ refused 3
-missorted_assertion s tree ns x known found other =
-    assertion_past s tree (Some found.term) known found.is ∙ by_sort found.term false (ap (are_same_sort bool_sort) (sym found.typed.sort) ∙ same_bool (sort_of x.sort) ∙ other)
+pub nonlinear_assertion : (s : State) (e : Expression) (ns : List Node) (x : Typed) → IsWellNamed (is_unknown_in (scope_of s) e) (has_clash e) (StandsAs (term_of (scope_of s) e) ns x)
+    → are_same_sort bool_sort (sort_of x.sort) ≡ true → is_linear (term_in ns x.id) ≡ false → assertion_of s e ≡ refused 4
+nonlinear_assertion s e ns x h bool crooked = of_bool s e ns x false h bool crooked
 
-pub nonlinear_assertion : (s : State) (tree : Tree) (ns : List Node) (x : Typed) → fault_error (has_unknown (is_live_name s) [] tree) (has_clash tree) ≡ None
-    → StandsAs (term_of (scope_of s) tree) ns x → is_bool (sort_of x.sort) ≡ true → is_linear (term_in ns x.id) ≡ false → assertion_of s tree ≡ refused 4
-nonlinear_assertion s tree ns x known found bool crooked =
-    assertion_past s tree (Some found.term) known found.is ∙ by_sort found.term true (ap (are_same_sort bool_sort) (sym found.typed.sort) ∙ same_bool (sort_of x.sort) ∙ bool)
-    ∙ ap (λ b. linear_outcome b (assert_term found.term)) (ap is_linear (sym found.typed.normal) ∙ crooked)
-
-pub linear_assertion : (s : State) (tree : Tree) (ns : List Node) (x : Typed) → fault_error (has_unknown (is_live_name s) [] tree) (has_clash tree) ≡ None
-    → StandsAs (term_of (scope_of s) tree) ns x → is_bool (sort_of x.sort) ≡ true → is_linear (term_in ns x.id) ≡ true → Asserts (assertion_of s tree) ns x.id
-linear_assertion s tree ns x known found bool straight =
+-- the table may have grown by companions since
+pub linear_assertion : (s : State) (e : Expression) (mid new : List Node) (x : Typed) → IsWellNamed (is_unknown_in (scope_of s) e) (has_clash e) (StandsAs (term_of (scope_of s) e) mid x)
+    → are_same_sort bool_sort (sort_of x.sort) ≡ true → is_linear (term_in mid x.id) ≡ true → StandsFor new x.id (term_in mid x.id) → Asserts (assertion_of s e) new x.id
+linear_assertion s e mid new x h bool straight stands =
     record {
-      term = found.term;
-      is = assertion_past s tree (Some found.term) known found.is ∙ by_sort found.term true (ap (are_same_sort bool_sort) (sym found.typed.sort) ∙ same_bool (sort_of x.sort) ∙ bool)
-          ∙ ap (λ b. linear_outcome b (assert_term found.term)) (ap is_linear (sym found.typed.normal) ∙ straight);
-      stands = record { within = found.typed.within; term = found.typed.normal };
-    }
-
-pub leaves_asserted : TermStays → (old new : List Node) (before : Standing) (s : State) (arguments : Trees) (outcome : Outcome) (id : ℕ) (holds : Bool) → IsLive old before s
-    → Grows old new → HasCompanions new → Asserts outcome new id → holds ≡ holds_number (term_in new id)
-    → IsAccepted s arguments outcome changed new (with_assertion before id holds)
-leaves_asserted stays old new before s arguments outcome id holds live g companions h number =
-    record {
-      command = assert_term h.term;
-      is = h.is;
-      asks = tt;
-      live = λ reply. live_asserted stays old new before s h.term id holds live g companions h.stands (number ∙ ap holds_number h.stands.term);
+      term = h.holds.term;
+      is = of_bool s e mid x true h bool straight;
+      stands = record { within = stands.within; term = stands.term ∙ h.holds.typed.normal };
     }

@@ -1,22 +1,29 @@
--- What a declaration leaves.
-use Rattle.std.proofs.Common.{◌+◌, ◌-◌, ◌≡◌, ◌⊎◌, inl, inr, ℕ, ◌<◌, List, [], ◌∷◌, ◌++◌, length, map, None, Some, slice_get, sym, ap, ◌∙◌, append-nil, subst}
+-- Declarations: the rules on one, and what it leaves.
+use Rattle.std.proofs.Common.{◌||◌, ◌+◌, ◌-◌, ◌≡◌, ◌⊎◌, inl, inr, ℕ, ◌<◌, List, [], ◌∷◌, ◌++◌, length, map, take, None, Some, is_some, Ok, Bool, true, false, nat_eq, slice_get, refl, sym, ap, ◌∙◌, append-nil, subst}
+use Rattle.std.specs.List.{list_any}
 use Rattle.std.proofs.lemmas.Grind.{flat_map-append}
 use Rattle.std.proofs.lemmas.Option.{slice_get_within}
-use Rattle.nz_spec.specs.Tree.{Tree, node, Trees}
-use Rattle.nz_spec.specs.Term.{Sort, Constant, constant, terms}
+use Rattle.nz_spec.specs.Term.{Sort, Constant, constant}
 use Rattle.nz_spec.specs.Normal.{normal_of}
 use Rattle.nz_spec.specs.Table.{Node, TermStays}
 use Rattle.nz_spec.specs.Decide.{constants_of_head, constants_in_table}
-use Rattle.nz_spec.specs.Elaboration.{Definition, RootFits, constant_named, definition_named}
-use Rattle.nz_spec.specs.Live.{State, declared, asserted, numbered_items, constants_of, definitions_of, assertions_of, grown}
-use Rattle.nz_spec.specs.Script.{declaration_of}
+use Rattle.nz_spec.specs.Elaboration.{constant_named}
+use Rattle.nz_spec.specs.Request.{WrittenSort, declares}
+use Rattle.nz_spec.specs.Live.{State, declared, numbered_items, constants_of, definitions_of, assertions_of, grown}
+use Rattle.nz_spec.specs.Script.{is_live_name, is_unknown_sort, constant_sort, declaration_of}
 use Rattle.nz_spec.specs.Command.{declare_const, accepted, refused}
-use Rattle.nz_sort.specs.Names.{named_by}
-use Rattle.nz_sort.specs.Faults.{is_listed}
-use Rattle.nz_sort.specs.Live.{Standing, IsLive, DefinitionsFit, IsAccepted, changed}
-use Rattle.nz_sort.specs.Commands.{declaration_where, constant_of, HasAdded, with_constant}
+use Rattle.nz_command.specs.Requests.{sort_view}
+use Rattle.nz_command.specs.declared.command.WrittenSort as code
+use Rattle.nz_elaborate.specs.Names.{named_by}
+use Rattle.nz_sort.specs.declared.acts.Act.TheVariants as acts
+use Rattle.nz_sort.specs.Live.{Standing, IsLive}
+use Rattle.nz_sort.specs.Changes.{Comes, constant_of, HasAdded, with_constant}
 use Rattle.nz_sort.proofs.Accepting.{stand_longer, has_constant}
-use Rattle.nz_sort.proofs.Living.{are_live, assertions_with, companions_with_constant, constants_with, definitions_with, items_with, named_in_table, names_stay, names_with_constant, next_after, no_constant, not_before, pushed_with}
+use Rattle.nz_sort.proofs.Naming.{scope_by, scope_stays, scope_with_constant, no_constant}
+use Rattle.nz_sort.proofs.Living.{assertions_with, companions_with_constant, constants_with, definitions_with, items_with, named_in_table, next_after, not_before, pushed_with, scope_as}
+use Rattle.nz_sort.proofs.Ruling.{take_whole}
+
+-- ---- What a declaration leaves
 
 -- a constant that is not in the table yet is a node more
 grown_in : (old new : List Node) (id : ℕ) (c : Constant) → constant_named (constants_in_table old) c.name ≡ None → slice_get new id ≡ Some (record { head = constant c; kids = [] })
@@ -24,18 +31,13 @@ grown_in : (old new : List Node) (id : ℕ) (c : Constant) → constant_named (c
 grown_in old new id c none at (inl e) = absurd (named_in_table old id c (ap (λ ns. slice_get ns id) (sym e) ∙ at) none)
 grown_in old new id c none at (inr e) = e
 
-pub fits_more : (ds : List Definition) (d : Definition) → DefinitionsFit ds → RootFits d.parameters d.body → DefinitionsFit (ds ++ d ∷ [])
-fits_more [] d h f = (f, tt)
-fits_more (e ∷ ds) d h f = (h.0, fits_more ds d h.1 f)
-
-pub live_declared : TermStays → (old new : List Node) (before after : Standing) (s : State) (name : List ℕ) (sort : Sort) → IsLive old before s
+live_declared : TermStays → (old new : List Node) (before after : Standing) (s : State) (name : List ℕ) (sort : Sort) → IsLive old before s
     → named_by before.names name ≡ None → HasAdded name sort old new before after → IsLive new after (grown s (declared (constant_of name sort)))
 live_declared stays old new before after s name sort live fresh h =
     let c = constant_of name sort in
     let x = h.added in
     let one : Node = record { head = constant c; kids = [] } in
-    let none : constant_named (constants_of s) name ≡ None =
-    no_constant old (named_by before.names name) (constant_named (constants_of s) name) (definition_named (definitions_of s) name) (live.named name) fresh in
+    let none : constant_named (constants_of s) name ≡ None = no_constant old before.names (scope_by (constants_of s) (definitions_of s)) name live.named fresh in
     let unnamed : constant_named (constants_in_table old) name ≡ None = ap (λ cs. constant_named cs name) live.constants ∙ none in
     let longer : new ≡ old ++ one ∷ [] = grown_in old new x.id c unnamed h.node h.grown in
     let within : x.id < length new = slice_get_within new x.id one h.node in
@@ -47,9 +49,10 @@ live_declared stays old new before after s name sort live fresh h =
     let stand = stand_longer stays old new (one ∷ []) before.asserted (map normal_of (assertions_of s)) longer (record { within = live.within; terms = live.terms }) in
     subst (λ standing. IsLive new standing more) (sym h.stands)
     (record {
-      named = names_with_constant new before.names s more c x (names_stay stays old new (one ∷ []) before.names s longer live.named) fresh
-          (record { within = within; normal = h.term; sort = h.sorted }) later same;
-      fits = subst DefinitionsFit (sym same) live.fits;
+      named = scope_as new (with_constant before name x).names more (constants_of s ++ c ∷ []) (definitions_of s) later same
+          (scope_with_constant new before.names (constants_of s) (definitions_of s) c x
+          (scope_stays stays old new (one ∷ []) before.names (scope_by (constants_of s) (definitions_of s)) longer live.named) fresh
+          (record { within = within; normal = h.term; sort = h.sorted }));
       constants = table ∙ sym later;
       companions = companions_with_constant stays old new x.id c live.companions longer within (not_before old new x.id c unnamed longer h.node) h.term;
       within = stand.within;
@@ -61,22 +64,45 @@ live_declared stays old new before after s name sort live fresh h =
       unpushed = pushed_with s.levels (record { number = s.next; item = declared c }) ∙ live.unpushed;
     })
 
--- what the names say of a declaration is what the live state says
-declared_alike : (ns : List Node) (standing : Standing) (s : State) (name : List ℕ) (sorts : Trees) (sort : Tree) → IsLive ns standing s
-    → declaration_of s name sorts sort ≡ declaration_where (is_listed standing.names name) name sorts sort
-declared_alike ns standing s name sorts sort live = ap (λ b. declaration_where b name sorts sort) (sym (are_live ns standing.names s live.named name))
-
-pub leaves_declared : TermStays → (old new : List Node) (before after : Standing) (s : State) (arguments : Trees) (name : List ℕ) (sorts : Trees) (sort : Tree) (found : Sort)
-    → declaration_where (is_listed before.names name) name sorts sort ≡ accepted (declare_const (constant_of name found)) → named_by before.names name ≡ None
-    → HasAdded name found old new before after → IsLive old before s → IsAccepted s arguments (declaration_of s name sorts sort) changed new after
-leaves_declared stays old new before after s arguments name sorts sort found may fresh h live =
+pub comes_declared : TermStays → (old new : List Node) (before after : Standing) (name : List ℕ) (sorts : List WrittenSort) (sort : WrittenSort) (found : Sort)
+    → ((s : State) → IsLive old before s → declaration_of s name sorts sort ≡ accepted (declare_const (constant_of name found))) → named_by before.names name ≡ None
+    → HasAdded name found old new before after → take (length old) new ≡ old
+    → Comes old new before after (declares name sorts sort) (λ s. declaration_of s name sorts sort) (Ok acts.Changed)
+comes_declared stays old new before after name sorts sort found may fresh h kept =
     record {
-      command = declare_const (constant_of name found);
-      is = declared_alike old before s name sorts sort live ∙ may;
-      asks = tt;
-      live = λ reply. live_declared stays old new before after s name found live fresh h;
+      accepted = λ s live.
+          record { command = declare_const (constant_of name found); is = may s live; asks = tt; live = λ reply. live_declared stays old new before after s name found live fresh h };
+      refused = tt;
+      kept = kept;
+      unchanged = tt;
+      skipped_terms = tt;
+      skipped = tt;
+      front = ap (λ (st : Standing). take (length before.asserted) st.asserted) h.stands ∙ take_whole before.asserted;
     }
 
-pub refused_declaration : (ns : List Node) (standing : Standing) (s : State) (name : List ℕ) (sorts : Trees) (sort : Tree) (n : ℕ)
-    → declaration_where (is_listed standing.names name) name sorts sort ≡ refused n → IsLive ns standing s → declaration_of s name sorts sort ≡ refused n
-refused_declaration ns standing s name sorts sort n broken live = declared_alike ns standing s name sorts sort live ∙ broken
+-- ---- The rules on a declaration
+
+pub sort_unknown : (s : State) (name : List ℕ) (sorts : List WrittenSort) (sort : WrittenSort) → (list_any is_unknown_sort sorts || is_unknown_sort sort) ≡ true
+    → declaration_of s name sorts sort ≡ refused 2
+sort_unknown s name sorts sort e = rw e refl
+
+pub name_declared : (s : State) (name : List ℕ) (sorts : List WrittenSort) (sort : WrittenSort) → (list_any is_unknown_sort sorts || is_unknown_sort sort) ≡ false
+    → is_live_name s name ≡ true → declaration_of s name sorts sort ≡ refused 9
+name_declared s name sorts sort e f = rw (e, f) refl
+
+pub no_sort : (s : State) (name : List ℕ) (sorts : List WrittenSort) (sort : WrittenSort) → (list_any is_unknown_sort sorts || is_unknown_sort sort) ≡ false
+    → is_live_name s name ≡ false → constant_sort sorts sort ≡ None → declaration_of s name sorts sort ≡ refused 3
+no_sort s name sorts sort e f g = rw (e, f, g) refl
+
+pub has_sort : (s : State) (name : List ℕ) (sorts : List WrittenSort) (sort : WrittenSort) (found : Sort) → (list_any is_unknown_sort sorts || is_unknown_sort sort) ≡ false
+    → is_live_name s name ≡ false → constant_sort sorts sort ≡ Some found → declaration_of s name sorts sort ≡ accepted (declare_const (constant_of name found))
+has_sort s name sorts sort found e f g = rw (e, f, g) refl
+
+pub unknown_each : (ws : List code.WrittenSort) → list_any (λ w. is_unknown_sort (sort_view w)) ws ≡ list_any is_unknown_sort (map sort_view ws)
+unknown_each [] = refl
+unknown_each (w ∷ ws) = ap (λ b. is_unknown_sort (sort_view w) || b) (unknown_each ws)
+
+-- a sort behind arguments is that of no constant
+pub has_arguments : (ws : List code.WrittenSort) (sort : WrittenSort) → nat_eq (length ws) 0 ≡ false → constant_sort (map sort_view ws) sort ≡ None
+has_arguments [] sort e = cc
+has_arguments (w ∷ ws) sort e = refl

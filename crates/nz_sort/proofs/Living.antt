@@ -1,37 +1,36 @@
 -- The live state after commands.
-use Rattle.std.proofs.Common.{◌||◌, ◌+◌, ◌-◌, ◌≤◌, ◌≡◌, ◌⊎◌, inl, inr, ℕ, zero, suc, ◌<◌, List, [], ◌∷◌, ◌++◌, length, map, take, Option, None, Some, is_some, Bool, true, false, cond, bytes_eq, slice_get, refl, sym, ap, ◌∙◌, append_assoc, append-nil, length-append, subst, arith}
+use Rattle.std.proofs.Common.{◌||◌, ◌+◌, ◌-◌, ◌≤◌, ◌≡◌, ◌⊎◌, inl, inr, ℕ, zero, suc, ◌<◌, List, [], ◌∷◌, ◌++◌, length, map, take, All, Option, None, Some, IfSome, IfNone, is_some, true, false, cond, bytes_eq, slice_get, refl, sym, ap, ◌∙◌, append_assoc, append-nil, length-append, subst, arith}
 use Rattle.std.proofs.lemmas.Grind.{flat_map-append}
 use Rattle.std.proofs.lemmas.List.{length-map}
+use Rattle.std.proofs.lemmas.List.Elements.{All-cons, All-nil}
 use Rattle.std.specs.Cmp.Lexicographic.{nat_list_eq_equiv}
 use Rattle.std.specs.List.{AllByRecursion}
 use Rattle.std.proofs.lemmas.Bool.{cases_lt}
-use Rattle.nz_spec.specs.Tree.{Tree, Trees}
-use Rattle.nz_spec.specs.Term.{Sort, Constant, Head, constant, parameter, integer, decimal_number, verum, falsum, negation, conjunction, disjunction, implication, exclusion, equality, distinction, choice, less, at_most, greater, at_least, sum, difference, product, quotient, integer_quotient, modulus, magnitude, to_real, to_int, is_int, Term, no_terms, terms, apply}
+use Rattle.nz_spec.specs.Term.{Constant, Head, constant, parameter, integer, decimal_number, verum, falsum, negation, conjunction, disjunction, implication, exclusion, equality, distinction, choice, less, at_most, greater, at_least, sum, difference, product, quotient, integer_quotient, modulus, magnitude, to_real, to_int, is_int, Term, apply, Terms, no_terms, terms}
 use Rattle.nz_spec.specs.Normal.{normal_of}
 use Rattle.nz_spec.specs.Table.{Node, term_in, TermStays}
 use Rattle.nz_spec.specs.Order.{companions_of, IsInTable, HasCompanions}
 use Rattle.nz_spec.specs.Decide.{constants_of_head, constants_in_table}
-use Rattle.nz_spec.specs.Form.{CommandName}
-use Rattle.nz_spec.specs.Elaboration.{Definition, constant_named, definition_named, is_operator, listed}
-use Rattle.nz_spec.specs.Live.{State, LiveItem, Item, asserted, numbered_items, items_of, constants_in, definitions_in, assertions_in, constants_of, definitions_of, assertions_of, with_item, grown}
-use Rattle.nz_spec.specs.Script.{is_live_name, scope_of, body_scope, parameters_from, outcome_by}
-use Rattle.nz_spec.specs.Command.{Command, check_sat, get_model, no_effect, exit, Outcome, accepted}
-use Rattle.nz_spec.specs.Scoping.{has_unknown, have_unknown, has_clash, have_clash}
+use Rattle.nz_spec.specs.Elaboration.{Definition, constant_named}
+use Rattle.nz_spec.specs.Live.{State, LiveItem, Item, numbered_items, items_of, constants_in, definitions_in, assertions_in, constants_of, definitions_of, assertions_of, with_item, grown, start}
+use Rattle.std.specs.Borrow.{Bor}
+use Rattle.nz_spec.specs.Script.{scope_of, is_live_name}
+use Rattle.nz_spec.specs.Request.{Request}
+use Rattle.nz_spec.specs.Command.{Command, Outcome, accepted}
 use Rattle.nz_spec.specs.Reply.{Reply}
 use Rattle.nz_spec.specs.Right.{effect}
-use Rattle.nz_sort.specs.declared.typed.Typed.{Typed}
-use Rattle.nz_sort.specs.declared.names.Definition as code
-use Rattle.nz_sort.specs.declared.names.Named as naming
-use Rattle.nz_sort.specs.declared.names.Named.TheVariants as kinds
-use Rattle.nz_sort.specs.Names.{named_by, SameNamed, IsDefined, IsScope}
-use Rattle.nz_sort.specs.Typed.{IsOperator, Grows, IsTyped}
-use Rattle.nz_sort.specs.Faults.{AreLive, AreBound}
+use Rattle.nz_elaborate.specs.declared.names.Named as naming
+use Rattle.nz_elaborate.specs.Names.{IsScope, named_by, nothing_declared}
+use Rattle.nz_elaborate.specs.declared.typed.Typed.{Typed}
+use Rattle.nz_elaborate.specs.Typed.{IsOperator, Grows, StandsFor, IsTyped, AreTyped}
 use Rattle.nz_sort.specs.declared.items.Accepted.{Accepted}
-use Rattle.nz_sort.specs.Items.{table_numbers, items_in}
-use Rattle.nz_sort.specs.Live.{Standing, HasItems, IsLive, AreNamesOf, DefinitionsFit, IsAccepted, Leaves, IfSkipped, Ask, Asks, changed, check, show_model, show_values, show_reason, show_info, show_levels, print_success, nothing, echo, leave, unsupported}
-use Rattle.nz_sort.specs.Commands.{AsksOnly, fault_error, AreBoundAs}
-use Rattle.nz_sort.proofs.ScopeTerms.{scope_kept}
-use Rattle.nz_sort.proofs.Accepting.{or_assoc, items_in-last, constants_in-append, definitions_in-append, assertions_in-append, stand_longer, items_kept}
+use Rattle.nz_sort.specs.declared.items.Goal.{Goal}
+use Rattle.nz_sort.specs.declared.items.Wish.{Wish}
+use Rattle.nz_sort.specs.Items.{table_numbers, items_in, StandForAll}
+use Rattle.nz_sort.specs.Live.{Standing, standing_of, HasItems, IsLive, IsAccepted, Leaves, IfSkipped, Ask, Asks, changed, check, show_model, show_values, show_reason, show_info, show_levels, print_success, nothing, echo, leave, unsupported}
+use Rattle.nz_sort.specs.Acts.{is_check}
+use Rattle.nz_sort.proofs.Naming.{scope_by, scope_stays, are_live}
+use Rattle.nz_sort.proofs.Accepting.{items_in-last, constants_in-append, definitions_in-append, assertions_in-append, stand_longer, items_kept}
 
 -- ---- Items
 
@@ -73,154 +72,6 @@ pub as_many : (ns : List Node) (standing : Standing) (s : State) → IsLive ns s
 as_many ns standing s live =
     sym (length-map (table_numbers standing.constants) (term_in ns) ∙ length-map standing.constants (λ (a : Accepted). a.term))
     ∙ ap length live.items.constants.terms.terms ∙ length-map (constants_of s) (λ (c : Constant). apply (constant c) no_terms)
-
--- ---- Names and what they stand for
-
-named_together : (ns : List Node) (o : Option naming.Named) (c : Option Constant) (d : Option Definition) → SameNamed ns o c d → is_some o ≡ (is_some c || is_some d)
-named_together ns (Some (kinds.Constant x)) (Some c) d h = refl
-named_together ns (Some (kinds.Constant x)) None d h = absurd h
-named_together ns (Some (kinds.Definition e)) (Some c) d h = absurd h
-named_together ns (Some (kinds.Definition e)) None (Some d) h = refl
-named_together ns (Some (kinds.Definition e)) None None h = absurd h
-named_together ns None (Some c) d h = absurd h
-named_together ns None None (Some d) h = absurd h
-named_together ns None None None h = refl
-
--- the names that are listed are the live ones
-pub are_live : (ns : List Node) (names : List (List ℕ × naming.Named)) (s : State) → AreNamesOf ns names s → AreLive names (is_live_name s)
-are_live ns names s h =
-    λ name. ap (λ b. is_operator name || b) (named_together ns (named_by names name) (constant_named (constants_of s) name) (definition_named (definitions_of s) name) (h name))
-    ∙ sym (or_assoc (is_operator name) (is_some (constant_named (constants_of s) name)) (is_some (definition_named (definitions_of s) name)))
-
--- a name that isn't listed is that of no constant, and of no definition
-pub no_constant : (ns : List Node) (o : Option naming.Named) (c : Option Constant) (d : Option Definition) → SameNamed ns o c d → o ≡ None → c ≡ None
-no_constant ns (Some n) c d h e = cc
-no_constant ns None (Some c) d h e = absurd h
-no_constant ns None None d h e = refl
-
--- the live names are a scope, and so with the parameters of a definition
-pub live_scope : (ns : List Node) (standing : Standing) (s : State) (names : List (List ℕ × naming.Named)) (frames : List (List (List ℕ × Typed))) → names ≡ standing.names → frames ≡ []
-    → IsLive ns standing s → IsScope ns names frames (scope_of s)
-live_scope ns standing s names frames e f live =
-    subst (λ l. IsScope ns l frames (scope_of s)) (sym e)
-    (subst (λ l. IsScope ns standing.names l (scope_of s)) (sym f) (record { bound = λ name. tt; live = live.named; fits = live.fits }))
-
-pub live_body_scope : (old new : List Node) (standing : Standing) (s : State) (names : List (List ℕ × naming.Named)) (frames : List (List (List ℕ × Typed))) (words : List (List ℕ)) (sorts : List Sort)
-    (frame : List (List ℕ × Typed)) → names ≡ standing.names → frames ≡ frame ∷ [] → Grows old new → IsLive old standing s → AreBoundAs new frame (parameters_from 0 words sorts)
-    → IsScope new names frames (body_scope s words sorts)
-live_body_scope old new standing s names frames words sorts frame e f g live bound =
-    let outside : IsScope new names [] (scope_of s) = scope_kept old new g names [] (scope_of s) (live_scope old standing s names [] e refl live) in
-    subst (λ l. IsScope new names l (body_scope s words sorts)) (sym f) (record { bound = bound; live = outside.live; fits = live.fits })
-
--- ---- Names, where the table grows
-
-pub typed_stays : TermStays → (ns more : List Node) (x : Typed) (t : Term) → IsTyped ns x t → IsTyped (ns ++ more) x t
-typed_stays stays ns more x t h =
-    record { within = omega (arith, h.within, length-append ns more); normal = stays ns more x.id h.within ∙ h.normal; sort = h.sort }
-
-same_stays : TermStays → (ns more : List Node) (o : Option naming.Named) (c : Option Constant) (d : Option Definition) → SameNamed ns o c d → SameNamed (ns ++ more) o c d
-same_stays stays ns more (Some (kinds.Constant x)) (Some c) d h = typed_stays stays ns more x (apply (constant c) no_terms) h
-same_stays stays ns more (Some (kinds.Constant x)) None d h = absurd h
-same_stays stays ns more (Some (kinds.Definition e)) (Some c) d h = absurd h
-same_stays stays ns more (Some (kinds.Definition e)) None (Some d) h = record { parameters = h.parameters; body = typed_stays stays ns more e.body d.body h.body }
-same_stays stays ns more (Some (kinds.Definition e)) None None h = absurd h
-same_stays stays ns more None (Some c) d h = absurd h
-same_stays stays ns more None None (Some d) h = absurd h
-same_stays stays ns more None None None h = tt
-
-pub names_stay : TermStays → (old new more : List Node) (names : List (List ℕ × naming.Named)) (s : State) → new ≡ old ++ more → AreNamesOf old names s → AreNamesOf new names s
-names_stay stays old new more names s e h =
-    subst (λ ns. AreNamesOf ns names s) (sym e)
-    (λ name. same_stays stays old more (named_by names name) (constant_named (constants_of s) name) (definition_named (definitions_of s) name) (h name))
-
--- ---- One name more
-
--- what is listed in a list with one more at the end
-abbrev pub or_last : {A : Type 0} → Option A → Bool → A → Option A
-or_last (Some x) b y = Some x
-or_last None b y = cond b (Some y) None
-
-pub listed_last : {A : Type 0} (ps : List (List ℕ × A)) (name other : List ℕ) (x : A) → listed (ps ++ (name, x) ∷ []) other ≡ or_last (listed ps other) (bytes_eq other name) x
-listed_last [] name other x = refl
-listed_last (p ∷ ps) name other x =
-    elim (bytes_eq other p.0) as (λ b. cond b (Some p.1) (listed (ps ++ (name, x) ∷ []) other) ≡ or_last (cond b (Some p.1) (listed ps other)) (bytes_eq other name) x) [
-      | true ↦ refl
-      | false ↦ listed_last ps name other x
-    ]
-
-constant_last : (cs : List Constant) (c : Constant) (other : List ℕ) → constant_named (cs ++ c ∷ []) other ≡ or_last (constant_named cs other) (bytes_eq c.name other) c
-constant_last [] c other = refl
-constant_last (e ∷ cs) c other =
-    elim (bytes_eq e.name other) as (λ b. cond b (Some e) (constant_named (cs ++ c ∷ []) other) ≡ or_last (cond b (Some e) (constant_named cs other)) (bytes_eq c.name other) c) [
-      | true ↦ refl
-      | false ↦ constant_last cs c other
-    ]
-
-definition_last : (ds : List Definition) (d : Definition) (other : List ℕ) → definition_named (ds ++ d ∷ []) other ≡ or_last (definition_named ds other) (bytes_eq d.name other) d
-definition_last [] d other = refl
-definition_last (e ∷ ds) d other =
-    elim (bytes_eq e.name other) as (λ b. cond b (Some e) (definition_named (ds ++ d ∷ []) other) ≡ or_last (cond b (Some e) (definition_named ds other)) (bytes_eq d.name other) d) [
-      | true ↦ refl
-      | false ↦ definition_last ds d other
-    ]
-
-one_constant_more : (ns : List Node) (o : Option naming.Named) (c : Option Constant) (d : Option Definition) (b : Bool) (x : Typed) (k : Constant) → SameNamed ns o c d
-    → (b ≡ true → o ≡ None) → IsTyped ns x (apply (constant k) no_terms) → SameNamed ns (or_last o b (kinds.Constant x)) (or_last c b k) d
-one_constant_more ns (Some (kinds.Constant y)) (Some c) d b x k h fresh typed = h
-one_constant_more ns (Some (kinds.Constant y)) None d b x k h fresh typed = absurd h
-one_constant_more ns (Some (kinds.Definition e)) (Some c) d b x k h fresh typed = absurd h
-one_constant_more ns (Some (kinds.Definition e)) None (Some d) true x k h fresh typed = let no : Some (kinds.Definition e) ≡ None = fresh refl in cc
-one_constant_more ns (Some (kinds.Definition e)) None (Some d) false x k h fresh typed = h
-one_constant_more ns (Some (kinds.Definition e)) None None b x k h fresh typed = absurd h
-one_constant_more ns None (Some c) d b x k h fresh typed = absurd h
-one_constant_more ns None None (Some d) b x k h fresh typed = absurd h
-one_constant_more ns None None None true x k h fresh typed = typed
-one_constant_more ns None None None false x k h fresh typed = tt
-
-one_definition_more : (ns : List Node) (o : Option naming.Named) (c : Option Constant) (d : Option Definition) (b : Bool) (e : code.Definition) (k : Definition) → SameNamed ns o c d
-    → IsDefined ns e k → SameNamed ns (or_last o b (kinds.Definition e)) c (or_last d b k)
-one_definition_more ns (Some (kinds.Constant x)) (Some c) d b e k h is = h
-one_definition_more ns (Some (kinds.Constant x)) None d b e k h is = absurd h
-one_definition_more ns (Some (kinds.Definition f)) (Some c) d b e k h is = absurd h
-one_definition_more ns (Some (kinds.Definition f)) None (Some d) b e k h is = h
-one_definition_more ns (Some (kinds.Definition f)) None None b e k h is = absurd h
-one_definition_more ns None (Some c) d b e k h is = absurd h
-one_definition_more ns None None (Some d) b e k h is = absurd h
-one_definition_more ns None None None true e k h is = is
-one_definition_more ns None None None false e k h is = tt
-
--- a name that is this one has what is listed with this one
-same_name : (names : List (List ℕ × naming.Named)) (name other : List ℕ) → named_by names name ≡ None → bytes_eq other name ≡ true → named_by names other ≡ None
-same_name [] name other fresh e = refl
-same_name (p ∷ ps) name other fresh e =
-    let equal : bytes_eq other p.0 ≡ bytes_eq name p.0 = nat_list_eq_equiv.congr other name p.0 e in
-    (elim (bytes_eq name p.0) as (λ b. cond b (Some p.1) (named_by ps name) ≡ None → bytes_eq other p.0 ≡ b → cond (bytes_eq other p.0) (Some p.1) (named_by ps other) ≡ None) [
-      | true ↦ λ none f. cc
-      | false ↦ λ none f. ap (λ b. cond b (Some p.1) (named_by ps other)) f ∙ same_name ps name other none e
-    ]) fresh equal
-
-pub names_with_constant : (ns : List Node) (names : List (List ℕ × naming.Named)) (s t : State) (k : Constant) (x : Typed) → AreNamesOf ns names s → named_by names k.name ≡ None
-    → IsTyped ns x (apply (constant k) no_terms) → constants_of t ≡ constants_of s ++ k ∷ [] → definitions_of t ≡ definitions_of s → AreNamesOf ns (names ++ (k.name, kinds.Constant x) ∷ []) t
-names_with_constant ns names s t k x h fresh typed more same = λ other.
-    let swap : bytes_eq k.name other ≡ bytes_eq other k.name = nat_list_eq_equiv.symm k.name other in
-    subst (λ o. SameNamed ns o (constant_named (constants_of t) other) (definition_named (definitions_of t) other)) (sym (listed_last names k.name other (kinds.Constant x)))
-    (subst (λ c. SameNamed ns (or_last (named_by names other) (bytes_eq other k.name) (kinds.Constant x)) c (definition_named (definitions_of t) other))
-    (sym (ap (λ cs. constant_named cs other) more ∙ constant_last (constants_of s) k other ∙ ap (λ b. or_last (constant_named (constants_of s) other) b k) swap))
-    (subst (λ ds. SameNamed ns (or_last (named_by names other) (bytes_eq other k.name) (kinds.Constant x)) (or_last (constant_named (constants_of s) other) (bytes_eq other k.name) k) (definition_named ds other))
-    (sym same)
-    (one_constant_more ns (named_by names other) (constant_named (constants_of s) other) (definition_named (definitions_of s) other) (bytes_eq other k.name) x k (h other)
-    (λ e. same_name names k.name other fresh e) typed)))
-
-pub names_with_definition : (ns : List Node) (names : List (List ℕ × naming.Named)) (s t : State) (k : Definition) (e : code.Definition) → AreNamesOf ns names s
-    → IsDefined ns e k → constants_of t ≡ constants_of s → definitions_of t ≡ definitions_of s ++ k ∷ [] → AreNamesOf ns (names ++ (k.name, kinds.Definition e) ∷ []) t
-names_with_definition ns names s t k e h is same more = λ other.
-    let swap : bytes_eq k.name other ≡ bytes_eq other k.name = nat_list_eq_equiv.symm k.name other in
-    subst (λ o. SameNamed ns o (constant_named (constants_of t) other) (definition_named (definitions_of t) other)) (sym (listed_last names k.name other (kinds.Definition e)))
-    (subst (λ d. SameNamed ns (or_last (named_by names other) (bytes_eq other k.name) (kinds.Definition e)) (constant_named (constants_of t) other) d)
-    (sym (ap (λ ds. definition_named ds other) more ∙ definition_last (definitions_of s) k other ∙ ap (λ b. or_last (definition_named (definitions_of s) other) b k) swap))
-    (subst (λ cs. SameNamed ns (or_last (named_by names other) (bytes_eq other k.name) (kinds.Definition e)) (constant_named cs other) (or_last (definition_named (definitions_of s) other) (bytes_eq other k.name) k))
-    (sym same)
-    (one_definition_more ns (named_by names other) (constant_named (constants_of s) other) (definition_named (definitions_of s) other) (bytes_eq other k.name) e k (h other) is)))
 
 -- ---- Constants of the table
 
@@ -301,7 +152,7 @@ not_before old new id c none longer at below =
 
 -- ---- Tables that are kept
 
-take_front : (xs ys : List Node) → take (length xs) (xs ++ ys) ≡ xs
+pub take_front : {A : Type 0} (xs ys : List A) → take (length xs) (xs ++ ys) ≡ xs
 take_front [] ys = refl
 take_front (x ∷ xs) ys = ap (λ l. x ∷ l) (take_front xs ys)
 
@@ -318,6 +169,37 @@ kept_with_one old new n (inr e) = ap (take (length old)) e ∙ take_front old (n
 -- a table that is cut back to what was kept
 pub cut_back : (old new cut : List Node) (mark : ℕ) → mark ≡ length old → cut ≡ take mark new → take (length old) new ≡ old → cut ≡ old
 cut_back old new cut mark m c kept = c ∙ ap (λ n. take n new) m ∙ kept
+
+-- ---- Tables that grow twice
+
+operators-append : (xs ys : List Node) → AllByRecursion (λ (n : Node). IsOperator n.head) xs → AllByRecursion (λ (n : Node). IsOperator n.head) ys
+    → AllByRecursion (λ (n : Node). IsOperator n.head) (xs ++ ys)
+operators-append [] ys a b = b
+operators-append (x ∷ xs) ys a b = (a.0, operators-append xs ys a.1 b)
+
+longer : (old new : List Node) → Grows old new → length old ≤ length new
+longer old new g = omega (arith, simp length-append at (ap length g.all))
+
+pub grows_more : (old mid new : List Node) → Grows old mid → Grows mid new → Grows old new
+grows_more old mid new g h =
+    record {
+      more = g.more ++ h.more;
+      all = h.all ∙ ap (λ l. l ++ h.more) g.all ∙ append_assoc old g.more h.more;
+      operators = operators-append g.more h.more g.operators h.operators;
+      stays = λ i below. h.stays i (let long = longer old mid g in omega arith) ∙ g.stays i below;
+    }
+
+pub typed_kept : (old new : List Node) → Grows old new → (x : Typed) (t : Term) → IsTyped old x t → IsTyped new x t
+typed_kept old new g x t h = record { within = omega (arith, h.within, longer old new g); normal = g.stays x.id h.within ∙ h.normal; sort = h.sort }
+
+pub all_typed_kept : (old new : List Node) → Grows old new → (xs : List Typed) (ts : Terms) → AreTyped old xs ts → AreTyped new xs ts
+all_typed_kept old new g [] no_terms h = tt
+all_typed_kept old new g [] (terms t ts) h = absurd h
+all_typed_kept old new g (x ∷ xs) no_terms h = absurd h
+all_typed_kept old new g (x ∷ xs) (terms t ts) h = (typed_kept old new g x t h.0, all_typed_kept old new g xs ts h.1)
+
+pub stands_kept : (old new : List Node) → Grows old new → (id : ℕ) → id < length old → StandsFor new id (term_in old id)
+stands_kept old new g id within = record { within = omega (arith, within, longer old new g); term = g.stays id within }
 
 -- ---- Companions
 
@@ -356,12 +238,13 @@ companions_with_constant stays old new id c has longer within late term i below 
 pub companions_made : (old mid new : List Node) (mark : ℕ) → mark ≡ length old → Grows old mid → HasCompanions old → (HasCompanions (take mark mid) → HasCompanions new) → HasCompanions new
 companions_made old mid new mark e g has made = made (subst HasCompanions (sym (ap (λ n. take n mid) e ∙ kept_where_grown old mid g)) has)
 
-pub names_same : (ns : List Node) (names : List (List ℕ × naming.Named)) (s t : State) → constants_of t ≡ constants_of s → definitions_of t ≡ definitions_of s → AreNamesOf ns names s → AreNamesOf ns names t
-names_same ns names s t c d h = λ name.
-    subst (λ cs. SameNamed ns (named_by names name) (constant_named cs name) (definition_named (definitions_of t) name)) (sym c)
-    (subst (λ ds. SameNamed ns (named_by names name) (constant_named (constants_of s) name) (definition_named ds name)) (sym d) (h name))
+-- ---- What commands leave that bring no item
 
--- ---- What the other commands leave
+-- the scope of a live state with more constants and definitions
+pub scope_as : (ns : List Node) (names : List (List ℕ × naming.Named)) (s : State) (cs : List Constant) (ds : List Definition) → constants_of s ≡ cs → definitions_of s ≡ ds
+    → IsScope ns names [] (scope_by cs ds) → IsScope ns names [] (scope_by (constants_of s) (definitions_of s))
+scope_as ns names s cs ds c d h =
+    subst (λ l. IsScope ns names [] (scope_by l (definitions_of s))) (sym c) (subst (λ l. IsScope ns names [] (scope_by cs l)) (sym d) h)
 
 -- what is live rests on the levels and the next number alone
 live_by_levels : (ns : List Node) (standing : Standing) (s t : State) → t.levels ≡ s.levels → t.next ≡ s.next → IsLive ns standing s → IsLive ns standing t
@@ -369,8 +252,7 @@ live_by_levels ns standing s t e f live =
     let same : constants_of t ≡ constants_of s = ap (λ l. constants_in (items_of l)) e in
     let alike : definitions_of t ≡ definitions_of s = ap (λ l. definitions_in (items_of l)) e in
     record {
-      named = names_same ns standing.names s t same alike live.named;
-      fits = subst DefinitionsFit (sym alike) live.fits;
+      named = scope_as ns standing.names t (constants_of s) (definitions_of s) same alike live.named;
       constants = live.constants ∙ sym same;
       companions = live.companions;
       within = live.within;
@@ -380,10 +262,10 @@ live_by_levels ns standing s t e f live =
       unpushed = ap (λ (l : List (List LiveItem)). length l - 1) e ∙ live.unpushed;
     }
 
-pub leaves_asked : (ns : List Node) (standing : Standing) (s : State) (outcome : Outcome) (arguments : Trees) (ask : Ask) (c : Command) → outcome ≡ accepted c
-    → Asks ns ask arguments c → ((reply : Reply) → (effect s c reply).levels ≡ s.levels) → ((reply : Reply) → (effect s c reply).next ≡ s.next) → IsLive ns standing s
-    → IsAccepted s arguments outcome ask ns standing
-leaves_asked ns standing s outcome arguments ask c is asks keeps counts live =
+pub leaves_asked : (ns : List Node) (standing : Standing) (s : State) (r : Request) (outcome : Outcome) (ask : Ask) (c : Command) → outcome ≡ accepted c
+    → Asks ns ask r c → ((reply : Reply) → (effect s c reply).levels ≡ s.levels) → ((reply : Reply) → (effect s c reply).next ≡ s.next) → IsLive ns standing s
+    → IsAccepted s r outcome ask ns standing
+leaves_asked ns standing s r outcome ask c is asks keeps counts live =
     record { command = c; is = is; asks = asks; live = λ reply. live_by_levels ns standing s (effect s c reply) (keeps reply) (counts reply) live }
 
 -- what is live stays so where the table grows by operators and numbers
@@ -391,8 +273,7 @@ pub live_grown : TermStays → (old new : List Node) (standing : Standing) (s : 
 live_grown stays old new standing s g companions live =
     let stand = stand_longer stays old new g.more standing.asserted (map normal_of (assertions_of s)) g.all (record { within = live.within; terms = live.terms }) in
     record {
-      named = names_stay stays old new g.more standing.names s g.all live.named;
-      fits = live.fits;
+      named = scope_stays stays old new g.more standing.names (scope_by (constants_of s) (definitions_of s)) g.all live.named;
       constants = same_constants old new g ∙ live.constants;
       companions = companions;
       within = stand.within;
@@ -402,62 +283,21 @@ live_grown stays old new standing s g companions live =
       unpushed = live.unpushed;
     }
 
--- ---- Symbols
-
--- what the listed names say of the faults of a term is what the live state says
-pub alike_term : (ns : List Node) (standing : Standing) (s : State) (names : List (List ℕ × naming.Named)) (frames : List (List (List ℕ))) (tree : Tree) (unknown clashes : Bool)
-    → names ≡ standing.names → frames ≡ [] → IsLive ns standing s
-    → ((is_live : List ℕ → Bool) (bound : List (List ℕ)) → AreLive names is_live → AreBound frames bound → unknown ≡ has_unknown is_live bound tree) → clashes ≡ has_clash tree
-    → fault_error (has_unknown (is_live_name s) [] tree) (has_clash tree) ≡ fault_error unknown clashes
-alike_term ns standing s names frames tree unknown clashes e f live found clashing =
-    let known = subst (λ l. AreLive l (is_live_name s)) (sym e) (are_live ns standing.names s live.named) in
-    let none = subst (λ l. AreBound l []) (sym f) (λ name. refl) in
-    sym (ap (λ b. fault_error b clashes) (found (is_live_name s) [] known none) ∙ ap (fault_error (has_unknown (is_live_name s) [] tree)) clashing)
-
-pub alike_terms : (ns : List Node) (standing : Standing) (s : State) (names : List (List ℕ × naming.Named)) (frames : List (List (List ℕ))) (ts : Trees) (unknown clashes : Bool)
-    → names ≡ standing.names → frames ≡ [] → IsLive ns standing s
-    → ((is_live : List ℕ → Bool) (bound : List (List ℕ)) → AreLive names is_live → AreBound frames bound → unknown ≡ have_unknown is_live bound ts) → clashes ≡ have_clash ts
-    → fault_error (have_unknown (is_live_name s) [] ts) (have_clash ts) ≡ fault_error unknown clashes
-alike_terms ns standing s names frames ts unknown clashes e f live found clashing =
-    let known = subst (λ l. AreLive l (is_live_name s)) (sym e) (are_live ns standing.names s live.named) in
-    let none = subst (λ l. AreBound l []) (sym f) (λ name. refl) in
-    sym (ap (λ b. fault_error b clashes) (found (is_live_name s) [] known none) ∙ ap (fault_error (have_unknown (is_live_name s) [] ts)) clashing)
-
--- ---- What asks and changes nothing
-
-pub leaves_checked : (ns : List Node) (standing : Standing) (s : State) (arguments : Trees) → IsLive ns standing s → IsAccepted s arguments (accepted (check_sat [])) check ns standing
-leaves_checked ns standing s arguments live = leaves_asked ns standing s (accepted (check_sat [])) arguments check (check_sat []) refl refl (λ reply. refl) (λ reply. refl) live
-
-pub leaves_model : (ns : List Node) (standing : Standing) (s : State) (arguments : Trees) → IsLive ns standing s → IsAccepted s arguments (accepted get_model) show_model ns standing
-leaves_model ns standing s arguments live = leaves_asked ns standing s (accepted get_model) arguments show_model get_model refl refl (λ reply. refl) (λ reply. refl) live
-
-pub leaves_unheeded : (ns : List Node) (standing : Standing) (s : State) (arguments : Trees) → IsLive ns standing s → IsAccepted s arguments (accepted no_effect) nothing ns standing
-leaves_unheeded ns standing s arguments live = leaves_asked ns standing s (accepted no_effect) arguments nothing no_effect refl refl (λ reply. refl) (λ reply. refl) live
-
-pub leaves_left : (ns : List Node) (standing : Standing) (s : State) (arguments : Trees) → IsLive ns standing s → IsAccepted s arguments (accepted exit) leave ns standing
-leaves_left ns standing s arguments live = leaves_asked ns standing s (accepted exit) arguments leave exit refl refl (λ reply. refl) (λ reply. refl) live
-
--- an accepted command leaves what its ask says
-leaves_by : (s : State) (arguments : Trees) (outcome : Outcome) (ask : Ask) (ns : List Node) (standing : Standing) (c : Command) → Asks ns ask arguments c
-    → IsAccepted s arguments outcome ask ns standing → Leaves s arguments outcome ask ns standing
-leaves_by s arguments outcome changed ns standing c asks h = h
-leaves_by s arguments outcome check ns standing c asks h = h
-leaves_by s arguments outcome show_model ns standing c asks h = h
-leaves_by s arguments outcome (show_values xs) ns standing c asks h = h
-leaves_by s arguments outcome show_reason ns standing c asks h = h
-leaves_by s arguments outcome (show_info i) ns standing c asks h = h
-leaves_by s arguments outcome show_levels ns standing c asks h = h
-leaves_by s arguments outcome (print_success b) ns standing c asks h = h
-leaves_by s arguments outcome nothing ns standing c asks h = h
-leaves_by s arguments outcome echo ns standing c asks h = h
-leaves_by s arguments outcome leave ns standing c asks h = h
-leaves_by s arguments outcome unsupported ns standing c asks h = absurd asks
-
-pub leaves_only : (ns : List Node) (standing : Standing) (s : State) (name : CommandName) (arguments : Trees) (ask : Ask) → AsksOnly name arguments ask → IsLive ns standing s
-    → Leaves s arguments (outcome_by s name arguments) ask ns standing
-leaves_only ns standing s name arguments ask h live =
-    leaves_by s arguments (outcome_by s name arguments) ask ns standing h.command (h.asks ns)
-    (leaves_asked ns standing s (outcome_by s name arguments) arguments ask h.command (h.is s) (h.asks ns) (h.keeps s) (h.counts s) live)
+-- an accepted command leaves what its ask says, where that is no check
+pub leaves_by : (s : State) (r : Request) (outcome : Outcome) (ask : Ask) (ns : List Node) (standing : Standing) (c : Command) → is_check ask ≡ false → Asks ns ask r c
+    → IsAccepted s r outcome ask ns standing → Leaves s r outcome ask ns standing
+leaves_by s r outcome changed ns standing c other asks h = h
+leaves_by s r outcome check ns standing c other asks h = cc
+leaves_by s r outcome show_model ns standing c other asks h = h
+leaves_by s r outcome (show_values xs) ns standing c other asks h = h
+leaves_by s r outcome show_reason ns standing c other asks h = h
+leaves_by s r outcome (show_info i) ns standing c other asks h = h
+leaves_by s r outcome show_levels ns standing c other asks h = h
+leaves_by s r outcome (print_success b) ns standing c other asks h = h
+leaves_by s r outcome nothing ns standing c other asks h = h
+leaves_by s r outcome echo ns standing c other asks h = h
+leaves_by s r outcome leave ns standing c other asks h = h
+leaves_by s r outcome unsupported ns standing c other asks h = absurd asks
 
 -- what holds, holds where the command isn't taken
 pub if_skipped : {P : Type 0} (ask : Ask) → P → IfSkipped ask P
@@ -473,3 +313,56 @@ if_skipped nothing p = tt
 if_skipped echo p = tt
 if_skipped leave p = tt
 if_skipped unsupported p = p
+
+-- ---- The scope of the live names
+
+pub live_scope : (ns : List Node) (standing : Standing) (s : State) (names : List (List ℕ × naming.Named)) → names ≡ standing.names → IsLive ns standing s → IsScope ns names [] (scope_of s)
+live_scope ns standing s names e live = subst (λ l. IsScope ns l [] (scope_of s)) (sym e) live.named
+
+is_listed : {A B : Type 0} (o : Option A) (p : Option B) (f : A → B) → IfSome o (λ a. p ≡ Some (f a)) → IfNone o (p ≡ None) → is_some o ≡ is_some p
+is_listed (Some a) p f some none = sym (ap is_some some)
+is_listed None p f some none = sym (ap is_some none)
+
+-- whether a name that is looked up is live
+pub looked_up : (ns : List Node) (standing : Standing) (s : State) (names : List (List ℕ × naming.Named)) (name : List ℕ) (o : Option (Bor naming.Named)) → names ≡ standing.names
+    → IsLive ns standing s → IfSome o (λ n. named_by names name ≡ Some n.now) → IfNone o (named_by names name ≡ None) → is_live_name s name ≡ is_some o
+looked_up ns standing s names name o e live some none =
+    sym (are_live ns names (scope_of s) name (live_scope ns standing s names e live)) ∙ sym (is_listed o (named_by names name) (λ n. n.now) some none)
+
+-- ---- The start
+
+pub live_at_start : (names : List (List ℕ × naming.Named)) (cs assertions : List Accepted) (gs : List Goal) (ws : List Wish) (ids : List ℕ) → cs ≡ [] → assertions ≡ [] → gs ≡ [] → ws ≡ [] → ids ≡ []
+    → IsScope [] names [] nothing_declared → IsLive [] (standing_of names cs assertions gs ws ids 0 false) start
+live_at_start names cs assertions gs ws ids a b d e f h =
+    subst (λ l. IsLive [] (standing_of names l assertions gs ws ids 0 false) start) (sym a)
+    (subst (λ l. IsLive [] (standing_of names [] l gs ws ids 0 false) start) (sym b)
+    (subst (λ l. IsLive [] (standing_of names [] [] l ws ids 0 false) start) (sym d)
+    (subst (λ l. IsLive [] (standing_of names [] [] [] l ids 0 false) start) (sym e)
+    (subst (λ l. IsLive [] (standing_of names [] [] [] [] l 0 false) start) (sym f)
+    (let none = λ (i : ℕ). i < 0 in
+    let nothing : StandForAll [] [] [] = record { within = All-nil none; terms = refl } in
+    record {
+      named = h;
+      constants = refl;
+      companions = λ i below. absurd (omega (arith, below));
+      within = All-nil none;
+      terms = refl;
+      items =
+          record {
+            constants = record { numbers = refl; terms = nothing };
+            assertions = record { numbers = refl; terms = nothing };
+            goals = record { items = record { numbers = refl; terms = nothing }; directions = refl; shown = refl };
+            wishes = record { items = record { numbers = refl; terms = nothing }; weights = refl; numerals = refl; groups = refl };
+            all = nothing;
+            numbers = refl;
+          };
+      next = refl;
+      unpushed = refl;
+    })))))
+
+-- the numbers of typed terms are in the table
+pub all_within : (ns : List Node) (xs : List Typed) (ts : Terms) → AreTyped ns xs ts → All (λ (x : Typed). x.id < length ns) xs
+all_within ns [] no_terms h = All-nil (λ (x : Typed). x.id < length ns)
+all_within ns [] (terms t ts) h = absurd h
+all_within ns (x ∷ xs) no_terms h = absurd h
+all_within ns (x ∷ xs) (terms t ts) h = All-cons (λ (y : Typed). y.id < length ns) x xs h.0.within (all_within ns xs ts h.1)

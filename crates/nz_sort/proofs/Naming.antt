@@ -1,118 +1,194 @@
--- Names and what is listed with them.
-use Rattle.std.proofs.Common.{◌≡◌, ◌<◌, ◌+◌, ℕ, length, drop, get_or, Bor, List, [], ◌∷◌, ◌++◌, Option, None, Some, IfSome, IfNone, option_copied, is_some, true, false, cond, bytes_eq, reverse, refl, sym, ap, ◌∙◌}
-use Rattle.std.proofs.lemmas.Bool.{true≢false, false≢true}
-use Rattle.std.proofs.lemmas.List.{reverse-append, at_drop_more, length_push}
-use Rattle.std.specs.Map.{lookup}
+-- Names and what they stand for, one of them more.
+use Rattle.std.proofs.Common.{◌||◌, ◌≡◌, ℕ, ◌<◌, List, [], ◌∷◌, ◌++◌, length, Option, None, Some, is_some, Bool, true, false, cond, bytes_eq, refl, sym, ap, ◌∙◌, append-nil, length-append, subst, arith}
 use Rattle.std.specs.Cmp.Lexicographic.{nat_list_eq_equiv}
-use Rattle.indexmap.specs.IndexMap.{insert_entry}
-use Rattle.nz_spec.specs.Elaboration.{listed}
-use Rattle.nz_sort.specs.declared.typed.Typed.{Typed}
-use Rattle.nz_sort.specs.Names.{bound_in, bound_by, first_of}
+use Rattle.std.specs.List.{AllByRecursion}
+use Rattle.nz_spec.specs.Term.{Constant, constant, Term, no_terms, apply}
+use Rattle.nz_spec.specs.Table.{Node, TermStays}
+use Rattle.nz_spec.specs.Elaboration.{Operator, Definition, RootFits, Scope, operator_named, constant_named, definition_named, is_declared, listed}
+use Rattle.nz_elaborate.specs.declared.typed.Typed.{Typed}
+use Rattle.nz_elaborate.specs.declared.names.Definition as code
+use Rattle.nz_elaborate.specs.declared.names.Named as naming
+use Rattle.nz_elaborate.specs.declared.names.Named.TheVariants as kinds
+use Rattle.nz_elaborate.specs.Names.{named_by, SameNamed, IsDefined, IsScope}
+use Rattle.nz_elaborate.specs.Typed.{IsTyped}
 
--- the map finds what is listed
-pub lookup-listed : {A : Type 0} (ps : List (List ℕ × A)) (name : List ℕ) → lookup (bytes_eq name) ps ≡ listed ps name
-lookup-listed [] name = refl
-lookup-listed (p ∷ ps) name = ap (cond (bytes_eq name p.0) (Some p.1)) (lookup-listed ps name)
+-- ---- Live names
 
--- a name that isn't there goes last
-pub insert_entry-listed : {A : Type 0} (ps : List (List ℕ × A)) (name : List ℕ) (x : A) → listed ps name ≡ None
-    → insert_entry bytes_eq ps name x ≡ ps ++ (name, x) ∷ []
-insert_entry-listed [] name x h = refl
-insert_entry-listed (p ∷ ps) name x h =
-    (elim (bytes_eq name p.0) as (λ b. cond b (Some p.1) (listed ps name) ≡ None → cond b ((p.0, x) ∷ ps) (p ∷ insert_entry bytes_eq ps name x) ≡ p ∷ (ps ++ (name, x) ∷ [])) [
-      | true ↦ λ e. cc
-      | false ↦ λ e. ap (λ l. p ∷ l) (insert_entry-listed ps name x e)
-    ]) h
+named_together : (ns : List Node) (n : Option naming.Named) (o : Option Operator) (c : Option Constant) (d : Option Definition) → SameNamed ns n o c d
+    → is_some n ≡ (is_some o || is_some c || is_some d)
+named_together ns (Some (kinds.Operator x)) (Some o) c d h = refl
+named_together ns (Some (kinds.Operator x)) None c d h = absurd h
+named_together ns (Some (kinds.Constant x)) (Some o) c d h = absurd h
+named_together ns (Some (kinds.Constant x)) None (Some c) d h = refl
+named_together ns (Some (kinds.Constant x)) None None d h = absurd h
+named_together ns (Some (kinds.Definition e)) (Some o) c d h = absurd h
+named_together ns (Some (kinds.Definition e)) None (Some c) d h = absurd h
+named_together ns (Some (kinds.Definition e)) None None (Some d) h = refl
+named_together ns (Some (kinds.Definition e)) None None None h = absurd h
+named_together ns None (Some o) c d h = absurd h
+named_together ns None None (Some c) d h = absurd h
+named_together ns None None None (Some d) h = absurd h
+named_together ns None None None None h = refl
 
--- two equal names have the same listed
-same_listed : {A : Type 0} (ps : List (List ℕ × A)) (a b : List ℕ) → bytes_eq a b ≡ true → listed ps a ≡ listed ps b
-same_listed [] a b e = refl
-same_listed (p ∷ ps) a b e =
-    ap (λ c. cond c (Some p.1) (listed ps a)) (nat_list_eq_equiv.congr a b p.0 e) ∙ ap (cond (bytes_eq b p.0) (Some p.1)) (same_listed ps a b e)
+-- the names that are listed are the live ones
+pub are_live : (ns : List Node) (names : List (List ℕ × naming.Named)) (sc : Scope) (name : List ℕ) → IsScope ns names [] sc
+    → is_some (named_by names name) ≡ is_declared sc.constants sc.definitions name
+are_live ns names sc name h =
+    named_together ns (named_by names name) (operator_named name) (constant_named sc.constants name) (definition_named sc.definitions name) (h.live name)
 
--- ---- Bindings
+no_named_constant : (ns : List Node) (n : Option naming.Named) (o : Option Operator) (c : Option Constant) (d : Option Definition) → SameNamed ns n o c d → n ≡ None → c ≡ None
+no_named_constant ns (Some n) o c d h e = cc
+no_named_constant ns None (Some o) c d h e = absurd h
+no_named_constant ns None None (Some c) d h e = absurd h
+no_named_constant ns None None None d h e = refl
 
-first_none : (o : Option Typed) → first_of o None ≡ o
-first_none None = refl
-first_none (Some x) = refl
+-- a name that isn't listed is that of no constant
+pub no_constant : (ns : List Node) (names : List (List ℕ × naming.Named)) (sc : Scope) (name : List ℕ) → IsScope ns names [] sc → named_by names name ≡ None
+    → constant_named sc.constants name ≡ None
+no_constant ns names sc name h fresh =
+    no_named_constant ns (named_by names name) (operator_named name) (constant_named sc.constants name) (definition_named sc.definitions name) (h.live name) fresh
 
--- what is bound already stays
-pub bound_kept : (ps : List (List ℕ × Typed)) (name : List ℕ) (x y : Typed) → listed ps name ≡ Some y → (other : List ℕ)
-    → bound_in ps other ≡ first_of (bound_in ps other) (bound_in ((name, x) ∷ []) other)
-bound_kept ps name x y h other =
-    (elim (bytes_eq other name) as (λ b. (b ≡ true → listed ps other ≡ listed ps name) → listed ps other ≡ first_of (listed ps other) (cond b (Some x) None)) [
-      | true ↦ λ same. (let found : listed ps other ≡ Some y = same refl ∙ h in rw found refl)
-      | false ↦ λ same. sym (first_none (listed ps other))
-    ]) (same_listed ps other name)
+-- ---- Names, where the table grows
 
--- a name that isn't bound is bound last
-pub bound_added : (ps : List (List ℕ × Typed)) (name : List ℕ) (x : Typed) (other : List ℕ)
-    → bound_in (ps ++ (name, x) ∷ []) other ≡ first_of (bound_in ps other) (bound_in ((name, x) ∷ []) other)
-bound_added [] name x other = refl
-bound_added (p ∷ ps) name x other =
-    elim (bytes_eq other p.0) as (λ b. cond b (Some p.1) (listed (ps ++ (name, x) ∷ []) other) ≡ first_of (cond b (Some p.1) (listed ps other)) (listed ((name, x) ∷ []) other)) [
+typed_stays : TermStays → (ns more : List Node) (x : Typed) (t : Term) → IsTyped ns x t → IsTyped (ns ++ more) x t
+typed_stays stays ns more x t h =
+    record { within = omega (arith, h.within, length-append ns more); normal = stays ns more x.id h.within ∙ h.normal; sort = h.sort }
+
+same_stays : TermStays → (ns more : List Node) (n : Option naming.Named) (o : Option Operator) (c : Option Constant) (d : Option Definition) → SameNamed ns n o c d
+    → SameNamed (ns ++ more) n o c d
+same_stays stays ns more (Some (kinds.Operator x)) (Some o) c d h = h
+same_stays stays ns more (Some (kinds.Operator x)) None c d h = absurd h
+same_stays stays ns more (Some (kinds.Constant x)) (Some o) c d h = absurd h
+same_stays stays ns more (Some (kinds.Constant x)) None (Some c) d h = typed_stays stays ns more x (apply (constant c) no_terms) h
+same_stays stays ns more (Some (kinds.Constant x)) None None d h = absurd h
+same_stays stays ns more (Some (kinds.Definition e)) (Some o) c d h = absurd h
+same_stays stays ns more (Some (kinds.Definition e)) None (Some c) d h = absurd h
+same_stays stays ns more (Some (kinds.Definition e)) None None (Some d) h = record { parameters = h.parameters; body = typed_stays stays ns more e.body d.body h.body }
+same_stays stays ns more (Some (kinds.Definition e)) None None None h = absurd h
+same_stays stays ns more None (Some o) c d h = absurd h
+same_stays stays ns more None None (Some c) d h = absurd h
+same_stays stays ns more None None None (Some d) h = absurd h
+same_stays stays ns more None None None None h = tt
+
+pub scope_stays : TermStays → (old new more : List Node) (names : List (List ℕ × naming.Named)) (sc : Scope) → new ≡ old ++ more → IsScope old names [] sc → IsScope new names [] sc
+scope_stays stays old new more names sc e h =
+    subst (λ ns. IsScope ns names [] sc) (sym e)
+    (record {
+      bound = h.bound;
+      live = λ name. same_stays stays old more (named_by names name) (operator_named name) (constant_named sc.constants name) (definition_named sc.definitions name) (h.live name);
+      fits = h.fits;
+    })
+
+-- ---- One name more
+
+-- what is listed in a list with one more at the end
+abbrev pub or_last : {A : Type 0} → Option A → Bool → A → Option A
+or_last (Some x) b y = Some x
+or_last None b y = cond b (Some y) None
+
+pub listed_last : {A : Type 0} (ps : List (List ℕ × A)) (name other : List ℕ) (x : A) → listed (ps ++ (name, x) ∷ []) other ≡ or_last (listed ps other) (bytes_eq other name) x
+listed_last [] name other x = refl
+listed_last (p ∷ ps) name other x =
+    elim (bytes_eq other p.0) as (λ b. cond b (Some p.1) (listed (ps ++ (name, x) ∷ []) other) ≡ or_last (cond b (Some p.1) (listed ps other)) (bytes_eq other name) x) [
       | true ↦ refl
-      | false ↦ bound_added ps name x other
+      | false ↦ listed_last ps name other x
     ]
 
--- ---- Frames
+constant_last : (cs : List Constant) (c : Constant) (other : List ℕ) → constant_named (cs ++ c ∷ []) other ≡ or_last (constant_named cs other) (bytes_eq c.name other) c
+constant_last [] c other = refl
+constant_last (e ∷ cs) c other =
+    elim (bytes_eq e.name other) as (λ b. cond b (Some e) (constant_named (cs ++ c ∷ []) other) ≡ or_last (cond b (Some e) (constant_named cs other)) (bytes_eq c.name other) c) [
+      | true ↦ refl
+      | false ↦ constant_last cs c other
+    ]
 
--- the term of a name by the first of the frames that has it
-abbrev pub innermost : List ℕ → List (List (List ℕ × Typed)) → Option Typed
-innermost name [] = None
-innermost name (frame ∷ frames) = first_of (bound_in frame name) (innermost name frames)
+definition_last : (ds : List Definition) (d : Definition) (other : List ℕ) → definition_named (ds ++ d ∷ []) other ≡ or_last (definition_named ds other) (bytes_eq d.name other) d
+definition_last [] d other = refl
+definition_last (e ∷ ds) d other =
+    elim (bytes_eq e.name other) as (λ b. cond b (Some e) (definition_named (ds ++ d ∷ []) other) ≡ or_last (cond b (Some e) (definition_named ds other)) (bytes_eq d.name other) d) [
+      | true ↦ refl
+      | false ↦ definition_last ds d other
+    ]
 
-first_grouped : (a b c : Option Typed) → first_of (first_of a b) c ≡ first_of a (first_of b c)
-first_grouped None b c = refl
-first_grouped (Some x) b c = refl
+one_constant_more : (ns : List Node) (n : Option naming.Named) (o : Option Operator) (c : Option Constant) (d : Option Definition) (b : Bool) (x : Typed) (k : Constant) → SameNamed ns n o c d
+    → (b ≡ true → n ≡ None) → IsTyped ns x (apply (constant k) no_terms) → SameNamed ns (or_last n b (kinds.Constant x)) o (or_last c b k) d
+one_constant_more ns (Some (kinds.Operator y)) (Some o) c d b x k h fresh typed = h
+one_constant_more ns (Some (kinds.Operator y)) None c d b x k h fresh typed = absurd h
+one_constant_more ns (Some (kinds.Constant y)) (Some o) c d b x k h fresh typed = absurd h
+one_constant_more ns (Some (kinds.Constant y)) None (Some c) d b x k h fresh typed = h
+one_constant_more ns (Some (kinds.Constant y)) None None d b x k h fresh typed = absurd h
+one_constant_more ns (Some (kinds.Definition e)) (Some o) c d b x k h fresh typed = absurd h
+one_constant_more ns (Some (kinds.Definition e)) None (Some c) d b x k h fresh typed = absurd h
+one_constant_more ns (Some (kinds.Definition e)) None None (Some d) true x k h fresh typed = let no : Some (kinds.Definition e) ≡ None = fresh refl in cc
+one_constant_more ns (Some (kinds.Definition e)) None None (Some d) false x k h fresh typed = h
+one_constant_more ns (Some (kinds.Definition e)) None None None b x k h fresh typed = absurd h
+one_constant_more ns None (Some o) c d b x k h fresh typed = absurd h
+one_constant_more ns None None (Some c) d b x k h fresh typed = absurd h
+one_constant_more ns None None None (Some d) b x k h fresh typed = absurd h
+one_constant_more ns None None None None true x k h fresh typed = typed
+one_constant_more ns None None None None false x k h fresh typed = tt
 
-innermost-push : (name : List ℕ) (frames : List (List (List ℕ × Typed))) (frame : List (List ℕ × Typed))
-    → innermost name (frames ++ frame ∷ []) ≡ first_of (innermost name frames) (bound_in frame name)
-innermost-push name [] frame = first_none (bound_in frame name)
-innermost-push name (f ∷ fs) frame =
-    ap (first_of (bound_in f name)) (innermost-push name fs frame) ∙ sym (first_grouped (bound_in f name) (innermost name fs) (bound_in frame name))
+one_definition_more : (ns : List Node) (n : Option naming.Named) (o : Option Operator) (c : Option Constant) (d : Option Definition) (b : Bool) (e : code.Definition) (k : Definition) → SameNamed ns n o c d
+    → IsDefined ns e k → SameNamed ns (or_last n b (kinds.Definition e)) o c (or_last d b k)
+one_definition_more ns (Some (kinds.Operator x)) (Some o) c d b e k h is = h
+one_definition_more ns (Some (kinds.Operator x)) None c d b e k h is = absurd h
+one_definition_more ns (Some (kinds.Constant x)) (Some o) c d b e k h is = absurd h
+one_definition_more ns (Some (kinds.Constant x)) None (Some c) d b e k h is = h
+one_definition_more ns (Some (kinds.Constant x)) None None d b e k h is = absurd h
+one_definition_more ns (Some (kinds.Definition f)) (Some o) c d b e k h is = absurd h
+one_definition_more ns (Some (kinds.Definition f)) None (Some c) d b e k h is = absurd h
+one_definition_more ns (Some (kinds.Definition f)) None None (Some d) b e k h is = h
+one_definition_more ns (Some (kinds.Definition f)) None None None b e k h is = absurd h
+one_definition_more ns None (Some o) c d b e k h is = absurd h
+one_definition_more ns None None (Some c) d b e k h is = absurd h
+one_definition_more ns None None None (Some d) b e k h is = absurd h
+one_definition_more ns None None None None true e k h is = is
+one_definition_more ns None None None None false e k h is = tt
 
--- the frames from the last one on
-pub bound-reverse : (frames : List (List (List ℕ × Typed))) (name : List ℕ) → bound_by frames name ≡ innermost name (reverse frames)
-bound-reverse [] name = refl
-bound-reverse (frame ∷ frames) name =
-    ap (λ o. first_of o (bound_in frame name)) (bound-reverse frames name) ∙ sym (innermost-push name (reverse frames) frame)
-    ∙ ap (innermost name) (sym (reverse-append (frame ∷ []) frames))
+-- a name that is this one has what is listed with this one
+same_name : (names : List (List ℕ × naming.Named)) (name other : List ℕ) → named_by names name ≡ None → bytes_eq other name ≡ true → named_by names other ≡ None
+same_name [] name other fresh e = refl
+same_name (p ∷ ps) name other fresh e =
+    let equal : bytes_eq other p.0 ≡ bytes_eq name p.0 = nat_list_eq_equiv.congr other name p.0 e in
+    (elim (bytes_eq name p.0) as (λ b. cond b (Some p.1) (named_by ps name) ≡ None → bytes_eq other p.0 ≡ b → cond (bytes_eq other p.0) (Some p.1) (named_by ps other) ≡ None) [
+      | true ↦ λ none f. cc
+      | false ↦ λ none f. ap (λ b. cond b (Some p.1) (named_by ps other)) f ∙ same_name ps name other none e
+    ]) fresh equal
 
--- where a frame has the name, and where it hasn't
-pub innermost_found : (name : List ℕ) (all : List (List (List ℕ × Typed))) (yielded : List (Bor (List (List ℕ × Typed)))) (frame : Bor (List (List ℕ × Typed))) (x : Typed)
-    → length yielded < length all → frame.now ≡ get_or all (length yielded) frame.now → bound_in frame.now name ≡ Some x
-    → (whole : Option Typed) → whole ≡ innermost name (drop (length yielded) all) → Some x ≡ whole
-innermost_found name all yielded frame x below is here whole before =
-    sym (before ∙ at_drop_more (innermost name) all (length yielded) frame.now below
-    ∙ ap (λ f. first_of (bound_in f name) (innermost name (drop (length yielded + 1) all))) (sym is)
-    ∙ ap (λ o. first_of o (innermost name (drop (length yielded + 1) all))) here)
+-- the live names alone, none bound
+abbrev pub scope_by : List Constant → List Definition → Scope
+scope_by cs ds = record { constants = cs; definitions = ds; bound = [] }
 
-pub innermost_next : (name : List ℕ) (all : List (List (List ℕ × Typed))) (yielded : List (Bor (List (List ℕ × Typed)))) (frame : Bor (List (List ℕ × Typed)))
-    → length yielded < length all → frame.now ≡ get_or all (length yielded) frame.now → bound_in frame.now name ≡ None
-    → (whole : Option Typed) → whole ≡ innermost name (drop (length yielded) all) → whole ≡ innermost name (drop (length (yielded ++ frame ∷ [])) all)
-innermost_next name all yielded frame below is here whole before =
-    before ∙ at_drop_more (innermost name) all (length yielded) frame.now below
-    ∙ ap (λ f. first_of (bound_in f name) (innermost name (drop (length yielded + 1) all))) (sym is)
-    ∙ ap (λ o. first_of o (innermost name (drop (length yielded + 1) all))) here
-    ∙ ap (λ n. innermost name (drop n all)) (sym (length_push yielded frame))
+pub scope_with_constant : (ns : List Node) (names : List (List ℕ × naming.Named)) (cs : List Constant) (ds : List Definition) (k : Constant) (x : Typed) → IsScope ns names [] (scope_by cs ds)
+    → named_by names k.name ≡ None → IsTyped ns x (apply (constant k) no_terms) → IsScope ns (names ++ (k.name, kinds.Constant x) ∷ []) [] (scope_by (cs ++ k ∷ []) ds)
+scope_with_constant ns names cs ds k x h fresh typed =
+    record {
+      bound = λ other. tt;
+      live = λ other.
+          let swap : bytes_eq k.name other ≡ bytes_eq other k.name = nat_list_eq_equiv.symm k.name other in
+          subst (λ n. SameNamed ns n (operator_named other) (constant_named (cs ++ k ∷ []) other) (definition_named ds other)) (sym (listed_last names k.name other (kinds.Constant x)))
+          (subst (λ c. SameNamed ns (or_last (named_by names other) (bytes_eq other k.name) (kinds.Constant x)) (operator_named other) c (definition_named ds other))
+          (sym (constant_last cs k other ∙ ap (λ b. or_last (constant_named cs other) b k) swap))
+          (one_constant_more ns (named_by names other) (operator_named other) (constant_named cs other) (definition_named ds other) (bytes_eq other k.name) x k (h.live other)
+          (λ e. same_name names k.name other fresh e) typed));
+      fits = h.fits;
+    }
 
--- ---- What a look-up answers
+fits_more : (ds : List Definition) (d : Definition) → AllByRecursion (λ (e : Definition). RootFits e.parameters e.body) ds → RootFits d.parameters d.body
+    → AllByRecursion (λ (e : Definition). RootFits e.parameters e.body) (ds ++ d ∷ [])
+fits_more [] d h f = (f, tt)
+fits_more (e ∷ ds) d h f = (h.0, fits_more ds d h.1 f)
 
-pub found_listed : {A : Type 0} (o : Option (Bor A)) (ps : List (List ℕ × A)) (name : List ℕ) → option_copied o ≡ listed ps name → IfSome o (λ n. listed ps name ≡ Some n.now)
-found_listed None ps name e = tt
-found_listed (Some n) ps name e = sym e
-
-pub none_listed : {A : Type 0} (o : Option (Bor A)) (ps : List (List ℕ × A)) (name : List ℕ) → option_copied o ≡ listed ps name → IfNone o (listed ps name ≡ None)
-none_listed None ps name e = sym e
-none_listed (Some n) ps name e = tt
-
--- where the look-up finds a name, it is bound already
-pub bound_there : (o : Option (Bor Typed)) (ps : List (List ℕ × Typed)) (name : List ℕ) (x : Typed) → option_copied o ≡ listed ps name → is_some o ≡ true
-    → (other : List ℕ) → bound_in ps other ≡ first_of (bound_in ps other) (bound_in ((name, x) ∷ []) other)
-bound_there None ps name x e there = absurd (false≢true there)
-bound_there (Some y) ps name x e there = bound_kept ps name x y.now (sym e)
-
-pub not_there : {A : Type 0} (o : Option (Bor A)) (ps : List (List ℕ × A)) (name : List ℕ) → option_copied o ≡ listed ps name → is_some o ≡ false → listed ps name ≡ None
-not_there None ps name e there = sym e
-not_there (Some y) ps name e there = absurd (true≢false there)
+pub scope_with_definition : (ns : List Node) (names : List (List ℕ × naming.Named)) (cs : List Constant) (ds : List Definition) (k : Definition) (e : code.Definition)
+    → IsScope ns names [] (scope_by cs ds) → IsDefined ns e k → RootFits k.parameters k.body → IsScope ns (names ++ (k.name, kinds.Definition e) ∷ []) [] (scope_by cs (ds ++ k ∷ []))
+scope_with_definition ns names cs ds k e h is fits =
+    record {
+      bound = λ other. tt;
+      live = λ other.
+          let swap : bytes_eq k.name other ≡ bytes_eq other k.name = nat_list_eq_equiv.symm k.name other in
+          subst (λ n. SameNamed ns n (operator_named other) (constant_named cs other) (definition_named (ds ++ k ∷ []) other)) (sym (listed_last names k.name other (kinds.Definition e)))
+          (subst (λ d. SameNamed ns (or_last (named_by names other) (bytes_eq other k.name) (kinds.Definition e)) (operator_named other) (constant_named cs other) d)
+          (sym (definition_last ds k other ∙ ap (λ b. or_last (definition_named ds other) b k) swap))
+          (one_definition_more ns (named_by names other) (operator_named other) (constant_named cs other) (definition_named ds other) (bytes_eq other k.name) e k (h.live other) is));
+      fits = fits_more ds k h.fits fits;
+    }

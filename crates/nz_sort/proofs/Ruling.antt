@@ -1,16 +1,25 @@
 -- What becomes of a command, by the rules in their order.
-use Rattle.std.proofs.Common.{◌≡◌, ◌||◌, ℕ, List, Option, Some, None, IfSome, IfNone, Bool, true, false, cond, refl, ap}
-use Rattle.nz_spec.specs.Tree.{Token, symbol, keyword, numeral, decimal, hexadecimal, binary, literal, Tree, leaf, node, Trees, trees, no_trees}
-use Rattle.nz_spec.specs.Bounds.{have_token, is_wide_token, is_long_decimal}
-use Rattle.nz_spec.specs.Form.{CommandName, declare_const_name, declare_fun_name, define_fun_name, assert_name, get_value_name, get_info_name, set_option_name, echo_name, command_name, has_form, is_name, is_empty, tree_symbol}
+use Rattle.std.proofs.Common.{◌≡◌, ◌||◌, ◌-◌, ℕ, List, [], ◌∷◌, ◌++◌, length, take, Option, Some, None, IfSome, Result, Ok, Err, Bool, true, false, cond, refl, sym, ap, ◌∙◌, subst}
+use Rattle.nz_spec.specs.Tree.{Tree}
+use Rattle.nz_spec.specs.Bounds.{has_token, is_wide_token, is_long_decimal}
+use Rattle.nz_spec.specs.Table.{Node}
+use Rattle.nz_spec.specs.Request.{Request, checks, other_request}
+use Rattle.nz_spec.specs.Parse.{request_of}
 use Rattle.nz_spec.specs.Live.{State}
-use Rattle.nz_spec.specs.Command.{Outcome, refused, not_taken}
-use Rattle.nz_spec.specs.Script.{outcome_of, outcome_named, outcome_by, any_tree, is_unknown_sort, declaration_of, definition_of}
-use Rattle.nz_spec.specs.Taken.{passes_limit, takes_command}
-use Rattle.nz_sort.specs.Form.{IsHeadless, IsNotOne, IsNotTwo, IsNotThree}
-use Rattle.nz_sort.specs.Elaborate.{IsWord}
-use Rattle.nz_sort.specs.Live.{arguments_of}
-use Rattle.nz_sort.specs.Commands.{IsNamed, IsList, declaration_where, fault_error}
+use Rattle.nz_spec.specs.Limits.{passes_limit}
+use Rattle.nz_spec.specs.Command.{Command, check_sat, Outcome, accepted, refused, not_taken}
+use Rattle.nz_spec.specs.Script.{outcome_of, outcome_requested, outcome_by}
+use Rattle.nz_spec.specs.Reply.{Reply}
+use Rattle.nz_spec.specs.Right.{effect}
+use Rattle.nz_elaborate.specs.declared.faults.ElaborateError.{ElaborateError}
+use Rattle.nz_elaborate.specs.declared.faults.ElaborateError.TheVariants as errors
+use Rattle.nz_elaborate.specs.Elaborate.{ClashesFirst, IsWellNamed}
+use Rattle.nz_sort.specs.declared.acts.Act.{Act}
+use Rattle.nz_sort.specs.declared.refusal.Refusal.{Refusal}
+use Rattle.nz_sort.specs.Acts.{asked, error_of, refusal_by, is_check, AsksBy}
+use Rattle.nz_sort.specs.Changes.{Comes, ComesBy}
+use Rattle.nz_sort.specs.Live.{Standing, IsLive, IsCarriedOut, Leaves, Ask, Asks, changed, check, show_model, show_values, show_reason, show_info, show_levels, print_success, nothing, echo, leave, unsupported}
+use Rattle.nz_sort.proofs.Living.{leaves_asked, leaves_by, if_skipped, kept_where_same}
 
 pub if_some_weaker : {P Q : ℕ → Type 0} (o : Option ℕ) → ((n : ℕ) → P n → Q n) → IfSome o P → IfSome o Q
 if_some_weaker None f h = tt
@@ -20,186 +29,187 @@ pub if_some_by : {P : ℕ → Type 0} (o : Option ℕ) → ((n : ℕ) → o ≡ 
 if_some_by None f = tt
 if_some_by (Some n) f = f n refl
 
-pub if_none_weaker : {A P Q : Type 0} (o : Option A) → (P → Q) → IfNone o P → IfNone o Q
-if_none_weaker None f h = f h
-if_none_weaker (Some a) f h = tt
+-- ---- The rules on names
 
--- ---- The rules before names and sorts
+-- what comes behind the rules on names
+abbrev pub named_first : Bool → Bool → Outcome → Outcome
+named_first unknown clashes o = cond unknown (refused 2) (cond clashes (refused 9) o)
 
-pub breaks_form : (s : State) (name : CommandName) (ts : Trees) → has_form name ts ≡ false → outcome_named s name ts ≡ refused 1
-breaks_form s name ts f = rw f refl
+pub unknown_first : (unknown clashes : Bool) (o : Outcome) → unknown ≡ true → named_first unknown clashes o ≡ refused 2
+unknown_first unknown clashes o e = ap (λ b. cond b (refused 2) (cond clashes (refused 9) o)) e
 
-pub breaks_limit : (s : State) (name : CommandName) (ts : Trees) → has_form name ts ≡ true → (passes_limit s name ts || have_token is_long_decimal ts) ≡ true
-    → outcome_named s name ts ≡ refused 6
-breaks_limit s name ts f l = rw (f, l) refl
+pub clash_next : (unknown clashes : Bool) (o : Outcome) → unknown ≡ false → clashes ≡ true → named_first unknown clashes o ≡ refused 9
+clash_next unknown clashes o e f = ap (λ b. cond b (refused 2) (cond clashes (refused 9) o)) e ∙ ap (λ b. cond b (refused 9) o) f
 
-pub breaks_width : (s : State) (name : CommandName) (ts : Trees) → has_form name ts ≡ true → (passes_limit s name ts || have_token is_long_decimal ts) ≡ false
-    → have_token is_wide_token ts ≡ true → outcome_named s name ts ≡ refused 5
-breaks_width s name ts f l w = rw (f, l, w) refl
+pub past_names : (unknown clashes : Bool) (o : Outcome) → unknown ≡ false → clashes ≡ false → named_first unknown clashes o ≡ o
+past_names unknown clashes o e f = ap (λ b. cond b (refused 2) (cond clashes (refused 9) o)) e ∙ ap (λ b. cond b (refused 9) o) f
 
-pub is_skipped : (s : State) (name : CommandName) (ts : Trees) → has_form name ts ≡ true → (passes_limit s name ts || have_token is_long_decimal ts) ≡ false
-    → have_token is_wide_token ts ≡ false → takes_command s name ts ≡ false → outcome_named s name ts ≡ not_taken
-is_skipped s name ts f l w t = rw (f, l, w, t) refl
+-- a term that isn't elaborated breaks the rule of its error
+pub refused_by_error : (error : ElaborateError) (refusal : Refusal) (n : ℕ) (unknown clashes : Bool) (o : Outcome) → refusal ≡ refusal_by error → error_of refusal ≡ Some n
+    → (error ≡ errors.Unknown → unknown ≡ true) → (error ≡ errors.Clash → ClashesFirst unknown clashes) → (error ≡ errors.Sort → IsWellNamed unknown clashes (o ≡ refused 3))
+    → named_first unknown clashes o ≡ refused n
+refused_by_error errors.Unknown refusal n unknown clashes o r told a b c =
+    let two : Some 2 ≡ Some n = sym (ap error_of r) ∙ told in
+    let is : 2 ≡ n = cc in
+    unknown_first unknown clashes o (a refl) ∙ ap refused is
+refused_by_error errors.Clash refusal n unknown clashes o r told a b c =
+    let nine : Some 9 ≡ Some n = sym (ap error_of r) ∙ told in
+    let is : 9 ≡ n = cc in
+    let h = b refl in
+    clash_next unknown clashes o h.known h.clashes ∙ ap refused is
+refused_by_error errors.Sort refusal n unknown clashes o r told a b c =
+    let three : Some 3 ≡ Some n = sym (ap error_of r) ∙ told in
+    let is : 3 ≡ n = cc in
+    let h = c refl in
+    past_names unknown clashes o h.known h.distinct ∙ h.holds ∙ ap refused is
+refused_by_error errors.Memory refusal n unknown clashes o r told a b c =
+    let none : None ≡ Some n = sym (ap error_of r) ∙ told in
+    cc
 
-pub is_taken : (s : State) (name : CommandName) (ts : Trees) → has_form name ts ≡ true → (passes_limit s name ts || have_token is_long_decimal ts) ≡ false
-    → have_token is_wide_token ts ≡ false → takes_command s name ts ≡ true → outcome_named s name ts ≡ outcome_by s name ts
-is_taken s name ts f l w t = rw (f, l, w, t) refl
+-- ---- The rules before them
 
--- ---- The head
+pub breaks_limit : (s : State) (t : Tree) (r : Request) → (passes_limit s r || has_token is_long_decimal t) ≡ true → outcome_requested s t r ≡ refused 6
+breaks_limit s t r l = rw l refl
 
-pub headless : (s : State) (ts : Trees) → IsHeadless ts → outcome_of s (node ts) ≡ refused 1
-headless s no_trees h = refl
-headless s (trees (leaf t) ts) h = absurd h
-headless s (trees (node us) ts) h = refl
+pub breaks_width : (s : State) (t : Tree) (r : Request) → (passes_limit s r || has_token is_long_decimal t) ≡ false → has_token is_wide_token t ≡ true → outcome_requested s t r ≡ refused 5
+breaks_width s t r l w = rw (l, w) refl
 
-pub nameless : (s : State) (t : Token) (ts : Trees) → is_name t ≡ false → outcome_of s (node (trees (leaf t) ts)) ≡ refused 1
-nameless s t ts h = rw h refl
+pub within_bounds : (s : State) (t : Tree) (r : Request) → (passes_limit s r || has_token is_long_decimal t) ≡ false → has_token is_wide_token t ≡ false
+    → outcome_requested s t r ≡ outcome_by s r
+within_bounds s t r l w = rw (l, w) refl
 
-pub named : (s : State) (t : Token) (ts : Trees) (name : List ℕ) → IsNamed t name → outcome_of s (node (trees (leaf t) ts)) ≡ outcome_named s (command_name name) ts
-named s t ts name h = rw (h.free, h.name) refl
+-- ---- What comes of a command
 
-pub behind : (t : Tree) (ts us : Trees) → us ≡ trees t ts → arguments_of (node us) ≡ ts
-behind t ts us e = ap (λ vs. arguments_of (node vs)) e
+pub take_whole : {A : Type 0} (xs : List A) → take (length xs) xs ≡ xs
+take_whole [] = refl
+take_whole (x ∷ xs) = ap (λ l. x ∷ l) (take_whole xs)
 
--- ---- Declarations and definitions
+-- a refusal leaves what stood
+pub comes_refused : (old new : List Node) (before after : Standing) (r : Request) (becomes : State → Outcome) (refusal : Refusal)
+    → IfSome (error_of refusal) (λ n. (s : State) → IsLive old before s → becomes s ≡ refused n) → take (length old) new ≡ old → after ≡ before
+    → Comes old new before after r becomes (Err refusal)
+comes_refused old new before after r becomes refusal told kept same =
+    record {
+      accepted = tt;
+      refused = told;
+      kept = kept;
+      unchanged = same;
+      skipped_terms = tt;
+      skipped = tt;
+      front = ap (λ (st : Standing). take (length before.asserted) st.asserted) same ∙ take_whole before.asserted;
+    }
 
-pub declares_nothing : (s : State) (ts : Trees) → IsNotTwo ts → outcome_by s declare_const_name ts ≡ refused 1
-declares_nothing s no_trees h = refl
-declares_nothing s (trees (leaf t) no_trees) h = refl
-declares_nothing s (trees (node us) no_trees) h = refl
-declares_nothing s (trees t (trees u no_trees)) h = absurd h
-declares_nothing s (trees (leaf t) (trees u (trees v ts))) h = refl
-declares_nothing s (trees (node us) (trees u (trees v ts))) h = refl
+-- what asks only leaves what stood
+pub comes_by_leaving : (ns : List Node) (standing : Standing) (r : Request) (becomes : State → Outcome) (act : Act)
+    → ((s : State) → IsLive ns standing s → Leaves s r (becomes s) (asked act) ns standing) → Comes ns ns standing standing r becomes (Ok act)
+comes_by_leaving ns standing r becomes act h =
+    record {
+      accepted = h;
+      refused = tt;
+      kept = kept_where_same ns;
+      unchanged = tt;
+      skipped_terms = if_skipped (asked act) refl;
+      skipped = if_skipped (asked act) refl;
+      front = take_whole standing.asserted;
+    }
 
-pub declares_no_name : (s : State) (t u : Tree) → tree_symbol t ≡ None → outcome_by s declare_const_name (trees t (trees u no_trees)) ≡ refused 1
-declares_no_name s (leaf t) u h = ap (λ (o : Option (List ℕ)). elim o [ Some name ↦ declaration_of s name no_trees u | None ↦ refused 1 ]) h
-declares_no_name s (node us) u h = refl
+leaves_only : (ns : List Node) (standing : Standing) (s : State) (r : Request) (outcome : Outcome) (act : Act) → AsksBy outcome act → IsLive ns standing s
+    → Leaves s r outcome (asked act) ns standing
+leaves_only ns standing s r (accepted c) act h live =
+    leaves_by s r (accepted c) (asked act) ns standing c h.unchecked (h.asks ns r)
+    (leaves_asked ns standing s r (accepted c) (asked act) c refl (h.asks ns r) (h.keeps s) (h.counts s) live)
+leaves_only ns standing s r (refused n) act h live = absurd h
+leaves_only ns standing s r not_taken act h live = subst (λ ask. Leaves s r not_taken ask ns standing) (sym h) (record { is = refl; live = live })
 
-pub declares : (s : State) (t u : Tree) (name : List ℕ) → tree_symbol t ≡ Some name → outcome_by s declare_const_name (trees t (trees u no_trees)) ≡ declaration_of s name no_trees u
-declares s (leaf t) u name h = ap (λ (o : Option (List ℕ)). elim o [ Some name ↦ declaration_of s name no_trees u | None ↦ refused 1 ]) h
-declares s (node us) u name h = cc
+pub comes_only : (ns : List Node) (standing : Standing) (r : Request) (becomes : State → Outcome) (act : Act) → ((s : State) → AsksBy (becomes s) act)
+    → Comes ns ns standing standing r becomes (Ok act)
+comes_only ns standing r becomes act h = comes_by_leaving ns standing r becomes act (λ s live. leaves_only ns standing s r (becomes s) act (h s) live)
 
-pub declares_no_function : (s : State) (ts : Trees) → IsNotThree ts → outcome_by s declare_fun_name ts ≡ refused 1
-declares_no_function s no_trees h = refl
-declares_no_function s (trees (node us) ts) h = refl
-declares_no_function s (trees (leaf t) no_trees) h = refl
-declares_no_function s (trees (leaf t) (trees (leaf u) ts)) h = refl
-declares_no_function s (trees (leaf t) (trees (node us) no_trees)) h = refl
-declares_no_function s (trees (leaf t) (trees (node us) (trees v no_trees))) h = absurd h
-declares_no_function s (trees (leaf t) (trees (node us) (trees v (trees w ts)))) h = refl
+pub comes_asked : (ns : List Node) (standing : Standing) (r : Request) (act : Act) (c : Command) → is_check (asked act) ≡ false → Asks ns (asked act) r c
+    → ((s : State) (reply : Reply) → (effect s c reply).levels ≡ s.levels) → ((s : State) (reply : Reply) → (effect s c reply).next ≡ s.next)
+    → Comes ns ns standing standing r (λ s. accepted c) (Ok act)
+comes_asked ns standing r act c other asks keeps counts =
+    comes_by_leaving ns standing r (λ s. accepted c) act
+    (λ s live. leaves_by s r (accepted c) (asked act) ns standing c other asks (leaves_asked ns standing s r (accepted c) (asked act) c refl asks (keeps s) (counts s) live))
 
-pub names_no_function : (s : State) (t u v : Tree) → tree_symbol t ≡ None → outcome_by s declare_fun_name (trees t (trees u (trees v no_trees))) ≡ refused 1
-names_no_function s (leaf t) (leaf u) v h = refl
-names_no_function s (leaf t) (node us) v h = ap (λ (o : Option (List ℕ)). elim o [ Some name ↦ declaration_of s name us v | None ↦ refused 1 ]) h
-names_no_function s (node ts) u v h = refl
+pub comes_skipped : (ns : List Node) (standing : Standing) (r : Request) (act : Act) → asked act ≡ unsupported → Comes ns ns standing standing r (λ s. not_taken) (Ok act)
+comes_skipped ns standing r act e = comes_only ns standing r (λ s. not_taken) act (λ s. e)
 
-pub lists_no_sorts : (s : State) (t u v : Tree) → IsWord u → outcome_by s declare_fun_name (trees t (trees u (trees v no_trees))) ≡ refused 1
-lists_no_sorts s (leaf t) (leaf u) v h = refl
-lists_no_sorts s (leaf t) (node us) v h = absurd h
-lists_no_sorts s (node ts) u v h = refl
+leaves_checked : (ns : List Node) (standing : Standing) (s : State) (act : Act) (holds : Bool) → standing.holds_numbers ≡ holds → asked act ≡ cond holds unsupported check → IsLive ns standing s
+    → Leaves s checks (outcome_by s checks) (asked act) ns standing
+leaves_checked ns standing s act true e a live =
+    subst (λ ask. Leaves s checks (outcome_by s checks) ask ns standing) (sym a)
+    (record { is = ap (λ b. cond b not_taken (accepted (check_sat []))) (live.items.numbers ∙ e); live = live })
+leaves_checked ns standing s act false e a live =
+    let none = live.items.numbers ∙ e in
+    subst (λ ask. Leaves s checks (outcome_by s checks) ask ns standing) (sym a)
+    ((
+      leaves_asked ns standing s checks (outcome_by s checks) check (check_sat []) (ap (λ b. cond b not_taken (accepted (check_sat []))) none) refl (λ reply. refl) (λ reply. refl) live,
+      none,
+    ))
 
-pub declares_function : (s : State) (t v : Tree) (us : Trees) (name : List ℕ) → tree_symbol t ≡ Some name
-    → outcome_by s declare_fun_name (trees t (trees (node us) (trees v no_trees))) ≡ declaration_of s name us v
-declares_function s (leaf t) v us name h = ap (λ (o : Option (List ℕ)). elim o [ Some name ↦ declaration_of s name us v | None ↦ refused 1 ]) h
-declares_function s (node ts) v us name h = cc
+pub comes_checked : (ns : List Node) (standing : Standing) (act : Act) → asked act ≡ cond standing.holds_numbers unsupported check
+    → Comes ns ns standing standing checks (λ s. outcome_by s checks) (Ok act)
+comes_checked ns standing act a =
+    comes_by_leaving ns standing checks (λ s. outcome_by s checks) act (λ s live. leaves_checked ns standing s act standing.holds_numbers refl a live)
 
-pub defines_nothing : (s : State) → outcome_by s define_fun_name no_trees ≡ refused 1
-defines_nothing s = refl
+-- an outcome that is another
+pub comes_alike : (old new : List Node) (before after : Standing) (r : Request) (becomes others : State → Outcome) (result : Result Act Refusal)
+    → ((s : State) → IsLive old before s → others s ≡ becomes s) → Comes old new before after r becomes result → Comes old new before after r others result
+comes_alike old new before after r becomes others (Ok act) alike h =
+    record {
+      accepted = λ s live. subst (λ o. Leaves s r o (asked act) new after) (sym (alike s live)) (h.accepted s live);
+      refused = tt;
+      kept = h.kept;
+      unchanged = h.unchanged;
+      skipped_terms = h.skipped_terms;
+      skipped = h.skipped;
+      front = h.front;
+    }
+comes_alike old new before after r becomes others (Err refusal) alike h =
+    record {
+      accepted = tt;
+      refused = if_some_weaker (error_of refusal) (λ n told s live. alike s live ∙ told s live) h.refused;
+      kept = h.kept;
+      unchanged = h.unchanged;
+      skipped_terms = tt;
+      skipped = tt;
+      front = h.front;
+    }
 
-pub defines_too_little : (s : State) (t : Tree) (ts : Trees) → IsNotThree ts → outcome_by s define_fun_name (trees t ts) ≡ refused 1
-defines_too_little s (node us) ts h = refl
-defines_too_little s (leaf t) no_trees h = refl
-defines_too_little s (leaf t) (trees (leaf u) ts) h = refl
-defines_too_little s (leaf t) (trees (node us) no_trees) h = refl
-defines_too_little s (leaf t) (trees (node us) (trees v no_trees)) h = refl
-defines_too_little s (leaf t) (trees (node us) (trees v (trees w no_trees))) h = absurd h
-defines_too_little s (leaf t) (trees (node us) (trees v (trees w (trees x ts)))) h = refl
+-- ---- Trees that are commands, or none
 
-pub defines_no_name : (s : State) (t u v w : Tree) → tree_symbol t ≡ None → outcome_by s define_fun_name (trees t (trees u (trees v (trees w no_trees)))) ≡ refused 1
-defines_no_name s (leaf t) (leaf u) v w h = refl
-defines_no_name s (leaf t) (node us) v w h = ap (λ (o : Option (List ℕ)). elim o [ Some name ↦ definition_of s name us v w | None ↦ refused 1 ]) h
-defines_no_name s (node ts) u v w h = refl
+outcome_parsed : (s : State) (t : Tree) (o : Option Request) → request_of t ≡ o → outcome_of s t ≡ elim o [ Some r ↦ outcome_requested s t r | None ↦ refused 1 ]
+outcome_parsed s t o e = ap (λ (p : Option Request). elim p [ Some r ↦ outcome_requested s t r | None ↦ refused 1 ]) e
 
-pub lists_no_parameters : (s : State) (t u v w : Tree) → IsWord u → outcome_by s define_fun_name (trees t (trees u (trees v (trees w no_trees)))) ≡ refused 1
-lists_no_parameters s (leaf t) (leaf u) v w h = refl
-lists_no_parameters s (leaf t) (node us) v w h = absurd h
-lists_no_parameters s (node ts) u v w h = refl
+-- what is refused leaves nothing
+no_leaving : (s : State) (r : Request) (n : ℕ) (ask : Ask) (ns : List Node) (standing : Standing) → Leaves s r (refused n) ask ns standing → ⊥
+no_leaving s r n changed ns standing h = let no = h.is in cc
+no_leaving s r n check ns standing h = let no = h.0.is in cc
+no_leaving s r n show_model ns standing h = let no = h.is in cc
+no_leaving s r n (show_values xs) ns standing h = let no = h.is in cc
+no_leaving s r n show_reason ns standing h = let no = h.is in cc
+no_leaving s r n (show_info i) ns standing h = let no = h.is in cc
+no_leaving s r n show_levels ns standing h = let no = h.is in cc
+no_leaving s r n (print_success b) ns standing h = let no = h.is in cc
+no_leaving s r n nothing ns standing h = let no = h.is in cc
+no_leaving s r n echo ns standing h = let no = h.is in cc
+no_leaving s r n leave ns standing h = let no = h.is in cc
+no_leaving s r n unsupported ns standing h = let no = h.is in cc
 
-pub defines : (s : State) (t v w : Tree) (us : Trees) (name : List ℕ) → tree_symbol t ≡ Some name
-    → outcome_by s define_fun_name (trees t (trees (node us) (trees v (trees w no_trees)))) ≡ definition_of s name us v w
-defines s (leaf t) v w us name h = ap (λ (o : Option (List ℕ)). elim o [ Some name ↦ definition_of s name us v w | None ↦ refused 1 ]) h
-defines s (node ts) v w us name h = cc
+pub carried : (old new : List Node) (before after : Standing) (t : Tree) (o : Option Request) (act : Act) (s : State) → request_of t ≡ o → ComesBy old new before after t o (Ok act)
+    → IsLive old before s → IsCarriedOut s t (asked act) new after
+carried old new before after t None act s e h live = absurd (no_leaving s other_request 1 (asked act) new after (h.accepted s live))
+carried old new before after t (Some r) act s e h live =
+    record { request = r; parsed = e; leaves = subst (λ o. Leaves s r o (asked act) new after) (sym (outcome_parsed s t (Some r) e)) (h.accepted s live) }
 
--- a constant has no arguments
-pub takes_no_arguments : (is_live : Bool) (name : List ℕ) (arguments : Trees) (sort : Tree) → any_tree is_unknown_sort arguments ≡ false → is_unknown_sort sort ≡ false
-    → is_live ≡ false → is_empty arguments ≡ false → declaration_where is_live name arguments sort ≡ refused 3
-takes_no_arguments is_live name arguments sort a b c d = rw (a, b, c, d) refl
+pub broken : (old new : List Node) (before after : Standing) (t : Tree) (o : Option Request) (refusal : Refusal) → request_of t ≡ o → ComesBy old new before after t o (Err refusal)
+    → IfSome (error_of refusal) (λ n. (s : State) → IsLive old before s → outcome_of s t ≡ refused n)
+broken old new before after t None refusal e h = if_some_weaker (error_of refusal) (λ n told s live. outcome_parsed s t None e ∙ told s live) h.refused
+broken old new before after t (Some r) refusal e h = if_some_weaker (error_of refusal) (λ n told s live. outcome_parsed s t (Some r) e ∙ told s live) h.refused
 
--- ---- Assertions, questions and options
-
-pub asserts_nothing : (s : State) (ts : Trees) → IsNotOne ts → outcome_by s assert_name ts ≡ refused 1
-asserts_nothing s no_trees h = refl
-asserts_nothing s (trees t no_trees) h = absurd h
-asserts_nothing s (trees t (trees u us)) h = refl
-
-pub asks_for_nothing : (s : State) (ts : Trees) → IsNotOne ts → outcome_by s get_value_name ts ≡ refused 1
-asks_for_nothing s no_trees h = refl
-asks_for_nothing s (trees (leaf t) ts) h = refl
-asks_for_nothing s (trees (node us) no_trees) h = absurd h
-asks_for_nothing s (trees (node us) (trees t ts)) h = refl
-
-pub asks_for_word : (s : State) (t : Tree) → IsWord t → outcome_by s get_value_name (trees t no_trees) ≡ refused 1
-asks_for_word s (leaf t) h = refl
-asks_for_word s (node ts) h = absurd h
-
-pub asks_no_info : (s : State) (ts : Trees) → IsNotOne ts → outcome_by s get_info_name ts ≡ refused 1
-asks_no_info s no_trees h = refl
-asks_no_info s (trees t no_trees) h = absurd h
-asks_no_info s (trees (leaf t) (trees u us)) h = refl
-asks_no_info s (trees (node ts) (trees u us)) h = refl
-
-pub sets_no_option : (s : State) (ts : Trees) → IsNotTwo ts → outcome_by s set_option_name ts ≡ refused 1
-sets_no_option s no_trees h = refl
-sets_no_option s (trees (node us) ts) h = refl
-sets_no_option s (trees (leaf t) no_trees) h = refl
-sets_no_option s (trees (leaf t) (trees (node us) ts)) h = refl
-sets_no_option s (trees (leaf t) (trees (leaf u) no_trees)) h = absurd h
-sets_no_option s (trees (leaf t) (trees (leaf u) (trees v ts))) h = refl
-
-pub sets_no_key : (s : State) (t u : Tree) → IsList t → outcome_by s set_option_name (trees t (trees u no_trees)) ≡ refused 1
-sets_no_key s (leaf t) u h = absurd h
-sets_no_key s (node ts) u h = refl
-
-pub sets_no_value : (s : State) (t u : Tree) → IsList u → outcome_by s set_option_name (trees t (trees u no_trees)) ≡ refused 1
-sets_no_value s (leaf t) (leaf u) h = absurd h
-sets_no_value s (leaf t) (node us) h = refl
-sets_no_value s (node ts) u h = refl
-
-pub echoes_nothing : (s : State) (ts : Trees) → IsNotOne ts → outcome_by s echo_name ts ≡ refused 1
-echoes_nothing s no_trees h = refl
-echoes_nothing s (trees t no_trees) h = absurd h
-echoes_nothing s (trees (leaf (symbol bs)) (trees u us)) h = refl
-echoes_nothing s (trees (leaf (keyword bs)) (trees u us)) h = refl
-echoes_nothing s (trees (leaf (numeral bs)) (trees u us)) h = refl
-echoes_nothing s (trees (leaf (decimal bs)) (trees u us)) h = refl
-echoes_nothing s (trees (leaf (hexadecimal bs)) (trees u us)) h = refl
-echoes_nothing s (trees (leaf (binary bs)) (trees u us)) h = refl
-echoes_nothing s (trees (leaf (literal bs)) (trees u us)) h = refl
-echoes_nothing s (trees (node ts) (trees u us)) h = refl
-
-pub echoes_no_list : (s : State) (t : Tree) → IsList t → outcome_by s echo_name (trees t no_trees) ≡ refused 1
-echoes_no_list s (leaf t) h = absurd h
-echoes_no_list s (node ts) h = refl
-
--- ---- Symbols
-
--- the rules behind those on symbols
-pub past_faults : (unknown clashes : Bool) (o : Outcome) → fault_error unknown clashes ≡ None → cond unknown (refused 2) (cond clashes (refused 9) o) ≡ o
-past_faults true clashes o h = cc
-past_faults false true o h = cc
-past_faults false false o h = refl
-
-pub at_fault : (unknown clashes : Bool) (o : Outcome) (n : ℕ) → fault_error unknown clashes ≡ Some n → cond unknown (refused 2) (cond clashes (refused 9) o) ≡ refused n
-at_fault true clashes o n h = cc
-at_fault false true o n h = cc
-at_fault false false o n h = cc
+-- what comes, of whatever command
+pub some_comes : (old new : List Node) (before after : Standing) (t : Tree) (o : Option Request) (result : Result Act Refusal) → ComesBy old new before after t o result
+    → (r : Request) × (becomes : State → Outcome) × Comes old new before after r becomes result
+some_comes old new before after t None result h = (other_request, λ s. refused 1, h)
+some_comes old new before after t (Some r) result h = (r, λ s. outcome_requested s t r, h)

@@ -1,12 +1,19 @@
 -- What the acts of the code ask, and the errors that its refusals are.
-use Rattle.std.specs.Prelude.{ℕ, Option, Some, None}
+use Rattle.std.specs.Prelude.{◌≡◌, ℕ, Bool, true, false, List, Option, Some, None}
+use Rattle.nz_spec.specs.Table.{Node}
+use Rattle.nz_spec.specs.Request.{Request}
+use Rattle.nz_spec.specs.Live.{State}
+use Rattle.nz_spec.specs.Reply.{Reply}
+use Rattle.nz_spec.specs.Right.{effect}
 use Rattle.nz_spec.specs.Command as commands
-use Rattle.nz_spec.specs.Command.{name_info, version_info, authors_info, error_behavior_info}
-use Rattle.nz_sort.specs.Live.{Ask, changed, check, show_model, show_values, show_reason, show_info, show_levels, print_success, nothing, echo, leave, unsupported}
-use Rattle.nz_sort.specs.declared.commands.Act.{Act}
-use Rattle.nz_sort.specs.declared.commands.Act.TheVariants.{Changed, Check, ShowModel, ShowValues, ShowReason, ShowInfo, ShowLevels, PrintSuccess, Nothing, Echo, Leave, Unsupported}
-use Rattle.nz_sort.specs.declared.commands.Info.{Info}
-use Rattle.nz_sort.specs.declared.commands.Info.TheVariants.{Name, Version, Authors, ErrorBehavior}
+use Rattle.nz_spec.specs.Command.{name_info, version_info, authors_info, error_behavior_info, Command, Outcome, accepted, refused, not_taken}
+use Rattle.nz_sort.specs.Live.{Ask, Asks, changed, check, show_model, show_values, show_reason, show_info, show_levels, print_success, nothing, echo, leave, unsupported}
+use Rattle.nz_elaborate.specs.declared.faults.ElaborateError.{ElaborateError}
+use Rattle.nz_elaborate.specs.declared.faults.ElaborateError.TheVariants as errors
+use Rattle.nz_sort.specs.declared.acts.Act.{Act}
+use Rattle.nz_sort.specs.declared.acts.Act.TheVariants.{Changed, Check, ShowModel, ShowValues, ShowReason, ShowInfo, ShowLevels, PrintSuccess, Nothing, Echo, Leave, Unsupported}
+use Rattle.nz_sort.specs.declared.acts.Info.{Info}
+use Rattle.nz_sort.specs.declared.acts.Info.TheVariants.{Name, Version, Authors, ErrorBehavior}
 use Rattle.nz_sort.specs.declared.refusal.Refusal.{Refusal}
 use Rattle.nz_sort.specs.declared.refusal.Refusal.TheVariants as refusals
 
@@ -30,6 +37,23 @@ asked Echo = echo
 asked Leave = leave
 asked Unsupported = unsupported
 
+abbrev pub is_check : Ask → Bool
+is_check check = true
+is_check ask = false
+
+-- The command asks this, which is no check, and leaves the live items.
+pub record AsksOnly (c : Command) (ask : Ask) : Type 0 where
+  pub unchecked : is_check ask ≡ false
+  pub asks : (ns : List Node) (r : Request) → Asks ns ask r c
+  pub keeps : (s : State) (reply : Reply) → (effect s c reply).levels ≡ s.levels
+  pub counts : (s : State) (reply : Reply) → (effect s c reply).next ≡ s.next
+
+-- an outcome that is the same in all states asks this
+abbrev pub AsksBy : Outcome → Act → Type 0
+AsksBy (accepted c) act = AsksOnly c (asked act)
+AsksBy (refused n) act = ⊥
+AsksBy not_taken act = asked act ≡ unsupported
+
 -- the number of the error that a refusal is; want of memory is no rule's
 abbrev pub error_of : Refusal → Option ℕ
 error_of refusals.Syntax = Some 1
@@ -40,3 +64,10 @@ error_of refusals.TooWide = Some 5
 error_of refusals.Limit = Some 6
 error_of refusals.Declared = Some 9
 error_of refusals.Memory = None
+
+-- the rule that a term breaks
+abbrev pub refusal_by : ElaborateError → Refusal
+refusal_by errors.Unknown = refusals.UnknownSymbol
+refusal_by errors.Clash = refusals.Declared
+refusal_by errors.Sort = refusals.Sort
+refusal_by errors.Memory = refusals.Memory

@@ -7,8 +7,7 @@ use Rattle.nz_spec.specs.Table.{Node, term_in}
 use Rattle.nz_spec.specs.Live.{LiveItem, Item, cost_of, numbers_of, is_constant, is_assertion, is_goal, is_wish, constants_in, assertions_in, goals_in, wishes_in}
 use Rattle.nz_spec.specs.Live as live_state
 use Rattle.nz_sort.specs.declared.items.Accepted.{Accepted}
-use Rattle.nz_sort.specs.declared.items.Direction.{Direction}
-use Rattle.nz_sort.specs.declared.items.Direction.TheVariants.{Minimize, Maximize}
+use Rattle.nz_command.specs.Requests.{direction_view}
 use Rattle.nz_sort.specs.declared.items.Goal.{Goal}
 use Rattle.nz_sort.specs.declared.items.Wish.{Wish}
 
@@ -30,10 +29,6 @@ pub record AreItems (ns : List Node) (items : List Accepted) (ids : List ℕ) (t
   pub numbers : map (λ (a : Accepted). a.number) items ≡ ids
   pub terms : StandForAll ns (table_numbers items) ts
 
-abbrev pub direction_of : Direction → live_state.Direction
-direction_of Minimize = live_state.least
-direction_of Maximize = live_state.greatest
-
 -- ---- The items of a kind, where these items are live
 
 abbrev pub AreConstants : List Node → List Accepted → List LiveItem → Type 0
@@ -46,7 +41,7 @@ pub record AreGoals (ns : List Node) (goals : List Goal) (live : List LiveItem) 
   pub items :
       AreItems ns (map (λ (g : Goal). g.accepted) goals) (numbers_of is_goal live)
       (map (λ (g : live_state.Goal). normal_of g.term) (goals_in (items_in live)))
-  pub directions : map (λ (g : Goal). direction_of g.direction) goals ≡ map (λ (g : live_state.Goal). g.direction) (goals_in (items_in live))
+  pub directions : map (λ (g : Goal). direction_view g.direction) goals ≡ map (λ (g : live_state.Goal). g.direction) (goals_in (items_in live))
   pub shown : map (λ (g : Goal). view g.shown) goals ≡ map (λ (g : live_state.Goal). g.shown) (goals_in (items_in live))
 
 -- the term of a wish is that of its cost

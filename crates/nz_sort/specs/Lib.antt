@@ -1,12 +1,4 @@
 pub mod Acts
-pub mod Commands
-pub mod Elaborate
-pub mod Faults
-pub mod Form
+pub mod Changes
 pub mod Items
-pub mod Links
 pub mod Live
-pub mod Names
-pub mod Operators
-pub mod Tokens
-pub mod Typed

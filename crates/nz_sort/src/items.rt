@@ -1,5 +1,6 @@
 //! The live items, as the crates above see them.
 use nz_base::Text;
+use nz_command::Direction;
 use nz_frac::Frac;
 use nz_sexpr::Tree;
 use nz_term::TermId;
@@ -11,15 +12,6 @@ pub struct Accepted {
     pub number: usize,
     /// The number of its term in the table of terms.
     pub term: TermId,
-}
-
-/// Which value of its term a goal seeks.
-#[derive(Clone, Copy, Debug, PartialEq, Eq)]
-pub enum Direction {
-    /// The least.
-    Minimize,
-    /// The greatest.
-    Maximize,
 }
 
 /// A live goal.

@@ -1,17 +1,11 @@
 //! The limits of single commands.
-ghost use Rattle.std.specs.Prelude.{◌≡◌, ◌≤◌, ◌==◌, ◌&&◌, length, nat_lt, codes};
-ghost use Rattle.nz_sexpr.specs.View.{token_view, view, seen};
-ghost use Rattle.nz_spec.specs.Bounds as bounds;
-ghost use Rattle.nz_spec.specs.Fraction as fractions;
-ghost use Rattle.nz_spec.specs.Form as form;
-ghost use Rattle.nz_spec.specs.Live as live_state;
-ghost use Rattle.nz_spec.specs.Taken as taking;
-ghost use Rattle.nz_sort.specs.Form.{command_meaning};
+ghost use Rattle.std.specs.Prelude.{◌≡◌, length, nat_lt, option_map};
+ghost use Rattle.nz_spec.specs.Live.{State, constants_of, pushed_levels};
+ghost use Rattle.nz_spec.specs.Limits as limits;
+ghost use Rattle.nz_command.specs.View.{number_view};
+ghost use Rattle.nz_command.specs.Requests.{count_view, request};
 
-use crate::form::command::{CommandName, attribute};
-use crate::form::{headed, is_keyword_tree};
-use crate::tokens::{around_point, value_onto};
-use nz_sexpr::{Token, Tree};
+use nz_command::{Command, LevelCount, Number};
 
 /// The most live constants that there may be.
 const CONSTANT_LIMIT: usize = 65_535;
@@ -20,103 +14,33 @@ const CONSTANT_LIMIT: usize = 65_535;
 const LEVEL_LIMIT: u128 = 1000;
 
 /// The command goes beyond a limit in its own way, where there are so many live constants and no level is pushed.
-pub(crate) fn passes_limit(constant_count: usize, name: CommandName, arguments: &[Tree]) -> bool
-    ensures limit { (s : live_state.State) → live_state.pushed_levels s ≡ 0 → length (live_state.constants_of s) ≡ constant_count → result ≡ taking.passes_limit s (command_meaning name) (seen arguments.now) }
+pub(crate) fn passes_limit(constant_count: usize, command: &Command) -> bool
+    ensures limit { (s : State) → pushed_levels s ≡ 0 → length (constants_of s) ≡ constant_count → result ≡ limits.passes_limit s (request command.now) }
 {
-    match name {
-        CommandName::DeclareConst => constant_count >= CONSTANT_LIMIT,
-        CommandName::DeclareFun => constant_count >= CONSTANT_LIMIT,
-        CommandName::Push => pushes_too_many(arguments),
-        CommandName::AssertSoft => is_wish_without_weight(arguments),
+    match command {
+        Command::Declare(_, _, _) => constant_count >= CONSTANT_LIMIT,
+        Command::Push(count) => are_too_many(*count),
+        Command::AssertSoft(_, attributes) => is_zero_weight(attributes.weight),
         _ => false,
     }
 }
 
-/// The levels that a `push` asks for are too many.
-fn pushes_too_many(arguments: &[Tree]) -> bool
-    ensures levels { result ≡ nat_lt taking.level_limit (taking.level_count (seen arguments.now)) }
-{
-    match headed(arguments) {
-        Some((count, _)) => is_above_level_limit(count),
-        None => false,
-    }
-}
-
-fn is_above_level_limit(count: &Token) -> bool
-    ensures above { result ≡ nat_lt taking.level_limit (bounds.numeral_value (token_view count.now)) }
+/// So many levels are too many where none is pushed.
+fn are_too_many(count: LevelCount) -> bool
+    ensures many { (s : State) → pushed_levels s ≡ 0 → result ≡ limits.are_too_many s (count_view count) }
 {
     match count {
-        Token::Numeral(digits) => match value_onto(0, digits.as_bytes()) {
-            Some(value) => value > LEVEL_LIMIT,
-            None => true,
-        },
+        LevelCount::Within(count) => count > LEVEL_LIMIT,
+        LevelCount::OutOfBounds => true,
+    }
+}
+
+fn is_zero_weight(weight: Option<Number>) -> bool
+    ensures zero { result ≡ limits.is_zero_weight (option_map number_view weight) }
+{
+    match weight {
+        Some(Number::Integer(number)) => number == 0,
+        Some(Number::Decimal(digits, _)) => digits == 0,
         _ => false,
-    }
-}
-
-/// The weight of a wish is zero.
-fn is_wish_without_weight(arguments: &[Tree]) -> bool
-    ensures zero { result ≡ taking.has_zero_weight (taking.wish_attributes (seen arguments.now)) }
-{
-    match arguments.split_first() {
-        Some((_, attributes)) => has_zero_weight(attributes),
-        None => false,
-    }
-}
-
-fn has_zero_weight(attributes: &[Tree]) -> bool
-    ensures zero { result ≡ taking.has_zero_weight (seen attributes.now) }
-{
-    match attribute(attributes) {
-        Some((key, value, others)) => is_zero_weight(key, value) || has_zero_weight(others),
-        None => false,
-    }
-}
-
-fn is_zero_weight(key: &Tree, value: &Tree) -> bool
-    ensures zero { result ≡ (form.is_token (form.is_the_keyword (codes ":weight")) (view key.now) && form.is_token bounds.is_zero_token (view value.now)) }
-{
-    is_keyword_tree(key, b":weight") && is_zero_tree(value)
-}
-
-fn is_zero_tree(value: &Tree) -> bool
-    ensures zero { result ≡ form.is_token bounds.is_zero_token (view value.now) }
-{
-    match value {
-        Tree::Word(token) => is_zero(token),
-        Tree::List(_) => false,
-    }
-}
-
-/// A numeral or a decimal of value zero.
-fn is_zero(token: &Token) -> bool
-    ensures zero { result ≡ bounds.is_zero_token (token_view token.now) }
-{
-    match token {
-        Token::Numeral(digits) => is_zero_after(0, digits.as_bytes()),
-        Token::Decimal(bytes) => is_zero_around_point(bytes.as_bytes()),
-        _ => false,
-    }
-}
-
-/// The digits after those that spell `start` spell zero.
-fn is_zero_after(start: u128, digits: &[u8]) -> bool
-    requires start { start ≤ fractions.largest }
-    ensures zero { result ≡ (bounds.value_onto start digits.now == 0) }
-{
-    match value_onto(start, digits) {
-        Some(value) => value == 0,
-        None => false,
-    }
-}
-
-/// The digits of a decimal, without its point, spell zero.
-fn is_zero_around_point(bytes: &[u8]) -> bool
-    ensures zero { result ≡ (bounds.digits_value (bounds.decimal_digits bytes.now) == 0) }
-{
-    let (front, places) = around_point(bytes);
-    match value_onto(0, front) {
-        Some(value) => is_zero_after(value, places),
-        None => false,
     }
 }

@@ -1,50 +1,38 @@
 //! The live state: what becomes of a command, and what it leaves.
-ghost use Rattle.std.specs.Prelude.{◌≡◌, All, ◌<◌, ◌+◌, ℕ, List, [], ◌∷◌, ◌++◌, length, map, take, OnOk, OnErr, IfOk, IfErr, IfSome, Some, None, ◌||◌, IsErrOf, Bool, false};
-ghost use Rattle.nz_sexpr.specs.View.{view, seen};
-ghost use Rattle.nz_spec.specs.Tree.{Trees};
-ghost use Rattle.nz_spec.specs.Bounds.{is_long_decimal, have_token as some_token};
+ghost use Rattle.std.specs.Prelude.{◌≡◌, All, ◌<◌, ◌+◌, ℕ, List, [], length, map, take, OnOk, OnErr, IfOk, IfErr, IfSome, Some, None, ◌||◌, false, if◌then◌else◌};
+ghost use Rattle.std.specs.List.{list_any};
+ghost use Rattle.nz_sexpr.specs.View.{view};
+ghost use Rattle.nz_spec.specs.Bounds.{has_token, is_long_decimal};
 ghost use Rattle.nz_spec.specs.Table.{Node, term_in};
 ghost use Rattle.nz_spec.specs.Order.{HasCompanions};
 ghost use Rattle.nz_spec.specs.Term as spec;
-ghost use Rattle.nz_spec.specs.Form.{assert_name, declare_const_name, declare_fun_name, define_fun_name, get_value_name};
+ghost use Rattle.nz_spec.specs.Request as requests;
+ghost use Rattle.nz_spec.specs.Parse.{request_of};
+ghost use Rattle.nz_spec.specs.Limits.{passes_limit as beyond_limit};
 ghost use Rattle.nz_spec.specs.Live.{State, pushed_levels, start};
 ghost use Rattle.nz_spec.specs.Command.{accepted, refused, declare_const};
-ghost use Rattle.nz_spec.specs.Script.{outcome_of, outcome_named, outcome_by, scope_of, declaration_of, definition_of, definition_by, assertion_of, values_of_trees, parameters_from, all_linear};
-ghost use Rattle.nz_spec.specs.Taken.{passes_limit as beyond_limit};
-ghost use Rattle.nz_spec.specs.Elaboration.{term_of, terms_of};
-ghost use Rattle.nz_spec.specs.Scoping.{bound_names, clash, has_clash};
+ghost use Rattle.nz_spec.specs.Script.{outcome_of, outcome_requested, outcome_by, declaration_of, definition_of, assertion_of, values_asked, all_linear, is_unknown_sort as is_unknown};
 ghost use Rattle.nz_spec.specs.TermList.{IsTermList};
 ghost use Rattle.nz_term.specs.Constants.{sort_of};
-ghost use Rattle.nz_sort.specs.Form.{command_meaning};
-ghost use Rattle.nz_sort.specs.Names.{named_by};
-ghost use Rattle.nz_sort.specs.Typed.{Grows, AreTyped};
-ghost use Rattle.nz_sort.specs.Elaborate.{StandsAs, StandAs};
-ghost use Rattle.nz_sort.specs.Faults.{AreLive, is_listed};
+ghost use Rattle.nz_command.specs.View.{view as written};
+ghost use Rattle.nz_command.specs.Requests.{request, sort_view, parameter_view, question_view};
+ghost use Rattle.nz_elaborate.specs.Names.{named_by};
+ghost use Rattle.nz_elaborate.specs.Typed.{Grows, AreTyped};
 ghost use Rattle.nz_sort.specs.Items.{table_numbers};
-ghost use Rattle.nz_sort.specs.Live.{IsLive, Leaves, IsCarriedOut, IfSkipped, changed, show_values, standing_of};
-ghost use Rattle.nz_sort.specs.Acts.{asked, error_of};
-ghost use Rattle.nz_sort.specs.Commands.{declaration_where, constant_of, is_unknown_in, fault_error, body_of, AreBoundAs, Defines, Asserts, Shows, HasAdded, with_constant, with_definition, with_assertion};
+ghost use Rattle.nz_sort.specs.Live.{IsLive, IsCarriedOut, IfSkipped, standing_of, check, unsupported};
+ghost use Rattle.nz_sort.specs.Acts.{asked, error_of, refusal_by};
+ghost use Rattle.nz_sort.specs.Changes.{Comes, ComesBy, Defines, Asserts, Shows, HasAdded, constant_of, with_constant, with_definition, with_assertion};
 
-use crate::commands::{
-    Act, Definiens, asked_trees, declared_constant, declared_function, defined, echo_act, info_act,
-    name_and_arguments, option_act,
-};
-use crate::elaboration::{elaborate, elaborate_all, place};
-use crate::form::command::{CommandName, has_form};
-use crate::form::only;
+use crate::acts::{Act, info_act, setting_act};
 use crate::items::{Accepted, Goal, Wish};
 use crate::limits::passes_limit;
-use crate::names::{Bindings, Definition, Named, Names};
 use crate::refusal::Refusal;
-use crate::scope::{Faults, faults_of, faults_of_all, first_name, is_declared, names_of_all};
-use crate::sorts::{
-    has_unknown_parameter_sort, has_unknown_sort, is_unknown_sort, sort_of_tree,
-    sorts_of_parameters,
-};
-use crate::taken::takes_command;
-use crate::tokens::{TokenTest, have_token};
-use crate::typed::{ElaborateError, Typed};
 use nz_base::{Memory, Text};
+use nz_command::{Command, Expression, Parameter, Question, WrittenSort, number_faults, parse};
+use nz_elaborate::{
+    Definition, ElaborateError, Named, Names, Typed, elaborate, elaborate_all, elaborate_body,
+    is_unknown_sort, written_sort,
+};
 use nz_sexpr::Tree;
 use nz_spec::elaboration::terms_fit;
 use nz_spec::table::term_stays;
@@ -83,14 +71,18 @@ impl Model for Live {
 }
 
 impl Live {
-    /// The live state of the start: no item and no level. Takes no memory.
-    pub fn new(alloc: Global) -> Live
-        ensures start { result ≡ standing_of [] [] [] [] [] [] 0 false }
-        ensures live { IsLive [] result start }
+    /// The live state of the start: no item and no level, and the operators' names.
+    ///
+    /// # Errors
+    ///
+    /// `Memory`.
+    pub fn new(alloc: Global) -> Result<Live, Memory>
+        ensures start { IfOk result (λ live. live ≡ standing_of live.names [] [] [] [] [] 0 false) }
+        ensures live { IfOk result (λ live. IsLive [] live start) }
     {
-        Live {
+        Ok(Live {
             alloc,
-            names: Names::new(alloc),
+            names: Names::new(alloc)?,
             constants: Vec::new(alloc),
             assertions: Vec::new(alloc),
             goals: Vec::new(alloc),
@@ -98,7 +90,7 @@ impl Live {
             accepted: Vec::new(alloc),
             next: 0,
             holds_numbers: false,
-        }
+        })
     }
 
     /// The live constants, in the order of declaration.
@@ -174,11 +166,8 @@ impl Live {
         ensures skipped { IfOk result (λ act. IfSkipped (asked act) (self.new ≡ self.old)) }
         ensures front { take (length self.old.asserted) self.new.asserted ≡ self.old.asserted }
     {
-        let Some((name, arguments)) = name_and_arguments(tree) else {
-            return Err(Refusal::Syntax);
-        };
         let mark = terms.mark();
-        match self.named(terms, name, arguments) {
+        match self.carried_out(terms, tree) {
             Ok(act) => Ok(act),
             Err(refusal) => {
                 terms.cut(mark);
@@ -187,160 +176,114 @@ impl Live {
         }
     }
 
-    /// The rules in their order: the form, the limits, the width of numbers, what the program takes, and then the names, the
-    /// sorts and what is linear. After an error the table may have grown, and so after those below.
-    #[tactic(auto, using(crate::proofs::Living::kept_where_same))]
-    fn named(
-        &mut self,
-        terms: &mut Terms,
-        name: CommandName,
-        arguments: &[Tree],
-    ) -> Result<Act, Refusal>
+    /// The rules in their order: first of all the command is of its form. After an error the table may have grown, and so after those
+    /// below.
+    fn carried_out(&mut self, terms: &mut Terms, tree: &Tree) -> Result<Act, Refusal>
         requires live { (s : State) × IsLive terms.old self.old s }
-        ensures accepted { IfOk result (λ act. (s : State) → IsLive terms.old self.old s → Leaves s (seen arguments.now) (outcome_named s (command_meaning name) (seen arguments.now)) (asked act) terms.new self.new) }
-        ensures refused { IfErr result (λ refusal. IfSome (error_of refusal) (λ n. (s : State) → IsLive terms.old self.old s → outcome_named s (command_meaning name) (seen arguments.now) ≡ refused n)) }
-        ensures kept { take (length terms.old) terms.new ≡ terms.old }
-        ensures unchanged { OnErr result (self.new ≡ self.old) }
-        ensures skipped_terms { IfOk result (λ act. IfSkipped (asked act) (terms.new ≡ terms.old)) }
-        ensures skipped { IfOk result (λ act. IfSkipped (asked act) (self.new ≡ self.old)) }
-        ensures front { take (length self.old.asserted) self.new.asserted ≡ self.old.asserted }
+        ensures comes { ComesBy terms.old terms.new self.old self.new (view tree.now) (request_of (view tree.now)) result }
     {
-        if !has_form(name, arguments) {
-            return Err(Refusal::Syntax);
+        match parse(self.alloc, tree)? {
+            Some(command) => self.ruled(terms, tree, &command),
+            None => Err(Refusal::Syntax),
         }
-        if self.passes_limit(name, arguments) {
+    }
+
+    /// The limits, the width of numbers anywhere in the command, and then the rules on what it asks.
+    fn ruled(&mut self, terms: &mut Terms, tree: &Tree, command: &Command) -> Result<Act, Refusal>
+        requires live { (s : State) × IsLive terms.old self.old s }
+        ensures comes { Comes terms.old terms.new self.old self.new (request command.now) (λ s. outcome_requested s (view tree.now) (request command.now)) result }
+    {
+        let faults = number_faults(tree);
+        if faults.long || passes_limit(self.constants.len(), command) {
             return Err(Refusal::Limit);
         }
-        if have_token(arguments, TokenTest::Wide) {
+        if faults.wide {
             return Err(Refusal::TooWide);
         }
-        if !takes_command(self.holds_numbers, name, arguments) {
-            return Ok(Act::Unsupported);
-        }
-        self.carry_out(terms, name, arguments)
+        self.requested(terms, command)
     }
 
-    /// The command goes beyond a limit: its own, or that of the places of a decimal.
-    fn passes_limit(&self, name: CommandName, arguments: &[Tree]) -> bool
-        ensures limit { (ns : List Node) (s : State) → IsLive ns self.now s → result ≡ (beyond_limit s (command_meaning name) (seen arguments.now) || some_token is_long_decimal (seen arguments.now)) }
-    {
-        passes_limit(self.constants().len(), name, arguments)
-            || have_token(arguments, TokenTest::LongDecimal)
-    }
-
-    /// Carries out a command that the program takes, over arguments of its form.
-    #[tactic(auto, using(crate::proofs::Living::kept_where_same, crate::proofs::Living::leaves_checked, crate::proofs::Living::leaves_model, crate::proofs::Living::leaves_unheeded, crate::proofs::Living::leaves_left, crate::proofs::Living::leaves_only, crate::proofs::Living::if_skipped))]
-    fn carry_out(
-        &mut self,
-        terms: &mut Terms,
-        name: CommandName,
-        arguments: &[Tree],
-    ) -> Result<Act, Refusal>
+    /// Carries out a command that is within the limits, where the program takes it.
+    fn requested(&mut self, terms: &mut Terms, command: &Command) -> Result<Act, Refusal>
         requires live { (s : State) × IsLive terms.old self.old s }
-        ensures accepted { IfOk result (λ act. (s : State) → IsLive terms.old self.old s → Leaves s (seen arguments.now) (outcome_by s (command_meaning name) (seen arguments.now)) (asked act) terms.new self.new) }
-        ensures refused { IfErr result (λ refusal. IfSome (error_of refusal) (λ n. (s : State) → IsLive terms.old self.old s → outcome_by s (command_meaning name) (seen arguments.now) ≡ refused n)) }
-        ensures kept { take (length terms.old) terms.new ≡ terms.old }
-        ensures unchanged { OnErr result (self.new ≡ self.old) }
-        ensures skipped_terms { IfOk result (λ act. IfSkipped (asked act) (terms.new ≡ terms.old)) }
-        ensures skipped { IfOk result (λ act. IfSkipped (asked act) (self.new ≡ self.old)) }
-        ensures front { take (length self.old.asserted) self.new.asserted ≡ self.old.asserted }
+        ensures comes { Comes terms.old terms.new self.old self.new (request command.now) (λ s. outcome_by s (request command.now)) result }
     {
-        match name {
-            CommandName::DeclareConst => match self.declare_constant(terms, arguments) {
-                Ok(()) => Ok(Act::Changed),
-                Err(refusal) => Err(refusal),
-            },
-            CommandName::DeclareFun => match self.declare_function(terms, arguments) {
-                Ok(()) => Ok(Act::Changed),
-                Err(refusal) => Err(refusal),
-            },
-            CommandName::DefineFun => match self.define_function(terms, arguments) {
-                Ok(()) => Ok(Act::Changed),
-                Err(refusal) => Err(refusal),
-            },
-            CommandName::Assert => match self.assert_term(terms, arguments) {
-                Ok(()) => Ok(Act::Changed),
-                Err(refusal) => Err(refusal),
-            },
-            CommandName::GetValue => match self.asked_values(terms, arguments) {
-                Ok(values) => Ok(Act::ShowValues(values)),
-                Err(refusal) => Err(refusal),
-            },
-            CommandName::CheckSat => Ok(Act::Check),
-            CommandName::GetModel => Ok(Act::ShowModel),
-            CommandName::GetInfo => match info_act(arguments) {
-                Some(act) => Ok(act),
-                None => Err(Refusal::Syntax),
-            },
-            CommandName::SetOption => match option_act(arguments) {
-                Some(act) => Ok(act),
-                None => Err(Refusal::Syntax),
-            },
-            CommandName::SetInfo => Ok(Act::Nothing),
-            CommandName::SetLogic => Ok(Act::Nothing),
-            CommandName::Echo => match echo_act(arguments) {
-                Some(act) => Ok(act),
-                None => Err(Refusal::Syntax),
-            },
-            CommandName::Exit => Ok(Act::Leave),
-            _ => Err(Refusal::Syntax),
+        match command {
+            Command::Declare(name, sorts, sort) => {
+                self.declare(terms, name, sorts.as_slice(), sort)
+            }
+            Command::Define(name, parameters, sort, body) => {
+                self.define(terms, name, parameters.as_slice(), sort, body)
+            }
+            Command::Assert(term) => self.assert_term(terms, term),
+            Command::CheckSat => Ok(self.check_act()),
+            Command::GetModel => Ok(Act::ShowModel),
+            Command::GetValue(questions) => self.show_values(terms, questions.as_slice()),
+            Command::GetInfo(key) => Ok(info_act(*key)),
+            Command::SetOption(setting) => Ok(setting_act(*setting)),
+            Command::SetNothing => Ok(Act::Nothing),
+            Command::Echo(_) => Ok(Act::Echo),
+            Command::Exit => Ok(Act::Leave),
+            _ => Ok(Act::Unsupported),
+        }
+    }
+
+    /// Checks are over Bool alone, yet.
+    fn check_act(&self) -> Act
+        ensures check { asked result ≡ (if self.now.holds_numbers then unsupported else check) }
+    {
+        if self.holds_numbers {
+            Act::Unsupported
+        } else {
+            Act::Check
         }
     }
 
     // ---- Declarations
 
-    /// Declares a constant.
-    #[tactic(auto, using(crate::proofs::Living::kept_where_same))]
-    fn declare_constant(&mut self, terms: &mut Terms, arguments: &[Tree]) -> Result<(), Refusal>
-        ensures accepted { OnOk result ((s : State) → IsLive terms.old self.old s → Leaves s (seen arguments.now) (outcome_by s declare_const_name (seen arguments.now)) changed terms.new self.new) }
-        ensures refused { IfErr result (λ refusal. IfSome (error_of refusal) (λ n. (s : State) → IsLive terms.old self.old s → outcome_by s declare_const_name (seen arguments.now) ≡ refused n)) }
-        ensures kept { take (length terms.old) terms.new ≡ terms.old }
-        ensures unchanged { OnErr result (self.new ≡ self.old) }
-        ensures front { take (length self.old.asserted) self.new.asserted ≡ self.old.asserted }
-    {
-        let Some((name, sort)) = declared_constant(arguments) else {
-            return Err(Refusal::Syntax);
-        };
-        self.declare(terms, name, &[], sort)
-    }
-
-    /// Declares a function, which is a constant where it has no arguments.
-    #[tactic(auto, using(crate::proofs::Living::kept_where_same))]
-    fn declare_function(&mut self, terms: &mut Terms, arguments: &[Tree]) -> Result<(), Refusal>
-        ensures accepted { OnOk result ((s : State) → IsLive terms.old self.old s → Leaves s (seen arguments.now) (outcome_by s declare_fun_name (seen arguments.now)) changed terms.new self.new) }
-        ensures refused { IfErr result (λ refusal. IfSome (error_of refusal) (λ n. (s : State) → IsLive terms.old self.old s → outcome_by s declare_fun_name (seen arguments.now) ≡ refused n)) }
-        ensures kept { take (length terms.old) terms.new ≡ terms.old }
-        ensures unchanged { OnErr result (self.new ≡ self.old) }
-        ensures front { take (length self.old.asserted) self.new.asserted ≡ self.old.asserted }
-    {
-        let Some((name, sorts, sort)) = declared_function(arguments) else {
-            return Err(Refusal::Syntax);
-        };
-        self.declare(terms, name, sorts, sort)
-    }
-
-    /// Declares a constant of this name and sort, where it has no arguments.
-    #[tactic(auto, using(crate::proofs::Living::kept_where_same))]
+    /// Declares a constant of this name and sort, where it is no function: it has no arguments.
     fn declare(
         &mut self,
         terms: &mut Terms,
         name: &Text,
-        sorts: &[Tree],
-        sort: &Tree,
-    ) -> Result<(), Refusal>
-        ensures accepted { OnOk result ((s : State) (arguments : Trees) → IsLive terms.old self.old s → Leaves s arguments (declaration_of s name.now (seen sorts.now) (view sort.now)) changed terms.new self.new) }
-        ensures refused { IfErr result (λ refusal. IfSome (error_of refusal) (λ n. (s : State) → IsLive terms.old self.old s → declaration_of s name.now (seen sorts.now) (view sort.now) ≡ refused n)) }
-        ensures kept { take (length terms.old) terms.new ≡ terms.old }
-        ensures unchanged { OnErr result (self.new ≡ self.old) }
-        ensures front { take (length self.old.asserted) self.new.asserted ≡ self.old.asserted }
+        sorts: &[WrittenSort],
+        sort: &WrittenSort,
+    ) -> Result<Act, Refusal>
+        ensures comes { Comes terms.old terms.new self.old self.new (requests.declares name.now (map sort_view sorts.now) (sort_view sort.now)) (λ s. declaration_of s name.now (map sort_view sorts.now) (sort_view sort.now)) result }
     {
         term_stays();
-        match declared_sort(&self.names, name, sorts, sort) {
-            Err(broken) => Err(broken),
+        match self.declared_sort(name, sorts, sort) {
+            Err(refusal) => Err(refusal),
             Ok(sort) => match self.add_constant(terms, name, sort) {
-                Ok(()) => Ok(()),
+                Ok(()) => Ok(Act::Changed),
                 Err(Memory) => Err(Refusal::Memory),
             },
+        }
+    }
+
+    /// The sort of a constant of this name, where it is declared.
+    fn declared_sort(
+        &self,
+        name: &Text,
+        sorts: &[WrittenSort],
+        sort: &WrittenSort,
+    ) -> Result<Sort, Refusal>
+        ensures fresh { OnOk result (named_by self.now.names name.now ≡ None) }
+        ensures accepted { IfOk result (λ found. (ns : List Node) (s : State) → IsLive ns self.now s → declaration_of s name.now (map sort_view sorts.now) (sort_view sort.now) ≡ accepted (declare_const (constant_of name.now (sort_of found)))) }
+        ensures refused { IfErr result (λ refusal. IfSome (error_of refusal) (λ n. (ns : List Node) (s : State) → IsLive ns self.now s → declaration_of s name.now (map sort_view sorts.now) (sort_view sort.now) ≡ refused n)) }
+    {
+        if has_unknown_sort(sorts) || is_unknown_sort(sort) {
+            return Err(Refusal::UnknownSymbol);
+        }
+        if self.names.get(name).is_some() {
+            return Err(Refusal::Declared);
+        }
+        if !sorts.is_empty() {
+            return Err(Refusal::Sort);
+        }
+        match written_sort(sort) {
+            Some(found) => Ok(found),
+            None => Err(Refusal::Sort),
         }
     }
 
@@ -385,126 +328,68 @@ impl Live {
     // ---- Definitions
 
     /// Defines a name.
-    #[tactic(auto, using(crate::proofs::Living::kept_where_same, crate::proofs::Living::kept_where_grown))]
-    fn define_function(&mut self, terms: &mut Terms, arguments: &[Tree]) -> Result<(), Refusal>
+    fn define<'a>(
+        &mut self,
+        terms: &mut Terms,
+        name: &Text,
+        parameters: &[Parameter<'a>],
+        sort: &WrittenSort,
+        body: &Expression<'a>,
+    ) -> Result<Act, Refusal>
         requires live { (s : State) × IsLive terms.old self.old s }
-        ensures accepted { OnOk result ((s : State) → IsLive terms.old self.old s → Leaves s (seen arguments.now) (outcome_by s define_fun_name (seen arguments.now)) changed terms.new self.new) }
-        ensures refused { IfErr result (λ refusal. IfSome (error_of refusal) (λ n. (s : State) → IsLive terms.old self.old s → outcome_by s define_fun_name (seen arguments.now) ≡ refused n)) }
-        ensures kept { take (length terms.old) terms.new ≡ terms.old }
-        ensures unchanged { OnErr result (self.new ≡ self.old) }
-        ensures front { take (length self.old.asserted) self.new.asserted ≡ self.old.asserted }
+        ensures comes { Comes terms.old terms.new self.old self.new (requests.defines name.now (map parameter_view parameters.now) (sort_view sort.now) (written body.now)) (λ s. definition_of s name.now (map parameter_view parameters.now) (sort_view sort.now) (written body.now)) result }
     {
         term_stays();
-        let Some(definiens) = defined(arguments) else {
-            return Err(Refusal::Syntax);
-        };
-        match self.definition(terms, &definiens) {
+        match self.definition(terms, name, parameters, sort, body) {
             Err(refusal) => Err(refusal),
-            Ok(definition) => match self.add_definition(definiens.name, definition) {
-                Ok(()) => Ok(()),
+            Ok(definition) => match self.add_definition(name, definition) {
+                Ok(()) => Ok(Act::Changed),
                 Err(Memory) => Err(Refusal::Memory),
             },
         }
     }
 
-    /// What is to stand for the name that is defined, and the rules on it.
-    fn definition(&self, terms: &mut Terms, definiens: &Definiens) -> Result<Definition, Refusal>
-        requires live { (s : State) × IsLive terms.old self.now s }
-        ensures grows { Grows terms.old terms.new }
-        ensures companions { OnOk result (HasCompanions terms.new) }
-        ensures fresh { OnOk result (named_by self.now.names definiens.now.name.now ≡ None) }
-        ensures accepted { IfOk result (λ d. (s : State) → IsLive terms.old self.now s → Defines definiens.now.name.now (definition_of s definiens.now.name.now (seen definiens.now.parameters.now) (view definiens.now.sort.now) (view definiens.now.body.now)) terms.new d) }
-        ensures refused { IfErr result (λ refusal. IfSome (error_of refusal) (λ n. (s : State) → IsLive terms.old self.now s → definition_of s definiens.now.name.now (seen definiens.now.parameters.now) (view definiens.now.sort.now) (view definiens.now.body.now) ≡ refused n)) }
-    {
-        match self.definition_sorts(definiens) {
-            Err(refusal) => Err(refusal),
-            Ok((parameters, sort)) => self.sorted_definition(terms, definiens, parameters, sort),
-        }
-    }
-
-    /// The sorts of the parameters and of the body of a definition whose symbols and names are as they may be.
-    fn definition_sorts(&self, definiens: &Definiens) -> Result<(Vec<Sort>, Sort), Refusal>
-        ensures fresh { OnOk result (named_by self.now.names definiens.now.name.now ≡ None) }
-        ensures sorts { IfOk result (λ p. (ns : List Node) (s : State) → IsLive ns self.now s → definition_of s definiens.now.name.now (seen definiens.now.parameters.now) (view definiens.now.sort.now) (view definiens.now.body.now) ≡ definition_by s definiens.now.name.now (bound_names (seen definiens.now.parameters.now)) (Some (map sort_of p.0.items)) (Some (sort_of p.1)) (view definiens.now.body.now)) }
-        ensures refused { IfErr result (λ refusal. IfSome (error_of refusal) (λ n. (ns : List Node) (s : State) → IsLive ns self.now s → definition_of s definiens.now.name.now (seen definiens.now.parameters.now) (view definiens.now.sort.now) (view definiens.now.body.now) ≡ refused n)) }
-    {
-        let faults = self.definition_faults(definiens)?;
-        if let Err(refusal) = check_faults(faults) {
-            return Err(refusal);
-        }
-        match sorts_of_parameters(self.alloc, definiens.parameters)? {
-            None => Err(Refusal::Sort),
-            Some(parameters) => match sort_of_tree(definiens.sort) {
-                None => Err(Refusal::Sort),
-                Some(sort) => Ok((parameters, sort)),
-            },
-        }
-    }
-
-    /// What is wrong with the symbols and the names of a definition.
-    fn definition_faults(&self, definiens: &Definiens) -> Result<Faults, Memory>
-        ensures unknown { IfOk result (λ f. (is_live : List ℕ → Bool) → AreLive self.now.names is_live → f.unknown ≡ is_unknown_in is_live (seen definiens.now.parameters.now) (view definiens.now.sort.now) (view definiens.now.body.now)) }
-        ensures clash { IfOk result (λ f. f.clash ≡ (is_listed self.now.names definiens.now.name.now || clash (bound_names (seen definiens.now.parameters.now)) || has_clash (view definiens.now.body.now))) }
-    {
-        let (bound, clash) = names_of_all(self.alloc, definiens.parameters)?;
-        let mut frames = vec![in self.alloc; bound]?;
-        let of_body = faults_of(self.alloc, &self.names, &mut frames, definiens.body)?;
-        Ok(Faults {
-            unknown: has_unknown_parameter_sort(definiens.parameters)
-                || is_unknown_sort(definiens.sort)
-                || of_body.unknown,
-            clash: is_declared(&self.names, definiens.name) || clash || of_body.clash,
-        })
-    }
-
-    /// A definition of these sorts, where its body fits them and is linear.
-    fn sorted_definition(
+    /// What is to stand for the name that is defined, and the rules on it, with the companions of what is made.
+    fn definition<'a>(
         &self,
         terms: &mut Terms,
-        definiens: &Definiens,
-        parameters: Vec<Sort>,
-        sort: Sort,
+        name: &Text,
+        parameters: &[Parameter<'a>],
+        sort: &WrittenSort,
+        body: &Expression<'a>,
     ) -> Result<Definition, Refusal>
         requires live { (s : State) × IsLive terms.old self.now s }
         ensures grows { Grows terms.old terms.new }
         ensures companions { OnOk result (HasCompanions terms.new) }
-        ensures accepted { IfOk result (λ d. (s : State) → IsLive terms.old self.now s → Defines definiens.now.name.now (definition_by s definiens.now.name.now (bound_names (seen definiens.now.parameters.now)) (Some (map sort_of parameters.items)) (Some (sort_of sort)) (view definiens.now.body.now)) terms.new d) }
-        ensures refused { IfErr result (λ refusal. IfSome (error_of refusal) (λ n. (s : State) → IsLive terms.old self.now s → definition_by s definiens.now.name.now (bound_names (seen definiens.now.parameters.now)) (Some (map sort_of parameters.items)) (Some (sort_of sort)) (view definiens.now.body.now) ≡ refused n)) }
+        ensures fresh { OnOk result (named_by self.now.names name.now ≡ None) }
+        ensures accepted { IfOk result (λ d. (s : State) → IsLive terms.old self.now s → Defines name.now (definition_of s name.now (map parameter_view parameters.now) (sort_view sort.now) (written body.now)) terms.new d) }
+        ensures refused { IfErr result (λ refusal. IfSome (error_of refusal) (λ n. (s : State) → IsLive terms.old self.now s → definition_of s name.now (map parameter_view parameters.now) (sort_view sort.now) (written body.now) ≡ refused n)) }
     {
         terms_fit();
-        match self.body(terms, definiens, parameters.as_slice(), sort) {
-            Err(ElaborateError::Sort) => Err(Refusal::Sort),
+        let is_declared = self.names.get(name).is_some();
+        let mark = terms.mark();
+        match elaborate_body(self.alloc, &self.names, terms, parameters, sort, body) {
+            Err(ElaborateError::Sort) => {
+                if is_declared {
+                    Err(Refusal::Declared)
+                } else {
+                    Err(Refusal::Sort)
+                }
+            }
+            Err(ElaborateError::Unknown) => Err(Refusal::UnknownSymbol),
+            Err(ElaborateError::Clash) => Err(Refusal::Declared),
             Err(ElaborateError::Memory) => Err(Refusal::Memory),
-            Ok(body) => {
-                if !terms.is_linear(body.id) {
+            Ok(definition) => {
+                if is_declared {
+                    return Err(Refusal::Declared);
+                }
+                if !terms.is_linear(definition.body.id) {
                     return Err(Refusal::NotLinear);
                 }
-                Ok(Definition { parameters, body })
+                add_companions(self.alloc, terms, mark)?;
+                Ok(definition)
             }
         }
-    }
-
-    /// The term of the body of a definition, where one of this sort is wanted, with the companions of what is made.
-    fn body(
-        &self,
-        terms: &mut Terms,
-        definiens: &Definiens,
-        sorts: &[Sort],
-        sort: Sort,
-    ) -> Result<Typed, ElaborateError>
-        requires live { (s : State) × IsLive terms.old self.now s }
-        ensures grows { Grows terms.old terms.new }
-        ensures companions { OnOk result (HasCompanions terms.new) }
-        ensures found { IfOk result (λ x. (s : State) → IsLive terms.old self.now s → StandsAs (body_of s (bound_names (seen definiens.now.parameters.now)) (map sort_of sorts.now) (sort_of sort) (view definiens.now.body.now)) terms.new x) }
-        ensures refused { IsErrOf result ElaborateError.Sort → (s : State) → IsLive terms.old self.now s → body_of s (bound_names (seen definiens.now.parameters.now)) (map sort_of sorts.now) (sort_of sort) (view definiens.now.body.now) ≡ None }
-    {
-        let mark = terms.mark();
-        let frame = bind_parameters(self.alloc, terms, definiens.parameters, sorts)?;
-        let mut frames = vec![in self.alloc; frame]?;
-        let term = elaborate(self.alloc, &self.names, &mut frames, terms, definiens.body)?;
-        let id = place(terms, sort, term)?;
-        add_companions(self.alloc, terms, mark)?;
-        Ok(Typed { id, sort })
     }
 
     /// Adds a definition of a name that isn't there yet to what stands.
@@ -531,72 +416,44 @@ impl Live {
 
     // ---- Assertions
 
-    /// Asserts the term of a tree.
-    #[tactic(auto, using(crate::proofs::Living::kept_where_same, crate::proofs::Living::kept_where_grown))]
-    fn assert_term(&mut self, terms: &mut Terms, arguments: &[Tree]) -> Result<(), Refusal>
+    /// Asserts a term.
+    fn assert_term(&mut self, terms: &mut Terms, term: &Expression) -> Result<Act, Refusal>
         requires live { (s : State) × IsLive terms.old self.old s }
-        ensures accepted { OnOk result ((s : State) → IsLive terms.old self.old s → Leaves s (seen arguments.now) (outcome_by s assert_name (seen arguments.now)) changed terms.new self.new) }
-        ensures refused { IfErr result (λ refusal. IfSome (error_of refusal) (λ n. (s : State) → IsLive terms.old self.old s → outcome_by s assert_name (seen arguments.now) ≡ refused n)) }
-        ensures kept { take (length terms.old) terms.new ≡ terms.old }
-        ensures unchanged { OnErr result (self.new ≡ self.old) }
-        ensures front { take (length self.old.asserted) self.new.asserted ≡ self.old.asserted }
+        ensures comes { Comes terms.old terms.new self.old self.new (requests.asserts (written term.now)) (λ s. assertion_of s (written term.now)) result }
     {
         term_stays();
-        let Some(tree) = only(arguments) else {
-            return Err(Refusal::Syntax);
-        };
-        match self.assertion(terms, tree) {
+        match self.assertion(terms, term) {
             Err(refusal) => Err(refusal),
-            Ok(term) => match self.keep_assertion(term, terms.holds_number(term)) {
-                Ok(()) => Ok(()),
+            Ok(id) => match self.keep_assertion(id, terms.holds_number(id)) {
+                Ok(()) => Ok(Act::Changed),
                 Err(Memory) => Err(Refusal::Memory),
             },
         }
     }
 
-    /// The term of a tree that may be asserted, and the rules on it.
-    fn assertion(&self, terms: &mut Terms, tree: &Tree) -> Result<TermId, Refusal>
+    /// The normal term of what may be asserted, and the rules on it, with the companions of what is made.
+    fn assertion(&self, terms: &mut Terms, term: &Expression) -> Result<TermId, Refusal>
         requires live { (s : State) × IsLive terms.old self.now s }
         ensures grows { Grows terms.old terms.new }
         ensures companions { OnOk result (HasCompanions terms.new) }
         ensures within { IfOk result (λ id. id < length terms.new) }
-        ensures accepted { IfOk result (λ id. (s : State) → IsLive terms.old self.now s → Asserts (assertion_of s (view tree.now)) terms.new id) }
-        ensures refused { IfErr result (λ refusal. IfSome (error_of refusal) (λ n. (s : State) → IsLive terms.old self.now s → assertion_of s (view tree.now) ≡ refused n)) }
-    {
-        let mut bound = Vec::new(self.alloc);
-        let faults = faults_of(self.alloc, &self.names, &mut bound, tree)?;
-        if let Err(refusal) = check_faults(faults) {
-            return Err(refusal);
-        }
-        match self.root(terms, tree) {
-            Err(ElaborateError::Sort) => Err(Refusal::Sort),
-            Err(ElaborateError::Memory) => Err(Refusal::Memory),
-            Ok(term) => {
-                if !is_bool(term.sort) {
-                    return Err(Refusal::Sort);
-                }
-                if !terms.is_linear(term.id) {
-                    return Err(Refusal::NotLinear);
-                }
-                Ok(term.id)
-            }
-        }
-    }
-
-    /// The term of a tree in the scope of the live names, with the companions of what is made.
-    fn root(&self, terms: &mut Terms, tree: &Tree) -> Result<Typed, ElaborateError>
-        requires live { (s : State) × IsLive terms.old self.now s }
-        ensures grows { Grows terms.old terms.new }
-        ensures companions { OnOk result (HasCompanions terms.new) }
-        ensures within { IfOk result (λ x. x.id < length terms.new) }
-        ensures found { IfOk result (λ x. (s : State) → IsLive terms.old self.now s → StandsAs (term_of (scope_of s) (view tree.now)) terms.new x) }
-        ensures refused { IsErrOf result ElaborateError.Sort → (s : State) → IsLive terms.old self.now s → term_of (scope_of s) (view tree.now) ≡ None }
+        ensures accepted { IfOk result (λ id. (s : State) → IsLive terms.old self.now s → Asserts (assertion_of s (written term.now)) terms.new id) }
+        ensures refused { IfErr result (λ refusal. IfSome (error_of refusal) (λ n. (s : State) → IsLive terms.old self.now s → assertion_of s (written term.now) ≡ refused n)) }
     {
         let mark = terms.mark();
-        let mut frames = Vec::new(self.alloc);
-        let term = elaborate(self.alloc, &self.names, &mut frames, terms, tree)?;
-        add_companions(self.alloc, terms, mark)?;
-        Ok(term)
+        match elaborate(self.alloc, &self.names, terms, term) {
+            Err(error) => Err(refusal_of(error)),
+            Ok(made) => {
+                if made.sort != Sort::Bool {
+                    return Err(Refusal::Sort);
+                }
+                if !terms.is_linear(made.id) {
+                    return Err(Refusal::NotLinear);
+                }
+                add_companions(self.alloc, terms, mark)?;
+                Ok(made.id)
+            }
+        }
     }
 
     /// Keeps the assertion of a term, which holds a number or doesn't.
@@ -617,67 +474,56 @@ impl Live {
     // ---- Values
 
     /// The terms whose values are asked for.
-    #[tactic(auto, using(crate::proofs::Living::kept_where_same, crate::proofs::Living::kept_where_grown))]
-    fn asked_values(&self, terms: &mut Terms, arguments: &[Tree]) -> Result<Vec<Typed>, Refusal>
+    fn show_values(&self, terms: &mut Terms, questions: &[Question]) -> Result<Act, Refusal>
         requires live { (s : State) × IsLive terms.old self.now s }
-        ensures accepted { IfOk result (λ xs. (s : State) → IsLive terms.old self.now s → Leaves s (seen arguments.now) (outcome_by s get_value_name (seen arguments.now)) (show_values xs.items) terms.new self.now) }
-        ensures refused { IfErr result (λ refusal. IfSome (error_of refusal) (λ n. (s : State) → IsLive terms.old self.now s → outcome_by s get_value_name (seen arguments.now) ≡ refused n)) }
-        ensures kept { take (length terms.old) terms.new ≡ terms.old }
+        ensures comes { Comes terms.old terms.new self.now self.now (requests.shows_values (map question_view questions.now)) (λ s. values_asked s (map question_view questions.now)) result }
     {
         term_stays();
-        let Some(trees) = asked_trees(arguments) else {
-            return Err(Refusal::Syntax);
-        };
-        self.values(terms, trees)
+        match self.values(terms, questions) {
+            Ok(values) => Ok(Act::ShowValues(values)),
+            Err(refusal) => Err(refusal),
+        }
     }
 
-    /// The terms of trees whose values may be asked for, and the rules on them.
-    fn values(&self, terms: &mut Terms, trees: &[Tree]) -> Result<Vec<Typed>, Refusal>
+    /// The normal terms of what may be asked for, and the rules on them, with the companions of what is made.
+    fn values(&self, terms: &mut Terms, questions: &[Question]) -> Result<Vec<Typed>, Refusal>
         requires live { (s : State) × IsLive terms.old self.now s }
         ensures grows { Grows terms.old terms.new }
         ensures companions { OnOk result (HasCompanions terms.new) }
-        ensures accepted { IfOk result (λ xs. (s : State) → IsLive terms.old self.now s → Shows (seen trees.now) (values_of_trees s (seen trees.now)) terms.new xs.items) }
-        ensures refused { IfErr result (λ refusal. IfSome (error_of refusal) (λ n. (s : State) → IsLive terms.old self.now s → values_of_trees s (seen trees.now) ≡ refused n)) }
+        ensures accepted { IfOk result (λ xs. (s : State) → IsLive terms.old self.now s → Shows (map question_view questions.now) (values_asked s (map question_view questions.now)) terms.new xs.items) }
+        ensures refused { IfErr result (λ refusal. IfSome (error_of refusal) (λ n. (s : State) → IsLive terms.old self.now s → values_asked s (map question_view questions.now) ≡ refused n)) }
     {
-        let mut bound = Vec::new(self.alloc);
-        let faults = faults_of_all(self.alloc, &self.names, &mut bound, trees)?;
-        if let Err(refusal) = check_faults(faults) {
-            return Err(refusal);
-        }
-        match self.roots(terms, trees) {
-            Err(ElaborateError::Sort) => Err(Refusal::Sort),
-            Err(ElaborateError::Memory) => Err(Refusal::Memory),
+        let mark = terms.mark();
+        match elaborate_all(self.alloc, &self.names, terms, questions) {
+            Err(error) => Err(refusal_of(error)),
             Ok(values) => {
                 if !are_linear(terms, values.as_slice()) {
                     return Err(Refusal::NotLinear);
                 }
+                add_companions(self.alloc, terms, mark)?;
                 Ok(values)
             }
         }
     }
+}
 
-    /// The terms of trees in the scope of the live names, with the companions of what is made.
-    fn roots(&self, terms: &mut Terms, trees: &[Tree]) -> Result<Vec<Typed>, ElaborateError>
-        requires live { (s : State) × IsLive terms.old self.now s }
-        ensures grows { Grows terms.old terms.new }
-        ensures companions { OnOk result (HasCompanions terms.new) }
-        ensures within { IfOk result (λ xs. All (λ x. x.id < length terms.new) xs.items) }
-        ensures found { IfOk result (λ xs. (s : State) → IsLive terms.old self.now s → StandAs (terms_of (scope_of s) (seen trees.now)) terms.new xs.items) }
-        ensures refused { IsErrOf result ElaborateError.Sort → (s : State) → IsLive terms.old self.now s → terms_of (scope_of s) (seen trees.now) ≡ None }
-    {
-        let mark = terms.mark();
-        let mut frames = Vec::new(self.alloc);
-        let values = elaborate_all(self.alloc, &self.names, &mut frames, terms, trees)?;
-        add_companions(self.alloc, terms, mark)?;
-        Ok(values)
+/// The rule that a term breaks.
+fn refusal_of(error: ElaborateError) -> Refusal
+    ensures refusal { result ≡ refusal_by error }
+{
+    match error {
+        ElaborateError::Unknown => Refusal::UnknownSymbol,
+        ElaborateError::Clash => Refusal::Declared,
+        ElaborateError::Sort => Refusal::Sort,
+        ElaborateError::Memory => Refusal::Memory,
     }
 }
 
-/// Whether terms of this sort are true or false.
-fn is_bool(sort: Sort) -> bool
-    ensures bool { result ≡ spec.is_bool (sort_of sort) }
+/// One of the sorts is by a name that no sort has.
+fn has_unknown_sort(sorts: &[WrittenSort]) -> bool
+    ensures unknown { result ≡ list_any (λ w. is_unknown (sort_view w)) sorts.now }
 {
-    sort == Sort::Bool
+    sorts.iter().any(|sort| is_unknown_sort(sort))
 }
 
 /// The number after this one. Where there is none, no item more finds memory.
@@ -688,85 +534,6 @@ fn number_after(number: usize) -> Result<usize, Memory>
         Some(next) => Ok(next),
         None => Err(Memory),
     }
-}
-
-/// The sort of a constant of this name, where it is declared.
-fn declared_sort(names: &Names, name: &Text, sorts: &[Tree], sort: &Tree) -> Result<Sort, Refusal>
-    ensures accepted { IfOk result (λ found. declaration_where (is_listed names.now name.now) name.now (seen sorts.now) (view sort.now) ≡ accepted (declare_const (constant_of name.now (sort_of found)))) }
-    ensures fresh { OnOk result (named_by names.now name.now ≡ None) }
-    ensures refused { IfErr result (λ refusal. IfSome (error_of refusal) (λ n. declaration_where (is_listed names.now name.now) name.now (seen sorts.now) (view sort.now) ≡ refused n)) }
-{
-    if has_unknown_sort(sorts) || is_unknown_sort(sort) {
-        return Err(Refusal::UnknownSymbol);
-    }
-    if is_declared(names, name) {
-        return Err(Refusal::Declared);
-    }
-    if !sorts.is_empty() {
-        return Err(Refusal::Sort);
-    }
-    match sort_of_tree(sort) {
-        Some(found) => Ok(found),
-        None => Err(Refusal::Sort),
-    }
-}
-
-/// The rules on the symbols of a term: that they are in scope, and then that no names clash.
-fn check_faults(faults: Faults) -> Result<(), Refusal>
-    ensures none { OnOk result (fault_error faults.unknown faults.clash ≡ None) }
-    ensures refused { IfErr result (λ refusal. fault_error faults.unknown faults.clash ≡ error_of refusal) }
-{
-    if faults.unknown {
-        return Err(Refusal::UnknownSymbol);
-    }
-    if faults.clash {
-        return Err(Refusal::Declared);
-    }
-    Ok(())
-}
-
-/// The parameters of a definition, each with the term that stands for it in the body.
-fn bind_parameters(
-    alloc: Global,
-    terms: &mut Terms,
-    parameters: &[Tree],
-    sorts: &[Sort],
-) -> Result<Bindings, Memory>
-    ensures grows { Grows terms.old terms.new }
-    ensures bound { IfOk result (λ frame. AreBoundAs terms.new frame (parameters_from 0 (bound_names (seen parameters.now)) (map sort_of sorts.now))) }
-{
-    let mut frame = Bindings::new(alloc);
-    let mut place = 0;
-    for parameter in parameters {
-        let Some(name) = first_name(parameter) else {
-            continue;
-        };
-        let Some(sort) = sorts.get(place) else {
-            return Ok(frame);
-        };
-        bind_parameter(alloc, terms, &mut frame, name, place, *sort)?;
-        place += 1;
-    }
-    Ok(frame)
-}
-
-/// Binds a name to the parameter of this place and sort, where it isn't bound yet.
-fn bind_parameter(
-    alloc: Global,
-    terms: &mut Terms,
-    frame: &mut Bindings,
-    name: &Text,
-    place: usize,
-    sort: Sort,
-) -> Result<(), Memory>
-    ensures grows { Grows terms.old terms.new }
-    ensures bound { OnOk result ((pairs : List (List ℕ × spec.Term)) → AreBoundAs terms.old frame.old pairs → AreBoundAs terms.new frame.new (pairs ++ (name.now, spec.apply (spec.parameter place (sort_of sort)) spec.no_terms) ∷ [])) }
-{
-    term_stays();
-    let id = terms.make(Head::Parameter(place, sort), &[])?;
-    let name = Text::from_slice(alloc, name.as_bytes())?;
-    frame.insert(name, Typed { id, sort })?;
-    Ok(())
 }
 
 /// Whether all of these terms are linear.

@@ -1,5 +1,6 @@
 mod Listed
 mod Uses
+pub mod Arguments
 pub mod ByteClasses
 pub mod Decimals
 pub mod Derivations
@@ -22,8 +23,8 @@ pub mod Rounds
 pub mod Scripts
 pub mod Sorted
 pub mod SortedStates
-pub mod SortedTrees
+pub mod SortedTerms
 pub mod Tables
 pub mod Tellings
 pub mod Transcripts
-pub mod TreeTerms
+pub mod WrittenTerms

@@ -2,21 +2,23 @@
 use Rattle.std.proofs.Common.{◌≡◌, ℕ, suc, ◌+◌, Bool, true, false, not, ◌||◌, List, [], ◌∷◌, ◌++◌, Option, Some, None, refl, sym, ap, ◌∙◌, subst, if◌then◌else◌, arith}
 use Rattle.std.proofs.lemmas.List.{append_assoc, map-append}
 use Rattle.std.specs.Bool.{⊤}
-use Rattle.std.specs.Prelude.{map, slice_get, option_and_then, codes}
-use Rattle.std.specs.List.{AllByRecursion}
+use Rattle.std.specs.Prelude.{map, slice_get, option_and_then}
+use Rattle.std.specs.List.{AllByRecursion, list_any}
+use Rattle.nz_spec.specs.Tree.{Tree}
+use Rattle.nz_spec.specs.Expression.{Expression}
+use Rattle.nz_spec.specs.Request.{WrittenSort, Parameter, Question, lex_priority, box_priority, pareto_priority, Setting, success_setting, models_setting, priority_setting, other_setting, InfoKey, name_key, version_key, authors_key, behavior_key, levels_key, reason_key, other_key, Request, declares, defines, asserts, checks, shows_model, shows_values, shows_info, sets_option, sets_nothing, echoes, exits}
+use Rattle.nz_spec.specs.Parse.{request_of}
+use Rattle.nz_spec.specs.Bounds.{has_token, is_wide_token, is_long_decimal}
 use Rattle.nz_lists.proofs.Options.{IfFound, and_then_found}
-use Rattle.nz_spec.specs.Tree.{symbol_name, literal, Tree, leaf, node, Trees, no_trees, trees}
-use Rattle.nz_spec.specs.Form.{is_name, is_empty, is_the_keyword, is_symbol, has_form, CommandName, command_name, assert_name, check_sat_name, declare_const_name, declare_fun_name, define_fun_name, echo_name, exit_name, get_info_name, get_model_name, get_value_name, set_info_name, set_logic_name, set_option_name}
-use Rattle.nz_spec.specs.Bounds.{have_token, is_wide_token, is_long_decimal}
 use Rattle.nz_spec.specs.Term.{Sort, bool_sort, Constant, Term, Terms, sort_of, Assignment, IsOfSort, value_of}
 use Rattle.nz_spec.specs.Normal.{normal_of}
 use Rattle.nz_spec.specs.Linear.{is_linear}
 use Rattle.nz_spec.specs.Elaboration.{has_sort, placed, Definition, term_of, terms_of}
-use Rattle.nz_spec.specs.Live.{State, constants_of, LiveItem, numbered_items, Item, declared, defined, asserted, sought, wished, items_of, definitions_in, assertions_in, assertions_of, with_item, grown}
+use Rattle.nz_spec.specs.Live.{State, constants_of, LiveItem, numbered_items, Item, declared, defined, asserted, sought, wished, items_of, items_hold_numbers, definitions_in, assertions_in, assertions_of, with_item, grown}
 use Rattle.nz_spec.specs.Command.{Command, declare_const, define, assert_term, check_sat, get_value, get_info, get_levels, get_reason, name_info, version_info, authors_info, error_behavior_info, set_print_success, no_effect, Outcome, accepted, refused, not_taken}
-use Rattle.nz_spec.specs.Taken.{passes_limit, takes_command}
-use Rattle.nz_spec.specs.Script.{is_live_name, scope_of, sort_of_tree, is_unknown_sort, any_tree, declaration_of, parameter_sorts, sorts_of_trees, parameters_from, body_scope, linear_outcome, definition_by, definition_of, asserted_outcome, assertion_of, all_linear, asked_of, values_of_trees, outcome_by, outcome_named, outcome_of}
-use Rattle.nz_spec.specs.Scoping.{bound_names, clash, has_clash, have_clash, has_unknown, have_unknown}
+use Rattle.nz_spec.specs.Limits.{passes_limit}
+use Rattle.nz_spec.specs.Script.{is_live_name, scope_of, constant_sort, sort_written, is_unknown_sort, declaration_of, parameter_names, parameter_sorts, sorts_written, parameters_from, body_scope, linear_outcome, definition_by, definition_of, asserted_outcome, assertion_of, asked_expressions, all_linear, asked_of, values_asked, info_asked, option_set, outcome_by, outcome_requested, outcome_of}
+use Rattle.nz_spec.specs.Scoping.{clash, has_clash, have_clash, has_unknown, have_unknown}
 use Rattle.nz_spec.specs.Text.{What, intact}
 use Rattle.nz_spec.specs.Reply.{Reply, error}
 use Rattle.nz_spec.specs.Right.{Context, beginning, effect, effect_of, after, context_after}
@@ -25,8 +27,8 @@ use Rattle.nz_spec.specs.Model.{IsAssignment}
 use Rattle.nz_spec.specs.Sorts.{HaveTheirSorts, TermsHaveTheirSorts}
 use Rattle.nz_spec.proofs.Sorted.{same_sorts, Gives, IsSorted, value_is}
 use Rattle.nz_spec.proofs.Placed.{IsPlaced, is_placed}
-use Rattle.nz_spec.proofs.TreeTerms.{AreBound}
-use Rattle.nz_spec.proofs.SortedTrees.{sorted_real, IsSortedScope, tree_sorted}
+use Rattle.nz_spec.proofs.WrittenTerms.{AreBound}
+use Rattle.nz_spec.proofs.SortedTerms.{sorted_real, IsSortedScope, term_sorted}
 
 module _ (a : Assignment) (given : IsAssignment a) where
   -- a term of sort Bool
@@ -103,12 +105,11 @@ module _ (a : Assignment) (given : IsAssignment a) where
   declared_good name (Some is) = tt
   declared_good name None = tt
 
-  declaration_good : (s : State) (name : List ℕ) (arguments : Trees) (sort : Tree) → IsGood (declaration_of s name arguments sort)
+  declaration_good : (s : State) (name : List ℕ) (arguments : List WrittenSort) (sort : WrittenSort) → IsGood (declaration_of s name arguments sort)
   declaration_good s name arguments sort =
-      let by_sort : Outcome = elim (sort_of_tree sort) [ Some is ↦ accepted (declare_const (record { name = name; sort = is })) | None ↦ refused 3 ] in
-      let if_none : Outcome = if not (is_empty arguments) then refused 3 else by_sort in
-      good_if (any_tree is_unknown_sort arguments || is_unknown_sort sort) (refused 2) (if is_live_name s name then refused 9 else if_none) tt
-      (good_if (is_live_name s name) (refused 9) if_none tt (good_if (not (is_empty arguments)) (refused 3) by_sort tt (declared_good name (sort_of_tree sort))))
+      let by_sort : Outcome = elim (constant_sort arguments sort) [ Some is ↦ accepted (declare_const (record { name = name; sort = is })) | None ↦ refused 3 ] in
+      good_if (list_any is_unknown_sort arguments || is_unknown_sort sort) (refused 2) (if is_live_name s name then refused 9 else by_sort) tt
+      (good_if (is_live_name s name) (refused 9) by_sort tt (declared_good name (constant_sort arguments sort)))
 
   -- the parameters stand at their places
   parameters_bound : (rs ss : List Sort) (k : ℕ) (names : List (List ℕ)) → ((j i : ℕ) → i ≡ k + j → slice_get rs i ≡ slice_get ss j) → AreBound (IsSorted a rs) (parameters_from k names ss)
@@ -128,22 +129,22 @@ module _ (a : Assignment) (given : IsAssignment a) where
     body_scope_is : (names : List (List ℕ)) (sorts : List Sort) → IsSortedScope a sorts (body_scope s names sorts)
     body_scope_is names sorts = record { constants = constants_are (constants_of s); definitions = sound.definitions; bound = parameters_bound sorts sorts 0 names (λ j i e. let f : i ≡ j = omega (arith, e) in ap (slice_get sorts) f) }
 
-    definition_by_good : (name : List ℕ) (names : List (List ℕ)) (m : Option (List Sort)) (n : Option Sort) (body : Tree) → IsGood (definition_by s name names m n body)
+    definition_by_good : (name : List ℕ) (names : List (List ℕ)) (m : Option (List Sort)) (n : Option Sort) (body : Expression) → IsGood (definition_by s name names m n body)
     definition_by_good name names (Some sorts) (Some sort) body =
         body_good name sorts sort (option_and_then (placed sort) (term_of (body_scope s names sorts) body))
         (and_then_found (IsSorted a sorts) (IsPlaced (IsSorted a sorts) sort) (placed sort) (term_of (body_scope s names sorts) body) (is_placed (IsSorted a sorts) (sorted_real a sorts) sort)
-        (tree_sorted a sorts (body_scope s names sorts) body (body_scope_is names sorts)))
+        (term_sorted a sorts (body_scope s names sorts) body (body_scope_is names sorts)))
     definition_by_good name names (Some sorts) None body = tt
     definition_by_good name names None n body = tt
 
-    definition_good : (name : List ℕ) (parameters : Trees) (sort body : Tree) → IsGood (definition_of s name parameters sort body)
+    definition_good : (name : List ℕ) (parameters : List Parameter) (sort : WrittenSort) (body : Expression) → IsGood (definition_of s name parameters sort body)
     definition_good name parameters sort body =
-        let names = bound_names parameters in
-        let made : Outcome = definition_by s name names (sorts_of_trees (parameter_sorts parameters)) (sort_of_tree sort) body in
-        good_if (any_tree is_unknown_sort (parameter_sorts parameters) || is_unknown_sort sort || has_unknown (is_live_name s) names body) (refused 2)
+        let names = parameter_names parameters in
+        let made : Outcome = definition_by s name names (sorts_written (parameter_sorts parameters)) (sort_written sort) body in
+        good_if (list_any is_unknown_sort (parameter_sorts parameters) || is_unknown_sort sort || has_unknown (is_live_name s) names body) (refused 2)
         (if is_live_name s name || clash names || has_clash body then refused 9 else made) tt
         (good_if (is_live_name s name || clash names || has_clash body) (refused 9) made tt
-        (definition_by_good name names (sorts_of_trees (parameter_sorts parameters)) (sort_of_tree sort) body))
+        (definition_by_good name names (sorts_written (parameter_sorts parameters)) (sort_written sort) body))
 
     asserted_by : (b : Bool) (t : Term) → has_sort bool_sort t ≡ b → IsSorted a [] t → IsGood (if b then linear_outcome (is_linear (normal_of t)) (assert_term t) else refused 3)
     asserted_by true t e h = linear_good (is_linear (normal_of t)) (assert_term t) (h, sym (same_sorts bool_sort (sort_of t) e))
@@ -153,79 +154,65 @@ module _ (a : Assignment) (given : IsAssignment a) where
     stated_good (Some t) h = asserted_by (has_sort bool_sort t) t refl h
     stated_good None h = tt
 
-    assertion_good : (t : Tree) → IsGood (assertion_of s t)
-    assertion_good t =
-        let stated : Outcome = elim (term_of (scope_of s) t) [ Some u ↦ asserted_outcome u | None ↦ refused 3 ] in
-        good_if (has_unknown (is_live_name s) [] t) (refused 2) (if has_clash t then refused 9 else stated) tt
-        (good_if (has_clash t) (refused 9) stated tt (stated_good (term_of (scope_of s) t) (tree_sorted a [] (scope_of s) t scope_is)))
+    assertion_good : (e : Expression) → IsGood (assertion_of s e)
+    assertion_good e =
+        let stated : Outcome = elim (term_of (scope_of s) e) [ Some u ↦ asserted_outcome u | None ↦ refused 3 ] in
+        good_if (has_unknown (is_live_name s) [] e) (refused 2) (if has_clash e then refused 9 else stated) tt
+        (good_if (has_clash e) (refused 9) stated tt (stated_good (term_of (scope_of s) e) (term_sorted a [] (scope_of s) e scope_is)))
 
-    asked_good : (ts : Trees) (m : Option Terms) → IsGood (elim m [ Some us ↦ linear_outcome (all_linear us) (get_value (asked_of ts us)) | None ↦ refused 3 ])
-    asked_good ts (Some us) = linear_good (all_linear us) (get_value (asked_of ts us)) tt
-    asked_good ts None = tt
+    asked_good : (qs : List Question) (m : Option Terms) → IsGood (elim m [ Some us ↦ linear_outcome (all_linear us) (get_value (asked_of qs us)) | None ↦ refused 3 ])
+    asked_good qs (Some us) = linear_good (all_linear us) (get_value (asked_of qs us)) tt
+    asked_good qs None = tt
 
-    values_good : (ts : Trees) → IsGood (values_of_trees s ts)
-    values_good ts =
-        let asked : Outcome = elim (terms_of (scope_of s) ts) [ Some us ↦ linear_outcome (all_linear us) (get_value (asked_of ts us)) | None ↦ refused 3 ] in
-        good_if (have_unknown (is_live_name s) [] ts) (refused 2) (if have_clash ts then refused 9 else asked) tt
-        (good_if (have_clash ts) (refused 9) asked tt (asked_good ts (terms_of (scope_of s) ts)))
+    values_good : (qs : List Question) → IsGood (values_asked s qs)
+    values_good qs =
+        let es = asked_expressions qs in
+        let asked : Outcome = elim (terms_of (scope_of s) es) [ Some us ↦ linear_outcome (all_linear us) (get_value (asked_of qs us)) | None ↦ refused 3 ] in
+        good_if (have_unknown (is_live_name s) [] es) (refused 2) (if have_clash es then refused 9 else asked) tt
+        (good_if (have_clash es) (refused 9) asked tt (asked_good qs (terms_of (scope_of s) es)))
 
-    named_declaration : (m : Option (List ℕ)) (arguments : Trees) (sort : Tree) → IsGood (elim m [ Some name ↦ declaration_of s name arguments sort | None ↦ refused 1 ])
-    named_declaration (Some name) arguments sort = declaration_good s name arguments sort
-    named_declaration None arguments sort = tt
+    info_good : (k : InfoKey) → IsGood (info_asked k)
+    info_good name_key = tt
+    info_good version_key = tt
+    info_good authors_key = tt
+    info_good behavior_key = tt
+    info_good levels_key = tt
+    info_good reason_key = tt
+    info_good other_key = tt
 
-    named_definition : (m : Option (List ℕ)) (parameters : Trees) (sort body : Tree) → IsGood (elim m [ Some name ↦ definition_of s name parameters sort body | None ↦ refused 1 ])
-    named_definition (Some name) parameters sort body = definition_good name parameters sort body
-    named_definition None parameters sort body = tt
+    option_good : (o : Setting) → IsGood (option_set o)
+    option_good (success_setting b) = tt
+    option_good (models_setting b) = tt
+    option_good (priority_setting lex_priority) = tt
+    option_good (priority_setting box_priority) = tt
+    option_good (priority_setting pareto_priority) = tt
+    option_good other_setting = tt
 
-    info_good : (b c d e f : Bool) → IsGoodCommand (if b then get_info name_info else (if c then get_info version_info else (if d then get_info authors_info else (if e then get_info error_behavior_info else (if f then get_levels else get_reason)))))
-    info_good true c d e f = tt
-    info_good false true d e f = tt
-    info_good false false true e f = tt
-    info_good false false false true f = tt
-    info_good false false false false true = tt
-    info_good false false false false false = tt
+    request_good : (r : Request) → IsGood (outcome_by s r)
+    request_good (declares name arguments sort) = declaration_good s name arguments sort
+    request_good (defines name parameters sort body) = definition_good name parameters sort body
+    request_good (asserts e) = assertion_good e
+    request_good checks = good_if (items_hold_numbers (items_of s.levels)) not_taken (accepted (check_sat [])) tt tt
+    request_good shows_model = tt
+    request_good (shows_values qs) = values_good qs
+    request_good (shows_info k) = info_good k
+    request_good (sets_option o) = option_good o
+    request_good sets_nothing = tt
+    request_good (echoes text) = tt
+    request_good exits = tt
+    request_good r = tt
 
-    option_good : (b c : Bool) → IsGoodCommand (if b then set_print_success c else no_effect)
-    option_good true c = tt
-    option_good false c = tt
+    requested_good : (t : Tree) (r : Request) → IsGood (outcome_requested s t r)
+    requested_good t r =
+        let narrow : Outcome = if has_token is_wide_token t then refused 5 else outcome_by s r in
+        good_if (passes_limit s r || has_token is_long_decimal t) (refused 6) narrow tt (good_if (has_token is_wide_token t) (refused 5) (outcome_by s r) tt (request_good r))
 
-    command_good : (name : CommandName) (ts : Trees) → IsGood (outcome_by s name ts)
-    command_good declare_const_name (trees (leaf x) (trees sort no_trees)) = named_declaration (symbol_name x) no_trees sort
-    command_good declare_fun_name (trees (leaf x) (trees (node arguments) (trees sort no_trees))) = named_declaration (symbol_name x) arguments sort
-    command_good define_fun_name (trees (leaf x) (trees (node parameters) (trees sort (trees body no_trees)))) = named_definition (symbol_name x) parameters sort body
-    command_good assert_name (trees t no_trees) = assertion_good t
-    command_good get_value_name (trees (node ts) no_trees) = values_good ts
-    command_good check_sat_name ts = tt
-    command_good get_model_name ts = tt
-    command_good get_info_name (trees (leaf k) no_trees) =
-        info_good (is_the_keyword (codes ":name") k) (is_the_keyword (codes ":version") k) (is_the_keyword (codes ":authors") k) (is_the_keyword (codes ":error-behavior") k) (is_the_keyword (codes ":assertion-stack-levels") k)
-    command_good set_option_name (trees (leaf k) (trees (leaf v) no_trees)) = option_good (is_the_keyword (codes ":print-success") k) (is_symbol (codes "true") v)
-    command_good set_info_name ts = tt
-    command_good set_logic_name ts = tt
-    command_good echo_name (trees (leaf (literal bs)) no_trees) = tt
-    command_good exit_name ts = tt
-    command_good name ts = tt
-
-    named_good : (name : CommandName) (ts : Trees) → IsGood (outcome_named s name ts)
-    named_good name ts =
-        let taken : Outcome = if not (takes_command s name ts) then not_taken else outcome_by s name ts in
-        let narrow : Outcome = if have_token is_wide_token ts then refused 5 else taken in
-        let within : Outcome = if passes_limit s name ts || have_token is_long_decimal ts then refused 6 else narrow in
-        good_if (not (has_form name ts)) (refused 1) within tt
-        (good_if (passes_limit s name ts || have_token is_long_decimal ts) (refused 6) narrow tt
-        (good_if (have_token is_wide_token ts) (refused 5) taken tt
-        (good_if (not (takes_command s name ts)) not_taken (outcome_by s name ts) tt (command_good name ts))))
-
-    headed_good : (m : Option (List ℕ)) (ts : Trees) → IsGood (elim m [ Some name ↦ outcome_named s (command_name name) ts | None ↦ refused 1 ])
-    headed_good (Some name) ts = named_good (command_name name) ts
-    headed_good None ts = tt
+    parsed_good : (t : Tree) (m : Option Request) → IsGood (elim m [ Some r ↦ outcome_requested s t r | None ↦ refused 1 ])
+    parsed_good t (Some r) = requested_good t r
+    parsed_good t None = tt
 
     outcome_good : (t : Tree) → IsGood (outcome_of s t)
-    outcome_good (leaf t) = tt
-    outcome_good (node no_trees) = tt
-    outcome_good (node (trees (node inner) ts)) = tt
-    outcome_good (node (trees (leaf t) ts)) =
-        good_if (not (is_name t)) (refused 1) (elim (symbol_name t) [ Some name ↦ outcome_named s (command_name name) ts | None ↦ refused 1 ]) tt (headed_good (symbol_name t) ts)
+    outcome_good t = parsed_good t (request_of t)
 
   -- ---- States
 
@@ -264,7 +251,7 @@ module _ (a : Assignment) (given : IsAssignment a) where
   sound_sorts : (s : State) → IsSound s → HaveTheirSorts s a
   sound_sorts s sound =
       record {
-        terms = λ tree t e. value_is a [] t (found_is (term_of (scope_of s) tree) t (tree_sorted a [] (scope_of s) tree (scope_is s sound)) e);
+        terms = λ written t e. value_is a [] t (found_is (term_of (scope_of s) written) t (term_sorted a [] (scope_of s) written (scope_is s sound)) e);
         assertions = statements_are (assertions_of s) sound.assertions;
       }
 

@@ -41,26 +41,6 @@ is_long_decimal (hexadecimal bs) = false
 is_long_decimal (binary bs) = false
 is_long_decimal (literal bs) = false
 
--- the number of a numeral, and 0 for any other token
-abbrev pub numeral_value : Token → ℕ
-numeral_value (numeral bs) = digits_value bs
-numeral_value (symbol name) = 0
-numeral_value (keyword bs) = 0
-numeral_value (decimal bs) = 0
-numeral_value (hexadecimal bs) = 0
-numeral_value (binary bs) = 0
-numeral_value (literal bs) = 0
-
--- a numeral or a decimal of value zero
-abbrev pub is_zero_token : Token → Bool
-is_zero_token (numeral bs) = digits_value bs == 0
-is_zero_token (decimal bs) = digits_value (decimal_digits bs) == 0
-is_zero_token (symbol name) = false
-is_zero_token (keyword bs) = false
-is_zero_token (hexadecimal bs) = false
-is_zero_token (binary bs) = false
-is_zero_token (literal bs) = false
-
 -- some token of the tree, at any depth, is so
 abbrev mutual
   pub has_token : (Token → Bool) → Tree → Bool

@@ -1,10 +1,8 @@
--- The terms that trees stand for (SMT-LIB 2.6, sections 3.6 and 4.2.3, and the theories Core and Reals_Ints): names in scope,
+-- The terms that are written (SMT-LIB 2.6, sections 3.6 and 4.2.3, and the theories Core and Reals_Ints): names in scope,
 -- sorts, `let` in parallel, and definitions by their bodies.
 use Rattle.std.specs.Prelude.{◌≡◌, ℕ, zero, suc, ◌&&◌, ◌||◌, ◌==◌, nat_lt, Bool, true, List, [], ◌∷◌, ◌++◌, length, Option, Some, None, option_map, option_and_then, is_some, unwrap_or, slice_get, ⊤, codes, bytes_eq, if◌then◌else◌}
 use Rattle.std.specs.List.{AllByRecursion}
-use Rattle.nz_spec.specs.Tree.{Token, symbol, keyword, numeral, decimal, hexadecimal, binary, literal, symbol_name, after_point, Tree, leaf, node, Trees, no_trees, trees}
-use Rattle.nz_spec.specs.Form.{tree_symbol, term_head, name_head, let_head, no_head}
-use Rattle.nz_spec.specs.Bounds.{digits_value, decimal_digits}
+use Rattle.nz_spec.specs.Expression.{Numeric, numeric_head, Expression, written_number, written_name, written_use, written_let, Expressions, no_expressions, expressions, Locals, no_locals, locals}
 use Rattle.nz_spec.specs.Term.{Sort, bool_sort, int_sort, real_sort, sort_of, head_fits, NumberSort, over_int, over_real, are_same_sort, Constant, Head, constant, parameter, integer, decimal_number, verum, falsum, negation, conjunction, disjunction, implication, exclusion, equality, distinction, choice, less, at_most, greater, at_least, sum, difference, product, quotient, integer_quotient, modulus, magnitude, to_real, to_int, is_int, Term, apply, Terms, no_terms, terms, Value, Assignment, default_value, head_value, value_of, values_of}
 use Rattle.nz_spec.specs.Normal.{normal_of, normals_of}
 
@@ -296,7 +294,7 @@ is_declared cs ds name = is_operator name || is_some (constant_named cs name) ||
 abbrev pub binding : Scope → List (List ℕ × Term) → Scope
 binding sc ps = record { constants = sc.constants; definitions = sc.definitions; bound = ps ++ sc.bound }
 
--- ---- Terms of trees
+-- ---- Terms of what is written
 
 -- what a name alone stands for: a bound term, a truth value, a constant, or a definition without parameters
 abbrev pub name_term : Scope → List ℕ → Option Term
@@ -321,65 +319,32 @@ application sc name ts =
       | None ↦ (if is_some (constant_named sc.constants name) then None else option_and_then (λ d. expansion d ts) (definition_named sc.definitions name))
     ])
 
--- the term of a numeral or a decimal that is a number
-abbrev pub fitting : Head → Option Term
-fitting h = if head_fits h then Some (apply h no_terms) else None
-
-abbrev pub token_term : Scope → Token → Option Term
-token_term sc (symbol name) = name_term sc name
-token_term sc (numeral bs) = fitting (integer (digits_value bs))
-token_term sc (decimal bs) = fitting (decimal_number (digits_value (decimal_digits bs)) (length (after_point bs)))
-token_term sc (keyword bs) = None
-token_term sc (hexadecimal bs) = None
-token_term sc (binary bs) = None
-token_term sc (literal bs) = None
+-- the term of a number, where it is within the bounds on numbers
+abbrev pub number_term : Option Numeric → Option Term
+number_term (Some n) = if head_fits (numeric_head n) then Some (apply (numeric_head n) no_terms) else None
+number_term None = None
 
 -- a name with what it stands for, before others
-abbrev pub bound_onto : Option (List ℕ) → Option Term → Option (List (List ℕ × Term)) → Option (List (List ℕ × Term))
-bound_onto (Some name) (Some t) (Some ps) = Some ((name, t) ∷ ps)
+abbrev pub bound_onto : List ℕ → Option Term → Option (List (List ℕ × Term)) → Option (List (List ℕ × Term))
+bound_onto name (Some t) (Some ps) = Some ((name, t) ∷ ps)
 bound_onto name t ps = None
 
--- The term of a tree in a scope, if it has one.
+-- The term that is written so in a scope, if there is one. The bindings of a `let` are read in the scope of the whole, all at
+-- once, and its body under all of them.
 abbrev mutual
-  pub term_of : Scope → Tree → Option Term
-  term_of sc (leaf t) = token_term sc t
-  term_of sc (node no_trees) = None
-  term_of sc (node (trees (node inner) ts)) = None
-  term_of sc (node (trees (leaf t) ts)) =
-      elim (term_head t) [
-        | let_head ↦ let_term sc ts
-        | name_head ↦ elim (symbol_name t) [ Some name ↦ option_and_then (application sc name) (terms_of sc ts) | None ↦ None ]
-        | no_head ↦ None
-      ]
+  pub term_of : Scope → Expression → Option Term
+  term_of sc (written_number n) = number_term n
+  term_of sc (written_name name) = name_term sc name
+  term_of sc (written_use name es) = option_and_then (application sc name) (terms_of sc es)
+  term_of sc (written_let ls e) = elim (bindings_of sc ls) [ Some ps ↦ term_of (binding sc ps) e | None ↦ None ]
 
-  pub terms_of : Scope → Trees → Option Terms
-  terms_of sc no_trees = Some no_terms
-  terms_of sc (trees t ts) = terms_onto (term_of sc t) (terms_of sc ts)
+  pub terms_of : Scope → Expressions → Option Terms
+  terms_of sc no_expressions = Some no_terms
+  terms_of sc (expressions e es) = terms_onto (term_of sc e) (terms_of sc es)
 
-  -- The bindings are read in the scope of the whole, all at once, and the body under all of them.
-  pub let_term : Scope → Trees → Option Term
-  let_term sc no_trees = None
-  let_term sc (trees bs no_trees) = None
-  let_term sc (trees bs (trees body no_trees)) = elim (bindings_in sc bs) [ Some ps ↦ term_of (binding sc ps) body | None ↦ None ]
-  let_term sc (trees bs (trees body (trees t ts))) = None
-
-  pub bindings_in : Scope → Tree → Option (List (List ℕ × Term))
-  bindings_in sc (leaf t) = None
-  bindings_in sc (node bs) = bindings_of sc bs
-
-  pub bindings_of : Scope → Trees → Option (List (List ℕ × Term))
-  bindings_of sc no_trees = Some []
-  bindings_of sc (trees b bs) = binding_onto sc b (bindings_of sc bs)
-
-  pub binding_onto : Scope → Tree → Option (List (List ℕ × Term)) → Option (List (List ℕ × Term))
-  binding_onto sc (leaf t) ps = None
-  binding_onto sc (node ts) ps = bound_pair sc ts ps
-
-  pub bound_pair : Scope → Trees → Option (List (List ℕ × Term)) → Option (List (List ℕ × Term))
-  bound_pair sc no_trees ps = None
-  bound_pair sc (trees x no_trees) ps = None
-  bound_pair sc (trees x (trees t no_trees)) ps = bound_onto (tree_symbol x) (term_of sc t) ps
-  bound_pair sc (trees x (trees t (trees u us))) ps = None
+  pub bindings_of : Scope → Locals → Option (List (List ℕ × Term))
+  bindings_of sc no_locals = Some []
+  bindings_of sc (locals name e ls) = bound_onto name (term_of sc e) (bindings_of sc ls)
 
 -- ---- Laws
 
@@ -388,9 +353,9 @@ pub record ScopeFits (ss : List Sort) (sc : Scope) : Type 0 where
   pub bound : AllByRecursion (λ (p : List ℕ × Term). RootFits ss p.1) sc.bound
   pub definitions : AllByRecursion (λ (d : Definition). RootFits d.parameters d.body) sc.definitions
 
--- So is the term of a tree.
+-- So is the term of what is written.
 abbrev pub TermFits : Type 0
-TermFits = (ss : List Sort) (sc : Scope) → ScopeFits ss sc → (t : Tree) (u : Term) → term_of sc t ≡ Some u → RootFits ss u
+TermFits = (ss : List Sort) (sc : Scope) → ScopeFits ss sc → (e : Expression) (u : Term) → term_of sc e ≡ Some u → RootFits ss u
 
 -- A use of a definition has the sort of its body.
 abbrev pub ExpansionKeepsSort : Type 0

@@ -1,14 +1,16 @@
+pub mod Argument
 pub mod Atoms
 pub mod Bounds
 pub mod Command
 pub mod Decide
 pub mod Elaboration
 pub mod Example
-pub mod Form
+pub mod Expression
 pub mod Fraction
 pub mod Gates
 pub mod Infinitesimal
 pub mod Kept
+pub mod Limits
 pub mod Linear
 pub mod Literal
 pub mod Live
@@ -18,8 +20,10 @@ pub mod Numerals
 pub mod Operations
 pub mod Order
 pub mod Outside
+pub mod Parse
 pub mod Reading
 pub mod Reply
+pub mod Request
 pub mod Right
 pub mod Run
 pub mod Samples
@@ -28,7 +32,6 @@ pub mod Script
 pub mod Sorts
 pub mod Steps
 pub mod Table
-pub mod Taken
 pub mod Term
 pub mod TermList
 pub mod Text

@@ -1,19 +1,16 @@
 -- The live state (SMT-LIB 2.6, section 4.1; νZ 2015 for goals and wishes): a stack of levels of items, what the last answer
 -- shows while it stands, and the options.
-use Rattle.std.specs.Prelude.{ℕ, suc, ◌-◌, Bool, true, false, List, [], ◌∷◌, ◌++◌, map, length, Option, None, if◌then◌else◌}
+use Rattle.std.specs.Prelude.{ℕ, suc, ◌-◌, Bool, true, false, List, [], ◌∷◌, ◌++◌, map, flat_map, length, Option, None, if◌then◌else◌}
+use Rattle.std.specs.List.{list_any}
 use Rattle.nz_spec.specs.Fraction.{Fraction}
 use Rattle.nz_spec.specs.Tree.{Tree}
-use Rattle.nz_spec.specs.Term.{int_sort, Constant, constant, integer, choice, Term, apply, no_terms, terms}
+use Rattle.nz_spec.specs.Term.{int_sort, Constant, constant, integer, choice, holds_number, Term, apply, no_terms, terms}
 use Rattle.nz_spec.specs.Normal.{normal_of}
 use Rattle.nz_spec.specs.Elaboration.{Definition}
 use Rattle.nz_spec.specs.Model.{Binding}
+use Rattle.nz_spec.specs.Request.{Direction}
 
 -- ---- Items
-
--- which value of its term a goal seeks
-pub data Direction : Type 0 where
-  least : Direction
-  greatest : Direction
 
 -- a goal, with the tree by which it is shown
 pub record Goal : Type 0 where
@@ -156,3 +153,7 @@ grown s i = record s { levels = with_item s.levels (record { number = s.next; it
 -- how many levels were pushed
 abbrev pub pushed_levels : State → ℕ
 pushed_levels s = length s.levels - 1
+
+-- a term of an item is of sort Int or Real, or is made of one that is
+abbrev pub items_hold_numbers : List Item → Bool
+items_hold_numbers items = list_any holds_number (flat_map item_terms items)

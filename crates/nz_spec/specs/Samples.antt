@@ -1,10 +1,11 @@
 -- Short texts with what they stand for: the trees and the terms of worked values.
-use Rattle.std.specs.Prelude.{ℕ, suc, false, List, [], ◌∷◌, ◌++◌, map, length, Option, None, option_map, codes}
+use Rattle.std.specs.Prelude.{ℕ, suc, false, List, [], ◌∷◌, ◌++◌, map, length, Option, None, option_map, option_and_then, codes}
 use Rattle.nz_spec.specs.Tree.{Tree, node, no_trees}
 use Rattle.nz_spec.specs.Text.{Heard, What, intact, faulty, unclosed, unread, script_limits}
 use Rattle.nz_spec.specs.Reading.{reading_start, hear_on}
 use Rattle.nz_spec.specs.Term.{Sort, bool_sort, int_sort, real_sort, Constant, Head, constant, parameter, integer, less, quotient, to_real, Term, apply, no_terms, terms, Value, truth, value_of}
 use Rattle.nz_spec.specs.Normal.{paired, normal_of}
+use Rattle.nz_spec.specs.Parse.{expression_of}
 use Rattle.nz_spec.specs.Elaboration.{Definition, Scope, term_of}
 use Rattle.nz_spec.specs.Live.{Item, declared, defined, LiveItem, LastAnswer, State}
 use Rattle.nz_spec.specs.Command.{Outcome}
@@ -84,7 +85,7 @@ sample_scope = record { constants = sample_constants; definitions = sample_defin
 
 -- the term of a text among these, its normal term, and its value where it holds no constant
 abbrev pub sample_term : List ℕ → Option Term
-sample_term text = term_of sample_scope (tree_in text)
+sample_term text = option_and_then (term_of sample_scope) (expression_of (tree_in text))
 
 abbrev pub normal_in : List ℕ → Option Term
 normal_in text = option_map normal_of (sample_term text)

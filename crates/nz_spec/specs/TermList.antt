@@ -3,8 +3,7 @@ use Rattle.std.specs.Prelude.{◌≡◌, not, Bool, List, [], ◌++◌, flat_map
 use Rattle.std.specs.List.{list_any}
 use Rattle.nz_spec.specs.Term.{Term, sort_of, is_bool}
 use Rattle.nz_spec.specs.Order.{listing_order, AreFirst}
-use Rattle.nz_spec.specs.Live.{State, items_of, item_terms}
-use Rattle.nz_spec.specs.Taken.{items_hold_numbers}
+use Rattle.nz_spec.specs.Live.{State, items_of, item_terms, items_hold_numbers}
 
 -- The live items add their terms in the order of acceptance, and then the assumed terms are added. A term is added behind all
 -- that it is made of, a `mod` behind the `div` of the same arguments, and an `is_int` behind the `to_int`. What is in the list

@@ -1,4 +1,5 @@
 //! Laws of commands.
+ghost use Rattle.nz_spec.specs.Argument.{ArgumentTells};
 ghost use Rattle.nz_spec.specs.TermList.{NumbersAreListed};
 ghost use Rattle.nz_spec.specs.WorkedScript.{HasAdditions, HasAsking, HasEffects, HasRefusals};
 
@@ -13,4 +14,9 @@ pub fn worked_script()
 /// The live items hold a number exactly where their term list has one.
 pub fn numbers_are_listed()
     ensures listed { NumbersAreListed }
+{}
+
+/// What a reply shows of its command stands in the command's argument.
+pub fn argument_tells()
+    ensures tells { ArgumentTells }
 {}

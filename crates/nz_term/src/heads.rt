@@ -4,7 +4,7 @@ ghost use Rattle.std.specs.Cmp.{on_equiv, on_per, partial_equiv_from_equiv};
 ghost use Rattle.std.specs.Cmp.Lexicographic.{bytes_decides, nat_list_eq_equiv};
 ghost use Rattle.std.specs.Hash.{on_Alike, same_Alike};
 ghost use Rattle.nz_spec.specs.Elaboration.{numbers_at};
-ghost use Rattle.nz_spec.specs.Term.{head_sort, sort_over};
+ghost use Rattle.nz_spec.specs.Term.{head_fits, head_sort, sort_over};
 ghost use Rattle.nz_term.specs.Constants.{number_sort_of, sort_of};
 ghost use Rattle.nz_term.specs.Heads.{head_of};
 ghost use Rattle.nz_term.specs.Parts.{digits_in, fed_of, kind_of, name_in, parts_of, place_in, sort_number};
@@ -12,6 +12,12 @@ ghost use Rattle.nz_term.specs.Parts.{digits_in, fed_of, kind_of, name_in, parts
 use nz_base::Text;
 use std::alloc::AllocError;
 use std::hash::{Hash, Hasher};
+
+/// The greatest number that a numeral, or the digits of a decimal, may spell.
+const LARGEST: u128 = 0x7fff_ffff_ffff_ffff_ffff_ffff_ffff_ffff;
+
+/// How many digits of a decimal may stand after its point.
+const PLACE_LIMIT: usize = 38;
 
 /// A sort.
 #[derive(Clone, Copy, Debug, PartialEq, Eq, Hash)]
@@ -136,6 +142,18 @@ impl Head {
             Head::Integer(_) | Head::Div | Head::Mod | Head::Abs | Head::ToInt => Sort::Int,
             Head::Decimal(_, _) | Head::Quotient | Head::ToReal => Sort::Real,
             _ => Sort::Bool,
+        }
+    }
+
+    /// Whether what is spelled as a number is one: a numeral is at most 2^127 - 1, and so are the digits of a decimal, of which at
+    /// most 38 stand after the point. Every other head fits.
+    pub fn fits(&self) -> bool
+        ensures fits { result ≡ head_fits (head_of self.now) }
+    {
+        match self {
+            Head::Integer(number) => *number <= LARGEST,
+            Head::Decimal(digits, places) => *digits <= LARGEST && *places <= PLACE_LIMIT,
+            _ => true,
         }
     }
 

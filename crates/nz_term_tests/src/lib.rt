@@ -2,6 +2,8 @@
 #![tactic(auto)]
 
 #[cfg(test)]
+mod elaborate;
+#[cfg(test)]
 mod sort;
 #[cfg(test)]
 mod term;

@@ -1,11 +1,12 @@
-//! Of `nz_sort`: the form of commands, and tests of their tokens, on trees of the standard's and of this program's own; and the live state.
+//! Of `nz_command`: the form of commands, and their numbers, on trees of the standard's and of this program's own; and of `nz_sort`: the live state.
 ghost use Rattle.std.specs.Prelude.{IfOk};
 ghost use Rattle.nz_spec.specs.Live.{State};
 ghost use Rattle.nz_sort.specs.Live.{IsLive};
 
 use nz_base::{Memory, Text};
+use nz_command::{number_faults, parse};
 use nz_sexpr::{Token, Tree, TreeList};
-use nz_sort::{Accepted, Act, Live, Refusal, TokenTest, has_token, is_of_form};
+use nz_sort::{Accepted, Act, Live, Refusal};
 use nz_term::Terms;
 use std::alloc::Global;
 use std::mem;
@@ -66,7 +67,8 @@ fn takes_what_is_of_its_form(rt: HostRuntime) -> Result<(), Fail> {
         "frob 1 ( )",
     ];
     for command in commands {
-        assert_eq!(rt; is_of_form(&list(rt.alloc(), command)?), true, "{command}");
+        let tree = list(rt.alloc(), command)?;
+        assert!(rt; parse(rt.alloc(), &tree)?.is_some(), "{command}");
     }
     Ok(())
 }
@@ -100,7 +102,8 @@ fn refuses_what_is_not(rt: HostRuntime) -> Result<(), Fail> {
         "check-sat 1",
     ];
     for command in commands {
-        assert_eq!(rt; is_of_form(&list(rt.alloc(), command)?), false, "{command}");
+        let tree = list(rt.alloc(), command)?;
+        assert!(rt; parse(rt.alloc(), &tree)?.is_none(), "{command}");
     }
     Ok(())
 }
@@ -118,8 +121,8 @@ fn tells_wide_numbers(rt: HostRuntime) -> Result<(), Fail> {
         ),
     ];
     for (command, want) in commands {
-        let is_wide = has_token(&list(rt.alloc(), command)?, TokenTest::Wide);
-        assert_eq!(rt; is_wide, want, "{command}");
+        let faults = number_faults(&list(rt.alloc(), command)?);
+        assert_eq!(rt; faults.wide, want, "{command}");
     }
     Ok(())
 }
@@ -131,8 +134,8 @@ fn tells_long_decimals(rt: HostRuntime) -> Result<(), Fail> {
         ("f 0.000000000000000000000000000000000000001", true),
     ];
     for (command, want) in commands {
-        let is_long = has_token(&list(rt.alloc(), command)?, TokenTest::LongDecimal);
-        assert_eq!(rt; is_long, want, "{command}");
+        let faults = number_faults(&list(rt.alloc(), command)?);
+        assert_eq!(rt; faults.long, want, "{command}");
     }
     Ok(())
 }
@@ -149,7 +152,7 @@ fn commanded(live: &mut Live, terms: &mut Terms, tree: &Tree) -> Result<Act, Ref
 fn after(alloc: Global, commands: &[&str]) -> Result<(Live, Terms), Fail>
     ensures live { IfOk result (λ left. (s : State) × IsLive left.1 left.0 s) }
 {
-    let mut live = Live::new(alloc);
+    let mut live = Live::new(alloc)?;
     let mut terms = Terms::new(alloc)?;
     for command in commands {
         commanded(&mut live, &mut terms, &list(alloc, command)?)?;
@@ -203,7 +206,7 @@ fn nothing_is_sought_or_wished_yet(rt: HostRuntime) -> Result<(), Fail> {
 
 /// What comes of each of the commands in turn, told in one word.
 fn outcomes(alloc: Global, commands: &[&str]) -> Result<Vec<&'static str>, Fail> {
-    let mut live = Live::new(alloc);
+    let mut live = Live::new(alloc)?;
     let mut terms = Terms::new(alloc)?;
     let mut words = Vec::new(alloc);
     for command in commands {

@@ -4,7 +4,7 @@ use Rattle.std.proofs.lemmas.List.{take_all}
 use Rattle.std.proofs.lemmas.List.Folds.{list_all_at}
 use Rattle.nz_spec.specs.Linear.{is_linear}
 use Rattle.nz_spec.specs.Table.{term_in}
-use Rattle.nz_sort.specs.declared.typed.Typed.{Typed}
+use Rattle.nz_elaborate.specs.declared.typed.Typed.{Typed}
 use Rattle.nz_sort.proofs.AskedValues.{linear_each}
 use Rattle.nz_sort.proofs.live.are_linear.Goals as goal
 

@@ -2,7 +2,7 @@ use Rattle.std.proofs.Common.{◌≡◌, true, take}
 use Rattle.std.specs.List.{list_all}
 use Rattle.nz_spec.specs.Linear.{is_linear}
 use Rattle.nz_spec.specs.Table.{term_in}
-use Rattle.nz_sort.specs.declared.typed.Typed.{Typed}
+use Rattle.nz_elaborate.specs.declared.typed.Typed.{Typed}
 use Rattle.nz_sort.proofs.live.are_linear.Given as goal
 
 -- those so far are linear

@@ -8,7 +8,7 @@ returns-in-Ok g c =
     let desk = c.args.self.now in
     let last : desk.last ≡ Some (Model c.in-Some-Model.model) = search rules in
     record {
-      right = λ x t k h e q.
-          values_answer g.E.Decide.levels g.E.Decide.table x t k c.args.asked.now c.in-Ok.shows c.in-Some-Model.model c.said.result desk
-          c.said.ensures.said h last e q c.in-Ok.ensures.shown;
+      right = λ x t r k h parsed e q.
+          values_answer g.E.Decide.levels g.E.Decide.table c.argument_tells.ensures.tells x t r k c.args.asked.now c.in-Ok.shows c.in-Some-Model.model c.said.result desk
+          c.said.ensures.said h last parsed e q c.in-Ok.ensures.shown;
     }

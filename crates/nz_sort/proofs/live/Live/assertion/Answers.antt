@@ -1,50 +1,53 @@
-use Rattle.std.proofs.Common.{◌∙◌, ap, sym, Err}
-use Rattle.nz_sexpr.specs.View.{view}
+use Rattle.std.proofs.Common.{◌≡◌, ◌∙◌, ◌<◌, length, true, Err, ap, sym, rules}
+use Rattle.nz_command.specs.View.{view as written}
+use Rattle.nz_spec.specs.Term.{are_same_sort, bool_sort}
+use Rattle.nz_spec.specs.Elaboration.{term_of}
+use Rattle.nz_spec.specs.Scoping.{has_clash}
+use Rattle.nz_spec.specs.Script.{scope_of}
+use Rattle.nz_term.specs.Constants.{sort_of}
+use Rattle.nz_elaborate.specs.Elaborate.{is_unknown_in}
 use Rattle.nz_sort.specs.Acts.{error_of}
 use Rattle.nz_sort.specs.Live.{Standing}
-use Rattle.nz_sort.proofs.Asserting.{faulty_assertion, untyped_assertion, missorted_assertion, nonlinear_assertion, linear_assertion}
-use Rattle.nz_sort.proofs.Living.{alike_term}
-use Rattle.nz_sort.proofs.Ruling.{if_some_by}
+use Rattle.nz_sort.proofs.Asserting.{term_outcome, linear_assertion}
+use Rattle.nz_sort.proofs.Living.{companions_made, grows_more, live_scope, stands_kept}
+use Rattle.nz_sort.proofs.Ruling.{if_some_by, refused_by_error}
 use Rattle.nz_sort.proofs.live.Live.assertion.Goals as goal
+
+pub is_linear-requires : goal.is_linear-requires
+is_linear-requires c =
+    let names = ap (λ (st : Standing). st.names) c.self.view_is in
+    record { within = (c.in-Ok.ensures.found (scope_of c.requires.live.0) (live_scope _ c.args.self.now _ _ names c.requires.live.1)).holds.typed.within }
 
 pub returns-in-Err-clause-refused : goal.returns-in-Err-clause-refused
 returns-in-Err-clause-refused c =
     let names = ap (λ (st : Standing). st.names) c.self.view_is in
-    if_some_by (error_of c.in-Err.refusal)
-    (λ n e s live. faulty_assertion s (view c.args.tree.now) n
-    (alike_term _ c.args.self.now s _ _ (view c.args.tree.now) _ _ names c.new-bound.ensures.items live c.in_ok-faults.ensures.unknown c.in_ok-faults.ensures.clash
-    ∙ c.in-Err.ensures.refused ∙ e))
+    let e = written c.args.term.now in
+    if_some_by (error_of c.refusal_of.result)
+    (λ n told s live.
+    let scope = live_scope _ c.args.self.now s _ names live in
+    refused_by_error c.in-Err.error c.refusal_of.result n (is_unknown_in (scope_of s) e) (has_clash e) (term_outcome (term_of (scope_of s) e)) c.refusal_of.ensures.refusal told
+    (λ is. c.in-Err.ensures.unknown (ap Err is) (scope_of s) scope)
+    (λ is. c.in-Err.ensures.clash (ap Err is) (scope_of s) scope)
+    (λ is. let h = c.in-Err.ensures.refused (ap Err is) (scope_of s) scope in record { known = h.known; distinct = h.distinct; holds = ap term_outcome h.holds }))
 
-pub returns-in-Err-Sort-clause-refused : goal.returns-in-Err-Sort-clause-refused
-returns-in-Err-Sort-clause-refused c = λ s live.
-    let names = ap (λ (st : Standing). st.names) c.self.view_is in
-    untyped_assertion s (view c.args.tree.now)
-    (alike_term _ c.args.self.now s _ _ (view c.args.tree.now) _ _ names c.new-bound.ensures.items live c.in_ok-faults.ensures.unknown c.in_ok-faults.ensures.clash
-    ∙ c.in_default.ensures.none)
-    (c.in-Err-Sort.ensures.refused (ap Err c.in-Err-Sort.field-0-is) s live)
+pub returns-in_ok-add_companions-in-Ok-clause-grows : goal.returns-in_ok-add_companions-in-Ok-clause-grows
+returns-in_ok-add_companions-in-Ok-clause-grows c = grows_more _ _ _ c.in-Ok.ensures.grows c.in_ok-add_companions-in-Ok.ensures.grows
 
-pub returns-then-not-is_bool-clause-refused : goal.returns-then-not-is_bool-clause-refused
-returns-then-not-is_bool-clause-refused c = λ s live.
-    let names = ap (λ (st : Standing). st.names) c.self.view_is in
-    let known =
-    alike_term _ c.args.self.now s _ _ (view c.args.tree.now) _ _ names c.new-bound.ensures.items live c.in_ok-faults.ensures.unknown c.in_ok-faults.ensures.clash ∙ c.in_default.ensures.none in
-    let found = c.in-Ok.ensures.found s live in
-    missorted_assertion s (view c.args.tree.now) _ c.in-Ok.term known found (sym c.is_bool.ensures.bool ∙ c.if-not-is_bool.true)
+pub returns-in_ok-add_companions-in-Ok-clause-companions : goal.returns-in_ok-add_companions-in-Ok-clause-companions
+returns-in_ok-add_companions-in-Ok-clause-companions c =
+    companions_made c.args.terms.now c.elaborate.new.terms c.add_companions.new.terms c.mark-mark.result c.mark-mark.ensures.mark c.in-Ok.ensures.grows c.requires.live.1.companions
+    c.in_ok-add_companions-in-Ok.ensures.companions
 
-pub returns-then-not-is_linear-clause-refused : goal.returns-then-not-is_linear-clause-refused
-returns-then-not-is_linear-clause-refused c = λ s live.
+pub returns-in_ok-add_companions-in-Ok-clause-within : goal.returns-in_ok-add_companions-in-Ok-clause-within
+returns-in_ok-add_companions-in-Ok-clause-within c =
     let names = ap (λ (st : Standing). st.names) c.self.view_is in
-    let known =
-    alike_term _ c.args.self.now s _ _ (view c.args.tree.now) _ _ names c.new-bound.ensures.items live c.in_ok-faults.ensures.unknown c.in_ok-faults.ensures.clash ∙ c.in_default.ensures.none in
-    let found = c.in-Ok.ensures.found s live in
-    nonlinear_assertion s (view c.args.tree.now) _ c.in-Ok.term known found (sym c.is_bool.ensures.bool ∙ c.if-not-is_bool.false)
-    (sym c.is_linear.ensures.linear ∙ c.if-not-is_linear.true)
+    let found = c.in-Ok.ensures.found (scope_of c.requires.live.0) (live_scope _ c.args.self.now _ _ names c.requires.live.1) in
+    (stands_kept c.elaborate.new.terms c.add_companions.new.terms c.in_ok-add_companions-in-Ok.ensures.grows c.in-Ok.made.id found.holds.typed.within).within
 
-pub returns-clause-accepted : goal.returns-clause-accepted
-returns-clause-accepted c = λ s live.
+pub returns-in_ok-add_companions-in-Ok-clause-accepted : goal.returns-in_ok-add_companions-in-Ok-clause-accepted
+returns-in_ok-add_companions-in-Ok-clause-accepted c = λ s live.
     let names = ap (λ (st : Standing). st.names) c.self.view_is in
-    let known =
-    alike_term _ c.args.self.now s _ _ (view c.args.tree.now) _ _ names c.new-bound.ensures.items live c.in_ok-faults.ensures.unknown c.in_ok-faults.ensures.clash ∙ c.in_default.ensures.none in
-    let found = c.in-Ok.ensures.found s live in
-    linear_assertion s (view c.args.tree.now) _ c.in-Ok.term known found (sym c.is_bool.ensures.bool ∙ c.if-not-is_bool.false)
-    (sym c.is_linear.ensures.linear ∙ c.if-not-is_linear.false)
+    let found = c.in-Ok.ensures.found (scope_of s) (live_scope _ c.args.self.now s _ names live) in
+    let bool : are_same_sort bool_sort (sort_of c.in-Ok.made.sort) ≡ true = search rules in
+    linear_assertion s (written c.args.term.now) c.elaborate.new.terms c.add_companions.new.terms c.in-Ok.made found bool (sym c.is_linear.ensures.linear ∙ c.if-not-is_linear.false)
+    (stands_kept c.elaborate.new.terms c.add_companions.new.terms c.in_ok-add_companions-in-Ok.ensures.grows c.in-Ok.made.id found.holds.typed.within)

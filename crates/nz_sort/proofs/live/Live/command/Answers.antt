@@ -1,16 +1,46 @@
-use Rattle.std.proofs.Common.{◌∙◌, sym, subst}
-use Rattle.nz_sexpr.specs.View.{view, seen}
-use Rattle.nz_spec.specs.Script.{outcome_of}
-use Rattle.nz_sort.specs.Acts.{asked, error_of}
-use Rattle.nz_sort.specs.Live.{Leaves}
-use Rattle.nz_sort.proofs.Ruling.{if_some_weaker}
+use Rattle.std.proofs.Common.{Ok, Err, refl}
+use Rattle.nz_sexpr.specs.View.{view}
+use Rattle.nz_spec.specs.Parse.{request_of}
+use Rattle.nz_sort.proofs.Living.{cut_back}
+use Rattle.nz_sort.proofs.Ruling.{carried, broken, some_comes}
 use Rattle.nz_sort.proofs.live.Live.command.Goals as goal
 
 pub returns-in-Ok-clause-accepted : goal.returns-in-Ok-clause-accepted
 returns-in-Ok-clause-accepted c = λ s live.
-    subst (λ ts. Leaves s ts (outcome_of s (view c.args.tree.now)) (asked c.in-Ok.act) c.named.new.terms c.named.new.self) (sym c.in-Some.ensures.arguments)
-    (subst (λ o. Leaves s (seen c.in-Some.arguments.now) o (asked c.in-Ok.act) c.named.new.terms c.named.new.self) (sym (c.in-Some.ensures.command s)) (c.in-Ok.ensures.accepted s live))
+    let t = view c.args.tree.now in
+    carried c.args.terms.now c.carried_out.new.terms c.args.self.now c.carried_out.new.self t (request_of t) c.in-Ok.act s refl c.in-Ok.ensures.comes live
 
 pub returns-in-Err-clause-refused : goal.returns-in-Err-clause-refused
 returns-in-Err-clause-refused c =
-    if_some_weaker (error_of c.in-Err.refusal) (λ n told s live. c.in-Some.ensures.command s ∙ told s live) c.in-Err.ensures.refused
+    let t = view c.args.tree.now in
+    broken c.args.terms.now c.carried_out.new.terms c.args.self.now c.carried_out.new.self t (request_of t) c.in-Err.refusal refl c.in-Err.ensures.comes
+
+pub returns-in-Ok-clause-kept : goal.returns-in-Ok-clause-kept
+returns-in-Ok-clause-kept c =
+    let t = view c.args.tree.now in
+    (some_comes c.args.terms.now c.carried_out.new.terms c.args.self.now c.carried_out.new.self t (request_of t) (Ok c.in-Ok.act) c.in-Ok.ensures.comes).2.kept
+
+pub returns-in-Ok-clause-skipped_terms : goal.returns-in-Ok-clause-skipped_terms
+returns-in-Ok-clause-skipped_terms c =
+    let t = view c.args.tree.now in
+    (some_comes c.args.terms.now c.carried_out.new.terms c.args.self.now c.carried_out.new.self t (request_of t) (Ok c.in-Ok.act) c.in-Ok.ensures.comes).2.skipped_terms
+
+pub returns-in-Ok-clause-skipped : goal.returns-in-Ok-clause-skipped
+returns-in-Ok-clause-skipped c =
+    let t = view c.args.tree.now in
+    (some_comes c.args.terms.now c.carried_out.new.terms c.args.self.now c.carried_out.new.self t (request_of t) (Ok c.in-Ok.act) c.in-Ok.ensures.comes).2.skipped
+
+pub returns-in-Ok-clause-front : goal.returns-in-Ok-clause-front
+returns-in-Ok-clause-front c =
+    let t = view c.args.tree.now in
+    (some_comes c.args.terms.now c.carried_out.new.terms c.args.self.now c.carried_out.new.self t (request_of t) (Ok c.in-Ok.act) c.in-Ok.ensures.comes).2.front
+
+pub returns-in-Err-clause-unchanged : goal.returns-in-Err-clause-unchanged
+returns-in-Err-clause-unchanged c =
+    let t = view c.args.tree.now in
+    (some_comes c.args.terms.now c.carried_out.new.terms c.args.self.now c.carried_out.new.self t (request_of t) (Err c.in-Err.refusal) c.in-Err.ensures.comes).2.unchanged
+
+pub returns-in-Err-clause-front : goal.returns-in-Err-clause-front
+returns-in-Err-clause-front c =
+    let t = view c.args.tree.now in
+    (some_comes c.args.terms.now c.carried_out.new.terms c.args.self.now c.carried_out.new.self t (request_of t) (Err c.in-Err.refusal) c.in-Err.ensures.comes).2.front

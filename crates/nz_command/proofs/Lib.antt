@@ -1,0 +1,6 @@
+mod Digits
+mod Listing
+mod Members
+mod Parsing
+mod Sizes
+mod TermLists

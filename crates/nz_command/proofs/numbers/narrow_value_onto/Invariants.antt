@@ -1,0 +1,6 @@
+use Rattle.std.proofs.Common.{◌≡◌, drop}
+use Rattle.nz_spec.specs.Bounds.{value_onto}
+use Rattle.nz_command.proofs.numbers.narrow_value_onto.Given as goal
+
+abbrev pub invariant-loop-index : goal.invariant-loop-index
+invariant-loop-index l = value_onto l.fn.start l.digits ≡ value_onto l.value (drop l.index l.digits)

@@ -1,0 +1,5 @@
+pub mod Heads
+pub mod Lists
+pub mod Names
+pub mod Requests
+pub mod View

@@ -1,0 +1,15 @@
+pub mod Answering
+pub mod Applying
+pub mod Defining
+pub mod Elaborating
+pub mod Expanding
+pub mod Growing
+pub mod NameTerms
+pub mod Naming
+pub mod Normalizing
+pub mod Operating
+pub mod ScopeTerms
+pub mod Scoping
+pub mod Sizes
+pub mod Staying
+pub mod Telling

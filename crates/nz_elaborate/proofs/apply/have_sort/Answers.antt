@@ -1,0 +1,20 @@
+use Rattle.std.proofs.Common.{◌≡◌, ◌∙◌, rules}
+use borrow.Author.Tests.{tests}
+use Rattle.std.specs.List.{list_all}
+use Rattle.std.proofs.lemmas.Iterator.{YieldsList-from_slice}
+use Rattle.std.proofs.lemmas.Iterator.Search.{all_from_yields_List}
+use Rattle.nz_spec.specs.Term.{are_same_sort}
+use Rattle.nz_term.specs.Constants.{sort_of}
+use Rattle.nz_elaborate.specs.declared.typed.Typed.{Typed}
+use Rattle.nz_elaborate.proofs.Applying.{sorts_typed}
+use Rattle.nz_elaborate.proofs.apply.have_sort.Goals as goal
+
+pub returns : goal.returns
+returns c =
+    record {
+      sort = λ ns ts typed.
+          let each : c.all.result ≡ list_all (λ (x : Typed). are_same_sort (sort_of c.args.sort) (sort_of x.sort)) c.args.arguments.now =
+          all_from_yields_List (λ (x : Typed). are_same_sort (sort_of c.args.sort) (sort_of x.sort)) _ _ c.all.result c.all.ensures.ran (YieldsList-from_slice c.args.arguments.now cc)
+          (λ x b q k. search (rules, tests)) in
+          each ∙ sorts_typed (are_same_sort (sort_of c.args.sort)) ns c.args.arguments.now ts typed;
+    }

@@ -1,0 +1,14 @@
+use Rattle.std.proofs.Common.{◌≡◌, ◌<◌, length, drop, All}
+use Rattle.nz_spec.specs.Normal.{neighbours_of}
+use Rattle.nz_spec.specs.Table.{term_in, terms_at}
+use Rattle.nz_elaborate.specs.Typed.{Grows, terms_before}
+use Rattle.nz_elaborate.specs.Links.{link_pair}
+use Rattle.nz_elaborate.proofs.normal.chained.Given as goal
+
+-- the pairs so far, and those of what is left, are the whole
+abbrev pub invariant-loop-i : goal.invariant-loop-i
+invariant-loop-i l = record {
+  grown : Grows l.fn.terms l.terms;
+  within : All (λ i. i < length l.terms) l.links.items;
+  made : terms_before (term_in l.terms) l.links.items (neighbours_of (link_pair l.link) (terms_at (term_in l.fn.terms) (drop l.i l.kids))) ≡ neighbours_of (link_pair l.link) (terms_at (term_in l.fn.terms) l.kids);
+}

@@ -1,0 +1,12 @@
+use Rattle.std.proofs.Common.{map}
+use Rattle.nz_command.specs.View.{view as written}
+use Rattle.nz_command.specs.Requests.{sort_view, parameter_view}
+use Rattle.nz_sort.proofs.Defining.{comes_defined}
+use Rattle.nz_sort.proofs.live.Live.define.Goals as goal
+
+pub returns-in-Ok-add_definition : goal.returns-in-Ok-add_definition
+returns-in-Ok-add_definition c =
+    record {
+      comes = comes_defined c.term_stays.ensures.stays _ _ _ _ c.args.name.now (map parameter_view c.args.parameters.now) (sort_view c.args.sort.now) (written c.args.body.now) c.in-Ok.definition
+          c.in-Ok.ensures.grows c.in-Ok.ensures.companions c.in-Ok.ensures.accepted c.in-Ok-add_definition.ensures.added;
+    }

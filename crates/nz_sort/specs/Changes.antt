@@ -1,0 +1,105 @@
+-- What is added to what stands, and what comes of a command.
+use Rattle.std.specs.Prelude.{◌≡◌, ℕ, ◌||◌, ◌+◌, not, Bool, List, [], ◌∷◌, ◌++◌, length, take, Option, Some, None, slice_get, ◌⊎◌, Result, OnErr, IfOk, IfErr, IfSome}
+use Rattle.nz_spec.specs.Tree.{Tree}
+use Rattle.nz_spec.specs.Term.{Sort, is_bool, Constant, constant, Term, Terms, apply, no_terms}
+use Rattle.nz_spec.specs.Normal.{normal_of}
+use Rattle.nz_spec.specs.Table.{Node, term_in}
+use Rattle.nz_spec.specs.Elaboration.{Definition as SpecDefinition, RootFits}
+use Rattle.nz_spec.specs.Request.{Question, Request, other_request}
+use Rattle.nz_spec.specs.Live.{State}
+use Rattle.nz_spec.specs.Command.{define, assert_term, get_value, Outcome, accepted, refused}
+use Rattle.nz_spec.specs.Script.{asked_of, outcome_requested}
+use Rattle.nz_term.specs.Constants.{sort_of}
+use Rattle.nz_elaborate.specs.declared.typed.Typed.{Typed}
+use Rattle.nz_elaborate.specs.declared.names.Definition.{Definition}
+use Rattle.nz_elaborate.specs.declared.names.Named.TheVariants as kinds
+use Rattle.nz_elaborate.specs.Names.{IsDefined}
+use Rattle.nz_elaborate.specs.Typed.{StandsFor, AreTyped}
+use Rattle.nz_sort.specs.declared.acts.Act.{Act}
+use Rattle.nz_sort.specs.declared.refusal.Refusal.{Refusal}
+use Rattle.nz_sort.specs.Acts.{asked, error_of}
+use Rattle.nz_sort.specs.Live.{Standing, IsLive, Leaves, IfSkipped}
+
+-- ---- What comes of a command
+
+-- What comes of a command that is written so, over what stood before, where this becomes of it: what it leaves and asks, or the
+-- rule that it breaks; and what stays.
+pub record Comes (old new : List Node) (before after : Standing) (r : Request) (becomes : State → Outcome) (result : Result Act Refusal) : Type 0 where
+  pub accepted : IfOk result (λ act. (s : State) → IsLive old before s → Leaves s r (becomes s) (asked act) new after)
+  pub refused : IfErr result (λ refusal. IfSome (error_of refusal) (λ n. (s : State) → IsLive old before s → becomes s ≡ refused n))
+  pub kept : take (length old) new ≡ old
+  pub unchanged : OnErr result (after ≡ before)
+  pub skipped_terms : IfOk result (λ act. IfSkipped (asked act) (new ≡ old))
+  pub skipped : IfOk result (λ act. IfSkipped (asked act) (after ≡ before))
+  pub front : take (length before.asserted) after.asserted ≡ before.asserted
+
+-- What comes of a tree that is this command, or none.
+abbrev pub ComesBy : List Node → List Node → Standing → Standing → Tree → Option Request → Result Act Refusal → Type 0
+ComesBy old new before after t (Some r) result = Comes old new before after r (λ s. outcome_requested s t r) result
+ComesBy old new before after t None result = Comes old new before after other_request (λ s. refused 1) result
+
+-- ---- Definitions, assertions and values
+
+-- A definition of this name is accepted, and this is it; its body is no parameter, or one that fits.
+pub record Defines (name : List ℕ) (outcome : Outcome) (ns : List Node) (d : Definition) : Type 0 where
+  pub definition : SpecDefinition
+  pub is : outcome ≡ accepted (define definition)
+  pub named : definition.name ≡ name
+  pub defined : IsDefined ns d definition
+  pub fits : RootFits definition.parameters definition.body
+
+-- The assertion of a term is accepted, and this is the number of its normal one.
+pub record Asserts (outcome : Outcome) (ns : List Node) (id : ℕ) : Type 0 where
+  pub term : Term
+  pub is : outcome ≡ accepted (assert_term term)
+  pub stands : StandsFor ns id (normal_of term)
+
+-- To ask for the values of these terms is accepted, and these are they.
+pub record Shows (qs : List Question) (outcome : Outcome) (ns : List Node) (xs : List Typed) : Type 0 where
+  pub terms : Terms
+  pub is : outcome ≡ accepted (get_value (asked_of qs terms))
+  pub typed : AreTyped ns xs terms
+
+-- ---- What is added
+
+abbrev pub constant_of : List ℕ → Sort → Constant
+constant_of name sort = record { name = name; sort = sort }
+
+-- what stands with a constant more
+abbrev pub with_constant : Standing → List ℕ → Typed → Standing
+with_constant before name term =
+    record before {
+      names = before.names ++ (name, kinds.Constant term) ∷ [];
+      constants = before.constants ++ record { number = before.next; term = term.id } ∷ [];
+      accepted = before.accepted ++ term.id ∷ [];
+      next = before.next + 1;
+      holds_numbers = before.holds_numbers || not (is_bool (sort_of term.sort));
+    }
+
+-- what stands with a definition more
+abbrev pub with_definition : Standing → List ℕ → Definition → Standing
+with_definition before name definition =
+    record before {
+      names = before.names ++ (name, kinds.Definition definition) ∷ [];
+      next = before.next + 1;
+    }
+
+-- what stands with an assertion more
+abbrev pub with_assertion : Standing → ℕ → Bool → Standing
+with_assertion before id holds =
+    record before {
+      assertions = before.assertions ++ record { number = before.next; term = id } ∷ [];
+      asserted = before.asserted ++ id ∷ [];
+      accepted = before.accepted ++ id ∷ [];
+      next = before.next + 1;
+      holds_numbers = before.holds_numbers || holds;
+    }
+
+-- The table and what stands have this constant more.
+pub record HasAdded (name : List ℕ) (sort : Sort) (old new : List Node) (before after : Standing) : Type 0 where
+  pub added : Typed
+  pub stands : after ≡ with_constant before name added
+  pub sorted : sort_of added.sort ≡ sort
+  pub node : slice_get new added.id ≡ Some (record { head = constant (constant_of name sort); kids = [] })
+  pub grown : (new ≡ old) ⊎ (new ≡ old ++ record { head = constant (constant_of name sort); kids = [] } ∷ [])
+  pub term : term_in new added.id ≡ apply (constant (constant_of name sort)) no_terms
