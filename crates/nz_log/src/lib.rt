@@ -6,11 +6,16 @@ mod gates;
 pub mod laws;
 mod lits;
 mod log;
+mod note;
 mod origins;
 mod sets;
 mod steps;
+mod stop;
 
+pub use gates::gate_count;
 pub use lits::Lit;
 pub use log::Log;
+pub use note::Note;
 pub use origins::{ClauseId, Link};
 pub use steps::Step;
+pub use stop::Stop;

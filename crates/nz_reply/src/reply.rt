@@ -5,8 +5,9 @@ ghost use Rattle.nz_reply.specs.Replies.{KeptStay};
 ghost use Rattle.nz_reply.specs.Values.{shown_of};
 ghost use Rattle.nz_term.specs.Values.{value_of};
 
-use nz_base::{Lines, Memory};
+use nz_base::{Error, Lines, Memory};
 use nz_frac::Wide;
+use nz_log::Note;
 use nz_sexpr::Heard;
 use nz_spec::table::term_stays;
 use nz_term::{Constant, Sort, TermId, Value};
@@ -201,15 +202,7 @@ pub enum Reply {
     Echo,
     /// The program doesn't take the command.
     Unsupported,
-    /// An error, by its number.
-    Error(u8),
-}
-
-/// A line of a work list that is no unit.
-#[derive(Debug, Drop)]
-pub enum Note {
-    /// The next atom is the Boolean term of this number.
-    Atom(TermId),
+    Error(Error),
 }
 
 /// The work of a check that used all of its units.

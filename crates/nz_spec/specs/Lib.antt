@@ -4,12 +4,14 @@ pub mod Bounds
 pub mod Command
 pub mod Decide
 pub mod Elaboration
+pub mod Error
 pub mod Example
 pub mod Expression
 pub mod Fraction
 pub mod Gates
 pub mod Infinitesimal
 pub mod Kept
+pub mod Legal
 pub mod Limits
 pub mod Linear
 pub mod Literal
