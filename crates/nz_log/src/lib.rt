@@ -2,7 +2,6 @@
 //! resolution, from the assertions that are live at its level, and the log tells how.
 #![tactic(auto)]
 
-mod errors;
 mod gates;
 pub mod laws;
 mod lits;
@@ -11,7 +10,6 @@ mod origins;
 mod sets;
 mod steps;
 
-pub use errors::LogStop;
 pub use lits::Lit;
 pub use log::Log;
 pub use origins::{ClauseId, Link};

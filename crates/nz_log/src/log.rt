@@ -8,7 +8,6 @@ ghost use Rattle.nz_log.specs.Sound.{IsLog, live_at};
 ghost use Rattle.nz_log.specs.Spelling.{AreStepsOf};
 ghost use Rattle.nz_log.specs.Stored.{entry_of, origin_of};
 
-use crate::errors::LogStop;
 use crate::gates::gate_literals;
 use crate::lits::Lit;
 use crate::origins::{ClauseId, Link, Origin, Stored};
@@ -55,7 +54,7 @@ impl Log {
     }
 
     /// Puts a clause under a number that had none.
-    fn put(&mut self, stored: Stored) -> Result<ClauseId, LogStop>
+    fn put(&mut self, stored: Stored) -> Result<ClauseId, Memory>
         requires rests { (id : ℕ) → ((i : ℕ) → IsLive self.old i → i < id) → RestsOn self.old id stored.level (origin_of stored.origin) }
         ensures made { IfOk result (λ id. Puts self.old id (entry_of stored) self.new) }
         ensures unchanged { OnErr result (self.new ≡ self.old) }
@@ -141,7 +140,7 @@ impl Log {
     /// # Errors
     ///
     /// `Memory`. Then the log is as before.
-    pub fn given(&mut self, k: usize, term: TermId, level: usize) -> Result<ClauseId, LogStop>
+    pub fn given(&mut self, k: usize, term: TermId, level: usize) -> Result<ClauseId, Memory>
         ensures made { IfOk result (λ id. Puts self.old id (given_entry self.old k term level) self.new) }
         ensures unchanged { OnErr result (self.new ≡ self.old) }
         // Where the assertion is the one of this place that is live at the level, the log stays in order.
@@ -161,7 +160,7 @@ impl Log {
     /// # Errors
     ///
     /// `Memory`. Then the log is as before.
-    pub fn gate(&mut self, terms: &Terms, term: TermId, j: usize) -> Result<ClauseId, LogStop>
+    pub fn gate(&mut self, terms: &Terms, term: TermId, j: usize) -> Result<ClauseId, Memory>
         requires within { term < length terms.now }
         requires table { j < length (gates_at terms.now term) }
         ensures made { IfOk result (λ id. Puts self.old id (gate_entry terms.now self.old term j) self.new) }
@@ -224,7 +223,7 @@ impl Log {
     /// # Errors
     ///
     /// `Memory`. Then the log is as before.
-    pub fn chain(&mut self, first: ClauseId, links: &[Link]) -> Result<ClauseId, LogStop>
+    pub fn chain(&mut self, first: ClauseId, links: &[Link]) -> Result<ClauseId, Memory>
         requires first { IsLive self.old first }
         requires live { All (λ k. IsLive self.old k.clause) links.now }
         requires some { 0 < length links.now }
@@ -254,7 +253,7 @@ impl Log {
         first: ClauseId,
         second: ClauseId,
         literal: Lit,
-    ) -> Result<ClauseId, LogStop>
+    ) -> Result<ClauseId, Memory>
         requires first { IsLive self.old first }
         requires second { IsLive self.old second }
         ensures made { IfOk result (λ id. Puts self.old id (resolvent_entry self.old first second literal) self.new) }

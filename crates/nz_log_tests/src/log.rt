@@ -4,7 +4,7 @@ ghost use Rattle.nz_log.specs.Lits.{gates_at};
 ghost use Rattle.nz_log.specs.Logs.{IsLive};
 
 use nz_base::{Memory, Text};
-use nz_log::{ClauseId, Lit, Log, LogStop, Step};
+use nz_log::{ClauseId, Lit, Log, Step};
 use nz_term::{Constant, Head, Sort, TermId, Terms};
 use std::alloc::Global;
 use std::test::Fail;
@@ -30,7 +30,7 @@ fn negation(terms: &mut Terms, kid: TermId) -> Result<TermId, Memory>
 }
 
 // The empty clause from two assertions, a term and its negation, and the clause of the gate table that ties them.
-fn refute(log: &mut Log, terms: &Terms, term: TermId, negation: TermId) -> Result<ClauseId, LogStop>
+fn refute(log: &mut Log, terms: &Terms, term: TermId, negation: TermId) -> Result<ClauseId, Memory>
     requires within { negation < length terms.now }
     requires table { 0 < length (gates_at terms.now negation) }
     ensures live { IfOk result (IsLive log.new) }
