@@ -9,7 +9,7 @@ use Rattle.nz_command.specs.Requests.{entry}
 use Rattle.nz_command.proofs.Parsing.{before, parsed_next, parsed_none}
 
 module _ {A : Type 0} (table : List (Bor (List ℕ) × A)) (i : ℕ) (z : Bor (List ℕ) × A) (word : List ℕ) (known : Option A) (below : i < length table) (item : z ≡ get_or table i z)
-  (is : known ≡ listed_with (map entry (drop i table)) word) where
+    (is : known ≡ listed_with (map entry (drop i table)) word) where
   here : known ≡ listed_with (entry z ∷ map entry (drop (suc i) table)) word
   here = is ∙ ap (λ l. listed_with (map entry l) word) (drop-cons table i z below) ∙ ap (λ e. listed_with (entry e ∷ map entry (drop (suc i) table)) word) (sym item)
 

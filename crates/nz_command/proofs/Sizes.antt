@@ -18,4 +18,3 @@ tree_smaller (u ∷ us) t more = omega (arith, tree_smaller us t more)
 pub item_smaller : {X : Type 0} (f : X → Tree) (xs : List X) (i : ℕ) (x : X) → i < length xs → x ≡ get_or xs i x → tree_size (f x) < trees_size (trees_from (map f xs))
 item_smaller f xs i x below is =
     omega (arith, tree_smaller (map f (take i xs)) (f x) (map f (drop (suc i) xs)), ap (λ l. trees_size (trees_from l)) (map_round f xs i x below is))
-

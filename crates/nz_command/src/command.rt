@@ -93,12 +93,7 @@ pub enum InfoKey {
 pub enum Command<'a> {
     /// A name, the sorts of its arguments and its own: `declare-const`, `declare-fun`.
     Declare(&'a Text, Vec<WrittenSort<'a>>, WrittenSort<'a>),
-    Define(
-        &'a Text,
-        Vec<Parameter<'a>>,
-        WrittenSort<'a>,
-        Expression<'a>,
-    ),
+    Define(&'a Text, Vec<Parameter<'a>>, WrittenSort<'a>, Expression<'a>),
     Assert(Expression<'a>),
     AssertSoft(Expression<'a>, Attributes<'a>),
     /// `minimize`, `maximize`.

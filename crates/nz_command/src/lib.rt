@@ -17,5 +17,5 @@ pub use command::{
     Setting, WrittenSort,
 };
 pub use expression::{Expression, Local, Number};
-pub use numbers::{NumberFaults, number_faults};
 pub use grammar::parse;
+pub use numbers::{NumberFaults, number_faults};

@@ -216,10 +216,7 @@ impl Attributes<'_> {
 }
 
 /// The weight and the group of a wish, in any order, each at most once, with what was told before.
-pub(crate) fn attributes_onto<'a>(
-    found: Attributes<'a>,
-    list: &'a [Tree],
-) -> Option<Attributes<'a>>
+pub(crate) fn attributes_onto<'a>(found: Attributes<'a>, list: &'a [Tree]) -> Option<Attributes<'a>>
     ensures parsed { option_map attributes_view result ≡ parse.attributes_onto (attributes_view found.entry) (seen list.now) }
 {
     match first_two(list) {

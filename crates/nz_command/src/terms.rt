@@ -72,10 +72,7 @@ fn named_head(name: &Text) -> TermHead<'_>
 
 /// The term that a list of these trees is.
 #[cycle(terms)]
-fn list_expression<'a>(
-    alloc: Global,
-    list: &'a [Tree],
-) -> Result<Option<Expression<'a>>, Memory>
+fn list_expression<'a>(alloc: Global, list: &'a [Tree]) -> Result<Option<Expression<'a>>, Memory>
     ensures parsed { IfOk result (λ e. option_map views.view e ≡ parse.expression_of (node (seen list.now))) }
 {
     let Some((head, arguments)) = headed(list) else {
@@ -123,10 +120,7 @@ fn expressions<'a>(alloc: Global, list: &'a [Tree]) -> Result<Option<Vec<Express
 
 /// One binding or more, and the term in which they hold.
 #[cycle(terms)]
-fn let_expression<'a>(
-    alloc: Global,
-    list: &'a [Tree],
-) -> Result<Option<Expression<'a>>, Memory>
+fn let_expression<'a>(alloc: Global, list: &'a [Tree]) -> Result<Option<Expression<'a>>, Memory>
     ensures parsed { IfOk result (λ e. option_map views.view e ≡ parse.let_in (seen list.now)) }
 {
     let Some((bindings, body)) = pair(list) else {

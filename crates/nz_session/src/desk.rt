@@ -30,13 +30,13 @@ ghost use Rattle.nz_session.specs.Verdicts.{IfSat, OnUnsat, OnSpent};
 use crate::decide::{Decide, Stop, Verdict};
 use crate::values::values_shown;
 use nz_base::{Memory, Work};
+use nz_elaborate::Typed;
 use nz_reply::{
     ALREADY_DECLARED, Binding, Bindings, Cause, INCOMPLETE_COMMAND, Info, LIMIT, NO_ANSWER,
     NOT_LINEAR, NUMBER_TOO_WIDE, Note, OUT_OF_MEMORY, Reason, Reply, SORT, SYNTAX, SpentList,
     UNKNOWN_SYMBOL,
 };
 use nz_sexpr::{Tree, What};
-use nz_elaborate::Typed;
 use nz_sort::{Accepted, Act, Info as InfoAsked, Live, Refusal};
 use nz_spec::script::argument_tells;
 use nz_spec::table::{assigns_by_number, term_of_node};

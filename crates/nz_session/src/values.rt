@@ -6,8 +6,8 @@ ghost use Rattle.nz_elaborate.specs.Typed.{AreTyped};
 ghost use Rattle.nz_session.specs.Valued.{AreShown, numbers_typed, outcome_shown, outcomes_shown};
 
 use nz_base::Memory;
-use nz_reply::{Shown, Shows};
 use nz_elaborate::Typed;
+use nz_reply::{Shown, Shows};
 use nz_spec::term::normal_keeps_value;
 use nz_term::{Assign, Sort, TermId, Terms};
 use nz_truth::{Outcome, outcomes};

@@ -106,4 +106,3 @@ unknown_each (w ∷ ws) = ap (λ b. is_unknown_sort (sort_view w) || b) (unknown
 pub has_arguments : (ws : List code.WrittenSort) (sort : WrittenSort) → nat_eq (length ws) 0 ≡ false → constant_sort (map sort_view ws) sort ≡ None
 has_arguments [] sort e = cc
 has_arguments (w ∷ ws) sort e = refl
-

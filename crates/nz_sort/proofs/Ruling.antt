@@ -213,4 +213,3 @@ pub some_comes : (old new : List Node) (before after : Standing) (t : Tree) (o :
     → (r : Request) × (becomes : State → Outcome) × Comes old new before after r becomes result
 some_comes old new before after t None result h = (other_request, λ s. refused 1, h)
 some_comes old new before after t (Some r) result h = (r, λ s. outcome_requested s t r, h)
-

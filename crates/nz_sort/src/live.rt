@@ -28,9 +28,7 @@ use crate::items::{Accepted, Goal, Wish};
 use crate::limits::passes_limit;
 use crate::refusal::Refusal;
 use nz_base::{Memory, Text};
-use nz_command::{
-    Command, Expression, Parameter, Question, WrittenSort, number_faults, parse,
-};
+use nz_command::{Command, Expression, Parameter, Question, WrittenSort, number_faults, parse};
 use nz_elaborate::{
     Definition, ElaborateError, Named, Names, Typed, elaborate, elaborate_all, elaborate_body,
     is_unknown_sort, written_sort,

@@ -70,6 +70,6 @@ use_of-returns-in-Some t c =
 pub let_expression-returns : goal.let_expression-returns
 let_expression-returns t c =
     let made = bound_parsed views.local_view c.in-Some-2.locals.items (views.view c.in-Some-3.body) _ _ (λ e. grind (arith, nat_tests, e))
-        (ap (option_map (λ (v : Vec Local Global). views.seen_locals v.items)) (sym c.in-Some-2.is) ∙ c.in_ok-locals.ensures.parsed)
-        (ap (option_map views.view) (sym c.in-Some-3.is) ∙ c.in_ok-body.ensures.parsed) in
+    (ap (option_map (λ (v : Vec Local Global). views.seen_locals v.items)) (sym c.in-Some-2.is) ∙ c.in_ok-locals.ensures.parsed)
+    (ap (option_map views.view) (sym c.in-Some-3.is) ∙ c.in_ok-body.ensures.parsed) in
     search (rules, made, c.in-Some.ensures.two, c.in_ok-new.ensures.ok, the_lemmas, fold-roll-Expression, fold_out-Expression, fold-roll-Local, fold_out-Local)
