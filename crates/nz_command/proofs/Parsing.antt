@@ -1,5 +1,5 @@
 -- Lists whose members are parsed one after another: there is a list where each member is one.
-use Rattle.std.proofs.Common.{◌≡◌, ℕ, suc, ◌<◌, ◌≤◌, ◌+◌, List, [], ◌∷◌, ◌++◌, length, map, drop, get_or, Option, Some, None, refl, sym, ap, ◌∙◌, drop-cons, add-one}
+use Rattle.std.proofs.Common.{◌≡◌, ℕ, suc, ◌<◌, ◌+◌, List, [], ◌∷◌, ◌++◌, length, map, drop, get_or, Option, Some, None, refl, sym, ap, ◌∙◌, drop-cons, add-one}
 use Rattle.std.proofs.lemmas.List.{map-append}
 
 module _ {E : Type 0} {L : Type 0} (onto : Option E → Option L → Option L) where

@@ -1,6 +1,6 @@
 -- The trees of a list are smaller than the list.
-use Rattle.std.proofs.Common.{◌≡◌, ℕ, ◌<◌, ◌+◌, zero, suc, List, [], ◌∷◌, ◌++◌, length, map, take, drop, get_or, ap, arith}
-use Rattle.nz_spec.specs.Tree.{symbol, Tree, leaf, node, no_trees, trees}
+use Rattle.std.proofs.Common.{◌≡◌, ℕ, ◌<◌, zero, suc, List, [], ◌∷◌, ◌++◌, length, map, take, drop, get_or, ap, arith}
+use Rattle.nz_spec.specs.Tree.{Tree}
 use Rattle.nz_spec.specs.Reading.{trees_from}
 use Rattle.nz_sexpr.specs.Sizes.{tree_size, trees_size}
 

@@ -1,8 +1,7 @@
 -- The data that commands of the code stand for.
-use Rattle.std.specs.Prelude.{ℕ, Bool, true, false, List, map, Option, Some, None, option_map}
+use Rattle.std.specs.Prelude.{ℕ, List, map, Option, Some, None, option_map}
 use Rattle.std.specs.Borrow.{Bor}
 use Rattle.nz_sexpr.specs.View as trees
-use Rattle.nz_spec.specs.Expression.{Numeric}
 use Rattle.nz_spec.specs.Request as spec
 use Rattle.nz_command.specs.View.{number_view, view}
 use Rattle.nz_command.specs.declared.command.Direction as direction

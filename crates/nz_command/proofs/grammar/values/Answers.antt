@@ -1,4 +1,4 @@
-use Rattle.std.proofs.Common.{option_map, map, ap, sym, ◌∙◌, Vec, Global, arith, rules}
+use Rattle.std.proofs.Common.{option_map, map, ap, sym, ◌∙◌, Vec, Global, arith}
 use Rattle.std.proofs.lemmas.Bool.Decides.{nat_tests}
 use Rattle.nz_spec.specs.Request.{shows_values}
 use Rattle.nz_spec.specs.Parse.{one, within, some_questions}

@@ -1,4 +1,4 @@
-use Rattle.std.proofs.Common.{sym, ap, ◌∙◌}
+use Rattle.std.proofs.Common.{sym}
 use Rattle.nz_command.proofs.Members.{not_listed, is_listed, listed_nowhere}
 use Rattle.nz_command.proofs.names.listed_with.Goals as goal
 

@@ -1,4 +1,3 @@
-use Rattle.std.proofs.Common.{option_map, ap, sym, ◌∙◌}
 use Rattle.nz_spec.specs.Parse.{parameter_of}
 use Rattle.nz_command.specs.Requests.{parameter_view}
 use Rattle.nz_command.proofs.Members.{each_next, each_none, each_end}

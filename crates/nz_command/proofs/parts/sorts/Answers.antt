@@ -1,4 +1,3 @@
-use Rattle.std.proofs.Common.{option_map, ap, sym, ◌∙◌}
 use Rattle.nz_spec.specs.Parse.{sort_of}
 use Rattle.nz_command.specs.Requests.{sort_view}
 use Rattle.nz_command.proofs.Members.{each_next, each_none, each_end}
