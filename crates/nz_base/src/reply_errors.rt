@@ -3,6 +3,9 @@ ghost use Rattle.std.specs.Prelude.{◌≡◌};
 ghost use Rattle.nz_spec.specs.Error.{error_number, error_text};
 ghost use Rattle.nz_base.specs.Errors.{error_of};
 
+use crate::Memory;
+use std::alloc::AllocError;
+
 /// What was wrong with a command, or with what stands outside any.
 #[derive(Clone, Copy, Debug, PartialEq, Eq)]
 pub enum Error {
@@ -67,5 +70,25 @@ impl Error {
             Error::Incomplete => b"incomplete command",
             Error::OutOfMemory => b"out of memory",
         }
+    }
+}
+
+impl From<Memory> for Error {
+    ghost use Rattle.nz_base.specs.declared.reply_errors.Error.TheVariants as errors;
+
+    ghost from_gives = { λ _ e. e ≡ errors.OutOfMemory };
+
+    fn from(_memory: Memory) -> Error {
+        Error::OutOfMemory
+    }
+}
+
+impl From<AllocError> for Error {
+    ghost use Rattle.nz_base.specs.declared.reply_errors.Error.TheVariants as errors;
+
+    ghost from_gives = { λ _ e. e ≡ errors.OutOfMemory };
+
+    fn from(_error: AllocError) -> Error {
+        Error::OutOfMemory
     }
 }

@@ -5,7 +5,7 @@ ghost use Rattle.nz_reply.specs.Replies.{KeptStay};
 ghost use Rattle.nz_reply.specs.Values.{shown_of};
 ghost use Rattle.nz_term.specs.Values.{value_of};
 
-use nz_base::{Lines, Memory};
+use nz_base::{Error, Lines, Memory};
 use nz_frac::Wide;
 use nz_sexpr::Heard;
 use nz_spec::table::term_stays;
@@ -201,8 +201,7 @@ pub enum Reply {
     Echo,
     /// The program doesn't take the command.
     Unsupported,
-    /// An error, by its number.
-    Error(u8),
+    Error(Error),
 }
 
 /// A line of a work list that is no unit.
