@@ -27,10 +27,11 @@ pub if_some_weaker : {P Q : spec.Error → Type 0} (o : Option spec.Error) → (
 if_some_weaker None f h = tt
 if_some_weaker (Some e) f h = f e h
 
--- what holds in each state
-pub if_some_each : {L : State → Type 0} {P : State → spec.Error → Type 0} (o : Option spec.Error) → ((s : State) → L s → IfSome o (P s)) → IfSome o (λ e. (s : State) → L s → P s e)
-if_some_each None f = tt
-if_some_each (Some e) f = f
+-- a rule that is broken in each live state
+pub broken_in_each : (ns : List Node) (standing : Standing) (becomes : State → Outcome) (o : Option spec.Error) → ((s : State) → IsLive ns standing s → IfSome o (λ e. becomes s ≡ refused e))
+    → IfSome o (λ e. (s : State) → IsLive ns standing s → becomes s ≡ refused e)
+broken_in_each ns standing becomes None f = tt
+broken_in_each ns standing becomes (Some e) f = f
 
 -- ---- The rules on names
 
