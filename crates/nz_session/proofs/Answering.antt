@@ -1,5 +1,5 @@
 -- What the desk holds after a command, and that its answer is right.
-use Rattle.std.proofs.Common.{◌≡◌, inl, inr, ℕ, ◌≤◌, Bool, true, false, List, [], ◌∷◌, length, map, take, Option, Some, None, Result, IfOk, IfSome, option_map, refl, sym, ap, ◌∙◌, subst, arith, length-take, append-nil}
+use Rattle.std.proofs.Common.{◌≡◌, inl, ℕ, ◌≤◌, Bool, true, false, List, [], ◌∷◌, length, map, take, Option, Some, None, Result, IfOk, option_map, refl, sym, ap, ◌∙◌, subst, arith, length-take, append-nil}
 use Rattle.std.specs.Prelude.{⊤, if◌then◌else◌}
 use Rattle.std.proofs.lemmas.List.{take-take}
 use Rattle.nz_lists.proofs.Fronts.{front_of_more}
@@ -10,15 +10,10 @@ use Rattle.nz_spec.specs.Table.{Node, term_in}
 use Rattle.nz_spec.specs.Decide.{asserted_terms, IsFrontOfTable}
 use Rattle.nz_spec.specs.Model.{IsUnsatisfiable}
 use Rattle.nz_spec.specs.Live.{LastAnswer, model_found, State, Options}
-use Rattle.nz_spec.specs.Command.{Command, Info, declare_const, define, assert_term, check_sat, get_model, get_value, get_info, get_levels, get_reason, set_print_success, no_effect, echo, exit, accepted, refused}
+use Rattle.nz_spec.specs.Command.{Command, Info, declare_const, define, assert_term, check_sat, get_model, get_value, get_info, get_levels, get_reason, set_print_success, no_effect, echo, exit, accepted}
 use Rattle.nz_spec.specs.Script.{outcome_of}
 use Rattle.nz_spec.specs.Reply.{Reply, quiet, success, sat, unsat, unknown, model, values, info, levels as levels_reply, reason, echoed, unsupported, error, Cause, plain}
 use Rattle.nz_spec.specs.Right.{Context, done, IsRightCheck, IsRightCommand, IsRightOutcome, IsRight, IsExit, last_after, effect, effect_of, after}
-use Rattle.nz_spec.specs.Error as spec
-use Rattle.nz_base.specs.Errors.{error_of}
-use Rattle.nz_base.specs.declared.reply_errors.Error.{Error}
-use Rattle.nz_base.specs.declared.reply_errors.Error.TheVariants as errors
-use Rattle.nz_sort.specs.Acts.{rule_of}
 use Rattle.nz_sort.specs.Live.{Standing, IsLive, IsChange}
 use Rattle.nz_session.specs.Told.{IsTold}
 use Rattle.nz_reply.specs.Replies.{reply_of, cause_of, IsCauseWithin}
@@ -31,7 +26,6 @@ use Rattle.nz_session.specs.declared.desk.Desk.{Desk}
 use Rattle.nz_session.specs.declared.desk.Answer.{Answer}
 use Rattle.nz_session.specs.declared.desk.LastAnswer as shown
 use Rattle.nz_reply.specs.declared.reply.Reply as said
-use Rattle.nz_reply.specs.declared.reply.Reply.TheVariants as tells
 use Rattle.nz_reply.specs.declared.reply.Cause.TheVariants as why
 
 -- ---- Assertions that were told
@@ -250,13 +244,6 @@ bound_after : (c : Context) (r : Reply) (w : Cause) → IsRightCheck c [] r w �
 bound_after c (sat bs) w h = h.0.constants
 bound_after c r w h = tt
 
-right_refused : (c : Context) (t : Tree) (e : Error) → IfSome (rule_of e) (λ r. outcome_of c.state t ≡ refused r) → IsRight c (intact t) (error (error_of e)) plain
-right_refused c t errors.OutOfMemory h = inr (refl, refl)
-right_refused c t e h = inl (subst (λ o. IsRightOutcome c o (error (error_of e)) plain) (sym h) (refl, refl))
-
-error_not_done : (e : spec.Error) (o : Options) → error e ≡ done o → ⊥
-error_not_done e o h = elim o.prints_success as (λ b. error e ≡ (if b then success else quiet) → ⊥) [ true ↦ λ x. cc | false ↦ λ x. cc ] h
-
 -- ---- Answers
 
 -- an answer by its reply alone
@@ -294,14 +281,6 @@ module _ {E : Type 0} (levels : E → List (List ℕ)) (table : E → List Node)
       → IsRightCommand c k (done o) plain → Holds levels table desk (next c (effect c.state k (done o))) → (k ≡ exit → ⊥) → IsAnswer levels table c (intact t) answer desk
   done_answer c t k o q answer desk is tells e right holds goes =
       told_answer c t k q (done o) answer desk is tells (done_tells o.prints_success) e right holds goes
-
-  -- one that tells an error: that of the rule which the command breaks, or want of memory
-  pub refused_answer : (c : Context) (t : Tree) (e : Error) (answer : Answer) (desk : Desk E) → answer ≡ plainly (tells.Error e)
-      → IfSome (rule_of e) (λ r. outcome_of c.state t ≡ refused r) → Holds levels table desk c → IsAnswer levels table c (intact t) answer desk
-  refused_answer c t e answer desk is broken h =
-      let right = right_refused c t e broken in
-      subst (λ (a : Answer). IsAnswer levels table c (intact t) a desk) (sym is)
-      (record { right = right; within = tt; holds = holds_next levels table desk c h; exits = λ x. cc; stays = λ x y. error_not_done (error_of e) c.state.options y.1 })
 
   -- one that ends the session
   pub exit_answer : (c : Context) (t : Tree) (q : said.Reply) (desk : Desk E) → reply_of (intact t) q ≡ done c.state.options → outcome_of c.state t ≡ accepted exit
