@@ -6,6 +6,7 @@ use Rattle.nz_spec.specs.Text as script
 use Rattle.nz_spec.specs.Transcript as transcript
 use Rattle.nz_spec.specs.Table.{Node}
 use Rattle.nz_spec.specs.Work.{WorkList}
+use Rattle.nz_base.specs.Errors.{error_of}
 use Rattle.nz_sexpr.specs.View.{heard_view}
 use Rattle.nz_reply.specs.Infos.{info_of}
 use Rattle.nz_log.specs.Notes.{noted_line, AreNotedWithin}
@@ -32,7 +33,7 @@ reply_of what (reply.Levels count) = spec.levels count
 reply_of what (reply.Reason reason) = spec.reason (reason_of reason)
 reply_of what reply.Echo = spec.echoed (echoed_in what)
 reply_of what reply.Unsupported = spec.unsupported
-reply_of what (reply.Error number) = spec.error number
+reply_of what (reply.Error e) = spec.error (error_of e)
 
 abbrev pub spent_of : List Node → SpentList → WorkList spec.Note
 spent_of ns s = record { lines = map (noted_line ns) s.work; limit = s.limit }

@@ -1,7 +1,6 @@
 //! Replies: what they hold and why, their texts, and the journal of what was kept.
 #![tactic(auto)]
 
-mod errors;
 mod number;
 mod reply;
 mod spelling;
@@ -10,10 +9,6 @@ mod text;
 mod tree;
 mod write;
 
-pub use errors::{
-    ALREADY_DECLARED, INCOMPLETE_COMMAND, LIMIT, NO_ANSWER, NOT_LINEAR, NUMBER_TOO_WIDE,
-    OUT_OF_MEMORY, POP_BELOW_ZERO, SORT, SYNTAX, UNKNOWN_SYMBOL,
-};
 pub use reply::{
     Binding, Bindings, Cause, Info, Journal, Kept, Reason, Reply, Shown, Shows, SpentList,
     kept_stay,

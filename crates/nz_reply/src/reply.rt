@@ -5,7 +5,7 @@ ghost use Rattle.nz_reply.specs.Replies.{KeptStay};
 ghost use Rattle.nz_reply.specs.Values.{shown_of};
 ghost use Rattle.nz_term.specs.Values.{value_of};
 
-use nz_base::{Lines, Memory};
+use nz_base::{Error, Lines, Memory};
 use nz_frac::Wide;
 use nz_log::Note;
 use nz_sexpr::Heard;
@@ -202,8 +202,7 @@ pub enum Reply {
     Echo,
     /// The program doesn't take the command.
     Unsupported,
-    /// An error, by its number.
-    Error(u8),
+    Error(Error),
 }
 
 /// The work of a check that used all of its units.

@@ -1,8 +1,9 @@
 //! The texts of replies (SMT-LIB 2.6, section 4.2).
 ghost use Rattle.std.specs.Prelude.{◌≡◌, map, None, Some, IfNone, IfSome};
 ghost use Rattle.nz_sexpr.specs.View.{token_view, view, what_view, seen};
-ghost use Rattle.nz_spec.specs.Reply.{binding_text, echoed, info as info_reply, levels, model as model_reply, operator_text, reason as reason_reply, reply_text, shown_pair_text, shown_text, sort_text, spaced, values, wide_text};
+ghost use Rattle.nz_spec.specs.Reply.{binding_text, echoed, error as error_reply, info as info_reply, levels, model as model_reply, operator_text, reason as reason_reply, reply_text, shown_pair_text, shown_text, sort_text, spaced, values, wide_text};
 ghost use Rattle.nz_spec.specs.Live.{units_spent};
+ghost use Rattle.nz_base.specs.Errors.{error_of};
 ghost use Rattle.nz_reply.specs.Bindings.{binding_of};
 ghost use Rattle.nz_reply.specs.Infos.{info_of};
 ghost use Rattle.nz_reply.specs.Reasons.{reason_of};
@@ -14,13 +15,12 @@ ghost use Rattle.nz_frac.specs.Operations.{operation_of, operator_of};
 ghost use Rattle.nz_term.specs.Constants.{sort_of};
 ghost use Rattle.nz_reply.specs.Writes.{Writes};
 
-use crate::errors::error_text;
 use crate::reply::{Binding, Info, Reason, Reply, Shown};
 use crate::spelling::{Part, write_spelled, write_value};
 use crate::symbol::write_literal;
 use crate::write::{WriteFault, write_parts, write_text};
 use itoa::Buffer;
-use nz_base::Sink;
+use nz_base::{Error, Sink};
 use nz_frac::{Op, Wide};
 use nz_sexpr::{Token, Tree, What};
 use nz_term::{Constant, Sort};
@@ -47,7 +47,7 @@ pub fn write_reply<K: Sink>(sink: &mut K, what: &What, reply: &Reply) -> Result<
         Reply::Reason(reason) => write_reason(sink, *reason),
         Reply::Echo => write_echo(sink, repeated(what)),
         Reply::Unsupported => write_text(sink, b"unsupported\n"),
-        Reply::Error(number) => write_text(sink, error_text(*number)),
+        Reply::Error(error) => write_error(sink, *error),
     }
 }
 
@@ -244,6 +244,17 @@ fn write_units_spent<K: Sink>(sink: &mut K, units: u64) -> Result<(), WriteFault
     let mut digits = Buffer::new();
     let number = digits.format(units).as_bytes();
     write_parts(sink, &[b"(:reason-unknown (spent ", number, b"))\n"])
+}
+
+fn write_error<K: Sink>(sink: &mut K, error: Error) -> Result<(), WriteFault>
+    ensures written { Writes K.held K.faults K.last sink.old sink.new (reply_text (error_reply (error_of error))) result }
+{
+    let mut digits = Buffer::new();
+    let number = digits.format(error.number()).as_bytes();
+    write_parts(
+        sink,
+        &[b"(error \"", number, b" ", error.text(), b"\")\n"],
+    )
 }
 
 /// The text that a command repeats.

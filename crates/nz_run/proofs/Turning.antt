@@ -8,6 +8,7 @@ use Rattle.nz_spec.specs.Text.{Heard, script_limits}
 use Rattle.nz_spec.specs.Kept.{AreToldAs}
 use Rattle.nz_spec.specs.Told.{AreComplete, IsToldFirst}
 use Rattle.nz_spec.specs.Live.{State, start}
+use Rattle.nz_spec.specs.Error.{out_of_memory}
 use Rattle.nz_spec.specs.Reply.{reply_text, error}
 use Rattle.nz_spec.specs.Right.{after}
 use Rattle.nz_spec.specs.Table.{Node}
@@ -26,11 +27,11 @@ written_more : (old new : List Kept) (a b c : Option (List ℕ)) → Appends a b
 written_more old new a b c w n =
     subst (Appends a c) (sym (texts-more old new n.more n.kept)) (Appends-trans a b c (texts_of old) (texts_of n.more) w n.written)
 
-written_cut : (old new : List Kept) (a b c : Option (List ℕ)) → Appends a b (texts_of old) → WritesCut old new b c → Appends a c (texts_of new ++ reply_text (error 11))
+written_cut : (old new : List Kept) (a b c : Option (List ℕ)) → Appends a b (texts_of old) → WritesCut old new b c → Appends a c (texts_of new ++ reply_text (error out_of_memory))
 written_cut old new a b c w n =
-    let all : texts_of old ++ (texts_of n.more ++ reply_text (error 11)) ≡ texts_of new ++ reply_text (error 11) =
-    sym (append_assoc (texts_of old) (texts_of n.more) (reply_text (error 11))) ∙ ap (λ l. l ++ reply_text (error 11)) (sym (texts-more old new n.more n.kept)) in
-    subst (Appends a c) all (Appends-trans a b c (texts_of old) (texts_of n.more ++ reply_text (error 11)) w n.written)
+    let all : texts_of old ++ (texts_of n.more ++ reply_text (error out_of_memory)) ≡ texts_of new ++ reply_text (error out_of_memory) =
+    sym (append_assoc (texts_of old) (texts_of n.more) (reply_text (error out_of_memory))) ∙ ap (λ l. l ++ reply_text (error out_of_memory)) (sym (texts-more old new n.more n.kept)) in
+    subst (Appends a c) all (Appends-trans a b c (texts_of old) (texts_of n.more ++ reply_text (error out_of_memory)) w n.written)
 
 -- ---- An exit is complete only in the bytes of the last read
 

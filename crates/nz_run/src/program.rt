@@ -12,8 +12,8 @@ ghost use Rattle.nz_run.specs.Reading.{IsReading};
 ghost use Rattle.nz_run.specs.Words.{AreTaken, AreUnits};
 
 use crate::words::{Refused, units_of};
-use nz_base::{Memory, Sink, Source};
-use nz_reply::{Journal, Kept, OUT_OF_MEMORY, Reply};
+use nz_base::{Error, Memory, Sink, Source};
+use nz_reply::{Journal, Kept, Reply};
 use nz_session::{Decide, Fed, Session, Trial};
 use nz_term::Terms;
 use std::alloc::Global;
@@ -137,10 +137,7 @@ fn wants_memory(kept: &[Kept]) -> bool
 fn is_out_of_memory(kept: &Kept) -> bool
     ensures memory { (ns : List Node) → result ≡ is_memory_error (kept_of ns kept.now) }
 {
-    match &kept.reply {
-        Reply::Error(number) => *number == OUT_OF_MEMORY,
-        _ => false,
-    }
+    matches!(&kept.reply, Reply::Error(Error::OutOfMemory))
 }
 
 /// Some reply is an error.

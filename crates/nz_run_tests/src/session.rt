@@ -1,7 +1,7 @@
 //! Of `nz_session`: each public call of the session once on its happy path, and a check that finds no memory.
 ghost use Rattle.std.specs.Prelude.{◌≡◌, []};
 
-use nz_base::{Memory, PlainSink, Work};
+use nz_base::{Error, Memory, PlainSink, Work};
 use nz_log::{Note, Stop};
 use nz_reply::{Journal, Reply};
 use nz_session::{Decide, Fed, Session, Trial, Verdict};
@@ -86,14 +86,6 @@ fn run_script<E: Decide>(
     })
 }
 
-/// Whether the reply is the error of this number.
-fn is_error(reply: &Reply, number: u8) -> bool {
-    match reply {
-        Reply::Error(other) => *other == number,
-        _ => false,
-    }
-}
-
 #[test]
 fn a_session_answers_what_is_no_command(rt: HostRuntime) -> Result<(), Fail> {
     let mut sink = PlainSink::new(rt.alloc(), ROOM)?;
@@ -105,8 +97,8 @@ fn a_session_answers_what_is_no_command(rt: HostRuntime) -> Result<(), Fail> {
     let [deep, unclosed] = ended.journal.as_slice() else {
         return Err(Fail::from("two replies"));
     };
-    assert!(rt; is_error(&deep.reply, 6));
-    assert!(rt; is_error(&unclosed.reply, 10));
+    assert!(rt; matches!(&deep.reply, Reply::Error(Error::Limit)));
+    assert!(rt; matches!(&unclosed.reply, Reply::Error(Error::Incomplete)));
     assert_eq!(rt; ended.ended, Fed::Going);
     Ok(())
 }

@@ -10,6 +10,7 @@ use Rattle.nz_spec.specs.Told.{IsTold, IsToldFirst, ReadingTellsFirst}
 use Rattle.nz_spec.specs.Outside.{AddsFrontOf}
 use Rattle.nz_spec.specs.Table.{Node}
 use Rattle.nz_spec.specs.Live.{start}
+use Rattle.nz_spec.specs.Error.{out_of_memory}
 use Rattle.nz_spec.specs.Reply.{reply_text, error}
 use Rattle.nz_spec.specs.Right.{beginning}
 use Rattle.nz_spec.specs.Transcript.{BeginsText, Kept, AreRight, GoesOn, EndsByExit, IsCutOff, things_of, texts_of}
@@ -41,12 +42,12 @@ writes_more old mid new thing a b c w n =
     }
 
 -- and then that memory is wanted
-pub writes_cut : (old mid new : List Kept) (a b c : Option (List ℕ)) → Writes old mid a b → new ≡ mid → Appends b c (reply_text (error 11)) → WritesCut old new a c
+pub writes_cut : (old mid new : List Kept) (a b c : Option (List ℕ)) → Writes old mid a b → new ≡ mid → Appends b c (reply_text (error out_of_memory)) → WritesCut old new a c
 writes_cut old mid new a b c w e n =
     record {
       more = w.more;
       kept = e ∙ w.kept;
-      written = Appends-trans a b c (texts_of w.more) (reply_text (error 11)) w.written n;
+      written = Appends-trans a b c (texts_of w.more) (reply_text (error out_of_memory)) w.written n;
     }
 
 -- a text that was written whole is a front of itself

@@ -8,6 +8,7 @@ use Rattle.nz_spec.specs.Text as spec
 use Rattle.nz_spec.specs.Table.{Node}
 use Rattle.nz_spec.specs.Decide.{IsFrontOfTable}
 use Rattle.nz_spec.specs.Outside.{AddsFrontOf}
+use Rattle.nz_spec.specs.Error.{out_of_memory}
 use Rattle.nz_spec.specs.Reply.{error, reply_text}
 use Rattle.nz_spec.specs.Live.{start}
 use Rattle.nz_spec.specs.Right.{beginning}
@@ -65,8 +66,8 @@ module _ (stay : KeptStay) (ns ms : List Node) (front : IsFrontOfTable ns ms) (k
       }
 
 -- nothing was kept, and a front of the line for want of memory was written
-pub cut_in_part : (thing : spec.Heard) (ks : List Kept) (b c : Option (List ℕ)) → AddsFrontOf b c (reply_text (error 11)) → AnswersInPart thing ks ks b c
-cut_in_part thing ks b c f = record { later = thing ∷ []; heard = refl; text = reply_text (error 11); begins = memory_line refl refl; written = f }
+pub cut_in_part : (thing : spec.Heard) (ks : List Kept) (b c : Option (List ℕ)) → AddsFrontOf b c (reply_text (error out_of_memory)) → AnswersInPart thing ks ks b c
+cut_in_part thing ks b c f = record { later = thing ∷ []; heard = refl; text = reply_text (error out_of_memory); begins = memory_line refl refl; written = f }
 
 -- ---- Right replies, with one more
 

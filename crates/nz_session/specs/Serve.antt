@@ -3,6 +3,7 @@ use Rattle.std.specs.Prelude.{◌≡◌, ℕ, ◌<◌, ◌^◌, Bool, true, fals
 use Rattle.std.specs.Io.KnownBytes.{Appends}
 use Rattle.nz_spec.specs.Text.{Heard, script_limits}
 use Rattle.nz_spec.specs.Live.{start}
+use Rattle.nz_spec.specs.Error.{out_of_memory}
 use Rattle.nz_spec.specs.Reply.{reply_text, error}
 use Rattle.nz_spec.specs.Right.{beginning}
 use Rattle.nz_spec.specs.Transcript.{BeginsText, Kept, AreRight, GoesOn, EndsByExit, context_of, things_of, texts_of, IsFrontBegun, IsCutOff, IsTranscript}
@@ -68,7 +69,7 @@ pub record Writes (old new : List Kept) (before after : Option (List ℕ)) : Typ
 pub record WritesCut (old new : List Kept) (before after : Option (List ℕ)) : Type 0 where
   pub more : List Kept
   pub kept : new ≡ old ++ more
-  pub written : Appends before after (texts_of more ++ reply_text (error 11))
+  pub written : Appends before after (texts_of more ++ reply_text (error out_of_memory))
 
 -- The replies end with that to an accepted exit, and are right; they are those to what is heard first in these bytes.
 pub record HasExited (limit : ℕ) (bytes : List ℕ) (ks : List Kept) : Type 0 where

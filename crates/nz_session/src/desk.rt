@@ -19,7 +19,7 @@ ghost use Rattle.nz_spec.specs.Work.{IsSpent};
 ghost use Rattle.nz_log.specs.Notes.{noted_list, AreNotedWithin};
 ghost use Rattle.nz_reply.specs.Infos.{info_of};
 ghost use Rattle.nz_reply.specs.Replies.{reply_of};
-ghost use Rattle.nz_sort.specs.Acts.{error_of, info_meaning};
+ghost use Rattle.nz_sort.specs.Acts.{info_meaning};
 ghost use Rattle.nz_sort.specs.Items.{table_numbers};
 ghost use Rattle.nz_sort.specs.Live.{AsksValues};
 ghost use Rattle.nz_elaborate.specs.Typed.{AreTyped};
@@ -29,16 +29,12 @@ ghost use Rattle.nz_session.specs.Verdicts.{IfSat, OnUnsat, OnSpent};
 
 use crate::decide::{Decide, Verdict};
 use crate::values::values_shown;
-use nz_base::{Memory, Work};
+use nz_base::{Error, Memory, Work};
 use nz_elaborate::Typed;
 use nz_log::{Note, Stop};
-use nz_reply::{
-    ALREADY_DECLARED, Binding, Bindings, Cause, INCOMPLETE_COMMAND, Info, LIMIT, NO_ANSWER,
-    NOT_LINEAR, NUMBER_TOO_WIDE, OUT_OF_MEMORY, Reason, Reply, SORT, SYNTAX, SpentList,
-    UNKNOWN_SYMBOL,
-};
+use nz_reply::{Binding, Bindings, Cause, Info, Reason, Reply, SpentList};
 use nz_sexpr::{Tree, What};
-use nz_sort::{Accepted, Act, Info as InfoAsked, Live, Refusal};
+use nz_sort::{Accepted, Act, Info as InfoAsked, Live};
 use nz_spec::script::argument_tells;
 use nz_spec::table::{assigns_by_number, term_of_node};
 use nz_spec::term::{decimals_are_numbers, normal_keeps_value, numerals_are_whole};
@@ -121,9 +117,9 @@ impl<E: Decide> Desk<E> {
     {
         match what {
             What::Tree(tree) => self.command(tree),
-            What::Bad(number) => said(Reply::Error(*number)),
-            What::Unclosed => said(Reply::Error(INCOMPLETE_COMMAND)),
-            What::Unread => said(Reply::Error(OUT_OF_MEMORY)),
+            What::Bad(error) => said(Reply::Error(*error)),
+            What::Unclosed => said(Reply::Error(Error::Incomplete)),
+            What::Unread => said(Reply::Error(Error::OutOfMemory)),
         }
     }
 
@@ -135,7 +131,7 @@ impl<E: Decide> Desk<E> {
     {
         argument_tells();
         match self.live.command(&mut self.terms, tree) {
-            Err(refusal) => said(Reply::Error(error_number(refusal))),
+            Err(refusal) => said(Reply::Error(refusal)),
             Ok(Act::Changed) => {
                 self.last = None;
                 said(done(self.prints_success))
@@ -194,7 +190,7 @@ impl<E: Decide> Desk<E> {
                     exits: false,
                 }
             }
-            Err(Stop::Memory) => said(Reply::Error(OUT_OF_MEMORY)),
+            Err(Stop::Memory) => said(Reply::Error(Error::OutOfMemory)),
         }
     }
 
@@ -217,7 +213,7 @@ impl<E: Decide> Desk<E> {
                 self.last = Some(LastAnswer::Model(model));
                 said(Reply::Sat(shown))
             }
-            Err(Memory) => said(Reply::Error(OUT_OF_MEMORY)),
+            Err(Memory) => said(Reply::Error(Error::OutOfMemory)),
         }
     }
 
@@ -228,9 +224,9 @@ impl<E: Decide> Desk<E> {
         match &self.last {
             Some(LastAnswer::Model(model)) => match model.bindings.copy(self.alloc) {
                 Ok(shown) => said(Reply::Model(shown)),
-                Err(Memory) => said(Reply::Error(OUT_OF_MEMORY)),
+                Err(Memory) => said(Reply::Error(Error::OutOfMemory)),
             },
-            _ => said(Reply::Error(NO_ANSWER)),
+            _ => said(Reply::Error(Error::NothingToShow)),
         }
     }
 
@@ -244,10 +240,10 @@ impl<E: Decide> Desk<E> {
             Some(LastAnswer::Model(model)) => {
                 match values_shown(self.alloc, &self.terms, &model.values, asked) {
                     Ok(shows) => said(Reply::Values(shows)),
-                    Err(Memory) => said(Reply::Error(OUT_OF_MEMORY)),
+                    Err(Memory) => said(Reply::Error(Error::OutOfMemory)),
                 }
             }
-            _ => said(Reply::Error(NO_ANSWER)),
+            _ => said(Reply::Error(Error::NothingToShow)),
         }
     }
 
@@ -257,7 +253,7 @@ impl<E: Decide> Desk<E> {
     {
         match &self.last {
             Some(LastAnswer::Undecided(reason)) => said(Reply::Reason(*reason)),
-            _ => said(Reply::Error(NO_ANSWER)),
+            _ => said(Reply::Error(Error::NothingToShow)),
         }
     }
 
@@ -315,23 +311,6 @@ fn info_told(info: InfoAsked) -> Info
         InfoAsked::Version => Info::Version,
         InfoAsked::Authors => Info::Authors,
         InfoAsked::ErrorBehavior => Info::ErrorBehavior,
-    }
-}
-
-/// The number of the error that tells a refusal.
-fn error_number(refusal: Refusal) -> u8
-    ensures told { IfSome (error_of refusal) (λ number. result ≡ number) }
-    ensures memory { IfNone (error_of refusal) (result ≡ 11) }
-{
-    match refusal {
-        Refusal::Syntax => SYNTAX,
-        Refusal::UnknownSymbol => UNKNOWN_SYMBOL,
-        Refusal::Sort => SORT,
-        Refusal::NotLinear => NOT_LINEAR,
-        Refusal::TooWide => NUMBER_TOO_WIDE,
-        Refusal::Limit => LIMIT,
-        Refusal::Declared => ALREADY_DECLARED,
-        Refusal::Memory => OUT_OF_MEMORY,
     }
 }
 

@@ -3,6 +3,7 @@ ghost use Rattle.std.specs.Prelude.{◌≡◌, ℕ, List, [], ◌++◌, true, fa
 ghost use Rattle.std.specs.Io.KnownBytes.{Appends};
 ghost use Rattle.nz_sexpr.specs.View.{heard_view, what_view};
 ghost use Rattle.nz_spec.specs.Outside.{AddsFrontOf, counted};
+ghost use Rattle.nz_spec.specs.Error.{out_of_memory};
 ghost use Rattle.nz_spec.specs.Reply.{error, reply_text};
 ghost use Rattle.nz_spec.specs.Live.{start};
 ghost use Rattle.nz_spec.specs.Right.{beginning};
@@ -12,8 +13,8 @@ ghost use Rattle.nz_session.specs.Serve.{Answers, AnswersInPart, IsGoing, is_sin
 
 use crate::decide::Decide;
 use crate::desk::{Answer, Desk};
-use nz_base::{Memory, Sink};
-use nz_reply::{Journal, Kept, OUT_OF_MEMORY, Reply, WriteFault, kept_stay, write_reply};
+use nz_base::{Error, Memory, Sink};
+use nz_reply::{Journal, Kept, Reply, WriteFault, kept_stay, write_reply};
 use nz_sexpr::{Heard, Limits, Reader, What};
 use nz_spec::text::{one_reading, reading_tells_first};
 use nz_spec::transcript::transcript_grows;
@@ -66,12 +67,12 @@ fn show<K: Sink>(sink: &mut K, what: &What, reply: &Reply) -> Result<(), WriteFa
 /// Says that there is no memory to keep a reply.
 fn cut<K: Sink>(sink: &mut K) -> Fed
     ensures result { (result ≡ Fed.Cut) ⊎ (result ≡ Fed.SinkFault) }
-    ensures written { result ≡ Fed.Cut → Appends (K.held sink.old) (K.held sink.new) (reply_text (error 11)) }
-    ensures front { result ≡ Fed.SinkFault → AddsFrontOf (K.held sink.old) (K.held sink.new) (reply_text (error 11)) }
+    ensures written { result ≡ Fed.Cut → Appends (K.held sink.old) (K.held sink.new) (reply_text (error out_of_memory)) }
+    ensures front { result ≡ Fed.SinkFault → AddsFrontOf (K.held sink.old) (K.held sink.new) (reply_text (error out_of_memory)) }
     ensures faults { K.faults sink.new ≡ counted K.last (is_sink_fault result) (K.faults sink.old) }
     ensures handed { result ≡ Fed.Cut → K.handed sink.new ≡ K.held sink.new }
 {
-    match show(sink, &What::Unread, &Reply::Error(OUT_OF_MEMORY)) {
+    match show(sink, &What::Unread, &Reply::Error(Error::OutOfMemory)) {
         Ok(()) => Fed::Cut,
         Err(WriteFault) => Fed::SinkFault,
     }
@@ -90,7 +91,7 @@ fn serve<E: Decide, K: Sink>(
     ensures answered { (result ≡ Fed.Going) ⊎ (result ≡ Fed.Exited) → Answers (heard_view heard) (kept_at desk.old kept.old.items) (kept_at desk.new kept.new.items) (K.held sink.old) (K.held sink.new) }
     ensures cut { result ≡ Fed.Cut → kept.new.items ≡ kept.old.items }
     ensures cut_desk { result ≡ Fed.Cut → desk.new ≡ desk.old }
-    ensures cut_written { result ≡ Fed.Cut → Appends (K.held sink.old) (K.held sink.new) (reply_text (error 11)) }
+    ensures cut_written { result ≡ Fed.Cut → Appends (K.held sink.old) (K.held sink.new) (reply_text (error out_of_memory)) }
     ensures broken_off { result ≡ Fed.SinkFault → (limit : ℕ) → IsGoing E.levels E.table limit desk.old kept.old.items → AreRight (beginning limit) (kept_at desk.new kept.new.items) }
     ensures broken_off_written { result ≡ Fed.SinkFault → AnswersInPart (heard_view heard) (kept_at desk.old kept.old.items) (kept_at desk.new kept.new.items) (K.held sink.old) (K.held sink.new) }
     ensures faults { K.faults sink.new ≡ counted K.last (is_sink_fault result) (K.faults sink.old) }

@@ -3,6 +3,7 @@ use Rattle.std.specs.Prelude.{List, map}
 use Rattle.nz_spec.specs.Tree as text
 use Rattle.nz_spec.specs.Reading.{trees_from}
 use Rattle.nz_spec.specs.Text as script
+use Rattle.nz_base.specs.Errors.{error_of}
 use Rattle.nz_sexpr.specs.declared.tree.Token.{Token}
 use Rattle.nz_sexpr.specs.declared.tree.Token.TheVariants as token
 use Rattle.nz_sexpr.specs.declared.tree.Tree.{Tree, fold-Tree}
@@ -45,7 +46,7 @@ list_view l = map view (items l)
 
 abbrev pub what_view : code.What → script.What
 what_view (what.Tree t) = script.intact (view t)
-what_view (what.Bad n) = script.faulty n
+what_view (what.Bad e) = script.faulty (error_of e)
 what_view what.Unclosed = script.unclosed
 what_view what.Unread = script.unread
 

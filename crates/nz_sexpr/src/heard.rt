@@ -1,5 +1,6 @@
 //! What is heard in a script.
 use crate::tree::Tree;
+use nz_base::Error;
 
 /// How far a command may go.
 #[derive(Clone, Copy, Debug, PartialEq, Eq)]
@@ -15,8 +16,8 @@ pub struct Limits {
 pub enum What {
     /// A command without fault.
     Tree(Tree),
-    /// Refused in reading, by the number of its error: 1 for a bad token, 6 for a limit.
-    Bad(u8),
+    /// Refused in reading: it has a bad token, or goes beyond a limit.
+    Bad(Error),
     /// A command that is still open at the end of the input.
     Unclosed,
     /// A command without fault for which there was no memory while it was read.

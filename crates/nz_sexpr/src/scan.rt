@@ -16,6 +16,7 @@ use crate::part::Part;
 use crate::store::Store;
 use crate::tree::Tree;
 use crate::words::TokenKind;
+use nz_base::Error;
 use std::alloc::Global;
 
 /// What is open after the bytes that were read.
@@ -408,10 +409,10 @@ impl Scan {
     {
         let list = self.store.end();
         if self.bad {
-            return What::Bad(1);
+            return What::Bad(Error::Syntax);
         }
         if self.deep || self.is_long() {
-            return What::Bad(6);
+            return What::Bad(Error::Limit);
         }
         match list {
             Some(list) => What::Tree(Tree::List(list)),
@@ -484,11 +485,11 @@ impl Scan {
 }
 
 fn bad_token(from: u64, to: u64) -> Heard
-    ensures { result ≡ record { from = from; to = to; what = What.Bad 1 } }
+    ensures { result ≡ record { from = from; to = to; what = What.Bad Error.Syntax } }
 {
     Heard {
         from,
         to,
-        what: What::Bad(1),
+        what: What::Bad(Error::Syntax),
     }
 }

@@ -11,6 +11,7 @@ use Rattle.nz_spec.specs.Request.{Question, shows_values}
 use Rattle.nz_spec.specs.Live.{State}
 use Rattle.nz_spec.specs.Script.{scope_of, asked_expressions, asked_of, all_linear, linear_outcome, values_asked}
 use Rattle.nz_spec.specs.Command.{get_value, Outcome, refused}
+use Rattle.nz_spec.specs.Error.{wrong_sort, not_linear}
 use Rattle.nz_spec.specs.Scoping.{have_clash}
 use Rattle.nz_elaborate.specs.declared.typed.Typed.{Typed}
 use Rattle.nz_elaborate.specs.Elaborate.{StandAs, are_unknown_in, IsWellNamed}
@@ -24,7 +25,7 @@ use Rattle.nz_sort.proofs.Ruling.{past_names, take_whole}
 
 -- what becomes of the terms, behind the rules on names
 abbrev pub terms_outcome : List Question → Option Terms → Outcome
-terms_outcome qs o = elim o [ Some us ↦ linear_outcome (all_linear us) (get_value (asked_of qs us)) | None ↦ refused 3 ]
+terms_outcome qs o = elim o [ Some us ↦ linear_outcome (all_linear us) (get_value (asked_of qs us)) | None ↦ refused wrong_sort ]
 
 past : (s : State) (qs : List Question) (ns : List Node) (xs : List Typed) (linear : Bool)
     → (h : IsWellNamed (are_unknown_in (scope_of s) (asked_expressions qs)) (have_clash (asked_expressions qs)) (StandAs (terms_of (scope_of s) (asked_expressions qs)) ns xs))
@@ -36,7 +37,7 @@ past s qs ns xs linear h told =
 
 pub nonlinear_values : (s : State) (qs : List Question) (ns : List Node) (xs : List Typed)
     → IsWellNamed (are_unknown_in (scope_of s) (asked_expressions qs)) (have_clash (asked_expressions qs)) (StandAs (terms_of (scope_of s) (asked_expressions qs)) ns xs)
-    → ((us : Terms) → AreTyped ns xs us → false ≡ all_linear us) → values_asked s qs ≡ refused 4
+    → ((us : Terms) → AreTyped ns xs us → false ≡ all_linear us) → values_asked s qs ≡ refused not_linear
 nonlinear_values s qs ns xs h crooked = past s qs ns xs false h crooked
 
 -- the table may have grown by companions since

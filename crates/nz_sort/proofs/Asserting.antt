@@ -12,6 +12,7 @@ use Rattle.nz_spec.specs.Elaboration.{has_sort, term_of}
 use Rattle.nz_spec.specs.Live.{State, asserted, numbered_items, constants_of, definitions_of, assertions_of, grown}
 use Rattle.nz_spec.specs.Script.{scope_of, linear_outcome, asserted_outcome, assertion_of}
 use Rattle.nz_spec.specs.Command.{assert_term, Outcome, refused}
+use Rattle.nz_spec.specs.Error.{wrong_sort, not_linear}
 use Rattle.nz_spec.specs.Scoping.{has_clash}
 use Rattle.nz_term.specs.Constants.{sort_of}
 use Rattle.nz_elaborate.specs.declared.typed.Typed.{Typed}
@@ -76,17 +77,17 @@ comes_asserted stays old new before after e id holds g companions may number mor
 
 -- what becomes of the assertion of a term, behind the rules on names
 abbrev pub term_outcome : Option Term → Outcome
-term_outcome o = elim o [ Some t ↦ asserted_outcome t | None ↦ refused 3 ]
+term_outcome o = elim o [ Some t ↦ asserted_outcome t | None ↦ refused wrong_sort ]
 
 past : (s : State) (e : Expression) (ns : List Node) (x : Typed) (h : IsWellNamed (is_unknown_in (scope_of s) e) (has_clash e) (StandsAs (term_of (scope_of s) e) ns x))
     → assertion_of s e ≡ asserted_outcome h.holds.term
 past s e ns x h = past_names (is_unknown_in (scope_of s) e) (has_clash e) (term_outcome (term_of (scope_of s) e)) h.known h.distinct ∙ ap term_outcome h.holds.is
 
-by_sort : (t : Term) (b : Bool) → has_sort bool_sort t ≡ b → asserted_outcome t ≡ cond b (linear_outcome (is_linear (normal_of t)) (assert_term t)) (refused 3)
-by_sort t b e = ap (λ c. cond c (linear_outcome (is_linear (normal_of t)) (assert_term t)) (refused 3)) e
+by_sort : (t : Term) (b : Bool) → has_sort bool_sort t ≡ b → asserted_outcome t ≡ cond b (linear_outcome (is_linear (normal_of t)) (assert_term t)) (refused wrong_sort)
+by_sort t b e = ap (λ c. cond c (linear_outcome (is_linear (normal_of t)) (assert_term t)) (refused wrong_sort)) e
 
 pub missorted_assertion : (s : State) (e : Expression) (ns : List Node) (x : Typed) → IsWellNamed (is_unknown_in (scope_of s) e) (has_clash e) (StandsAs (term_of (scope_of s) e) ns x)
-    → are_same_sort bool_sort (sort_of x.sort) ≡ false → assertion_of s e ≡ refused 3
+    → are_same_sort bool_sort (sort_of x.sort) ≡ false → assertion_of s e ≡ refused wrong_sort
 missorted_assertion s e ns x h other = past s e ns x h ∙ by_sort h.holds.term false (ap (are_same_sort bool_sort) (sym h.holds.typed.sort) ∙ other)
 
 of_bool : (s : State) (e : Expression) (ns : List Node) (x : Typed) (linear : Bool) (h : IsWellNamed (is_unknown_in (scope_of s) e) (has_clash e) (StandsAs (term_of (scope_of s) e) ns x))
@@ -97,7 +98,7 @@ of_bool s e ns x linear h bool is =
     ∙ ap (λ b. linear_outcome b (assert_term h.holds.term)) (ap is_linear (sym h.holds.typed.normal) ∙ is)
 
 pub nonlinear_assertion : (s : State) (e : Expression) (ns : List Node) (x : Typed) → IsWellNamed (is_unknown_in (scope_of s) e) (has_clash e) (StandsAs (term_of (scope_of s) e) ns x)
-    → are_same_sort bool_sort (sort_of x.sort) ≡ true → is_linear (term_in ns x.id) ≡ false → assertion_of s e ≡ refused 4
+    → are_same_sort bool_sort (sort_of x.sort) ≡ true → is_linear (term_in ns x.id) ≡ false → assertion_of s e ≡ refused not_linear
 nonlinear_assertion s e ns x h bool crooked = of_bool s e ns x false h bool crooked
 
 -- the table may have grown by companions since

@@ -12,6 +12,7 @@ use Rattle.nz_spec.specs.Request.{WrittenSort, declares}
 use Rattle.nz_spec.specs.Live.{State, declared, numbered_items, constants_of, definitions_of, assertions_of, grown}
 use Rattle.nz_spec.specs.Script.{is_live_name, is_unknown_sort, constant_sort, declaration_of}
 use Rattle.nz_spec.specs.Command.{declare_const, accepted, refused}
+use Rattle.nz_spec.specs.Error.{unknown_symbol, wrong_sort, already_declared}
 use Rattle.nz_command.specs.Requests.{sort_view}
 use Rattle.nz_command.specs.declared.command.WrittenSort as code
 use Rattle.nz_elaborate.specs.Names.{named_by}
@@ -83,15 +84,15 @@ comes_declared stays old new before after name sorts sort found may fresh h kept
 -- ---- The rules on a declaration
 
 pub sort_unknown : (s : State) (name : List ℕ) (sorts : List WrittenSort) (sort : WrittenSort) → (list_any is_unknown_sort sorts || is_unknown_sort sort) ≡ true
-    → declaration_of s name sorts sort ≡ refused 2
+    → declaration_of s name sorts sort ≡ refused unknown_symbol
 sort_unknown s name sorts sort e = rw e refl
 
 pub name_declared : (s : State) (name : List ℕ) (sorts : List WrittenSort) (sort : WrittenSort) → (list_any is_unknown_sort sorts || is_unknown_sort sort) ≡ false
-    → is_live_name s name ≡ true → declaration_of s name sorts sort ≡ refused 9
+    → is_live_name s name ≡ true → declaration_of s name sorts sort ≡ refused already_declared
 name_declared s name sorts sort e f = rw (e, f) refl
 
 pub no_sort : (s : State) (name : List ℕ) (sorts : List WrittenSort) (sort : WrittenSort) → (list_any is_unknown_sort sorts || is_unknown_sort sort) ≡ false
-    → is_live_name s name ≡ false → constant_sort sorts sort ≡ None → declaration_of s name sorts sort ≡ refused 3
+    → is_live_name s name ≡ false → constant_sort sorts sort ≡ None → declaration_of s name sorts sort ≡ refused wrong_sort
 no_sort s name sorts sort e f g = rw (e, f, g) refl
 
 pub has_sort : (s : State) (name : List ℕ) (sorts : List WrittenSort) (sort : WrittenSort) (found : Sort) → (list_any is_unknown_sort sorts || is_unknown_sort sort) ≡ false

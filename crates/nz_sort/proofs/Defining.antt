@@ -12,6 +12,7 @@ use Rattle.nz_spec.specs.Elaboration.{Definition, RootFits, TermFits, term_of, h
 use Rattle.nz_spec.specs.Live.{State, defined, numbered_items, constants_of, definitions_of, assertions_of, grown}
 use Rattle.nz_spec.specs.Script.{is_live_name, scope_of, body_scope, parameters_from, parameter_names, parameter_sorts, sorts_written, sort_written, linear_outcome, definition_by, definition_of}
 use Rattle.nz_spec.specs.Command.{define, Outcome, refused}
+use Rattle.nz_spec.specs.Error.{unknown_symbol, wrong_sort, not_linear, already_declared}
 use Rattle.nz_spec.specs.Scoping.{clash, has_clash}
 use Rattle.nz_term.specs.Constants.{sort_of}
 use Rattle.nz_elaborate.specs.declared.typed.Typed.{Typed}
@@ -122,18 +123,18 @@ abbrev by_sorts : State → List ℕ → List Parameter → WrittenSort → Expr
 by_sorts s name parameters sort body = definition_by s name (parameter_names parameters) (sorts_written (parameter_sorts parameters)) (sort_written sort) body
 
 pub unknown_definition : (s : State) (name : List ℕ) (parameters : List Parameter) (sort : WrittenSort) (body : Expression) → definition_unknown (scope_of s) parameters sort body ≡ true
-    → definition_of s name parameters sort body ≡ refused 2
+    → definition_of s name parameters sort body ≡ refused unknown_symbol
 unknown_definition s name parameters sort body e =
     unknown_first (definition_unknown (scope_of s) parameters sort body) (is_live_name s name || clash (parameter_names parameters) || has_clash body) (by_sorts s name parameters sort body) e
 
 pub declared_definition : (s : State) (name : List ℕ) (parameters : List Parameter) (sort : WrittenSort) (body : Expression) → definition_unknown (scope_of s) parameters sort body ≡ false
-    → is_live_name s name ≡ true → definition_of s name parameters sort body ≡ refused 9
+    → is_live_name s name ≡ true → definition_of s name parameters sort body ≡ refused already_declared
 declared_definition s name parameters sort body known live =
     clash_next (definition_unknown (scope_of s) parameters sort body) (is_live_name s name || clash (parameter_names parameters) || has_clash body) (by_sorts s name parameters sort body) known
     (ap (λ b. b || clash (parameter_names parameters) || has_clash body) live)
 
 pub clashing_definition : (s : State) (name : List ℕ) (parameters : List Parameter) (sort : WrittenSort) (body : Expression)
-    → ClashesFirst (definition_unknown (scope_of s) parameters sort body) (definition_clash parameters body) → definition_of s name parameters sort body ≡ refused 9
+    → ClashesFirst (definition_unknown (scope_of s) parameters sort body) (definition_clash parameters body) → definition_of s name parameters sort body ≡ refused already_declared
 clashing_definition s name parameters sort body h =
     clash_next (definition_unknown (scope_of s) parameters sort body) (is_live_name s name || clash (parameter_names parameters) || has_clash body) (by_sorts s name parameters sort body) h.known
     (either (is_live_name s name) (clash (parameter_names parameters)) (has_clash body) h.clashes)
@@ -148,10 +149,10 @@ past s name parameters sort body known fresh distinct =
 
 -- what becomes of a body
 abbrev body_outcome : List ℕ → List Sort → Option Term → Outcome
-body_outcome name sorts o = elim o [ Some t ↦ linear_outcome (is_linear (normal_of t)) (define (record { name = name; parameters = sorts; body = t })) | None ↦ refused 3 ]
+body_outcome name sorts o = elim o [ Some t ↦ linear_outcome (is_linear (normal_of t)) (define (record { name = name; parameters = sorts; body = t })) | None ↦ refused wrong_sort ]
 
 no_body : (s : State) (name : List ℕ) (names : List (List ℕ)) (sorts : Option (List Sort)) (sort : Option Sort) (body : Expression) → body_term (scope_of s) names sorts sort body ≡ None
-    → definition_by s name names sorts sort body ≡ refused 3
+    → definition_by s name names sorts sort body ≡ refused wrong_sort
 no_body s name names None sort body e = refl
 no_body s name names (Some sorts) None body e = refl
 no_body s name names (Some sorts) (Some sort) body e = ap (body_outcome name sorts) e
@@ -167,7 +168,7 @@ by_body s name names (Some others) (Some sort) body sorts t same e =
 
 pub unsorted_definition : (s : State) (name : List ℕ) (parameters : List Parameter) (sort : WrittenSort) (body : Expression) → is_live_name s name ≡ false
     → IsWellNamed (definition_unknown (scope_of s) parameters sort body) (definition_clash parameters body) (definition_term (scope_of s) parameters sort body ≡ None)
-    → definition_of s name parameters sort body ≡ refused 3
+    → definition_of s name parameters sort body ≡ refused wrong_sort
 unsorted_definition s name parameters sort body fresh h =
     past s name parameters sort body h.known fresh h.distinct
     ∙ no_body s name (parameter_names parameters) (sorts_written (parameter_sorts parameters)) (sort_written sort) body h.holds
@@ -183,7 +184,7 @@ of_linear s name parameters sort body ns d linear fresh h is =
 
 pub nonlinear_definition : (s : State) (name : List ℕ) (parameters : List Parameter) (sort : WrittenSort) (body : Expression) (ns : List Node) (d : code.Definition) → is_live_name s name ≡ false
     → IsWellNamed (definition_unknown (scope_of s) parameters sort body) (definition_clash parameters body) (HasBody (scope_of s) parameters sort body ns d)
-    → is_linear (term_in ns d.body.id) ≡ false → definition_of s name parameters sort body ≡ refused 4
+    → is_linear (term_in ns d.body.id) ≡ false → definition_of s name parameters sort body ≡ refused not_linear
 nonlinear_definition s name parameters sort body ns d fresh h crooked = of_linear s name parameters sort body ns d false fresh h crooked
 
 -- the table may have grown by companions since

@@ -8,70 +8,66 @@ use Rattle.nz_spec.specs.Parse.{request_of}
 use Rattle.nz_spec.specs.Live.{State}
 use Rattle.nz_spec.specs.Limits.{passes_limit}
 use Rattle.nz_spec.specs.Command.{Command, check_sat, Outcome, accepted, refused, not_taken}
+use Rattle.nz_spec.specs.Error as spec
+use Rattle.nz_spec.specs.Error.{bad_syntax, unknown_symbol, wrong_sort, too_wide, past_limit, already_declared}
 use Rattle.nz_spec.specs.Script.{outcome_of, outcome_requested, outcome_by}
 use Rattle.nz_spec.specs.Reply.{Reply}
 use Rattle.nz_spec.specs.Right.{effect}
+use Rattle.nz_base.specs.declared.reply_errors.Error.{Error}
 use Rattle.nz_elaborate.specs.declared.faults.ElaborateError.{ElaborateError}
 use Rattle.nz_elaborate.specs.declared.faults.ElaborateError.TheVariants as errors
 use Rattle.nz_elaborate.specs.Elaborate.{ClashesFirst, IsWellNamed}
 use Rattle.nz_sort.specs.declared.acts.Act.{Act}
-use Rattle.nz_sort.specs.declared.refusal.Refusal.{Refusal}
-use Rattle.nz_sort.specs.Acts.{asked, error_of, refusal_by, is_check, AsksBy}
+use Rattle.nz_sort.specs.Acts.{asked, rule_of, refusal_by, is_check, AsksBy}
 use Rattle.nz_sort.specs.Changes.{Comes, ComesBy}
 use Rattle.nz_sort.specs.Live.{Standing, IsLive, IsCarriedOut, Leaves, Ask, Asks, changed, check, show_model, show_values, show_reason, show_info, show_levels, print_success, nothing, echo, leave, unsupported}
 use Rattle.nz_sort.proofs.Living.{leaves_asked, leaves_by, if_skipped, kept_where_same}
 
-pub if_some_weaker : {P Q : ℕ → Type 0} (o : Option ℕ) → ((n : ℕ) → P n → Q n) → IfSome o P → IfSome o Q
+pub if_some_weaker : {P Q : spec.Error → Type 0} (o : Option spec.Error) → ((e : spec.Error) → P e → Q e) → IfSome o P → IfSome o Q
 if_some_weaker None f h = tt
-if_some_weaker (Some n) f h = f n h
+if_some_weaker (Some e) f h = f e h
 
-pub if_some_by : {P : ℕ → Type 0} (o : Option ℕ) → ((n : ℕ) → o ≡ Some n → P n) → IfSome o P
-if_some_by None f = tt
-if_some_by (Some n) f = f n refl
+-- a rule that is broken in each live state
+pub broken_in_each : (ns : List Node) (standing : Standing) (becomes : State → Outcome) (o : Option spec.Error) → ((s : State) → IsLive ns standing s → IfSome o (λ e. becomes s ≡ refused e))
+    → IfSome o (λ e. (s : State) → IsLive ns standing s → becomes s ≡ refused e)
+broken_in_each ns standing becomes None f = tt
+broken_in_each ns standing becomes (Some e) f = f
 
 -- ---- The rules on names
 
 -- what comes behind the rules on names
 abbrev pub named_first : Bool → Bool → Outcome → Outcome
-named_first unknown clashes o = cond unknown (refused 2) (cond clashes (refused 9) o)
+named_first unknown clashes o = cond unknown (refused unknown_symbol) (cond clashes (refused already_declared) o)
 
-pub unknown_first : (unknown clashes : Bool) (o : Outcome) → unknown ≡ true → named_first unknown clashes o ≡ refused 2
-unknown_first unknown clashes o e = ap (λ b. cond b (refused 2) (cond clashes (refused 9) o)) e
+pub unknown_first : (unknown clashes : Bool) (o : Outcome) → unknown ≡ true → named_first unknown clashes o ≡ refused unknown_symbol
+unknown_first unknown clashes o e = ap (λ b. cond b (refused unknown_symbol) (cond clashes (refused already_declared) o)) e
 
-pub clash_next : (unknown clashes : Bool) (o : Outcome) → unknown ≡ false → clashes ≡ true → named_first unknown clashes o ≡ refused 9
-clash_next unknown clashes o e f = ap (λ b. cond b (refused 2) (cond clashes (refused 9) o)) e ∙ ap (λ b. cond b (refused 9) o) f
+pub clash_next : (unknown clashes : Bool) (o : Outcome) → unknown ≡ false → clashes ≡ true → named_first unknown clashes o ≡ refused already_declared
+clash_next unknown clashes o e f = ap (λ b. cond b (refused unknown_symbol) (cond clashes (refused already_declared) o)) e ∙ ap (λ b. cond b (refused already_declared) o) f
 
 pub past_names : (unknown clashes : Bool) (o : Outcome) → unknown ≡ false → clashes ≡ false → named_first unknown clashes o ≡ o
-past_names unknown clashes o e f = ap (λ b. cond b (refused 2) (cond clashes (refused 9) o)) e ∙ ap (λ b. cond b (refused 9) o) f
+past_names unknown clashes o e f = ap (λ b. cond b (refused unknown_symbol) (cond clashes (refused already_declared) o)) e ∙ ap (λ b. cond b (refused already_declared) o) f
 
 -- a term that isn't elaborated breaks the rule of its error
-pub refused_by_error : (error : ElaborateError) (refusal : Refusal) (n : ℕ) (unknown clashes : Bool) (o : Outcome) → refusal ≡ refusal_by error → error_of refusal ≡ Some n
-    → (error ≡ errors.Unknown → unknown ≡ true) → (error ≡ errors.Clash → ClashesFirst unknown clashes) → (error ≡ errors.Sort → IsWellNamed unknown clashes (o ≡ refused 3))
-    → named_first unknown clashes o ≡ refused n
-refused_by_error errors.Unknown refusal n unknown clashes o r told a b c =
-    let two : Some 2 ≡ Some n = sym (ap error_of r) ∙ told in
-    let is : 2 ≡ n = cc in
-    unknown_first unknown clashes o (a refl) ∙ ap refused is
-refused_by_error errors.Clash refusal n unknown clashes o r told a b c =
-    let nine : Some 9 ≡ Some n = sym (ap error_of r) ∙ told in
-    let is : 9 ≡ n = cc in
-    let h = b refl in
-    clash_next unknown clashes o h.known h.clashes ∙ ap refused is
-refused_by_error errors.Sort refusal n unknown clashes o r told a b c =
-    let three : Some 3 ≡ Some n = sym (ap error_of r) ∙ told in
-    let is : 3 ≡ n = cc in
-    let h = c refl in
-    past_names unknown clashes o h.known h.distinct ∙ h.holds ∙ ap refused is
-refused_by_error errors.Memory refusal n unknown clashes o r told a b c =
-    let none : None ≡ Some n = sym (ap error_of r) ∙ told in
-    cc
+refused_by : (error : ElaborateError) (unknown clashes : Bool) (o : Outcome)
+    → (error ≡ errors.Unknown → unknown ≡ true) → (error ≡ errors.Clash → ClashesFirst unknown clashes) → (error ≡ errors.Sort → IsWellNamed unknown clashes (o ≡ refused wrong_sort))
+    → IfSome (rule_of (refusal_by error)) (λ e. named_first unknown clashes o ≡ refused e)
+refused_by errors.Unknown unknown clashes o a b c = unknown_first unknown clashes o (a refl)
+refused_by errors.Clash unknown clashes o a b c = let h = b refl in clash_next unknown clashes o h.known h.clashes
+refused_by errors.Sort unknown clashes o a b c = let h = c refl in past_names unknown clashes o h.known h.distinct ∙ h.holds
+refused_by errors.Memory unknown clashes o a b c = tt
+
+pub refused_by_error : (error : ElaborateError) (refusal : Error) (unknown clashes : Bool) (o : Outcome) → refusal ≡ refusal_by error
+    → (error ≡ errors.Unknown → unknown ≡ true) → (error ≡ errors.Clash → ClashesFirst unknown clashes) → (error ≡ errors.Sort → IsWellNamed unknown clashes (o ≡ refused wrong_sort))
+    → IfSome (rule_of refusal) (λ e. named_first unknown clashes o ≡ refused e)
+refused_by_error error refusal unknown clashes o r a b c = subst (λ x. IfSome (rule_of x) (λ e. named_first unknown clashes o ≡ refused e)) (sym r) (refused_by error unknown clashes o a b c)
 
 -- ---- The rules before them
 
-pub breaks_limit : (s : State) (t : Tree) (r : Request) → (passes_limit s r || has_token is_long_decimal t) ≡ true → outcome_requested s t r ≡ refused 6
+pub breaks_limit : (s : State) (t : Tree) (r : Request) → (passes_limit s r || has_token is_long_decimal t) ≡ true → outcome_requested s t r ≡ refused past_limit
 breaks_limit s t r l = rw l refl
 
-pub breaks_width : (s : State) (t : Tree) (r : Request) → (passes_limit s r || has_token is_long_decimal t) ≡ false → has_token is_wide_token t ≡ true → outcome_requested s t r ≡ refused 5
+pub breaks_width : (s : State) (t : Tree) (r : Request) → (passes_limit s r || has_token is_long_decimal t) ≡ false → has_token is_wide_token t ≡ true → outcome_requested s t r ≡ refused too_wide
 breaks_width s t r l w = rw (l, w) refl
 
 pub within_bounds : (s : State) (t : Tree) (r : Request) → (passes_limit s r || has_token is_long_decimal t) ≡ false → has_token is_wide_token t ≡ false
@@ -85,8 +81,8 @@ take_whole [] = refl
 take_whole (x ∷ xs) = ap (λ l. x ∷ l) (take_whole xs)
 
 -- a refusal leaves what stood
-pub comes_refused : (old new : List Node) (before after : Standing) (r : Request) (becomes : State → Outcome) (refusal : Refusal)
-    → IfSome (error_of refusal) (λ n. (s : State) → IsLive old before s → becomes s ≡ refused n) → take (length old) new ≡ old → after ≡ before
+pub comes_refused : (old new : List Node) (before after : Standing) (r : Request) (becomes : State → Outcome) (refusal : Error)
+    → IfSome (rule_of refusal) (λ e. (s : State) → IsLive old before s → becomes s ≡ refused e) → take (length old) new ≡ old → after ≡ before
     → Comes old new before after r becomes (Err refusal)
 comes_refused old new before after r becomes refusal told kept same =
     record {
@@ -118,7 +114,7 @@ leaves_only : (ns : List Node) (standing : Standing) (s : State) (r : Request) (
 leaves_only ns standing s r (accepted c) act h live =
     leaves_by s r (accepted c) (asked act) ns standing c h.unchecked (h.asks ns r)
     (leaves_asked ns standing s r (accepted c) (asked act) c refl (h.asks ns r) (h.keeps s) (h.counts s) live)
-leaves_only ns standing s r (refused n) act h live = absurd h
+leaves_only ns standing s r (refused e) act h live = absurd h
 leaves_only ns standing s r not_taken act h live = subst (λ ask. Leaves s r not_taken ask ns standing) (sym h) (record { is = refl; live = live })
 
 pub comes_only : (ns : List Node) (standing : Standing) (r : Request) (becomes : State → Outcome) (act : Act) → ((s : State) → AsksBy (becomes s) act)
@@ -154,7 +150,7 @@ comes_checked ns standing act a =
     comes_by_leaving ns standing checks (λ s. outcome_by s checks) act (λ s live. leaves_checked ns standing s act standing.holds_numbers refl a live)
 
 -- an outcome that is another
-pub comes_alike : (old new : List Node) (before after : Standing) (r : Request) (becomes others : State → Outcome) (result : Result Act Refusal)
+pub comes_alike : (old new : List Node) (before after : Standing) (r : Request) (becomes others : State → Outcome) (result : Result Act Error)
     → ((s : State) → IsLive old before s → others s ≡ becomes s) → Comes old new before after r becomes result → Comes old new before after r others result
 comes_alike old new before after r becomes others (Ok act) alike h =
     record {
@@ -169,7 +165,7 @@ comes_alike old new before after r becomes others (Ok act) alike h =
 comes_alike old new before after r becomes others (Err refusal) alike h =
     record {
       accepted = tt;
-      refused = if_some_weaker (error_of refusal) (λ n told s live. alike s live ∙ told s live) h.refused;
+      refused = if_some_weaker (rule_of refusal) (λ e told s live. alike s live ∙ told s live) h.refused;
       kept = h.kept;
       unchanged = h.unchanged;
       skipped_terms = tt;
@@ -179,37 +175,37 @@ comes_alike old new before after r becomes others (Err refusal) alike h =
 
 -- ---- Trees that are commands, or none
 
-outcome_parsed : (s : State) (t : Tree) (o : Option Request) → request_of t ≡ o → outcome_of s t ≡ elim o [ Some r ↦ outcome_requested s t r | None ↦ refused 1 ]
-outcome_parsed s t o e = ap (λ (p : Option Request). elim p [ Some r ↦ outcome_requested s t r | None ↦ refused 1 ]) e
+outcome_parsed : (s : State) (t : Tree) (o : Option Request) → request_of t ≡ o → outcome_of s t ≡ elim o [ Some r ↦ outcome_requested s t r | None ↦ refused bad_syntax ]
+outcome_parsed s t o e = ap (λ (p : Option Request). elim p [ Some r ↦ outcome_requested s t r | None ↦ refused bad_syntax ]) e
 
 -- what is refused leaves nothing
-no_leaving : (s : State) (r : Request) (n : ℕ) (ask : Ask) (ns : List Node) (standing : Standing) → Leaves s r (refused n) ask ns standing → ⊥
-no_leaving s r n changed ns standing h = let no = h.is in cc
-no_leaving s r n check ns standing h = let no = h.0.is in cc
-no_leaving s r n show_model ns standing h = let no = h.is in cc
-no_leaving s r n (show_values xs) ns standing h = let no = h.is in cc
-no_leaving s r n show_reason ns standing h = let no = h.is in cc
-no_leaving s r n (show_info i) ns standing h = let no = h.is in cc
-no_leaving s r n show_levels ns standing h = let no = h.is in cc
-no_leaving s r n (print_success b) ns standing h = let no = h.is in cc
-no_leaving s r n nothing ns standing h = let no = h.is in cc
-no_leaving s r n echo ns standing h = let no = h.is in cc
-no_leaving s r n leave ns standing h = let no = h.is in cc
-no_leaving s r n unsupported ns standing h = let no = h.is in cc
+no_leaving : (s : State) (r : Request) (e : spec.Error) (ask : Ask) (ns : List Node) (standing : Standing) → Leaves s r (refused e) ask ns standing → ⊥
+no_leaving s r e changed ns standing h = let no = h.is in cc
+no_leaving s r e check ns standing h = let no = h.0.is in cc
+no_leaving s r e show_model ns standing h = let no = h.is in cc
+no_leaving s r e (show_values xs) ns standing h = let no = h.is in cc
+no_leaving s r e show_reason ns standing h = let no = h.is in cc
+no_leaving s r e (show_info i) ns standing h = let no = h.is in cc
+no_leaving s r e show_levels ns standing h = let no = h.is in cc
+no_leaving s r e (print_success b) ns standing h = let no = h.is in cc
+no_leaving s r e nothing ns standing h = let no = h.is in cc
+no_leaving s r e echo ns standing h = let no = h.is in cc
+no_leaving s r e leave ns standing h = let no = h.is in cc
+no_leaving s r e unsupported ns standing h = let no = h.is in cc
 
 pub carried : (old new : List Node) (before after : Standing) (t : Tree) (o : Option Request) (act : Act) (s : State) → request_of t ≡ o → ComesBy old new before after t o (Ok act)
     → IsLive old before s → IsCarriedOut s t (asked act) new after
-carried old new before after t None act s e h live = absurd (no_leaving s other_request 1 (asked act) new after (h.accepted s live))
+carried old new before after t None act s e h live = absurd (no_leaving s other_request bad_syntax (asked act) new after (h.accepted s live))
 carried old new before after t (Some r) act s e h live =
     record { request = r; parsed = e; leaves = subst (λ o. Leaves s r o (asked act) new after) (sym (outcome_parsed s t (Some r) e)) (h.accepted s live) }
 
-pub broken : (old new : List Node) (before after : Standing) (t : Tree) (o : Option Request) (refusal : Refusal) → request_of t ≡ o → ComesBy old new before after t o (Err refusal)
-    → IfSome (error_of refusal) (λ n. (s : State) → IsLive old before s → outcome_of s t ≡ refused n)
-broken old new before after t None refusal e h = if_some_weaker (error_of refusal) (λ n told s live. outcome_parsed s t None e ∙ told s live) h.refused
-broken old new before after t (Some r) refusal e h = if_some_weaker (error_of refusal) (λ n told s live. outcome_parsed s t (Some r) e ∙ told s live) h.refused
+pub broken : (old new : List Node) (before after : Standing) (t : Tree) (o : Option Request) (refusal : Error) → request_of t ≡ o → ComesBy old new before after t o (Err refusal)
+    → IfSome (rule_of refusal) (λ e. (s : State) → IsLive old before s → outcome_of s t ≡ refused e)
+broken old new before after t None refusal p h = if_some_weaker (rule_of refusal) (λ e told s live. outcome_parsed s t None p ∙ told s live) h.refused
+broken old new before after t (Some r) refusal p h = if_some_weaker (rule_of refusal) (λ e told s live. outcome_parsed s t (Some r) p ∙ told s live) h.refused
 
 -- what comes, of whatever command
-pub some_comes : (old new : List Node) (before after : Standing) (t : Tree) (o : Option Request) (result : Result Act Refusal) → ComesBy old new before after t o result
+pub some_comes : (old new : List Node) (before after : Standing) (t : Tree) (o : Option Request) (result : Result Act Error) → ComesBy old new before after t o result
     → (r : Request) × (becomes : State → Outcome) × Comes old new before after r becomes result
-some_comes old new before after t None result h = (other_request, λ s. refused 1, h)
+some_comes old new before after t None result h = (other_request, λ s. refused bad_syntax, h)
 some_comes old new before after t (Some r) result h = (r, λ s. outcome_requested s t r, h)

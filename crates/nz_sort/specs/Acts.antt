@@ -1,5 +1,5 @@
--- What the acts of the code ask, and the errors that its refusals are.
-use Rattle.std.specs.Prelude.{◌≡◌, ℕ, Bool, true, false, List, Option, Some, None}
+-- What the acts of the code ask, and the errors by which it refuses.
+use Rattle.std.specs.Prelude.{◌≡◌, Bool, true, false, List, Option, Some, None}
 use Rattle.nz_spec.specs.Table.{Node}
 use Rattle.nz_spec.specs.Request.{Request}
 use Rattle.nz_spec.specs.Live.{State}
@@ -7,6 +7,10 @@ use Rattle.nz_spec.specs.Reply.{Reply}
 use Rattle.nz_spec.specs.Right.{effect}
 use Rattle.nz_spec.specs.Command as commands
 use Rattle.nz_spec.specs.Command.{name_info, version_info, authors_info, error_behavior_info, Command, Outcome, accepted, refused, not_taken}
+use Rattle.nz_spec.specs.Error as spec
+use Rattle.nz_base.specs.Errors.{error_of}
+use Rattle.nz_base.specs.declared.reply_errors.Error.{Error}
+use Rattle.nz_base.specs.declared.reply_errors.Error.TheVariants as code
 use Rattle.nz_sort.specs.Live.{Ask, Asks, changed, check, show_model, show_values, show_reason, show_info, show_levels, print_success, nothing, echo, leave, unsupported}
 use Rattle.nz_elaborate.specs.declared.faults.ElaborateError.{ElaborateError}
 use Rattle.nz_elaborate.specs.declared.faults.ElaborateError.TheVariants as errors
@@ -14,8 +18,6 @@ use Rattle.nz_sort.specs.declared.acts.Act.{Act}
 use Rattle.nz_sort.specs.declared.acts.Act.TheVariants.{Changed, Check, ShowModel, ShowValues, ShowReason, ShowInfo, ShowLevels, PrintSuccess, Nothing, Echo, Leave, Unsupported}
 use Rattle.nz_sort.specs.declared.acts.Info.{Info}
 use Rattle.nz_sort.specs.declared.acts.Info.TheVariants.{Name, Version, Authors, ErrorBehavior}
-use Rattle.nz_sort.specs.declared.refusal.Refusal.{Refusal}
-use Rattle.nz_sort.specs.declared.refusal.Refusal.TheVariants as refusals
 
 abbrev pub info_meaning : Info → commands.Info
 info_meaning Name = name_info
@@ -51,23 +53,17 @@ pub record AsksOnly (c : Command) (ask : Ask) : Type 0 where
 -- an outcome that is the same in all states asks this
 abbrev pub AsksBy : Outcome → Act → Type 0
 AsksBy (accepted c) act = AsksOnly c (asked act)
-AsksBy (refused n) act = ⊥
+AsksBy (refused e) act = ⊥
 AsksBy not_taken act = asked act ≡ unsupported
 
--- the number of the error that a refusal is; want of memory is no rule's
-abbrev pub error_of : Refusal → Option ℕ
-error_of refusals.Syntax = Some 1
-error_of refusals.UnknownSymbol = Some 2
-error_of refusals.Sort = Some 3
-error_of refusals.NotLinear = Some 4
-error_of refusals.TooWide = Some 5
-error_of refusals.Limit = Some 6
-error_of refusals.Declared = Some 9
-error_of refusals.Memory = None
+-- the error of the rule that a command breaks; want of memory is no rule's
+abbrev pub rule_of : Error → Option spec.Error
+rule_of code.OutOfMemory = None
+rule_of e = Some (error_of e)
 
--- the rule that a term breaks
-abbrev pub refusal_by : ElaborateError → Refusal
-refusal_by errors.Unknown = refusals.UnknownSymbol
-refusal_by errors.Clash = refusals.Declared
-refusal_by errors.Sort = refusals.Sort
-refusal_by errors.Memory = refusals.Memory
+-- that of the rule that a term breaks
+abbrev pub refusal_by : ElaborateError → Error
+refusal_by errors.Unknown = code.UnknownSymbol
+refusal_by errors.Clash = code.AlreadyDeclared
+refusal_by errors.Sort = code.Sort
+refusal_by errors.Memory = code.OutOfMemory

@@ -9,6 +9,8 @@ use Rattle.nz_spec.specs.Request.{Question, Request, other_request}
 use Rattle.nz_spec.specs.Live.{State}
 use Rattle.nz_spec.specs.Command.{define, assert_term, get_value, Outcome, accepted, refused}
 use Rattle.nz_spec.specs.Script.{asked_of, outcome_requested}
+use Rattle.nz_spec.specs.Error.{bad_syntax}
+use Rattle.nz_base.specs.declared.reply_errors.Error.{Error}
 use Rattle.nz_term.specs.Constants.{sort_of}
 use Rattle.nz_elaborate.specs.declared.typed.Typed.{Typed}
 use Rattle.nz_elaborate.specs.declared.names.Definition.{Definition}
@@ -16,17 +18,16 @@ use Rattle.nz_elaborate.specs.declared.names.Named.TheVariants as kinds
 use Rattle.nz_elaborate.specs.Names.{IsDefined}
 use Rattle.nz_elaborate.specs.Typed.{StandsFor, AreTyped}
 use Rattle.nz_sort.specs.declared.acts.Act.{Act}
-use Rattle.nz_sort.specs.declared.refusal.Refusal.{Refusal}
-use Rattle.nz_sort.specs.Acts.{asked, error_of}
+use Rattle.nz_sort.specs.Acts.{asked, rule_of}
 use Rattle.nz_sort.specs.Live.{Standing, IsLive, Leaves, IfSkipped}
 
 -- ---- What comes of a command
 
 -- What comes of a command that is written so, over what stood before, where this becomes of it: what it leaves and asks, or the
 -- rule that it breaks; and what stays.
-pub record Comes (old new : List Node) (before after : Standing) (r : Request) (becomes : State → Outcome) (result : Result Act Refusal) : Type 0 where
+pub record Comes (old new : List Node) (before after : Standing) (r : Request) (becomes : State → Outcome) (result : Result Act Error) : Type 0 where
   pub accepted : IfOk result (λ act. (s : State) → IsLive old before s → Leaves s r (becomes s) (asked act) new after)
-  pub refused : IfErr result (λ refusal. IfSome (error_of refusal) (λ n. (s : State) → IsLive old before s → becomes s ≡ refused n))
+  pub refused : IfErr result (λ refusal. IfSome (rule_of refusal) (λ e. (s : State) → IsLive old before s → becomes s ≡ refused e))
   pub kept : take (length old) new ≡ old
   pub unchanged : OnErr result (after ≡ before)
   pub skipped_terms : IfOk result (λ act. IfSkipped (asked act) (new ≡ old))
@@ -34,9 +35,9 @@ pub record Comes (old new : List Node) (before after : Standing) (r : Request) (
   pub front : take (length before.asserted) after.asserted ≡ before.asserted
 
 -- What comes of a tree that is this command, or none.
-abbrev pub ComesBy : List Node → List Node → Standing → Standing → Tree → Option Request → Result Act Refusal → Type 0
+abbrev pub ComesBy : List Node → List Node → Standing → Standing → Tree → Option Request → Result Act Error → Type 0
 ComesBy old new before after t (Some r) result = Comes old new before after r (λ s. outcome_requested s t r) result
-ComesBy old new before after t None result = Comes old new before after other_request (λ s. refused 1) result
+ComesBy old new before after t None result = Comes old new before after other_request (λ s. refused bad_syntax) result
 
 -- ---- Definitions, assertions and values
 

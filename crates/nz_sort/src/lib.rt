@@ -7,9 +7,7 @@ mod acts;
 mod items;
 mod limits;
 mod live;
-mod refusal;
 
 pub use acts::{Act, Info};
 pub use items::{Accepted, Goal, Wish};
 pub use live::Live;
-pub use refusal::Refusal;

@@ -20,14 +20,13 @@ ghost use Rattle.nz_elaborate.specs.Names.{named_by};
 ghost use Rattle.nz_elaborate.specs.Typed.{Grows, AreTyped};
 ghost use Rattle.nz_sort.specs.Items.{table_numbers};
 ghost use Rattle.nz_sort.specs.Live.{IsLive, IsCarriedOut, IfSkipped, standing_of, check, unsupported};
-ghost use Rattle.nz_sort.specs.Acts.{asked, error_of, refusal_by};
+ghost use Rattle.nz_sort.specs.Acts.{asked, rule_of, refusal_by};
 ghost use Rattle.nz_sort.specs.Changes.{Comes, ComesBy, Defines, Asserts, Shows, HasAdded, constant_of, with_constant, with_definition, with_assertion};
 
 use crate::acts::{Act, info_act, setting_act};
 use crate::items::{Accepted, Goal, Wish};
 use crate::limits::passes_limit;
-use crate::refusal::Refusal;
-use nz_base::{Memory, Text};
+use nz_base::{Error, Memory, Text};
 use nz_command::{Command, Expression, Parameter, Question, WrittenSort, number_faults, parse};
 use nz_elaborate::{
     Definition, ElaborateError, Named, Names, Typed, elaborate, elaborate_all, elaborate_body,
@@ -152,13 +151,13 @@ impl Live {
     ///
     /// # Errors
     ///
-    /// The first rule that the command breaks, and `Memory`. Then the live state and the table are as before, and so they are
+    /// That of the first rule that the command breaks, and `OutOfMemory`. Then the live state and the table are as before, and so they are
     /// after `Unsupported`.
     #[tactic(auto, using(crate::proofs::Living::cut_back, crate::proofs::Living::kept_where_same))]
-    pub fn command(&mut self, terms: &mut Terms, tree: &Tree) -> Result<Act, Refusal>
+    pub fn command(&mut self, terms: &mut Terms, tree: &Tree) -> Result<Act, Error>
         requires live { (s : State) × IsLive terms.old self.old s }
         ensures accepted { IfOk result (λ act. (s : State) → IsLive terms.old self.old s → IsCarriedOut s (view tree.now) (asked act) terms.new self.new) }
-        ensures refused { IfErr result (λ refusal. IfSome (error_of refusal) (λ n. (s : State) → IsLive terms.old self.old s → outcome_of s (view tree.now) ≡ refused n)) }
+        ensures refused { IfErr result (λ refusal. IfSome (rule_of refusal) (λ e. (s : State) → IsLive terms.old self.old s → outcome_of s (view tree.now) ≡ refused e)) }
         ensures kept { take (length terms.old) terms.new ≡ terms.old }
         ensures unchanged_terms { OnErr result (terms.new ≡ terms.old) }
         ensures unchanged { OnErr result (self.new ≡ self.old) }
@@ -178,33 +177,33 @@ impl Live {
 
     /// The rules in their order: first of all the command is of its form. After an error the table may have grown, and so after those
     /// below.
-    fn carried_out(&mut self, terms: &mut Terms, tree: &Tree) -> Result<Act, Refusal>
+    fn carried_out(&mut self, terms: &mut Terms, tree: &Tree) -> Result<Act, Error>
         requires live { (s : State) × IsLive terms.old self.old s }
         ensures comes { ComesBy terms.old terms.new self.old self.new (view tree.now) (request_of (view tree.now)) result }
     {
         match parse(self.alloc, tree)? {
             Some(command) => self.ruled(terms, tree, &command),
-            None => Err(Refusal::Syntax),
+            None => Err(Error::Syntax),
         }
     }
 
     /// The limits, the width of numbers anywhere in the command, and then the rules on what it asks.
-    fn ruled(&mut self, terms: &mut Terms, tree: &Tree, command: &Command) -> Result<Act, Refusal>
+    fn ruled(&mut self, terms: &mut Terms, tree: &Tree, command: &Command) -> Result<Act, Error>
         requires live { (s : State) × IsLive terms.old self.old s }
         ensures comes { Comes terms.old terms.new self.old self.new (request command.now) (λ s. outcome_requested s (view tree.now) (request command.now)) result }
     {
         let faults = number_faults(tree);
         if faults.long || passes_limit(self.constants.len(), command) {
-            return Err(Refusal::Limit);
+            return Err(Error::Limit);
         }
         if faults.wide {
-            return Err(Refusal::TooWide);
+            return Err(Error::TooWide);
         }
         self.requested(terms, command)
     }
 
     /// Carries out a command that is within the limits, where the program takes it.
-    fn requested(&mut self, terms: &mut Terms, command: &Command) -> Result<Act, Refusal>
+    fn requested(&mut self, terms: &mut Terms, command: &Command) -> Result<Act, Error>
         requires live { (s : State) × IsLive terms.old self.old s }
         ensures comes { Comes terms.old terms.new self.old self.new (request command.now) (λ s. outcome_by s (request command.now)) result }
     {
@@ -248,7 +247,7 @@ impl Live {
         name: &Text,
         sorts: &[WrittenSort],
         sort: &WrittenSort,
-    ) -> Result<Act, Refusal>
+    ) -> Result<Act, Error>
         ensures comes { Comes terms.old terms.new self.old self.new (requests.declares name.now (map sort_view sorts.now) (sort_view sort.now)) (λ s. declaration_of s name.now (map sort_view sorts.now) (sort_view sort.now)) result }
     {
         term_stays();
@@ -256,7 +255,7 @@ impl Live {
             Err(refusal) => Err(refusal),
             Ok(sort) => match self.add_constant(terms, name, sort) {
                 Ok(()) => Ok(Act::Changed),
-                Err(Memory) => Err(Refusal::Memory),
+                Err(Memory) => Err(Error::OutOfMemory),
             },
         }
     }
@@ -267,23 +266,23 @@ impl Live {
         name: &Text,
         sorts: &[WrittenSort],
         sort: &WrittenSort,
-    ) -> Result<Sort, Refusal>
+    ) -> Result<Sort, Error>
         ensures fresh { OnOk result (named_by self.now.names name.now ≡ None) }
         ensures accepted { IfOk result (λ found. (ns : List Node) (s : State) → IsLive ns self.now s → declaration_of s name.now (map sort_view sorts.now) (sort_view sort.now) ≡ accepted (declare_const (constant_of name.now (sort_of found)))) }
-        ensures refused { IfErr result (λ refusal. IfSome (error_of refusal) (λ n. (ns : List Node) (s : State) → IsLive ns self.now s → declaration_of s name.now (map sort_view sorts.now) (sort_view sort.now) ≡ refused n)) }
+        ensures refused { IfErr result (λ refusal. IfSome (rule_of refusal) (λ e. (ns : List Node) (s : State) → IsLive ns self.now s → declaration_of s name.now (map sort_view sorts.now) (sort_view sort.now) ≡ refused e)) }
     {
         if has_unknown_sort(sorts) || is_unknown_sort(sort) {
-            return Err(Refusal::UnknownSymbol);
+            return Err(Error::UnknownSymbol);
         }
         if self.names.get(name).is_some() {
-            return Err(Refusal::Declared);
+            return Err(Error::AlreadyDeclared);
         }
         if !sorts.is_empty() {
-            return Err(Refusal::Sort);
+            return Err(Error::Sort);
         }
         match written_sort(sort) {
             Some(found) => Ok(found),
-            None => Err(Refusal::Sort),
+            None => Err(Error::Sort),
         }
     }
 
@@ -335,7 +334,7 @@ impl Live {
         parameters: &[Parameter<'a>],
         sort: &WrittenSort,
         body: &Expression<'a>,
-    ) -> Result<Act, Refusal>
+    ) -> Result<Act, Error>
         requires live { (s : State) × IsLive terms.old self.old s }
         ensures comes { Comes terms.old terms.new self.old self.new (requests.defines name.now (map parameter_view parameters.now) (sort_view sort.now) (written body.now)) (λ s. definition_of s name.now (map parameter_view parameters.now) (sort_view sort.now) (written body.now)) result }
     {
@@ -344,7 +343,7 @@ impl Live {
             Err(refusal) => Err(refusal),
             Ok(definition) => match self.add_definition(name, definition) {
                 Ok(()) => Ok(Act::Changed),
-                Err(Memory) => Err(Refusal::Memory),
+                Err(Memory) => Err(Error::OutOfMemory),
             },
         }
     }
@@ -357,13 +356,13 @@ impl Live {
         parameters: &[Parameter<'a>],
         sort: &WrittenSort,
         body: &Expression<'a>,
-    ) -> Result<Definition, Refusal>
+    ) -> Result<Definition, Error>
         requires live { (s : State) × IsLive terms.old self.now s }
         ensures grows { Grows terms.old terms.new }
         ensures companions { OnOk result (HasCompanions terms.new) }
         ensures fresh { OnOk result (named_by self.now.names name.now ≡ None) }
         ensures accepted { IfOk result (λ d. (s : State) → IsLive terms.old self.now s → Defines name.now (definition_of s name.now (map parameter_view parameters.now) (sort_view sort.now) (written body.now)) terms.new d) }
-        ensures refused { IfErr result (λ refusal. IfSome (error_of refusal) (λ n. (s : State) → IsLive terms.old self.now s → definition_of s name.now (map parameter_view parameters.now) (sort_view sort.now) (written body.now) ≡ refused n)) }
+        ensures refused { IfErr result (λ refusal. IfSome (rule_of refusal) (λ e. (s : State) → IsLive terms.old self.now s → definition_of s name.now (map parameter_view parameters.now) (sort_view sort.now) (written body.now) ≡ refused e)) }
     {
         terms_fit();
         let is_declared = self.names.get(name).is_some();
@@ -371,20 +370,20 @@ impl Live {
         match elaborate_body(self.alloc, &self.names, terms, parameters, sort, body) {
             Err(ElaborateError::Sort) => {
                 if is_declared {
-                    Err(Refusal::Declared)
+                    Err(Error::AlreadyDeclared)
                 } else {
-                    Err(Refusal::Sort)
+                    Err(Error::Sort)
                 }
             }
-            Err(ElaborateError::Unknown) => Err(Refusal::UnknownSymbol),
-            Err(ElaborateError::Clash) => Err(Refusal::Declared),
-            Err(ElaborateError::Memory) => Err(Refusal::Memory),
+            Err(ElaborateError::Unknown) => Err(Error::UnknownSymbol),
+            Err(ElaborateError::Clash) => Err(Error::AlreadyDeclared),
+            Err(ElaborateError::Memory) => Err(Error::OutOfMemory),
             Ok(definition) => {
                 if is_declared {
-                    return Err(Refusal::Declared);
+                    return Err(Error::AlreadyDeclared);
                 }
                 if !terms.is_linear(definition.body.id) {
-                    return Err(Refusal::NotLinear);
+                    return Err(Error::NotLinear);
                 }
                 add_companions(self.alloc, terms, mark)?;
                 Ok(definition)
@@ -417,7 +416,7 @@ impl Live {
     // ---- Assertions
 
     /// Asserts a term.
-    fn assert_term(&mut self, terms: &mut Terms, term: &Expression) -> Result<Act, Refusal>
+    fn assert_term(&mut self, terms: &mut Terms, term: &Expression) -> Result<Act, Error>
         requires live { (s : State) × IsLive terms.old self.old s }
         ensures comes { Comes terms.old terms.new self.old self.new (requests.asserts (written term.now)) (λ s. assertion_of s (written term.now)) result }
     {
@@ -426,29 +425,29 @@ impl Live {
             Err(refusal) => Err(refusal),
             Ok(id) => match self.keep_assertion(id, terms.holds_number(id)) {
                 Ok(()) => Ok(Act::Changed),
-                Err(Memory) => Err(Refusal::Memory),
+                Err(Memory) => Err(Error::OutOfMemory),
             },
         }
     }
 
     /// The normal term of what may be asserted, and the rules on it, with the companions of what is made.
-    fn assertion(&self, terms: &mut Terms, term: &Expression) -> Result<TermId, Refusal>
+    fn assertion(&self, terms: &mut Terms, term: &Expression) -> Result<TermId, Error>
         requires live { (s : State) × IsLive terms.old self.now s }
         ensures grows { Grows terms.old terms.new }
         ensures companions { OnOk result (HasCompanions terms.new) }
         ensures within { IfOk result (λ id. id < length terms.new) }
         ensures accepted { IfOk result (λ id. (s : State) → IsLive terms.old self.now s → Asserts (assertion_of s (written term.now)) terms.new id) }
-        ensures refused { IfErr result (λ refusal. IfSome (error_of refusal) (λ n. (s : State) → IsLive terms.old self.now s → assertion_of s (written term.now) ≡ refused n)) }
+        ensures refused { IfErr result (λ refusal. IfSome (rule_of refusal) (λ e. (s : State) → IsLive terms.old self.now s → assertion_of s (written term.now) ≡ refused e)) }
     {
         let mark = terms.mark();
         match elaborate(self.alloc, &self.names, terms, term) {
             Err(error) => Err(refusal_of(error)),
             Ok(made) => {
                 if made.sort != Sort::Bool {
-                    return Err(Refusal::Sort);
+                    return Err(Error::Sort);
                 }
                 if !terms.is_linear(made.id) {
-                    return Err(Refusal::NotLinear);
+                    return Err(Error::NotLinear);
                 }
                 add_companions(self.alloc, terms, mark)?;
                 Ok(made.id)
@@ -474,7 +473,7 @@ impl Live {
     // ---- Values
 
     /// The terms whose values are asked for.
-    fn show_values(&self, terms: &mut Terms, questions: &[Question]) -> Result<Act, Refusal>
+    fn show_values(&self, terms: &mut Terms, questions: &[Question]) -> Result<Act, Error>
         requires live { (s : State) × IsLive terms.old self.now s }
         ensures comes { Comes terms.old terms.new self.now self.now (requests.shows_values (map question_view questions.now)) (λ s. values_asked s (map question_view questions.now)) result }
     {
@@ -486,19 +485,19 @@ impl Live {
     }
 
     /// The normal terms of what may be asked for, and the rules on them, with the companions of what is made.
-    fn values(&self, terms: &mut Terms, questions: &[Question]) -> Result<Vec<Typed>, Refusal>
+    fn values(&self, terms: &mut Terms, questions: &[Question]) -> Result<Vec<Typed>, Error>
         requires live { (s : State) × IsLive terms.old self.now s }
         ensures grows { Grows terms.old terms.new }
         ensures companions { OnOk result (HasCompanions terms.new) }
         ensures accepted { IfOk result (λ xs. (s : State) → IsLive terms.old self.now s → Shows (map question_view questions.now) (values_asked s (map question_view questions.now)) terms.new xs.items) }
-        ensures refused { IfErr result (λ refusal. IfSome (error_of refusal) (λ n. (s : State) → IsLive terms.old self.now s → values_asked s (map question_view questions.now) ≡ refused n)) }
+        ensures refused { IfErr result (λ refusal. IfSome (rule_of refusal) (λ e. (s : State) → IsLive terms.old self.now s → values_asked s (map question_view questions.now) ≡ refused e)) }
     {
         let mark = terms.mark();
         match elaborate_all(self.alloc, &self.names, terms, questions) {
             Err(error) => Err(refusal_of(error)),
             Ok(values) => {
                 if !are_linear(terms, values.as_slice()) {
-                    return Err(Refusal::NotLinear);
+                    return Err(Error::NotLinear);
                 }
                 add_companions(self.alloc, terms, mark)?;
                 Ok(values)
@@ -507,15 +506,15 @@ impl Live {
     }
 }
 
-/// The rule that a term breaks.
-fn refusal_of(error: ElaborateError) -> Refusal
+/// The error of the rule that a term breaks.
+fn refusal_of(error: ElaborateError) -> Error
     ensures refusal { result ≡ refusal_by error }
 {
     match error {
-        ElaborateError::Unknown => Refusal::UnknownSymbol,
-        ElaborateError::Clash => Refusal::Declared,
-        ElaborateError::Sort => Refusal::Sort,
-        ElaborateError::Memory => Refusal::Memory,
+        ElaborateError::Unknown => Error::UnknownSymbol,
+        ElaborateError::Clash => Error::AlreadyDeclared,
+        ElaborateError::Sort => Error::Sort,
+        ElaborateError::Memory => Error::OutOfMemory,
     }
 }
 

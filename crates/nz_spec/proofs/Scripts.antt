@@ -132,6 +132,7 @@ errors_right =
     )
 
 pub errors_worked : IsWorked errors
+unfolding digits
 errors_worked = record { transcript = worked_by errors refl errors_right; output = refl }
 
 -- ---- Models

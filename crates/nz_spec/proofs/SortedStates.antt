@@ -16,6 +16,7 @@ use Rattle.nz_spec.specs.Linear.{is_linear}
 use Rattle.nz_spec.specs.Elaboration.{has_sort, placed, Definition, term_of, terms_of}
 use Rattle.nz_spec.specs.Live.{State, constants_of, LiveItem, numbered_items, Item, declared, defined, asserted, sought, wished, items_of, items_hold_numbers, definitions_in, assertions_in, assertions_of, with_item, grown}
 use Rattle.nz_spec.specs.Command.{Command, declare_const, define, assert_term, check_sat, get_value, get_info, get_levels, get_reason, name_info, version_info, authors_info, error_behavior_info, set_print_success, no_effect, Outcome, accepted, refused, not_taken}
+use Rattle.nz_spec.specs.Error.{bad_syntax, unknown_symbol, wrong_sort, too_wide, past_limit, already_declared}
 use Rattle.nz_spec.specs.Limits.{passes_limit}
 use Rattle.nz_spec.specs.Script.{is_live_name, scope_of, constant_sort, sort_written, is_unknown_sort, declaration_of, parameter_names, parameter_sorts, sorts_written, parameters_from, body_scope, linear_outcome, definition_by, definition_of, asserted_outcome, assertion_of, asked_expressions, all_linear, asked_of, values_asked, info_asked, option_set, outcome_by, outcome_requested, outcome_of}
 use Rattle.nz_spec.specs.Scoping.{clash, has_clash, have_clash, has_unknown, have_unknown}
@@ -101,15 +102,15 @@ module _ (a : Assignment) (given : IsAssignment a) where
   linear_good true c h = h
   linear_good false c h = tt
 
-  declared_good : (name : List ℕ) (m : Option Sort) → IsGood (elim m [ Some is ↦ accepted (declare_const (record { name = name; sort = is })) | None ↦ refused 3 ])
+  declared_good : (name : List ℕ) (m : Option Sort) → IsGood (elim m [ Some is ↦ accepted (declare_const (record { name = name; sort = is })) | None ↦ refused wrong_sort ])
   declared_good name (Some is) = tt
   declared_good name None = tt
 
   declaration_good : (s : State) (name : List ℕ) (arguments : List WrittenSort) (sort : WrittenSort) → IsGood (declaration_of s name arguments sort)
   declaration_good s name arguments sort =
-      let by_sort : Outcome = elim (constant_sort arguments sort) [ Some is ↦ accepted (declare_const (record { name = name; sort = is })) | None ↦ refused 3 ] in
-      good_if (list_any is_unknown_sort arguments || is_unknown_sort sort) (refused 2) (if is_live_name s name then refused 9 else by_sort) tt
-      (good_if (is_live_name s name) (refused 9) by_sort tt (declared_good name (constant_sort arguments sort)))
+      let by_sort : Outcome = elim (constant_sort arguments sort) [ Some is ↦ accepted (declare_const (record { name = name; sort = is })) | None ↦ refused wrong_sort ] in
+      good_if (list_any is_unknown_sort arguments || is_unknown_sort sort) (refused unknown_symbol) (if is_live_name s name then refused already_declared else by_sort) tt
+      (good_if (is_live_name s name) (refused already_declared) by_sort tt (declared_good name (constant_sort arguments sort)))
 
   -- the parameters stand at their places
   parameters_bound : (rs ss : List Sort) (k : ℕ) (names : List (List ℕ)) → ((j i : ℕ) → i ≡ k + j → slice_get rs i ≡ slice_get ss j) → AreBound (IsSorted a rs) (parameters_from k names ss)
@@ -118,7 +119,7 @@ module _ (a : Assignment) (given : IsAssignment a) where
   parameters_bound rs (s ∷ ss) k (name ∷ names) e = ((e 0 k (omega arith), refl, tt), parameters_bound rs ss (suc k) names (λ j i f. e (suc j) i (omega (arith, f))))
 
   body_good : (name : List ℕ) (sorts : List Sort) (sort : Sort) (m : Option Term) → IfFound (IsPlaced (IsSorted a sorts) sort) m
-      → IsGood (elim m [ Some t ↦ linear_outcome (is_linear (normal_of t)) (define (record { name = name; parameters = sorts; body = t })) | None ↦ refused 3 ])
+      → IsGood (elim m [ Some t ↦ linear_outcome (is_linear (normal_of t)) (define (record { name = name; parameters = sorts; body = t })) | None ↦ refused wrong_sort ])
   body_good name sorts sort (Some t) h = linear_good (is_linear (normal_of t)) (define (record { name = name; parameters = sorts; body = t })) h.0
   body_good name sorts sort None h = tt
 
@@ -141,35 +142,35 @@ module _ (a : Assignment) (given : IsAssignment a) where
     definition_good name parameters sort body =
         let names = parameter_names parameters in
         let made : Outcome = definition_by s name names (sorts_written (parameter_sorts parameters)) (sort_written sort) body in
-        good_if (list_any is_unknown_sort (parameter_sorts parameters) || is_unknown_sort sort || has_unknown (is_live_name s) names body) (refused 2)
-        (if is_live_name s name || clash names || has_clash body then refused 9 else made) tt
-        (good_if (is_live_name s name || clash names || has_clash body) (refused 9) made tt
+        good_if (list_any is_unknown_sort (parameter_sorts parameters) || is_unknown_sort sort || has_unknown (is_live_name s) names body) (refused unknown_symbol)
+        (if is_live_name s name || clash names || has_clash body then refused already_declared else made) tt
+        (good_if (is_live_name s name || clash names || has_clash body) (refused already_declared) made tt
         (definition_by_good name names (sorts_written (parameter_sorts parameters)) (sort_written sort) body))
 
-    asserted_by : (b : Bool) (t : Term) → has_sort bool_sort t ≡ b → IsSorted a [] t → IsGood (if b then linear_outcome (is_linear (normal_of t)) (assert_term t) else refused 3)
+    asserted_by : (b : Bool) (t : Term) → has_sort bool_sort t ≡ b → IsSorted a [] t → IsGood (if b then linear_outcome (is_linear (normal_of t)) (assert_term t) else refused wrong_sort)
     asserted_by true t e h = linear_good (is_linear (normal_of t)) (assert_term t) (h, sym (same_sorts bool_sort (sort_of t) e))
     asserted_by false t e h = tt
 
-    stated_good : (m : Option Term) → IfFound (IsSorted a []) m → IsGood (elim m [ Some u ↦ asserted_outcome u | None ↦ refused 3 ])
+    stated_good : (m : Option Term) → IfFound (IsSorted a []) m → IsGood (elim m [ Some u ↦ asserted_outcome u | None ↦ refused wrong_sort ])
     stated_good (Some t) h = asserted_by (has_sort bool_sort t) t refl h
     stated_good None h = tt
 
     assertion_good : (e : Expression) → IsGood (assertion_of s e)
     assertion_good e =
-        let stated : Outcome = elim (term_of (scope_of s) e) [ Some u ↦ asserted_outcome u | None ↦ refused 3 ] in
-        good_if (has_unknown (is_live_name s) [] e) (refused 2) (if has_clash e then refused 9 else stated) tt
-        (good_if (has_clash e) (refused 9) stated tt (stated_good (term_of (scope_of s) e) (term_sorted a [] (scope_of s) e scope_is)))
+        let stated : Outcome = elim (term_of (scope_of s) e) [ Some u ↦ asserted_outcome u | None ↦ refused wrong_sort ] in
+        good_if (has_unknown (is_live_name s) [] e) (refused unknown_symbol) (if has_clash e then refused already_declared else stated) tt
+        (good_if (has_clash e) (refused already_declared) stated tt (stated_good (term_of (scope_of s) e) (term_sorted a [] (scope_of s) e scope_is)))
 
-    asked_good : (qs : List Question) (m : Option Terms) → IsGood (elim m [ Some us ↦ linear_outcome (all_linear us) (get_value (asked_of qs us)) | None ↦ refused 3 ])
+    asked_good : (qs : List Question) (m : Option Terms) → IsGood (elim m [ Some us ↦ linear_outcome (all_linear us) (get_value (asked_of qs us)) | None ↦ refused wrong_sort ])
     asked_good qs (Some us) = linear_good (all_linear us) (get_value (asked_of qs us)) tt
     asked_good qs None = tt
 
     values_good : (qs : List Question) → IsGood (values_asked s qs)
     values_good qs =
         let es = asked_expressions qs in
-        let asked : Outcome = elim (terms_of (scope_of s) es) [ Some us ↦ linear_outcome (all_linear us) (get_value (asked_of qs us)) | None ↦ refused 3 ] in
-        good_if (have_unknown (is_live_name s) [] es) (refused 2) (if have_clash es then refused 9 else asked) tt
-        (good_if (have_clash es) (refused 9) asked tt (asked_good qs (terms_of (scope_of s) es)))
+        let asked : Outcome = elim (terms_of (scope_of s) es) [ Some us ↦ linear_outcome (all_linear us) (get_value (asked_of qs us)) | None ↦ refused wrong_sort ] in
+        good_if (have_unknown (is_live_name s) [] es) (refused unknown_symbol) (if have_clash es then refused already_declared else asked) tt
+        (good_if (have_clash es) (refused already_declared) asked tt (asked_good qs (terms_of (scope_of s) es)))
 
     info_good : (k : InfoKey) → IsGood (info_asked k)
     info_good name_key = tt
@@ -204,10 +205,10 @@ module _ (a : Assignment) (given : IsAssignment a) where
 
     requested_good : (t : Tree) (r : Request) → IsGood (outcome_requested s t r)
     requested_good t r =
-        let narrow : Outcome = if has_token is_wide_token t then refused 5 else outcome_by s r in
-        good_if (passes_limit s r || has_token is_long_decimal t) (refused 6) narrow tt (good_if (has_token is_wide_token t) (refused 5) (outcome_by s r) tt (request_good r))
+        let narrow : Outcome = if has_token is_wide_token t then refused too_wide else outcome_by s r in
+        good_if (passes_limit s r || has_token is_long_decimal t) (refused past_limit) narrow tt (good_if (has_token is_wide_token t) (refused too_wide) (outcome_by s r) tt (request_good r))
 
-    parsed_good : (t : Tree) (m : Option Request) → IsGood (elim m [ Some r ↦ outcome_requested s t r | None ↦ refused 1 ])
+    parsed_good : (t : Tree) (m : Option Request) → IsGood (elim m [ Some r ↦ outcome_requested s t r | None ↦ refused bad_syntax ])
     parsed_good t (Some r) = requested_good t r
     parsed_good t None = tt
 

@@ -3,6 +3,7 @@ use Rattle.std.proofs.Common.{◌≡◌, ℕ, ◌+◌, List, [], ◌∷◌, ◌+
 use Rattle.std.proofs.lemmas.List.{append-nil}
 use Rattle.nz_spec.specs.Tree.{Tree}
 use Rattle.nz_spec.specs.Text.{Limits, Heard, What, faulty, unclosed}
+use Rattle.nz_spec.specs.Error.{bad_syntax}
 use Rattle.nz_spec.specs.Reading.{Part, no_part, in_comment, in_word, in_string, after_quote, in_quoted, Reading, reading_start, next, told_at, read_on, told_on, told_open, hear_on}
 use Rattle.nz_spec.specs.Told.{ReadingIsHeard, ReadingTellsFirst}
 use Rattle.nz_spec.proofs.Readings.{hears, hears_one}
@@ -56,11 +57,11 @@ open_longest : (limits : Limits) (p : Part) (ls : List (List Tree)) (s : Reading
 open_longest limits no_part [] s front others rest rest' hp hl h k = none_open front others rest (told_open s) (rw (hl, hp) refl) h
 open_longest limits in_comment [] s front others rest rest' hp hl h k = none_open front others rest (told_open s) (rw (hl, hp) refl) h
 open_longest limits (in_word w) [] s front others rest rest' hp hl h k =
-    ends_apart front others rest rest' s.from s.at (faulty 1) (faulty 1) (told_open s) (hear_on limits s (97 ∷ [])) (rw (hl, hp) refl) (rw (hl, hp) refl) h k
+    ends_apart front others rest rest' s.from s.at (faulty bad_syntax) (faulty bad_syntax) (told_open s) (hear_on limits s (97 ∷ [])) (rw (hl, hp) refl) (rw (hl, hp) refl) h k
 open_longest limits (in_string w) [] s front others rest rest' hp hl h k =
     ends_apart front others rest rest' s.from s.at unclosed unclosed (told_open s) (hear_on limits s (97 ∷ [])) (rw (hl, hp) refl) (rw (hl, hp) refl) h k
 open_longest limits (after_quote w) [] s front others rest rest' hp hl h k =
-    ends_apart front others rest rest' s.from s.at (faulty 1) unclosed (told_open s) (hear_on limits s (34 ∷ [])) (rw (hl, hp) refl) (rw (hl, hp) refl) h k
+    ends_apart front others rest rest' s.from s.at (faulty bad_syntax) unclosed (told_open s) (hear_on limits s (34 ∷ [])) (rw (hl, hp) refl) (rw (hl, hp) refl) h k
 open_longest limits (in_quoted w) [] s front others rest rest' hp hl h k =
     ends_apart front others rest rest' s.from s.at unclosed unclosed (told_open s) (hear_on limits s (97 ∷ [])) (rw (hl, hp) refl) (rw (hl, hp) refl) h k
 open_longest limits p (l ∷ ls) s front others rest rest' hp hl h k =

@@ -3,6 +3,7 @@ use Rattle.std.specs.Prelude.{ℕ, Bool, List}
 use Rattle.nz_spec.specs.Tree.{Tree}
 use Rattle.nz_spec.specs.Term.{Constant, Term}
 use Rattle.nz_spec.specs.Elaboration.{Definition}
+use Rattle.nz_spec.specs.Error.{Error}
 
 -- what a get-info tells whatever the state
 pub data Info : Type 0 where
@@ -31,9 +32,9 @@ pub data Command : Type 0 where
   echo : List ℕ → Command
   exit : Command
 
--- What becomes of a command: it is accepted, or refused by the first rule that it breaks, told by the number of its error;
+-- What becomes of a command: it is accepted, or refused by the error of the first rule that it breaks;
 -- or it is one that the program doesn't take.
 pub data Outcome : Type 0 where
   accepted : Command → Outcome
-  refused : ℕ → Outcome
+  refused : Error → Outcome
   not_taken : Outcome

@@ -5,7 +5,7 @@ use Rattle.nz_spec.specs.Text.{What, intact, faulty, unclosed, unread, Heard}
 -- What a command is may give way to want of memory; anything else is told as it is.
 abbrev pub IsToldWhat : What → What → Type 0
 IsToldWhat unread (intact t) = ⊤
-IsToldWhat unread (faulty n) = ⊤
+IsToldWhat unread (faulty e) = ⊤
 IsToldWhat unread unclosed = ⊥
 IsToldWhat told what = told ≡ what
 

@@ -4,6 +4,7 @@ pub mod Bounds
 pub mod Command
 pub mod Decide
 pub mod Elaboration
+pub mod Error
 pub mod Example
 pub mod Expression
 pub mod Fraction

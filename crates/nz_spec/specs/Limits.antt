@@ -1,4 +1,4 @@
--- The limits of single commands: error 6.
+-- The limits of single commands.
 use Rattle.std.specs.Prelude.{ℕ, ◌+◌, ◌==◌, not, nat_lt, Bool, true, false, length, Option, Some, None}
 use Rattle.nz_spec.specs.Expression.{Numeric, written_integer, written_decimal}
 use Rattle.nz_spec.specs.Request.{Request, declares, wishes, pushes}

@@ -3,6 +3,7 @@
 use Rattle.std.specs.Prelude.{ℕ, ◌+◌, ◌-◌, ◌||◌, nat_lt, max, Bool, false, List, [], ◌∷◌, ◌++◌, length, Some, None, if◌then◌else◌}
 use Rattle.nz_spec.specs.Tree.{Tree, leaf, node, Trees, no_trees, trees}
 use Rattle.nz_spec.specs.Text.{ByteClass, blank_byte, left_byte, right_byte, comment_byte, quote_byte, bar_byte, word_byte, class_of, is_line_end, is_quote, is_bar, Filler, word, string, quoted, token_of, is_bad_filler, Limits, What, intact, faulty, unclosed, Heard}
+use Rattle.nz_spec.specs.Error.{bad_syntax, past_limit}
 
 -- a list of trees, as a tree holds it
 abbrev pub trees_from : List Tree → Trees
@@ -47,7 +48,7 @@ with_closed (l ∷ ls) = with_trees (node (trees_from l) ∷ []) ls
 
 -- one place where a refused thing stands
 abbrev pub heard_faulty : ℕ → ℕ → Heard
-heard_faulty from to = record { from = from; to = to; what = faulty 1 }
+heard_faulty from to = record { from = from; to = to; what = faulty bad_syntax }
 
 -- ---- A token ends
 
@@ -93,8 +94,8 @@ closed s = record s { at = s.at + 1; levels = with_closed s.levels }
 -- what the command is that has ended here
 abbrev pub what_of : Limits → List Tree → Reading → What
 what_of limits l s =
-    if s.bad then faulty 1
-    else (if nat_lt limits.depth s.deepest || nat_lt limits.bytes (s.at - s.from) then faulty 6
+    if s.bad then faulty bad_syntax
+    else (if nat_lt limits.depth s.deepest || nat_lt limits.bytes (s.at - s.from) then faulty past_limit
     else intact (node (trees_from l)))
 
 abbrev pub told_closed_by : Limits → List (List Tree) → Reading → List Heard

@@ -9,6 +9,7 @@ use Rattle.nz_spec.specs.Operations.{operations_of}
 use Rattle.nz_spec.specs.Model.{Binding}
 use Rattle.nz_spec.specs.Live.{Reason, units_spent}
 use Rattle.nz_spec.specs.Command.{Info, name_info, version_info, authors_info, error_behavior_info}
+use Rattle.nz_spec.specs.Error.{Error, error_line}
 use Rattle.nz_spec.specs.Work.{WorkList}
 
 -- what is told of the value of a term: the value, or the first operation that left the numbers
@@ -33,7 +34,7 @@ pub data Reply : Type 0 where
   reason : Reason → Reply
   echoed : List ℕ → Reply
   unsupported : Reply
-  error : ℕ → Reply  -- by its number
+  error : Error → Reply
 
 -- a line of a work list that is no unit: the next atom is this Boolean term
 pub data Note : Type 0 where
@@ -143,21 +144,6 @@ abbrev mutual
 abbrev pub shown_pair_text : Tree × Shown → List ℕ
 shown_pair_text p = list_text (tree_text p.0 ∷ shown_text p.1 ∷ [])
 
--- the text of an error, by its number
-abbrev pub error_text : ℕ → List ℕ
-error_text n =
-    if n == 1 then codes "(error \"1 syntax\")"
-    else (if n == 2 then codes "(error \"2 unknown symbol\")"
-    else (if n == 3 then codes "(error \"3 sort\")"
-    else (if n == 4 then codes "(error \"4 not linear\")"
-    else (if n == 5 then codes "(error \"5 number too wide\")"
-    else (if n == 6 then codes "(error \"6 limit\")"
-    else (if n == 7 then codes "(error \"7 no answer to show\")"
-    else (if n == 8 then codes "(error \"8 pop below zero\")"
-    else (if n == 9 then codes "(error \"9 already declared\")"
-    else (if n == 10 then codes "(error \"10 incomplete command\")"
-    else codes "(error \"11 out of memory\")")))))))))
-
 -- why a check wasn't decided
 abbrev pub reason_text : Reason → List ℕ
 reason_text (units_spent n) = codes "(spent " ++ decimal n ++ codes ")"
@@ -181,4 +167,4 @@ reply_text (unknown r) = codes "unknown" ++ line_feed
 reply_text (model bs) = codes "(\n" ++ flat_map binding_text bs ++ codes ")\n"
 reply_text (reason r) = codes "(:reason-unknown " ++ reason_text r ++ codes ")\n"
 reply_text unsupported = codes "unsupported" ++ line_feed
-reply_text (error n) = error_text n ++ line_feed
+reply_text (error e) = error_line e ++ line_feed

@@ -3,6 +3,7 @@ use Rattle.std.specs.Prelude.{◌≡◌, ℕ, ◌*◌, ◌^◌, ◌<◌, List, [
 use Rattle.nz_spec.specs.Tree.{Tree}
 use Rattle.nz_spec.specs.Term.{Term, Assignment}
 use Rattle.nz_spec.specs.Text.{What, intact, faulty, unclosed, unread}
+use Rattle.nz_spec.specs.Error.{nothing_to_show, incomplete, out_of_memory}
 use Rattle.nz_spec.specs.Model.{assignment_of, AreModel, IsUnsatisfiable}
 use Rattle.nz_spec.specs.Live.{units_spent, declared, defined, asserted, LastAnswer, model_found, refutation, undecided, Options, State, start, constants_of, assertions_of, grown, pushed_levels}
 use Rattle.nz_spec.specs.Command.{Asked, Command, declare_const, define, assert_term, check_sat, get_model, get_value, get_info, get_levels, get_reason, set_print_success, echo, exit, Outcome, accepted, refused, not_taken}
@@ -32,14 +33,14 @@ IsRightCheck c assumed (unknown r) (spent list) =
     (r ≡ units_spent c.limit) × (list.limit ≡ c.limit) × IsSpent list × (c.limit < 3 * 2 ^ length (constants_of c.state)) × AreAtoms (constants_of c.state) list.lines
 IsRightCheck c assumed reply cause = ⊥
 
--- what the last answer shows; error 7 where it has nothing to show
+-- what the last answer shows, where it has something to show
 abbrev pub IsRightModel : Option LastAnswer → Reply → Type 0
 IsRightModel (Some (model_found bs)) reply = reply ≡ model bs
-IsRightModel last reply = reply ≡ error 7
+IsRightModel last reply = reply ≡ error nothing_to_show
 
 abbrev pub IsRightReason : Option LastAnswer → Reply → Type 0
 IsRightReason (Some (undecided r)) reply = reply ≡ reason r
-IsRightReason last reply = reply ≡ error 7
+IsRightReason last reply = reply ≡ error nothing_to_show
 
 -- a term that is asked for, by its tree, and what is told of its value
 abbrev pub shown_under : Assignment → Asked → Tree × Shown
@@ -47,7 +48,7 @@ shown_under a x = (x.tree, term_shown a x.term)
 
 abbrev pub AreRightValues : Option LastAnswer → List Asked → Reply → Type 0
 AreRightValues (Some (model_found bs)) xs reply = reply ≡ values (map (shown_under (assignment_of bs)) xs)
-AreRightValues last xs reply = reply ≡ error 7
+AreRightValues last xs reply = reply ≡ error nothing_to_show
 
 -- the reply to a command that only changes the state, or nothing, where these are the options after it
 abbrev pub done : Options → Reply
@@ -66,18 +67,18 @@ IsRightCommand c k reply cause = (reply ≡ done c.state.options) × (cause ≡ 
 
 abbrev pub IsRightOutcome : Context → Outcome → Reply → Cause → Type 0
 IsRightOutcome c (accepted k) reply cause = IsRightCommand c k reply cause
-IsRightOutcome c (refused n) reply cause = (reply ≡ error n) × (cause ≡ plain)
+IsRightOutcome c (refused e) reply cause = (reply ≡ error e) × (cause ≡ plain)
 IsRightOutcome c not_taken reply cause = (reply ≡ unsupported) × (cause ≡ plain)
 
 -- the reply to want of memory
 abbrev pub IsOutOfMemory : Reply → Cause → Type 0
-IsOutOfMemory reply cause = (reply ≡ error 11) × (cause ≡ plain)
+IsOutOfMemory reply cause = (reply ≡ error out_of_memory) × (cause ≡ plain)
 
 -- The reply to a thing told; a command may be answered with want of memory in place of any other reply.
 abbrev pub IsRight : Context → What → Reply → Cause → Type 0
 IsRight c (intact t) reply cause = IsRightOutcome c (outcome_of c.state t) reply cause ⊎ IsOutOfMemory reply cause
-IsRight c (faulty n) reply cause = (reply ≡ error n) × (cause ≡ plain)
-IsRight c unclosed reply cause = (reply ≡ error 10) × (cause ≡ plain)
+IsRight c (faulty e) reply cause = (reply ≡ error e) × (cause ≡ plain)
+IsRight c unclosed reply cause = (reply ≡ error incomplete) × (cause ≡ plain)
 IsRight c unread reply cause = IsOutOfMemory reply cause
 
 -- ---- What a command leaves
@@ -99,12 +100,12 @@ effect s c reply = s
 
 abbrev pub effect_of : State → Outcome → Reply → State
 effect_of s (accepted c) reply = effect s c reply
-effect_of s (refused n) reply = s
+effect_of s (refused e) reply = s
 effect_of s not_taken reply = s
 
 -- The state after a thing told and its reply. An error leaves it as it was.
 abbrev pub after : State → What → Reply → State
-after s (intact t) (error n) = s
+after s (intact t) (error e) = s
 after s (intact t) reply = effect_of s (outcome_of s t) reply
 after s what reply = s
 

@@ -1,5 +1,5 @@
 -- What a run of the program claims, from its command line, the bytes that it read and the bytes that it wrote.
-use Rattle.std.specs.Prelude.{◌≡◌, ℕ, ◌≤◌, ◌==◌, ◌||◌, length, Bool, true, false, List, [], ◌++◌, take, Option, ◌⊎◌, if◌then◌else◌}
+use Rattle.std.specs.Prelude.{◌≡◌, ℕ, ◌≤◌, ◌||◌, length, Bool, true, false, List, [], ◌++◌, take, Option, ◌⊎◌, if◌then◌else◌}
 use Rattle.std.specs.List.{list_any}
 use Rattle.std.specs.Io.KnownBytes.{Keeps, Appends, Consumes, IsAtEnd}
 use Rattle.nz_spec.specs.Text.{Heard, script_limits}
@@ -7,6 +7,7 @@ use Rattle.nz_spec.specs.Kept.{AreToldAs}
 use Rattle.nz_spec.specs.Told.{AreComplete}
 use Rattle.nz_spec.specs.Live.{start}
 use Rattle.nz_spec.specs.Reply.{error, reply_text}
+use Rattle.nz_spec.specs.Error.{out_of_memory}
 use Rattle.nz_spec.specs.Transcript.{Kept, EndsByExit, things_of, texts_of, IsCutOff, IsTranscript, IsTranscriptSoFar, BeginsText, IsFrontBegun}
 
 -- the most units of work that one check may use, where the command line doesn't say
@@ -16,10 +17,10 @@ solve_limit = 200000
 -- ---- Statuses
 
 abbrev pub is_memory_error : Kept → Bool
-is_memory_error k = elim k.reply [ error n ↦ n == 11 | _ ↦ false ]
+is_memory_error k = elim k.reply [ error out_of_memory ↦ true | _ ↦ false ]
 
 abbrev pub is_error : Kept → Bool
-is_error k = elim k.reply [ error n ↦ true | _ ↦ false ]
+is_error k = elim k.reply [ error e ↦ true | _ ↦ false ]
 
 -- the status of a run that met no fault and came to its end: want of memory first, then any error
 abbrev pub status_of : Bool → List Kept → ℕ
@@ -59,7 +60,7 @@ pub record IsCutShort (limit : ℕ) (input rest before after : Option (List ℕ)
   pub ended : Bool
   pub at_end : ended ≡ true → IsAtEnd rest
   pub front : IsCutOff limit ended read kept
-  pub written : Appends before after (texts_of kept ++ reply_text (error 11))
+  pub written : Appends before after (texts_of kept ++ reply_text (error out_of_memory))
 
 -- A run that a fault of the input or the last of the reads interrupted: what was kept is the transcript so far of the bytes
 -- read, and the texts of its replies were written.

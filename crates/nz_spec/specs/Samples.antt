@@ -16,7 +16,7 @@ use Rattle.nz_spec.specs.Script.{outcome_of}
 -- the tree of what was heard, if it is one
 abbrev pub heard_tree : What → Tree
 heard_tree (intact t) = t
-heard_tree (faulty n) = node no_trees
+heard_tree (faulty e) = node no_trees
 heard_tree unclosed = node no_trees
 heard_tree unread = node no_trees
 

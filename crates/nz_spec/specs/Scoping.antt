@@ -1,4 +1,4 @@
--- Names in scope, and names that clash (SMT-LIB 2.6, section 3.6): what errors 2 and 9 ask of a term.
+-- Names in scope, and names that clash (SMT-LIB 2.6, section 3.6): what makes a symbol unknown, or declared already.
 use Rattle.std.specs.Prelude.{ℕ, ◌||◌, not, Bool, false, List, [], ◌∷◌, ◌++◌}
 use Rattle.nz_spec.specs.Expression.{Expression, written_number, written_name, written_use, written_let, Expressions, no_expressions, expressions, Locals, no_locals, locals, local_names}
 use Rattle.nz_spec.specs.Parse.{is_one_of}

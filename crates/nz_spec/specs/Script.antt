@@ -13,6 +13,7 @@ use Rattle.nz_spec.specs.Parse.{request_of}
 use Rattle.nz_spec.specs.Elaboration.{is_declared, sort_named, has_sort, placed, Scope, term_of, terms_of}
 use Rattle.nz_spec.specs.Live.{State, items_of, items_hold_numbers, constants_of, definitions_of}
 use Rattle.nz_spec.specs.Command.{name_info, version_info, authors_info, error_behavior_info, Asked, Command, declare_const, define, assert_term, check_sat, get_model, get_value, get_info, get_levels, get_reason, set_print_success, no_effect, echo, exit, Outcome, accepted, refused, not_taken}
+use Rattle.nz_spec.specs.Error.{bad_syntax, unknown_symbol, wrong_sort, not_linear, too_wide, past_limit, already_declared}
 use Rattle.nz_spec.specs.Limits.{passes_limit}
 use Rattle.nz_spec.specs.Scoping.{has_unknown, have_unknown, clash, has_clash, have_clash}
 
@@ -51,9 +52,9 @@ constant_sort (w ∷ ws) sort = None
 -- A constant of this name and sort, which is no function: it has no arguments.
 abbrev pub declaration_of : State → List ℕ → List WrittenSort → WrittenSort → Outcome
 declaration_of s name arguments sort =
-    if list_any is_unknown_sort arguments || is_unknown_sort sort then refused 2
-    else (if is_live_name s name then refused 9
-    else elim (constant_sort arguments sort) [ Some is ↦ accepted (declare_const (record { name = name; sort = is })) | None ↦ refused 3 ])
+    if list_any is_unknown_sort arguments || is_unknown_sort sort then refused unknown_symbol
+    else (if is_live_name s name then refused already_declared
+    else elim (constant_sort arguments sort) [ Some is ↦ accepted (declare_const (record { name = name; sort = is })) | None ↦ refused wrong_sort ])
 
 abbrev pub parameter_names : List Parameter → List (List ℕ)
 parameter_names ps = map (λ (p : Parameter). p.name) ps
@@ -71,33 +72,33 @@ abbrev pub body_scope : State → List (List ℕ) → List Sort → Scope
 body_scope s names sorts = record { constants = constants_of s; definitions = definitions_of s; bound = parameters_from 0 names sorts }
 
 abbrev pub linear_outcome : Bool → Command → Outcome
-linear_outcome linear c = if linear then accepted c else refused 4
+linear_outcome linear c = if linear then accepted c else refused not_linear
 
 -- a body of this sort under these parameters
 abbrev pub definition_by : State → List ℕ → List (List ℕ) → Option (List Sort) → Option Sort → Expression → Outcome
 definition_by s name names (Some sorts) (Some sort) body =
     elim (option_and_then (placed sort) (term_of (body_scope s names sorts) body)) [
       | Some t ↦ linear_outcome (is_linear (normal_of t)) (define (record { name = name; parameters = sorts; body = t }))
-      | None ↦ refused 3
+      | None ↦ refused wrong_sort
     ]
-definition_by s name names sorts sort body = refused 3
+definition_by s name names sorts sort body = refused wrong_sort
 
 abbrev pub definition_of : State → List ℕ → List Parameter → WrittenSort → Expression → Outcome
 definition_of s name parameters sort body =
     let names = parameter_names parameters in
-    if list_any is_unknown_sort (parameter_sorts parameters) || is_unknown_sort sort || has_unknown (is_live_name s) names body then refused 2
-    else (if is_live_name s name || clash names || has_clash body then refused 9
+    if list_any is_unknown_sort (parameter_sorts parameters) || is_unknown_sort sort || has_unknown (is_live_name s) names body then refused unknown_symbol
+    else (if is_live_name s name || clash names || has_clash body then refused already_declared
     else definition_by s name names (sorts_written (parameter_sorts parameters)) (sort_written sort) body)
 
 -- a term of sort Bool, where it is linear
 abbrev pub asserted_outcome : Term → Outcome
-asserted_outcome t = if has_sort bool_sort t then linear_outcome (is_linear (normal_of t)) (assert_term t) else refused 3
+asserted_outcome t = if has_sort bool_sort t then linear_outcome (is_linear (normal_of t)) (assert_term t) else refused wrong_sort
 
 abbrev pub assertion_of : State → Expression → Outcome
 assertion_of s e =
-    if has_unknown (is_live_name s) [] e then refused 2
-    else (if has_clash e then refused 9
-    else elim (term_of (scope_of s) e) [ Some t ↦ asserted_outcome t | None ↦ refused 3 ])
+    if has_unknown (is_live_name s) [] e then refused unknown_symbol
+    else (if has_clash e then refused already_declared
+    else elim (term_of (scope_of s) e) [ Some t ↦ asserted_outcome t | None ↦ refused wrong_sort ])
 
 -- the terms that are asked for
 abbrev pub asked_expressions : List Question → Expressions
@@ -116,9 +117,9 @@ all_linear (terms t ts) = is_linear (normal_of t) && all_linear ts
 abbrev pub values_asked : State → List Question → Outcome
 values_asked s qs =
     let es = asked_expressions qs in
-    if have_unknown (is_live_name s) [] es then refused 2
-    else (if have_clash es then refused 9
-    else elim (terms_of (scope_of s) es) [ Some us ↦ linear_outcome (all_linear us) (get_value (asked_of qs us)) | None ↦ refused 3 ])
+    if have_unknown (is_live_name s) [] es then refused unknown_symbol
+    else (if have_clash es then refused already_declared
+    else elim (terms_of (scope_of s) es) [ Some us ↦ linear_outcome (all_linear us) (get_value (asked_of qs us)) | None ↦ refused wrong_sort ])
 
 -- what a get-info of this key asks
 abbrev pub info_asked : InfoKey → Outcome
@@ -156,9 +157,9 @@ outcome_by s r = not_taken
 -- names, the sorts and what is linear.
 abbrev pub outcome_requested : State → Tree → Request → Outcome
 outcome_requested s t r =
-    if passes_limit s r || has_token is_long_decimal t then refused 6
-    else (if has_token is_wide_token t then refused 5 else outcome_by s r)
+    if passes_limit s r || has_token is_long_decimal t then refused past_limit
+    else (if has_token is_wide_token t then refused too_wide else outcome_by s r)
 
 -- What becomes of a command; first of all it is of its form.
 abbrev pub outcome_of : State → Tree → Outcome
-outcome_of s t = elim (request_of t) [ Some r ↦ outcome_requested s t r | None ↦ refused 1 ]
+outcome_of s t = elim (request_of t) [ Some r ↦ outcome_requested s t r | None ↦ refused bad_syntax ]

@@ -4,6 +4,7 @@
 use Rattle.std.specs.Prelude.{◌≡◌, ℕ, ◌+◌, ◌^◌, ◌==◌, ◌||◌, ◌&&◌, not, nat_le, nat_lt, suc, max, Bool, true, false, List, [], ◌∷◌, ◌++◌, length, Option, Some, None, is_none, ⊤, if◌then◌else◌}
 use Rattle.std.specs.List.{list_all}
 use Rattle.nz_spec.specs.Tree.{Token, symbol, literal, Tree, leaf, node, Trees, no_trees, trees, word_token}
+use Rattle.nz_spec.specs.Error.{Error, bad_syntax, past_limit}
 
 -- ---- Bytes
 
@@ -247,10 +248,10 @@ pub record Limits : Type 0 where
   pub depth : ℕ
   pub bytes : ℕ
 
--- What a thing heard is. Its number is that of its error: 1 for a bad token, 6 for a limit.
+-- what a thing heard is
 pub data What : Type 0 where
   intact : Tree → What  -- a command without fault
-  faulty : ℕ → What  -- refused in reading
+  faulty : Error → What  -- refused in reading: it has a bad token, or goes beyond a limit
   unclosed : What  -- an incomplete command at the end
   unread : What  -- a command for which there was no memory while it was read
 
@@ -266,14 +267,14 @@ thing_length t = length (text_of (thing_pieces t []))
 -- What a command is: its tokens are looked at first, then its depth and its length.
 abbrev pub command_what : Limits → Groups → What
 command_what limits gs =
-    if are_bad_groups gs then faulty 1
-    else (if nat_lt limits.depth (suc (groups_depth gs)) || nat_lt limits.bytes (thing_length (command gs)) then faulty 6
+    if are_bad_groups gs then faulty bad_syntax
+    else (if nat_lt limits.depth (suc (groups_depth gs)) || nat_lt limits.bytes (thing_length (command gs)) then faulty past_limit
     else intact (node (group_trees gs)))
 
 -- A thing is heard as one thing, but white space and comments as none; at is the place of its first byte.
 abbrev pub heard_thing : Limits → ℕ → Thing → List Heard
-heard_thing limits at (loose f) = if is_blank f then [] else record { from = at; to = at + length (spelling_of f); what = faulty 1 } ∷ []
-heard_thing limits at unmatched = record { from = at; to = at + 1; what = faulty 1 } ∷ []
+heard_thing limits at (loose f) = if is_blank f then [] else record { from = at; to = at + length (spelling_of f); what = faulty bad_syntax } ∷ []
+heard_thing limits at unmatched = record { from = at; to = at + 1; what = faulty bad_syntax } ∷ []
 heard_thing limits at (command gs) = record { from = at; to = at + thing_length (command gs); what = command_what limits gs } ∷ []
 
 -- what is open is heard as one incomplete command

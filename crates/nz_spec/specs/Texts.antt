@@ -2,6 +2,7 @@
 use Rattle.std.specs.Prelude.{ℕ, ⊤, List, [], ◌∷◌, ◌++◌, codes}
 use Rattle.nz_spec.specs.Tree.{Token, symbol, keyword, numeral, decimal, hexadecimal, binary, literal, leaf, node, Trees, no_trees, trees}
 use Rattle.nz_spec.specs.Text.{Heard, What, intact, faulty, unclosed, Limits, Hears}
+use Rattle.nz_spec.specs.Error.{bad_syntax, past_limit}
 
 -- a text, and what is heard in it
 pub record Sample : Type 0 where
@@ -37,8 +38,8 @@ string_samples =
     hears_as (codes "(\"a\"\"b\")") (heard_as 0 8 (list_of (literal (codes "a\"b") ∷ [])) ∷ [])
     ∷ hears_as (codes "(\"\"\"\" \"\")") (heard_as 0 9 (list_of (literal (codes "\"") ∷ literal [] ∷ [])) ∷ [])
     ∷ hears_as (codes "(\";|\\\n\"a)") (heard_as 0 9 (list_of (literal (codes ";|\\\n") ∷ symbol (codes "a") ∷ [])) ∷ [])
-    ∷ hears_as (codes "\"a\"b") (heard_as 0 3 (faulty 1) ∷ heard_as 3 4 (faulty 1) ∷ [])
-    ∷ hears_as (codes "(\"" ++ 7 ∷ codes ")\" a) (b)") (heard_as 0 8 (faulty 1) ∷ heard_as 9 12 (list_of (symbol (codes "b") ∷ [])) ∷ [])
+    ∷ hears_as (codes "\"a\"b") (heard_as 0 3 (faulty bad_syntax) ∷ heard_as 3 4 (faulty bad_syntax) ∷ [])
+    ∷ hears_as (codes "(\"" ++ 7 ∷ codes ")\" a) (b)") (heard_as 0 8 (faulty bad_syntax) ∷ heard_as 9 12 (list_of (symbol (codes "b") ∷ [])) ∷ [])
     ∷ hears_as (codes "(a \"b)") (heard_as 0 6 unclosed ∷ [])
     ∷ hears_as (codes "(a) \"b\"\"") (heard_as 0 3 (list_of (symbol (codes "a") ∷ [])) ∷ heard_as 4 8 unclosed ∷ [])
     ∷ []
@@ -48,8 +49,8 @@ abbrev pub quoted_samples : List Sample
 quoted_samples =
     hears_as (codes "(|a b| |c|c ||)") (heard_as 0 15 (list_of (symbol (codes "a b") ∷ symbol (codes "c") ∷ symbol (codes "c") ∷ symbol [] ∷ [])) ∷ [])
     ∷ hears_as (codes "(|a\";)\nb||c|)") (heard_as 0 13 (list_of (symbol (codes "a\";)\nb") ∷ symbol (codes "c") ∷ [])) ∷ [])
-    ∷ hears_as (codes "(|a\\b|)") (heard_as 0 7 (faulty 1) ∷ [])
-    ∷ hears_as (codes "|a| |b") (heard_as 0 3 (faulty 1) ∷ heard_as 4 6 unclosed ∷ [])
+    ∷ hears_as (codes "(|a\\b|)") (heard_as 0 7 (faulty bad_syntax) ∷ [])
+    ∷ hears_as (codes "|a| |b") (heard_as 0 3 (faulty bad_syntax) ∷ heard_as 4 6 unclosed ∷ [])
     ∷ []
 
 -- Each word is a token of one kind, or a bad one.
@@ -58,15 +59,15 @@ word_samples =
     hears_as (codes "(0 70 1.50 0.0)") (heard_as 0 15 (list_of (numeral (codes "0") ∷ numeral (codes "70") ∷ decimal (codes "1.50") ∷ decimal (codes "0.0") ∷ [])) ∷ [])
     ∷ hears_as (codes "(#xFf #b01)") (heard_as 0 11 (list_of (hexadecimal (codes "#xFf") ∷ binary (codes "#b01") ∷ [])) ∷ [])
     ∷ hears_as (codes "(:k :1 .5 -1)") (heard_as 0 13 (list_of (keyword (codes ":k") ∷ keyword (codes ":1") ∷ symbol (codes ".5") ∷ symbol (codes "-1") ∷ [])) ∷ [])
-    ∷ hears_as (codes "(007)(1.)(00.5)(1.2.3)") (heard_as 0 5 (faulty 1) ∷ heard_as 5 9 (faulty 1) ∷ heard_as 9 15 (faulty 1) ∷ heard_as 15 22 (faulty 1) ∷ [])
-    ∷ hears_as (codes "(#X1)(#x)(#b2)") (heard_as 0 5 (faulty 1) ∷ heard_as 5 9 (faulty 1) ∷ heard_as 9 14 (faulty 1) ∷ [])
-    ∷ hears_as (codes "(:)(1a)(a[b])") (heard_as 0 3 (faulty 1) ∷ heard_as 3 7 (faulty 1) ∷ heard_as 7 13 (faulty 1) ∷ [])
+    ∷ hears_as (codes "(007)(1.)(00.5)(1.2.3)") (heard_as 0 5 (faulty bad_syntax) ∷ heard_as 5 9 (faulty bad_syntax) ∷ heard_as 9 15 (faulty bad_syntax) ∷ heard_as 15 22 (faulty bad_syntax) ∷ [])
+    ∷ hears_as (codes "(#X1)(#x)(#b2)") (heard_as 0 5 (faulty bad_syntax) ∷ heard_as 5 9 (faulty bad_syntax) ∷ heard_as 9 14 (faulty bad_syntax) ∷ [])
+    ∷ hears_as (codes "(:)(1a)(a[b])") (heard_as 0 3 (faulty bad_syntax) ∷ heard_as 3 7 (faulty bad_syntax) ∷ heard_as 7 13 (faulty bad_syntax) ∷ [])
     ∷ []
 
 -- What is heard is a list outside any list, or what stands outside any; a list that never closes reaches to the end.
 abbrev pub group_samples : List Sample
 group_samples =
-    hears_as (codes ") a(b())\t()") (heard_as 0 1 (faulty 1) ∷ heard_as 2 3 (faulty 1) ∷ heard_as 3 8 (intact (node (trees (leaf (symbol (codes "b"))) (trees (node no_trees) no_trees)))) ∷ heard_as 9 11 (list_of []) ∷ [])
+    hears_as (codes ") a(b())\t()") (heard_as 0 1 (faulty bad_syntax) ∷ heard_as 2 3 (faulty bad_syntax) ∷ heard_as 3 8 (intact (node (trees (leaf (symbol (codes "b"))) (trees (node no_trees) no_trees)))) ∷ heard_as 9 11 (list_of []) ∷ [])
     ∷ hears_as (codes "(a(1a)|b") (heard_as 0 8 unclosed ∷ [])
     ∷ []
 
@@ -78,9 +79,9 @@ narrow_limits = record { depth = 2; bytes = 8 }
 abbrev pub limit_samples : List Sample
 limit_samples =
     hears_as (codes "(a (b))(()())") (heard_as 0 7 (intact (node (trees (leaf (symbol (codes "a"))) (trees (node (leaves (symbol (codes "b") ∷ []))) no_trees)))) ∷ heard_as 7 13 (intact (node (trees (node no_trees) (trees (node no_trees) no_trees)))) ∷ [])
-    ∷ hears_as (codes "((()))(a ;bcd)\n)") (heard_as 0 6 (faulty 6) ∷ heard_as 6 16 (faulty 6) ∷ [])
-    ∷ hears_as (codes "(abcdef) (abcdefg)") (heard_as 0 8 (list_of (symbol (codes "abcdef") ∷ [])) ∷ heard_as 9 18 (faulty 6) ∷ [])
-    ∷ hears_as (codes "(((1a)))((()") (heard_as 0 8 (faulty 1) ∷ heard_as 8 12 unclosed ∷ [])
+    ∷ hears_as (codes "((()))(a ;bcd)\n)") (heard_as 0 6 (faulty past_limit) ∷ heard_as 6 16 (faulty past_limit) ∷ [])
+    ∷ hears_as (codes "(abcdef) (abcdefg)") (heard_as 0 8 (list_of (symbol (codes "abcdef") ∷ [])) ∷ heard_as 9 18 (faulty past_limit) ∷ [])
+    ∷ hears_as (codes "(((1a)))((()") (heard_as 0 8 (faulty bad_syntax) ∷ heard_as 8 12 unclosed ∷ [])
     ∷ []
 
 -- In each of the texts just that is heard which stands with it.

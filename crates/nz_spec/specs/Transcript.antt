@@ -5,6 +5,7 @@ use Rattle.nz_spec.specs.Kept.{AreToldAs}
 use Rattle.nz_spec.specs.Told.{AreComplete, IsToldFirst}
 use Rattle.nz_spec.specs.Live.{State, start}
 use Rattle.nz_spec.specs.Reply.{Reply, error, Cause, reply_text}
+use Rattle.nz_spec.specs.Error.{out_of_memory}
 use Rattle.nz_spec.specs.Right.{Context, beginning, IsRight, IsExit, after, context_after}
 
 -- a thing told, its reply, and the reply's cause
@@ -83,7 +84,7 @@ pub record IsTranscriptSoFar (limit : ℕ) (bytes : List ℕ) (kept : List Kept)
 -- where none was, the line for want of memory.
 pub data BeginsText (kept first : List Kept) (text : List ℕ) : Type 0 where
   last_reply : (last : Kept) → kept ≡ first ++ last ∷ [] → text ≡ reply_text last.reply → BeginsText kept first text
-  memory_line : kept ≡ first → text ≡ reply_text (error 11) → BeginsText kept first text
+  memory_line : kept ≡ first → text ≡ reply_text (error out_of_memory) → BeginsText kept first text
 
 -- What was kept is told of the first things heard, and only where something is left unanswered was the line for want of memory
 -- begun.

@@ -6,6 +6,7 @@ use Rattle.nz_spec.specs.Model.{Binding, assignment_of}
 use Rattle.nz_spec.specs.Live.{units_spent}
 use Rattle.nz_spec.specs.Command.{name_info, error_behavior_info, Outcome, accepted, get_value}
 use Rattle.nz_spec.specs.Reply.{value_text, wide_text, tree_text, quiet, success, sat, unsat, unknown, model, values, info, levels, reason, echoed, unsupported, error, reply_text}
+use Rattle.nz_spec.specs.Error as fault
 use Rattle.nz_spec.specs.Right.{shown_under}
 use Rattle.nz_spec.specs.Samples.{constant_of_sort, tree_in, outcome_in, value_in}
 
@@ -91,14 +92,14 @@ pub record HasReplyTexts : Type 0 where
 
 -- the texts of the errors, by their numbers
 pub record HasErrorTexts : Type 0 where
-  pub syntax : reply_text (error 1) ≡ codes "(error \"1 syntax\")\n"
-  pub unknown_symbol : reply_text (error 2) ≡ codes "(error \"2 unknown symbol\")\n"
-  pub sorts : reply_text (error 3) ≡ codes "(error \"3 sort\")\n"
-  pub nonlinear : reply_text (error 4) ≡ codes "(error \"4 not linear\")\n"
-  pub width : reply_text (error 5) ≡ codes "(error \"5 number too wide\")\n"
-  pub limits : reply_text (error 6) ≡ codes "(error \"6 limit\")\n"
-  pub no_answer : reply_text (error 7) ≡ codes "(error \"7 no answer to show\")\n"
-  pub below_zero : reply_text (error 8) ≡ codes "(error \"8 pop below zero\")\n"
-  pub declared_before : reply_text (error 9) ≡ codes "(error \"9 already declared\")\n"
-  pub incomplete : reply_text (error 10) ≡ codes "(error \"10 incomplete command\")\n"
-  pub memory : reply_text (error 11) ≡ codes "(error \"11 out of memory\")\n"
+  pub syntax : reply_text (error fault.bad_syntax) ≡ codes "(error \"1 syntax\")\n"
+  pub unknown_symbol : reply_text (error fault.unknown_symbol) ≡ codes "(error \"2 unknown symbol\")\n"
+  pub sorts : reply_text (error fault.wrong_sort) ≡ codes "(error \"3 sort\")\n"
+  pub nonlinear : reply_text (error fault.not_linear) ≡ codes "(error \"4 not linear\")\n"
+  pub width : reply_text (error fault.too_wide) ≡ codes "(error \"5 number too wide\")\n"
+  pub limits : reply_text (error fault.past_limit) ≡ codes "(error \"6 limit\")\n"
+  pub no_answer : reply_text (error fault.nothing_to_show) ≡ codes "(error \"7 no answer to show\")\n"
+  pub below_zero : reply_text (error fault.below_zero) ≡ codes "(error \"8 pop below zero\")\n"
+  pub declared_before : reply_text (error fault.already_declared) ≡ codes "(error \"9 already declared\")\n"
+  pub incomplete : reply_text (error fault.incomplete) ≡ codes "(error \"10 incomplete command\")\n"
+  pub memory : reply_text (error fault.out_of_memory) ≡ codes "(error \"11 out of memory\")\n"

@@ -8,6 +8,7 @@ use Rattle.nz_spec.specs.Command.{declare_const, define, assert_term, get_model,
 use Rattle.nz_spec.specs.Script.{outcome_of}
 use Rattle.nz_spec.specs.Text.{intact}
 use Rattle.nz_spec.specs.Reply.{Reply, quiet, success, unsat, values, error, unsupported}
+use Rattle.nz_spec.specs.Error as fault
 use Rattle.nz_spec.specs.Right.{after}
 use Rattle.nz_spec.specs.TruthTables.{of_three}
 use Rattle.nz_spec.specs.Samples.{constant_of_sort, alone, a_term, x_term, u_term, numeral_term, real_of, half, above, below, tree_in, sample_constants, state_with, outcome_in}
@@ -102,14 +103,14 @@ without_effect =
 -- Of the rules that a command breaks the first decides: the form, the limits, the width of numbers, what isn't taken, names
 -- that aren't in scope, names that are declared, sorts, and what isn't linear.
 pub record HasRefusals : Type 0 where
-  pub syntax : outcomes_in formless ≡ all_end (refused 1) formless
-  pub limits : outcomes_in past_limits ≡ all_end (refused 6) past_limits
-  pub width : outcomes_in too_wide ≡ all_end (refused 5) too_wide
+  pub syntax : outcomes_in formless ≡ all_end (refused fault.bad_syntax) formless
+  pub limits : outcomes_in past_limits ≡ all_end (refused fault.past_limit) past_limits
+  pub width : outcomes_in too_wide ≡ all_end (refused fault.too_wide) too_wide
   pub others : outcomes_in unsupported_texts ≡ all_end not_taken unsupported_texts
-  pub unknown : outcomes_in unknown_names ≡ all_end (refused 2) unknown_names
-  pub known : outcomes_in declared_names ≡ all_end (refused 9) declared_names
-  pub sorts : outcomes_in ill_sorted ≡ all_end (refused 3) ill_sorted
-  pub linear : outcomes_in nonlinear ≡ all_end (refused 4) nonlinear
+  pub unknown : outcomes_in unknown_names ≡ all_end (refused fault.unknown_symbol) unknown_names
+  pub known : outcomes_in declared_names ≡ all_end (refused fault.already_declared) declared_names
+  pub sorts : outcomes_in ill_sorted ≡ all_end (refused fault.wrong_sort) ill_sorted
+  pub linear : outcomes_in nonlinear ≡ all_end (refused fault.not_linear) nonlinear
 
 -- ---- Accepted
 
@@ -169,8 +170,8 @@ pub record HasEffects : Type 0 where
   pub asserts : left_by answered (codes "(assert a)") quiet
       ≡ state_with (declared (constant_of_sort bool_sort (codes "a")) ∷ asserted a_term ∷ []) None
   pub shows : left_by answered (codes "(get-value (a))") (values []) ≡ answered
-  pub refuses : left_by answered (codes "(assert q)") (error 2) ≡ answered
+  pub refuses : left_by answered (codes "(assert q)") (error fault.unknown_symbol) ≡ answered
   pub passes : left_by answered (codes "(frob)") unsupported ≡ answered
-  pub lacks_memory : left_by answered (codes "(assert a)") (error 11) ≡ answered
+  pub lacks_memory : left_by answered (codes "(assert a)") (error fault.out_of_memory) ≡ answered
   pub denies : left_by answered (codes "(check-sat)") unsat ≡ record answered { last = Some refutation }
   pub sets : left_by answered (codes "(set-option :print-success true)") success ≡ record answered { options = record { prints_success = true } }

@@ -6,6 +6,7 @@ use Rattle.nz_spec.specs.Reading.{reading_start, hear_on}
 use Rattle.nz_spec.specs.Term.{bool_sort, int_sort, real_sort, truth, number}
 use Rattle.nz_spec.specs.Model.{Binding}
 use Rattle.nz_spec.specs.Reply.{Reply, quiet, sat, unsat, values, echoed, unsupported, error, shown_value, plain}
+use Rattle.nz_spec.specs.Error.{bad_syntax, unknown_symbol, wrong_sort, not_linear, too_wide, past_limit, nothing_to_show, already_declared, incomplete}
 use Rattle.nz_spec.specs.Transcript.{Kept, IsTranscript, texts_of}
 use Rattle.nz_spec.specs.Run.{solve_limit}
 use Rattle.nz_spec.specs.Samples.{constant_of_sort, tree_in}
@@ -47,7 +48,7 @@ prices =
           ∷ (tree_in (codes "(/ (price 4) 3)"), shown_value real_sort (number (over (pos 17) 3)))
           ∷ (tree_in (codes "(div (- 7) 2)"), shown_value int_sort (number (whole (negsuc 3))))
           ∷ [])
-          ∷ quiet ∷ error 7 ∷ unsat ∷ error 7 ∷ [];
+          ∷ quiet ∷ error nothing_to_show ∷ unsat ∷ error nothing_to_show ∷ [];
       output = codes "sat\n(((price 4) 17) ((/ (price 4) 3) (/ 17.0 3.0)) ((div (- 7) 2) (- 4)))\n(error \"7 no answer to show\")\nunsat\n(error \"7 no answer to show\")\n";
     }
 
@@ -59,7 +60,7 @@ errors =
           codes
           "(declare-const p Bool)(assert 007))(assert q)(assert (+ 1 p))(define-fun square ((x Int)) Int (* x x))(assert (< 0 170141183460469231731687303715884105728))(push 1001)(get-model)(declare-const p Int)(frob)(echo \"a\"\"b\") (check-sat";
       replies =
-          quiet ∷ error 1 ∷ error 1 ∷ error 2 ∷ error 3 ∷ error 4 ∷ error 5 ∷ error 6 ∷ error 7 ∷ error 9 ∷ unsupported ∷ echoed (codes "a\"b") ∷ error 10 ∷ [];
+          quiet ∷ error bad_syntax ∷ error bad_syntax ∷ error unknown_symbol ∷ error wrong_sort ∷ error not_linear ∷ error too_wide ∷ error past_limit ∷ error nothing_to_show ∷ error already_declared ∷ unsupported ∷ echoed (codes "a\"b") ∷ error incomplete ∷ [];
       output =
           codes
           "(error \"1 syntax\")\n(error \"1 syntax\")\n(error \"2 unknown symbol\")\n(error \"3 sort\")\n(error \"4 not linear\")\n(error \"5 number too wide\")\n(error \"6 limit\")\n(error \"7 no answer to show\")\n(error \"9 already declared\")\nunsupported\n\"a\"\"b\"\n(error \"10 incomplete command\")\n";

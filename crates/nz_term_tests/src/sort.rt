@@ -3,10 +3,10 @@ ghost use Rattle.std.specs.Prelude.{IfOk};
 ghost use Rattle.nz_spec.specs.Live.{State};
 ghost use Rattle.nz_sort.specs.Live.{IsLive};
 
-use nz_base::{Memory, Text};
+use nz_base::{Error, Memory, Text};
 use nz_command::{number_faults, parse};
 use nz_sexpr::{Token, Tree, TreeList};
-use nz_sort::{Accepted, Act, Live, Refusal};
+use nz_sort::{Accepted, Act, Live};
 use nz_term::Terms;
 use std::alloc::Global;
 use std::mem;
@@ -141,7 +141,7 @@ fn tells_long_decimals(rt: HostRuntime) -> Result<(), Fail> {
 }
 
 /// What comes of a command. Something is live before it, and then after it.
-fn commanded(live: &mut Live, terms: &mut Terms, tree: &Tree) -> Result<Act, Refusal>
+fn commanded(live: &mut Live, terms: &mut Terms, tree: &Tree) -> Result<Act, Error>
     requires live { (s : State) × IsLive terms.old live.old s }
     ensures live { (s : State) × IsLive terms.new live.new s }
 {
@@ -216,7 +216,7 @@ fn outcomes(alloc: Global, commands: &[&str]) -> Result<Vec<&'static str>, Fail>
     Ok(words)
 }
 
-fn word_of(outcome: &Result<Act, Refusal>) -> &'static str {
+fn word_of(outcome: &Result<Act, Error>) -> &'static str {
     match outcome {
         Ok(Act::Changed) => "changed",
         Ok(Act::Check) => "check",
@@ -231,14 +231,14 @@ fn word_of(outcome: &Result<Act, Refusal>) -> &'static str {
         Ok(Act::Echo) => "echo",
         Ok(Act::Leave) => "leave",
         Ok(Act::Unsupported) => "unsupported",
-        Err(Refusal::Syntax) => "1",
-        Err(Refusal::UnknownSymbol) => "2",
-        Err(Refusal::Sort) => "3",
-        Err(Refusal::NotLinear) => "4",
-        Err(Refusal::TooWide) => "5",
-        Err(Refusal::Limit) => "6",
-        Err(Refusal::Declared) => "9",
-        Err(Refusal::Memory) => "11",
+        Err(Error::Syntax) => "1",
+        Err(Error::UnknownSymbol) => "2",
+        Err(Error::Sort) => "3",
+        Err(Error::NotLinear) => "4",
+        Err(Error::TooWide) => "5",
+        Err(Error::Limit) => "6",
+        Err(Error::AlreadyDeclared) => "9",
+        Err(_) => "another error",
     }
 }
 

@@ -1,5 +1,5 @@
 //! Of `nz_reply`: the text of each reply, each public call on its happy path, and a sink without room.
-use nz_base::{Memory, PlainSink, Text};
+use nz_base::{Error, Memory, PlainSink, Text};
 use nz_frac::{Frac, Op, Wide};
 use nz_reply::{
     Binding, Bindings, Info, Journal, Reason, Reply, Shown, Shows, WriteFault, write_reply,
@@ -142,7 +142,7 @@ fn write_lines(sink: &mut PlainSink, what: &What) -> Result<(), WriteFault> {
     write_reply(sink, what, &Reply::Levels(2))?;
     write_reply(sink, what, &Reply::Reason(Reason::UnitsSpent(9)))?;
     write_reply(sink, what, &Reply::Echo)?;
-    write_reply(sink, what, &Reply::Error(4))
+    write_reply(sink, what, &Reply::Error(Error::NotLinear))
 }
 
 #[test]

@@ -66,7 +66,9 @@ fn show_all(alloc: Global, all: &[Heard]) -> Result<String, AllocError> {
         text.push_str(format!(in alloc; "{}-{}", heard.from, heard.to)?.as_str())?;
         match &heard.what {
             What::Tree(tree) => show_tree(tree, &mut text)?,
-            What::Bad(number) => text.push_str(format!(in alloc; " bad {number}")?.as_str())?,
+            What::Bad(error) => {
+                text.push_str(format!(in alloc; " bad {}", error.number())?.as_str())?
+            }
             What::Unclosed => text.push_str(" unclosed")?,
             What::Unread => text.push_str(" unread")?,
         }

@@ -3,14 +3,14 @@ use Rattle.nz_command.specs.View.{view as written}
 use Rattle.nz_spec.specs.Term.{are_same_sort, bool_sort}
 use Rattle.nz_spec.specs.Elaboration.{term_of}
 use Rattle.nz_spec.specs.Scoping.{has_clash}
-use Rattle.nz_spec.specs.Script.{scope_of}
+use Rattle.nz_spec.specs.Script.{assertion_of, scope_of}
 use Rattle.nz_term.specs.Constants.{sort_of}
 use Rattle.nz_elaborate.specs.Elaborate.{is_unknown_in}
-use Rattle.nz_sort.specs.Acts.{error_of}
+use Rattle.nz_sort.specs.Acts.{rule_of}
 use Rattle.nz_sort.specs.Live.{Standing}
 use Rattle.nz_sort.proofs.Asserting.{term_outcome, linear_assertion}
 use Rattle.nz_sort.proofs.Living.{companions_made, grows_more, live_scope, stands_kept}
-use Rattle.nz_sort.proofs.Ruling.{if_some_by, refused_by_error}
+use Rattle.nz_sort.proofs.Ruling.{broken_in_each, refused_by_error}
 use Rattle.nz_sort.proofs.live.Live.assertion.Goals as goal
 
 pub is_linear-requires : goal.is_linear-requires
@@ -22,10 +22,10 @@ pub returns-in-Err-clause-refused : goal.returns-in-Err-clause-refused
 returns-in-Err-clause-refused c =
     let names = ap (λ (st : Standing). st.names) c.self.view_is in
     let e = written c.args.term.now in
-    if_some_by (error_of c.refusal_of.result)
-    (λ n told s live.
+    broken_in_each _ c.args.self.now (λ s. assertion_of s e) (rule_of c.refusal_of.result)
+    (λ s live.
     let scope = live_scope _ c.args.self.now s _ names live in
-    refused_by_error c.in-Err.error c.refusal_of.result n (is_unknown_in (scope_of s) e) (has_clash e) (term_outcome (term_of (scope_of s) e)) c.refusal_of.ensures.refusal told
+    refused_by_error c.in-Err.error c.refusal_of.result (is_unknown_in (scope_of s) e) (has_clash e) (term_outcome (term_of (scope_of s) e)) c.refusal_of.ensures.refusal
     (λ is. c.in-Err.ensures.unknown (ap Err is) (scope_of s) scope)
     (λ is. c.in-Err.ensures.clash (ap Err is) (scope_of s) scope)
     (λ is. let h = c.in-Err.ensures.refused (ap Err is) (scope_of s) scope in record { known = h.known; distinct = h.distinct; holds = ap term_outcome h.holds }))

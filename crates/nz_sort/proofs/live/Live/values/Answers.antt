@@ -2,15 +2,15 @@ use Rattle.std.proofs.Common.{◌≡◌, ◌∙◌, ◌<◌, length, map, All, E
 use Rattle.nz_command.specs.Requests.{question_view}
 use Rattle.nz_spec.specs.Elaboration.{terms_of}
 use Rattle.nz_spec.specs.Scoping.{have_clash}
-use Rattle.nz_spec.specs.Script.{scope_of, asked_expressions}
+use Rattle.nz_spec.specs.Script.{scope_of, asked_expressions, values_asked}
 use Rattle.nz_elaborate.specs.declared.typed.Typed.{Typed}
 use Rattle.nz_elaborate.specs.Elaborate.{are_unknown_in}
 use Rattle.nz_elaborate.specs.Typed.{AreTyped}
-use Rattle.nz_sort.specs.Acts.{error_of}
+use Rattle.nz_sort.specs.Acts.{rule_of}
 use Rattle.nz_sort.specs.Live.{Standing}
 use Rattle.nz_sort.proofs.AskedValues.{terms_outcome, linear_values}
 use Rattle.nz_sort.proofs.Living.{all_typed_kept, all_within, companions_made, live_scope}
-use Rattle.nz_sort.proofs.Ruling.{if_some_by, refused_by_error}
+use Rattle.nz_sort.proofs.Ruling.{broken_in_each, refused_by_error}
 use Rattle.nz_sort.proofs.live.Live.values.Goals as goal
 
 pub are_linear-requires : goal.are_linear-requires
@@ -26,10 +26,10 @@ returns-in-Err-clause-refused c =
     let names = ap (λ (st : Standing). st.names) c.self.view_is in
     let qs = map question_view c.args.questions.now in
     let es = asked_expressions qs in
-    if_some_by (error_of c.refusal_of.result)
-    (λ n told s live.
+    broken_in_each _ c.args.self.now (λ s. values_asked s qs) (rule_of c.refusal_of.result)
+    (λ s live.
     let scope = live_scope _ c.args.self.now s _ names live in
-    refused_by_error c.in-Err.error c.refusal_of.result n (are_unknown_in (scope_of s) es) (have_clash es) (terms_outcome qs (terms_of (scope_of s) es)) c.refusal_of.ensures.refusal told
+    refused_by_error c.in-Err.error c.refusal_of.result (are_unknown_in (scope_of s) es) (have_clash es) (terms_outcome qs (terms_of (scope_of s) es)) c.refusal_of.ensures.refusal
     (λ is. c.in-Err.ensures.unknown (ap Err is) (scope_of s) scope)
     (λ is. c.in-Err.ensures.clash (ap Err is) (scope_of s) scope)
     (λ is. let h = c.in-Err.ensures.refused (ap Err is) (scope_of s) scope in record { known = h.known; distinct = h.distinct; holds = ap (terms_outcome qs) h.holds }))
