@@ -12,6 +12,7 @@ mod sets;
 mod steps;
 mod stop;
 
+pub use gates::gate_count;
 pub use lits::Lit;
 pub use log::Log;
 pub use note::Note;
