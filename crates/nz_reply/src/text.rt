@@ -251,10 +251,7 @@ fn write_error<K: Sink>(sink: &mut K, error: Error) -> Result<(), WriteFault>
 {
     let mut digits = Buffer::new();
     let number = digits.format(error.number()).as_bytes();
-    write_parts(
-        sink,
-        &[b"(error \"", number, b" ", error.text(), b"\")\n"],
-    )
+    write_parts(sink, &[b"(error \"", number, b" ", error.text(), b"\")\n"])
 }
 
 /// The text that a command repeats.
