@@ -10,6 +10,7 @@ mod origins;
 mod sets;
 mod steps;
 
+pub use gates::gate_count;
 pub use lits::Lit;
 pub use log::Log;
 pub use origins::{ClauseId, Link};
