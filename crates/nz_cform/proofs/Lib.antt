@@ -1,0 +1,3 @@
+mod GateLevels
+mod GatesPut
+mod Listing
