@@ -1,3 +1,4 @@
+mod Covering
 mod GateLevels
 mod GatesPut
 mod Listing

@@ -1,6 +1,6 @@
--- What stays when a level is dropped is in order.
+-- What stays when a level is dropped is in order, and so is all when a level is told.
 use Rattle.std.proofs.Common.{◌≡◌, ℕ, suc, ◌≤◌, Bool, true, false, List, take, Option, Some, None, refl, sym, ap, subst, ◌∙◌, arith}
-use Rattle.std.specs.Prelude.{slice_get, nat_le, IsSome, if◌then◌else◌}
+use Rattle.std.specs.Prelude.{slice_get, nat_le, unwrap_or, IsSome, if◌then◌else◌}
 use Rattle.std.proofs.lemmas.List.{take-take}
 use Rattle.std.proofs.lemmas.Bool.{leb-true, le-leb}
 use Rattle.nz_spec.specs.Table.{Node}
@@ -43,3 +43,9 @@ module _ (s r : LogState) (level : ℕ) (drops : Drops s level r) where
       let was = kept_is level (entry_at s i) e (sym (drops.entries i) ∙ at) in
       let there = entry_stays level s r keeps ns levels i e was.1 (order i e was.0) in
       record { within = there.within; made = made_below ns levels i e was.1 e.origin there.made }
+
+-- the same clauses are in order, whatever is told
+pub told_in_order : (s r : LogState) → r.entries ≡ s.entries → (ns : List Node) (levels : List (List ℕ)) → IsLog ns levels s → IsLog ns levels r
+told_in_order s r same ns levels order i e at =
+    let entry : (j : ℕ) → entry_at r j ≡ entry_at s j = λ j. ap (λ es. unwrap_or (slice_get es j) None) same in
+    entry_stays e.level s r (λ j live below. entry j) ns levels i e (omega arith) (order i e (sym (entry i) ∙ at))

@@ -131,6 +131,8 @@ impl Log {
         ensures others { (t : ℕ) → t ≢ term → told_of self.new t ≡ told_of self.old t }
         ensures clauses { self.new.entries ≡ self.old.entries }
         ensures unchanged { OnErr result (self.new ≡ self.old) }
+        // The log stays in order.
+        ensures sound { (ns : List Node) (levels : List (List ℕ)) → IsLog ns levels self.old → IsLog ns levels self.new }
     {
         tell(&mut self.told, term, level)
     }
