@@ -34,6 +34,21 @@ module _ (old new : LogState) (clauses : new.entries ≡ old.entries) where
         once = added.once;
       }
 
+-- ---- A level that is told
+
+lowest_within : (o : Option ℕ) (level : ℕ) → lowest o level ≤ level
+lowest_within None level = omega arith
+lowest_within (Some n) level = omega arith
+
+pub told_within : (old new : LogState) (t level : ℕ) → told_of new t ≡ Some (lowest (told_of old t) level)
+    → ((u : ℕ) → u ≢ t → told_of new u ≡ told_of old u) → ((u : ℕ) → told_level old u ≤ level) → (u : ℕ) → told_level new u ≤ level
+told_within old new t level told others highest u =
+    elim (same_or_other u t) [
+      | inl same ↦
+          subst (λ o. unwrap_or o 0 ≤ level) (sym (ap (told_of new) same ∙ told)) (lowest_within (told_of old t) level)
+      | inr other ↦ subst (λ o. unwrap_or o 0 ≤ level) (sym (others u other)) (highest u)
+    ]
+
 -- ---- A term that is told and listed, without its gates
 
 module _ (ns : List Node) (old new : LogState) (s r : FormState) (t level : ℕ) (clauses : new.entries ≡ old.entries) (takes : Takes s t level r)

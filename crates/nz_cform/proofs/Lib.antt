@@ -2,3 +2,4 @@ mod Covering
 mod GateLevels
 mod GatesPut
 mod Listing
+mod Underway

@@ -99,7 +99,8 @@ impl ClauseForm {
         while let Some(term) = waiting.pop() {
             if !self.is_covered(term) {
                 self.cover(log, terms, term, level, &mut clauses)?;
-                waiting.extend_from_slice(terms.kids(term))?;
+                let node = terms.node(term);
+                waiting.extend_from_slice(node.kids.as_slice())?;
             }
         }
         Ok(clauses)
