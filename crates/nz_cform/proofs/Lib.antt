@@ -2,4 +2,5 @@ mod Covering
 mod GateLevels
 mod GatesPut
 mod Listing
+mod Sizes
 mod Underway

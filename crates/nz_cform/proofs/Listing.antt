@@ -21,6 +21,10 @@ pub none_or_some : (o : Option ℕ) → (o ≡ None) ⊎ ((n : ℕ) × (o ≡ So
 none_or_some None = inl refl
 none_or_some (Some n) = inr (n, refl)
 
+pub has_some : (o : Option ℕ) → IsSome o → (n : ℕ) × (o ≡ Some n)
+has_some None h = cc
+has_some (Some n) h = (n, refl)
+
 -- what is none holds nothing
 pub not_some : {X : Type 0} (o : Option X) → o ≡ None → IsSome o → ⊥
 not_some o e h = true≢false (sym h ∙ ap is_some e)
