@@ -34,7 +34,7 @@ module _ (old new : LogState) (id : ℕ) (e : Entry) (puts : Puts old id e new) 
   put_kept i live = puts.kept i (λ same. let above : i < id = puts.above i live in omega arith)
 
   -- the clause put, or one that was there
-  put_cases : (i : ℕ) (o : Origin) → origin_at new i ≡ Some o → ((i ≡ id) × (e.origin ≡ o)) ⊎ ((entry_at new i ≡ entry_at old i) × (origin_at old i ≡ Some o))
+  pub put_cases : (i : ℕ) (o : Origin) → origin_at new i ≡ Some o → ((i ≡ id) × (e.origin ≡ o)) ⊎ ((entry_at new i ≡ entry_at old i) × (origin_at old i ≡ Some o))
   put_cases i o at =
       elim (same_or_other i id) [
         | inl same ↦
@@ -44,7 +44,7 @@ module _ (old new : LogState) (id : ℕ) (e : Entry) (puts : Puts old id e new) 
         | inr other ↦ inr (puts.kept i other, sym (ap (option_map (λ (f : Entry). f.origin)) (puts.kept i other)) ∙ at)
       ]
 
-  put_gate : (ns : List Node) (t j n : ℕ) → HasGate ns old t j n → HasGate ns new t j n
+  pub put_gate : (ns : List Node) (t j n : ℕ) → HasGate ns old t j n → HasGate ns new t j n
   put_gate ns t j n h = (h.0, put_kept h.0 (subst (λ o. IsSome o) (sym h.1) refl) ∙ h.1)
 
 -- ---- The clauses that are put are told

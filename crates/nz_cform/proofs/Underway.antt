@@ -9,21 +9,13 @@ use Rattle.nz_log.specs.Logs.{LogState, told_level}
 use Rattle.nz_log.specs.Sound.{IsLog}
 use Rattle.nz_cform.specs.Forms.{FormState, covered_at, IsCoveredWithin, Takes, Grows}
 use Rattle.nz_cform.specs.Covering.{AreAdded, Covers, HasGates, Keeps, kids_at}
+use Rattle.nz_cform.proofs.Levels.{covered_within, level_of}
 use Rattle.nz_cform.proofs.Listing.{grows_itself, grows_more, not_some, none_or_some, same_or_other}
 use Rattle.nz_cform.proofs.Sizes.{plain_arguments}
 
 -- what is covered stays so, at its level
 abbrev pub Stays : FormState → FormState → Type 0
 Stays s r = (t n : ℕ) → covered_at s t ≡ Some n → covered_at r t ≡ Some n
-
--- covered at a level, and so within a higher one
-covered_within : (o : Option ℕ) (m n : ℕ) → o ≡ Some m → m ≤ n → IsSomeAnd o (λ k. k ≤ n)
-covered_within None m n e below = cc
-covered_within (Some k) m n e below = let same : k ≡ m = cc in omega arith
-
-level_of : (o : Option ℕ) (n : ℕ) → IsSomeAnd o (λ k. k ≤ n) → (m : ℕ) × (o ≡ Some m) × (m ≤ n)
-level_of None n h = absurd h
-level_of (Some m) n h = (m, refl, h)
 
 pub within_stays : (s r : FormState) (n t : ℕ) → Stays s r → IsCoveredWithin s n t → IsCoveredWithin r n t
 within_stays s r n t stays h = let l = level_of (covered_at s t) n h in covered_within (covered_at r t) l.0 n (stays t l.0 l.1) l.2
