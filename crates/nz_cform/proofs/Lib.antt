@@ -5,4 +5,6 @@ mod Levels
 mod Listing
 mod Sizes
 mod Staying
+mod Truths
 mod Underway
+mod Values
