@@ -1,0 +1,10 @@
+mod Covering
+mod GateLevels
+mod GatesPut
+mod Levels
+mod Listing
+mod Sizes
+mod Staying
+mod Truths
+mod Underway
+mod Values

@@ -1,0 +1,70 @@
+-- Sizes of terms, by which the covering of terms comes to an end; and arguments of terms that hold no number.
+use Rattle.std.proofs.Common.{◌≡◌, ℕ, suc, ◌+◌, ◌<◌, ◌≤◌, ◌||◌, Bool, true, false, List, [], ◌∷◌, ◌++◌, refl, sym, ap, subst, ◌∙◌, arith, true≢false}
+use Rattle.std.specs.Bool.{⊤}
+use Rattle.std.specs.Prelude.{All}
+use Rattle.std.proofs.lemmas.List.Elements.{All-cons, All-nil}
+use Rattle.nz_spec.specs.Term.{Term, apply, Terms, no_terms, terms, Head, is_numeric, holds_number, hold_number}
+use Rattle.nz_spec.specs.Table.{terms_at}
+
+-- how many terms one is made of
+abbrev mutual
+  pub size : Term → ℕ
+  size (apply h ts) = suc (sizes ts)
+
+  pub sizes : Terms → ℕ
+  sizes no_terms = 0
+  sizes (terms t ts) = size t + sizes ts
+
+-- and those of these numbers
+abbrev pub total : (ℕ → Term) → List ℕ → ℕ
+total term [] = 0
+total term (i ∷ is) = size (term i) + total term is
+
+module _ (term : ℕ → Term) where
+  pub sizes_at : (is : List ℕ) → sizes (terms_at term is) ≡ total term is
+  sizes_at [] = refl
+  sizes_at (i ∷ is) = ap (λ n. size (term i) + n) (sizes_at is)
+
+  pub total-append : (is js : List ℕ) → total term (is ++ js) ≡ total term is + total term js
+  total-append [] js = omega arith
+  total-append (i ∷ is) js = let more = total-append is js in omega arith
+
+  some_size : (t : Term) → 0 < size t
+  some_size (apply h ts) = omega arith
+
+  -- one that waited is gone
+  pub less_gone : (is : List ℕ) (i : ℕ) → total term is < total term (is ++ i ∷ [])
+  less_gone is i =
+      let whole = total-append is (i ∷ []) in
+      let some = some_size (term i) in
+      omega arith
+
+  -- its arguments wait in its place
+  pub less_opened : (is kids : List ℕ) (i : ℕ) (h : Head) → term i ≡ apply h (terms_at term kids) → total term (is ++ kids) < total term (is ++ i ∷ [])
+  less_opened is kids i h e =
+      let whole = total-append is (i ∷ []) in
+      let parts = total-append is kids in
+      let of : size (term i) ≡ suc (total term kids) = ap size e ∙ ap suc (sizes_at kids) in
+      omega arith
+
+-- ---- Numbers
+
+neither : (b c : Bool) → (b || c) ≡ false → c ≡ false
+neither true c e = absurd (true≢false e)
+neither false c e = e
+
+first_of_two : (b c : Bool) → (b || c) ≡ false → b ≡ false
+first_of_two true c e = absurd (true≢false e)
+first_of_two false c e = refl
+
+plain_at : (term : ℕ → Term) (is : List ℕ) → hold_number (terms_at term is) ≡ false → All (λ i. holds_number (term i) ≡ false) is
+plain_at term [] e = All-nil (λ i. holds_number (term i) ≡ false)
+plain_at term (i ∷ is) e =
+    All-cons (λ i. holds_number (term i) ≡ false) i is (first_of_two (holds_number (term i)) (hold_number (terms_at term is)) e)
+    (plain_at term is (neither (holds_number (term i)) (hold_number (terms_at term is)) e))
+
+-- the arguments of a term that holds no number hold none
+pub plain_arguments : (term : ℕ → Term) (i : ℕ) (h : Head) (kids : List ℕ) → term i ≡ apply h (terms_at term kids) → holds_number (term i) ≡ false
+    → All (λ k. holds_number (term k) ≡ false) kids
+plain_arguments term i h kids e plain =
+    plain_at term kids (neither (is_numeric h) (hold_number (terms_at term kids)) (sym (ap holds_number e) ∙ plain))
