@@ -125,7 +125,7 @@ cuts_listed old level new cuts listed =
       covered = λ t. (
         (λ h. passes p old.terms t (subst (λ l. Contains l t) cuts.terms h)),
         (λ h. subst (λ l. Contains l t) (sym cuts.terms)
-        (kept p old.terms t ((listed.covered t).1 (below_was level (covered_at old t) (ap is_some (sym (cuts.levels t)) ∙ h))) h)),
+            (kept p old.terms t ((listed.covered t).1 (below_was level (covered_at old t) (ap is_some (sym (cuts.levels t)) ∙ h))) h)),
       );
     }
 

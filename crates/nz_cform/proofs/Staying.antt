@@ -79,7 +79,7 @@ covers_put : (ns : List Node) (old new : LogState) (s : FormState) (id : ℕ) (e
 covers_put ns old new s id e puts other covers =
     let has = covers.gates in
     let was = λ (i t j : ℕ) (at : origin_at new i ≡ Some (gate_of t j)). elim (put_cases old new id e puts i (gate_of t j) at) as
-        (λ _. (entry_at new i ≡ entry_at old i) × (origin_at old i ≡ Some (gate_of t j))) [
+    (λ _. (entry_at new i ≡ entry_at old i) × (origin_at old i ≡ Some (gate_of t j))) [
       | inl here ↦ absurd (other t j here.1)
       | inr before ↦ before
     ] in
@@ -115,8 +115,7 @@ module _ (ns : List Node) (old new : LogState) (s cut : FormState) (level : ℕ)
   was_gate i t j at =
       let here = some_entry (entry_at new i) (gate_of t j) at in
       let before = kept_parts level (entry_at old i) here.0 (sym (drops.entries i) ∙ here.1) in
-      let levels = ap (λ o. elim o [ None ↦ 0 | Some e ↦ e.level ]) before.0 in
-      (
+      let levels = ap (λ o. elim o [ None ↦ 0 | Some e ↦ e.level ]) before.0 in (
         ap (option_map (λ (e : Entry). e.origin)) before.0 ∙ ap Some here.2,
         ap (λ o. elim o [ None ↦ 0 | Some e ↦ e.level ]) (here.1 ∙ sym before.0),
         subst (λ n. n ≤ level) (sym levels) before.1,

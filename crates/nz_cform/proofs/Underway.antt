@@ -93,7 +93,7 @@ module _ (ns : List Node) (id level : ℕ) (start : LogState) (first : FormState
   skip n covered =
       let below : n ≤ level = subst (λ o. unwrap_or o 0 ≤ level) (u.gates.told t ∙ covered) (u.told t) in
       let with_it = λ (r : FormState) (stays : Stays s r) (all : All (IsCoveredWithin r level) waiting).
-          All-push (IsCoveredWithin r level) waiting t all (covered_within (covered_at r t) n level (stays t n covered) below) in
+      All-push (IsCoveredWithin r level) waiting t all (covered_within (covered_at r t) n level (stays t n covered) below) in
       record {
         table = (front (λ v. v < length ns) waiting t u.table).0;
         within = u.within;

@@ -146,7 +146,7 @@ fn exclusion_clause(alloc: Global, term: TermId, kids: &[TermId], j: usize) -> R
     }
 }
 
-/// Two terms are equal where one of them is false and the other true, turned: an exclusion with the first negated.
+/// An equation is an exclusion whose first argument is negated.
 fn equality_clause(alloc: Global, term: TermId, kids: &[TermId], j: usize) -> Result<Gate, Memory>
     ensures clause { IfOk result (λ c. option_map (λ v. v.items) c ≡ slice_get (gates_over term equality kids.now) j) }
 {
