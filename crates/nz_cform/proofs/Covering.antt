@@ -5,7 +5,7 @@ use Rattle.nz_spec.specs.Table.{Node}
 use Rattle.nz_log.specs.Lits.{gates_at}
 use Rattle.nz_log.specs.Logs.{gate_of, Entry, LogState, entry_at, IsLive, level_at, told_of, told_level, lowest}
 use Rattle.nz_cform.specs.Forms.{FormState, covered_at, Takes}
-use Rattle.nz_cform.specs.Covering.{HasGate, HasGates, HasGatesBelow, AreAdded, origin_at}
+use Rattle.nz_cform.specs.Covering.{HasGates, HasGatesBelow, AreAdded, origin_at}
 use Rattle.nz_cform.proofs.Listing.{same_or_other}
 
 -- ---- Logs with the same clauses

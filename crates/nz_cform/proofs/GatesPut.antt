@@ -1,13 +1,12 @@
 -- How the gates of a term come into a log, one after another.
-use Rattle.std.proofs.Common.{◌≡◌, ◌≢◌, ℕ, zero, suc, ◌<◌, ◌≤◌, ◌⊎◌, inl, inr, List, [], ◌∷◌, ◌++◌, length, Option, Some, None, refl, sym, ap, subst, ◌∙◌, arith}
-use Rattle.std.specs.Prelude.{All, Contains, IsSome, is_some, option_map, unwrap_or, slice_index_or}
-use Rattle.std.specs.List.{AllPairs}
-use Rattle.std.proofs.lemmas.List.Elements.{All-contains, All-contains_itself, All-push, All-weaker, Contains-append_left, Contains-get_or, Contains-push, Contains-push_cases}
+use Rattle.std.proofs.Common.{◌≡◌, ℕ, suc, ◌<◌, ◌≤◌, ◌⊎◌, inl, inr, List, [], ◌∷◌, ◌++◌, length, Option, Some, None, refl, sym, ap, subst, ◌∙◌, arith}
+use Rattle.std.specs.Prelude.{Contains, IsSome, option_map, unwrap_or, slice_index_or}
+use Rattle.std.proofs.lemmas.List.Elements.{All-push, Contains-append_left, Contains-get_or, Contains-push, Contains-push_cases}
 use Rattle.nz_spec.specs.Table.{Node}
 use Rattle.nz_log.specs.Lits.{gates_at}
-use Rattle.nz_log.specs.Logs.{Origin, gate_of, Entry, LogState, entry_at, IsLive, level_at, told_of, told_level, gate_entry, lowest, Puts}
-use Rattle.nz_cform.specs.Forms.{FormState, covered_at, Takes}
-use Rattle.nz_cform.specs.Covering.{HasGate, HasGates, HasGatesBelow, AreAdded, Keeps, origin_at, gate_clause}
+use Rattle.nz_log.specs.Logs.{Origin, gate_of, Entry, LogState, entry_at, IsLive, level_at, told_of, gate_entry, Puts}
+use Rattle.nz_cform.specs.Forms.{FormState, covered_at}
+use Rattle.nz_cform.specs.Covering.{HasGate, HasGatesBelow, AreAdded, origin_at, gate_clause}
 use Rattle.nz_cform.proofs.GateLevels.{gate_is}
 use Rattle.nz_cform.proofs.Listing.{once_more, same_or_other}
 

@@ -3,7 +3,6 @@ use Rattle.std.proofs.Common.{◌≡◌, ℕ, ◌≤◌, Bool, true, false, Opti
 use Rattle.std.specs.Prelude.{IsSomeAnd, nat_le, if◌then◌else◌}
 use Rattle.std.proofs.lemmas.Bool.{le-leb, leb-true}
 use Rattle.nz_log.specs.Logs.{Entry, kept_below, told_below}
-use Rattle.nz_cform.specs.Forms.{FormState, covered_at, IsCoveredWithin}
 
 -- ---- What is kept
 

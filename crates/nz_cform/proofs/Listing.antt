@@ -1,6 +1,6 @@
 -- The list of the covered terms, as terms are covered and uncovered.
-use Rattle.std.proofs.Common.{◌≡◌, ◌≢◌, ℕ, zero, suc, ◌<◌, ◌⊎◌, inl, inr, Bool, true, false, List, [], ◌∷◌, ◌++◌, length, get_or, Option, Some, None, refl, sym, ap, subst, ◌∙◌, arith, cond, true≢false, append_assoc}
-use Rattle.std.specs.Prelude.{◌↔◌, All, Contains, IsSome, is_some, filter, slice_index_or}
+use Rattle.std.proofs.Common.{◌≡◌, ◌≢◌, ℕ, zero, suc, ◌<◌, ◌⊎◌, inl, inr, Bool, true, false, List, [], ◌∷◌, ◌++◌, length, Option, Some, None, refl, sym, ap, subst, ◌∙◌, arith, cond, true≢false, append_assoc}
+use Rattle.std.specs.Prelude.{All, Contains, IsSome, is_some, filter, slice_index_or}
 use Rattle.std.specs.List.{AllPairs}
 use Rattle.std.proofs.lemmas.List.{append-nil}
 use Rattle.std.proofs.lemmas.List.Elements.{All-contains, All-contains_itself, All-filter, Contains-append_left, Contains-get_or, Contains-push, Contains-push_cases, filter_passes}
@@ -125,7 +125,7 @@ cuts_listed old level new cuts listed =
       covered = λ t. (
         (λ h. passes p old.terms t (subst (λ l. Contains l t) cuts.terms h)),
         (λ h. subst (λ l. Contains l t) (sym cuts.terms)
-        (kept p old.terms t ((listed.covered t).1 (below_was level (covered_at old t) (ap is_some (sym (cuts.levels t)) ∙ h))) h)),
+            (kept p old.terms t ((listed.covered t).1 (below_was level (covered_at old t) (ap is_some (sym (cuts.levels t)) ∙ h))) h)),
       );
     }
 

@@ -1,21 +1,21 @@
 -- How covered terms stay so: when the table grows, when a clause is put, and when levels are dropped.
-use Rattle.std.proofs.Common.{◌≡◌, ◌≢◌, ℕ, ◌<◌, ◌≤◌, ◌⊎◌, inl, inr, Bool, List, [], ◌∷◌, ◌++◌, length, get_or, Option, Some, None, refl, sym, ap, subst, ◌∙◌, arith}
-use Rattle.std.specs.Prelude.{All, fold, slice_get, option_map, unwrap_or, slice_index_or, IsSomeAnd, if◌then◌else◌}
+use Rattle.std.proofs.Common.{◌≡◌, ◌≢◌, ℕ, ◌<◌, ◌≤◌, inl, inr, Bool, List, [], ◌∷◌, ◌++◌, length, get_or, Option, Some, None, refl, sym, ap, subst, ◌∙◌, arith}
+use Rattle.std.specs.Prelude.{All, slice_get, option_map, unwrap_or, slice_index_or, if◌then◌else◌}
 use Rattle.std.specs.List.{AllByRecursion}
 use Rattle.std.proofs.lemmas.List.{length-append}
 use Rattle.std.proofs.lemmas.List.Elements.{All-weaker, recursion_from_All}
 use Rattle.std.proofs.lemmas.Option.{slice_get-get_or}
 use Rattle.nz_spec.specs.Term.{Head, falsum, equality, is_bool, sort_of}
-use Rattle.nz_spec.specs.Table.{Node, IsTable, TermStays, term_in}
+use Rattle.nz_spec.specs.Table.{Node, IsTable, TermStays}
 use Rattle.nz_spec.specs.Gates.{clauses_over}
 use Rattle.nz_lists.proofs.Elements.{AllByRecursion-weaker}
 use Rattle.nz_lists.proofs.Places.{slice_get_kept}
 use Rattle.nz_log.specs.declared.lits.Lit.{Lit}
 use Rattle.nz_spec.specs.Literal.{once}
 use Rattle.nz_log.specs.Lits.{yes, no, are_same_lit, is_boolean_at, gates_at}
-use Rattle.nz_log.specs.Logs.{Origin, gate_of, Entry, LogState, empty_log, entry_at, level_at, told_of, kept_below, told_below, Puts, Drops}
+use Rattle.nz_log.specs.Logs.{Origin, gate_of, Entry, LogState, empty_log, entry_at, level_at, kept_below, told_below, Puts, Drops}
 use Rattle.nz_cform.specs.Forms.{FormState, covered_at, empty_form, IsCoveredWithin, Cuts}
-use Rattle.nz_cform.specs.Covering.{Covers, HasGate, HasGates, gate_clause, kids_at, origin_at}
+use Rattle.nz_cform.specs.Covering.{Covers, gate_clause, kids_at, origin_at}
 use Rattle.nz_cform.specs.Laws.{CoversStay}
 use Rattle.nz_cform.proofs.GatesPut.{put_cases, put_gate}
 use Rattle.nz_cform.proofs.Levels.{covered_within, kept_low, kept_parts, level_of, told_low, told_parts}
@@ -79,7 +79,7 @@ covers_put : (ns : List Node) (old new : LogState) (s : FormState) (id : ℕ) (e
 covers_put ns old new s id e puts other covers =
     let has = covers.gates in
     let was = λ (i t j : ℕ) (at : origin_at new i ≡ Some (gate_of t j)). elim (put_cases old new id e puts i (gate_of t j) at) as
-        (λ _. (entry_at new i ≡ entry_at old i) × (origin_at old i ≡ Some (gate_of t j))) [
+    (λ _. (entry_at new i ≡ entry_at old i) × (origin_at old i ≡ Some (gate_of t j))) [
       | inl here ↦ absurd (other t j here.1)
       | inr before ↦ before
     ] in
@@ -115,8 +115,7 @@ module _ (ns : List Node) (old new : LogState) (s cut : FormState) (level : ℕ)
   was_gate i t j at =
       let here = some_entry (entry_at new i) (gate_of t j) at in
       let before = kept_parts level (entry_at old i) here.0 (sym (drops.entries i) ∙ here.1) in
-      let levels = ap (λ o. elim o [ None ↦ 0 | Some e ↦ e.level ]) before.0 in
-      (
+      let levels = ap (λ o. elim o [ None ↦ 0 | Some e ↦ e.level ]) before.0 in (
         ap (option_map (λ (e : Entry). e.origin)) before.0 ∙ ap Some here.2,
         ap (λ o. elim o [ None ↦ 0 | Some e ↦ e.level ]) (here.1 ∙ sym before.0),
         subst (λ n. n ≤ level) (sym levels) before.1,

@@ -1,6 +1,6 @@
 -- Terms that are covered one after another, from a stack of those that wait.
-use Rattle.std.proofs.Common.{◌≡◌, ◌≢◌, ℕ, ◌<◌, ◌≤◌, ◌⊎◌, inl, inr, false, List, [], ◌∷◌, ◌++◌, length, Option, Some, None, refl, sym, ap, subst, ◌∙◌, arith}
-use Rattle.std.specs.Prelude.{All, IsSome, IsSomeAnd, unwrap_or}
+use Rattle.std.proofs.Common.{◌≡◌, ℕ, ◌<◌, ◌≤◌, inl, inr, false, List, [], ◌∷◌, ◌++◌, length, Some, refl, sym, ap, subst, ◌∙◌, arith}
+use Rattle.std.specs.Prelude.{All, IsSome, unwrap_or}
 use Rattle.std.proofs.lemmas.List.Elements.{All-append, All-cons, All-head, All-nil, All-pop, All-push, All-tail, All-weaker}
 use Rattle.nz_spec.specs.Term.{Head, apply, holds_number}
 use Rattle.nz_spec.specs.Table.{Node, term_in, terms_at}
@@ -10,7 +10,7 @@ use Rattle.nz_log.specs.Sound.{IsLog}
 use Rattle.nz_cform.specs.Forms.{FormState, covered_at, IsCoveredWithin, Takes, Grows}
 use Rattle.nz_cform.specs.Covering.{AreAdded, Covers, HasGates, Keeps, kids_at}
 use Rattle.nz_cform.proofs.Levels.{covered_within, level_of}
-use Rattle.nz_cform.proofs.Listing.{grows_itself, grows_more, not_some, none_or_some, same_or_other}
+use Rattle.nz_cform.proofs.Listing.{grows_itself, grows_more, same_or_other}
 use Rattle.nz_cform.proofs.Sizes.{plain_arguments}
 
 -- what is covered stays so, at its level
@@ -93,7 +93,7 @@ module _ (ns : List Node) (id level : ℕ) (start : LogState) (first : FormState
   skip n covered =
       let below : n ≤ level = subst (λ o. unwrap_or o 0 ≤ level) (u.gates.told t ∙ covered) (u.told t) in
       let with_it = λ (r : FormState) (stays : Stays s r) (all : All (IsCoveredWithin r level) waiting).
-          All-push (IsCoveredWithin r level) waiting t all (covered_within (covered_at r t) n level (stays t n covered) below) in
+      All-push (IsCoveredWithin r level) waiting t all (covered_within (covered_at r t) n level (stays t n covered) below) in
       record {
         table = (front (λ v. v < length ns) waiting t u.table).0;
         within = u.within;

@@ -1,20 +1,19 @@
 -- The values of covered terms are the truths that meet their gates, from arguments to terms.
-use Rattle.std.proofs.Common.{◌≡◌, ℕ, zero, suc, ◌<◌, List, [], ◌∷◌, length, get_or, Option, Some, None, refl, sym, ap, subst, ◌∙◌, arith}
+use Rattle.std.proofs.Common.{◌≡◌, ℕ, zero, suc, ◌<◌, List, [], ◌∷◌, length, get_or, Some, None, refl, sym, ap, subst, ◌∙◌, arith}
 use Rattle.std.specs.Prelude.{All, Bool, IsSome, is_some, slice_get, option_map, unwrap_or}
 use Rattle.std.specs.List.{AllByRecursion, list_any}
 use Rattle.std.proofs.lemmas.List.Elements.{recursion_from_All}
 use Rattle.std.proofs.lemmas.Option.{slice_get-get_or}
-use Rattle.nz_spec.specs.Term.{falsum, Head, Term, apply, Assignment, is_true, value_of}
+use Rattle.nz_spec.specs.Term.{falsum, Term, apply, Assignment, is_true, value_of}
 use Rattle.nz_spec.specs.Table.{Node, IsTable, TermOfNode, term_in, terms_at}
 use Rattle.nz_spec.specs.Model.{IsAssignment}
-use Rattle.nz_spec.specs.Literal.{once}
 use Rattle.nz_spec.specs.Gates.{clauses_over, list_of, IsBoolean, HasBooleanArguments}
 use Rattle.nz_log.specs.declared.lits.Lit.{Lit}
-use Rattle.nz_log.specs.Lits.{yes, no, are_same_lit, is_boolean_at, gates_at}
+use Rattle.nz_log.specs.Lits.{yes, no, is_boolean_at, gates_at}
 use Rattle.nz_log.specs.Logs.{Entry, LogState}
 use Rattle.nz_log.specs.Sound.{IsLog}
 use Rattle.nz_cform.specs.Forms.{FormState, covered_at, IsCoveredWithin}
-use Rattle.nz_cform.specs.Covering.{Covers, gate_clause, kids_at}
+use Rattle.nz_cform.specs.Covering.{Covers, gate_clause}
 use Rattle.nz_cform.specs.Laws.{is_lit_true, MeetsGates, AgreesOnAtoms, GatesTellValues}
 use Rattle.nz_cform.proofs.Levels.{level_of}
 use Rattle.nz_cform.proofs.Listing.{has_some}

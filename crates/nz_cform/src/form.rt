@@ -162,11 +162,7 @@ fn has_level(levels: &[Option<usize>], term: TermId) -> bool
 }
 
 /// Gives the term of a number a level.
-fn set_level(
-    levels: &mut Vec<Option<usize>>,
-    term: TermId,
-    level: usize,
-) -> Result<(), Memory>
+fn set_level(levels: &mut Vec<Option<usize>>, term: TermId, level: usize) -> Result<(), Memory>
     ensures here { OnOk result (slice_index_or levels.new.items term None ≡ Some level) }
     ensures others { (t : ℕ) → t ≢ term → slice_index_or levels.new.items t None ≡ slice_index_or levels.old.items t None }
     ensures unchanged { OnErr result (levels.new.items ≡ levels.old.items) }
