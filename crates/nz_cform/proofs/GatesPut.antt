@@ -18,14 +18,6 @@ same_gate t j u k e =
     let number : j ≡ k = cc in
     (term, number)
 
--- a clause that was made is there
-is_there : (log : LogState) (i : ℕ) (o : Origin) → origin_at log i ≡ Some o → IsLive log i
-is_there log i o at = there (entry_at log i) o at
-  where
-    there : (e : Option Entry) (o : Origin) → option_map (λ (f : Entry). f.origin) e ≡ Some o → IsSome e
-    there None o at = cc
-    there (Some e) o at = refl
-
 -- ---- One clause is put
 
 module _ (old new : LogState) (id : ℕ) (e : Entry) (puts : Puts old id e new) where

@@ -3,11 +3,11 @@ use Rattle.std.proofs.Common.{◌≡◌, ◌≢◌, ℕ, zero, suc, ◌<◌, ◌
 use Rattle.std.specs.Prelude.{All, Contains, IsSome, is_some, filter, slice_index_or}
 use Rattle.std.specs.List.{AllPairs}
 use Rattle.std.proofs.lemmas.List.{append-nil}
-use Rattle.std.proofs.lemmas.List.Elements.{All-contains, All-contains_itself, All-filter, Contains-append_left, Contains-get_or, Contains-push, Contains-push_cases, filter_passes}
+use Rattle.std.proofs.lemmas.List.Elements.{All-contains, Contains-get_or, filter_passes}
 use Rattle.std.proofs.lemmas.List.Kept.{AllPairs-filter}
 use Rattle.std.proofs.lemmas.List.Quantifiers.{all_pairs_push}
 use Rattle.nz_log.specs.Logs.{told_below}
-use Rattle.nz_cform.specs.Forms.{FormState, covered_at, IsListed, Takes, Grows, Cuts}
+use Rattle.nz_cform.specs.Forms.{FormState, covered_at, IsListed, Grows, Cuts}
 
 -- ---- Numbers and options
 
@@ -54,9 +54,6 @@ kept_from p (y ∷ ys) x (suc k) inside at e = behind (p y) y (filter p ys) x (k
 kept : (p : ℕ → Bool) (xs : List ℕ) (x : ℕ) → Contains xs x → p x ≡ true → Contains (filter p xs) x
 kept p xs x h e = kept_from p xs x h.0 h.1 h.2 e
 
-was_there : (p : ℕ → Bool) (xs : List ℕ) (x : ℕ) → Contains (filter p xs) x → Contains xs x
-was_there p xs x h = All-contains (Contains xs) (filter p xs) x (All-filter p (Contains xs) xs (All-contains_itself xs)) h
-
 passes : (p : ℕ → Bool) (xs : List ℕ) (x : ℕ) → Contains (filter p xs) x → p x ≡ true
 passes p xs x h = All-contains (λ y. p y ≡ true) (filter p xs) x (filter_passes p xs) h
 
@@ -64,18 +61,6 @@ passes p xs x h = All-contains (λ y. p y ≡ true) (filter p xs) x (filter_pass
 
 pub grows_itself : (s : FormState) (level : ℕ) → Grows s level s
 grows_itself s level = record { more = []; terms = sym (append-nil s.terms); stays = λ t n e. e; added = λ t n none some. cc }
-
-pub takes_grow : (old : FormState) (t level : ℕ) (new : FormState) → covered_at old t ≡ None → Takes old t level new → Grows old level new
-takes_grow old t level new none takes =
-    record {
-      more = t ∷ [];
-      terms = takes.terms;
-      stays = λ u n e. takes.others u (λ same. let both : None ≡ Some n = sym none ∙ ap (covered_at old) (sym same) ∙ e in cc) ∙ e;
-      added = λ u n before after. elim (same_or_other u t) [
-        | inl same ↦ let both : Some n ≡ Some level = sym after ∙ ap (covered_at new) same ∙ takes.here in cc
-        | inr other ↦ let both : None ≡ Some n = sym before ∙ sym (takes.others u other) ∙ after in cc
-      ];
-    }
 
 pub grows_more : (a b c : FormState) (level : ℕ) → Grows a level b → Grows b level c → Grows a level c
 grows_more a b c level f g =
@@ -90,25 +75,6 @@ grows_more a b c level f g =
             let same : some.0 ≡ n = cc in
             sym same ∙ f.added t some.0 before some.1
       ];
-    }
-
-pub takes_listed : (old : FormState) (t level : ℕ) (new : FormState) → covered_at old t ≡ None → Takes old t level new → IsListed old → IsListed new
-takes_listed old t level new none takes listed =
-    record {
-      once = subst (AllPairs (λ u v. u ≢ v)) (sym takes.terms) (once_more old.terms t listed.once (λ h. not_some (covered_at old t) none ((listed.covered t).0 h)));
-      covered = λ u. (
-        (λ h. elim (Contains-push_cases old.terms t u (subst (λ l. Contains l u) takes.terms h)) [
-          | inl before ↦ elim (same_or_other u t) [
-            | inl same ↦ ap is_some (ap (covered_at new) same ∙ takes.here)
-            | inr other ↦ ap is_some (takes.others u other) ∙ (listed.covered u).0 before
-          ]
-          | inr same ↦ ap is_some (ap (covered_at new) (sym same) ∙ takes.here)
-        ]),
-        (λ h. subst (λ l. Contains l u) (sym takes.terms) (elim (same_or_other u t) [
-          | inl same ↦ subst (Contains (old.terms ++ t ∷ [])) (sym same) (Contains-push old.terms t)
-          | inr other ↦ Contains-append_left old.terms (t ∷ []) u ((listed.covered u).1 (sym (ap is_some (takes.others u other)) ∙ h))
-        ])),
-      );
     }
 
 -- ---- Terms that are uncovered

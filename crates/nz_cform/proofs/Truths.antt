@@ -146,6 +146,10 @@ module _ (v : ℕ → Bool) where
 
 -- ---- A term
 
+and_true : (b : Bool) → (b && true) ≡ b
+and_true true = refl
+and_true false = refl
+
 module _ (a : Assignment) (v : ℕ → Bool) (term : ℕ → Term) where
   -- the argument has a truth, which is that of its number
   abbrev pub Agrees : ℕ → Type 0
@@ -161,11 +165,7 @@ module _ (a : Assignment) (v : ℕ → Bool) (term : ℕ → Term) where
 
   conjunction_is : (ks : List ℕ) → AllByRecursion Agrees ks → is_true (all_true (values_of a (terms_at term ks))) ≡ list_all v ks
   conjunction_is [] h = refl
-  conjunction_is (k ∷ []) h = h.0.1 ∙ and_true (v k)
-    where
-      and_true : (b : Bool) → b ≡ (b && true)
-      and_true true = refl
-      and_true false = refl
+  conjunction_is (k ∷ []) h = h.0.1 ∙ sym (and_true (v k))
   conjunction_is (k ∷ l ∷ ks) h = all_agree (k ∷ l ∷ ks) h
 
   disjunction_is : (ks : List ℕ) → AllByRecursion Agrees ks → is_true (some_true (values_of a (terms_at term ks))) ≡ list_any v ks
@@ -181,10 +181,6 @@ module _ (a : Assignment) (v : ℕ → Bool) (term : ℕ → Term) where
   -- of two arguments
   equal_at : (k l : ℕ) → Agrees k → Agrees l → are_equal (value_of a (term k)) (value_of a (term l)) ≡ are_same_sign (v k) (v l)
   equal_at k l e f = equal_is (value_of a (term k)) (value_of a (term l)) e.0 ∙ (λ i. are_same_sign (e.1 i) (f.1 i))
-
-  and_true : (b : Bool) → (b && true) ≡ b
-  and_true true = refl
-  and_true false = refl
 
   on_value : (b : Bool) (x y : Value) → is_true (if b then x else y) ≡ (if b then is_true x else is_true y)
   on_value true x y = refl
