@@ -11,23 +11,22 @@ use Rattle.nz_cform.specs.Forms.{FormState, covered_at, IsListed, Grows, Cuts}
 
 -- ---- Numbers and options
 
+-- two numbers are one, or they are not
 pub same_or_other : (i j : ℕ) → (i ≡ j) ⊎ (i ≢ j)
 same_or_other zero zero = inl refl
 same_or_other zero (suc j) = inr (λ e. omega arith)
 same_or_other (suc i) zero = inr (λ e. omega arith)
 same_or_other (suc i) (suc j) = elim (same_or_other i j) [ inl e ↦ inl (ap suc e) | inr other ↦ inr (λ e. other (omega arith)) ]
 
+-- an option has a value, or none
 pub none_or_some : (o : Option ℕ) → (o ≡ None) ⊎ ((n : ℕ) × (o ≡ Some n))
 none_or_some None = inl refl
 none_or_some (Some n) = inr (n, refl)
 
+-- the value of one that has it
 pub has_some : (o : Option ℕ) → IsSome o → (n : ℕ) × (o ≡ Some n)
 has_some None h = cc
 has_some (Some n) h = (n, refl)
-
--- what is none holds nothing
-pub not_some : {X : Type 0} (o : Option X) → o ≡ None → IsSome o → ⊥
-not_some o e h = true≢false (sym h ∙ ap is_some e)
 
 -- ---- Lists without a number twice
 
@@ -36,7 +35,7 @@ pub once_more : (xs : List ℕ) (x : ℕ) → AllPairs (λ t u. t ≢ u) xs → 
 once_more xs x once new =
     all_pairs_push (λ t u. t ≢ u) xs x once (λ k d inside same. new (subst (Contains xs) same (Contains-get_or xs k d inside)))
 
--- an element that passes a test is kept by the filter
+-- what passes a test is kept by the filter, in front or behind
 in_front : (b : Bool) (x : ℕ) (xs : List ℕ) → b ≡ true → Contains (cond b (x ∷ xs) xs) x
 in_front true x xs e = (0, omega arith, refl)
 in_front false x xs e = absurd (true≢false (sym e))
@@ -51,17 +50,21 @@ kept_from p (y ∷ ys) x zero inside at e =
     subst (Contains (cond (p y) (y ∷ filter p ys) (filter p ys))) at (in_front (p y) y (filter p ys) (ap p at ∙ e))
 kept_from p (y ∷ ys) x (suc k) inside at e = behind (p y) y (filter p ys) x (kept_from p ys x k (omega arith) at e)
 
+-- an element that passes is kept
 kept : (p : ℕ → Bool) (xs : List ℕ) (x : ℕ) → Contains xs x → p x ≡ true → Contains (filter p xs) x
 kept p xs x h e = kept_from p xs x h.0 h.1 h.2 e
 
+-- what is kept passes
 passes : (p : ℕ → Bool) (xs : List ℕ) (x : ℕ) → Contains (filter p xs) x → p x ≡ true
 passes p xs x h = All-contains (λ y. p y ≡ true) (filter p xs) x (filter_passes p xs) h
 
 -- ---- Terms that are covered
 
+-- nothing more is covered
 pub grows_itself : (s : FormState) (level : ℕ) → Grows s level s
 grows_itself s level = record { more = []; terms = sym (append-nil s.terms); stays = λ t n e. e; added = λ t n none some. cc }
 
+-- growth twice is growth
 pub grows_more : (a b c : FormState) (level : ℕ) → Grows a level b → Grows b level c → Grows a level c
 grows_more a b c level f g =
     record {
@@ -79,10 +82,12 @@ grows_more a b c level f g =
 
 -- ---- Terms that are uncovered
 
+-- a level that is left was there
 below_was : (level : ℕ) (o : Option ℕ) → IsSome (told_below level o) → IsSome o
 below_was level None h = h
 below_was level (Some n) h = refl
 
+-- after a cut just the covered terms are listed
 pub cuts_listed : (old : FormState) (level : ℕ) (new : FormState) → Cuts old level new → IsListed old → IsListed new
 cuts_listed old level new cuts listed =
     let p : ℕ → Bool = λ t. is_some (covered_at new t) in

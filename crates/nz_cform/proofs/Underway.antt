@@ -17,6 +17,7 @@ use Rattle.nz_cform.proofs.Sizes.{plain_arguments}
 abbrev pub Stays : FormState → FormState → Type 0
 Stays s r = (t n : ℕ) → covered_at s t ≡ Some n → covered_at r t ≡ Some n
 
+-- what is covered within a level stays so
 pub within_stays : (s r : FormState) (n t : ℕ) → Stays s r → IsCoveredWithin s n t → IsCoveredWithin r n t
 within_stays s r n t stays h = let l = level_of (covered_at s t) n h in covered_within (covered_at r t) l.0 n (stays t l.0 l.1) l.2
 
@@ -49,6 +50,7 @@ none_added log =
       once = λ i j d below inside. absurd (omega arith);
     }
 
+-- at the start the term itself waits
 pub start_underway : (ns : List Node) (id level : ℕ) (log : LogState) (s : FormState) → id < length ns → Covers ns log s
     → ((t : ℕ) → told_level log t ≤ level) → (waiting : List ℕ) → waiting ≡ id ∷ [] → IsUnderway ns id level log s log s [] waiting
 start_underway ns id level log s inside covers told waiting one =
@@ -71,9 +73,11 @@ start_underway ns id level log s inside covers told waiting one =
 
 -- ---- The one that waits last
 
+-- what holds of all that wait holds of it, and of the others
 front : (P : ℕ → Type 0) (ts : List ℕ) (t : ℕ) → All P (ts ++ t ∷ []) → All P ts × P t
 front P ts t h = All-pop P (ts ++ t ∷ []) ts (Some t) refl h
 
+-- what holds of two lists in one holds of each
 parts : (P : ℕ → Type 0) (ts us : List ℕ) → All P (ts ++ us) → All P ts × All P us
 parts P [] us h = (All-nil P, h)
 parts P (t ∷ ts) us h =
@@ -82,6 +86,7 @@ parts P (t ∷ ts) us h =
 
 module _ (ns : List Node) (id level : ℕ) (start : LogState) (first : FormState) (log : LogState) (s : FormState) (ids waiting : List ℕ) (t : ℕ)
     (u : IsUnderway ns id level start first log s ids (waiting ++ t ∷ [])) where
+  -- it is of the table, and holds no number where the first doesn't
   pub is_within : t < length ns
   is_within = (front (λ v. v < length ns) waiting t u.table).1
 
@@ -113,6 +118,7 @@ module _ (ns : List Node) (id level : ℕ) (start : LogState) (first : FormState
   -- what covering it did to the log and the list, in any case
   module _ (law : PlainTermsAreBoolean) (log' : LogState)
       (sound : (levels : List (List ℕ)) → HasBooleanArguments (term_in ns t) → IsLog ns levels log → IsLog ns levels log') where
+    -- the log is in order
     pub sound_on : (levels : List (List ℕ)) → holds_number (term_in ns id) ≡ false → IsLog ns levels start → IsLog ns levels log'
     sound_on levels e order = sound levels (law.arguments (term_in ns t) (is_plain e)) (u.sound levels e order)
 
@@ -121,6 +127,7 @@ module _ (ns : List Node) (id level : ℕ) (start : LogState) (first : FormState
         (added : (begun : LogState) → AreAdded begun ids log → AreAdded begun ids' log') (told : (v : ℕ) → told_level log' v ≤ level)
         (h : Head) (kids : List ℕ) (node : kids_at ns t ≡ kids) (term : term_in ns t ≡ apply h (terms_at (term_in ns) kids))
         (before : All (λ k. k < t) kids) where
+      -- what stays from then on stays from now on, and with what waits then it is covered
       stays_on : (r : FormState) → Stays s' r → Stays s r
       stays_on r stays v n at = stays v n (grown.stays v n at)
 
@@ -129,6 +136,7 @@ module _ (ns : List Node) (id level : ℕ) (start : LogState) (first : FormState
           All-push (IsCoveredWithin r level) waiting t (parts (IsCoveredWithin r level) waiting kids all).0
           (covered_within (covered_at r t) level level (stays t level takes.here) (omega arith))
 
+      -- arguments of what is covered then
       arguments_on : (r : FormState) → Stays s' r → All (IsCoveredWithin r level) (waiting ++ kids) → (v n : ℕ) → covered_at s' v ≡ Some n
           → All (IsCoveredWithin r n) (kids_at ns v)
       arguments_on r stays all v n at =
@@ -141,6 +149,7 @@ module _ (ns : List Node) (id level : ℕ) (start : LogState) (first : FormState
             | inr other ↦ u.reaches.arguments r (stays_on r stays) (with_term r stays all) v n (sym (takes.others v other) ∙ at)
           ]
 
+      -- together
       pub cover_on : IsUnderway ns id level start first log' s' ids' (waiting ++ kids)
       cover_on =
           record {

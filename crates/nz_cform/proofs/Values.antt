@@ -19,6 +19,7 @@ use Rattle.nz_cform.proofs.Levels.{level_of}
 use Rattle.nz_cform.proofs.Listing.{has_some}
 use Rattle.nz_cform.proofs.Truths.{Agrees, Meets, any_once, told}
 
+-- what holds of each place holds of each clause
 each_place : (P : List Lit → Type 0) (cs : List (List Lit)) → ((j : ℕ) → j < length cs → P (unwrap_or (slice_get cs j) [])) → AllByRecursion P cs
 each_place P [] f = tt
 each_place P (c ∷ cs) f = (f 0 (omega arith), each_place P cs (λ j inside. f (suc j) (omega arith)))
@@ -30,6 +31,7 @@ booleans_at term (k ∷ ks) h = (h.0, booleans_at term ks h.1)
 
 module _ (node : TermOfNode) (ns : List Node) (levels : List (List ℕ)) (log : LogState) (s : FormState) (table : IsTable ns) (order : IsLog ns levels log)
     (covers : Covers ns log s) (a : Assignment) (good : IsAssignment a) (v : ℕ → Bool) (meets : MeetsGates log v) (atoms : AgreesOnAtoms ns s a v) where
+  -- a covered Boolean term has the truth of its number
   abbrev Tells : ℕ → Type 0
   Tells t = IsSome (covered_at s t) → IsBoolean (term_in ns t) → is_true (value_of a (term_in ns t)) ≡ v t
 
@@ -49,6 +51,7 @@ module _ (node : TermOfNode) (ns : List Node) (levels : List (List ℕ)) (log : 
       let has = covers.gates.gates t n 0 at some in
       (order has.0 (gate_clause ns t 0 n) has.1).made.1
 
+  -- so have arguments, which are below it
   agree : (t n : ℕ) → ((k : ℕ) → k < t → Tells k) → (ks : List ℕ) → AllByRecursion (λ k. k < t) ks → AllByRecursion (IsCoveredWithin s n) ks
       → AllByRecursion (λ k. IsBoolean (term_in ns k)) ks → AllByRecursion (Agrees a v (term_in ns)) ks
   agree t n ih [] below covered boolean = tt
@@ -76,6 +79,7 @@ module _ (node : TermOfNode) (ns : List Node) (levels : List (List ℕ)) (log : 
         (subst (All (IsCoveredWithin s n)) (ap (λ o. elim o [ None ↦ [] | Some m ↦ m.kids ]) node_at) (covers.arguments t n at)))
         (booleans_at (term_in ns) the_node.kids (subst HasBooleanArguments the_term (over_booleans t n at some)))
 
+    -- by its gates, or as an atom
     by_gates : (gs : List (List Lit)) → gates_at ns t ≡ gs → is_true (value_of a (term_in ns t)) ≡ v t
     by_gates [] none = atoms t (ap is_some at) boolean none
     by_gates (c ∷ cs) some =
@@ -86,6 +90,7 @@ module _ (node : TermOfNode) (ns : List Node) (levels : List (List ℕ)) (log : 
         (subst (AllByRecursion (Meets v)) the_gates (met t n at))
         (λ none. sym value ∙ atoms t (ap is_some at) boolean (the_gates ∙ none))
 
+  -- by induction on the number
   below : (m t : ℕ) → t < m → Tells t
   below zero t inside covered boolean = absurd (omega arith)
   below (suc m) t inside covered boolean =
