@@ -5,12 +5,13 @@ use Rattle.nz_spec.specs.Table.{Node}
 use Rattle.nz_log.specs.Lits.{gates_at}
 use Rattle.nz_log.specs.Logs.{gate_of, Entry, LogState, entry_at, IsLive, level_at, told_of, told_level, lowest}
 use Rattle.nz_cform.specs.Forms.{FormState, covered_at, Takes}
-use Rattle.nz_cform.specs.Covering.{HasGate, HasGates, HasGatesBelow, AreAdded, origin_at}
+use Rattle.nz_cform.specs.Covering.{HasGates, HasGatesBelow, AreAdded, origin_at}
 use Rattle.nz_cform.proofs.Listing.{same_or_other}
 
 -- ---- Logs with the same clauses
 
 module _ (old new : LogState) (clauses : new.entries ≡ old.entries) where
+  -- clauses, what is live, how a clause was made, its level, and what was added
   pub same_entry : (i : ℕ) → entry_at new i ≡ entry_at old i
   same_entry i = ap (λ es. unwrap_or (slice_get es i) None) clauses
 
@@ -36,10 +37,12 @@ module _ (old new : LogState) (clauses : new.entries ≡ old.entries) where
 
 -- ---- A level that is told
 
+-- the lowest of levels is no higher than one of them
 lowest_within : (o : Option ℕ) (level : ℕ) → lowest o level ≤ level
 lowest_within None level = omega arith
 lowest_within (Some n) level = omega arith
 
+-- no level told is above the one that is told now
 pub told_within : (old new : LogState) (t level : ℕ) → told_of new t ≡ Some (lowest (told_of old t) level)
     → ((u : ℕ) → u ≢ t → told_of new u ≡ told_of old u) → ((u : ℕ) → told_level old u ≤ level) → (u : ℕ) → told_level new u ≤ level
 told_within old new t level told others highest u =
@@ -58,12 +61,15 @@ module _ (ns : List Node) (old new : LogState) (s r : FormState) (t level : ℕ)
   is_other : (u n : ℕ) → covered_at s u ≡ Some n → u ≢ t
   is_other u n at same = let both : None ≡ Some n = sym uncovered ∙ ap (covered_at s) (sym same) ∙ at in cc
 
+  -- the term is told at the level
   told_here : told_of new t ≡ Some level
   told_here = told ∙ ap (λ o. Some (lowest o level)) (has.told t ∙ uncovered)
 
+  -- a gate in the log is of a term that was covered
   was_covered : (i u j : ℕ) → origin_at new i ≡ Some (gate_of u j) → covered_at s u ≡ Some (level_at old i)
   was_covered i u j at = has.of_covered i u j (sym (same_origin old new clauses i) ∙ at)
 
+  -- together: of the term itself no gate is there
   pub told_and_listed : HasGatesBelow ns new r t 0
   told_and_listed =
       record {

@@ -1,5 +1,5 @@
 -- The level of a gate is that told of its term, where none higher is told: each clause of a term names it first.
-use Rattle.std.proofs.Common.{◌≡◌, ℕ, zero, suc, ◌<◌, ◌≤◌, max, Bool, true, false, List, [], ◌∷◌, ◌++◌, length, map, Option, Some, None, refl, sym, ap, subst, ◌∙◌, arith}
+use Rattle.std.proofs.Common.{◌≡◌, ℕ, zero, suc, ◌<◌, ◌≤◌, max, Bool, true, false, List, [], ◌∷◌, ◌++◌, length, map, Option, Some, None, refl, ap, arith}
 use Rattle.std.specs.Prelude.{fold, slice_get, unwrap_or, if◌then◌else◌}
 use Rattle.std.specs.List.{AllByRecursion, list_any}
 use Rattle.nz_spec.specs.Term.{Head, verum, falsum, negation, conjunction, disjunction, exclusion, equality, choice, bool_sort}
@@ -14,10 +14,7 @@ use Rattle.nz_cform.specs.Covering.{gate_clause}
 
 -- ---- Levels of literals
 
-level_least : (s : LogState) (c : List Lit) (n : ℕ) → n ≤ level_with s n c
-level_least s [] n = omega arith
-level_least s (l ∷ ls) n = let more = level_least s ls (max n (told_level s l.term)) in omega arith
-
+-- the level of literals is not above all that was told
 level_most : (s : LogState) (m : ℕ) → ((t : ℕ) → told_level s t ≤ m) → (c : List Lit) (n : ℕ) → n ≤ m → level_with s n c ≤ m
 level_most s m highest [] n below = below
 level_most s m highest (l ∷ ls) n below = level_most s m highest ls (max n (told_level s l.term)) (let here = highest l.term in omega arith)
@@ -27,10 +24,12 @@ level_push : (s : LogState) (c : List Lit) (n : ℕ) (x : Lit) → level_with s 
 level_push s [] n x = omega arith
 level_push s (l ∷ ls) n x = level_push s ls (max n (told_level s l.term)) x
 
+-- nor where it is put unless it is there
 level_with_one : (s : LogState) (b : Bool) (c : List Lit) (x : Lit) → level_with s 0 c ≤ level_with s 0 (if b then c else c ++ x ∷ [])
 level_with_one s true c x = omega arith
 level_with_one s false c x = level_push s c 0 x
 
+-- nor have many more
 level_put : (s : LogState) (xs c : List Lit) → level_with s 0 c ≤ level_with s 0 (fold (with_one are_same_lit) c xs)
 level_put s [] c = omega arith
 level_put s (x ∷ xs) c =
@@ -40,18 +39,22 @@ level_put s (x ∷ xs) c =
 
 -- ---- What a clause names first
 
+-- the first literal is of the term
 abbrev pub Begins : ℕ → List Lit → Type 0
 Begins t [] = ⊥
 Begins t (l ∷ ls) = l.term ≡ t
 
+-- so it is in rows for each argument
 rows_begin : (t : ℕ) (first : Lit) (f : ℕ → Lit) → first.term ≡ t → (ks : List ℕ) → AllByRecursion (Begins t) (map (λ u. first ∷ f u ∷ []) ks)
 rows_begin t first f e [] = tt
 rows_begin t first f e (k ∷ ks) = (e, rows_begin t first f e ks)
 
+-- and in clauses on a test
 on_test : (t : ℕ) (b : Bool) (cs : List (List Lit)) → AllByRecursion (Begins t) cs → AllByRecursion (Begins t) (if b then cs else [])
 on_test t true cs h = h
 on_test t false cs h = tt
 
+-- and so in each clause of a head
 over_begin : (is_boolean : ℕ → Bool) (t : ℕ) (h : Head) (ks : List ℕ) → AllByRecursion (Begins t) (clauses_over yes no is_boolean t h ks)
 over_begin f t verum [] = (refl, tt)
 over_begin f t falsum [] = (refl, tt)
@@ -63,11 +66,13 @@ over_begin f t equality (u ∷ v ∷ []) = on_test t (f u) _ (refl, (refl, (refl
 over_begin f t (choice bool_sort) (c ∷ u ∷ v ∷ []) = (refl, (refl, (refl, (refl, tt))))
 over_begin f t h ks = tt
 
+-- and of a node
 node_begins : (ns : List Node) (t : ℕ) (o : Option Node)
     → AllByRecursion (Begins t) (elim o [ None ↦ [] | Some n ↦ clauses_over yes no (is_boolean_at ns) t n.head n.kids ])
 node_begins ns t None = tt
 node_begins ns t (Some n) = over_begin (is_boolean_at ns) t n.head n.kids
 
+-- and in the clause of a place
 begins_at : (t : ℕ) (cs : List (List Lit)) (j : ℕ) → AllByRecursion (Begins t) cs → j < length cs → Begins t (unwrap_or (slice_get cs j) [])
 begins_at t [] j h inside = absurd (omega arith)
 begins_at t (c ∷ cs) zero h inside = h.0
@@ -75,6 +80,7 @@ begins_at t (c ∷ cs) (suc j) h inside = begins_at t cs j h.1 (omega arith)
 
 -- ---- The level of a gate
 
+-- a set of literals that begin with a term has no lower level than was told of it
 named_level : (s : LogState) (t : ℕ) (c : List Lit) → Begins t c → told_level s t ≤ level_with s 0 (once are_same_lit c)
 named_level s t [] b = absurd b
 named_level s t (l ∷ ls) b =
@@ -82,6 +88,7 @@ named_level s t (l ∷ ls) b =
     let same : told_level s l.term ≡ told_level s t = ap (told_level s) b in
     omega arith
 
+-- the gate that a log makes is the clause of the table at that level
 pub gate_is : (ns : List Node) (s : LogState) (t j level : ℕ) → told_of s t ≡ Some level → ((u : ℕ) → told_level s u ≤ level) → j < length (gates_at ns t)
     → gate_entry ns s t j ≡ gate_clause ns t j level
 gate_is ns s t j level told highest inside =

@@ -1,35 +1,28 @@
 -- How the gates of a term come into a log, one after another.
-use Rattle.std.proofs.Common.{◌≡◌, ◌≢◌, ℕ, zero, suc, ◌<◌, ◌≤◌, ◌⊎◌, inl, inr, List, [], ◌∷◌, ◌++◌, length, Option, Some, None, refl, sym, ap, subst, ◌∙◌, arith}
-use Rattle.std.specs.Prelude.{All, Contains, IsSome, is_some, option_map, unwrap_or, slice_index_or}
-use Rattle.std.specs.List.{AllPairs}
-use Rattle.std.proofs.lemmas.List.Elements.{All-contains, All-contains_itself, All-push, All-weaker, Contains-append_left, Contains-get_or, Contains-push, Contains-push_cases}
+use Rattle.std.proofs.Common.{◌≡◌, ℕ, suc, ◌<◌, ◌≤◌, ◌⊎◌, inl, inr, List, [], ◌∷◌, ◌++◌, length, Option, Some, None, refl, sym, ap, subst, ◌∙◌, arith}
+use Rattle.std.specs.Prelude.{Contains, IsSome, option_map, unwrap_or, slice_index_or}
+use Rattle.std.proofs.lemmas.List.Elements.{All-push, Contains-append_left, Contains-get_or, Contains-push, Contains-push_cases}
 use Rattle.nz_spec.specs.Table.{Node}
 use Rattle.nz_log.specs.Lits.{gates_at}
-use Rattle.nz_log.specs.Logs.{Origin, gate_of, Entry, LogState, entry_at, IsLive, level_at, told_of, told_level, gate_entry, lowest, Puts}
-use Rattle.nz_cform.specs.Forms.{FormState, covered_at, Takes}
-use Rattle.nz_cform.specs.Covering.{HasGate, HasGates, HasGatesBelow, AreAdded, Keeps, origin_at, gate_clause}
+use Rattle.nz_log.specs.Logs.{Origin, gate_of, Entry, LogState, entry_at, IsLive, level_at, told_of, gate_entry, Puts}
+use Rattle.nz_cform.specs.Forms.{FormState, covered_at}
+use Rattle.nz_cform.specs.Covering.{HasGate, HasGatesBelow, AreAdded, origin_at, gate_clause}
 use Rattle.nz_cform.proofs.GateLevels.{gate_is}
 use Rattle.nz_cform.proofs.Listing.{once_more, same_or_other}
 
 -- ---- Gates by what made them
 
+-- origins that are one are of one clause of one term
 same_gate : (t j u k : ℕ) → ◌≡◌ {A = Option Origin} (Some (gate_of t j)) (Some (gate_of u k)) → (t ≡ u) × (j ≡ k)
 same_gate t j u k e =
     let term : t ≡ u = cc in
     let number : j ≡ k = cc in
     (term, number)
 
--- a clause that was made is there
-is_there : (log : LogState) (i : ℕ) (o : Origin) → origin_at log i ≡ Some o → IsLive log i
-is_there log i o at = there (entry_at log i) o at
-  where
-    there : (e : Option Entry) (o : Origin) → option_map (λ (f : Entry). f.origin) e ≡ Some o → IsSome e
-    there None o at = cc
-    there (Some e) o at = refl
-
 -- ---- One clause is put
 
 module _ (old new : LogState) (id : ℕ) (e : Entry) (puts : Puts old id e new) where
+  -- what was there stays
   pub put_kept : (i : ℕ) → IsLive old i → entry_at new i ≡ entry_at old i
   put_kept i live = puts.kept i (λ same. let above : i < id = puts.above i live in omega arith)
 
@@ -44,6 +37,7 @@ module _ (old new : LogState) (id : ℕ) (e : Entry) (puts : Puts old id e new) 
         | inr other ↦ inr (puts.kept i other, sym (ap (option_map (λ (f : Entry). f.origin)) (puts.kept i other)) ∙ at)
       ]
 
+  -- a gate stays
   pub put_gate : (ns : List Node) (t j n : ℕ) → HasGate ns old t j n → HasGate ns new t j n
   put_gate ns t j n h = (h.0, put_kept h.0 (subst (λ o. IsSome o) (sym h.1) refl) ∙ h.1)
 
@@ -51,12 +45,14 @@ module _ (old new : LogState) (id : ℕ) (e : Entry) (puts : Puts old id e new) 
 
 module _ (start old new : LogState) (ids : List ℕ) (id : ℕ) (e : Entry) (puts : Puts old id e new) (t j : ℕ) (gate : e.origin ≡ gate_of t j)
     (added : AreAdded start ids old) where
+  -- what was there at the start, or is listed, is there
   started : (i : ℕ) → IsLive start i → IsLive old i
   started i live = (added.live i).1 (inl live)
 
   listed_live : (i : ℕ) → Contains ids i → IsLive old i
   listed_live i h = (added.live i).1 (inr h)
 
+  -- and what is there is one of these, or the clause put
   cases_live : (i : ℕ) → IsLive new i → IsLive start i ⊎ Contains (ids ++ id ∷ []) i
   cases_live i live =
       elim (same_or_other i id) [
@@ -75,6 +71,7 @@ module _ (start old new : LogState) (ids : List ℕ) (id : ℕ) (e : Entry) (put
         | inr same ↦ subst (IsLive new) same puts.live
       ]
 
+  -- so the list goes on with the clause put
   pub added_more : AreAdded start (ids ++ id ∷ []) new
   added_more =
       record {
@@ -93,6 +90,7 @@ module _ (start old new : LogState) (ids : List ℕ) (id : ℕ) (e : Entry) (put
 
 module _ (ns : List Node) (old new : LogState) (s : FormState) (t k id : ℕ) (puts : Puts old id (gate_entry ns old t k) new)
     (inside : k < length (gates_at ns t)) (has : HasGatesBelow ns old s t k) where
+  -- the level told of the term is that at which it is covered
   is_level : told_of old t ≡ Some has.level
   is_level = has.told t ∙ has.covered
 
@@ -102,6 +100,7 @@ module _ (ns : List Node) (old new : LogState) (s : FormState) (t k id : ℕ) (p
   same_told : (u : ℕ) → told_of new u ≡ told_of old u
   same_told u = ap (λ ls. slice_index_or ls u None) puts.told
 
+  -- the gates are those below the next number
   gates_more : (u n j : ℕ) → covered_at s u ≡ Some n → j < length (gates_at ns u) → (u ≡ t → j < suc k) → HasGate ns new u j n
   gates_more u n j at within below =
       elim (same_or_other u t) [
@@ -117,6 +116,7 @@ module _ (ns : List Node) (old new : LogState) (s : FormState) (t k id : ℕ) (p
         | inr other ↦ put_gate old new id _ puts ns u j n (has.gates u n j at within (λ e. absurd (other e)))
       ]
 
+  -- each gate is of a covered term, at its level
   covered_more : (i u j : ℕ) → origin_at new i ≡ Some (gate_of u j) → covered_at s u ≡ Some (level_at new i)
   covered_more i u j at =
       elim (put_cases old new id _ puts i (gate_of u j) at) [
@@ -127,6 +127,7 @@ module _ (ns : List Node) (old new : LogState) (s : FormState) (t k id : ℕ) (p
         | inr before ↦ has.of_covered i u j before.1 ∙ ap Some (sym (ap (λ o. elim o [ None ↦ 0 | Some e ↦ e.level ]) before.0))
       ]
 
+  -- those of the term are below the next number
   put_more : (i j : ℕ) → origin_at new i ≡ Some (gate_of t j) → j < suc k
   put_more i j at =
       elim (put_cases old new id _ puts i (gate_of t j) at) [
@@ -141,6 +142,7 @@ module _ (ns : List Node) (old new : LogState) (s : FormState) (t k id : ℕ) (p
       let below : j < k = has.put i j (at ∙ ap (λ v. Some (gate_of v j)) (sym terms.0)) in
       omega (arith, terms.1)
 
+  -- and none is there twice
   once_gates : (i l u j : ℕ) → origin_at new i ≡ Some (gate_of u j) → origin_at new l ≡ Some (gate_of u j) → i ≡ l
   once_gates i l u j at also =
       elim (put_cases old new id _ puts i (gate_of u j) at) [
@@ -154,6 +156,7 @@ module _ (ns : List Node) (old new : LogState) (s : FormState) (t k id : ℕ) (p
         ]
       ]
 
+  -- together
   pub below_more : HasGatesBelow ns new s t (suc k)
   below_more =
       record {

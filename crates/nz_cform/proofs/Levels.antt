@@ -3,7 +3,6 @@ use Rattle.std.proofs.Common.{◌≡◌, ℕ, ◌≤◌, Bool, true, false, Opti
 use Rattle.std.specs.Prelude.{IsSomeAnd, nat_le, if◌then◌else◌}
 use Rattle.std.proofs.lemmas.Bool.{le-leb, leb-true}
 use Rattle.nz_log.specs.Logs.{Entry, kept_below, told_below}
-use Rattle.nz_cform.specs.Forms.{FormState, covered_at, IsCoveredWithin}
 
 -- ---- What is kept
 
@@ -19,6 +18,7 @@ pub told_parts : (level : ℕ) (o : Option ℕ) (n : ℕ) → told_below level o
 told_parts level None n at = cc
 told_parts level (Some m) n at = let k = told_test level m n (nat_le m level) refl at in (ap Some k.0, k.1)
 
+-- what is at or below the level is kept
 pub told_low : (level n : ℕ) → n ≤ level → told_below level (Some n) ≡ Some n
 told_low level n below = ap (λ b. if b then Some n else None) (le-leb n level below)
 
@@ -33,15 +33,18 @@ pub kept_parts : (level : ℕ) (o : Option Entry) (e : Entry) → kept_below lev
 kept_parts level None e at = cc
 kept_parts level (Some f) e at = let k = kept_test level f e (nat_le f.level level) refl at in (ap Some k.0, k.1)
 
+-- also of clauses
 pub kept_low : (level : ℕ) (e : Entry) → e.level ≤ level → kept_below level (Some e) ≡ Some e
 kept_low level e below = ap (λ b. if b then Some e else None) (le-leb e.level level below)
 
 -- ---- At which level a term is covered
 
+-- covered at a level is covered within a higher one
 pub covered_within : (o : Option ℕ) (m n : ℕ) → o ≡ Some m → m ≤ n → IsSomeAnd o (λ k. k ≤ n)
 covered_within None m n e below = cc
 covered_within (Some k) m n e below = let same : k ≡ m = cc in omega arith
 
+-- within a level is at one that is no higher
 pub level_of : (o : Option ℕ) (n : ℕ) → IsSomeAnd o (λ k. k ≤ n) → (m : ℕ) × (o ≡ Some m) × (m ≤ n)
 level_of None n h = absurd h
 level_of (Some m) n h = (m, refl, h)

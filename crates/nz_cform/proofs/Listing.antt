@@ -1,33 +1,32 @@
 -- The list of the covered terms, as terms are covered and uncovered.
-use Rattle.std.proofs.Common.{◌≡◌, ◌≢◌, ℕ, zero, suc, ◌<◌, ◌⊎◌, inl, inr, Bool, true, false, List, [], ◌∷◌, ◌++◌, length, get_or, Option, Some, None, refl, sym, ap, subst, ◌∙◌, arith, cond, true≢false, append_assoc}
-use Rattle.std.specs.Prelude.{◌↔◌, All, Contains, IsSome, is_some, filter, slice_index_or}
+use Rattle.std.proofs.Common.{◌≡◌, ◌≢◌, ℕ, zero, suc, ◌<◌, ◌⊎◌, inl, inr, Bool, true, false, List, [], ◌∷◌, ◌++◌, length, Option, Some, None, refl, sym, ap, subst, ◌∙◌, arith, cond, true≢false, append_assoc}
+use Rattle.std.specs.Prelude.{All, Contains, IsSome, is_some, filter, slice_index_or}
 use Rattle.std.specs.List.{AllPairs}
 use Rattle.std.proofs.lemmas.List.{append-nil}
-use Rattle.std.proofs.lemmas.List.Elements.{All-contains, All-contains_itself, All-filter, Contains-append_left, Contains-get_or, Contains-push, Contains-push_cases, filter_passes}
+use Rattle.std.proofs.lemmas.List.Elements.{All-contains, Contains-get_or, filter_passes}
 use Rattle.std.proofs.lemmas.List.Kept.{AllPairs-filter}
 use Rattle.std.proofs.lemmas.List.Quantifiers.{all_pairs_push}
 use Rattle.nz_log.specs.Logs.{told_below}
-use Rattle.nz_cform.specs.Forms.{FormState, covered_at, IsListed, Takes, Grows, Cuts}
+use Rattle.nz_cform.specs.Forms.{FormState, covered_at, IsListed, Grows, Cuts}
 
 -- ---- Numbers and options
 
+-- two numbers are one, or they are not
 pub same_or_other : (i j : ℕ) → (i ≡ j) ⊎ (i ≢ j)
 same_or_other zero zero = inl refl
 same_or_other zero (suc j) = inr (λ e. omega arith)
 same_or_other (suc i) zero = inr (λ e. omega arith)
 same_or_other (suc i) (suc j) = elim (same_or_other i j) [ inl e ↦ inl (ap suc e) | inr other ↦ inr (λ e. other (omega arith)) ]
 
+-- an option has a value, or none
 pub none_or_some : (o : Option ℕ) → (o ≡ None) ⊎ ((n : ℕ) × (o ≡ Some n))
 none_or_some None = inl refl
 none_or_some (Some n) = inr (n, refl)
 
+-- the value of one that has it
 pub has_some : (o : Option ℕ) → IsSome o → (n : ℕ) × (o ≡ Some n)
 has_some None h = cc
 has_some (Some n) h = (n, refl)
-
--- what is none holds nothing
-pub not_some : {X : Type 0} (o : Option X) → o ≡ None → IsSome o → ⊥
-not_some o e h = true≢false (sym h ∙ ap is_some e)
 
 -- ---- Lists without a number twice
 
@@ -36,7 +35,7 @@ pub once_more : (xs : List ℕ) (x : ℕ) → AllPairs (λ t u. t ≢ u) xs → 
 once_more xs x once new =
     all_pairs_push (λ t u. t ≢ u) xs x once (λ k d inside same. new (subst (Contains xs) same (Contains-get_or xs k d inside)))
 
--- an element that passes a test is kept by the filter
+-- what passes a test is kept by the filter, in front or behind
 in_front : (b : Bool) (x : ℕ) (xs : List ℕ) → b ≡ true → Contains (cond b (x ∷ xs) xs) x
 in_front true x xs e = (0, omega arith, refl)
 in_front false x xs e = absurd (true≢false (sym e))
@@ -51,32 +50,21 @@ kept_from p (y ∷ ys) x zero inside at e =
     subst (Contains (cond (p y) (y ∷ filter p ys) (filter p ys))) at (in_front (p y) y (filter p ys) (ap p at ∙ e))
 kept_from p (y ∷ ys) x (suc k) inside at e = behind (p y) y (filter p ys) x (kept_from p ys x k (omega arith) at e)
 
+-- an element that passes is kept
 kept : (p : ℕ → Bool) (xs : List ℕ) (x : ℕ) → Contains xs x → p x ≡ true → Contains (filter p xs) x
 kept p xs x h e = kept_from p xs x h.0 h.1 h.2 e
 
-was_there : (p : ℕ → Bool) (xs : List ℕ) (x : ℕ) → Contains (filter p xs) x → Contains xs x
-was_there p xs x h = All-contains (Contains xs) (filter p xs) x (All-filter p (Contains xs) xs (All-contains_itself xs)) h
-
+-- what is kept passes
 passes : (p : ℕ → Bool) (xs : List ℕ) (x : ℕ) → Contains (filter p xs) x → p x ≡ true
 passes p xs x h = All-contains (λ y. p y ≡ true) (filter p xs) x (filter_passes p xs) h
 
 -- ---- Terms that are covered
 
+-- nothing more is covered
 pub grows_itself : (s : FormState) (level : ℕ) → Grows s level s
 grows_itself s level = record { more = []; terms = sym (append-nil s.terms); stays = λ t n e. e; added = λ t n none some. cc }
 
-pub takes_grow : (old : FormState) (t level : ℕ) (new : FormState) → covered_at old t ≡ None → Takes old t level new → Grows old level new
-takes_grow old t level new none takes =
-    record {
-      more = t ∷ [];
-      terms = takes.terms;
-      stays = λ u n e. takes.others u (λ same. let both : None ≡ Some n = sym none ∙ ap (covered_at old) (sym same) ∙ e in cc) ∙ e;
-      added = λ u n before after. elim (same_or_other u t) [
-        | inl same ↦ let both : Some n ≡ Some level = sym after ∙ ap (covered_at new) same ∙ takes.here in cc
-        | inr other ↦ let both : None ≡ Some n = sym before ∙ sym (takes.others u other) ∙ after in cc
-      ];
-    }
-
+-- growth twice is growth
 pub grows_more : (a b c : FormState) (level : ℕ) → Grows a level b → Grows b level c → Grows a level c
 grows_more a b c level f g =
     record {
@@ -92,31 +80,14 @@ grows_more a b c level f g =
       ];
     }
 
-pub takes_listed : (old : FormState) (t level : ℕ) (new : FormState) → covered_at old t ≡ None → Takes old t level new → IsListed old → IsListed new
-takes_listed old t level new none takes listed =
-    record {
-      once = subst (AllPairs (λ u v. u ≢ v)) (sym takes.terms) (once_more old.terms t listed.once (λ h. not_some (covered_at old t) none ((listed.covered t).0 h)));
-      covered = λ u. (
-        (λ h. elim (Contains-push_cases old.terms t u (subst (λ l. Contains l u) takes.terms h)) [
-          | inl before ↦ elim (same_or_other u t) [
-            | inl same ↦ ap is_some (ap (covered_at new) same ∙ takes.here)
-            | inr other ↦ ap is_some (takes.others u other) ∙ (listed.covered u).0 before
-          ]
-          | inr same ↦ ap is_some (ap (covered_at new) (sym same) ∙ takes.here)
-        ]),
-        (λ h. subst (λ l. Contains l u) (sym takes.terms) (elim (same_or_other u t) [
-          | inl same ↦ subst (Contains (old.terms ++ t ∷ [])) (sym same) (Contains-push old.terms t)
-          | inr other ↦ Contains-append_left old.terms (t ∷ []) u ((listed.covered u).1 (sym (ap is_some (takes.others u other)) ∙ h))
-        ])),
-      );
-    }
-
 -- ---- Terms that are uncovered
 
+-- a level that is left was there
 below_was : (level : ℕ) (o : Option ℕ) → IsSome (told_below level o) → IsSome o
 below_was level None h = h
 below_was level (Some n) h = refl
 
+-- after a cut just the covered terms are listed
 pub cuts_listed : (old : FormState) (level : ℕ) (new : FormState) → Cuts old level new → IsListed old → IsListed new
 cuts_listed old level new cuts listed =
     let p : ℕ → Bool = λ t. is_some (covered_at new t) in

@@ -1,6 +1,5 @@
 -- Sizes of terms, by which the covering of terms comes to an end; and arguments of terms that hold no number.
-use Rattle.std.proofs.Common.{◌≡◌, ℕ, suc, ◌+◌, ◌<◌, ◌≤◌, ◌||◌, Bool, true, false, List, [], ◌∷◌, ◌++◌, refl, sym, ap, subst, ◌∙◌, arith, true≢false}
-use Rattle.std.specs.Bool.{⊤}
+use Rattle.std.proofs.Common.{◌≡◌, ℕ, suc, ◌+◌, ◌<◌, ◌||◌, Bool, true, false, List, [], ◌∷◌, ◌++◌, refl, sym, ap, ◌∙◌, arith, true≢false}
 use Rattle.std.specs.Prelude.{All}
 use Rattle.std.proofs.lemmas.List.Elements.{All-cons, All-nil}
 use Rattle.nz_spec.specs.Term.{Term, apply, Terms, no_terms, terms, Head, is_numeric, holds_number, hold_number}
@@ -21,14 +20,17 @@ total term [] = 0
 total term (i ∷ is) = size (term i) + total term is
 
 module _ (term : ℕ → Term) where
+  -- the sizes of arguments are those of their numbers
   pub sizes_at : (is : List ℕ) → sizes (terms_at term is) ≡ total term is
   sizes_at [] = refl
   sizes_at (i ∷ is) = ap (λ n. size (term i) + n) (sizes_at is)
 
+  -- of two lists
   pub total-append : (is js : List ℕ) → total term (is ++ js) ≡ total term is + total term js
   total-append [] js = omega arith
   total-append (i ∷ is) js = let more = total-append is js in omega arith
 
+  -- a term is made of one at least
   some_size : (t : Term) → 0 < size t
   some_size (apply h ts) = omega arith
 
@@ -49,6 +51,7 @@ module _ (term : ℕ → Term) where
 
 -- ---- Numbers
 
+-- where neither of two tests holds, the second doesn't, nor the first
 neither : (b c : Bool) → (b || c) ≡ false → c ≡ false
 neither true c e = absurd (true≢false e)
 neither false c e = e
@@ -57,6 +60,7 @@ first_of_two : (b c : Bool) → (b || c) ≡ false → b ≡ false
 first_of_two true c e = absurd (true≢false e)
 first_of_two false c e = refl
 
+-- arguments that hold no number
 plain_at : (term : ℕ → Term) (is : List ℕ) → hold_number (terms_at term is) ≡ false → All (λ i. holds_number (term i) ≡ false) is
 plain_at term [] e = All-nil (λ i. holds_number (term i) ≡ false)
 plain_at term (i ∷ is) e =

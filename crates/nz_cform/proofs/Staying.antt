@@ -1,30 +1,32 @@
 -- How covered terms stay so: when the table grows, when a clause is put, and when levels are dropped.
-use Rattle.std.proofs.Common.{◌≡◌, ◌≢◌, ℕ, ◌<◌, ◌≤◌, ◌⊎◌, inl, inr, Bool, List, [], ◌∷◌, ◌++◌, length, get_or, Option, Some, None, refl, sym, ap, subst, ◌∙◌, arith}
-use Rattle.std.specs.Prelude.{All, fold, slice_get, option_map, unwrap_or, slice_index_or, IsSomeAnd, if◌then◌else◌}
+use Rattle.std.proofs.Common.{◌≡◌, ◌≢◌, ℕ, ◌<◌, ◌≤◌, inl, inr, Bool, List, [], ◌∷◌, ◌++◌, length, get_or, Option, Some, None, refl, sym, ap, subst, ◌∙◌, arith}
+use Rattle.std.specs.Prelude.{All, slice_get, option_map, unwrap_or, slice_index_or, if◌then◌else◌}
 use Rattle.std.specs.List.{AllByRecursion}
 use Rattle.std.proofs.lemmas.List.{length-append}
 use Rattle.std.proofs.lemmas.List.Elements.{All-weaker, recursion_from_All}
 use Rattle.std.proofs.lemmas.Option.{slice_get-get_or}
 use Rattle.nz_spec.specs.Term.{Head, falsum, equality, is_bool, sort_of}
-use Rattle.nz_spec.specs.Table.{Node, IsTable, TermStays, term_in}
+use Rattle.nz_spec.specs.Table.{Node, IsTable, TermStays}
 use Rattle.nz_spec.specs.Gates.{clauses_over}
 use Rattle.nz_lists.proofs.Elements.{AllByRecursion-weaker}
 use Rattle.nz_lists.proofs.Places.{slice_get_kept}
 use Rattle.nz_log.specs.declared.lits.Lit.{Lit}
 use Rattle.nz_spec.specs.Literal.{once}
 use Rattle.nz_log.specs.Lits.{yes, no, are_same_lit, is_boolean_at, gates_at}
-use Rattle.nz_log.specs.Logs.{Origin, gate_of, Entry, LogState, empty_log, entry_at, level_at, told_of, kept_below, told_below, Puts, Drops}
+use Rattle.nz_log.specs.Logs.{Origin, gate_of, Entry, LogState, empty_log, entry_at, level_at, kept_below, told_below, Puts, Drops}
 use Rattle.nz_cform.specs.Forms.{FormState, covered_at, empty_form, IsCoveredWithin, Cuts}
-use Rattle.nz_cform.specs.Covering.{Covers, HasGate, HasGates, gate_clause, kids_at, origin_at}
+use Rattle.nz_cform.specs.Covering.{Covers, gate_clause, kids_at, origin_at}
 use Rattle.nz_cform.specs.Laws.{CoversStay}
 use Rattle.nz_cform.proofs.GatesPut.{put_cases, put_gate}
 use Rattle.nz_cform.proofs.Levels.{covered_within, kept_low, kept_parts, level_of, told_low, told_parts}
 
 -- ---- The table grows
 
+-- clauses on equal tests
 test_same : (b c : Bool) (cs : List (List Lit)) → b ≡ c → (if b then cs else []) ≡ (if c then cs else [])
 test_same b c cs e = ap (λ d. if d then cs else []) e
 
+-- the gates of a head are the same where the sorts of its arguments are
 over_same : (f g : ℕ → Bool) (t : ℕ) (h : Head) (ks : List ℕ) → AllByRecursion (λ k. f k ≡ g k) ks → clauses_over yes no f t h ks ≡ clauses_over yes no g t h ks
 over_same f g t equality (u ∷ v ∷ []) e = test_same (f u) (g u) _ e.0
 over_same f g t h ks e = refl
@@ -36,6 +38,7 @@ module _ (stays : TermStays) (ns more : List Node) (table : IsTable ns) (t : ℕ
   node_at : slice_get ns t ≡ Some the_node
   node_at = slice_get-get_or ns t (record { head = falsum; kids = [] }) inside
 
+  -- the node, its arguments and its gates stay
   same_node : slice_get (ns ++ more) t ≡ slice_get ns t
   same_node = slice_get_kept ns more t the_node node_at ∙ sym node_at
 
@@ -56,6 +59,7 @@ module _ (stays : TermStays) (ns more : List Node) (table : IsTable ns) (t : ℕ
   pub same_clause : (j n : ℕ) → gate_clause (ns ++ more) t j n ≡ gate_clause ns t j n
   same_clause j n = ap (λ cs. record (gate_clause ns t j n) { literals = once are_same_lit (unwrap_or (slice_get cs j) []) }) same_gates
 
+-- what is covered stays so in the longer table
 covers_wider : (stays : TermStays) (ns more : List Node) (log : LogState) (s : FormState) → IsTable ns → Covers ns log s → Covers (ns ++ more) log s
 covers_wider stays ns more log s table covers =
     record {
@@ -74,6 +78,7 @@ covers_wider stays ns more log s table covers =
 
 -- ---- A clause is put that is no gate
 
+-- what is covered stays so
 covers_put : (ns : List Node) (old new : LogState) (s : FormState) (id : ℕ) (e : Entry) → Puts old id e new → ((t j : ℕ) → e.origin ≢ gate_of t j)
     → Covers ns old s → Covers ns new s
 covers_put ns old new s id e puts other covers =
@@ -98,11 +103,13 @@ covers_put ns old new s id e puts other covers =
 
 -- ---- Levels are dropped
 
+-- a clause that was made is there
 some_entry : (o : Option Entry) (g : Origin) → option_map (λ (e : Entry). e.origin) o ≡ Some g → (e : Entry) × (o ≡ Some e) × (e.origin ≡ g)
 some_entry None g at = cc
 some_entry (Some e) g at = let same : e.origin ≡ g = cc in (e, refl, same)
 
 module _ (ns : List Node) (old new : LogState) (s cut : FormState) (level : ℕ) (drops : Drops old level new) (cuts : Cuts s level cut) (covers : Covers ns old s) where
+  -- what is covered was so, at a level that is left; and what was so at such a level still is
   was_covered : (t n : ℕ) → covered_at cut t ≡ Some n → (covered_at s t ≡ Some n) × (n ≤ level)
   was_covered t n at = told_parts level (covered_at s t) n (sym (cuts.levels t) ∙ at)
 
@@ -121,6 +128,7 @@ module _ (ns : List Node) (old new : LogState) (s cut : FormState) (level : ℕ)
         subst (λ n. n ≤ level) (sym levels) before.1,
       )
 
+  -- what is covered at a level that is left stays so
   covers_dropped : Covers ns new cut
   covers_dropped =
       record {
@@ -148,6 +156,7 @@ module _ (ns : List Node) (old new : LogState) (s cut : FormState) (level : ℕ)
 
 -- ---- The law
 
+-- nothing is covered at the start
 covers_start : (ns : List Node) → Covers ns empty_log empty_form
 covers_start ns =
     record {

@@ -1,5 +1,5 @@
 -- The value of a term that meets its gates, by the values of its arguments.
-use Rattle.std.proofs.Common.{◌≡◌, ℕ, Bool, true, false, not, ◌&&◌, ◌||◌, List, [], ◌∷◌, ◌++◌, map, refl, sym, ap, subst, ◌∙◌, true≢false}
+use Rattle.std.proofs.Common.{◌≡◌, ℕ, Bool, true, false, not, ◌&&◌, ◌||◌, List, [], ◌∷◌, ◌++◌, map, refl, sym, ap, ◌∙◌}
 use Rattle.std.specs.Prelude.{fold, if◌then◌else◌}
 use Rattle.std.specs.List.{AllByRecursion, list_all, list_any}
 use Rattle.std.proofs.Math.Bool.{or-false}
@@ -13,10 +13,7 @@ use Rattle.nz_cform.specs.Laws.{is_lit_true}
 
 -- ---- A clause and its literals, each once
 
-or_parts : (b c : Bool) → (b || c) ≡ true → (c ≡ true → b ≡ true) → b ≡ true
-or_parts true c e h = refl
-or_parts false c e h = h e
-
+-- a test of one literal more
 any_push : (f : Lit → Bool) (xs : List Lit) (x : Lit) → list_any f (xs ++ x ∷ []) ≡ (list_any f xs || f x)
 any_push f [] x = or-false (f x)
 any_push f (y ∷ ys) x = ap (λ b. f y || b) (any_push f ys x) ∙ grouped (f y) (list_any f ys) (f x)
@@ -25,10 +22,12 @@ any_push f (y ∷ ys) x = ap (λ b. f y || b) (any_push f ys x) ∙ grouped (f y
     grouped true c d = refl
     grouped false c d = refl
 
+-- of one that is put where it isn't there
 any_one : (f : Lit → Bool) (b : Bool) (c : List Lit) (x : Lit) → list_any f (if b then c else c ++ x ∷ []) ≡ true → (list_any f c || f x) ≡ true
 any_one f true c x e = ap (λ b. b || f x) e
 any_one f false c x e = sym (any_push f c x) ∙ e
 
+-- and of many
 any_put : (f : Lit → Bool) (xs c : List Lit) → list_any f (fold (with_one are_same_lit) c xs) ≡ true → (list_any f c || list_any f xs) ≡ true
 any_put f [] c e = or-false (list_any f c) ∙ e
 any_put f (x ∷ xs) c e =
@@ -45,7 +44,7 @@ any_put f (x ∷ xs) c e =
 pub any_once : (f : Lit → Bool) (c : List Lit) → list_any f (once are_same_lit c) ≡ true → list_any f c ≡ true
 any_once f c e = any_put f c [] e
 
--- ---- Tables of truths
+-- ---- Tables of truths: rows that hold fix the truth of the term
 
 negation_row : (w b : Bool) → (not w || (not b || false)) ≡ true → (w || (b || false)) ≡ true → not b ≡ w
 negation_row true true e f = cc
@@ -92,10 +91,12 @@ module _ (v : ℕ → Bool) where
   abbrev pub Meets : List Lit → Type 0
   Meets c = list_any (is_lit_true v) c ≡ true
 
+  -- all clauses, and the last of them
   split : (cs : List (List Lit)) (c : List Lit) → AllByRecursion Meets (cs ++ c ∷ []) → AllByRecursion Meets cs × Meets c
   split [] c h = (tt, h.0)
   split (d ∷ ds) c h = let more = split ds c h.1 in ((h.0, more.0), more.1)
 
+  -- where a conjunction is true, so are all arguments; where its last clause asks for a false one, there is one
   all_of : (t : ℕ) (ks : List ℕ) → v t ≡ true → AllByRecursion Meets (map (λ u. no t ∷ yes u ∷ []) ks) → list_all v ks ≡ true
   all_of t [] e h = refl
   all_of t (k ∷ ks) e h = both (v t) (v k) (list_all v ks) e h.0 (all_of t ks e h.1)
@@ -113,6 +114,7 @@ module _ (v : ℕ → Bool) where
       some true c d e h = h e
       some false c d e h = refl
 
+  -- a conjunction is true where all are
   conjunction_row : (t : ℕ) (ks : List ℕ) → AllByRecursion Meets (map (λ u. no t ∷ yes u ∷ []) ks ++ (yes t ∷ map no ks) ∷ []) → list_all v ks ≡ v t
   conjunction_row t ks h =
       let rows = split (map (λ u. no t ∷ yes u ∷ []) ks) (yes t ∷ map no ks) h in
@@ -122,6 +124,7 @@ module _ (v : ℕ → Bool) where
       by_truth true c d e f g = f refl
       by_truth false c d e f g = g e
 
+  -- where a disjunction is false, so are all arguments
   none_of : (t : ℕ) (ks : List ℕ) → v t ≡ false → AllByRecursion Meets (map (λ u. yes t ∷ no u ∷ []) ks) → list_any v ks ≡ false
   none_of t [] e h = refl
   none_of t (k ∷ ks) e h = neither (v t) (v k) (list_any v ks) e h.0 (none_of t ks e h.1)
@@ -131,10 +134,12 @@ module _ (v : ℕ → Bool) where
       neither false true c e f g = cc
       neither true b c e f g = cc
 
+  -- its last clause asks for a true one
   some_of : (ks : List ℕ) → list_any (is_lit_true v) (map yes ks) ≡ list_any v ks
   some_of [] = refl
   some_of (k ∷ ks) = ap (λ b. v k || b) (some_of ks)
 
+  -- a disjunction is true where one is
   disjunction_row : (t : ℕ) (ks : List ℕ) → AllByRecursion Meets (map (λ u. yes t ∷ no u ∷ []) ks ++ (no t ∷ map yes ks) ∷ []) → list_any v ks ≡ v t
   disjunction_row t ks h =
       let rows = split (map (λ u. yes t ∷ no u ∷ []) ks) (no t ∷ map yes ks) h in
@@ -146,11 +151,17 @@ module _ (v : ℕ → Bool) where
 
 -- ---- A term
 
+-- a test joined with a true one
+and_true : (b : Bool) → (b && true) ≡ b
+and_true true = refl
+and_true false = refl
+
 module _ (a : Assignment) (v : ℕ → Bool) (term : ℕ → Term) where
   -- the argument has a truth, which is that of its number
   abbrev pub Agrees : ℕ → Type 0
   Agrees k = IsOfSort bool_sort (value_of a (term k)) × (is_true (value_of a (term k)) ≡ v k)
 
+  -- all of the arguments, or one
   all_agree : (ks : List ℕ) → AllByRecursion Agrees ks → list_all is_true (values_of a (terms_at term ks)) ≡ list_all v ks
   all_agree [] h = refl
   all_agree (k ∷ ks) h = λ i. h.0.1 i && all_agree ks h.1 i
@@ -159,13 +170,10 @@ module _ (a : Assignment) (v : ℕ → Bool) (term : ℕ → Term) where
   some_agree [] h = refl
   some_agree (k ∷ ks) h = λ i. h.0.1 i || some_agree ks h.1 i
 
+  -- values of a conjunction and of a disjunction
   conjunction_is : (ks : List ℕ) → AllByRecursion Agrees ks → is_true (all_true (values_of a (terms_at term ks))) ≡ list_all v ks
   conjunction_is [] h = refl
-  conjunction_is (k ∷ []) h = h.0.1 ∙ and_true (v k)
-    where
-      and_true : (b : Bool) → b ≡ (b && true)
-      and_true true = refl
-      and_true false = refl
+  conjunction_is (k ∷ []) h = h.0.1 ∙ sym (and_true (v k))
   conjunction_is (k ∷ l ∷ ks) h = all_agree (k ∷ l ∷ ks) h
 
   disjunction_is : (ks : List ℕ) → AllByRecursion Agrees ks → is_true (some_true (values_of a (terms_at term ks))) ≡ list_any v ks
@@ -173,6 +181,7 @@ module _ (a : Assignment) (v : ℕ → Bool) (term : ℕ → Term) where
   disjunction_is (k ∷ []) h = h.0.1 ∙ sym (or-false (v k))
   disjunction_is (k ∷ l ∷ ks) h = some_agree (k ∷ l ∷ ks) h
 
+  -- equality of truths
   equal_is : (x y : Value) → IsOfSort bool_sort x → are_equal x y ≡ are_same_sign (is_true x) (is_true y)
   equal_is (truth true) y s = refl
   equal_is (truth false) y s = refl
@@ -182,14 +191,12 @@ module _ (a : Assignment) (v : ℕ → Bool) (term : ℕ → Term) where
   equal_at : (k l : ℕ) → Agrees k → Agrees l → are_equal (value_of a (term k)) (value_of a (term l)) ≡ are_same_sign (v k) (v l)
   equal_at k l e f = equal_is (value_of a (term k)) (value_of a (term l)) e.0 ∙ (λ i. are_same_sign (e.1 i) (f.1 i))
 
-  and_true : (b : Bool) → (b && true) ≡ b
-  and_true true = refl
-  and_true false = refl
-
+  -- a choice of values
   on_value : (b : Bool) (x y : Value) → is_true (if b then x else y) ≡ (if b then is_true x else is_true y)
   on_value true x y = refl
   on_value false x y = refl
 
+  -- clauses on a test
   on_test : (b : Bool) (cs : List (List Lit)) (w d : Bool) → AllByRecursion (Meets v) (if b then cs else []) → (AllByRecursion (Meets v) cs → d ≡ w)
       → ((if b then cs else []) ≡ [] → d ≡ w) → d ≡ w
   on_test true cs w d h f g = f h

@@ -1,6 +1,6 @@
 -- Terms that are covered one after another, from a stack of those that wait.
-use Rattle.std.proofs.Common.{◌≡◌, ◌≢◌, ℕ, ◌<◌, ◌≤◌, ◌⊎◌, inl, inr, false, List, [], ◌∷◌, ◌++◌, length, Option, Some, None, refl, sym, ap, subst, ◌∙◌, arith}
-use Rattle.std.specs.Prelude.{All, IsSome, IsSomeAnd, unwrap_or}
+use Rattle.std.proofs.Common.{◌≡◌, ℕ, ◌<◌, ◌≤◌, inl, inr, false, List, [], ◌∷◌, ◌++◌, length, Some, refl, sym, ap, subst, ◌∙◌, arith}
+use Rattle.std.specs.Prelude.{All, IsSome, unwrap_or}
 use Rattle.std.proofs.lemmas.List.Elements.{All-append, All-cons, All-head, All-nil, All-pop, All-push, All-tail, All-weaker}
 use Rattle.nz_spec.specs.Term.{Head, apply, holds_number}
 use Rattle.nz_spec.specs.Table.{Node, term_in, terms_at}
@@ -10,13 +10,14 @@ use Rattle.nz_log.specs.Sound.{IsLog}
 use Rattle.nz_cform.specs.Forms.{FormState, covered_at, IsCoveredWithin, Takes, Grows}
 use Rattle.nz_cform.specs.Covering.{AreAdded, Covers, HasGates, Keeps, kids_at}
 use Rattle.nz_cform.proofs.Levels.{covered_within, level_of}
-use Rattle.nz_cform.proofs.Listing.{grows_itself, grows_more, not_some, none_or_some, same_or_other}
+use Rattle.nz_cform.proofs.Listing.{grows_itself, grows_more, same_or_other}
 use Rattle.nz_cform.proofs.Sizes.{plain_arguments}
 
 -- what is covered stays so, at its level
 abbrev pub Stays : FormState → FormState → Type 0
 Stays s r = (t n : ℕ) → covered_at s t ≡ Some n → covered_at r t ≡ Some n
 
+-- what is covered within a level stays so
 pub within_stays : (s r : FormState) (n t : ℕ) → Stays s r → IsCoveredWithin s n t → IsCoveredWithin r n t
 within_stays s r n t stays h = let l = level_of (covered_at s t) n h in covered_within (covered_at r t) l.0 n (stays t l.0 l.1) l.2
 
@@ -49,6 +50,7 @@ none_added log =
       once = λ i j d below inside. absurd (omega arith);
     }
 
+-- at the start the term itself waits
 pub start_underway : (ns : List Node) (id level : ℕ) (log : LogState) (s : FormState) → id < length ns → Covers ns log s
     → ((t : ℕ) → told_level log t ≤ level) → (waiting : List ℕ) → waiting ≡ id ∷ [] → IsUnderway ns id level log s log s [] waiting
 start_underway ns id level log s inside covers told waiting one =
@@ -71,9 +73,11 @@ start_underway ns id level log s inside covers told waiting one =
 
 -- ---- The one that waits last
 
+-- what holds of all that wait holds of it, and of the others
 front : (P : ℕ → Type 0) (ts : List ℕ) (t : ℕ) → All P (ts ++ t ∷ []) → All P ts × P t
 front P ts t h = All-pop P (ts ++ t ∷ []) ts (Some t) refl h
 
+-- what holds of two lists in one holds of each
 parts : (P : ℕ → Type 0) (ts us : List ℕ) → All P (ts ++ us) → All P ts × All P us
 parts P [] us h = (All-nil P, h)
 parts P (t ∷ ts) us h =
@@ -82,6 +86,7 @@ parts P (t ∷ ts) us h =
 
 module _ (ns : List Node) (id level : ℕ) (start : LogState) (first : FormState) (log : LogState) (s : FormState) (ids waiting : List ℕ) (t : ℕ)
     (u : IsUnderway ns id level start first log s ids (waiting ++ t ∷ [])) where
+  -- it is of the table, and holds no number where the first doesn't
   pub is_within : t < length ns
   is_within = (front (λ v. v < length ns) waiting t u.table).1
 
@@ -113,6 +118,7 @@ module _ (ns : List Node) (id level : ℕ) (start : LogState) (first : FormState
   -- what covering it did to the log and the list, in any case
   module _ (law : PlainTermsAreBoolean) (log' : LogState)
       (sound : (levels : List (List ℕ)) → HasBooleanArguments (term_in ns t) → IsLog ns levels log → IsLog ns levels log') where
+    -- the log is in order
     pub sound_on : (levels : List (List ℕ)) → holds_number (term_in ns id) ≡ false → IsLog ns levels start → IsLog ns levels log'
     sound_on levels e order = sound levels (law.arguments (term_in ns t) (is_plain e)) (u.sound levels e order)
 
@@ -121,6 +127,7 @@ module _ (ns : List Node) (id level : ℕ) (start : LogState) (first : FormState
         (added : (begun : LogState) → AreAdded begun ids log → AreAdded begun ids' log') (told : (v : ℕ) → told_level log' v ≤ level)
         (h : Head) (kids : List ℕ) (node : kids_at ns t ≡ kids) (term : term_in ns t ≡ apply h (terms_at (term_in ns) kids))
         (before : All (λ k. k < t) kids) where
+      -- what stays from then on stays from now on, and with what waits then it is covered
       stays_on : (r : FormState) → Stays s' r → Stays s r
       stays_on r stays v n at = stays v n (grown.stays v n at)
 
@@ -129,6 +136,7 @@ module _ (ns : List Node) (id level : ℕ) (start : LogState) (first : FormState
           All-push (IsCoveredWithin r level) waiting t (parts (IsCoveredWithin r level) waiting kids all).0
           (covered_within (covered_at r t) level level (stays t level takes.here) (omega arith))
 
+      -- arguments of what is covered then
       arguments_on : (r : FormState) → Stays s' r → All (IsCoveredWithin r level) (waiting ++ kids) → (v n : ℕ) → covered_at s' v ≡ Some n
           → All (IsCoveredWithin r n) (kids_at ns v)
       arguments_on r stays all v n at =
@@ -141,6 +149,7 @@ module _ (ns : List Node) (id level : ℕ) (start : LogState) (first : FormState
             | inr other ↦ u.reaches.arguments r (stays_on r stays) (with_term r stays all) v n (sym (takes.others v other) ∙ at)
           ]
 
+      -- together
       pub cover_on : IsUnderway ns id level start first log' s' ids' (waiting ++ kids)
       cover_on =
           record {

@@ -1,25 +1,25 @@
 -- The values of covered terms are the truths that meet their gates, from arguments to terms.
-use Rattle.std.proofs.Common.{◌≡◌, ℕ, zero, suc, ◌<◌, List, [], ◌∷◌, length, get_or, Option, Some, None, refl, sym, ap, subst, ◌∙◌, arith}
+use Rattle.std.proofs.Common.{◌≡◌, ℕ, zero, suc, ◌<◌, List, [], ◌∷◌, length, get_or, Some, None, refl, sym, ap, subst, ◌∙◌, arith}
 use Rattle.std.specs.Prelude.{All, Bool, IsSome, is_some, slice_get, option_map, unwrap_or}
 use Rattle.std.specs.List.{AllByRecursion, list_any}
 use Rattle.std.proofs.lemmas.List.Elements.{recursion_from_All}
 use Rattle.std.proofs.lemmas.Option.{slice_get-get_or}
-use Rattle.nz_spec.specs.Term.{falsum, Head, Term, apply, Assignment, is_true, value_of}
+use Rattle.nz_spec.specs.Term.{falsum, Term, apply, Assignment, is_true, value_of}
 use Rattle.nz_spec.specs.Table.{Node, IsTable, TermOfNode, term_in, terms_at}
 use Rattle.nz_spec.specs.Model.{IsAssignment}
-use Rattle.nz_spec.specs.Literal.{once}
 use Rattle.nz_spec.specs.Gates.{clauses_over, list_of, IsBoolean, HasBooleanArguments}
 use Rattle.nz_log.specs.declared.lits.Lit.{Lit}
-use Rattle.nz_log.specs.Lits.{yes, no, are_same_lit, is_boolean_at, gates_at}
+use Rattle.nz_log.specs.Lits.{yes, no, is_boolean_at, gates_at}
 use Rattle.nz_log.specs.Logs.{Entry, LogState}
 use Rattle.nz_log.specs.Sound.{IsLog}
 use Rattle.nz_cform.specs.Forms.{FormState, covered_at, IsCoveredWithin}
-use Rattle.nz_cform.specs.Covering.{Covers, gate_clause, kids_at}
+use Rattle.nz_cform.specs.Covering.{Covers, gate_clause}
 use Rattle.nz_cform.specs.Laws.{is_lit_true, MeetsGates, AgreesOnAtoms, GatesTellValues}
 use Rattle.nz_cform.proofs.Levels.{level_of}
 use Rattle.nz_cform.proofs.Listing.{has_some}
 use Rattle.nz_cform.proofs.Truths.{Agrees, Meets, any_once, told}
 
+-- what holds of each place holds of each clause
 each_place : (P : List Lit → Type 0) (cs : List (List Lit)) → ((j : ℕ) → j < length cs → P (unwrap_or (slice_get cs j) [])) → AllByRecursion P cs
 each_place P [] f = tt
 each_place P (c ∷ cs) f = (f 0 (omega arith), each_place P cs (λ j inside. f (suc j) (omega arith)))
@@ -31,6 +31,7 @@ booleans_at term (k ∷ ks) h = (h.0, booleans_at term ks h.1)
 
 module _ (node : TermOfNode) (ns : List Node) (levels : List (List ℕ)) (log : LogState) (s : FormState) (table : IsTable ns) (order : IsLog ns levels log)
     (covers : Covers ns log s) (a : Assignment) (good : IsAssignment a) (v : ℕ → Bool) (meets : MeetsGates log v) (atoms : AgreesOnAtoms ns s a v) where
+  -- a covered Boolean term has the truth of its number
   abbrev Tells : ℕ → Type 0
   Tells t = IsSome (covered_at s t) → IsBoolean (term_in ns t) → is_true (value_of a (term_in ns t)) ≡ v t
 
@@ -50,6 +51,7 @@ module _ (node : TermOfNode) (ns : List Node) (levels : List (List ℕ)) (log : 
       let has = covers.gates.gates t n 0 at some in
       (order has.0 (gate_clause ns t 0 n) has.1).made.1
 
+  -- so have arguments, which are below it
   agree : (t n : ℕ) → ((k : ℕ) → k < t → Tells k) → (ks : List ℕ) → AllByRecursion (λ k. k < t) ks → AllByRecursion (IsCoveredWithin s n) ks
       → AllByRecursion (λ k. IsBoolean (term_in ns k)) ks → AllByRecursion (Agrees a v (term_in ns)) ks
   agree t n ih [] below covered boolean = tt
@@ -77,6 +79,7 @@ module _ (node : TermOfNode) (ns : List Node) (levels : List (List ℕ)) (log : 
         (subst (All (IsCoveredWithin s n)) (ap (λ o. elim o [ None ↦ [] | Some m ↦ m.kids ]) node_at) (covers.arguments t n at)))
         (booleans_at (term_in ns) the_node.kids (subst HasBooleanArguments the_term (over_booleans t n at some)))
 
+    -- by its gates, or as an atom
     by_gates : (gs : List (List Lit)) → gates_at ns t ≡ gs → is_true (value_of a (term_in ns t)) ≡ v t
     by_gates [] none = atoms t (ap is_some at) boolean none
     by_gates (c ∷ cs) some =
@@ -87,6 +90,7 @@ module _ (node : TermOfNode) (ns : List Node) (levels : List (List ℕ)) (log : 
         (subst (AllByRecursion (Meets v)) the_gates (met t n at))
         (λ none. sym value ∙ atoms t (ap is_some at) boolean (the_gates ∙ none))
 
+  -- by induction on the number
   below : (m t : ℕ) → t < m → Tells t
   below zero t inside covered boolean = absurd (omega arith)
   below (suc m) t inside covered boolean =

@@ -126,7 +126,7 @@ impl ClauseForm {
         ensures told { (t : ℕ) → told_level log.new t ≤ level }
         ensures sound { (levels : List (List ℕ)) → HasBooleanArguments (term_in terms.now term) → IsLog terms.now levels log.old → IsLog terms.now levels log.new }
     {
-        // The log is told of a term before a clause names it as covered: so each of its clauses is of this level.
+        // The level is told before the clauses are put: each of them names the term, and so it is of this level.
         log.place(term, level)?;
         self.list(term, level)?;
         add_gates(log, terms, term, clauses)

@@ -3,7 +3,7 @@ use Rattle.std.proofs.Common.{◌≡◌, ◌<◌, length, refl, sym, subst, ◌�
 use Rattle.std.specs.Prelude.{IsSome}
 use Rattle.nz_log.specs.Lits.{gates_at}
 use Rattle.nz_log.specs.Logs.{gate_entry, Puts}
-use Rattle.nz_cform.specs.Covering.{AreAdded, HasGatesBelow, Keeps}
+use Rattle.nz_cform.specs.Covering.{AreAdded, HasGatesBelow}
 use Rattle.nz_cform.proofs.GatesPut.{added_more, below_more, put_kept}
 use Rattle.nz_cform.proofs.gates.add_gates.Goals as goal
 

@@ -1,9 +1,5 @@
 -- The level is told, the term is listed, and then its gates are put.
-use Rattle.std.proofs.Common.{◌≡◌, ◌≢◌, ℕ, ◌≤◌, List, Some, rules}
 use Rattle.std.proofs.lemmas.Result.{on_ok_weaker}
-use Rattle.nz_log.specs.Logs.{LogState, lowest, told_level, told_of}
-use Rattle.nz_cform.specs.Covering.{AreAdded, HasGates}
-use Rattle.nz_cform.specs.Forms.{Takes}
 use Rattle.nz_cform.proofs.Covering.{all_gates, same_added, told_and_listed, told_within}
 use Rattle.nz_cform.proofs.form.ClauseForm.cover.Goals as goal
 

@@ -1,5 +1,5 @@
 -- The listed terms have levels, and what is left is listed.
-use Rattle.std.proofs.Common.{◌≡◌, ℕ, List, Option, ◌∙◌, ap, subst, sym}
+use Rattle.std.proofs.Common.{◌≡◌, ℕ, List, Option, ◌∙◌, ap, subst}
 use Rattle.std.specs.Prelude.{All, filter, is_some, slice_index_or, None}
 use Rattle.nz_log.specs.Logs.{told_below}
 use Rattle.nz_cform.specs.Forms.{FormState, Cuts}
