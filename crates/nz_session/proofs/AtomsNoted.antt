@@ -9,7 +9,8 @@ use Rattle.nz_spec.specs.Term.{Constant, constant, Term, apply, no_terms}
 use Rattle.nz_spec.specs.Table.{Node, term_in, HasOneNumberEach}
 use Rattle.nz_spec.specs.Decide.{constants_in_table}
 use Rattle.nz_spec.specs.Work.{WorkEntry, DecisionEntry, LearnedEntry, WorkLine, UnitLine, NoteLine, WorkList}
-use Rattle.nz_spec.specs.Atoms.{atoms_in, AreAtoms, AtomsAreNoted, StandOnce}
+use Rattle.nz_spec.specs.Atoms.{atoms_in, AreAtoms, AtomsAreNoted}
+use Rattle.nz_spec.specs.Literal.{StandOnce}
 use Rattle.nz_log.specs.declared.note.Note.{Note}
 use Rattle.nz_log.specs.declared.note.Note.TheVariants.{Atom}
 use Rattle.nz_log.specs.Notes.{noted_line, noted_list, AreNotedWithin}
