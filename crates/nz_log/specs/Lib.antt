@@ -1,5 +1,6 @@
 pub mod Lits
 pub mod Logs
+pub mod Notes
 pub mod Sound
 pub mod Spelling
 pub mod Stored

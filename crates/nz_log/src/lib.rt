@@ -6,11 +6,15 @@ mod gates;
 pub mod laws;
 mod lits;
 mod log;
+mod note;
 mod origins;
 mod sets;
 mod steps;
+mod stop;
 
 pub use lits::Lit;
 pub use log::Log;
+pub use note::Note;
 pub use origins::{ClauseId, Link};
 pub use steps::Step;
+pub use stop::Stop;

@@ -8,12 +8,12 @@ use Rattle.nz_spec.specs.Reply.{atom_note}
 use Rattle.nz_spec.specs.Work.{WorkLine, UnitLine, NoteLine, WorkList}
 use Rattle.nz_spec.specs.Transcript as transcript
 use Rattle.nz_sexpr.specs.View.{heard_view}
-use Rattle.nz_reply.specs.declared.reply.Note.{Note}
-use Rattle.nz_reply.specs.declared.reply.Note.TheVariants.{Atom}
+use Rattle.nz_log.specs.declared.note.Note.{Note}
+use Rattle.nz_log.specs.declared.note.Note.TheVariants.{Atom}
 use Rattle.nz_reply.specs.declared.reply.Cause.{Cause}
 use Rattle.nz_reply.specs.declared.reply.Cause.TheVariants as cause
 use Rattle.nz_reply.specs.declared.reply.Kept.{Kept}
-use Rattle.nz_reply.specs.Notes.{noted_line, AreNotedWithin}
+use Rattle.nz_log.specs.Notes.{noted_line, AreNotedWithin}
 use Rattle.nz_reply.specs.Replies.{reply_of, cause_of, kept_of, all_kept, IsCauseWithin, AreKeptWithin, KeptStay}
 
 module _ (stays : TermStays) (ns more : List Node) where

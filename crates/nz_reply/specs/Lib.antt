@@ -1,7 +1,6 @@
 pub mod Bindings
 pub mod Infos
 pub mod Journals
-pub mod Notes
 pub mod Parts
 pub mod Reasons
 pub mod Replies

@@ -8,7 +8,7 @@ use Rattle.nz_spec.specs.Table.{Node}
 use Rattle.nz_spec.specs.Work.{WorkList}
 use Rattle.nz_sexpr.specs.View.{heard_view}
 use Rattle.nz_reply.specs.Infos.{info_of}
-use Rattle.nz_reply.specs.Notes.{noted_line, AreNotedWithin}
+use Rattle.nz_log.specs.Notes.{noted_line, AreNotedWithin}
 use Rattle.nz_reply.specs.Reasons.{reason_of}
 use Rattle.nz_reply.specs.Values.{asked_trees, echoed_in, with_shown}
 use Rattle.nz_reply.specs.declared.reply.Reply.{Reply}

@@ -15,7 +15,7 @@ pub use errors::{
     OUT_OF_MEMORY, POP_BELOW_ZERO, SORT, SYNTAX, UNKNOWN_SYMBOL,
 };
 pub use reply::{
-    Binding, Bindings, Cause, Info, Journal, Kept, Note, Reason, Reply, Shown, Shows, SpentList,
+    Binding, Bindings, Cause, Info, Journal, Kept, Reason, Reply, Shown, Shows, SpentList,
     kept_stay,
 };
 pub use text::write_reply;

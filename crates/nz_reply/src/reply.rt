@@ -7,6 +7,7 @@ ghost use Rattle.nz_term.specs.Values.{value_of};
 
 use nz_base::{Lines, Memory};
 use nz_frac::Wide;
+use nz_log::Note;
 use nz_sexpr::Heard;
 use nz_spec::table::term_stays;
 use nz_term::{Constant, Sort, TermId, Value};
@@ -203,13 +204,6 @@ pub enum Reply {
     Unsupported,
     /// An error, by its number.
     Error(u8),
-}
-
-/// A line of a work list that is no unit.
-#[derive(Debug, Drop)]
-pub enum Note {
-    /// The next atom is the Boolean term of this number.
-    Atom(TermId),
 }
 
 /// The work of a check that used all of its units.

@@ -2,8 +2,9 @@
 ghost use Rattle.std.specs.Prelude.{◌≡◌, []};
 
 use nz_base::{Memory, PlainSink, Work};
-use nz_reply::{Journal, Note, Reply};
-use nz_session::{Decide, Fed, Session, Stop, Trial, Verdict};
+use nz_log::{Note, Stop};
+use nz_reply::{Journal, Reply};
+use nz_session::{Decide, Fed, Session, Trial, Verdict};
 use nz_term::{TermId, Terms};
 use std::alloc::Global;
 use std::test::Fail;

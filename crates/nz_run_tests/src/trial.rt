@@ -8,8 +8,8 @@ ghost use Rattle.nz_spec.specs.Term.{constant, bool_sort, head_fits, holds_numbe
 ghost use Rattle.nz_term.specs.Heads.{head_of};
 
 use nz_base::{Memory, Noted, Text, Work};
-use nz_reply::Note;
-use nz_session::{Decide, Stop, Trial, Verdict};
+use nz_log::{Note, Stop};
+use nz_session::{Decide, Trial, Verdict};
 use nz_term::{Assign, Constant, Head, Sort, TermId, Terms, Value};
 use std::alloc::Global;
 use std::test::Fail;

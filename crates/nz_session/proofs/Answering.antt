@@ -21,7 +21,7 @@ use Rattle.nz_session.specs.Desk.{last_of, BindsConstants, KeepsValues, Holds, I
 use Rattle.nz_session.proofs.ValuesKept.{values_stay}
 use Rattle.nz_session.specs.Verdicts.{OnUnsat}
 use Rattle.nz_session.specs.declared.decide.Verdict.{Verdict}
-use Rattle.nz_session.specs.declared.decide.Stop.{Stop}
+use Rattle.nz_log.specs.declared.stop.Stop.{Stop}
 use Rattle.nz_session.specs.declared.desk.Desk.{Desk}
 use Rattle.nz_session.specs.declared.desk.Answer.{Answer}
 use Rattle.nz_session.specs.declared.desk.LastAnswer as shown

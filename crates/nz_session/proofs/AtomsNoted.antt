@@ -10,9 +10,9 @@ use Rattle.nz_spec.specs.Table.{Node, term_in, HasOneNumberEach}
 use Rattle.nz_spec.specs.Decide.{constants_in_table}
 use Rattle.nz_spec.specs.Work.{WorkEntry, DecisionEntry, LearnedEntry, WorkLine, UnitLine, NoteLine, WorkList}
 use Rattle.nz_spec.specs.Atoms.{atoms_in, AreAtoms, AtomsAreNoted, StandOnce}
-use Rattle.nz_reply.specs.declared.reply.Note.{Note}
-use Rattle.nz_reply.specs.declared.reply.Note.TheVariants.{Atom}
-use Rattle.nz_reply.specs.Notes.{noted_line, noted_list, AreNotedWithin}
+use Rattle.nz_log.specs.declared.note.Note.{Note}
+use Rattle.nz_log.specs.declared.note.Note.TheVariants.{Atom}
+use Rattle.nz_log.specs.Notes.{noted_line, noted_list, AreNotedWithin}
 use Rattle.nz_truth.specs.Numbers.{HasNoneTwice}
 use Rattle.nz_session.specs.SearchNotes.{AddsSteps, IsOfAtomBelow, with_atoms}
 

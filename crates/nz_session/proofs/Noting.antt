@@ -6,10 +6,10 @@ use Rattle.std.proofs.lemmas.List.Sums.{sum_by-append}
 use Rattle.nz_lists.proofs.Elements.{AllByRecursion-append}
 use Rattle.nz_spec.specs.Work.{WorkEntry, DecisionEntry, WorkLine, UnitLine, NoteLine, WorkList, unit_count, is_unit, IsSpent}
 use Rattle.nz_spec.specs.Table.{Node}
-use Rattle.nz_reply.specs.declared.reply.Note.{Note}
-use Rattle.nz_reply.specs.Notes.{note_of, noted_line, noted_list}
-use Rattle.nz_session.specs.declared.decide.Stop.{Stop}
-use Rattle.nz_session.specs.declared.decide.Stop.TheVariants.{Spent, Memory}
+use Rattle.nz_log.specs.declared.note.Note.{Note}
+use Rattle.nz_log.specs.Notes.{note_of, noted_line, noted_list}
+use Rattle.nz_log.specs.declared.stop.Stop.{Stop}
+use Rattle.nz_log.specs.declared.stop.Stop.TheVariants.{Spent, Memory}
 use Rattle.nz_session.specs.Verdicts.{OnSpent}
 use Rattle.nz_session.specs.Search.{IsTurnedAt}
 use Rattle.nz_session.specs.SearchNotes.{AddsSteps, HasSearched, IsCutShort, IsOfAtomBelow, Turns, with_atoms, with_clause, with_decision, with_steps}

@@ -2,8 +2,8 @@
 use Rattle.std.specs.Prelude.{◌≡◌, ℕ, ◌*◌, ◌^◌, ◌<◌, ◌≤◌, Bool, true, List, [], ◌∷◌, ◌++◌, length, map, ⊤}
 use Rattle.std.specs.List.{AllByRecursion}
 use Rattle.nz_spec.specs.Work.{WorkEntry, DecisionEntry, LearnedEntry, UnitLine, NoteLine, WorkList, unit_count, IsSpent, with_line}
-use Rattle.nz_reply.specs.declared.reply.Note.{Note}
-use Rattle.nz_reply.specs.declared.reply.Note.TheVariants.{Atom}
+use Rattle.nz_log.specs.declared.note.Note.{Note}
+use Rattle.nz_log.specs.declared.note.Note.TheVariants.{Atom}
 use Rattle.nz_session.specs.Search.{IsTurnedAt, learned_clause, units_up_to}
 
 -- The list holds the units of the search up to this stack, which so many decisions make full.

@@ -3,8 +3,8 @@ use Rattle.std.specs.Prelude.{⊤, ℕ, List}
 use Rattle.nz_spec.specs.Term as spec
 use Rattle.nz_session.specs.declared.decide.Verdict.{Verdict}
 use Rattle.nz_session.specs.declared.decide.Verdict.TheVariants.{Sat, Unsat}
-use Rattle.nz_session.specs.declared.decide.Stop.{Stop}
-use Rattle.nz_session.specs.declared.decide.Stop.TheVariants.{Spent, Memory}
+use Rattle.nz_log.specs.declared.stop.Stop.{Stop}
+use Rattle.nz_log.specs.declared.stop.Stop.TheVariants.{Spent, Memory}
 
 -- the fact of the assignment that was found
 abbrev pub IfSat : Verdict → (List (ℕ × spec.Value) → Type 0) → Type 0

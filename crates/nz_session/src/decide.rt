@@ -1,8 +1,7 @@
 //! What decides checks: the trait that a search implements, and its answers.
-use nz_base::{Memory, Spent, Work};
-use nz_reply::Note;
+use nz_base::{Memory, Work};
+use nz_log::{Note, Stop};
 use nz_term::{Assign, TermId, Terms};
-use std::alloc::{AllocError, AllocFailed};
 
 /// What a check found.
 #[derive(Debug, Drop)]
@@ -11,15 +10,6 @@ pub enum Verdict {
     Sat(Assign),
     /// No values make every asserted term true.
     Unsat,
-}
-
-/// Why a check ended with no answer.
-#[derive(Clone, Copy, Debug, PartialEq, Eq)]
-pub enum Stop {
-    /// Every unit of the work list is used, and one more was wanted.
-    Spent,
-    /// Memory was wanted and refused.
-    Memory,
 }
 
 /// A search that decides whether the asserted terms can all be true. They are asserted by levels.
@@ -32,7 +22,7 @@ pub trait Decide: Drop {
     ghost use Rattle.nz_spec.specs.Decide.{constants_in_table, AreInTable, asserted_numbers, with_number, asserted_terms, IsFrontOfTable, AreModelValues};
     ghost use Rattle.nz_spec.specs.Atoms.{AreAtoms};
     ghost use Rattle.nz_spec.specs.Work.{IsSpent};
-    ghost use Rattle.nz_reply.specs.Notes.{noted_list, AreNotedWithin};
+    ghost use Rattle.nz_log.specs.Notes.{noted_list, AreNotedWithin};
     ghost use Rattle.nz_session.specs.Verdicts.{IfSat, OnUnsat, OnSpent};
 
     /// The numbers of the asserted terms by level, the oldest level first.
@@ -95,48 +85,4 @@ pub trait Decide: Drop {
         ensures noted { AreAtoms (constants_in_table terms.now) (noted_list terms.now work.new).lines }
         ensures levels { levels self.new ≡ levels self.old }
         ensures table { IsFrontOfTable (table self.new) terms.now };
-}
-
-impl From<Spent> for Stop {
-    ghost use Rattle.std.specs.Prelude.{◌≡◌};
-    ghost use Rattle.nz_session.specs.declared.decide.Stop.TheVariants as stop;
-
-    ghost from_gives = { λ _ s. s ≡ stop.Spent };
-
-    fn from(_error: Spent) -> Stop {
-        Stop::Spent
-    }
-}
-
-impl From<Memory> for Stop {
-    ghost use Rattle.std.specs.Prelude.{◌≡◌};
-    ghost use Rattle.nz_session.specs.declared.decide.Stop.TheVariants as stop;
-
-    ghost from_gives = { λ _ s. s ≡ stop.Memory };
-
-    fn from(_error: Memory) -> Stop {
-        Stop::Memory
-    }
-}
-
-impl From<AllocError> for Stop {
-    ghost use Rattle.std.specs.Prelude.{◌≡◌};
-    ghost use Rattle.nz_session.specs.declared.decide.Stop.TheVariants as stop;
-
-    ghost from_gives = { λ _ s. s ≡ stop.Memory };
-
-    fn from(_error: AllocError) -> Stop {
-        Stop::Memory
-    }
-}
-
-impl<T: Drop> From<AllocFailed<T>> for Stop {
-    ghost use Rattle.std.specs.Prelude.{◌≡◌};
-    ghost use Rattle.nz_session.specs.declared.decide.Stop.TheVariants as stop;
-
-    ghost from_gives = { λ _ s. s ≡ stop.Memory };
-
-    fn from(_error: AllocFailed<T>) -> Stop {
-        Stop::Memory
-    }
 }

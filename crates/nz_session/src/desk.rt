@@ -16,7 +16,7 @@ ghost use Rattle.nz_spec.specs.Right.{Context, done as done_by};
 ghost use Rattle.nz_spec.specs.Atoms.{AreAtoms};
 ghost use Rattle.nz_spec.specs.Table.{term_in};
 ghost use Rattle.nz_spec.specs.Work.{IsSpent};
-ghost use Rattle.nz_reply.specs.Notes.{noted_list, AreNotedWithin};
+ghost use Rattle.nz_log.specs.Notes.{noted_list, AreNotedWithin};
 ghost use Rattle.nz_reply.specs.Infos.{info_of};
 ghost use Rattle.nz_reply.specs.Replies.{reply_of};
 ghost use Rattle.nz_sort.specs.Acts.{error_of, info_meaning};
@@ -27,13 +27,14 @@ ghost use Rattle.nz_session.specs.Completed.{bound_at, completed};
 ghost use Rattle.nz_session.specs.Told.{IsTold};
 ghost use Rattle.nz_session.specs.Verdicts.{IfSat, OnUnsat, OnSpent};
 
-use crate::decide::{Decide, Stop, Verdict};
+use crate::decide::{Decide, Verdict};
 use crate::values::values_shown;
 use nz_base::{Memory, Work};
 use nz_elaborate::Typed;
+use nz_log::{Note, Stop};
 use nz_reply::{
     ALREADY_DECLARED, Binding, Bindings, Cause, INCOMPLETE_COMMAND, Info, LIMIT, NO_ANSWER,
-    NOT_LINEAR, NUMBER_TOO_WIDE, Note, OUT_OF_MEMORY, Reason, Reply, SORT, SYNTAX, SpentList,
+    NOT_LINEAR, NUMBER_TOO_WIDE, OUT_OF_MEMORY, Reason, Reply, SORT, SYNTAX, SpentList,
     UNKNOWN_SYMBOL,
 };
 use nz_sexpr::{Tree, What};

@@ -7,6 +7,6 @@ mod session;
 mod trial;
 mod values;
 
-pub use decide::{Decide, Stop, Verdict};
+pub use decide::{Decide, Verdict};
 pub use session::{Fed, Session};
 pub use trial::Trial;

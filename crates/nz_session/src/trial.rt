@@ -14,9 +14,9 @@ ghost use Rattle.nz_session.specs.Verdicts.{OnSpent};
 
 mod stack;
 
-use crate::decide::{Decide, Stop, Verdict};
+use crate::decide::{Decide, Verdict};
 use nz_base::{Memory, Work};
-use nz_reply::Note;
+use nz_log::{Note, Stop};
 use nz_spec::table::{assigns_by_number, one_number};
 use nz_term::{Assign, TermId, Terms, Value, post_order};
 use nz_truth::{are_true, constant_numbers, evaluate};

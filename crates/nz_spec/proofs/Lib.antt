@@ -12,6 +12,7 @@ pub mod FractionOrder
 pub mod GateTruths
 pub mod InfinitesimalLaws
 pub mod Instances
+pub mod LegalWork
 pub mod Literals
 pub mod Normal
 pub mod Pieces

@@ -1,8 +1,9 @@
 -- The atoms of a check: the terms that its search decides, as its work list notes them.
-use Rattle.std.specs.Prelude.{◌≡◌, ℕ, ◌+◌, ◌<◌, List, [], ◌∷◌, map, Some, ⊤, Contains, slice_get}
+use Rattle.std.specs.Prelude.{◌≡◌, ℕ, ◌+◌, ◌<◌, List, [], ◌∷◌, map, ⊤, Contains}
 use Rattle.std.specs.List.{AllByRecursion}
 use Rattle.nz_spec.specs.Term.{Constant, constant, Term, apply, no_terms}
 use Rattle.nz_spec.specs.Work.{DecisionEntry, LearnedEntry, WorkLine, UnitLine, NoteLine}
+use Rattle.nz_spec.specs.Literal.{StandOnce}
 use Rattle.nz_spec.specs.Reply.{Note, atom_note}
 
 -- the terms noted in these lines, in order
@@ -17,10 +18,6 @@ AtomsAreNoted noted [] = ⊤
 AtomsAreNoted noted (NoteLine (atom_note t) ∷ lines) = AtomsAreNoted (noted + 1) lines
 AtomsAreNoted noted (UnitLine (DecisionEntry atom sign) ∷ lines) = (atom < noted) × AtomsAreNoted noted lines
 AtomsAreNoted noted (UnitLine (LearnedEntry keep lits) ∷ lines) = AtomsAreNoted noted lines
-
--- no term stands twice in the list
-abbrev pub StandOnce : List Term → Type 0
-StandOnce ts = (i j : ℕ) (t : Term) → slice_get ts i ≡ Some t → slice_get ts j ≡ Some t → i ≡ j
 
 -- Each atom is one of these constants, none is noted twice, and what is decided was noted before.
 pub record AreAtoms (cs : List Constant) (lines : List (WorkLine Note)) : Type 0 where

@@ -10,6 +10,7 @@ pub mod Fraction
 pub mod Gates
 pub mod Infinitesimal
 pub mod Kept
+pub mod Legal
 pub mod Limits
 pub mod Linear
 pub mod Literal

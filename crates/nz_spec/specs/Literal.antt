@@ -1,6 +1,6 @@
 -- Literals and clauses. A clause is a set of literals, written as a list that has each of them once.
-use Rattle.std.specs.Prelude.{◌≡◌, ℕ, bytes_eq, Bool, true, false, not, ◌&&◌, IsTrue, List, [], ◌∷◌, ◌++◌, Contains, ◌↔◌, filter, fold, if◌then◌else◌}
-use Rattle.std.specs.List.{list_any}
+use Rattle.std.specs.Prelude.{◌≡◌, ℕ, bytes_eq, Bool, true, false, not, ◌&&◌, IsTrue, List, [], ◌∷◌, ◌++◌, Contains, ◌↔◌, filter, fold, if◌then◌else◌, Some, slice_get}
+use Rattle.std.specs.List.{list_any, AllByRecursion}
 use Rattle.nz_spec.specs.Term.{Sort, bool_sort, int_sort, real_sort, sort_over, Head, constant, parameter, integer, decimal_number, verum, falsum, negation, conjunction, disjunction, implication, exclusion, equality, distinction, choice, less, at_most, greater, at_least, sum, difference, product, quotient, integer_quotient, modulus, magnitude, to_real, to_int, is_int, Term, apply, Terms, no_terms, terms, Assignment, is_true, value_of}
 
 -- ---- Which terms are one
@@ -73,6 +73,10 @@ are_same_literal (term_literal t p) (term_literal u q) = are_same_term t u && ar
 abbrev pub is_literal_true : Assignment → Literal → Bool
 is_literal_true a (term_literal t sign) = are_same_sign sign (is_true (value_of a t))
 
+-- each of them is true
+abbrev pub AreTrueLiterals : Assignment → List Literal → Type 0
+AreTrueLiterals a ls = AllByRecursion (λ (l : Literal). IsTrue (is_literal_true a l)) ls
+
 -- ---- Sets as lists, by a test of what is the same
 
 module _ {A : Type 0} where
@@ -87,6 +91,14 @@ module _ {A : Type 0} where
   -- all but this one
   abbrev pub without : (A → A → Bool) → A → List A → List A
   without same x xs = filter (λ y. not (same x y)) xs
+
+  -- the lists hold the same
+  abbrev pub AreSameSet : List A → List A → Type 0
+  AreSameSet xs ys = (x : A) → Contains xs x ↔ Contains ys x
+
+  -- nothing stands twice in the list
+  abbrev pub StandOnce : List A → Type 0
+  StandOnce xs = (i j : ℕ) (x : A) → slice_get xs i ≡ Some x → slice_get xs j ≡ Some x → i ≡ j
 
 -- ---- Clauses
 
@@ -107,10 +119,6 @@ clause_of ls = once are_same_literal ls
 -- the first clause without the literal, and the second one without its negation
 abbrev pub resolvent : Literal → Clause → Clause → Clause
 resolvent l c d = clause_of (without are_same_literal l c ++ without are_same_literal (negation_of l) d)
-
--- two clauses are the same set
-abbrev pub AreSameClause : Clause → Clause → Type 0
-AreSameClause c d = (l : Literal) → Contains c l ↔ Contains d l
 
 -- ---- Laws
 

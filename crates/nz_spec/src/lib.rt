@@ -13,3 +13,4 @@ pub mod table;
 pub mod term;
 pub mod text;
 pub mod transcript;
+pub mod work;

@@ -7,9 +7,8 @@ ghost use Rattle.nz_session.specs.SearchNotes.{AddsSteps, HasSearched, IsCutShor
 ghost use Rattle.nz_session.specs.Verdicts.{OnSpent};
 ghost use Rattle.nz_spec.specs.Work.{IsSpent};
 
-use crate::decide::Stop;
 use nz_base::{Entry, Literals, Work};
-use nz_reply::Note;
+use nz_log::{Note, Stop};
 use std::alloc::{AllocError, Global};
 
 // Decides the next constant.

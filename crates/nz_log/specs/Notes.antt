@@ -4,8 +4,8 @@ use Rattle.nz_spec.specs.Table.{Node, term_in}
 use Rattle.nz_spec.specs.Reply as reply
 use Rattle.nz_spec.specs.Reply.{atom_note}
 use Rattle.nz_spec.specs.Work.{WorkLine, UnitLine, NoteLine, WorkList}
-use Rattle.nz_reply.specs.declared.reply.Note.{Note}
-use Rattle.nz_reply.specs.declared.reply.Note.TheVariants.{Atom}
+use Rattle.nz_log.specs.declared.note.Note.{Note}
+use Rattle.nz_log.specs.declared.note.Note.TheVariants.{Atom}
 
 abbrev pub note_of : List Node → Note → reply.Note
 note_of ns (Atom term) = atom_note (term_in ns term)

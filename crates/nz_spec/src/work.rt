@@ -1,0 +1,12 @@
+//! Laws of work lists.
+ghost use Rattle.nz_spec.specs.Legal.{LegalWorkDoesNotRepeat, LegalWorkGoesOn};
+
+/// A legal list goes on by a line that may follow.
+pub fn legal_work_goes_on()
+    ensures goes_on { LegalWorkGoesOn }
+{}
+
+/// In a legal list no atom is named twice, none is decided twice at a time, and no clause is learned twice.
+pub fn legal_work_does_not_repeat()
+    ensures repeats { LegalWorkDoesNotRepeat }
+{}
