@@ -11,4 +11,4 @@ returns c =
     let same : numbers_by_level levels ≡ c.args.self.now = c.self.view_is in
     let count : n ≡ length c.args.self.now - c.args.count =
     ap (λ k. k - c.args.count) (c.len.ensures ∙ c.self.inside.levels.ok.0 ∙ sym (length-map levels numbers) ∙ ap length same) in
-    ap numbers_by_level c.truncate.ensures.items ∙ sym (take-map numbers n levels) ∙ ap (take n) same ∙ ap (λ k. take k c.args.self.now) count
+    record { rest = ap numbers_by_level c.truncate.ensures.items ∙ sym (take-map numbers n levels) ∙ ap (take n) same ∙ ap (λ k. take k c.args.self.now) count }
