@@ -1,14 +1,14 @@
 -- What the desk holds after a command, and that its answer is right.
-use Rattle.std.proofs.Common.{◌≡◌, inl, ℕ, ◌≤◌, Bool, true, false, List, [], ◌∷◌, length, map, take, Option, Some, None, Result, IfOk, option_map, refl, sym, ap, ◌∙◌, subst, arith, length-take, append-nil}
+use Rattle.std.proofs.Common.{◌≡◌, inl, ℕ, ◌≤◌, Bool, true, false, List, [], ◌∷◌, length, map, take, Option, Some, None, Result, Ok, IfOk, option_map, refl, sym, ap, ◌∙◌, subst, arith, length-take}
 use Rattle.std.specs.Prelude.{⊤, if◌then◌else◌}
 use Rattle.std.proofs.lemmas.List.{take-take}
 use Rattle.nz_lists.proofs.Fronts.{front_of_more}
 use Rattle.nz_spec.specs.Tree.{Tree}
 use Rattle.nz_spec.specs.Text.{intact}
-use Rattle.nz_spec.specs.Term.{Term}
 use Rattle.nz_spec.specs.Table.{Node, term_in}
-use Rattle.nz_spec.specs.Decide.{asserted_terms, IsFrontOfTable}
-use Rattle.nz_spec.specs.Model.{IsUnsatisfiable}
+use Rattle.nz_spec.specs.Decide.{IsFrontOfTable}
+use Rattle.nz_spec.specs.Legal.{at_first, IsDeadEnd}
+use Rattle.nz_spec.specs.Model.{IsModel, IsUnsatisfiable}
 use Rattle.nz_spec.specs.Live.{LastAnswer, model_found, State, Options}
 use Rattle.nz_spec.specs.Command.{Command, Info, declare_const, define, assert_term, check_sat, get_model, get_value, get_info, get_levels, get_reason, set_print_success, no_effect, echo, exit, accepted}
 use Rattle.nz_spec.specs.Script.{outcome_of}
@@ -19,8 +19,10 @@ use Rattle.nz_session.specs.Told.{IsTold}
 use Rattle.nz_reply.specs.Replies.{reply_of, cause_of, IsCauseWithin}
 use Rattle.nz_session.specs.Desk.{last_of, BindsConstants, KeepsValues, Holds, IsAnswer}
 use Rattle.nz_session.proofs.ValuesKept.{values_stay}
-use Rattle.nz_session.specs.Verdicts.{OnUnsat}
-use Rattle.nz_session.specs.declared.decide.Verdict.{Verdict}
+use Rattle.nz_session.proofs.LegalWork.{one_level}
+use Rattle.nz_log.specs.Verdicts.{OnUnsat, question_in}
+use Rattle.nz_log.specs.declared.decide.Verdict.{Verdict}
+use Rattle.nz_log.specs.declared.decide.Verdict.TheVariants.{Unsat}
 use Rattle.nz_log.specs.declared.stop.Stop.{Stop}
 use Rattle.nz_session.specs.declared.desk.Desk.{Desk}
 use Rattle.nz_session.specs.declared.desk.Answer.{Answer}
@@ -39,13 +41,11 @@ told_of_more levels (Some n) old new e h =
 
 -- ---- One level of assertions
 
-one_level : (ns : List Node) (levels : List (List ℕ)) (ids : List ℕ) → levels ≡ ids ∷ [] → asserted_terms ns levels ≡ map (term_in ns) ids
-one_level ns levels ids e = ap (asserted_terms ns) e ∙ ap (map (term_in ns)) (append-nil ids)
-
+-- a dead end before any decision, where nothing is assumed
 pub unsat_in_one_level : (ns : List Node) (levels : List (List ℕ)) (ids : List ℕ) (r : Result Verdict Stop) → levels ≡ ids ∷ []
-    → IfOk r (λ v. OnUnsat v (IsUnsatisfiable (asserted_terms ns levels) [])) → IfOk r (λ v. OnUnsat v (IsUnsatisfiable (map (term_in ns) ids) []))
-unsat_in_one_level ns levels ids r e h =
-    subst (λ (ts : List Term). IfOk r (λ v. OnUnsat v (IsUnsatisfiable ts []))) (one_level ns levels ids e) h
+    → IfOk r (λ v. OnUnsat v (IsDeadEnd (question_in ns levels []) at_first)) → IfOk r (λ v. OnUnsat v (IsUnsatisfiable (map (term_in ns) ids) []))
+unsat_in_one_level ns levels ids (Ok (Unsat id)) e h = λ a m. h a (subst (λ ts. IsModel ts [] a) (sym (one_level ns levels ids e)) m) tt tt
+unsat_in_one_level ns levels ids r e h = tt
 
 -- ---- What stands after a command
 
@@ -303,7 +303,7 @@ module _ {E : Type 0} (levels : E → List (List ℕ)) (table : E → List Node)
   -- ---- Checks
 
   -- the desk holds what it held before the check, but for what the last answer was
-  checked_answer : (c : Context) (t : Tree) (answer : Answer) (desk : Desk E) (last : Option shown.LastAnswer) → Holds levels table (record desk { last = last }) c
+  pub checked_answer : (c : Context) (t : Tree) (answer : Answer) (desk : Desk E) (last : Option shown.LastAnswer) → Holds levels table (record desk { last = last }) c
       → answer.exits ≡ false → outcome_of c.state t ≡ accepted (check_sat []) → option_map last_of desk.last ≡ last_after (reply_of (intact t) answer.reply)
       → IsRightCheck c [] (reply_of (intact t) answer.reply) (cause_of desk.terms answer.cause) → IsCauseWithin desk.terms answer.cause → KeepsValues desk.terms desk.last
       → IsAnswer levels table c (intact t) answer desk

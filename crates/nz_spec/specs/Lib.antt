@@ -1,5 +1,4 @@
 pub mod Argument
-pub mod Atoms
 pub mod Bounds
 pub mod Command
 pub mod Decide
