@@ -1,0 +1,97 @@
+//! The atoms that a work list names, by their numbers there.
+ghost use Rattle.std.specs.Prelude.{◌≡◌, ℕ, ◌<◌, [], ◌∷◌, ◌++◌, All, IfOk, OnOk};
+ghost use Rattle.nz_sat.specs.Numbers.{noted_atoms, number_of};
+
+use nz_base::{Memory, Noted, Work};
+use nz_log::Note;
+use nz_term::TermId;
+use std::alloc::Global;
+use std::marker::Model;
+
+/// The atoms, each with its number: how many were named before it. A contract sees them in that order.
+#[derive(Debug, Drop)]
+pub struct Atoms {
+    terms: Vec<TermId>,
+    // By the numbers of terms.
+    numbers: Vec<Option<usize>>,
+}
+
+impl Model for Atoms {
+    ghost use Rattle.std.specs.Prelude.{List, ℕ};
+
+    ghost Value = { List ℕ };
+
+    ghost use Rattle.nz_sat.specs.Numbers.{IsNumbered};
+
+    ghost view = { λ a. a.terms.items };
+
+    ghost invariant = { λ a. IsNumbered a.terms.items a.numbers.items };
+}
+
+impl Atoms {
+    /// No atoms.
+    fn none(alloc: Global) -> Atoms
+        ensures none { result ≡ [] }
+    {
+        Atoms {
+            terms: Vec::new(alloc),
+            numbers: Vec::new(alloc),
+        }
+    }
+
+    /// The atoms that a work list names.
+    pub fn noted(alloc: Global, work: &Work<Note>) -> Result<Atoms, Memory>
+        ensures noted { IfOk result (λ a. a ≡ noted_atoms work.now.lines) }
+    {
+        let mut atoms = Atoms::none(alloc);
+        for i in 0..work.len() {
+            match work.get(i) {
+                Noted::Unit(_) => {}
+                Noted::Note(Note::Atom(term)) => atoms.name(*term)?,
+            }
+        }
+        Ok(atoms)
+    }
+
+    /// Gives a term the next number, if it has none.
+    fn name(&mut self, term: TermId) -> Result<(), Memory>
+        ensures named { OnOk result (self.new ≡ self.old ++ term ∷ []) }
+    {
+        let Some(size) = term.checked_add(1) else {
+            return Err(Memory);
+        };
+        if self.numbers.len() < size {
+            self.numbers.resize(size, None)?;
+        }
+        let number = self.terms.len();
+        self.terms.push(term)?;
+        if self.numbers[term].is_none() {
+            self.numbers[term] = Some(number);
+        }
+        Ok(())
+    }
+
+    /// The terms in the order of their numbers.
+    pub fn terms(&self) -> &[TermId]
+        ensures terms { result.now ≡ self.now }
+    {
+        self.terms.as_slice()
+    }
+
+    /// The number of a term.
+    pub fn number(&self, term: TermId) -> Option<usize>
+        ensures number { result ≡ number_of self.now term }
+    {
+        match self.numbers.get(term) {
+            Some(number) => *number,
+            None => None,
+        }
+    }
+
+    /// A number above those of all these terms.
+    pub fn size(&self) -> usize
+        ensures within { All (λ t. t < result) self.now }
+    {
+        self.numbers.len()
+    }
+}
