@@ -68,7 +68,7 @@ pub record IsChain (s : LogState) (es : List Assigned) (dead : ℕ) (marks : Lis
   pub has : Contains (chained s (literals_at s dead) c.links.items) c.literal
   pub last : level_on es c.literal.term ≡ depth es
   pub others : (m : Lit) → Contains (chained s (literals_at s dead) c.links.items) m → m ≢ c.literal → level_on es m.term < depth es
-  pub marks : (t : ℕ) → is_marked marks t ≡ true → (m : Lit) × Contains (chained s (literals_at s dead) c.links.items) m × (m.term ≡ t)
+  pub marked : (t : ℕ) → is_marked marks t ≡ true → (m : Lit) × Contains (chained s (literals_at s dead) c.links.items) m × (m.term ≡ t)
 
 -- A clause in which each literal is false, of which one literal is of the last level; the greatest level of the others is told.
 pub record IsLesson (s : LogState) (es : List Assigned) (l : Lesson) : Type 0 where

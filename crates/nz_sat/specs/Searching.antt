@@ -23,7 +23,7 @@ ids held = map (λ (h : Held). h.id) held
 -- Each clause that is held is in the index, and no other; the terms of clauses and trail are atoms, and have their places in each table; each
 -- entry of the trail that has a reason follows by it, and each other one is decided or assumed.
 pub record IsSearch (log : LogState) (held : List Held) (assumed : List Lit) (s : Search) : Type 0 where
-  pub held : AreHeld log held
+  pub are_held : AreHeld log held
   pub listed : All (IsListed log s.index) (ids held)
   pub only : (l : Lit) (i : ℕ) → Contains (ids_of s.index l) i → Contains (ids held) i
   pub named : All (λ (i : ℕ). All (λ (l : Lit). Contains s.atoms l.term) (literals_at log i)) (ids held)
@@ -49,7 +49,7 @@ WereOpen log held es = (k : ℕ) → k < depth es → AreOpen log held (below k 
 
 -- The work list, over each table, tells the atoms, the decisions of the trail, and what was learned: clauses that are held.
 pub record IsNoted (log : LogState) (held : List Held) (atoms : List ℕ) (es : List Assigned) (work : WorkList Note) : Type 0 where
-  pub atoms : (ns : List Node) → (after_lines at_first (noted_list ns work).lines).atoms ≡ map (term_in ns) atoms
+  pub named : (ns : List Node) → (after_lines at_first (noted_list ns work).lines).atoms ≡ map (term_in ns) atoms
   pub decided : (ns : List Node) → (after_lines at_first (noted_list ns work).lines).decided ≡ map (λ (e : Assigned). numbered atoms e.literal) (filter is_decision es)
   pub learned : (ns : List Node) → All (λ (c : List (ℕ × Bool)). (i : ℕ) × Contains (ids held) i × (map (numbered atoms) (literals_at log i) ≡ c)) (after_lines at_first (noted_list ns work).lines).learned
 
@@ -74,7 +74,7 @@ StaysLegal log assumed old new = (ns : List Node) (levels : List (List ℕ)) (q 
 pub record Advances (atoms : List ℕ) (assumed : List Lit) (log log' : LogState) (held held' : List Held) (work work' : WorkList Note) : Type 0 where
   pub grows : Grows log log'
   pub sound : StaysInOrder atoms log log'
-  pub held : HoldsMore log' held held'
+  pub holds_more : HoldsMore log' held held'
   pub legal : StaysLegal log assumed work work'
   pub limit : work'.limit ≡ work.limit
 
