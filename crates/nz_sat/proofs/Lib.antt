@@ -1,0 +1,3 @@
+pub mod Clausal
+pub mod Standing
+pub mod Trailing

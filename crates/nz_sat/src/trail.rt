@@ -1,5 +1,5 @@
 //! The trail: which literals are true, in the order in which they became so.
-ghost use Rattle.std.specs.Prelude.{◌≡◌, ◌<◌, [], ◌∷◌, ◌++◌, length, IfOk, MatchOption, slice_get};
+ghost use Rattle.std.specs.Prelude.{◌≡◌, ◌^◌, ◌<◌, [], ◌∷◌, ◌++◌, length, IfOk, MatchOption, option_map, slice_get};
 ghost use Rattle.nz_sat.specs.Trails.{AreTruthsOn, AreUpTo, DropsLast, HasValue, IsTrail, assigned, decided, depth, empty_trail, implied, level_on, with_entry};
 
 use nz_base::Memory;
@@ -99,6 +99,7 @@ impl Trail {
     /// How many decisions the trail has.
     pub fn level(&self) -> usize
         ensures level { result ≡ depth self.now.entries }
+        ensures small { result < 2 ^ 63 }
     {
         match self.entries.last() {
             Some(entry) => entry.level,
@@ -178,10 +179,16 @@ impl Trail {
     pub fn truths(&self, alloc: Global) -> Result<Vec<Option<bool>>, Memory>
         ensures truths { IfOk result (λ v. AreTruthsOn self.now.entries v.items) }
     {
-        let mut truths = Vec::with_capacity(alloc, self.by_term.len())?;
-        for entry in &self.by_term {
-            truths.push(entry.map(|assigned| assigned.literal.sign))?;
-        }
-        Ok(truths)
+        Ok(self.by_term.iter().map(sign_of).collect(alloc)?)
+    }
+}
+
+/// The sign of an entry.
+fn sign_of(entry: &Option<Assigned>) -> Option<bool>
+    ensures sign { result ≡ option_map (λ e. e.literal.sign) entry.now }
+{
+    match entry {
+        Some(assigned) => Some(assigned.literal.sign),
+        None => None,
     }
 }
