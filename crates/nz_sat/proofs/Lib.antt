@@ -1,3 +1,4 @@
 pub mod Clausal
 pub mod Standing
 pub mod Trailing
+pub mod Visiting

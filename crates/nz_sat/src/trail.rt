@@ -1,11 +1,11 @@
 //! The trail: which literals are true, in the order in which they became so.
-ghost use Rattle.std.specs.Prelude.{◌≡◌, ◌^◌, ◌<◌, [], ◌∷◌, ◌++◌, length, IfOk, MatchOption, option_map, slice_get};
+ghost use Rattle.std.specs.Prelude.{◌≡◌, ◌^◌, ◌<◌, ◌≤◌, [], ◌∷◌, ◌++◌, length, map, IfOk, MatchOption, option_map, slice_get};
 ghost use Rattle.nz_sat.specs.Trails.{AreTruthsOn, AreUpTo, DropsLast, HasValue, IsTrail, assigned, decided, depth, empty_trail, implied, level_on, with_entry};
 
 use nz_base::Memory;
 use nz_log::{ClauseId, Lit};
 use nz_term::TermId;
-use std::alloc::Global;
+use std::alloc::{AllocError, Global};
 use std::marker::Model;
 
 /// A literal that is true on a trail.
@@ -53,6 +53,7 @@ impl Trail {
     /// How many literals are true.
     pub fn len(&self) -> usize
         ensures count { result ≡ length self.now.entries }
+        ensures within { result ≤ self.now.size }
         ensures trail { IsTrail self.now }
     {
         self.entries.len()
@@ -179,7 +180,7 @@ impl Trail {
     pub fn truths(&self, alloc: Global) -> Result<Vec<Option<bool>>, Memory>
         ensures truths { IfOk result (λ v. AreTruthsOn self.now.entries v.items) }
     {
-        Ok(self.by_term.iter().map(sign_of).collect(alloc)?)
+        Ok(signs(alloc, &self.by_term)?)
     }
 }
 
@@ -191,4 +192,11 @@ fn sign_of(entry: &Option<Assigned>) -> Option<bool>
         Some(assigned) => Some(assigned.literal.sign),
         None => None,
     }
+}
+
+/// The signs of these entries.
+fn signs(alloc: Global, entries: &[Option<Assigned>]) -> Result<Vec<Option<bool>>, AllocError>
+    ensures signs { IfOk result (λ v. v.items ≡ map (option_map (λ e. e.literal.sign)) entries.now) }
+{
+    entries.iter().map(sign_of).collect(alloc)
 }
