@@ -1,4 +1,7 @@
 pub mod Clausal
+pub mod Cutting
+pub mod Indexing
+pub mod Numbering
 pub mod Standing
 pub mod Trailing
 pub mod Visiting

@@ -61,6 +61,14 @@ IsReasonOf s before l (Some c) = IsReason s before l c
 abbrev pub IsImplied : LogState → List Assigned → Assigned → Type 0
 IsImplied s before e = IsReasonOf s before e.literal e.reason
 
+-- the reason of an entry, where it has one, is one of these clauses
+abbrev pub IsReasonOneOf : List ℕ → Option ℕ → Type 0
+IsReasonOneOf us None = ⊤
+IsReasonOneOf us (Some c) = Contains us c
+
+abbrev pub HasReasonOf : List ℕ → Assigned → Type 0
+HasReasonOf us e = IsReasonOneOf us e.reason
+
 -- an entry that has no reason, and stands under no decision, is assumed
 abbrev pub IsAssumed : List Lit → Assigned → Type 0
 IsAssumed assumed e = e.reason ≡ None → e.level ≡ 0 → Contains assumed e.literal
@@ -79,9 +87,24 @@ ids_of x l = if l.sign then ids_in x.positive.items l.term else ids_in x.negativ
 abbrev pub IsOfSize : ℕ → Index → Type 0
 IsOfSize n x = (length x.positive.items ≡ n) × (length x.negative.items ≡ n)
 
+-- it has as many terms
+abbrev pub IsSameSize : (old new : Index) → Type 0
+IsSameSize x y = (length y.positive.items ≡ length x.positive.items) × (length y.negative.items ≡ length x.negative.items)
+
+-- it has the term of a literal
+abbrev pub IsWithin : Lit → Index → Type 0
+IsWithin l x = (l.term < length x.positive.items) × (l.term < length x.negative.items)
+
 -- a clause stands beside each of its literals
 abbrev pub IsListed : LogState → Index → ℕ → Type 0
 IsListed s x i = (l : Lit) → Contains (literals_at s i) l → Contains (ids_of x l) i
+
+-- A clause is put beside each of its literals, and no other one is.
+pub record Adds (s : LogState) (id : ℕ) (old new : Index) : Type 0 where
+  pub size : IsSameSize old new
+  pub listed : IsListed s new id
+  pub kept : (l : Lit) (i : ℕ) → Contains (ids_of old l) i → Contains (ids_of new l) i
+  pub only : (l : Lit) (i : ℕ) → Contains (ids_of new l) i → Contains (ids_of old l) i ⊎ (id ≡ i)
 
 -- A clause of the log with terms below a number.
 pub record IsUsable (s : LogState) (size : ℕ) (i : ℕ) : Type 0 where

@@ -12,7 +12,7 @@ use Rattle.nz_sat.specs.declared.search.Search.{Search}
 use Rattle.nz_sat.specs.declared.trail.Assigned.{Assigned}
 use Rattle.nz_log.specs.Sound.{IsLog}
 use Rattle.nz_sat.specs.Trails.{EachBehind, IsTrueOn, below, decided, depth, is_decision, with_entry}
-use Rattle.nz_sat.specs.Clauses.{IsAssumed, IsImplied, IsListed, IsOfSize, IsOpen, Waits, ids_of}
+use Rattle.nz_sat.specs.Clauses.{HasReasonOf, IsAssumed, IsImplied, IsListed, IsOfSize, IsOpen, Waits, ids_of}
 use Rattle.nz_sat.specs.Conflicts.{AreUnmarked, Grows}
 use Rattle.nz_sat.specs.Numbers.{number_of, numbered}
 use Rattle.nz_sat.specs.Sats.{AreHeld, HoldsMore, IsAsked, IsLegalWork}
@@ -33,6 +33,7 @@ pub record IsSearch (log : LogState) (held : List Held) (assumed : List Lit) (s 
   pub marks : length s.seen.items ≡ s.trail.size
   pub unmarked : AreUnmarked s.seen.items
   pub implied : EachBehind (IsImplied log) s.trail.entries
+  pub reasons : All (HasReasonOf (ids held)) s.trail.entries
   pub assumed_only : All (IsAssumed assumed) s.trail.entries
 
 -- each clause is open

@@ -95,6 +95,11 @@ pub record DropsLast (level : ℕ) (old new : List Assigned) : Type 0 where
   pub joined : old ≡ new ++ last ∷ []
   pub higher : level < last.level
 
+-- The trail begins with these entries.
+pub record IsFrontOf (front es : List Assigned) : Type 0 where
+  pub more : List Assigned
+  pub joined : es ≡ front ++ more
+
 -- The trail goes on: what comes more are literals that clauses make true.
 pub record GoesOn (old new : List Assigned) : Type 0 where
   pub more : List Assigned

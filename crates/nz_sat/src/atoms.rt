@@ -1,6 +1,6 @@
 //! The atoms that a work list names, by their numbers there.
-ghost use Rattle.std.specs.Prelude.{◌≡◌, ℕ, ◌<◌, [], ◌∷◌, ◌++◌, All, IfOk, OnOk};
-ghost use Rattle.nz_sat.specs.Numbers.{noted_atoms, number_of};
+ghost use Rattle.std.specs.Prelude.{◌≡◌, ◌≢◌, ℕ, ◌<◌, true, [], ◌∷◌, ◌++◌, All, None, slice_index_or, IfOk, OnErr, OnOk};
+ghost use Rattle.nz_sat.specs.Numbers.{noted_atoms, number_of, number_or};
 
 use nz_base::{Memory, Noted, Work};
 use nz_log::Note;
@@ -57,17 +57,9 @@ impl Atoms {
     fn name(&mut self, term: TermId) -> Result<(), Memory>
         ensures named { OnOk result (self.new ≡ self.old ++ term ∷ []) }
     {
-        let Some(size) = term.checked_add(1) else {
-            return Err(Memory);
-        };
-        if self.numbers.len() < size {
-            self.numbers.resize(size, None)?;
-        }
-        let number = self.terms.len();
-        self.terms.push(term)?;
-        if self.numbers[term].is_none() {
-            self.numbers[term] = Some(number);
-        }
+        self.terms.reserve(1)?;
+        give(&mut self.numbers, term, self.terms.len())?;
+        self.terms.push(term).unwrap();
         Ok(())
     }
 
@@ -94,4 +86,23 @@ impl Atoms {
     {
         self.numbers.len()
     }
+}
+
+/// Gives a term a number, if it has none.
+fn give(numbers: &mut Vec<Option<usize>>, term: TermId, number: usize) -> Result<(), Memory>
+    ensures given { OnOk result (slice_index_or numbers.new.items term None ≡ number_or (slice_index_or numbers.old.items term None) true number) }
+    ensures others { (t : ℕ) → t ≢ term → slice_index_or numbers.new.items t None ≡ slice_index_or numbers.old.items t None }
+    ensures unchanged { OnErr result (numbers.new.items ≡ numbers.old.items) }
+{
+    let Some(size) = term.checked_add(1) else {
+        return Err(Memory);
+    };
+    if numbers.len() < size {
+        numbers.resize(size, None)?;
+    }
+    numbers[term] = Some(match numbers[term] {
+        Some(earlier) => earlier,
+        None => number,
+    });
+    Ok(())
 }

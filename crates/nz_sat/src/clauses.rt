@@ -1,8 +1,8 @@
 //! The clauses of a search, and for each literal those that have it.
-ghost use Rattle.std.specs.Prelude.{◌≡◌, ◌≢◌, ℕ, ◌<◌, ◌⊎◌, [], ◌∷◌, ◌++◌, Contains, length, IfOk, OnOk, OnErr};
+ghost use Rattle.std.specs.Prelude.{◌≡◌, ◌≢◌, ℕ, ◌<◌, [], ◌∷◌, ◌++◌, All, length, IfOk, OnOk};
 ghost use Rattle.nz_log.specs.declared.lits.Lit.{Lit};
-ghost use Rattle.nz_log.specs.Logs.{literals_at};
-ghost use Rattle.nz_sat.specs.Clauses.{IsListed, IsOfSize, IsUsable, ids_in, ids_of};
+ghost use Rattle.nz_log.specs.Logs.{IsLive, literals_at};
+ghost use Rattle.nz_sat.specs.Clauses.{Adds, IsOfSize, IsSameSize, IsWithin, ids_in, ids_of};
 
 use nz_base::Memory;
 use nz_log::{ClauseId, Lit, Log};
@@ -47,26 +47,35 @@ impl Index {
         }
     }
 
+    /// Puts a clause beside a literal.
+    ///
+    /// # Errors
+    ///
+    /// `Memory`.
+    fn put(&mut self, literal: Lit, id: ClauseId) -> Result<(), Memory>
+        requires within { IsWithin literal self.old }
+        ensures size { IsSameSize self.old self.new }
+        ensures put { OnOk result (ids_of self.new literal ≡ ids_of self.old literal ++ id ∷ []) }
+        ensures others { (m : Lit) → m ≢ literal → ids_of self.new m ≡ ids_of self.old m }
+    {
+        if literal.sign {
+            return put(&mut self.positive, literal.term, id);
+        }
+        put(&mut self.negative, literal.term, id)
+    }
+
     /// Puts a clause beside its literals.
     ///
     /// # Errors
     ///
     /// `Memory`. Then it may stand beside some of them.
     pub fn add(&mut self, log: &Log, id: ClauseId) -> Result<(), Memory>
-        ghost size: { ℕ }
-        requires usable { IsUsable log.now size id }
-        requires size { IsOfSize size self.old }
-        ensures size { IsOfSize size self.new }
-        ensures listed { OnOk result (IsListed log.now self.new id) }
-        ensures kept { (l : Lit) (i : ℕ) → Contains (ids_of self.old l) i → Contains (ids_of self.new l) i }
-        ensures only { (l : Lit) (i : ℕ) → Contains (ids_of self.new l) i → Contains (ids_of self.old l) i ⊎ (i ≡ id) }
+        requires live { IsLive log.now id }
+        requires within { All (λ l. IsWithin l self.old) (literals_at log.now id) }
+        ensures added { OnOk result (Adds log.now id self.old self.new) }
     {
         for literal in log.clause(id) {
-            if literal.sign {
-                put(&mut self.positive, literal.term, id)?;
-            } else {
-                put(&mut self.negative, literal.term, id)?;
-            }
+            self.put(*literal, id)?;
         }
         Ok(())
     }
@@ -99,7 +108,6 @@ fn put(lists: &mut Vec<Vec<ClauseId>>, term: TermId, id: ClauseId) -> Result<(),
     requires within { term < length lists.old.items }
     ensures size { length lists.new.items ≡ length lists.old.items }
     ensures put { OnOk result (ids_in lists.new.items term ≡ ids_in lists.old.items term ++ id ∷ []) }
-    ensures unchanged { OnErr result (ids_in lists.new.items term ≡ ids_in lists.old.items term) }
     ensures others { (t : ℕ) → t ≢ term → ids_in lists.new.items t ≡ ids_in lists.old.items t }
 {
     lists[term].push(id)?;

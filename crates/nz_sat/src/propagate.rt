@@ -1,8 +1,8 @@
 //! Propagation: what a clause makes true whose other literals are false.
-ghost use Rattle.std.specs.Prelude.{◌≡◌, ℕ, ◌≤◌, true, false, All, Contains, length, IfSome};
+ghost use Rattle.std.specs.Prelude.{◌≡◌, ℕ, ◌≤◌, true, false, All, Contains, List, length, IfSome};
 ghost use Rattle.nz_log.specs.declared.lits.Lit.{Lit};
 ghost use Rattle.nz_log.specs.Logs.{literals_at};
-ghost use Rattle.nz_sat.specs.Clauses.{AreUsable, IsDead, IsImplied, IsListed, IsOpen, IsUsable, StandsSo, Waits, ids_of};
+ghost use Rattle.nz_sat.specs.Clauses.{AreUsable, HasReasonOf, IsDead, IsImplied, IsListed, IsOpen, IsUsable, StandsSo, Waits, ids_of};
 ghost use Rattle.nz_sat.specs.Trails.{EachBehind, GoesOn};
 
 use crate::clauses::Index;
@@ -50,6 +50,7 @@ fn visit(log: &Log, trail: &mut Trail, id: ClauseId) -> bool
     ensures size { trail.new.size ≡ trail.old.size }
     ensures goes_on { GoesOn trail.old.entries trail.new.entries }
     ensures implied { EachBehind (IsImplied log.now) trail.old.entries → EachBehind (IsImplied log.now) trail.new.entries }
+    ensures reasons { (us : List ℕ) → Contains us id → All (HasReasonOf us) trail.old.entries → All (HasReasonOf us) trail.new.entries }
     ensures all_open { result ≡ true → IsOpen trail.new.entries (literals_at log.now id) }
     ensures dead { result ≡ false → IsDead trail.new.entries (literals_at log.now id) }
 {
@@ -69,6 +70,7 @@ pub fn visit_all(log: &Log, trail: &mut Trail, ids: &[ClauseId]) -> Option<Claus
     ensures size { trail.new.size ≡ trail.old.size }
     ensures goes_on { GoesOn trail.old.entries trail.new.entries }
     ensures implied { EachBehind (IsImplied log.now) trail.old.entries → EachBehind (IsImplied log.now) trail.new.entries }
+    ensures reasons { (us : List ℕ) → All (Contains us) ids.now → All (HasReasonOf us) trail.old.entries → All (HasReasonOf us) trail.new.entries }
     // What was made true after a clause was looked at is still to be looked at itself.
     ensures waits { result ≡ None → All (λ i. Waits trail.new.entries (length trail.old.entries) (literals_at log.now i)) ids.now }
     ensures dead { IfSome result (λ id. Contains ids.now id × IsDead trail.new.entries (literals_at log.now id)) }
@@ -89,6 +91,8 @@ pub fn propagate(log: &Log, index: &Index, trail: &mut Trail, from: usize) -> Op
     ensures size { trail.new.size ≡ trail.old.size }
     ensures goes_on { GoesOn trail.old.entries trail.new.entries }
     ensures implied { EachBehind (IsImplied log.now) trail.old.entries → EachBehind (IsImplied log.now) trail.new.entries }
+    // Each reason is a clause of the index.
+    ensures reasons { (us : List ℕ) → ((l : Lit) (i : ℕ) → Contains (ids_of index.now l) i → Contains us i) → All (HasReasonOf us) trail.old.entries → All (HasReasonOf us) trail.new.entries }
     // A clause that stands beside each of its literals in the index, and was open or had a literal that was to be looked at, is open.
     ensures all_open { result ≡ None → (i : ℕ) → IsListed log.now index.now i → Waits trail.old.entries from (literals_at log.now i) → IsOpen trail.new.entries (literals_at log.now i) }
     ensures dead { IfSome result (λ id. ((l : Lit) × Contains (ids_of index.now l) id) × IsDead trail.new.entries (literals_at log.now id)) }

@@ -10,7 +10,7 @@ ghost use Rattle.nz_sat.specs.Conflicts.{AreUnmarked, Grows, IsDeadUnder, Refute
 ghost use Rattle.nz_sat.specs.Numbers.{noted_atoms, number_of, numbered};
 ghost use Rattle.nz_sat.specs.Sats.{AreAtoms, AreConsistent, AreHeld};
 ghost use Rattle.nz_sat.specs.Searching.{Advances, AreOpen, AreWaiting, Decides, IsNoted, IsSearch, IsSettled, KeepsFirst, WereOpen, ids};
-ghost use Rattle.nz_sat.specs.Trails.{EachBehind, IsTrueOn, assigned, below, depth};
+ghost use Rattle.nz_sat.specs.Trails.{EachBehind, IsFrontOf, IsTrueOn, assigned, below, depth};
 
 use crate::analyze::{Lesson, learn_from, refutation};
 use crate::atoms::Atoms;
@@ -161,6 +161,7 @@ impl Search {
         ensures rest { self.new ≡ record self.old { trail = self.new.trail; order = self.new.order } }
         ensures size { self.new.trail.size ≡ self.old.trail.size }
         ensures below { self.new.trail.entries ≡ below level self.old.trail.entries }
+        ensures front { IsFrontOf self.new.trail.entries self.old.trail.entries }
     {
         while let Some(literal) = self.trail.pop_above(level) {
             self.order.keep(literal);

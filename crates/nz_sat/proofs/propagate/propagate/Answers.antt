@@ -1,6 +1,7 @@
 -- The clauses beside one literal more were visited.
-use Rattle.std.proofs.Common.{◌≡◌, ℕ, ◌+◌, ◌<◌, ◌≤◌, List, length, Option, None, ap, sym, subst, ◌∙◌, arith, rules}
+use Rattle.std.proofs.Common.{◌≡◌, ℕ, ◌+◌, ◌<◌, ◌≤◌, List, length, get_or, Option, None, ap, sym, subst, ◌∙◌, arith, rules}
 use Rattle.std.specs.Prelude.{All, Contains}
+use Rattle.std.proofs.lemmas.List.Elements.{Contains-get_or}
 use Rattle.std.proofs.lemmas.Option.{IfSome_then}
 use Rattle.nz_log.specs.Lits.{negated_lit}
 use Rattle.nz_log.specs.Logs.{literals_at}
@@ -25,6 +26,12 @@ returns-then-is_some-clause-dead c =
     IfSome_then c.visit_all-dead.result c.visit_all-dead.ensures.dead
     (λ id p. ((c.not.result, subst (λ (xs : List ℕ). Contains xs id) c.of.ensures.ids p.0), p.1))
 
+pub returns-then-is_some-clause-reasons : goal.returns-then-is_some-clause-reasons
+returns-then-is_some-clause-reasons c us all h =
+    c.visit_all-dead.ensures.reasons us
+    (λ k d inside. all c.not.result (get_or c.of.result.now k d) (subst (λ (xs : List ℕ). Contains xs (get_or c.of.result.now k d)) c.of.ensures.ids (Contains-get_or c.of.result.now k d inside)))
+    (c.loop-head.invariant.reasons us all h)
+
 pub loop-head-preserved : goal.loop-head-preserved
 loop-head-preserved c =
     let s = c.args.log.now in
@@ -43,6 +50,9 @@ loop-head-preserved c =
       size = c.visit_all-dead.ensures.size ∙ before.size;
       goes_on = goes_far old es new before.goes_on goes;
       implied = λ h. c.visit_all-dead.ensures.implied (before.implied h);
+      reasons = λ us all h.
+          c.visit_all-dead.ensures.reasons us (λ k d inside. all l (get_or c.of.result.now k d) (subst (λ (xs : List ℕ). Contains xs (get_or c.of.result.now k d)) same (Contains-get_or c.of.result.now k d inside)))
+          (before.reasons us all h);
       inside = omega (arith, longer);
       waits = λ i listed w.
           looked_at s c.args.index.now es new c.loop-head.head c.entry.result c.entry.ensures.entry goes all i listed (before.waits i listed w);

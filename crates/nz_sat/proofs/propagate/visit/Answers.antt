@@ -1,9 +1,11 @@
 -- A clause by how it stands.
 use Rattle.std.proofs.Common.{◌≡◌, List, sym, subst}
+use Rattle.std.specs.Prelude.{All}
+use Rattle.std.proofs.lemmas.List.Elements.{All-push}
 use Rattle.nz_log.specs.declared.lits.Lit.{Lit}
 use Rattle.nz_log.specs.Logs.{literals_at}
-use Rattle.nz_sat.specs.Clauses.{IsImplied, IsOpen, IsUnit}
-use Rattle.nz_sat.specs.Trails.{EachBehind, TrailState}
+use Rattle.nz_sat.specs.Clauses.{HasReasonOf, IsImplied, IsOpen, IsUnit}
+use Rattle.nz_sat.specs.Trails.{EachBehind, TrailState, implied}
 use Rattle.nz_sat.proofs.Clausal.{free_missing}
 use Rattle.nz_sat.proofs.Visiting.{unit_implied, unit_open}
 use Rattle.nz_sat.proofs.propagate.visit.Goals as goal
@@ -39,3 +41,8 @@ returns-in-Unit-clause-all_open c e =
     let unit : IsUnit es (literals_at s c.args.id) l = subst (λ (xs : List Lit). IsUnit es xs l) c.clause.ensures.literals c.in-Unit.ensures.stands in
     subst (λ (t : TrailState). IsOpen t.entries (literals_at s c.args.id)) (sym c.imply.ensures.put)
     (unit_open s es c.args.trail.now.size c.args.id c.requires.usable l unit)
+
+pub returns-in-Unit-clause-reasons : goal.returns-in-Unit-clause-reasons
+returns-in-Unit-clause-reasons c us has before =
+    subst (λ (t : TrailState). All (HasReasonOf us) t.entries) (sym c.imply.ensures.put)
+    (All-push (HasReasonOf us) c.args.trail.now.entries (implied c.args.trail.now.entries c.in-Unit.literal c.args.id) before has)

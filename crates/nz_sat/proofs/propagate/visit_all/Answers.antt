@@ -15,6 +15,7 @@ loop-id-preserved c =
       size = c.visit.ensures.size ∙ before.size;
       goes_on = goes_far old es new before.goes_on c.visit.ensures.goes_on;
       implied = λ h. c.visit.ensures.implied (before.implied h);
+      reasons = λ us all h. c.visit.ensures.reasons us (all c.loop-id.id-index 0 inside) (before.reasons us all h);
       waits = visited_more c.args.log.now es new (length old) c.args.ids.now c.loop-id.id-index 0 inside (goes_longer old es before.goes_on)
           c.visit.ensures.goes_on before.waits (c.visit.ensures.all_open left);
     }

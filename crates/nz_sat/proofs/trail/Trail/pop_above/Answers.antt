@@ -19,8 +19,8 @@ returns-then-last-level-clause-below c none =
     let P : TrailState → Type 0 = λ s. (k : ℕ) → (d : Assigned) → k < length s.entries → (get_or s.entries k d).level ≤ c.args.level in
     subst P c.self.view_is
     (λ k d inside.
-        let highest = last_highest (length c.self.inside.by_term.items) es last c.self.invariant.order at k (get_or es k d) (slice_get-get_or es k d inside) in
-        omega (arith, highest, c.if-last-level.true))
+    let highest = last_highest (length c.self.inside.by_term.items) es last c.self.invariant.order at k (get_or es k d) (slice_get-get_or es k d inside) in
+    omega (arith, highest, c.if-last-level.true))
 
 pub invariant_of-self : goal.invariant_of-self
 invariant_of-self c =
