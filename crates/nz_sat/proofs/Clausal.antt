@@ -88,7 +88,7 @@ truth_place es t b at =
 
 -- ---- Clauses
 
-slice_get_behind : (es more : List Assigned) (j : ℕ) (x : Assigned) → slice_get more j ≡ Some x → slice_get (es ++ more) (length es + j) ≡ Some x
+pub slice_get_behind : (es more : List Assigned) (j : ℕ) (x : Assigned) → slice_get more j ≡ Some x → slice_get (es ++ more) (length es + j) ≡ Some x
 slice_get_behind [] more j x at = let same : j ≡ 0 + j = omega arith in ap (slice_get more) (sym same) ∙ at
 slice_get_behind (e ∷ es) more j x at =
     let same : suc (length es) + j ≡ suc (length es + j) = omega arith in

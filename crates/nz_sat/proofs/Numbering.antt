@@ -3,7 +3,8 @@ use Rattle.std.proofs.Common.{◌≡◌, ◌≢◌, ℕ, zero, suc, ◌+◌, ◌
 use Rattle.std.specs.Prelude.{Contains, slice_get, slice_index_or, option_map, unwrap_or}
 use Rattle.std.proofs.lemmas.Bool.{cases_eq, eq-eqb}
 use Rattle.std.proofs.lemmas.Bool.Decides.{eqb_tells}
-use Rattle.std.proofs.lemmas.Option.{same_Some, slice_get-get_or}
+use Rattle.std.proofs.lemmas.List.{take_more}
+use Rattle.std.proofs.lemmas.Option.{get_or_from_slice_get, same_Some, slice_get-get_or, slice_get_within}
 use Rattle.nz_spec.specs.Work.{WorkLine, UnitLine, NoteLine}
 use Rattle.nz_log.specs.declared.lits.Lit.{Lit}
 use Rattle.nz_log.specs.declared.note.Note.{Note}
@@ -91,6 +92,14 @@ pub noted-append : (xs ys : List (WorkLine Note)) → noted_atoms (xs ++ ys) ≡
 noted-append [] ys = refl
 noted-append (UnitLine entry ∷ xs) ys = noted-append xs ys
 noted-append (NoteLine (Atom t) ∷ xs) ys = ap (λ (us : List ℕ). t ∷ us) (noted-append xs ys)
+
+pub noted_more : (lines : List (WorkLine Note)) (i : ℕ) (line : WorkLine Note) → slice_get lines i ≡ Some line
+    → noted_atoms (take (i + 1) lines) ≡ noted_atoms (take i lines) ++ noted_atoms (line ∷ [])
+noted_more lines i line at =
+    let inside : i < length lines = slice_get_within lines i line at in
+    ap noted_atoms
+    (take_more lines i line inside ∙ ap (λ (x : WorkLine Note). take i lines ++ x ∷ []) (get_or_from_slice_get lines i line line at))
+    ∙ noted-append (take i lines) (line ∷ [])
 
 -- an atom is found under its number
 pub unnamed : (us : List ℕ) (t : ℕ) → Contains us t → number_of us t ≡ None → ⊥

@@ -1,19 +1,19 @@
 -- A search under way.
-use Rattle.std.specs.Prelude.{◌≡◌, ℕ, suc, ◌<◌, ◌≤◌, ◌++◌, Bool, All, Contains, List, [], ◌∷◌, length, map, filter, Option, Some, None, unwrap_or}
+use Rattle.std.specs.Prelude.{◌≡◌, ℕ, suc, ◌<◌, ◌≤◌, ◌++◌, Bool, All, Contains, List, [], ◌∷◌, length, map, filter, Option, Some, None, IfSome, unwrap_or}
 use Rattle.nz_spec.specs.Table.{Node, term_in}
 use Rattle.nz_spec.specs.Legal.{after_lines, at_first, Question}
 use Rattle.nz_spec.specs.Work.{DecisionEntry, UnitLine, WorkList, unit_count, with_line}
 use Rattle.nz_log.specs.declared.lits.Lit.{Lit}
 use Rattle.nz_log.specs.declared.note.Note.{Note}
-use Rattle.nz_log.specs.Logs.{LogState, literals_at}
+use Rattle.nz_log.specs.Logs.{LogState, IsLive, literals_at}
 use Rattle.nz_log.specs.Notes.{noted_list}
 use Rattle.nz_sat.specs.declared.clauses.Held.{Held}
 use Rattle.nz_sat.specs.declared.search.Search.{Search}
 use Rattle.nz_sat.specs.declared.trail.Assigned.{Assigned}
 use Rattle.nz_log.specs.Sound.{IsLog}
 use Rattle.nz_sat.specs.Trails.{EachBehind, IsTrueOn, below, decided, depth, is_decision, with_entry}
-use Rattle.nz_sat.specs.Clauses.{HasReasonOf, IsAssumed, IsImplied, IsListed, IsOfSize, IsOpen, Waits, ids_of}
-use Rattle.nz_sat.specs.Conflicts.{AreUnmarked, Grows}
+use Rattle.nz_sat.specs.Clauses.{HasReasonOf, IsAssumed, IsDead, IsImplied, IsListed, IsOfSize, IsOpen, Waits, ids_of}
+use Rattle.nz_sat.specs.Conflicts.{AreUnmarked, Grows, IsDeadUnder}
 use Rattle.nz_sat.specs.Numbers.{number_of, numbered}
 use Rattle.nz_sat.specs.Sats.{AreHeld, HoldsMore, IsAsked, IsLegalWork}
 
@@ -60,6 +60,24 @@ pub record IsSettled (log : LogState) (held : List Held) (assumed : List Lit) (s
   pub all_open : AreOpen log held s.trail.entries
   pub were_open : WereOpen log held s.trail.entries
   pub noted : IsNoted log held s.atoms s.trail.entries work
+
+-- ---- Before the first decision
+
+-- Nothing is decided, and each clause is open where none is told dead.
+pub record Starts (log : LogState) (held : List Held) (assumed : List Lit) (s : Search) (told : Option ℕ) : Type 0 where
+  pub search : IsSearch log held assumed s
+  pub undecided : depth s.trail.entries ≡ 0
+  pub all_open : told ≡ None → AreOpen log held s.trail.entries
+  pub dead : IfSome told (λ id. Contains (ids held) id × IsDead s.trail.entries (literals_at log id))
+
+-- The same where one more assumed literal is true, or a clause is told that is dead but for negations of assumed literals.
+pub record Assumes (log : LogState) (held : List Held) (assumed : List Lit) (literal : Lit) (es : List Assigned) (s : Search) (told : Option ℕ) : Type 0 where
+  pub search : IsSearch log held assumed s
+  pub undecided : depth s.trail.entries ≡ 0
+  pub kept : (l : Lit) → IsTrueOn es l → IsTrueOn s.trail.entries l
+  pub holds : told ≡ None → IsTrueOn s.trail.entries literal
+  pub all_open : told ≡ None → AreOpen log held s.trail.entries
+  pub dead : IfSome told (λ id. IsLive log id × IsDeadUnder assumed s.trail.entries (literals_at log id))
 
 -- ---- Steps
 

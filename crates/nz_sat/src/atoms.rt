@@ -1,5 +1,6 @@
 //! The atoms that a work list names, by their numbers there.
 ghost use Rattle.std.specs.Prelude.{◌≡◌, ◌≢◌, ℕ, ◌<◌, true, [], ◌∷◌, ◌++◌, All, None, slice_index_or, IfOk, OnErr, OnOk};
+ghost use Rattle.nz_spec.specs.Work.{NoteLine};
 ghost use Rattle.nz_sat.specs.Numbers.{noted_atoms, number_of, number_or};
 
 use nz_base::{Memory, Noted, Work};
@@ -21,7 +22,8 @@ impl Model for Atoms {
 
     ghost Value = { List ℕ };
 
-    ghost use Rattle.nz_sat.specs.Numbers.{IsNumbered};
+    ghost use Rattle.nz_spec.specs.Work.{NoteLine};
+ghost use Rattle.nz_sat.specs.Numbers.{IsNumbered};
 
     ghost view = { λ a. a.terms.items };
 
@@ -47,10 +49,19 @@ impl Atoms {
         for i in 0..work.len() {
             match work.get(i) {
                 Noted::Unit(_) => {}
-                Noted::Note(Note::Atom(term)) => atoms.name(*term)?,
+                Noted::Note(note) => atoms.hear(note)?,
             }
         }
         Ok(atoms)
+    }
+
+    /// Takes what a note tells.
+    fn hear(&mut self, note: &Note) -> Result<(), Memory>
+        ensures heard { OnOk result (self.new ≡ self.old ++ noted_atoms (NoteLine note.now ∷ [])) }
+    {
+        match note {
+            Note::Atom(term) => self.name(*term),
+        }
     }
 
     /// Gives a term the next number, if it has none.

@@ -9,7 +9,7 @@ ghost use Rattle.nz_sat.specs.Clauses.{IsDead, IsImplied};
 ghost use Rattle.nz_sat.specs.Conflicts.{AreUnmarked, Grows, IsDeadUnder, Refutes, RefutesFrom, StaysSound};
 ghost use Rattle.nz_sat.specs.Numbers.{noted_atoms, number_of, numbered};
 ghost use Rattle.nz_sat.specs.Sats.{AreAtoms, AreConsistent, AreHeld};
-ghost use Rattle.nz_sat.specs.Searching.{Advances, AreOpen, AreWaiting, Decides, IsNoted, IsSearch, IsSettled, KeepsFirst, WereOpen, ids};
+ghost use Rattle.nz_sat.specs.Searching.{Advances, AreOpen, AreWaiting, Assumes, Starts, Decides, IsNoted, IsSearch, IsSettled, KeepsFirst, WereOpen, ids};
 ghost use Rattle.nz_sat.specs.Trails.{EachBehind, IsFrontOf, IsTrueOn, assigned, below, depth};
 
 use crate::analyze::{Lesson, learn_from, refutation};
@@ -64,10 +64,7 @@ impl Search {
         requires search { IsSearch log.now held.now assumed self.old }
         requires none { self.old.trail.entries ≡ [] }
         ensures rest { self.new ≡ record self.old { trail = self.new.trail } }
-        ensures search { IsSearch log.now held.now assumed self.new }
-        ensures undecided { depth self.new.trail.entries ≡ 0 }
-        ensures all_open { result ≡ None → AreOpen log.now held.now self.new.trail.entries }
-        ensures dead { IfSome result (λ id. Contains (ids held.now) id × IsDead self.new.trail.entries (literals_at log.now id)) }
+        ensures comes { Starts log.now held.now assumed self.new result }
     {
         for clause in held {
             let dead = visit_all(log, &mut self.trail, &[clause.id]);
@@ -89,12 +86,7 @@ impl Search {
         requires named { Contains self.old.atoms literal.term }
         requires consistent { AreConsistent given.1 }
         ensures rest { self.new ≡ record self.old { trail = self.new.trail } }
-        ensures search { IsSearch log.now given.0 given.1 self.new }
-        ensures undecided { depth self.new.trail.entries ≡ 0 }
-        ensures kept { (l : Lit) → IsTrueOn self.old.trail.entries l → IsTrueOn self.new.trail.entries l }
-        ensures holds { result ≡ None → IsTrueOn self.new.trail.entries literal }
-        ensures all_open { result ≡ None → AreOpen log.now given.0 self.new.trail.entries }
-        ensures dead { IfSome result (λ id. IsLive log.now id × IsDeadUnder given.1 self.new.trail.entries (literals_at log.now id)) }
+        ensures comes { Assumes log.now given.0 given.1 literal self.old.trail.entries self.new result }
     {
         match self.trail.assigned(literal.term) {
             Some(entry) if entry.literal.is(literal) => None,

@@ -22,3 +22,8 @@ loop-id-preserved c =
 
 pub returns-clause-waits : goal.returns-clause-waits
 returns-clause-waits c none k d inside = c.loop-id.invariant.waits k d (omega arith)
+
+pub returns-then-not-visit-clause-reasons : goal.returns-then-not-visit-clause-reasons
+returns-then-not-visit-clause-reasons c us all h =
+    let inside : c.loop-id.id-index < length c.args.ids.now = omega arith in
+    c.visit.ensures.reasons us (all c.loop-id.id-index 0 inside) (c.loop-id.invariant.reasons us all h)
