@@ -51,9 +51,9 @@ number_found (u ∷ us) t zero at =
 number_found (u ∷ us) t (suc k) at =
     let rest = number_found us t k at in
     step (u == t) rest where
-  step : (b : Bool) → ((n : ℕ) × (number_of us t ≡ Some n)) → (n : ℕ) × ((if b then Some 0 else option_map suc (number_of us t)) ≡ Some n)
-  step true r = (0, refl)
-  step false r = (suc r.0, ap (option_map suc) r.1)
+      step : (b : Bool) → ((n : ℕ) × (number_of us t ≡ Some n)) → (n : ℕ) × ((if b then Some 0 else option_map suc (number_of us t)) ≡ Some n)
+      step true r = (0, refl)
+      step false r = (suc r.0, ap (option_map suc) r.1)
 
 -- only what is in a list is there
 read_within : (xs : List (Option ℕ)) (t n : ℕ) → slice_index_or xs t None ≡ Some n → t < length xs
@@ -82,9 +82,9 @@ numbered_push us u old new table here others t =
           let differs : (u == t) ≡ false = ne_eqb u t (λ same. other (sym same)) in
           others t other ∙ table t ∙ sym (number_of-push us u t ∙ ap (λ (b : Bool). number_or (number_of us t) b (length us)) differs ∙ no_more (number_of us t))
     ] where
-  no_more : (o : Option ℕ) → number_or o false (length us) ≡ o
-  no_more None = refl
-  no_more (Some n) = refl
+      no_more : (o : Option ℕ) → number_or o false (length us) ≡ o
+      no_more None = refl
+      no_more (Some n) = refl
 
 -- ---- Lines
 

@@ -9,6 +9,7 @@ use Rattle.nz_lists.proofs.Places.{slice_get_kept}
 use Rattle.nz_log.specs.declared.lits.Lit.{Lit}
 use Rattle.nz_log.specs.Lits.{negated_lit}
 use Rattle.nz_log.specs.Logs.{LogState, literals_at}
+use Rattle.nz_sat.specs.declared.clauses.Held.{Held}
 use Rattle.nz_sat.specs.declared.clauses.Index.{Index}
 use Rattle.nz_sat.specs.declared.trail.Assigned.{Assigned}
 use Rattle.nz_sat.specs.Trails.{EachBehind, GoesOn, IsTrueOn, assigned, implied, truth_on}
@@ -78,6 +79,15 @@ visited_more s es es' start ids i e inside before g behind here k d below =
     below_more (λ (n : ℕ). (f : ℕ) → Waits es' start (literals_at s (get_or ids n f))) i
     (λ n less f. waits_on es es' start (literals_at s (get_or ids n f)) g before (behind n f less))
     (λ f. subst (λ (j : ℕ). Waits es' start (literals_at s j)) (get_or_default ids i e f inside) (inl here))
+    k below d
+
+pub visited_held : (s : LogState) (es es' : List Assigned) (start : ℕ) (held : List Held) (i : ℕ) (e : Held) → i < length held → start ≤ length es → GoesOn es es'
+    → ((k : ℕ) (d : Held) → k < i → Waits es start (literals_at s (get_or held k d).id)) → IsOpen es' (literals_at s (get_or held i e).id)
+    → (k : ℕ) (d : Held) → k < i + 1 → Waits es' start (literals_at s (get_or held k d).id)
+visited_held s es es' start held i e inside before g behind here k d below =
+    below_more (λ (n : ℕ). (f : Held) → Waits es' start (literals_at s (get_or held n f).id)) i
+    (λ n less f. waits_on es es' start (literals_at s (get_or held n f).id) g before (behind n f less))
+    (λ f. subst (λ (h : Held). Waits es' start (literals_at s h.id)) (get_or_default held i e f inside) (inl here))
     k below d
 
 -- the clauses beside the negation of a literal were visited

@@ -1,5 +1,5 @@
 -- A search under way.
-use Rattle.std.specs.Prelude.{◌≡◌, ℕ, suc, ◌<◌, ◌≤◌, ◌++◌, Bool, All, Contains, List, [], ◌∷◌, length, map, filter, Option, Some, None, IfSome, unwrap_or}
+use Rattle.std.specs.Prelude.{◌≡◌, ℕ, suc, ◌<◌, ◌≤◌, ◌++◌, Bool, All, Contains, List, [], ◌∷◌, length, map, filter, Option, Some, None, IfSome, IsSome, unwrap_or}
 use Rattle.nz_spec.specs.Table.{Node, term_in}
 use Rattle.nz_spec.specs.Legal.{after_lines, at_first, Question}
 use Rattle.nz_spec.specs.Work.{DecisionEntry, UnitLine, WorkList, unit_count, with_line}
@@ -15,14 +15,14 @@ use Rattle.nz_sat.specs.Trails.{EachBehind, IsTrueOn, below, decided, depth, is_
 use Rattle.nz_sat.specs.Clauses.{HasReasonOf, IsAssumed, IsDead, IsImplied, IsListed, IsOfSize, IsOpen, Waits, ids_of}
 use Rattle.nz_sat.specs.Conflicts.{AreUnmarked, Grows, IsDeadUnder}
 use Rattle.nz_sat.specs.Numbers.{number_of, numbered}
-use Rattle.nz_sat.specs.Sats.{AreHeld, HoldsMore, IsAsked, IsLegalWork}
+use Rattle.nz_sat.specs.Sats.{AreConsistent, AreHeld, HoldsMore, IsAsked, IsLegalWork}
 
 abbrev pub ids : List Held → List ℕ
 ids held = map (λ (h : Held). h.id) held
 
 -- Each clause that is held is in the index, and no other; the terms of clauses and trail are atoms, and have their places in each table; each
--- entry of the trail that has a reason follows by it, and each other one is decided or assumed.
-pub record IsSearch (log : LogState) (held : List Held) (assumed : List Lit) (s : Search) : Type 0 where
+-- entry of the trail that has a reason follows by it.
+pub record IsSearch (log : LogState) (held : List Held) (s : Search) : Type 0 where
   pub are_held : AreHeld log held
   pub listed : All (IsListed log s.index) (ids held)
   pub only : (l : Lit) (i : ℕ) → Contains (ids_of s.index l) i → Contains (ids held) i
@@ -34,7 +34,6 @@ pub record IsSearch (log : LogState) (held : List Held) (assumed : List Lit) (s 
   pub unmarked : AreUnmarked s.seen.items
   pub implied : EachBehind (IsImplied log) s.trail.entries
   pub reasons : All (HasReasonOf (ids held)) s.trail.entries
-  pub assumed_only : All (IsAssumed assumed) s.trail.entries
 
 -- each clause is open
 abbrev pub AreOpen : LogState → List Held → List Assigned → Type 0
@@ -55,8 +54,8 @@ pub record IsNoted (log : LogState) (held : List Held) (atoms : List ℕ) (es : 
   pub learned : (ns : List Node) → All (λ (c : List (ℕ × Bool)). (i : ℕ) × Contains (ids held) i × (map (numbered atoms) (literals_at log i) ≡ c)) (after_lines at_first (noted_list ns work).lines).learned
 
 -- A search in which each clause is open, and was when a decision was taken, with its work noted.
-pub record IsSettled (log : LogState) (held : List Held) (assumed : List Lit) (s : Search) (work : WorkList Note) : Type 0 where
-  pub search : IsSearch log held assumed s
+pub record IsSettled (log : LogState) (held : List Held) (s : Search) (work : WorkList Note) : Type 0 where
+  pub search : IsSearch log held s
   pub all_open : AreOpen log held s.trail.entries
   pub were_open : WereOpen log held s.trail.entries
   pub noted : IsNoted log held s.atoms s.trail.entries work
@@ -64,15 +63,26 @@ pub record IsSettled (log : LogState) (held : List Held) (assumed : List Lit) (s
 -- ---- Before the first decision
 
 -- Nothing is decided, and each clause is open where none is told dead.
-pub record Starts (log : LogState) (held : List Held) (assumed : List Lit) (s : Search) (told : Option ℕ) : Type 0 where
-  pub search : IsSearch log held assumed s
+pub record Starts (log : LogState) (held : List Held) (s : Search) (told : Option ℕ) : Type 0 where
+  pub search : IsSearch log held s
+  pub by_reasons : All (λ (e : Assigned). IsSome e.reason) s.trail.entries
   pub undecided : depth s.trail.entries ≡ 0
   pub all_open : told ≡ None → AreOpen log held s.trail.entries
   pub dead : IfSome told (λ id. Contains (ids held) id × IsDead s.trail.entries (literals_at log id))
 
+-- An assumed literal of an atom may be put on the trail of a search whose clauses are open, before the first decision.
+pub record MayAssume (log : LogState) (held : List Held) (assumed : List Lit) (literal : Lit) (s : Search) : Type 0 where
+  pub search : IsSearch log held s
+  pub all_open : AreOpen log held s.trail.entries
+  pub assumed_only : All (IsAssumed assumed) s.trail.entries
+  pub among : Contains assumed literal
+  pub atom : Contains s.atoms literal.term
+  pub consistent : AreConsistent assumed
+
 -- The same where one more assumed literal is true, or a clause is told that is dead but for negations of assumed literals.
 pub record Assumes (log : LogState) (held : List Held) (assumed : List Lit) (literal : Lit) (es : List Assigned) (s : Search) (told : Option ℕ) : Type 0 where
-  pub search : IsSearch log held assumed s
+  pub search : IsSearch log held s
+  pub assumed_only : All (IsAssumed assumed) s.trail.entries
   pub undecided : depth s.trail.entries ≡ 0
   pub kept : (l : Lit) → IsTrueOn es l → IsTrueOn s.trail.entries l
   pub holds : told ≡ None → IsTrueOn s.trail.entries literal
@@ -86,15 +96,16 @@ abbrev pub StaysInOrder : List ℕ → LogState → LogState → Type 0
 StaysInOrder atoms old new = (ns : List Node) (levels : List (List ℕ)) → All (λ (t : ℕ). t < length ns) atoms → IsLog ns levels old → IsLog ns levels new
 
 -- where the old lines are legal, so are the new ones
-abbrev pub StaysLegal : LogState → List Lit → (old new : WorkList Note) → Type 0
-StaysLegal log assumed old new = (ns : List Node) (levels : List (List ℕ)) (q : Question) → IsAsked ns levels log assumed q → IsLegalWork ns q old → IsLegalWork ns q new
+abbrev pub StaysLegal : LogState → List Assigned → (old new : WorkList Note) → Type 0
+StaysLegal log es old new = (ns : List Node) (levels : List (List ℕ)) (assumed : List Lit) (q : Question) → All (IsAssumed assumed) es
+    → IsAsked ns levels log assumed q → IsLegalWork ns q old → IsLegalWork ns q new
 
 -- What each step of a search keeps, also one that ends with no answer.
-pub record Advances (atoms : List ℕ) (assumed : List Lit) (log log' : LogState) (held held' : List Held) (work work' : WorkList Note) : Type 0 where
+pub record Advances (atoms : List ℕ) (es : List Assigned) (log log' : LogState) (held held' : List Held) (work work' : WorkList Note) : Type 0 where
   pub grows : Grows log log'
   pub sound : StaysInOrder atoms log log'
   pub holds_more : HoldsMore log' held held'
-  pub legal : StaysLegal log assumed work work'
+  pub legal : StaysLegal log es work work'
   pub limit : work'.limit ≡ work.limit
 
 -- what is true under no decision stays so

@@ -23,7 +23,7 @@ impl Model for Atoms {
     ghost Value = { List ℕ };
 
     ghost use Rattle.nz_spec.specs.Work.{NoteLine};
-ghost use Rattle.nz_sat.specs.Numbers.{IsNumbered};
+    ghost use Rattle.nz_sat.specs.Numbers.{IsNumbered};
 
     ghost view = { λ a. a.terms.items };
 

@@ -1,11 +1,11 @@
 //! Propagation: what a clause makes true whose other literals are false.
-ghost use Rattle.std.specs.Prelude.{◌≡◌, ℕ, ◌≤◌, true, false, All, Contains, List, length, IfSome};
+ghost use Rattle.std.specs.Prelude.{◌≡◌, ℕ, ◌≤◌, true, false, All, Contains, List, length, map, IfSome};
 ghost use Rattle.nz_log.specs.declared.lits.Lit.{Lit};
 ghost use Rattle.nz_log.specs.Logs.{literals_at};
 ghost use Rattle.nz_sat.specs.Clauses.{AreUsable, HasReasonOf, IsDead, IsImplied, IsListed, IsOpen, IsUsable, StandsSo, Waits, ids_of};
 ghost use Rattle.nz_sat.specs.Trails.{EachBehind, GoesOn};
 
-use crate::clauses::Index;
+use crate::clauses::{Held, Index};
 use crate::trail::Trail;
 use nz_log::{ClauseId, Lit, Log};
 
@@ -78,6 +78,24 @@ pub fn visit_all(log: &Log, trail: &mut Trail, ids: &[ClauseId]) -> Option<Claus
     for id in ids {
         if !visit(log, trail, *id) {
             return Some(*id);
+        }
+    }
+    None
+}
+
+/// Looks at these clauses of a search, up to the first one in which each literal is false.
+pub fn visit_held(log: &Log, trail: &mut Trail, held: &[Held]) -> Option<ClauseId>
+    requires usable { All (λ h. IsUsable log.now trail.old.size h.id) held.now }
+    ensures size { trail.new.size ≡ trail.old.size }
+    ensures goes_on { GoesOn trail.old.entries trail.new.entries }
+    ensures implied { EachBehind (IsImplied log.now) trail.old.entries → EachBehind (IsImplied log.now) trail.new.entries }
+    ensures reasons { (us : List ℕ) → All (λ h. Contains us h.id) held.now → All (HasReasonOf us) trail.old.entries → All (HasReasonOf us) trail.new.entries }
+    ensures waits { result ≡ None → All (λ h. Waits trail.new.entries (length trail.old.entries) (literals_at log.now h.id)) held.now }
+    ensures dead { IfSome result (λ id. Contains (map (λ h. h.id) held.now) id × IsDead trail.new.entries (literals_at log.now id)) }
+{
+    for clause in held {
+        if !visit(log, trail, clause.id) {
+            return Some(clause.id);
         }
     }
     None

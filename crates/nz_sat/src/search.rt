@@ -5,18 +5,18 @@ ghost use Rattle.nz_log.specs.declared.lits.Lit.{Lit};
 ghost use Rattle.nz_log.specs.declared.stop.Stop.TheVariants as stop;
 ghost use Rattle.nz_log.specs.Logs.{IsLive, literals_at};
 ghost use Rattle.nz_sat.specs.declared.clauses.Held.{Held};
-ghost use Rattle.nz_sat.specs.Clauses.{IsDead, IsImplied};
+ghost use Rattle.nz_sat.specs.Clauses.{AreUsable, IsAssumed, IsDead, IsImplied};
 ghost use Rattle.nz_sat.specs.Conflicts.{AreUnmarked, Grows, IsDeadUnder, Refutes, RefutesFrom, StaysSound};
 ghost use Rattle.nz_sat.specs.Numbers.{noted_atoms, number_of, numbered};
 ghost use Rattle.nz_sat.specs.Sats.{AreAtoms, AreConsistent, AreHeld};
-ghost use Rattle.nz_sat.specs.Searching.{Advances, AreOpen, AreWaiting, Assumes, Starts, Decides, IsNoted, IsSearch, IsSettled, KeepsFirst, WereOpen, ids};
+ghost use Rattle.nz_sat.specs.Searching.{Advances, AreOpen, AreWaiting, Assumes, MayAssume, Starts, Decides, IsNoted, IsSearch, IsSettled, KeepsFirst, WereOpen, ids};
 ghost use Rattle.nz_sat.specs.Trails.{EachBehind, IsFrontOf, IsTrueOn, assigned, below, depth};
 
 use crate::analyze::{Lesson, learn_from, refutation};
 use crate::atoms::Atoms;
 use crate::clauses::{Held, Index};
 use crate::order::Order;
-use crate::propagate::{propagate, visit_all};
+use crate::propagate::{propagate, visit_held};
 use crate::trail::Trail;
 use nz_base::{Entry, Literals, Memory, Work};
 use nz_log::{ClauseId, Lit, Log, Note, Stop};
@@ -39,7 +39,7 @@ impl Search {
     pub fn new(alloc: Global, log: &Log, held: &[Held], work: &Work<Note>) -> Result<Search, Memory>
         requires held { AreHeld log.now held.now }
         requires named { All (λ h. All (λ l. Contains (noted_atoms work.now.lines) l.term) (literals_at log.now h.id)) held.now }
-        ensures search { (assumed : List Lit) → IfOk result (λ s. IsSearch log.now held.now assumed s) }
+        ensures search { IfOk result (λ s. IsSearch log.now held.now s) }
         ensures atoms { IfOk result (λ s. s.atoms ≡ noted_atoms work.now.lines) }
         ensures none { IfOk result (λ s. s.trail.entries ≡ []) }
     {
@@ -60,17 +60,14 @@ impl Search {
 
     /// Puts what the clauses alone make true on the trail. Answers a dead clause.
     fn start(&mut self, log: &Log, held: &[Held]) -> Option<ClauseId>
-        ghost assumed: { List Lit }
-        requires search { IsSearch log.now held.now assumed self.old }
+        requires search { IsSearch log.now held.now self.old }
         requires none { self.old.trail.entries ≡ [] }
         ensures rest { self.new ≡ record self.old { trail = self.new.trail } }
-        ensures comes { Starts log.now held.now assumed self.new result }
+        ensures comes { Starts log.now held.now self.new result }
     {
-        for clause in held {
-            let dead = visit_all(log, &mut self.trail, &[clause.id]);
-            if dead.is_some() {
-                return dead;
-            }
+        let dead = visit_held(log, &mut self.trail, held);
+        if dead.is_some() {
+            return dead;
         }
         propagate(log, &self.index, &mut self.trail, 0)
     }
@@ -78,15 +75,11 @@ impl Search {
     /// Puts an assumed literal on the trail, and what the clauses make true with it. Answers a clause in which each literal is false
     /// or the negation of the assumed one.
     fn assume(&mut self, log: &Log, literal: Lit) -> Option<ClauseId>
-        ghost given: { List Held × List Lit }
-        requires search { IsSearch log.now given.0 given.1 self.old }
-        requires all_open { AreOpen log.now given.0 self.old.trail.entries }
+        requires usable { AreUsable log.now self.old.trail.size self.old.index }
+        requires within { literal.term < self.old.trail.size }
         requires undecided { depth self.old.trail.entries ≡ 0 }
-        requires assumed { Contains given.1 literal }
-        requires named { Contains self.old.atoms literal.term }
-        requires consistent { AreConsistent given.1 }
         ensures rest { self.new ≡ record self.old { trail = self.new.trail } }
-        ensures comes { Assumes log.now given.0 given.1 literal self.old.trail.entries self.new result }
+        ensures comes { (held : List Held) (assumed : List Lit) → MayAssume log.now held assumed literal self.old → Assumes log.now held assumed literal self.old.trail.entries self.new result }
     {
         match self.trail.assigned(literal.term) {
             Some(entry) if entry.literal.is(literal) => None,
@@ -102,13 +95,14 @@ impl Search {
     /// Puts what the clauses alone make true on the trail, and then each assumed literal with what the clauses make true. Answers a
     /// clause in which each literal is false or the negation of an assumed one.
     fn assume_all(&mut self, log: &Log, held: &[Held], assumed: &[Lit]) -> Option<ClauseId>
-        requires search { IsSearch log.now held.now assumed.now self.old }
+        requires search { IsSearch log.now held.now self.old }
         requires none { self.old.trail.entries ≡ [] }
         requires named { All (λ l. Contains self.old.atoms l.term) assumed.now }
         requires consistent { AreConsistent assumed.now }
         ensures rest { self.new ≡ record self.old { trail = self.new.trail } }
-        ensures search { IsSearch log.now held.now assumed.now self.new }
+        ensures search { IsSearch log.now held.now self.new }
         ensures undecided { depth self.new.trail.entries ≡ 0 }
+        ensures assumed { All (IsAssumed assumed.now) self.new.trail.entries }
         ensures hold { result ≡ None → All (IsTrueOn self.new.trail.entries) assumed.now }
         ensures all_open { result ≡ None → AreOpen log.now held.now self.new.trail.entries }
         ensures dead { IfSome result (λ id. IsLive log.now id × IsDeadUnder assumed.now self.new.trail.entries (literals_at log.now id)) }
@@ -169,21 +163,21 @@ impl Search {
         work: &mut Work<Note>,
         dead: ClauseId,
     ) -> Result<usize, Stop>
-        ghost assumed: { List Lit }
-        requires search { IsSearch log.old held.old.items assumed self.old }
+        requires search { IsSearch log.old held.old.items self.old }
         requires all_open { WereOpen log.old held.old.items self.old.trail.entries }
         requires held { Contains (ids held.old.items) dead }
         requires dead { IsDead self.old.trail.entries (literals_at log.old dead) }
         requires decided { 0 < depth self.old.trail.entries }
         requires noted { IsNoted log.old held.old.items self.old.atoms self.old.trail.entries work.old }
-        ensures advances { Advances self.old.atoms assumed log.old log.new held.old.items held.new.items work.old work.new }
+        ensures advances { Advances self.old.atoms self.old.trail.entries log.old log.new held.old.items held.new.items work.old work.new }
         ensures atoms { self.new.atoms ≡ self.old.atoms }
-        ensures search { OnOk result (IsSearch log.new held.new.items assumed self.new) }
+        ensures search { OnOk result (IsSearch log.new held.new.items self.new) }
         ensures all_open { OnOk result (WereOpen log.new held.new.items self.new.trail.entries) }
         ensures from { IfOk result (λ from. from ≤ length self.new.trail.entries) }
         ensures waits { IfOk result (λ from. AreWaiting log.new held.new.items self.new.trail.entries from) }
         ensures noted { OnOk result (IsNoted log.new held.new.items self.new.atoms self.new.trail.entries work.new) }
         ensures first { OnOk result (KeepsFirst self.old.trail.entries self.new.trail.entries) }
+        ensures assumed { (assumed : List Lit) → All (IsAssumed assumed) self.old.trail.entries → OnOk result (All (IsAssumed assumed) self.new.trail.entries) }
         ensures units { OnOk result (unit_count work.new.lines ≡ suc (unit_count work.old.lines)) }
         ensures spent { IfErr result (λ e. e ≡ stop.Spent → IsSpent work.new) }
     {
@@ -222,18 +216,18 @@ impl Search {
         work: &mut Work<Note>,
         from: usize,
     ) -> Result<Option<ClauseId>, Stop>
-        ghost assumed: { List Lit }
-        requires search { IsSearch log.old held.old.items assumed self.old }
+        requires search { IsSearch log.old held.old.items self.old }
         requires all_open { WereOpen log.old held.old.items self.old.trail.entries }
         requires from { from ≤ length self.old.trail.entries }
         requires waits { AreWaiting log.old held.old.items self.old.trail.entries from }
         requires noted { IsNoted log.old held.old.items self.old.atoms self.old.trail.entries work.old }
-        ensures advances { Advances self.old.atoms assumed log.old log.new held.old.items held.new.items work.old work.new }
+        ensures advances { Advances self.old.atoms self.old.trail.entries log.old log.new held.old.items held.new.items work.old work.new }
         ensures atoms { self.new.atoms ≡ self.old.atoms }
-        ensures settled { IfOk result (λ r. r ≡ None → IsSettled log.new held.new.items assumed self.new work.new) }
+        ensures settled { IfOk result (λ r. r ≡ None → IsSettled log.new held.new.items self.new work.new) }
         ensures first { OnOk result (KeepsFirst self.old.trail.entries self.new.trail.entries) }
+        ensures assumed { (assumed : List Lit) → All (IsAssumed assumed) self.old.trail.entries → OnOk result (All (IsAssumed assumed) self.new.trail.entries) }
         ensures units { unit_count work.old.lines ≤ unit_count work.new.lines }
-        ensures refuted { IfOk result (λ r. IfSome r (λ id. IsLive log.new id × Refutes assumed (literals_at log.new id))) }
+        ensures refuted { IfOk result (λ r. IfSome r (λ id. IsLive log.new id × ((assumed : List Lit) → All (IsAssumed assumed) self.old.trail.entries → Refutes assumed (literals_at log.new id)))) }
         ensures spent { IfErr result (λ e. e ≡ stop.Spent → IsSpent work.new) }
     {
         let mut dead = propagate(log, &self.index, &mut self.trail, from);
@@ -275,12 +269,12 @@ impl Search {
         assumed: &[Lit],
         work: &mut Work<Note>,
     ) -> Result<Option<ClauseId>, Stop>
-        requires search { IsSearch log.old held.old.items assumed.now self.old }
+        requires search { IsSearch log.old held.old.items self.old }
         requires none { self.old.trail.entries ≡ [] }
         requires named { All (λ l. Contains self.old.atoms l.term) assumed.now }
         requires consistent { AreConsistent assumed.now }
         requires noted { IsNoted log.old held.old.items self.old.atoms [] work.old }
-        ensures advances { Advances self.old.atoms assumed.now log.old log.new held.old.items held.new.items work.old work.new }
+        ensures advances { Advances self.old.atoms self.old.trail.entries log.old log.new held.old.items held.new.items work.old work.new }
         ensures all_open { IfOk result (λ r. r ≡ None → AreOpen log.new held.new.items self.new.trail.entries) }
         ensures hold { IfOk result (λ r. r ≡ None → All (IsTrueOn self.new.trail.entries) assumed.now) }
         ensures decided { IfOk result (λ r. r ≡ None → All (λ t. IsSome (assigned self.new.trail.entries t)) self.old.atoms) }
