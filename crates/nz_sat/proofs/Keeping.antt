@@ -133,3 +133,7 @@ pub goes_reasons : (es es' : List Assigned) → es ≡ [] → GoesOn es es' → 
 goes_reasons es es' none g =
     let same : es' ≡ g.more = g.joined ∙ ap (λ (xs : List Assigned). xs ++ g.more) none in
     subst (All (λ (e : Assigned). IsSome e.reason)) (sym same) g.implied
+
+-- where each entry has a reason, none is assumed
+pub reasons_assumed : (es : List Assigned) (assumed : List Lit) → All (λ (e : Assigned). IsSome e.reason) es → All (IsAssumed assumed) es
+reasons_assumed es assumed h k d inside none level = absurd (some_reason (get_or es k d).reason (h k d inside) none)

@@ -1,3 +1,4 @@
+pub mod Assuming
 pub mod Clausal
 pub mod Cutting
 pub mod Indexing

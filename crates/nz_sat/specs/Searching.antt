@@ -89,6 +89,15 @@ pub record Assumes (log : LogState) (held : List Held) (assumed : List Lit) (lit
   pub all_open : told ≡ None → AreOpen log held s.trail.entries
   pub dead : IfSome told (λ id. IsLive log id × IsDeadUnder assumed s.trail.entries (literals_at log id))
 
+-- The same where each assumed literal is true.
+pub record AssumesAll (log : LogState) (held : List Held) (assumed : List Lit) (s : Search) (told : Option ℕ) : Type 0 where
+  pub search : IsSearch log held s
+  pub assumed_only : All (IsAssumed assumed) s.trail.entries
+  pub undecided : depth s.trail.entries ≡ 0
+  pub hold : told ≡ None → All (IsTrueOn s.trail.entries) assumed
+  pub all_open : told ≡ None → AreOpen log held s.trail.entries
+  pub dead : IfSome told (λ id. IsLive log id × IsDeadUnder assumed s.trail.entries (literals_at log id))
+
 -- ---- Steps
 
 -- where the atoms are of a table, the log stays in order

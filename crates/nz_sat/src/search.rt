@@ -9,7 +9,7 @@ ghost use Rattle.nz_sat.specs.Clauses.{AreUsable, IsAssumed, IsDead, IsImplied};
 ghost use Rattle.nz_sat.specs.Conflicts.{AreUnmarked, Grows, IsDeadUnder, Refutes, RefutesFrom, StaysSound};
 ghost use Rattle.nz_sat.specs.Numbers.{noted_atoms, number_of, numbered};
 ghost use Rattle.nz_sat.specs.Sats.{AreAtoms, AreConsistent, AreHeld};
-ghost use Rattle.nz_sat.specs.Searching.{Advances, AreOpen, AreWaiting, Assumes, MayAssume, Starts, Decides, IsNoted, IsSearch, IsSettled, KeepsFirst, WereOpen, ids};
+ghost use Rattle.nz_sat.specs.Searching.{Advances, AreOpen, AreWaiting, Assumes, AssumesAll, MayAssume, Starts, Decides, IsNoted, IsSearch, IsSettled, KeepsFirst, WereOpen, ids};
 ghost use Rattle.nz_sat.specs.Trails.{EachBehind, IsFrontOf, IsTrueOn, assigned, below, depth};
 
 use crate::analyze::{Lesson, learn_from, refutation};
@@ -100,12 +100,7 @@ impl Search {
         requires named { All (λ l. Contains self.old.atoms l.term) assumed.now }
         requires consistent { AreConsistent assumed.now }
         ensures rest { self.new ≡ record self.old { trail = self.new.trail } }
-        ensures search { IsSearch log.now held.now self.new }
-        ensures undecided { depth self.new.trail.entries ≡ 0 }
-        ensures assumed { All (IsAssumed assumed.now) self.new.trail.entries }
-        ensures hold { result ≡ None → All (IsTrueOn self.new.trail.entries) assumed.now }
-        ensures all_open { result ≡ None → AreOpen log.now held.now self.new.trail.entries }
-        ensures dead { IfSome result (λ id. IsLive log.now id × IsDeadUnder assumed.now self.new.trail.entries (literals_at log.now id)) }
+        ensures comes { AssumesAll log.now held.now assumed.now self.new result }
     {
         let dead = self.start(log, held);
         if dead.is_some() {

@@ -1,5 +1,5 @@
 -- Each clause is looked at, and then what they made true.
-use Rattle.std.proofs.Common.{◌≡◌, ◌≢◌, ℕ, ◌≤◌, ◌<◌, List, [], length, get_or, Option, None, ap, sym, subst, ◌∙◌, arith, rules}
+use Rattle.std.proofs.Common.{◌≡◌, ◌≢◌, ℕ, ◌≤◌, ◌<◌, true, List, [], length, get_or, Option, None, ap, sym, subst, ◌∙◌, arith, rules}
 use Rattle.std.specs.Prelude.{All, Contains, IsSome, is_some}
 use Rattle.std.proofs.lemmas.List.Elements.{All-map, All-nil}
 use Rattle.std.proofs.lemmas.Option.{IfSome_then}
@@ -23,7 +23,7 @@ returns-then-is_some-clause-comes c =
     let v = c.visit_held-dead.ensures in
     let t = c.visit_held-dead.new.trail in
     let h = c.requires.search in
-    let some : is_some c.visit_held-dead.result ≡ Rattle.std.proofs.Common.true = search rules in
+    let some : is_some c.visit_held-dead.result ≡ true = search rules in
     record {
       search = goes_search c.args.log.now held s t h v.size v.goes_on (v.implied h.implied) (v.reasons (ids held) (held_has held) h.reasons);
       by_reasons = goes_reasons s.trail.entries t.entries c.requires.none v.goes_on;
