@@ -1,6 +1,6 @@
 -- What a search keeps where its trail goes on.
 use Rattle.std.proofs.Common.{◌≡◌, ◌≢◌, ℕ, zero, suc, ◌+◌, ◌<◌, ◌≤◌, Bool, true, false, if◌then◌else◌, List, [], ◌∷◌, ◌++◌, length, take, drop, map, get_or, Option, Some, None, ◌⊎◌, inl, inr, refl, sym, ap, subst, ◌∙◌, arith, add-zero}
-use Rattle.std.specs.Prelude.{All, Contains, IsSome, is_some, nat_lt, slice_get, count_by, sum_by}
+use Rattle.std.specs.Prelude.{All, Contains, IsSome, is_some, replicate, nat_lt, slice_get, count_by, sum_by}
 use Rattle.std.proofs.lemmas.List.{get_or-map, length-map}
 use Rattle.std.proofs.lemmas.List.Elements.{All-append, All-contains, All-head, All-map, All-tail, Contains-get_or}
 use Rattle.std.proofs.lemmas.List.Sums.{sum_by-append, sum_by-cons}
@@ -13,6 +13,7 @@ use Rattle.nz_sat.specs.declared.search.Search.{Search}
 use Rattle.nz_sat.specs.declared.trail.Assigned.{Assigned}
 use Rattle.nz_sat.specs.Trails.{EachBehind, GoesOn, IsTrueOn, TrailState, depth, is_decision}
 use Rattle.nz_sat.specs.Clauses.{AreUsable, HasReasonOf, IsAssumed, IsImplied, IsOfSize, IsReasonOf, IsReasonOneOf, IsUsable, ids_of}
+use Rattle.nz_sat.specs.Conflicts.{AreUnmarked}
 use Rattle.nz_sat.specs.Sats.{AreHeld}
 use Rattle.nz_sat.specs.Searching.{IsSearch, ids}
 use Rattle.nz_sat.proofs.Clausal.{slice_get_behind, truth_found}
@@ -137,3 +138,9 @@ goes_reasons es es' none g =
 -- where each entry has a reason, none is assumed
 pub reasons_assumed : (es : List Assigned) (assumed : List Lit) → All (λ (e : Assigned). IsSome e.reason) es → All (IsAssumed assumed) es
 reasons_assumed es assumed h k d inside none level = absurd (some_reason (get_or es k d).reason (h k d inside) none)
+
+-- marks that were never set
+pub none_marked : (n : ℕ) → AreUnmarked (replicate n false)
+none_marked zero t = refl
+none_marked (suc n) zero = refl
+none_marked (suc n) (suc t) = none_marked n t

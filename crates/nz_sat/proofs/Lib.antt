@@ -1,3 +1,4 @@
+pub mod Advancing
 pub mod Assuming
 pub mod Clausal
 pub mod Cutting

@@ -73,9 +73,10 @@ pub record AreAtoms (log : LogState) (held : List Held) (assumed : List Lit) (at
 abbrev pub AreConsistent : List Lit → Type 0
 AreConsistent assumed = (l : Lit) → Contains assumed l → Contains assumed (negated_lit l) → ⊥
 
--- The question that a search is asked: over a table and levels of assertions, of which all are asserted.
-pub record IsAsked (ns : List Node) (levels : List (List ℕ)) (log : LogState) (assumed : List Lit) (q : Question) : Type 0 where
+-- The question that a search is asked: over a table that has the atoms, and levels of assertions, of which all are asserted.
+pub record IsAsked (ns : List Node) (levels : List (List ℕ)) (log : LogState) (atoms : List ℕ) (assumed : List Lit) (q : Question) : Type 0 where
   pub table : IsTable ns
+  pub within : All (λ (t : ℕ). t < length ns) atoms
   pub order : IsLog ns levels log
   pub asserted : q.asserted ≡ asserted_terms ns levels
   pub assumed_literals : q.assumed ≡ map (literal_of ns) assumed

@@ -53,13 +53,6 @@ pub record IsNoted (log : LogState) (held : List Held) (atoms : List ℕ) (es : 
   pub decided : (ns : List Node) → (after_lines at_first (noted_list ns work).lines).decided ≡ map (λ (e : Assigned). numbered atoms e.literal) (filter is_decision es)
   pub learned : (ns : List Node) → All (λ (c : List (ℕ × Bool)). (i : ℕ) × Contains (ids held) i × (map (numbered atoms) (literals_at log i) ≡ c)) (after_lines at_first (noted_list ns work).lines).learned
 
--- A search in which each clause is open, and was when a decision was taken, with its work noted.
-pub record IsSettled (log : LogState) (held : List Held) (s : Search) (work : WorkList Note) : Type 0 where
-  pub search : IsSearch log held s
-  pub all_open : AreOpen log held s.trail.entries
-  pub were_open : WereOpen log held s.trail.entries
-  pub noted : IsNoted log held s.atoms s.trail.entries work
-
 -- ---- Before the first decision
 
 -- Nothing is decided, and each clause is open where none is told dead.
@@ -105,21 +98,47 @@ abbrev pub StaysInOrder : List ℕ → LogState → LogState → Type 0
 StaysInOrder atoms old new = (ns : List Node) (levels : List (List ℕ)) → All (λ (t : ℕ). t < length ns) atoms → IsLog ns levels old → IsLog ns levels new
 
 -- where the old lines are legal, so are the new ones
-abbrev pub StaysLegal : LogState → List Assigned → (old new : WorkList Note) → Type 0
-StaysLegal log es old new = (ns : List Node) (levels : List (List ℕ)) (assumed : List Lit) (q : Question) → All (IsAssumed assumed) es
-    → IsAsked ns levels log assumed q → IsLegalWork ns q old → IsLegalWork ns q new
+abbrev pub StaysLegal : List ℕ → LogState → List Assigned → (old new : WorkList Note) → Type 0
+StaysLegal atoms log es old new = (ns : List Node) (levels : List (List ℕ)) (assumed : List Lit) (q : Question) → All (IsAssumed assumed) es
+    → IsAsked ns levels log atoms assumed q → IsLegalWork ns q old → IsLegalWork ns q new
 
 -- What each step of a search keeps, also one that ends with no answer.
 pub record Advances (atoms : List ℕ) (es : List Assigned) (log log' : LogState) (held held' : List Held) (work work' : WorkList Note) : Type 0 where
   pub grows : Grows log log'
   pub sound : StaysInOrder atoms log log'
   pub holds_more : HoldsMore log' held held'
-  pub legal : StaysLegal log es work work'
+  pub legal : StaysLegal atoms log es work work'
   pub limit : work'.limit ≡ work.limit
 
 -- what is true under no decision stays so
 abbrev pub KeepsFirst : (es es' : List Assigned) → Type 0
 KeepsFirst es es' = (l : Lit) → IsTrueOn (below 0 es) l → IsTrueOn (below 0 es') l
+
+-- What a search that goes on keeps of its trail: what is true under no decision, and that no other entry is assumed. Its atoms stay, and no unit
+-- is given back.
+pub record Carries (s s' : Search) (work work' : WorkList Note) : Type 0 where
+  pub atoms : s'.atoms ≡ s.atoms
+  pub first : KeepsFirst s.trail.entries s'.trail.entries
+  pub assumed_only : (assumed : List Lit) → All (IsAssumed assumed) s.trail.entries → All (IsAssumed assumed) s'.trail.entries
+  pub units : unit_count work.lines ≤ unit_count work'.lines
+
+-- A clause was learned and noted, and what it makes true stands at a place of the trail.
+pub record Learned (log : LogState) (held : List Held) (s s' : Search) (work work' : WorkList Note) (place : ℕ) : Type 0 where
+  pub search : IsSearch log held s'
+  pub were_open : WereOpen log held s'.trail.entries
+  pub inside : place ≤ length s'.trail.entries
+  pub waits : AreWaiting log held s'.trail.entries place
+  pub noted : IsNoted log held s'.atoms s'.trail.entries work'
+  pub carries : Carries s s' work work'
+  pub unit : unit_count work'.lines ≡ suc (unit_count work.lines)
+
+-- Each clause is open, and was when a decision was taken, with the work noted.
+pub record Settles (log : LogState) (held : List Held) (s s' : Search) (work work' : WorkList Note) : Type 0 where
+  pub search : IsSearch log held s'
+  pub all_open : AreOpen log held s'.trail.entries
+  pub were_open : WereOpen log held s'.trail.entries
+  pub noted : IsNoted log held s'.atoms s'.trail.entries work'
+  pub carries : Carries s s' work work'
 
 -- An atom is decided, and noted.
 pub record Decides (s s' : Search) (term : ℕ) (work work' : WorkList Note) : Type 0 where

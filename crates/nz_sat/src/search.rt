@@ -9,7 +9,7 @@ ghost use Rattle.nz_sat.specs.Clauses.{AreUsable, IsAssumed, IsDead, IsImplied};
 ghost use Rattle.nz_sat.specs.Conflicts.{AreUnmarked, Grows, IsDeadUnder, Refutes, RefutesFrom, StaysSound};
 ghost use Rattle.nz_sat.specs.Numbers.{noted_atoms, number_of, numbered};
 ghost use Rattle.nz_sat.specs.Sats.{AreAtoms, AreConsistent, AreHeld};
-ghost use Rattle.nz_sat.specs.Searching.{Advances, AreOpen, AreWaiting, Assumes, AssumesAll, MayAssume, Starts, Decides, IsNoted, IsSearch, IsSettled, KeepsFirst, WereOpen, ids};
+ghost use Rattle.nz_sat.specs.Searching.{Advances, AreOpen, AreWaiting, Assumes, AssumesAll, MayAssume, Starts, Decides, IsNoted, IsSearch, Learned, Settles, WereOpen, ids};
 ghost use Rattle.nz_sat.specs.Trails.{EachBehind, IsFrontOf, IsTrueOn, assigned, below, depth};
 
 use crate::analyze::{Lesson, learn_from, refutation};
@@ -165,15 +165,7 @@ impl Search {
         requires decided { 0 < depth self.old.trail.entries }
         requires noted { IsNoted log.old held.old.items self.old.atoms self.old.trail.entries work.old }
         ensures advances { Advances self.old.atoms self.old.trail.entries log.old log.new held.old.items held.new.items work.old work.new }
-        ensures atoms { self.new.atoms ≡ self.old.atoms }
-        ensures search { OnOk result (IsSearch log.new held.new.items self.new) }
-        ensures all_open { OnOk result (WereOpen log.new held.new.items self.new.trail.entries) }
-        ensures from { IfOk result (λ from. from ≤ length self.new.trail.entries) }
-        ensures waits { IfOk result (λ from. AreWaiting log.new held.new.items self.new.trail.entries from) }
-        ensures noted { OnOk result (IsNoted log.new held.new.items self.new.atoms self.new.trail.entries work.new) }
-        ensures first { OnOk result (KeepsFirst self.old.trail.entries self.new.trail.entries) }
-        ensures assumed { (assumed : List Lit) → All (IsAssumed assumed) self.old.trail.entries → OnOk result (All (IsAssumed assumed) self.new.trail.entries) }
-        ensures units { OnOk result (unit_count work.new.lines ≡ suc (unit_count work.old.lines)) }
+        ensures learned { IfOk result (λ from. Learned log.new held.new.items self.old self.new work.old work.new from) }
         ensures spent { IfErr result (λ e. e ≡ stop.Spent → IsSpent work.new) }
     {
         let alloc = *held.allocator();
@@ -217,11 +209,7 @@ impl Search {
         requires waits { AreWaiting log.old held.old.items self.old.trail.entries from }
         requires noted { IsNoted log.old held.old.items self.old.atoms self.old.trail.entries work.old }
         ensures advances { Advances self.old.atoms self.old.trail.entries log.old log.new held.old.items held.new.items work.old work.new }
-        ensures atoms { self.new.atoms ≡ self.old.atoms }
-        ensures settled { IfOk result (λ r. r ≡ None → IsSettled log.new held.new.items self.new work.new) }
-        ensures first { OnOk result (KeepsFirst self.old.trail.entries self.new.trail.entries) }
-        ensures assumed { (assumed : List Lit) → All (IsAssumed assumed) self.old.trail.entries → OnOk result (All (IsAssumed assumed) self.new.trail.entries) }
-        ensures units { unit_count work.old.lines ≤ unit_count work.new.lines }
+        ensures settled { IfOk result (λ r. r ≡ None → Settles log.new held.new.items self.old self.new work.old work.new) }
         ensures refuted { IfOk result (λ r. IfSome r (λ id. IsLive log.new id × ((assumed : List Lit) → All (IsAssumed assumed) self.old.trail.entries → Refutes assumed (literals_at log.new id)))) }
         ensures spent { IfErr result (λ e. e ≡ stop.Spent → IsSpent work.new) }
     {

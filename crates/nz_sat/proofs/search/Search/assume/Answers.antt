@@ -42,13 +42,13 @@ returns-in-None-clause-comes c held assumed may =
     let R : TrailState → Type 0 = λ u. All (HasReasonOf (ids held)) u.entries in
     let waits : (i : ℕ) → Contains (ids held) i → Waits c.assume.new.self.entries c.len-from.result (literals_at log i) =
     λ i has.
-        let at : Waits c.assume.new.self.entries (length s.trail.entries) (literals_at log i) =
-        subst (λ (u : TrailState). Waits u.entries (length s.trail.entries) (literals_at log i)) (sym put)
-        (put_waits log held assumed l s may c.requires.undecided free t size goes i has) in
-        subst (λ (n : ℕ). Waits c.assume.new.self.entries n (literals_at log i)) (sym c.len-from.ensures.count) at in
+    let at : Waits c.assume.new.self.entries (length s.trail.entries) (literals_at log i) =
+    subst (λ (u : TrailState). Waits u.entries (length s.trail.entries) (literals_at log i)) (sym put)
+    (put_waits log held assumed l s may c.requires.undecided free t size goes i has) in
+    subst (λ (n : ℕ). Waits c.assume.new.self.entries n (literals_at log i)) (sym c.len-from.ensures.count) at in
     assume_goes log held assumed l s may c.requires.undecided free t size goes c.propagate.result
     (p.implied (subst I (sym put) before.implied))
     (p.reasons (ids held) h.only (subst R (sym put) before.reasons))
     (λ told k d inside.
-        p.all_open told (get_or (ids held) k d) (h.listed k d inside) (waits (get_or (ids held) k d) (Contains-get_or (ids held) k d inside)))
+    p.all_open told (get_or (ids held) k d) (h.listed k d inside) (waits (get_or (ids held) k d) (Contains-get_or (ids held) k d inside)))
     (IfSome_then c.propagate.result p.dead (λ id q. (h.only q.0.0 id q.0.1, q.1)))

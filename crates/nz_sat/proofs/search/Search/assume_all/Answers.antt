@@ -5,9 +5,12 @@ use Rattle.std.proofs.lemmas.List.{get_or_default}
 use Rattle.std.proofs.lemmas.List.Elements.{All-contains, Contains-get_or}
 use Rattle.std.proofs.lemmas.Option.{IfSome_then}
 use Rattle.nz_log.specs.declared.lits.Lit.{Lit}
-use Rattle.nz_log.specs.Logs.{literals_at}
+use Rattle.nz_log.specs.Logs.{LogState, literals_at}
+use Rattle.nz_sat.specs.declared.clauses.Held.{Held}
+use Rattle.nz_sat.specs.Clauses.{IsAssumed}
+use Rattle.nz_sat.specs.Sats.{AreConsistent}
 use Rattle.nz_sat.specs.declared.search.Search.{Search}
-use Rattle.nz_sat.specs.Searching.{Assumes, MayAssume}
+use Rattle.nz_sat.specs.Searching.{AreOpen, IsSearch, MayAssume}
 use Rattle.nz_sat.specs.Trails.{IsTrueOn}
 use Rattle.nz_sat.proofs.Keeping.{held_live, none_told, reasons_assumed, search_usable}
 use Rattle.nz_sat.proofs.search.Search.assume_all.Goals as goal
@@ -43,6 +46,20 @@ loop-literal-init c =
       all_open = st.all_open none;
     }
 
+-- the next literal may be assumed
+may_assume : (log : LogState) (held : List Held) (assumed : List Lit) (s start : Search) (i : ℕ) → i < length assumed → s ≡ record start { trail = s.trail }
+    → IsSearch log held s → AreOpen log held s.trail.entries → All (IsAssumed assumed) s.trail.entries → All (λ (m : Lit). Contains start.atoms m.term) assumed
+    → AreConsistent assumed → MayAssume log held assumed (get_or assumed i blank) s
+may_assume log held assumed s start i inside rest search all_open assumed_only named consistent =
+    record {
+      search = search;
+      all_open = all_open;
+      assumed_only = assumed_only;
+      among = Contains-get_or assumed i blank inside;
+      atom = subst (λ (us : List ℕ). Contains us (get_or assumed i blank).term) (sym (ap (λ (r : Search). r.atoms) rest)) (named i blank inside);
+      consistent = consistent;
+    }
+
 -- the atoms are those of the start
 atom_named : (c : goal.After-assume-arg-in-loop-literal-1) → Contains c.loop-literal.self.atoms (get_or c.args.assumed.now c.loop-literal.literal-index blank).term
 atom_named c =
@@ -60,21 +77,6 @@ assume-dead-requires c =
       undecided = before.undecided;
     }
 
--- the literal may be assumed
-may_assume : (c : goal.After-assume-dead) → MayAssume c.args.log.now c.args.held.now c.args.assumed.now (get_or c.args.assumed.now c.loop-literal.literal-index blank) c.loop-literal.self
-may_assume c =
-    let before = c.loop-literal.invariant in
-    let inside : c.loop-literal.literal-index < length c.args.assumed.now = omega arith in
-    record {
-      search = before.search;
-      all_open = before.all_open;
-      assumed_only = before.assumed_only;
-      among = Contains-get_or c.args.assumed.now c.loop-literal.literal-index blank inside;
-      atom = subst (λ (us : List ℕ). Contains us (get_or c.args.assumed.now c.loop-literal.literal-index blank).term) (sym (ap (λ (s : Search). s.atoms) before.rest))
-          (c.requires.named c.loop-literal.literal-index blank inside);
-      consistent = c.requires.consistent;
-    }
-
 pub loop-literal-preserved : goal.loop-literal-preserved
 loop-literal-preserved c =
     let assumed = c.args.assumed.now in
@@ -82,7 +84,7 @@ loop-literal-preserved c =
     let new = c.assume-dead.new.self in
     let before = c.loop-literal.invariant in
     let inside : i < length assumed = omega arith in
-    let comes = c.assume-dead.ensures.comes c.args.held.now assumed (may_assume c) in
+    let comes = c.assume-dead.ensures.comes c.args.held.now assumed (may_assume c.args.log.now c.args.held.now c.args.assumed.now c.loop-literal.self c.args.self.now c.loop-literal.literal-index (omega arith) c.loop-literal.invariant.rest c.loop-literal.invariant.search c.loop-literal.invariant.all_open c.loop-literal.invariant.assumed_only c.requires.named c.requires.consistent) in
     let none : c.assume-dead.result ≡ None = search rules in
     record {
       rest = c.assume-dead.ensures.rest ∙ ap (λ (s : Search). record s { trail = new.trail }) before.rest;
@@ -99,7 +101,7 @@ loop-literal-preserved c =
 
 pub returns-then-is_some-2-clause-comes : goal.returns-then-is_some-2-clause-comes
 returns-then-is_some-2-clause-comes c =
-    let comes = c.assume-dead.ensures.comes c.args.held.now c.args.assumed.now (may_assume c) in
+    let comes = c.assume-dead.ensures.comes c.args.held.now c.args.assumed.now (may_assume c.args.log.now c.args.held.now c.args.assumed.now c.loop-literal.self c.args.self.now c.loop-literal.literal-index (omega arith) c.loop-literal.invariant.rest c.loop-literal.invariant.search c.loop-literal.invariant.all_open c.loop-literal.invariant.assumed_only c.requires.named c.requires.consistent) in
     let some : is_some c.assume-dead.result ≡ true = search rules in
     record {
       search = comes.search;

@@ -1,14 +1,17 @@
 -- One clause more is in the index.
-use Rattle.std.proofs.Common.{◌≡◌, ℕ, ◌<◌, ◌+◌, List, length, get_or, inl, inr, ap, sym, subst, ◌∙◌, arith, below_more}
-use Rattle.std.specs.Prelude.{Contains}
-use Rattle.std.proofs.lemmas.List.{get_or_default}
-use Rattle.std.proofs.lemmas.List.Elements.{All-contains}
+use Rattle.std.proofs.Common.{◌≡◌, ℕ, ◌<◌, ◌+◌, List, length, false, get_or, inl, inr, ap, sym, subst, ◌∙◌, arith, below_more, rules}
+use Rattle.std.specs.Prelude.{All, Contains, replicate}
+use Rattle.std.proofs.lemmas.List.{get_or_default, length-replicate}
+use Rattle.std.proofs.lemmas.List.Elements.{All-contains, All-map, All-nil}
 use Rattle.nz_log.specs.declared.lits.Lit.{Lit}
 use Rattle.nz_log.specs.Logs.{literals_at}
 use Rattle.nz_sat.specs.declared.clauses.Held.{Held}
-use Rattle.nz_sat.specs.Clauses.{IsListed}
+use Rattle.nz_sat.specs.declared.trail.Assigned.{Assigned}
+use Rattle.nz_sat.specs.Clauses.{HasReasonOf, IsImplied, IsListed, IsOfSize}
+use Rattle.nz_sat.specs.Conflicts.{AreUnmarked}
+use Rattle.nz_sat.specs.Trails.{EachBehind, TrailState, empty_trail}
 use Rattle.nz_sat.specs.Searching.{ids}
-use Rattle.nz_sat.proofs.Keeping.{held_has}
+use Rattle.nz_sat.proofs.Keeping.{held_has, none_marked}
 use Rattle.nz_sat.proofs.search.Search.new.Goals as goal
 
 abbrev blank : Held
@@ -47,3 +50,30 @@ add-requires-clause-within c k d there =
     let first = before.size.0 in
     let second = before.size.1 in
     (omega arith, omega arith)
+
+pub returns-clause-search : goal.returns-clause-search
+returns-clause-search c =
+    let log = c.args.log.now in
+    let held = c.args.held.now in
+    let us = c.atoms.inside.terms.items in
+    let t = c.in_ok-new.field-0 in
+    let size = c.size-size.result in
+    let before = c.loop-clause.invariant in
+    let empty : t ≡ empty_trail size = c.in_ok-new.ensures.empty in
+    let noted = c.atoms.view_is ∙ c.in_ok-atoms.ensures.noted in
+    let N : List ℕ → ℕ → Type 0 = λ vs i. All (λ (l : Lit). Contains vs l.term) (literals_at log i) in
+    let small : All (λ (u : ℕ). u < size) us = subst (λ (vs : List ℕ). All (λ (u : ℕ). u < size) vs) (sym c.atoms.view_is) c.size-size.ensures.within in
+    let marks : c.in_ok-vec.field-0.items ≡ replicate size false = search rules in
+    record {
+      are_held = c.requires.held;
+      listed = All-map (IsListed log c.loop-clause.index) (λ (h : Held). h.id) held (λ k d inside. before.listed k d (omega arith));
+      only = before.only;
+      named = All-map (N us) (λ (h : Held). h.id) held (λ k d inside. subst (λ (vs : List ℕ). N vs (get_or held k d).id) (sym noted) (c.requires.named k d inside));
+      on_trail = subst (λ (u : TrailState). All (λ (e : Assigned). Contains us e.literal.term) u.entries) (sym empty) (All-nil (λ (e : Assigned). Contains us e.literal.term));
+      within = subst (λ (u : TrailState). All (λ (v : ℕ). v < u.size) us) (sym empty) small;
+      indexed = subst (λ (u : TrailState). IsOfSize u.size c.loop-clause.index) (sym empty) before.size;
+      marks = ap length marks ∙ length-replicate size false ∙ sym (ap (λ (u : TrailState). u.size) empty);
+      unmarked = subst AreUnmarked (sym marks) (none_marked size);
+      implied = subst (λ (u : TrailState). EachBehind (IsImplied log) u.entries) (sym empty) (λ i e at. cc);
+      reasons = subst (λ (u : TrailState). All (HasReasonOf (ids held)) u.entries) (sym empty) (All-nil (HasReasonOf (ids held)));
+    }
