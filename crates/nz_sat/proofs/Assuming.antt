@@ -17,7 +17,8 @@ use Rattle.nz_sat.specs.Clauses.{HasReasonOf, IsAssumed, IsDead, IsImplied, IsOp
 use Rattle.nz_sat.specs.Conflicts.{IsDeadUnder}
 use Rattle.nz_sat.specs.Searching.{AreOpen, Assumes, IsSearch, MayAssume, ids}
 use Rattle.nz_sat.proofs.Clausal.{either_sign, missing_free, open_grows, other_lit, same_lit, sign_again, truth_found, truth_missing}
-use Rattle.nz_sat.proofs.Keeping.{at_contains, goes_assumed, goes_depth, goes_search, goes_true, held_live}
+use Rattle.nz_sat.proofs.Keeping.{at_contains, goes_assumed, goes_search, goes_true, held_live}
+use Rattle.nz_sat.proofs.Visiting.{goes_depth}
 use Rattle.nz_sat.proofs.Trailing.{assigned_missing, assigned_one, assigned_place, each_push}
 
 -- ---- Under no decision

@@ -5,6 +5,7 @@ pub mod Cutting
 pub mod Indexing
 pub mod Keeping
 pub mod Numbering
+pub mod Retaining
 pub mod Standing
 pub mod Trailing
 pub mod Visiting

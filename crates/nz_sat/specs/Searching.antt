@@ -11,7 +11,7 @@ use Rattle.nz_sat.specs.declared.clauses.Held.{Held}
 use Rattle.nz_sat.specs.declared.search.Search.{Search}
 use Rattle.nz_sat.specs.declared.trail.Assigned.{Assigned}
 use Rattle.nz_log.specs.Sound.{IsLog}
-use Rattle.nz_sat.specs.Trails.{EachBehind, IsTrueOn, below, decided, depth, is_decision, with_entry}
+use Rattle.nz_sat.specs.Trails.{EachBehind, GoesOn, IsTrueOn, below, decided, depth, is_decision, with_entry}
 use Rattle.nz_sat.specs.Clauses.{HasReasonOf, IsAssumed, IsDead, IsImplied, IsListed, IsOfSize, IsOpen, Waits, ids_of}
 use Rattle.nz_sat.specs.Conflicts.{AreUnmarked, Grows, IsDeadUnder}
 use Rattle.nz_sat.specs.Numbers.{number_of, numbered}
@@ -113,6 +113,24 @@ pub record Advances (atoms : List ℕ) (es : List Assigned) (log log' : LogState
 -- what is true under no decision stays so
 abbrev pub KeepsFirst : (es es' : List Assigned) → Type 0
 KeepsFirst es es' = (l : Lit) → IsTrueOn (below 0 es) l → IsTrueOn (below 0 es') l
+
+-- Clauses are open or wait for the entries from a place of the trail on, and were open when a decision was taken.
+pub record MayFollow (log : LogState) (held : List Held) (s : Search) (place : ℕ) : Type 0 where
+  pub search : IsSearch log held s
+  pub were_open : WereOpen log held s.trail.entries
+  pub waits : AreWaiting log held s.trail.entries place
+
+-- the clauses are open, or this one is dead
+abbrev pub OpenOrDead : LogState → List Held → List Assigned → Option ℕ → Type 0
+OpenOrDead log held es None = AreOpen log held es
+OpenOrDead log held es (Some id) = Contains (ids held) id × IsDead es (literals_at log id)
+
+-- The trail goes on, up to a dead clause, if one is told.
+pub record Follows (log : LogState) (held : List Held) (s s' : Search) (told : Option ℕ) : Type 0 where
+  pub search : IsSearch log held s'
+  pub were_open : WereOpen log held s'.trail.entries
+  pub goes_on : GoesOn s.trail.entries s'.trail.entries
+  pub told_so : OpenOrDead log held s'.trail.entries told
 
 -- What a search that goes on keeps of its trail: what is true under no decision, and that no other entry is assumed. Its atoms stay, and no unit
 -- is given back.

@@ -9,7 +9,7 @@ ghost use Rattle.nz_sat.specs.Clauses.{AreUsable, IsAssumed, IsDead, IsImplied};
 ghost use Rattle.nz_sat.specs.Conflicts.{AreUnmarked, Grows, IsDeadUnder, Refutes, RefutesFrom, StaysSound};
 ghost use Rattle.nz_sat.specs.Numbers.{noted_atoms, number_of, numbered};
 ghost use Rattle.nz_sat.specs.Sats.{AreAtoms, AreConsistent, AreHeld};
-ghost use Rattle.nz_sat.specs.Searching.{Advances, AreOpen, AreWaiting, Assumes, AssumesAll, MayAssume, Starts, Decides, IsNoted, IsSearch, Learned, Settles, WereOpen, ids};
+ghost use Rattle.nz_sat.specs.Searching.{Advances, AreOpen, AreWaiting, Assumes, AssumesAll, Follows, MayAssume, MayFollow, Starts, Decides, IsNoted, IsSearch, Learned, Settles, WereOpen, ids};
 ghost use Rattle.nz_sat.specs.Trails.{EachBehind, IsFrontOf, IsTrueOn, assigned, below, depth};
 
 use crate::analyze::{Lesson, learn_from, refutation};
@@ -149,6 +149,16 @@ impl Search {
         }
     }
 
+    /// Makes true what the clauses make true by the literals from a place of the trail on, up to the first dead clause.
+    fn follow(&mut self, log: &Log, from: usize) -> Option<ClauseId>
+        requires usable { AreUsable log.now self.old.trail.size self.old.index }
+        requires from { from ≤ length self.old.trail.entries }
+        ensures rest { self.new ≡ record self.old { trail = self.new.trail } }
+        ensures comes { (held : List Held) → MayFollow log.now held self.old from → Follows log.now held self.old self.new result }
+    {
+        propagate(log, &self.index, &mut self.trail, from)
+    }
+
     /// Learns from a dead clause: notes the clause learned, adds it, and goes back to where it makes a literal true. Answers the place
     /// of that literal.
     fn learn(
@@ -213,13 +223,13 @@ impl Search {
         ensures refuted { IfOk result (λ r. IfSome r (λ id. IsLive log.new id × ((assumed : List Lit) → All (IsAssumed assumed) self.old.trail.entries → Refutes assumed (literals_at log.new id)))) }
         ensures spent { IfErr result (λ e. e ≡ stop.Spent → IsSpent work.new) }
     {
-        let mut dead = propagate(log, &self.index, &mut self.trail, from);
+        let mut dead = self.follow(log, from);
         while let Some(clause) = dead {
             if self.trail.level() == 0 {
                 return Ok(Some(self.refute(*held.allocator(), log, clause)?));
             }
             let from = self.learn(log, held, work, clause)?;
-            dead = propagate(log, &self.index, &mut self.trail, from);
+            dead = self.follow(log, from);
         }
         Ok(None)
     }

@@ -27,3 +27,7 @@ pub returns-then-not-visit-clause-reasons : goal.returns-then-not-visit-clause-r
 returns-then-not-visit-clause-reasons c us all h =
     let inside : c.loop-id.id-index < length c.args.ids.now = omega arith in
     c.visit.ensures.reasons us (all c.loop-id.id-index 0 inside) (c.loop-id.invariant.reasons us all h)
+
+pub returns-then-not-visit-clause-goes_on : goal.returns-then-not-visit-clause-goes_on
+returns-then-not-visit-clause-goes_on c =
+    goes_far c.args.trail.now.entries c.loop-id.trail.entries c.visit.new.trail.entries c.loop-id.invariant.goes_on c.visit.ensures.goes_on

@@ -31,3 +31,7 @@ pub returns-then-not-visit-clause-reasons : goal.returns-then-not-visit-clause-r
 returns-then-not-visit-clause-reasons c us all h =
     let inside : c.loop-clause.clause-index < length c.args.held.now = omega arith in
     c.visit.ensures.reasons us (all c.loop-clause.clause-index blank inside) (c.loop-clause.invariant.reasons us all h)
+
+pub returns-then-not-visit-clause-goes_on : goal.returns-then-not-visit-clause-goes_on
+returns-then-not-visit-clause-goes_on c =
+    goes_far c.args.trail.now.entries c.loop-clause.trail.entries c.visit.new.trail.entries c.loop-clause.invariant.goes_on c.visit.ensures.goes_on

@@ -9,8 +9,8 @@ use Rattle.nz_sat.specs.declared.trail.Assigned.{Assigned}
 use Rattle.nz_sat.specs.Clauses.{AreUsable, HasReasonOf, IsImplied, Waits}
 use Rattle.nz_sat.specs.Searching.{ids}
 use Rattle.nz_sat.specs.Trails.{EachBehind, GoesOn, depth}
-use Rattle.nz_sat.proofs.Keeping.{goes_depth, goes_reasons, goes_search, held_has, held_usable, none_told, search_usable}
-use Rattle.nz_sat.proofs.Visiting.{goes_far, waits_less}
+use Rattle.nz_sat.proofs.Keeping.{goes_reasons, goes_search, held_has, held_usable, none_told, search_usable}
+use Rattle.nz_sat.proofs.Visiting.{goes_depth, goes_far, waits_less}
 use Rattle.nz_sat.proofs.search.Search.start.Goals as goal
 
 pub visit_held-dead-requires : goal.visit_held-dead-requires
