@@ -24,7 +24,7 @@ decision_by : (o : Option ℕ) (level : ℕ) → IsSome o → (elim o [ None ↦
 decision_by None level h = cc
 decision_by (Some c) level h = refl
 
-no_decision : (e : Assigned) → IsSome e.reason → is_decision e ≡ false
+pub no_decision : (e : Assigned) → IsSome e.reason → is_decision e ≡ false
 no_decision e h = decision_by e.reason e.level h
 
 pub implied_depth : (more : List Assigned) → All (λ (e : Assigned). IsSome e.reason) more → depth more ≡ 0

@@ -149,6 +149,7 @@ pub record Learned (log : LogState) (held : List Held) (s s' : Search) (work wor
   pub noted : IsNoted log held s'.atoms s'.trail.entries work'
   pub carries : Carries s s' work work'
   pub unit : unit_count work'.lines ≡ suc (unit_count work.lines)
+  pub within : unit_count work'.lines ≤ work'.limit
 
 -- Each clause is open, and was when a decision was taken, with the work noted.
 pub record Settles (log : LogState) (held : List Held) (s s' : Search) (work work' : WorkList Note) : Type 0 where

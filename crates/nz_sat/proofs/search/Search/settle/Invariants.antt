@@ -4,8 +4,8 @@ use Rattle.nz_sat.specs.Searching.{Advances, Carries, IsNoted, IsSearch, OpenOrD
 use Rattle.nz_sat.proofs.search.Search.settle.Given as goal
 
 -- the clauses are open, or one is dead that is to be learned from
-abbrev pub invariant-loop-clause : goal.invariant-loop-clause
-invariant-loop-clause l =
+abbrev pub invariant-loop-dead : goal.invariant-loop-dead
+invariant-loop-dead l =
     record {
       advances : Advances l.fn.self.atoms l.fn.self.trail.entries l.fn.log l.log l.fn.held.items l.held.items l.fn.work l.work;
       search : IsSearch l.log l.held.items l.self;
@@ -15,5 +15,5 @@ invariant-loop-clause l =
       told_so : OpenOrDead l.log l.held.items l.self.trail.entries l.dead;
     }
 
-abbrev pub decreases-loop-clause : goal.decreases-loop-clause
-decreases-loop-clause l = l.work.limit - unit_count l.work.lines
+abbrev pub decreases-loop-dead : goal.decreases-loop-dead
+decreases-loop-dead l = l.work.limit - unit_count l.work.lines
