@@ -102,6 +102,10 @@ abbrev pub StaysLegal : List ℕ → LogState → List Assigned → (old new : W
 StaysLegal atoms log es old new = (ns : List Node) (levels : List (List ℕ)) (assumed : List Lit) (q : Question) → All (IsAssumed assumed) es
     → IsAsked ns levels log atoms assumed q → IsLegalWork ns q old → IsLegalWork ns q new
 
+-- the entries that these assumed literals are
+abbrev pub assumed_entries : List Lit → List Assigned
+assumed_entries assumed = map (λ (l : Lit). record { literal = l; level = 0; reason = None }) assumed
+
 -- What each step of a search keeps, also one that ends with no answer.
 pub record Advances (atoms : List ℕ) (es : List Assigned) (log log' : LogState) (held held' : List Held) (work work' : WorkList Note) : Type 0 where
   pub grows : Grows log log'

@@ -9,7 +9,7 @@ ghost use Rattle.nz_sat.specs.Clauses.{AreUsable, IsAssumed, IsDead, IsImplied};
 ghost use Rattle.nz_sat.specs.Conflicts.{AreUnmarked, Grows, IsDeadUnder, Refutes, RefutesFrom, StaysSound};
 ghost use Rattle.nz_sat.specs.Numbers.{noted_atoms, number_of, numbered};
 ghost use Rattle.nz_sat.specs.Sats.{AreAtoms, AreConsistent, AreHeld};
-ghost use Rattle.nz_sat.specs.Searching.{Advances, AreOpen, AreWaiting, Assumes, AssumesAll, Follows, MayAssume, MayFollow, Starts, Decides, IsNoted, IsSearch, Learned, Settles, WereOpen, ids};
+ghost use Rattle.nz_sat.specs.Searching.{Advances, AreOpen, AreWaiting, Assumes, AssumesAll, Follows, MayAssume, MayFollow, Starts, Decides, IsNoted, IsSearch, Learned, Settles, WereOpen, assumed_entries, ids};
 ghost use Rattle.nz_sat.specs.Trails.{EachBehind, IsFrontOf, IsTrueOn, assigned, below, depth};
 
 use crate::analyze::{Lesson, learn_from, refutation};
@@ -234,13 +234,22 @@ impl Search {
         Ok(None)
     }
 
-    /// Decides an atom, with the sign that it had last.
-    fn decide(&mut self, work: &mut Work<Note>, term: TermId) -> Result<(), Stop>
+    /// The undecided atom that took most part in conflicts.
+    fn next(&self) -> Option<TermId>
+        ensures undecided { IfSome result (λ t. Contains self.now.atoms t × (assigned self.now.trail.entries t ≡ None)) }
+        ensures none { result ≡ None → All (λ t. IsSome (assigned self.now.trail.entries t)) self.now.atoms }
+    {
+        self.order.next(self.atoms.terms(), &self.trail)
+    }
+
+    /// Decides an atom, with the sign that it had last. Answers the place of its literal on the trail.
+    fn decide(&mut self, work: &mut Work<Note>, term: TermId) -> Result<usize, Stop>
         requires free { assigned self.old.trail.entries term ≡ None }
         requires named { Contains self.old.atoms term }
         requires within { term < self.old.trail.size }
         ensures rest { self.new ≡ record self.old { trail = self.new.trail } }
         ensures decides { OnOk result (Decides self.old self.new term work.old work.new) }
+        ensures place { IfOk result (λ place. place ≡ length self.old.trail.entries) }
         ensures err { OnErr result (work.new ≡ work.old) }
         ensures spent { IfErr result (λ e. e ≡ stop.Spent → IsSpent work.new) }
     {
@@ -249,8 +258,9 @@ impl Search {
         };
         let sign = self.order.sign(term);
         work.unit(Entry::Decision { atom, sign })?;
+        let place = self.trail.len();
         self.trail.decide(Lit { term, sign });
-        Ok(())
+        Ok(place)
     }
 
     /// Searches for truths of the atoms under which each clause has a true literal, and each assumed one is true. Answers the clause
@@ -267,7 +277,7 @@ impl Search {
         requires named { All (λ l. Contains self.old.atoms l.term) assumed.now }
         requires consistent { AreConsistent assumed.now }
         requires noted { IsNoted log.old held.old.items self.old.atoms [] work.old }
-        ensures advances { Advances self.old.atoms self.old.trail.entries log.old log.new held.old.items held.new.items work.old work.new }
+        ensures advances { Advances self.old.atoms (assumed_entries assumed.now) log.old log.new held.old.items held.new.items work.old work.new }
         ensures all_open { IfOk result (λ r. r ≡ None → AreOpen log.new held.new.items self.new.trail.entries) }
         ensures hold { IfOk result (λ r. r ≡ None → All (IsTrueOn self.new.trail.entries) assumed.now) }
         ensures decided { IfOk result (λ r. r ≡ None → All (λ t. IsSome (assigned self.new.trail.entries t)) self.old.atoms) }
@@ -278,9 +288,8 @@ impl Search {
         if let Some(dead) = self.assume_all(log, held, assumed) {
             return Ok(Some(self.refute(*held.allocator(), log, dead)?));
         }
-        while let Some(term) = self.order.next(self.atoms.terms(), &self.trail) {
-            let from = self.trail.len();
-            self.decide(work, term)?;
+        while let Some(term) = self.next() {
+            let from = self.decide(work, term)?;
             if let Some(refuted) = self.settle(log, held, work, from)? {
                 return Ok(Some(refuted));
             }
