@@ -11,7 +11,7 @@ use Rattle.nz_log.specs.Logs.{LogState, IsLive, literals_at}
 use Rattle.nz_sat.specs.declared.clauses.Held.{Held}
 use Rattle.nz_sat.specs.declared.search.Search.{Search}
 use Rattle.nz_sat.specs.declared.trail.Assigned.{Assigned}
-use Rattle.nz_sat.specs.Trails.{EachBehind, GoesOn, IsTrueOn, TrailState, below, depth}
+use Rattle.nz_sat.specs.Trails.{EachBehind, GoesOn, IsTrail, IsTrueOn, TrailState, below, depth}
 use Rattle.nz_sat.specs.Clauses.{AreUsable, HasReasonOf, IsAssumed, IsDead, IsImplied, IsOfSize, IsReasonOf, IsReasonOneOf, IsUsable, ids_of}
 use Rattle.nz_sat.specs.Conflicts.{AreUnmarked}
 use Rattle.nz_sat.specs.Sats.{AreHeld}
@@ -42,9 +42,9 @@ some_reason : (o : Option ℕ) → IsSome o → o ≡ None → ⊥
 some_reason None h e = cc
 some_reason (Some c) h e = cc
 
-pub goes_search : (log : LogState) (held : List Held) (s : Search) (t : TrailState) → IsSearch log held s → t.size ≡ s.trail.size
+pub goes_search : (log : LogState) (held : List Held) (s : Search) (t : TrailState) → IsSearch log held s → t.size ≡ s.trail.size → IsTrail t
     → GoesOn s.trail.entries t.entries → EachBehind (IsImplied log) t.entries → All (HasReasonOf (ids held)) t.entries → IsSearch log held (record s { trail = t })
-goes_search log held s t h size g implied reasons =
+goes_search log held s t h size order g implied reasons =
     let es = s.trail.entries in
     let N : Assigned → Type 0 = λ e. Contains s.atoms e.literal.term in
     let place : (k : ℕ) (d : Assigned) → k < length g.more → slice_get t.entries (length es + k) ≡ Some (get_or g.more k d) =
@@ -67,6 +67,7 @@ goes_search log held s t h size g implied reasons =
       indexed = subst (λ (n : ℕ). IsOfSize n s.index) (sym size) h.indexed;
       marks = h.marks ∙ sym size;
       unmarked = h.unmarked;
+      order = order;
       implied = implied;
       reasons = reasons;
     }

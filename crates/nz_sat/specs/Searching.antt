@@ -11,7 +11,7 @@ use Rattle.nz_sat.specs.declared.clauses.Held.{Held}
 use Rattle.nz_sat.specs.declared.search.Search.{Search}
 use Rattle.nz_sat.specs.declared.trail.Assigned.{Assigned}
 use Rattle.nz_log.specs.Sound.{IsLog}
-use Rattle.nz_sat.specs.Trails.{EachBehind, GoesOn, IsTrueOn, below, decided, depth, is_decision, with_entry}
+use Rattle.nz_sat.specs.Trails.{EachBehind, GoesOn, IsTrail, IsTrueOn, below, decided, depth, is_decision, with_entry}
 use Rattle.nz_sat.specs.Clauses.{HasReasonOf, IsAssumed, IsDead, IsImplied, IsListed, IsOfSize, IsOpen, Waits, ids_of}
 use Rattle.nz_sat.specs.Conflicts.{AreUnmarked, Grows, IsDeadUnder}
 use Rattle.nz_sat.specs.Numbers.{number_of, numbered}
@@ -32,6 +32,7 @@ pub record IsSearch (log : LogState) (held : List Held) (s : Search) : Type 0 wh
   pub indexed : IsOfSize s.trail.size s.index
   pub marks : length s.seen.items ≡ s.trail.size
   pub unmarked : AreUnmarked s.seen.items
+  pub order : IsTrail s.trail
   pub implied : EachBehind (IsImplied log) s.trail.entries
   pub reasons : All (HasReasonOf (ids held)) s.trail.entries
 

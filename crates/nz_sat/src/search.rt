@@ -1,6 +1,7 @@
 //! The search: decisions, what follows from them, and what each conflict teaches.
 ghost use Rattle.std.specs.Prelude.{◌≡◌, ℕ, suc, ◌<◌, ◌≤◌, [], All, Contains, List, None, Some, length, map, IfErr, IfOk, IfSome, IsSome, OnErr, OnOk, MatchOption};
-ghost use Rattle.nz_spec.specs.Work.{IsSpent, unit_count};
+ghost use Rattle.nz_spec.specs.Work.{IsSpent, UnitLine, unit_count, with_line};
+ghost use Rattle.nz_base.specs.Entries.{entry_of};
 ghost use Rattle.nz_log.specs.declared.lits.Lit.{Lit};
 ghost use Rattle.nz_log.specs.declared.stop.Stop.TheVariants as stop;
 ghost use Rattle.nz_log.specs.Logs.{IsLive, literals_at};
@@ -192,7 +193,7 @@ impl Search {
             dead,
         )?;
         let lits = by_numbers(alloc, &self.atoms, log.clause(clause))?;
-        work.unit(Entry::Learned { keep: level, lits })?;
+        note(work, Entry::Learned { keep: level, lits })?;
         held.push(Held {
             id: clause,
             level: log.level(clause),
@@ -250,6 +251,7 @@ impl Search {
         ensures rest { self.new ≡ record self.old { trail = self.new.trail } }
         ensures decides { OnOk result (Decides self.old self.new term work.old work.new) }
         ensures place { IfOk result (λ place. place ≡ length self.old.trail.entries) }
+        ensures free { OnOk result (unit_count work.old.lines < work.old.limit) }
         ensures err { OnErr result (work.new ≡ work.old) }
         ensures spent { IfErr result (λ e. e ≡ stop.Spent → IsSpent work.new) }
     {
@@ -257,7 +259,7 @@ impl Search {
             unreachable!()
         };
         let sign = self.order.sign(term);
-        work.unit(Entry::Decision { atom, sign })?;
+        note(work, Entry::Decision { atom, sign })?;
         let place = self.trail.len();
         self.trail.decide(Lit { term, sign });
         Ok(place)
@@ -296,6 +298,20 @@ impl Search {
         }
         Ok(None)
     }
+}
+
+/// Notes a step that counts.
+fn note(work: &mut Work<Note>, entry: Entry) -> Result<(), Stop>
+    ensures noted { OnOk result (work.new ≡ with_line work.old (UnitLine (entry_of entry))) }
+    ensures free { OnOk result (unit_count work.old.lines < work.old.limit) }
+    ensures err { OnErr result (work.new ≡ work.old) }
+    ensures spent { IfErr result (λ e. e ≡ stop.Spent → IsSpent work.new) }
+{
+    if work.left() == 0 {
+        return Err(Stop::Spent);
+    }
+    work.unit(entry)?;
+    Ok(())
 }
 
 /// These literals by the numbers of their atoms.

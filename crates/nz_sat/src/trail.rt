@@ -114,6 +114,7 @@ impl Trail {
         requires within { entry.literal.term < self.old.size }
         requires level { entry.level ≡ depth (self.old.entries ++ entry ∷ []) }
         ensures put { self.new ≡ with_entry self.old entry }
+        ensures order { IsTrail self.new }
     {
         self.by_term[entry.literal.term] = Some(entry);
         self.entries.push(entry).unwrap();
@@ -125,6 +126,7 @@ impl Trail {
         requires within { literal.term < self.old.size }
         requires undecided { depth self.old.entries ≡ 0 }
         ensures put { self.new ≡ with_entry self.old (record { literal = literal; level = 0; reason = None }) }
+        ensures order { IsTrail self.new }
     {
         self.put(Assigned {
             literal,
@@ -138,6 +140,7 @@ impl Trail {
         requires free { assigned self.old.entries literal.term ≡ None }
         requires within { literal.term < self.old.size }
         ensures put { self.new ≡ with_entry self.old (decided self.old.entries literal) }
+        ensures order { IsTrail self.new }
     {
         let level = self.level() + 1;
         self.put(Assigned {
@@ -152,6 +155,7 @@ impl Trail {
         requires free { assigned self.old.entries literal.term ≡ None }
         requires within { literal.term < self.old.size }
         ensures put { self.new ≡ with_entry self.old (implied self.old.entries literal reason) }
+        ensures order { IsTrail self.new }
     {
         let level = self.level();
         self.put(Assigned {
