@@ -2,6 +2,7 @@ pub mod Advancing
 pub mod Assuming
 pub mod Clausal
 pub mod Cutting
+pub mod Deciding
 pub mod Following
 pub mod Indexing
 pub mod Keeping

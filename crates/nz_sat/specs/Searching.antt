@@ -11,7 +11,7 @@ use Rattle.nz_sat.specs.declared.clauses.Held.{Held}
 use Rattle.nz_sat.specs.declared.search.Search.{Search}
 use Rattle.nz_sat.specs.declared.trail.Assigned.{Assigned}
 use Rattle.nz_log.specs.Sound.{IsLog}
-use Rattle.nz_sat.specs.Trails.{EachBehind, GoesOn, IsTrail, IsTrueOn, below, decided, depth, is_decision, with_entry}
+use Rattle.nz_sat.specs.Trails.{EachBehind, GoesOn, IsTrail, IsTrueOn, assigned, below, decided, depth, is_decision, with_entry}
 use Rattle.nz_sat.specs.Clauses.{HasReasonOf, IsAssumed, IsDead, IsImplied, IsListed, IsOfSize, IsOpen, Waits, ids_of}
 use Rattle.nz_sat.specs.Conflicts.{AreUnmarked, Grows, IsDeadUnder}
 use Rattle.nz_sat.specs.Numbers.{number_of, numbered}
@@ -163,6 +163,14 @@ pub record Settles (log : LogState) (held : List Held) (s s' : Search) (work wor
   pub were_open : WereOpen log held s'.trail.entries
   pub noted : IsNoted log held s'.atoms s'.trail.entries work'
   pub carries : Carries s s' work work'
+
+-- Each clause is open, each assumed literal is true, and each atom is decided.
+pub record Satisfies (log : LogState) (held : List Held) (assumed : List Lit) (atoms : List ℕ) (s : Search) : Type 0 where
+  pub search : IsSearch log held s
+  pub all_open : AreOpen log held s.trail.entries
+  pub same : s.atoms ≡ atoms
+  pub hold : All (IsTrueOn (below 0 s.trail.entries)) assumed
+  pub all_decided : All (λ (t : ℕ). IsSome (assigned s.trail.entries t)) s.atoms
 
 -- An atom is decided, and noted.
 pub record Decides (s s' : Search) (term : ℕ) (work work' : WorkList Note) : Type 0 where

@@ -10,7 +10,7 @@ ghost use Rattle.nz_sat.specs.Clauses.{AreUsable, IsAssumed, IsDead, IsImplied};
 ghost use Rattle.nz_sat.specs.Conflicts.{AreUnmarked, Grows, IsDeadUnder, Refutes, RefutesFrom, StaysSound};
 ghost use Rattle.nz_sat.specs.Numbers.{noted_atoms, number_of, numbered};
 ghost use Rattle.nz_sat.specs.Sats.{AreAtoms, AreConsistent, AreHeld};
-ghost use Rattle.nz_sat.specs.Searching.{Advances, AreOpen, AreWaiting, Assumes, AssumesAll, Follows, MayAssume, MayFollow, Starts, Decides, IsNoted, IsSearch, Learned, Settles, WereOpen, assumed_entries, ids};
+ghost use Rattle.nz_sat.specs.Searching.{Advances, AreOpen, AreWaiting, Assumes, AssumesAll, Follows, MayAssume, MayFollow, Starts, Decides, IsNoted, IsSearch, Learned, Satisfies, Settles, WereOpen, assumed_entries, ids};
 ghost use Rattle.nz_sat.specs.Trails.{EachBehind, IsFrontOf, IsTrueOn, assigned, below, depth};
 
 use crate::analyze::{Lesson, learn_from, refutation};
@@ -21,6 +21,7 @@ use crate::propagate::{propagate, visit_held};
 use crate::trail::Trail;
 use nz_base::{Entry, Literals, Memory, Work};
 use nz_log::{ClauseId, Lit, Log, Note, Stop};
+use nz_spec::work::legal_work_goes_on;
 use nz_term::TermId;
 use std::alloc::Global;
 
@@ -280,13 +281,11 @@ impl Search {
         requires consistent { AreConsistent assumed.now }
         requires noted { IsNoted log.old held.old.items self.old.atoms [] work.old }
         ensures advances { Advances self.old.atoms (assumed_entries assumed.now) log.old log.new held.old.items held.new.items work.old work.new }
-        ensures all_open { IfOk result (λ r. r ≡ None → AreOpen log.new held.new.items self.new.trail.entries) }
-        ensures hold { IfOk result (λ r. r ≡ None → All (IsTrueOn self.new.trail.entries) assumed.now) }
-        ensures decided { IfOk result (λ r. r ≡ None → All (λ t. IsSome (assigned self.new.trail.entries t)) self.old.atoms) }
-        ensures named { IfOk result (λ r. r ≡ None → All (λ i. All (λ l. Contains self.old.atoms l.term) (literals_at log.new i)) (ids held.new.items)) }
+        ensures satisfied { IfOk result (λ r. r ≡ None → Satisfies log.new held.new.items assumed.now self.old.atoms self.new) }
         ensures refuted { IfOk result (λ r. IfSome r (λ id. IsLive log.new id × Refutes assumed.now (literals_at log.new id))) }
         ensures spent { IfErr result (λ e. e ≡ stop.Spent → IsSpent work.new) }
     {
+        legal_work_goes_on();
         if let Some(dead) = self.assume_all(log, held, assumed) {
             return Ok(Some(self.refute(*held.allocator(), log, dead)?));
         }
