@@ -141,8 +141,8 @@ module _ (log : LogState) (held : List Held) (s : Search) (h : IsSearch log held
       ap (assigned s.trail.entries) (sym term) ∙ assigned_at s.trail.entries i e at (h.order i e at).fresh in
       let clash : None ≡ Some e = sym free ∙ there in
       cc where
-    found : (u : ℕ) → Contains s.atoms u → (n : ℕ) × (number_of s.atoms u ≡ Some n)
-    found u has = number_found s.atoms u has.0 (slice_get-get_or s.atoms has.0 u has.1 ∙ ap Some has.2)
+        found : (u : ℕ) → Contains s.atoms u → (n : ℕ) × (number_of s.atoms u ≡ Some n)
+        found u has = number_found s.atoms u has.0 (slice_get-get_or s.atoms has.0 u has.1 ∙ ap Some has.2)
 
   pub decided_legal : LegalWorkGoesOn → (ns : List Node) (q : Question) (work : WorkList Note) → IsNoted log held s.atoms s.trail.entries work → IsLegalWork ns q work
       → IsLegalWork ns q (with_line work line)
