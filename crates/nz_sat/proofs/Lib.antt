@@ -1,0 +1,13 @@
+pub mod Advancing
+pub mod Assuming
+pub mod Clausal
+pub mod Cutting
+pub mod Deciding
+pub mod Following
+pub mod Indexing
+pub mod Keeping
+pub mod Numbering
+pub mod Retaining
+pub mod Standing
+pub mod Trailing
+pub mod Visiting
