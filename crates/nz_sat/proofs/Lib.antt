@@ -1,0 +1,10 @@
+pub mod Advancing
+pub mod Assuming
+pub mod Clausal
+pub mod Cutting
+pub mod Indexing
+pub mod Keeping
+pub mod Numbering
+pub mod Standing
+pub mod Trailing
+pub mod Visiting
