@@ -1,9 +1,9 @@
 //! The clauses of the gate table, by the numbers of terms.
-ghost use Rattle.std.specs.Prelude.{◌≡◌, ◌<◌, ◌∷◌, [], length, Some, IfOk, option_map, slice_get};
+ghost use Rattle.std.specs.Prelude.{◌≡◌, ◌<◌, ◌∷◌, [], length, Some, IfOk, option_map, slice_get, if◌then◌else◌};
 ghost use Rattle.nz_spec.specs.Term.{bool_sort, choice, conjunction, disjunction, equality, exclusion, negation};
 ghost use Rattle.nz_term.specs.Constants.{sort_of};
 ghost use Rattle.nz_term.specs.Heads.{head_of};
-ghost use Rattle.nz_log.specs.Lits.{gates_at, gates_over, only, signed};
+ghost use Rattle.nz_log.specs.Lits.{gates_at, gates_over, is_boolean_at, only, signed};
 
 use crate::lits::Lit;
 use nz_base::Memory;
@@ -12,6 +12,50 @@ use std::alloc::Global;
 
 /// The literals of a clause, where the gate table has one.
 type Gate = Option<Vec<Lit>>;
+
+/// How many clauses of the gate table a term has. Their numbers are those below it.
+pub fn gate_count(terms: &Terms, term: TermId) -> usize
+    requires within { term < length terms.now }
+    ensures count { result ≡ length (gates_at terms.now term) }
+{
+    let node = terms.node(term);
+    let kids = node.kids.as_slice();
+    match &node.head {
+        Head::True | Head::False => match kids {
+            [] => 1,
+            _ => 0,
+        },
+        Head::Not => match kids {
+            [_] => 2,
+            _ => 0,
+        },
+        Head::And | Head::Or => kids.len() + 1,
+        Head::Xor => match kids {
+            [_, _] => 4,
+            _ => 0,
+        },
+        Head::Equal => match kids {
+            [left, _] => equality_count(terms, *left),
+            _ => 0,
+        },
+        Head::Ite(Sort::Bool) => match kids {
+            [_, _, _] => 4,
+            _ => 0,
+        },
+        _ => 0,
+    }
+}
+
+/// How many clauses an equation has, by the sort of its first argument.
+fn equality_count(terms: &Terms, left: TermId) -> usize
+    requires within { left < length terms.now }
+    ensures count { result ≡ (if is_boolean_at terms.now left then 4 else 0) }
+{
+    match terms.node(left).head.sort() {
+        Sort::Bool => 4,
+        Sort::Int | Sort::Real => 0,
+    }
+}
 
 /// The literals of the clause of this number of a term, if it has one.
 pub fn gate_literals(alloc: Global, terms: &Terms, term: TermId, j: usize) -> Result<Gate, Memory>

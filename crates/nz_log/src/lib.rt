@@ -14,6 +14,7 @@ mod steps;
 mod stop;
 
 pub use decide::{Decide, Verdict};
+pub use gates::gate_count;
 pub use lits::Lit;
 pub use log::Log;
 pub use note::Note;
