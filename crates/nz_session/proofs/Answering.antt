@@ -5,7 +5,6 @@ use Rattle.std.proofs.lemmas.List.{take-take}
 use Rattle.nz_lists.proofs.Fronts.{front_of_more}
 use Rattle.nz_spec.specs.Tree.{Tree}
 use Rattle.nz_spec.specs.Text.{intact}
-use Rattle.nz_spec.specs.Term.{Term}
 use Rattle.nz_spec.specs.Table.{Node, term_in}
 use Rattle.nz_spec.specs.Decide.{IsFrontOfTable}
 use Rattle.nz_spec.specs.Legal.{at_first, IsDeadEnd}
