@@ -7,7 +7,7 @@ use Rattle.nz_engine.specs.Levels.{numbers_by_level}
 -- ---- Levels
 
 -- a number more goes to the end of the last level
-pub with_number-set : (levels : List (List ℕ)) (j i : ℕ) → length levels ≡ suc j → with_number levels i ≡ set levels j (get_or levels j [] ++ i ∷ [])
+with_number-set : (levels : List (List ℕ)) (j i : ℕ) → length levels ≡ suc j → with_number levels i ≡ set levels j (get_or levels j [] ++ i ∷ [])
 with_number-set [] j i l = absurd (omega arith)
 with_number-set (level ∷ []) zero i l = refl
 with_number-set (level ∷ []) (suc j) i l = absurd (omega arith)
@@ -15,7 +15,7 @@ with_number-set (level ∷ next ∷ more) zero i l = absurd (omega arith)
 with_number-set (level ∷ next ∷ more) (suc j) i l = ap (λ r. level ∷ r) (with_number-set (next ∷ more) j i (omega arith))
 
 -- the numbers by level where one level is another
-pub numbers_by_level-set : (levels : List (Vec ℕ Global)) (i : ℕ) (v : Vec ℕ Global) → numbers_by_level (set levels i v) ≡ set (numbers_by_level levels) i v.items
+numbers_by_level-set : (levels : List (Vec ℕ Global)) (i : ℕ) (v : Vec ℕ Global) → numbers_by_level (set levels i v) ≡ set (numbers_by_level levels) i v.items
 numbers_by_level-set levels i v = map-set (λ (level : Vec ℕ Global). level.items) levels i v
 
 -- the numbers of one level, by its place
@@ -37,4 +37,3 @@ pub numbers_kept : (levels : List (Vec ℕ Global)) (j : ℕ) (level new : Vec �
 numbers_kept levels j level new l e f =
     let ls = numbers_by_level levels in
     numbers_by_level-set levels j new ∙ ap (set ls j) (f ∙ sym (level_at levels j level (omega arith) e)) ∙ set-get_or ls j []
-

@@ -1,1 +1,9 @@
+pub mod Adding
+pub mod GateNames
 pub mod Leveling
+pub mod Modeling
+pub mod Naming
+pub mod Orders
+pub mod Posing
+pub mod Ready
+pub mod Refuting

@@ -1,6 +1,7 @@
 //! The asserted terms by level.
-ghost use Rattle.std.specs.Prelude.{◌≡◌, ◌-◌, ◌<◌, ◌≤◌, [], ◌∷◌, ◌++◌, length, take, OnOk, OnErr};
-ghost use Rattle.nz_spec.specs.Decide.{with_number};
+ghost use Rattle.std.specs.Prelude.{◌≡◌, ◌-◌, ◌<◌, ◌≤◌, [], ◌∷◌, ◌++◌, length, take, IfOk, OnOk, OnErr};
+ghost use Rattle.nz_spec.specs.Decide.{asserted_numbers, with_number};
+ghost use Rattle.nz_engine.specs.Levels.{numbers_by_level};
 
 use nz_base::Memory;
 use nz_term::TermId;
@@ -31,6 +32,20 @@ impl Levels {
         Levels {
             levels: Vec::new(alloc),
         }
+    }
+
+    /// How many levels there are.
+    pub fn len(&self) -> usize
+        ensures count { result ≡ length self.now }
+    {
+        self.levels.len()
+    }
+
+    /// The assertions, in the order of the levels.
+    pub fn all(&self, alloc: Global) -> Result<Vec<TermId>, Memory>
+        ensures all { IfOk result (λ ids. ids.items ≡ asserted_numbers self.now) }
+    {
+        all_numbers(alloc, &self.levels)
     }
 
     /// Begins a level, in which nothing is asserted yet.
@@ -69,4 +84,15 @@ impl Levels {
         self.levels[last].push(term)?;
         Ok(())
     }
+}
+
+/// The numbers of all levels, one after another.
+fn all_numbers(alloc: Global, levels: &[Vec<TermId>]) -> Result<Vec<TermId>, Memory>
+    ensures numbers { IfOk result (λ ids. ids.items ≡ asserted_numbers (numbers_by_level levels.now)) }
+{
+    let mut all = Vec::new(alloc);
+    for level in levels {
+        all.extend_from_slice(level)?;
+    }
+    Ok(all)
 }

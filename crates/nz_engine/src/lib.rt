@@ -1,7 +1,10 @@
-//! The engine: it decides whether asserted terms and assumed literals can all be true.
+//! The engine: it decides whether asserted terms and assumed literals can all be true, by a search over their clauses.
 #![tactic(auto)]
 
+mod clauses;
 mod engine;
 mod levels;
+mod problem;
+mod values;
 
 pub use engine::Engine;

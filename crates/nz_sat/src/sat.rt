@@ -87,6 +87,8 @@ impl Sat {
         ensures sound { (ns : List Node) (levels : List (List ℕ)) → All (λ t. t < length ns) (noted_atoms work.old.lines) → IsLog ns levels log.old → IsLog ns levels log.new }
         // Where the notes are legal, so is the whole list.
         ensures legal { (ns : List Node) (levels : List (List ℕ)) (q : Question) → IsAsked ns levels log.old (noted_atoms work.old.lines) assumed.now q → IsLegalWork ns q work.old → IsLegalWork ns q work.new }
+        // No atom is named that wasn't.
+        ensures notes { noted_atoms work.new.lines ≡ noted_atoms work.old.lines }
         ensures limit { work.new.limit ≡ work.old.limit }
         ensures spent { IfErr result (λ e. e ≡ stop.Spent → IsSpent work.new) }
     {

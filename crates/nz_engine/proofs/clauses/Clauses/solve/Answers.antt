@@ -1,0 +1,31 @@
+use Rattle.std.proofs.Common.{sym, subst}
+use Rattle.std.specs.Prelude.{Contains}
+use Rattle.std.proofs.lemmas.List.Elements.{All-contains}
+use Rattle.nz_log.specs.declared.lits.Lit.{Lit}
+use Rattle.nz_log.specs.Lits.{negated_lit}
+use Rattle.nz_log.specs.Sound.{IsLog}
+use Rattle.nz_sat.specs.Numbers.{noted_atoms}
+use Rattle.nz_sat.specs.Sats.{IsAsked}
+use Rattle.nz_engine.specs.Clausal.{ClausesState, AreIn}
+use Rattle.nz_engine.proofs.Refuting.{refuted_by}
+use Rattle.nz_engine.proofs.clauses.Clauses.solve.Goals as goal
+
+pub solve-requires-clause-atoms : goal.solve-requires-clause-atoms
+solve-requires-clause-atoms c =
+    let h = c.requires.clauses in
+    let are : AreIn h.0 h.1 (noted_atoms c.args.work.now.lines) (record { log = c.self.inside.log; sat = c.self.inside.sat }) =
+    subst (AreIn h.0 h.1 (noted_atoms c.args.work.now.lines)) (sym c.self.view_is) h.2 in
+    record { clauses = are.named; assumed_named = c.requires.assumed; once = c.requires.once }
+
+pub solve-requires-clause-consistent : goal.solve-requires-clause-consistent
+solve-requires-clause-consistent c = λ l has. All-contains (λ (m : Lit). Contains c.args.assumed.now (negated_lit m) → ⊥) c.args.assumed.now l c.requires.consistent has
+
+pub returns-clause-refuted : goal.returns-clause-refuted
+returns-clause-refuted c = refuted_by c.solve.new.log c.args.assumed.now c.solve.result c.solve.ensures.refuted
+
+pub returns-clause-order : goal.returns-clause-order
+returns-clause-order c = λ ns levels within order. c.solve.ensures.sound ns levels within (subst (λ (s : ClausesState). IsLog ns levels s.log) (sym c.self.view_is) order)
+
+pub returns-clause-legal : goal.returns-clause-legal
+returns-clause-legal c = λ ns levels q asked legal.
+    c.solve.ensures.legal ns levels q (subst (λ (s : ClausesState). IsAsked ns levels s.log (noted_atoms c.args.work.now.lines) c.args.assumed.now q) (sym c.self.view_is) asked) legal
