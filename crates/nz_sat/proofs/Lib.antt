@@ -1,0 +1,3 @@
+pub mod Trailing
+pub mod Chains
+pub mod Marks
