@@ -64,7 +64,7 @@ module _ (size : ℕ) (es : List Assigned) (order : EachBehind (IsNext size) es)
       ap (λ (k : ℕ). take k es) is ∙ take_more es i e (slice_get_within es i e at)
       ∙ ap (λ (x : Assigned). take i es ++ x ∷ []) (get_or_from_slice_get es i e e at)
 
-  fresh : assigned (take i es) e.literal.term ≡ None
+  pub fresh : assigned (take i es) e.literal.term ≡ None
   fresh = (order i e at).fresh
 
   pub its_entry : assigned es e.literal.term ≡ Some e
@@ -85,7 +85,7 @@ module _ (size : ℕ) (es : List Assigned) (order : EachBehind (IsNext size) es)
       let clash : None ≡ Some x.0 = sym fresh ∙ ap (assigned (take i es)) (sym same) ∙ x.1 in
       cc
 
-  front_counted : (marks : List Bool) (level : ℕ) → marked_of marks level (take n es) ≡ marked_of marks level (take i es) + counted marks level e
+  pub front_counted : (marks : List Bool) (level : ℕ) → marked_of marks level (take n es) ≡ marked_of marks level (take i es) + counted marks level e
   front_counted marks level = ap (marked_of marks level) front_is ∙ sum_by_push (counted marks level) (take i es) e
 
   its_level : e.level ≡ depth (take n es)

@@ -181,7 +181,7 @@ other_lit l m f = not_true (are_same_lit l m) (λ e. f (same_lit l m e))
 pub differ_lit : (l m : Lit) → not (are_same_lit l m) ≡ true → l ≢ m
 differ_lit l m e is = true≢false (sym e ∙ ap not (ap (are_same_lit l) (sym is) ∙ one_lit l))
 
-double : (b : Bool) → not (not b) ≡ b
+pub double : (b : Bool) → not (not b) ≡ b
 double true = refl
 double false = refl
 

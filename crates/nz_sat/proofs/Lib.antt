@@ -1,3 +1,5 @@
 pub mod Trailing
 pub mod Chains
 pub mod Marks
+pub mod Backward
+pub mod Resolving

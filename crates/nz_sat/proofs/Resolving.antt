@@ -1,25 +1,29 @@
 -- The chain of a conflict, link by link.
-use Rattle.std.proofs.Common.{◌≡◌, ◌≢◌, ℕ, suc, ◌+◌, ◌-◌, ◌<◌, ◌≤◌, Bool, true, false, ◌⊎◌, inl, inr, List, [], ◌∷◌, ◌++◌, length, take, Some, None, refl, sym, ap, subst, ◌∙◌, true≢false, arith}
-use Rattle.std.specs.Prelude.{Contains, slice_get, slice_set}
+use Rattle.std.proofs.Common.{◌≡◌, ◌≢◌, ℕ, suc, ◌+◌, ◌-◌, ◌<◌, ◌≤◌, Bool, true, false, not, ◌&&◌, ◌⊎◌, inl, inr, List, [], ◌∷◌, ◌++◌, length, take, Some, None, refl, sym, ap, subst, ◌∙◌, true≢false, arith}
+use Rattle.std.specs.Prelude.{◌==◌, Contains, slice_get, slice_set}
 use Rattle.std.proofs.lemmas.Bool.{cases_eq, cases_lt}
 use Rattle.std.proofs.lemmas.List.{take_all, length_push}
 use Rattle.std.proofs.lemmas.List.Elements.{All-nil, All-push}
+use Rattle.std.proofs.lemmas.Option.{same_Some}
 use Rattle.nz_log.specs.declared.lits.Lit.{Lit}
 use Rattle.nz_log.specs.declared.origins.Link.{Link}
-use Rattle.nz_log.specs.Lits.{negated_lit}
+use Rattle.nz_log.specs.Lits.{negated_lit, lit_resolvent}
 use Rattle.nz_log.specs.Logs.{LogState, IsLive, chained, literals_at}
 use Rattle.nz_sat.specs.declared.analyze.Chain.{Chain}
 use Rattle.nz_sat.specs.declared.trail.Assigned.{Assigned}
 use Rattle.nz_sat.specs.Trails.{EachBehind, IsFalseOn, IsNext, assigned, depth, level_on}
 use Rattle.nz_sat.specs.Clauses.{IsDead, IsImplied, IsReason, IsReasonOf}
-use Rattle.nz_sat.specs.Conflicts.{AreFalseIn, AreLinks, AreUnmarked, HasTwoLast, IsChain, IsOnWayBack, MarksFalse, is_marked, marked_of}
+use Rattle.nz_sat.specs.Conflicts.{AreLinks, AreMarked, AreUnmarked, HasTwoLast, IsChain, IsOnWayBack, MarksCounted, is_marked, marked_of}
 use Rattle.nz_sat.proofs.Backward.{apart, false_cases, false_whole, front_counted, fresh, its_entry, none_before_decision, not_false, of_last}
-use Rattle.nz_sat.proofs.Chains.{chained_more, has_found, lit_is, resolvent_first, resolvent_from, resolvent_second, twice_negated}
-use Rattle.nz_sat.proofs.Marks.{counted, false_entry, is_counted, level_found, marked_apart, none_counted, one_counted, other_mark, two_counted, unmark_parts}
+use Rattle.nz_sat.proofs.Chains.{chained_more, double, has_found, lit_is, resolvent_first, resolvent_from, resolvent_second, twice_negated}
+use Rattle.nz_sat.proofs.Marks.{counted, false_entry, found_whole, is_counted, level_found, marked_apart, marked_within, none_counted, one_counted, one_if, other_mark, two_counted, unmark_parts}
 use Rattle.nz_sat.proofs.Trailing.{assigned_place, level_within}
 
 abbrev pub link_of : Assigned → ℕ → Link
 link_of e clause = record { clause = clause; literal = negated_lit e.literal }
+
+uncounted : (marks : List Bool) (level : ℕ) (e : Assigned) → is_marked marks e.literal.term ≡ false → counted marks level e ≡ 0
+uncounted marks level e off = ap (λ (m : Bool). one_if (m && (e.level == level))) off
 
 module _ (s : LogState) (size : ℕ) (es : List Assigned) (order : EachBehind (IsNext size) es) (dead n i : ℕ) (is : n ≡ i + 1) (e : Assigned) (at : slice_get es i ≡ Some e)
     (marks : List Bool) (ks : List Link) (left : ℕ) (way : IsOnWayBack s es dead n marks ks left) where
@@ -67,6 +71,21 @@ module _ (s : LogState) (size : ℕ) (es : List Assigned) (order : EachBehind (I
     before_here m has other =
         elim (false_cases size es order n i is e at m (way.dead_before m has)) [ inl same ↦ absurd (other same) | inr before ↦ before ]
 
+    earlier : marked_of marks (depth es) (take i es) ≡ 0 → (m : Lit) → Contains so_far m → IsFalseOn (take i es) m → level_on es m.term < depth es
+    earlier none m has before =
+        let x = false_entry (take i es) m before in
+        let p = assigned_place (take i es) m.term x.0 x.1 in
+        let found = found_whole es i m.term x.0 x.1 in
+        let place = assigned_place es m.term x.0 found in
+        let is_level : level_on es m.term ≡ x.0.level = level_found es m.term x.0 found in
+        let most : x.0.level ≤ depth es = level_within size es order place.1.0 x.0 place.1.1 in
+        elim (cases_eq x.0.level (depth es)) [
+          | inl same ↦
+              let one = one_counted marks (depth es) (take i es) p.1.0 x.0 p.1.1 (ap (is_marked marks) p.0 ∙ way.marked.each m has) same in
+              absurd (omega (arith, one, none))
+          | inr other ↦ omega (arith, is_level, most, other)
+        ]
+
     -- where no more of the last level is left, this is the end
     pub way_ends : (c : Chain) → c.links.items ≡ ks → c.literal ≡ negated_lit e.literal → 0 < depth es → (left ≤ 1) ⊎ (e.reason ≡ None) → IsChain s es dead marks c
     way_ends c links literal above over =
@@ -76,8 +95,7 @@ module _ (s : LogState) (size : ℕ) (es : List Assigned) (order : EachBehind (I
           | inr decided ↦ none_before_decision size es order n i is e at marks decided last_level above
         ] in
         let one : left ≡ 1 = omega (arith, way.count, sum_here, none) in
-        subst (λ (v : Chain). IsChain s es dead marks v) refl
-        (record {
+        record {
           links = subst (AreLinks s es) (sym links) way.links;
           some = subst (λ (l : List Link). 0 < length l) (sym links) (way.linked one);
           dead_too = λ m has. false_whole es n m (way.dead_before m (subst (λ (l : List Link). Contains (chained s (literals_at s dead) l) m) links has));
@@ -89,4 +107,142 @@ module _ (s : LogState) (size : ℕ) (es : List Assigned) (order : EachBehind (I
               let before = before_here m there (λ same. other (same ∙ sym literal)) in
               earlier none m there before;
           marked = subst (λ (l : List Link). AreMarked (chained s (literals_at s dead) l) marks) (sym links) way.marked;
-        })
+        }
+
+    -- the reason of the entry, its other literals before it
+    module _ (clause : ℕ) (reason : e.reason ≡ Some clause) (implied : IsImplied s (take i es) e) (new : List Bool) (more : ℕ)
+        (made : MarksCounted es (literals_at s clause) (depth es) (slice_set marks e.literal.term false) new more) where
+      reason_is : IsReason s (take i es) e.literal clause
+      reason_is = subst (IsReasonOf s (take i es) e.literal) reason implied
+
+      abbrev longer : List Link
+      longer = ks ++ link_of e clause ∷ []
+
+      longer_is : chained s (literals_at s dead) longer ≡ lit_resolvent (negated_lit e.literal) so_far (literals_at s clause)
+      longer_is = chained_more s (literals_at s dead) ks (link_of e clause)
+
+      -- a literal of the new clause is another one of the old, or of the reason
+      parts : (m : Lit) → Contains (chained s (literals_at s dead) longer) m
+          → (Contains so_far m × (m ≢ negated_lit e.literal)) ⊎ (Contains (literals_at s clause) m × (m ≢ e.literal))
+      parts m has =
+          elim (resolvent_from (negated_lit e.literal) so_far (literals_at s clause) m (subst (λ (c : List Lit). Contains c m) longer_is has)) [
+            | inl old ↦ inl (old.0, λ same. old.1 (sym same))
+            | inr of_reason ↦ inr (of_reason.0, λ same. of_reason.1 (twice_negated e.literal ∙ sym same))
+          ]
+
+      before_new : (m : Lit) → Contains (chained s (literals_at s dead) longer) m → IsFalseOn (take i es) m
+      before_new m has =
+          elim (parts m has) [ inl old ↦ before_here m old.0 old.1 | inr of_reason ↦ reason_is.others m of_reason.0 of_reason.1 ]
+
+      on_new : (m : Lit) → Contains (chained s (literals_at s dead) longer) m → is_marked new m.term ≡ true
+      on_new m has =
+          elim (parts m has) [
+            | inl old ↦
+                let other = apart size es order n i is e at m (before_here m old.0 old.1) in
+                made.marks.kept m.term (other_mark marks e.literal.term m.term false other ∙ way.marked.each m old.0)
+            | inr of_reason ↦ made.marks.marked m of_reason.0 (false_whole es i m (reason_is.others m of_reason.0 of_reason.1))
+          ]
+
+      has_old : (m : Lit) → Contains so_far m → m ≢ negated_lit e.literal → Contains (chained s (literals_at s dead) longer) m
+      has_old m has other =
+          subst (λ (c : List Lit). Contains c m) (sym longer_is)
+          (resolvent_first (negated_lit e.literal) so_far (literals_at s clause) m has (λ same. other (sym same)))
+
+      has_of_reason : (m : Lit) → Contains (literals_at s clause) m → m ≢ e.literal → Contains (chained s (literals_at s dead) longer) m
+      has_of_reason m has other =
+          subst (λ (c : List Lit). Contains c m) (sym longer_is)
+          (resolvent_second (negated_lit e.literal) so_far (literals_at s clause) m has (λ same. other (sym same ∙ twice_negated e.literal)))
+
+      only_new : (t : ℕ) → is_marked new t ≡ true → (m : Lit) × Contains (chained s (literals_at s dead) longer) m × (m.term ≡ t)
+      only_new t up =
+          elim (made.marks.only t up) [
+            | inl old ↦
+                let was = unmark_parts marks e.literal.term t (marked_within marks e.literal.term on) old in
+                let w = way.marked.only t was.1 in
+                (w.0, has_old w.0 w.1 (λ same. was.0 (sym w.2 ∙ ap (λ (k : Lit). k.term) same)), w.2)
+            | inr w ↦ (w.0, has_of_reason w.0 w.1 (λ same. not_false size es order n i is e at (subst (IsFalseOn es) same w.2)), w.3)
+          ]
+
+      counts_new : left - 1 + more ≡ marked_of new (depth es) (take i es)
+      counts_new =
+          let off = marked_apart false marks e.literal.term (depth es) (take i es) (fresh size es order n i is e at) in
+          let step = made.count i (λ m has false_too. reason_is.others m has (λ same. not_false size es order n i is e at (subst (IsFalseOn es) same false_too))) in
+          omega (arith, way.count, sum_here, off, step)
+
+      pub way_on : 1 < left → IsOnWayBack s es dead i new longer (left - 1 + more)
+      way_on many = record {
+        links = All-push (λ (k : Link). IsLive s k.clause × ((x : Assigned) × Contains es x × (x.literal.term ≡ k.literal.term))) ks (link_of e clause) way.links
+            (reason_is.live, (e, has_found es i e at, refl));
+        dead_before = before_new;
+        marked = record { each = on_new; only = only_new };
+        count = counts_new;
+        some = omega (arith, many);
+        linked = λ one. omega (arith, length_push ks (link_of e clause));
+      }
+
+-- what is told over the literals and the level that were read
+pub counted_over : (es : List Assigned) (c d : List Lit) (level top : ℕ) (old new : List Bool) (more : ℕ) → c ≡ d → level ≡ top
+    → MarksCounted es c level old new more → MarksCounted es d top old new more
+counted_over es c d level top old new more e f h =
+    subst (λ (l : List Lit). MarksCounted es l top old new more) e (subst (λ (n : ℕ). MarksCounted es c n old new more) f h)
+
+-- ---- The start and the end
+
+pub way_over : (s : LogState) (es : List Assigned) (dead : ℕ) (marks : List Bool) (ks : List Link) (left n : ℕ) → n ≡ 0 → IsOnWayBack s es dead n marks ks left → ⊥
+way_over s es dead marks ks left n none way =
+    let count : left ≡ 0 = way.count ∙ ap (λ (k : ℕ). marked_of marks (depth es) (take k es)) none in
+    omega (arith, count, way.some)
+
+module _ (s : LogState) (size : ℕ) (es : List Assigned) (order : EachBehind (IsNext size) es) (dead : ℕ) (old new : List Bool) (left n : ℕ) (all : n ≡ length es)
+    (falses : IsDead es (literals_at s dead)) (unmarked : AreUnmarked old) (made : MarksCounted es (literals_at s dead) (depth es) old new left) where
+  whole : take n es ≡ es
+  whole = take_all n es (omega (arith, all))
+
+  abbrev IsOfLast : Lit → Type 0
+  IsOfLast l = (i : ℕ) × (e : Assigned) × (slice_get es i ≡ Some e) × (e.literal.term ≡ l.term) × (e.literal.sign ≡ not l.sign) × (e.level ≡ depth es)
+
+  of_last_level : (l : Lit) → Contains (literals_at s dead) l → level_on es l.term ≡ depth es → IsOfLast l
+  of_last_level l has last =
+      let e = false_entry es l (falses l has) in
+      let p = assigned_place es l.term e.0 e.1 in
+      (p.1.0, e.0, p.1.1, p.0, e.2, sym (level_found es l.term e.0 e.1) ∙ last)
+
+  marked_here : (l : Lit) → Contains (literals_at s dead) l → (w : IsOfLast l) → is_marked new w.1.literal.term ≡ true
+  marked_here l has w = ap (is_marked new) w.3 ∙ made.marks.marked l has (falses l has)
+
+  two_left : HasTwoLast es (literals_at s dead) → 2 ≤ marked_of new (depth es) es
+  two_left two =
+      let a = of_last_level two.first two.has_first two.first_last in
+      let b = of_last_level two.second two.has_second two.second_last in
+      let on = marked_here two.first two.has_first a in
+      let also = marked_here two.second two.has_second b in
+      elim (cases_lt a.0 b.0) [
+        | inl less ↦ two_counted new (depth es) es a.0 b.0 a.1 b.1 less a.2 b.2 on also a.5 b.5
+        | inr most ↦
+            elim (cases_eq a.0 b.0) [
+              | inl same ↦
+                  let one : a.1 ≡ b.1 = same_Some a.1 b.1 (sym a.2 ∙ ap (slice_get es) same ∙ b.2) in
+                  let term : two.first.term ≡ two.second.term = sym a.3 ∙ ap (λ (x : Assigned). x.literal.term) one ∙ b.3 in
+                  let sign : not two.first.sign ≡ not two.second.sign = sym a.4 ∙ ap (λ (x : Assigned). x.literal.sign) one ∙ b.4 in
+                  absurd (two.differ (lit_is two.first two.second term (sym (double two.first.sign) ∙ ap not sign ∙ double two.second.sign)))
+              | inr other ↦ two_counted new (depth es) es b.0 a.0 b.1 a.1 (omega (arith, most, other)) b.2 a.2 also on b.5 a.5
+            ]
+      ]
+
+  pub way_starts : HasTwoLast es (literals_at s dead) → IsOnWayBack s es dead n new [] left
+  way_starts two =
+      let none = none_counted old (depth es) (take n es) (λ x has on last. true≢false (sym on ∙ unmarked x.literal.term)) in
+      let step = made.count n (λ l has false_too. subst (λ (front : List Assigned). IsFalseOn front l) (sym whole) false_too) in
+      let count : left ≡ marked_of new (depth es) (take n es) = omega (arith, none, step) in
+      let many : 2 ≤ marked_of new (depth es) (take n es) = subst (λ (front : List Assigned). 2 ≤ marked_of new (depth es) front) (sym whole) (two_left two) in
+      record {
+        links = All-nil (λ (k : Link). IsLive s k.clause × ((x : Assigned) × Contains es x × (x.literal.term ≡ k.literal.term)));
+        dead_before = λ l has. subst (λ (front : List Assigned). IsFalseOn front l) (sym whole) (falses l has);
+        marked = record {
+          each = λ l has. made.marks.marked l has (falses l has);
+          only = λ t on. elim (made.marks.only t on) [ inl was ↦ absurd (true≢false (sym was ∙ unmarked t)) | inr w ↦ (w.0, w.1, w.3) ];
+        };
+        count = count;
+        some = omega (arith, count, many);
+        linked = λ one. absurd (omega (arith, count, many, one));
+      }

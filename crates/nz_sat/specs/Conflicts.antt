@@ -46,7 +46,7 @@ pub record MarksFalse (es : List Assigned) (c : List Lit) (old new : List Bool) 
 abbrev pub AreFalseIn : (es front : List Assigned) → List Lit → Type 0
 AreFalseIn es front c = (l : Lit) → Contains c l → IsFalseOn es l → IsFalseOn front l
 
--- The same, and so many entries of the level are marked more in a front of the trail that has all these.
+-- The same, and in a front of the trail that has all these, so many more entries of the level are marked.
 pub record MarksCounted (es : List Assigned) (c : List Lit) (level : ℕ) (old new : List Bool) (more : ℕ) : Type 0 where
   pub marks : MarksFalse es c old new
   pub count : (n : ℕ) → AreFalseIn es (take n es) c → marked_of old level (take n es) + more ≡ marked_of new level (take n es)

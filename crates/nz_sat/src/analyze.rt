@@ -1,9 +1,9 @@
 //! Conflict analysis: the clause that a conflict teaches, and the one that refutes the assumed literals.
-ghost use Rattle.std.specs.Prelude.{◌≡◌, ◌≢◌, ℕ, ◌+◌, ◌<◌, ◌≤◌, true, false, All, Contains, length, take, IfOk, OnOk};
+ghost use Rattle.std.specs.Prelude.{◌≡◌, ◌≢◌, ℕ, ◌<◌, ◌≤◌, true, false, All, Contains, length, IfOk, OnOk};
 ghost use Rattle.nz_log.specs.declared.lits.Lit.{Lit};
 ghost use Rattle.nz_log.specs.Logs.{IsLive, chained, literals_at};
 ghost use Rattle.nz_sat.specs.Clauses.{IsDead, IsImplied};
-ghost use Rattle.nz_sat.specs.Conflicts.{AreFalseIn, AreLinks, AreUnmarked, Grows, HasTwoLast, IsChain, IsLesson, MarksFalse, RefutesFrom, StaysSound, is_marked, marked_of};
+ghost use Rattle.nz_sat.specs.Conflicts.{AreLinks, AreUnmarked, Grows, HasTwoLast, IsChain, IsLesson, MarksCounted, RefutesFrom, StaysSound, is_marked};
 ghost use Rattle.nz_sat.specs.Trails.{EachBehind, IsTrail, depth, level_on};
 
 use crate::order::Order;
@@ -39,9 +39,7 @@ fn mark(
 ) -> usize
     requires trail { IsTrail trail.now }
     requires size { length seen.old ≡ trail.now.size }
-    ensures marks { MarksFalse trail.now.entries literals.now seen.old seen.new }
-    // In a front of the trail that has all these, so many more entries of the level are marked.
-    ensures count { (n : ℕ) → AreFalseIn trail.now.entries (take n trail.now.entries) literals.now → marked_of seen.old level (take n trail.now.entries) + result ≡ marked_of seen.new level (take n trail.now.entries) }
+    ensures marks { MarksCounted trail.now.entries literals.now level seen.old seen.new result }
 {
     let mut count = 0;
     for literal in literals {

@@ -1,6 +1,5 @@
 use Rattle.std.proofs.Common.{◌≤◌, take}
 use Rattle.nz_sat.specs.Conflicts.{MarksCounted}
-use Rattle.nz_sat.proofs.Marks.{counted_set, counted_same}
 use Rattle.nz_sat.proofs.analyze.mark.Given as goal
 
 -- the literals so far are marked and counted

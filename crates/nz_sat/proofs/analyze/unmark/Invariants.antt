@@ -1,6 +1,5 @@
 use Rattle.std.proofs.Common.{◌≡◌, ℕ, true, false, All, take}
 use Rattle.nz_sat.specs.Conflicts.{is_marked}
-use Rattle.nz_sat.proofs.Chains.{chained_once}
 use Rattle.nz_sat.proofs.analyze.unmark.Given as goal
 
 -- the marks of the literals so far are off, and no more are on
