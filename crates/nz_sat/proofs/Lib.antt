@@ -3,3 +3,5 @@ pub mod Chains
 pub mod Marks
 pub mod Backward
 pub mod Resolving
+pub mod Lessons
+pub mod Assuming

@@ -22,6 +22,26 @@ use Rattle.nz_sat.proofs.Trailing.{assigned_place, level_within}
 abbrev pub link_of : Assigned → ℕ → Link
 link_of e clause = record { clause = clause; literal = negated_lit e.literal }
 
+-- a literal of the clause with one link more is another one of the clause before, or of the reason
+pub longer_from : (s : LogState) (c : List Lit) (ks : List Link) (e : Assigned) (clause : ℕ) (m : Lit) → Contains (chained s c (ks ++ link_of e clause ∷ [])) m
+    → (Contains (chained s c ks) m × (m ≢ negated_lit e.literal)) ⊎ (Contains (literals_at s clause) m × (m ≢ e.literal))
+longer_from s c ks e clause m has =
+    elim (resolvent_from (negated_lit e.literal) (chained s c ks) (literals_at s clause) m
+      (subst (λ (d : List Lit). Contains d m) (chained_more s c ks (link_of e clause)) has)) [
+      | inl old ↦ inl (old.0, λ same. old.1 (sym same))
+      | inr of_reason ↦ inr (of_reason.0, λ same. of_reason.1 (twice_negated e.literal ∙ sym same))
+    ]
+
+-- one link more resolves on the negation of an entry, with its reason
+pub links_longer : (s : LogState) (es : List Assigned) (i : ℕ) (e : Assigned) → slice_get es i ≡ Some e → (ks : List Link) (clause : ℕ) → IsLive s clause → AreLinks s es ks
+    → AreLinks s es (ks ++ link_of e clause ∷ [])
+links_longer s es i e at ks clause live links =
+    All-push (λ (k : Link). IsLive s k.clause × ((x : Assigned) × Contains es x × (x.literal.term ≡ k.literal.term))) ks (link_of e clause) links
+    (live, (e, has_found es i e at, refl))
+
+pub no_links : (s : LogState) (es : List Assigned) → AreLinks s es []
+no_links s es = All-nil (λ (k : Link). IsLive s k.clause × ((x : Assigned) × Contains es x × (x.literal.term ≡ k.literal.term)))
+
 uncounted : (marks : List Bool) (level : ℕ) (e : Assigned) → is_marked marks e.literal.term ≡ false → counted marks level e ≡ 0
 uncounted marks level e off = ap (λ (m : Bool). one_if (m && (e.level == level))) off
 
@@ -121,14 +141,9 @@ module _ (s : LogState) (size : ℕ) (es : List Assigned) (order : EachBehind (I
       longer_is : chained s (literals_at s dead) longer ≡ lit_resolvent (negated_lit e.literal) so_far (literals_at s clause)
       longer_is = chained_more s (literals_at s dead) ks (link_of e clause)
 
-      -- a literal of the new clause is another one of the old, or of the reason
       parts : (m : Lit) → Contains (chained s (literals_at s dead) longer) m
           → (Contains so_far m × (m ≢ negated_lit e.literal)) ⊎ (Contains (literals_at s clause) m × (m ≢ e.literal))
-      parts m has =
-          elim (resolvent_from (negated_lit e.literal) so_far (literals_at s clause) m (subst (λ (c : List Lit). Contains c m) longer_is has)) [
-            | inl old ↦ inl (old.0, λ same. old.1 (sym same))
-            | inr of_reason ↦ inr (of_reason.0, λ same. of_reason.1 (twice_negated e.literal ∙ sym same))
-          ]
+      parts m has = longer_from s (literals_at s dead) ks e clause m has
 
       before_new : (m : Lit) → Contains (chained s (literals_at s dead) longer) m → IsFalseOn (take i es) m
       before_new m has =
@@ -171,8 +186,7 @@ module _ (s : LogState) (size : ℕ) (es : List Assigned) (order : EachBehind (I
 
       pub way_on : 1 < left → IsOnWayBack s es dead i new longer (left - 1 + more)
       way_on many = record {
-        links = All-push (λ (k : Link). IsLive s k.clause × ((x : Assigned) × Contains es x × (x.literal.term ≡ k.literal.term))) ks (link_of e clause) way.links
-            (reason_is.live, (e, has_found es i e at, refl));
+        links = links_longer s es i e at ks clause reason_is.live way.links;
         dead_before = before_new;
         marked = record { each = on_new; only = only_new };
         count = counts_new;
@@ -236,7 +250,7 @@ module _ (s : LogState) (size : ℕ) (es : List Assigned) (order : EachBehind (I
       let count : left ≡ marked_of new (depth es) (take n es) = omega (arith, none, step) in
       let many : 2 ≤ marked_of new (depth es) (take n es) = subst (λ (front : List Assigned). 2 ≤ marked_of new (depth es) front) (sym whole) (two_left two) in
       record {
-        links = All-nil (λ (k : Link). IsLive s k.clause × ((x : Assigned) × Contains es x × (x.literal.term ≡ k.literal.term)));
+        links = no_links s es;
         dead_before = λ l has. subst (λ (front : List Assigned). IsFalseOn front l) (sym whole) (falses l has);
         marked = record {
           each = λ l has. made.marks.marked l has (falses l has);

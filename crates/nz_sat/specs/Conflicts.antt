@@ -90,6 +90,11 @@ pub record IsChain (s : LogState) (es : List Assigned) (dead : ℕ) (marks : Lis
   pub others : (m : Lit) → Contains (chained s (literals_at s dead) c.links.items) m → m ≢ c.literal → level_on es m.term < depth es
   pub marked : AreMarked (chained s (literals_at s dead) c.links.items) marks
 
+-- A level is the greatest of those of the literals but one.
+pub record IsGreatestBut (es : List Assigned) (but : Lit) (c : List Lit) (level : ℕ) : Type 0 where
+  pub most : (m : Lit) → Contains c m → m ≢ but → level_on es m.term ≤ level
+  pub reached : 0 < level → (m : Lit) × Contains c m × (m ≢ but) × (level_on es m.term ≡ level)
+
 -- A clause in which each literal is false, of which one literal is of the last level; the greatest level of the others is told.
 pub record IsLesson (s : LogState) (es : List Assigned) (l : Lesson) : Type 0 where
   pub live : IsLive s l.clause
@@ -101,13 +106,13 @@ pub record IsLesson (s : LogState) (es : List Assigned) (l : Lesson) : Type 0 wh
   pub others : (m : Lit) → Contains (literals_at s l.clause) m → m ≢ l.literal → level_on es m.term ≤ l.level
   pub reached : 0 < l.level → (m : Lit) × Contains (literals_at s l.clause) m × (m ≢ l.literal) × (level_on es m.term ≡ l.level)
 
--- each literal is false, or the negation of an assumed one
-abbrev pub IsDeadUnder : List Lit → List Assigned → List Lit → Type 0
-IsDeadUnder assumed es c = (l : Lit) → Contains c l → IsFalseOn es l ⊎ Contains assumed (negated_lit l)
-
 -- each literal is the negation of an assumed one
 abbrev pub Refutes : List Lit → List Lit → Type 0
 Refutes assumed c = (l : Lit) → Contains c l → Contains assumed (negated_lit l)
+
+-- each literal is false, or the negation of an assumed one
+abbrev pub IsDeadUnder : List Lit → List Assigned → List Lit → Type 0
+IsDeadUnder assumed es c = (l : Lit) → Contains c l → IsFalseOn es l ⊎ Contains assumed (negated_lit l)
 
 -- A literal is false before a place of the trail, and its term is marked.
 pub record IsMarkedBefore (es : List Assigned) (place : ℕ) (marks : List Bool) (l : Lit) : Type 0 where
@@ -116,10 +121,10 @@ pub record IsMarkedBefore (es : List Assigned) (place : ℕ) (marks : List Bool)
 
 -- The way back to the assumed literals, down to a place: each literal of the clause so far is the negation of an assumed one, or is false
 -- before that place, and marked.
-abbrev pub IsOnWayToAssumed : LogState → List Assigned → (dead place : ℕ) → List Bool → List Link → Type 0
-IsOnWayToAssumed s es dead place marks ks =
-    (assumed : List Lit) → All (IsAssumed assumed) es → IsDeadUnder assumed es (literals_at s dead) → (l : Lit)
-    → Contains (chained s (literals_at s dead) ks) l → Contains assumed (negated_lit l) ⊎ IsMarkedBefore es place marks l
+pub record IsOnWayToAssumed (s : LogState) (es : List Assigned) (dead place : ℕ) (marks : List Bool) (ks : List Link) : Type 0 where
+  pub links : AreLinks s es ks
+  pub each : (assumed : List Lit) → All (IsAssumed assumed) es → IsDeadUnder assumed es (literals_at s dead) → (l : Lit)
+      → Contains (chained s (literals_at s dead) ks) l → Contains assumed (negated_lit l) ⊎ IsMarkedBefore es place marks l
 
 -- where the trail has no entries without a reason but assumed ones, and a clause is dead but for negations of assumed ones, what comes of it
 -- refutes these

@@ -3,7 +3,7 @@ ghost use Rattle.std.specs.Prelude.{◌≡◌, ◌≢◌, ℕ, ◌<◌, ◌≤�
 ghost use Rattle.nz_log.specs.declared.lits.Lit.{Lit};
 ghost use Rattle.nz_log.specs.Logs.{IsLive, chained, literals_at};
 ghost use Rattle.nz_sat.specs.Clauses.{IsDead, IsImplied};
-ghost use Rattle.nz_sat.specs.Conflicts.{AreLinks, AreUnmarked, Grows, HasTwoLast, IsChain, IsLesson, MarksCounted, RefutesFrom, StaysSound, is_marked};
+ghost use Rattle.nz_sat.specs.Conflicts.{AreLinks, AreUnmarked, Grows, HasTwoLast, IsChain, IsGreatestBut, IsLesson, MarksCounted, RefutesFrom, StaysSound, is_marked};
 ghost use Rattle.nz_sat.specs.Trails.{EachBehind, IsTrail, depth, level_on};
 
 use crate::order::Order;
@@ -108,8 +108,7 @@ fn chain_back(
 
 /// The greatest level of these literals but one.
 fn level_but(trail: &Trail, literals: &[Lit], but: Lit) -> usize
-    ensures most { All (λ m. m ≢ but → level_on trail.now.entries m.term ≤ result) literals.now }
-    ensures reached { 0 < result → (m : Lit) × Contains literals.now m × (m ≢ but) × (level_on trail.now.entries m.term ≡ result) }
+    ensures greatest { IsGreatestBut trail.now.entries but literals.now result }
 {
     let mut level = 0;
     for literal in literals {
