@@ -1,7 +1,9 @@
 -- What a conflict teaches: the clause that is put into the log, and its levels.
 use Rattle.std.proofs.Common.{◌≡◌, ◌≢◌, ℕ, ◌+◌, ◌<◌, ◌≤◌, max, Bool, true, false, ◌⊎◌, inl, inr, List, [], ◌∷◌, ◌++◌, length, Some, None, refl, sym, ap, subst, ◌∙◌, true≢false, arith}
 use Rattle.std.specs.Prelude.{All, Contains, Option, IfOk, OnErr, Result, Ok, Err}
+use Rattle.std.specs.Ordering.{nat_cmp, ord_max}
 use Rattle.std.proofs.lemmas.Bool.{cases_lt}
+use Rattle.std.proofs.lemmas.Bool.Decides.{nat_tests}
 use Rattle.std.proofs.lemmas.List.Elements.{All-contains, All-contains_itself, All-weaker, Contains-append_left, Contains-push, Contains-push_cases}
 use Rattle.nz_spec.specs.Literal.{StandOnce}
 use Rattle.nz_log.specs.declared.lits.Lit.{Lit}
@@ -17,6 +19,10 @@ use Rattle.nz_sat.proofs.Chains.{chained_once}
 use Rattle.nz_sat.proofs.Marks.{marked_within}
 
 -- ---- The greatest level but one
+
+-- what `max` answers
+pub greater_of : (m n : ℕ) → ord_max nat_cmp m n ≡ max m n
+greater_of m n = grind (arith, nat_tests)
 
 module _ (es : List Assigned) (but : Lit) (c : List Lit) (n : ℕ) (l : Lit) (h : IsGreatestBut es but c n) where
   kept_reached : 0 < n → (m : Lit) × Contains (c ++ l ∷ []) m × (m ≢ but) × (level_on es m.term ≡ n)
@@ -48,6 +54,10 @@ module _ (es : List Assigned) (but : Lit) (c : List Lit) (n : ℕ) (l : Lit) (h 
   }
 
 -- ---- The clause in the log
+
+pub none_of : {X : Type 0} (xs : List X) → length xs ≡ 0 → xs ≡ []
+none_of [] e = refl
+none_of (x ∷ xs) e = absurd (omega (arith, e))
 
 -- what holds of each that a list has holds of all
 pub all_from : {X : Type 0} (P : X → Type 0) (xs : List X) → ((x : X) → Contains xs x → P x) → All P xs

@@ -1,5 +1,4 @@
 use Rattle.nz_sat.specs.Conflicts.{IsOnWayToAssumed}
-use Rattle.nz_sat.proofs.Assuming.{assumed_ends}
 use Rattle.nz_sat.proofs.analyze.chain_to_assumed.Given as goal
 
 abbrev pub invariant-loop-i : goal.invariant-loop-i

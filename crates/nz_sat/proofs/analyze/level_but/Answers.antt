@@ -6,7 +6,7 @@ use Rattle.nz_log.specs.Lits.{are_same_lit}
 use Rattle.nz_sat.specs.Conflicts.{IsGreatestBut}
 use Rattle.nz_sat.specs.Trails.{level_on}
 use Rattle.nz_sat.proofs.Chains.{one_lit, same_lit}
-use Rattle.nz_sat.proofs.Lessons.{greatest_more, greatest_same}
+use Rattle.nz_sat.proofs.Lessons.{greater_of, greatest_more, greatest_same}
 use Rattle.nz_sat.proofs.analyze.level_but.Goals as goal
 use Rattle.nz_sat.proofs.analyze.level_but.Goals.{then-not-is, else-not-is}
 
@@ -23,7 +23,7 @@ loop-literal-preserved c =
     (elim c.if-not-is.branch [
       | then-not-is w ↦
           let other : l ≢ but = λ same. true≢false (sym (ap (are_same_lit l) (sym same) ∙ one_lit l) ∙ sym c.is.ensures.same ∙ w.if-not-is.true) in
-          let most : c.if-not-is.level ≡ max n (level_on es l.term) = w.level-is ∙ w.max-level.ensures ∙ ap (max n) w.level_of.ensures.level in
+          let most : c.if-not-is.level ≡ max n (level_on es l.term) = w.level-is ∙ w.max-level.ensures ∙ greater_of n w.level_of.result ∙ ap (max n) w.level_of.ensures.level in
           greatest_more es but before n l c.loop-literal.invariant other c.if-not-is.level most
       | else-not-is w ↦
           let same : l ≡ but = same_lit l but (sym c.is.ensures.same ∙ w.if-not-is.false) in
