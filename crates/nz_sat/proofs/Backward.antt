@@ -1,28 +1,24 @@
 -- The way back along the trail: what is resolved at a place, and what is left.
-use Rattle.std.proofs.Common.{◌≡◌, ◌≢◌, ℕ, zero, suc, ◌+◌, ◌-◌, ◌<◌, ◌≤◌, Bool, true, false, not, ◌⊎◌, inl, inr, List, [], ◌∷◌, ◌++◌, length, take, drop, get_or, Option, Some, None, refl, sym, ap, subst, ◌∙◌, true≢false, arith, length-take}
-use Rattle.std.specs.Prelude.{◌==◌, All, Contains, slice_get, slice_set, option_map, nat_lt}
+use Rattle.std.proofs.Common.{◌≡◌, ◌≢◌, ℕ, ◌+◌, ◌<◌, ◌≤◌, Bool, true, false, not, ◌⊎◌, inl, inr, List, [], ◌∷◌, ◌++◌, take, drop, Option, Some, None, refl, sym, ap, subst, ◌∙◌, arith, length-take}
+use Rattle.std.specs.Prelude.{Contains, slice_get, option_map, nat_lt}
+use Rattle.std.proofs.Math.Bool.{not-not}
 use Rattle.std.proofs.lemmas.Bool.{cases_eq}
-use Rattle.std.proofs.lemmas.List.{take-append-drop, take_all, take_more, length_push}
-use Rattle.std.proofs.lemmas.List.Elements.{All-nil, All-push}
+use Rattle.std.proofs.lemmas.List.{take-append-drop, take_more}
 use Rattle.std.proofs.lemmas.List.Sums.{sum_by_push}
 use Rattle.std.proofs.lemmas.Option.{same_Some, slice_get_within, slice_get-get_or, get_or_from_slice_get}
 use Rattle.nz_lists.proofs.Places.{slice_get_kept}
 use Rattle.nz_log.specs.declared.lits.Lit.{Lit}
-use Rattle.nz_log.specs.declared.origins.Link.{Link}
 use Rattle.nz_log.specs.Lits.{negated_lit}
-use Rattle.nz_log.specs.Logs.{LogState, IsLive, chained, literals_at}
-use Rattle.nz_sat.specs.declared.analyze.Chain.{Chain}
 use Rattle.nz_sat.specs.declared.trail.Assigned.{Assigned}
-use Rattle.nz_sat.specs.Trails.{EachBehind, IsFalseOn, IsNext, assigned, depth, is_decision, level_on}
-use Rattle.nz_sat.specs.Clauses.{IsDead, IsImplied, IsReason, IsReasonOf}
-use Rattle.nz_sat.specs.Conflicts.{AreFalseIn, AreLinks, AreMarked, AreUnmarked, HasTwoLast, IsChain, IsOnWayBack, MarksFalse, is_marked, marked_of}
-use Rattle.nz_sat.proofs.Chains.{chained_more, has_found, lit_is, resolvent_first, resolvent_from, resolvent_second, twice_negated, double}
-use Rattle.nz_sat.proofs.Marks.{counted, false_entry, is_counted, level_found, marked_apart, none_counted, not_itself, one_counted, one_found, one_if, other_mark, two_counted, unmark_parts}
-use Rattle.nz_sat.proofs.Trailing.{assigned_at, assigned_found, assigned_missing, assigned_place, depth_front, level_is, level_within}
+use Rattle.nz_sat.specs.Trails.{EachBehind, IsFalseOn, IsNext, assigned, depth, is_decision}
+use Rattle.nz_sat.specs.Conflicts.{marked_of}
+use Rattle.nz_sat.proofs.Chains.{lit_is}
+use Rattle.nz_sat.proofs.Marks.{counted, false_entry, none_counted, not_itself, one_found, one_if}
+use Rattle.nz_sat.proofs.Trailing.{assigned_at, assigned_found, assigned_missing, depth_front, level_is, level_within}
 
 -- ---- False literals
 
-pub false_more : (front more : List Assigned) (l : Lit) → IsFalseOn front l → IsFalseOn (front ++ more) l
+false_more : (front more : List Assigned) (l : Lit) → IsFalseOn front l → IsFalseOn (front ++ more) l
 false_more front more l dead =
     let e = false_entry front l dead in
     ap (option_map (λ (x : Assigned). x.literal.sign)) (assigned_found front more l.term e.0 e.1) ∙ ap Some e.2
@@ -38,7 +34,7 @@ false_push front e m dead =
       | None ↦ λ none.
           let one = one_found e m.term x.0 (sym (assigned_missing front (e ∷ []) m.term none) ∙ x.1) in
           let sign : e.literal.sign ≡ not m.sign = ap (λ (y : Assigned). y.literal.sign) one.1 ∙ x.2 in
-          inl (lit_is m (negated_lit e.literal) (sym one.0) (sym (ap not sign ∙ double m.sign)))
+          inl (lit_is m (negated_lit e.literal) (sym one.0) (sym (ap not sign ∙ not-not m.sign)))
       | Some y ↦ λ there.
           let same : y ≡ x.0 = same_Some y x.0 (sym (assigned_found front (e ∷ []) m.term y there) ∙ x.1) in
           let sign : y.literal.sign ≡ not m.sign = ap (λ (z : Assigned). z.literal.sign) same ∙ x.2 in
@@ -46,7 +42,7 @@ false_push front e m dead =
     ] refl
 
 -- what a front has stands at a place
-pub front_place : (es : List Assigned) (n : ℕ) (x : Assigned) → Contains (take n es) x → (j : ℕ) × (j < n) × (slice_get es j ≡ Some x)
+front_place : (es : List Assigned) (n : ℕ) (x : Assigned) → Contains (take n es) x → (j : ℕ) × (j < n) × (slice_get es j ≡ Some x)
 front_place es n x h =
     let at : slice_get (take n es) h.0 ≡ Some x = slice_get-get_or (take n es) h.0 x h.1 ∙ ap Some h.2 in
     let kept : slice_get es h.0 ≡ Some x =

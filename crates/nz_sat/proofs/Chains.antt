@@ -1,18 +1,19 @@
 -- Resolvents and chains: which literals they have, each of them once.
-use Rattle.std.proofs.Common.{◌≡◌, ◌≢◌, ℕ, zero, suc, ◌<◌, Bool, true, false, not, ◌&&◌, ◌||◌, ◌⊎◌, inl, inr, if◌then◌else◌, List, [], ◌∷◌, ◌++◌, length, Some, refl, sym, ap, subst, ◌∙◌, true≢false, arith, eqb-true}
-use Rattle.std.specs.Prelude.{◌==◌, Contains, filter, fold, slice_get, slice_index_or}
+use Rattle.std.proofs.Common.{◌≡◌, ◌≢◌, ℕ, zero, suc, ◌<◌, Bool, true, false, not, ◌||◌, ◌⊎◌, inl, inr, if◌then◌else◌, List, [], ◌∷◌, ◌++◌, length, Some, refl, sym, ap, subst, ◌∙◌, true≢false, arith}
+use Rattle.std.specs.Prelude.{Contains, filter, fold, slice_get, slice_index_or}
 use Rattle.std.specs.List.{list_any}
-use Rattle.std.proofs.lemmas.Bool.{and_from, and_parts, eq-eqb}
+use Rattle.std.proofs.Math.Bool.{not-not}
 use Rattle.std.proofs.lemmas.List.Elements.{Contains-append_left, Contains-append_right, Contains-append_cases, Contains-push, Contains-push_cases}
 use Rattle.std.proofs.lemmas.List.Folds.{list_any_at}
 use Rattle.std.proofs.lemmas.List.Sums.{fold-append}
 use Rattle.std.proofs.lemmas.Option.{slice_get_within, get_or_from_slice_get}
 use Rattle.nz_lists.proofs.Places.{slice_get-push_cases}
-use Rattle.nz_spec.specs.Literal.{are_same_sign, with_one, once, without, StandOnce}
+use Rattle.nz_spec.specs.Literal.{with_one, once, without, StandOnce}
 use Rattle.nz_log.specs.declared.lits.Lit.{Lit}
 use Rattle.nz_log.specs.declared.origins.Link.{Link}
 use Rattle.nz_log.specs.Lits.{negated_lit, are_same_lit, lit_resolvent}
 use Rattle.nz_log.specs.Logs.{LogState, chained, literals_at}
+use Rattle.nz_sat.proofs.Clausal.{lit_same, same_lit}
 
 -- ---- Elements of lists
 
@@ -21,7 +22,7 @@ module _ {X : Type 0} where
   has_at x y xs zero less e = inl e
   has_at x y xs (suc k) less e = inr (k, omega arith, e)
 
-  pub has_cases : (x y : X) (xs : List X) → Contains (x ∷ xs) y → (x ≡ y) ⊎ Contains xs y
+  has_cases : (x y : X) (xs : List X) → Contains (x ∷ xs) y → (x ≡ y) ⊎ Contains xs y
   has_cases x y xs h = has_at x y xs h.0 h.1 h.2
 
   pub has_first : (x : X) (xs : List X) → Contains (x ∷ xs) x
@@ -30,7 +31,7 @@ module _ {X : Type 0} where
   pub has_more : (x y : X) (xs : List X) → Contains xs y → Contains (x ∷ xs) y
   has_more x y xs h = (suc h.0, omega (arith, h.1), h.2)
 
-  pub has_none : (y : X) → Contains [] y → ⊥
+  has_none : (y : X) → Contains [] y → ⊥
   has_none y h = omega (arith, h.1)
 
   pub has_found : (xs : List X) (i : ℕ) (x : X) → slice_get xs i ≡ Some x → Contains xs x
@@ -45,7 +46,7 @@ module _ {X : Type 0} where
   kept_first true x zs e = has_first x zs
   kept_first false x zs e = absurd (true≢false (sym e))
 
-  pub filter_has : (p : X → Bool) (xs : List X) (y : X) → Contains xs y → p y ≡ true → Contains (filter p xs) y
+  filter_has : (p : X → Bool) (xs : List X) (y : X) → Contains xs y → p y ≡ true → Contains (filter p xs) y
   filter_has p [] y h t = absurd (has_none y h)
   filter_has p (x ∷ xs) y h t =
       elim (has_cases x y xs h) [
@@ -62,7 +63,7 @@ module _ {X : Type 0} where
       ]
   from_step p false x y xs zs e f h = (has_more x y xs (f h).0, (f h).1)
 
-  pub filter_from : (p : X → Bool) (xs : List X) (y : X) → Contains (filter p xs) y → Contains xs y × (p y ≡ true)
+  filter_from : (p : X → Bool) (xs : List X) (y : X) → Contains (filter p xs) y → Contains xs y × (p y ≡ true)
   filter_from p [] y h = absurd (has_none y h)
   filter_from p (x ∷ xs) y h = from_step p (p x) x y xs (filter p xs) refl (filter_from p xs y) h
 
@@ -139,79 +140,57 @@ module _ {X : Type 0} where
         put_once xs (with_one same ys x)
         (with_once (list_any (same x) ys) ys x (λ none has. true≢false (sym (tells_any x ys has) ∙ none)) h)
 
-    pub once_has : (xs : List X) (y : X) → Contains xs y → Contains (once same xs) y
+    once_has : (xs : List X) (y : X) → Contains xs y → Contains (once same xs) y
     once_has xs y h = put_new xs [] y h
 
-    pub once_from : (xs : List X) (y : X) → Contains (once same xs) y → Contains xs y
+    once_from : (xs : List X) (y : X) → Contains (once same xs) y → Contains xs y
     once_from xs y h = elim (put_from xs [] y h) [ inl none ↦ absurd (has_none y none) | inr has ↦ has ]
 
-    pub once_once : (xs : List X) → StandOnce (once same xs)
+    once_once : (xs : List X) → StandOnce (once same xs)
     once_once xs = put_once xs [] (λ i j x at to. cc)
 
 -- ---- Literals
 
-same_sign : (p q : Bool) → are_same_sign p q ≡ true → p ≡ q
-same_sign true true e = refl
-same_sign true false e = absurd (true≢false (sym e))
-same_sign false true e = absurd (true≢false (sym e))
-same_sign false false e = refl
-
-one_sign : (p : Bool) → are_same_sign p p ≡ true
-one_sign true = refl
-one_sign false = refl
-
 pub lit_is : (l m : Lit) → l.term ≡ m.term → l.sign ≡ m.sign → l ≡ m
 lit_is l m e f = ap (λ (t : ℕ). record { term = t; sign = l.sign }) e ∙ ap (λ (b : Bool). record { term = m.term; sign = b }) f
-
-pub same_lit : (l m : Lit) → are_same_lit l m ≡ true → l ≡ m
-same_lit l m e =
-    let parts = and_parts (l.term == m.term) (are_same_sign l.sign m.sign) e in
-    lit_is l m (eqb-true l.term m.term parts.0) (same_sign l.sign m.sign parts.1)
-
-pub one_lit : (l : Lit) → are_same_lit l l ≡ true
-one_lit l = and_from (l.term == l.term) (are_same_sign l.sign l.sign) (eq-eqb l.term l.term refl) (one_sign l.sign)
 
 not_true : (b : Bool) → (b ≡ true → ⊥) → not b ≡ true
 not_true true f = absurd (f refl)
 not_true false f = refl
 
-pub other_lit : (l m : Lit) → l ≢ m → not (are_same_lit l m) ≡ true
+other_lit : (l m : Lit) → l ≢ m → not (are_same_lit l m) ≡ true
 other_lit l m f = not_true (are_same_lit l m) (λ e. f (same_lit l m e))
 
-pub differ_lit : (l m : Lit) → not (are_same_lit l m) ≡ true → l ≢ m
-differ_lit l m e is = true≢false (sym e ∙ ap not (ap (are_same_lit l) (sym is) ∙ one_lit l))
-
-pub double : (b : Bool) → not (not b) ≡ b
-double true = refl
-double false = refl
+differ_lit : (l m : Lit) → not (are_same_lit l m) ≡ true → l ≢ m
+differ_lit l m e is = true≢false (sym e ∙ ap not (ap (are_same_lit l) (sym is) ∙ lit_same l))
 
 pub twice_negated : (l : Lit) → negated_lit (negated_lit l) ≡ l
-twice_negated l = ap (λ (b : Bool). record { term = l.term; sign = b }) (double l.sign)
+twice_negated l = ap (λ (b : Bool). record { term = l.term; sign = b }) (not-not l.sign)
 
 -- ---- Resolvents
 
 pub resolvent_first : (l : Lit) (c d : List Lit) (m : Lit) → Contains c m → l ≢ m → Contains (lit_resolvent l c d) m
 resolvent_first l c d m h other =
-    once_has are_same_lit same_lit one_lit (without are_same_lit l c ++ without are_same_lit (negated_lit l) d) m
+    once_has are_same_lit same_lit lit_same (without are_same_lit l c ++ without are_same_lit (negated_lit l) d) m
     (Contains-append_left (without are_same_lit l c) (without are_same_lit (negated_lit l) d) m
     (filter_has (λ k. not (are_same_lit l k)) c m h (other_lit l m other)))
 
 pub resolvent_second : (l : Lit) (c d : List Lit) (m : Lit) → Contains d m → negated_lit l ≢ m → Contains (lit_resolvent l c d) m
 resolvent_second l c d m h other =
-    once_has are_same_lit same_lit one_lit (without are_same_lit l c ++ without are_same_lit (negated_lit l) d) m
+    once_has are_same_lit same_lit lit_same (without are_same_lit l c ++ without are_same_lit (negated_lit l) d) m
     (Contains-append_right (without are_same_lit l c) (without are_same_lit (negated_lit l) d) m
     (filter_has (λ k. not (are_same_lit (negated_lit l) k)) d m h (other_lit (negated_lit l) m other)))
 
 pub resolvent_from : (l : Lit) (c d : List Lit) (m : Lit) → Contains (lit_resolvent l c d) m → (Contains c m × (l ≢ m)) ⊎ (Contains d m × (negated_lit l ≢ m))
 resolvent_from l c d m h =
-    let parts = once_from are_same_lit same_lit one_lit (without are_same_lit l c ++ without are_same_lit (negated_lit l) d) m h in
+    let parts = once_from are_same_lit same_lit lit_same (without are_same_lit l c ++ without are_same_lit (negated_lit l) d) m h in
     elim (Contains-append_cases (without are_same_lit l c) (without are_same_lit (negated_lit l) d) m parts) [
       | inl first ↦ let f = filter_from (λ k. not (are_same_lit l k)) c m first in inl (f.0, differ_lit l m f.1)
       | inr second ↦ let f = filter_from (λ k. not (are_same_lit (negated_lit l) k)) d m second in inr (f.0, differ_lit (negated_lit l) m f.1)
     ]
 
 resolvent_once : (l : Lit) (c d : List Lit) → StandOnce (lit_resolvent l c d)
-resolvent_once l c d = once_once are_same_lit same_lit one_lit (without are_same_lit l c ++ without are_same_lit (negated_lit l) d)
+resolvent_once l c d = once_once are_same_lit same_lit lit_same (without are_same_lit l c ++ without are_same_lit (negated_lit l) d)
 
 -- ---- Chains
 

@@ -1,6 +1,6 @@
 -- What a conflict teaches: the clause that is put into the log, and its levels.
-use Rattle.std.proofs.Common.{◌≡◌, ◌≢◌, ℕ, ◌+◌, ◌<◌, ◌≤◌, max, Bool, true, false, ◌⊎◌, inl, inr, List, [], ◌∷◌, ◌++◌, length, Some, None, refl, sym, ap, subst, ◌∙◌, true≢false, arith}
-use Rattle.std.specs.Prelude.{All, Contains, Option, IfOk, OnErr, Result, Ok, Err}
+use Rattle.std.proofs.Common.{◌≡◌, ◌≢◌, ℕ, ◌<◌, max, Bool, true, false, inl, inr, List, [], ◌∷◌, ◌++◌, length, Some, None, refl, sym, ap, subst, ◌∙◌, true≢false, arith}
+use Rattle.std.specs.Prelude.{All, Contains, Option}
 use Rattle.std.specs.Ordering.{nat_cmp, ord_max}
 use Rattle.std.proofs.lemmas.Bool.{cases_lt}
 use Rattle.std.proofs.lemmas.Bool.Decides.{nat_tests}
@@ -8,13 +8,12 @@ use Rattle.std.proofs.lemmas.List.Elements.{All-contains, All-contains_itself, A
 use Rattle.nz_spec.specs.Literal.{StandOnce}
 use Rattle.nz_log.specs.declared.lits.Lit.{Lit}
 use Rattle.nz_log.specs.declared.origins.Link.{Link}
-use Rattle.nz_log.specs.Logs.{Entry, LogState, IsLive, Puts, chain_entry, chained, entry_at, literals_at}
+use Rattle.nz_log.specs.Logs.{Entry, LogState, IsLive, Puts, chain_entry, chained, literals_at}
 use Rattle.nz_sat.specs.declared.analyze.Chain.{Chain}
-use Rattle.nz_sat.specs.declared.analyze.Lesson.{Lesson}
 use Rattle.nz_sat.specs.declared.trail.Assigned.{Assigned}
 use Rattle.nz_sat.specs.Trails.{depth, level_on}
 use Rattle.nz_sat.specs.Clauses.{IsDead}
-use Rattle.nz_sat.specs.Conflicts.{AreLinks, AreUnmarked, Grows, IsChain, IsGreatestBut, IsLesson, is_marked}
+use Rattle.nz_sat.specs.Conflicts.{AreLinks, AreUnmarked, IsChain, IsGreatestBut, IsLesson, is_marked}
 use Rattle.nz_sat.proofs.Chains.{chained_once}
 use Rattle.nz_sat.proofs.Marks.{marked_within}
 
@@ -55,30 +54,11 @@ module _ (es : List Assigned) (but : Lit) (c : List Lit) (n : ℕ) (l : Lit) (h 
 
 -- ---- The clause in the log
 
-pub none_of : {X : Type 0} (xs : List X) → length xs ≡ 0 → xs ≡ []
-none_of [] e = refl
-none_of (x ∷ xs) e = absurd (omega (arith, e))
-
 -- what holds of each that a list has holds of all
 pub all_from : {X : Type 0} (P : X → Type 0) (xs : List X) → ((x : X) → Contains xs x → P x) → All P xs
 all_from P xs f = All-weaker (Contains xs) P f xs (All-contains_itself xs)
 
-pub grows_same : (s : LogState) → Grows s s
-grows_same s = record { live = λ i h. h; kept = λ i h. refl; told = refl }
-
-pub puts_grows : (old new : LogState) (id : ℕ) (e : Entry) → Puts old id e new → Grows old new
-puts_grows old new id e p = record {
-  live = p.stay;
-  kept = λ i live. p.kept i (λ same. let less = p.above i live in omega (arith, same, less));
-  told = p.told;
-}
-
--- after a rule the log has grown, or is as it was
-pub grown_by : {E : Type 0} (old new : LogState) (e : Entry) (r : Result ℕ E) → IfOk r (λ id. Puts old id e new) → OnErr r (new ≡ old) → Grows old new
-grown_by old new e (Ok id) made unchanged = puts_grows old new id e made
-grown_by old new e (Err x) made unchanged = subst (Grows old) (sym unchanged) (grows_same old)
-
-pub puts_literals : (old new : LogState) (id : ℕ) (e : Entry) → Puts old id e new → literals_at new id ≡ e.literals
+puts_literals : (old new : LogState) (id : ℕ) (e : Entry) → Puts old id e new → literals_at new id ≡ e.literals
 puts_literals old new id e p = ap (λ (o : Option Entry). elim o [ None ↦ [] | Some x ↦ x.literals ]) p.made
 
 -- the links resolve on terms of the table
@@ -87,11 +67,6 @@ pub links_within : (s : LogState) (es : List Assigned) (n : ℕ) (ks : List Link
 links_within s es n ks within links =
     All-weaker (λ (k : Link). IsLive s k.clause × ((e : Assigned) × Contains es e × (e.literal.term ≡ k.literal.term))) (λ (k : Link). k.literal.term < n)
     (λ k w. let less = All-contains (λ (e : Assigned). e.literal.term < n) es w.1.0 within w.1.1 in omega (arith, w.1.2, less)) ks links
-
-pub links_live : (s : LogState) (es : List Assigned) (ks : List Link) → AreLinks s es ks → All (λ (k : Link). IsLive s k.clause) ks
-links_live s es ks links =
-    All-weaker (λ (k : Link). IsLive s k.clause × ((e : Assigned) × Contains es e × (e.literal.term ≡ k.literal.term))) (λ (k : Link). IsLive s k.clause)
-    (λ k w. w.0) ks links
 
 -- ---- The lesson
 

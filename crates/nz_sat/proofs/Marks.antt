@@ -1,6 +1,6 @@
 -- Marks of terms, and how many entries of a level are marked.
-use Rattle.std.proofs.Common.{◌≡◌, ◌≢◌, ℕ, zero, suc, ◌+◌, ◌<◌, ◌≤◌, Bool, true, false, not, ◌&&◌, ◌⊎◌, inl, inr, if◌then◌else◌, List, [], ◌∷◌, ◌++◌, length, take, drop, get_or, Option, Some, None, refl, sym, ap, subst, ◌∙◌, true≢false, arith, eqb-true}
-use Rattle.std.specs.Prelude.{◌==◌, Contains, slice_get, slice_set, sum_by, option_map}
+use Rattle.std.proofs.Common.{◌≡◌, ◌≢◌, ℕ, zero, suc, ◌+◌, ◌<◌, ◌≤◌, Bool, true, false, not, ◌&&◌, ◌⊎◌, inl, inr, if◌then◌else◌, List, [], ◌∷◌, ◌++◌, length, take, drop, Option, Some, None, refl, sym, ap, subst, ◌∙◌, true≢false, arith, eqb-true}
+use Rattle.std.specs.Prelude.{◌==◌, Contains, slice_get, slice_set, option_map}
 use Rattle.std.proofs.Math.Seq.{take-suc}
 use Rattle.std.proofs.lemmas.Bool.{and_from, and_parts, cases_eq, eq-eqb}
 use Rattle.std.proofs.lemmas.Bool.Decides.{eqb_tells}
@@ -25,10 +25,10 @@ marked_within (m ∷ ms) (suc t) e = let h : t < length ms = marked_within ms t 
 pub other_mark : (marks : List Bool) (u t : ℕ) (b : Bool) → t ≢ u → is_marked (slice_set marks u b) t ≡ is_marked marks t
 other_mark marks u t b other = get_or-set_other marks u t b false other
 
-pub marks_cases : (marks : List Bool) (u t : ℕ) → is_marked (slice_set marks u true) t ≡ true → (t ≡ u) ⊎ (is_marked marks t ≡ true)
+marks_cases : (marks : List Bool) (u t : ℕ) → is_marked (slice_set marks u true) t ≡ true → (t ≡ u) ⊎ (is_marked marks t ≡ true)
 marks_cases marks u t on = elim (cases_eq t u) [ inl same ↦ inl same | inr other ↦ inr (sym (other_mark marks u t true other) ∙ on) ]
 
-pub mark_keeps : (marks : List Bool) (u t : ℕ) → u < length marks → is_marked marks t ≡ true → is_marked (slice_set marks u true) t ≡ true
+mark_keeps : (marks : List Bool) (u t : ℕ) → u < length marks → is_marked marks t ≡ true → is_marked (slice_set marks u true) t ≡ true
 mark_keeps marks u t within on =
     elim (cases_eq t u) [
       | inl same ↦ ap (is_marked (slice_set marks u true)) same ∙ get_or-set_same marks u true false within
@@ -48,7 +48,7 @@ unmark_parts marks u t within on =
 
 module _ (es : List Assigned) (c : List Lit) (l : Lit) (old new : List Bool) where
   -- one that isn't false, or whose term is marked already
-  pub marks_same : (IsFalseOn es l → is_marked new l.term ≡ true) → MarksFalse es c old new → MarksFalse es (c ++ l ∷ []) old new
+  marks_same : (IsFalseOn es l → is_marked new l.term ≡ true) → MarksFalse es c old new → MarksFalse es (c ++ l ∷ []) old new
   marks_same f h = record {
     kept = h.kept;
     marked = λ m has false_too.
@@ -59,7 +59,7 @@ module _ (es : List Assigned) (c : List Lit) (l : Lit) (old new : List Bool) whe
     only = λ t on. elim (h.only t on) [ inl o ↦ inl o | inr w ↦ inr (w.0, Contains-append_left c (l ∷ []) w.0 w.1, w.2, w.3) ];
   }
 
-  pub marks_set : IsFalseOn es l → l.term < length new → MarksFalse es c old new → MarksFalse es (c ++ l ∷ []) old (slice_set new l.term true)
+  marks_set : IsFalseOn es l → l.term < length new → MarksFalse es c old new → MarksFalse es (c ++ l ∷ []) old (slice_set new l.term true)
   marks_set dead within h = record {
     kept = λ t on. mark_keeps new l.term t within (h.kept t on);
     marked = λ m has false_too.
@@ -156,7 +156,7 @@ module _ (size : ℕ) (es : List Assigned) (order : EachBehind (IsNext size) es)
       ] refl
 
   -- the mark of an entry that wasn't marked counts one at its level
-  pub marked_new : (n : ℕ) (x : Assigned) → assigned (take n es) t ≡ Some x
+  marked_new : (n : ℕ) (x : Assigned) → assigned (take n es) t ≡ Some x
       → marked_of (slice_set marks t true) level (take n es) ≡ marked_of marks level (take n es) + one_at level x.level
   marked_new zero x at = let none : None ≡ Some x = at in cc
   marked_new (suc n) x at =

@@ -1,6 +1,7 @@
 -- The chain of a conflict, link by link.
-use Rattle.std.proofs.Common.{◌≡◌, ◌≢◌, ℕ, suc, ◌+◌, ◌-◌, ◌<◌, ◌≤◌, Bool, true, false, not, ◌&&◌, ◌⊎◌, inl, inr, List, [], ◌∷◌, ◌++◌, length, take, Some, None, refl, sym, ap, subst, ◌∙◌, true≢false, arith}
+use Rattle.std.proofs.Common.{◌≡◌, ◌≢◌, ℕ, ◌+◌, ◌-◌, ◌<◌, ◌≤◌, Bool, true, false, not, ◌&&◌, ◌⊎◌, inl, inr, List, [], ◌∷◌, ◌++◌, length, take, Some, None, refl, sym, ap, subst, ◌∙◌, true≢false, arith}
 use Rattle.std.specs.Prelude.{◌==◌, Contains, slice_get, slice_set}
+use Rattle.std.proofs.Math.Bool.{not-not}
 use Rattle.std.proofs.lemmas.Bool.{cases_eq, cases_lt}
 use Rattle.std.proofs.lemmas.List.{take_all, length_push}
 use Rattle.std.proofs.lemmas.List.Elements.{All-nil, All-push}
@@ -11,11 +12,11 @@ use Rattle.nz_log.specs.Lits.{negated_lit, lit_resolvent}
 use Rattle.nz_log.specs.Logs.{LogState, IsLive, chained, literals_at}
 use Rattle.nz_sat.specs.declared.analyze.Chain.{Chain}
 use Rattle.nz_sat.specs.declared.trail.Assigned.{Assigned}
-use Rattle.nz_sat.specs.Trails.{EachBehind, IsFalseOn, IsNext, assigned, depth, level_on}
+use Rattle.nz_sat.specs.Trails.{EachBehind, IsFalseOn, IsNext, depth, level_on}
 use Rattle.nz_sat.specs.Clauses.{IsDead, IsImplied, IsReason, IsReasonOf}
 use Rattle.nz_sat.specs.Conflicts.{AreLinks, AreMarked, AreUnmarked, HasTwoLast, IsChain, IsOnWayBack, MarksCounted, is_marked, marked_of}
 use Rattle.nz_sat.proofs.Backward.{apart, false_cases, false_whole, front_counted, fresh, its_entry, none_before_decision, not_false, of_last}
-use Rattle.nz_sat.proofs.Chains.{chained_more, double, has_found, lit_is, resolvent_first, resolvent_from, resolvent_second, twice_negated}
+use Rattle.nz_sat.proofs.Chains.{chained_more, has_found, lit_is, resolvent_first, resolvent_from, resolvent_second, twice_negated}
 use Rattle.nz_sat.proofs.Marks.{counted, false_entry, found_whole, is_counted, level_found, marked_apart, marked_within, none_counted, one_counted, one_if, other_mark, two_counted, unmark_parts}
 use Rattle.nz_sat.proofs.Trailing.{assigned_place, level_within}
 
@@ -79,7 +80,7 @@ module _ (s : LogState) (size : ℕ) (es : List Assigned) (order : EachBehind (I
         omega (arith, sum, one)
 
     -- the clause has its negation
-    pub has_negated : Contains so_far (negated_lit e.literal)
+    has_negated : Contains so_far (negated_lit e.literal)
     has_negated =
         let w = way.marked.only e.literal.term on in
         elim (false_cases size es order n i is e at w.0 (way.dead_before w.0 w.1)) [
@@ -238,7 +239,7 @@ module _ (s : LogState) (size : ℕ) (es : List Assigned) (order : EachBehind (I
                   let one : a.1 ≡ b.1 = same_Some a.1 b.1 (sym a.2 ∙ ap (slice_get es) same ∙ b.2) in
                   let term : two.first.term ≡ two.second.term = sym a.3 ∙ ap (λ (x : Assigned). x.literal.term) one ∙ b.3 in
                   let sign : not two.first.sign ≡ not two.second.sign = sym a.4 ∙ ap (λ (x : Assigned). x.literal.sign) one ∙ b.4 in
-                  absurd (two.differ (lit_is two.first two.second term (sym (double two.first.sign) ∙ ap not sign ∙ double two.second.sign)))
+                  absurd (two.differ (lit_is two.first two.second term (sym (not-not two.first.sign) ∙ ap not sign ∙ not-not two.second.sign)))
               | inr other ↦ two_counted new (depth es) es b.0 a.0 b.1 a.1 (omega (arith, most, other)) b.2 a.2 also on b.5 a.5
             ]
       ]

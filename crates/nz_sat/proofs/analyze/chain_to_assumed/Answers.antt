@@ -1,12 +1,21 @@
 -- The way back along the trail, place by place.
-use Rattle.std.proofs.Common.{◌≡◌, ℕ, ◌+◌, ◌-◌, ◌<◌, List, [], ◌∷◌, ◌++◌, Some, subst, sym, ap, ◌∙◌, arith, rules}
+use Rattle.std.proofs.Common.{◌≡◌, ◌-◌, List, [], ◌∷◌, ◌++◌, Some, subst, sym, ap, ◌∙◌, arith, rules}
 use Rattle.nz_log.specs.declared.lits.Lit.{Lit}
-use Rattle.nz_log.specs.declared.origins.Link.{Link}
 use Rattle.nz_log.specs.Logs.{literals_at}
 use Rattle.nz_sat.specs.Conflicts.{IsOnWayToAssumed, MarksFalse}
-use Rattle.nz_sat.proofs.Assuming.{assumed_ends, assumed_here, assumed_on, assumed_past}
+use Rattle.nz_sat.proofs.Refuting.{assumed_ends, assumed_here, assumed_on, assumed_past, assumed_starts}
 use Rattle.nz_sat.proofs.Resolving.{link_of}
 use Rattle.nz_sat.proofs.analyze.chain_to_assumed.Goals as goal
+
+pub loop-i-init : goal.loop-i-init
+loop-i-init c =
+    let s = c.args.log.now in
+    let es = c.args.trail.now.entries in
+    let new = c.mark.new.seen in
+    let made : MarksFalse es (literals_at s c.args.dead) c.args.seen.now new =
+    subst (λ (l : List Lit). MarksFalse es l c.args.seen.now new) c.clause.ensures.literals c.mark.ensures.marks.marks in
+    subst (IsOnWayToAssumed s es c.args.dead c.len-count.result new) (sym c.new-links.ensures.items)
+    (assumed_starts s es c.args.dead c.len-count.result c.len-count.ensures.count c.args.seen.now new made)
 
 pub bounds-seen-entry : goal.bounds-seen-entry
 bounds-seen-entry c =

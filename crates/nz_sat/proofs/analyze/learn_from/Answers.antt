@@ -1,9 +1,9 @@
 -- The clause of the chain is in the log, and is the lesson.
-use Rattle.std.proofs.Common.{◌≡◌, ℕ, ◌<◌, List, length, subst, sym, ap, ◌∙◌, arith}
+use Rattle.std.proofs.Common.{◌<◌, List, length, subst, sym, ◌∙◌}
 use Rattle.std.specs.Prelude.{All, Contains}
 use Rattle.nz_log.specs.declared.lits.Lit.{Lit}
 use Rattle.nz_log.specs.declared.origins.Link.{Link}
-use Rattle.nz_log.specs.Logs.{Puts, chain_entry, literals_at}
+use Rattle.nz_log.specs.Logs.{Puts, chain_entry}
 use Rattle.nz_sat.specs.Conflicts.{IsGreatestBut}
 use Rattle.nz_sat.proofs.Lessons.{all_from, links_within, literals_are, literals_within, taught}
 use Rattle.nz_sat.proofs.analyze.learn_from.Goals as goal

@@ -1,11 +1,11 @@
 -- One literal more is the one left out, or may be of a greater level.
-use Rattle.std.proofs.Common.{◌≡◌, ◌≢◌, ℕ, ◌+◌, true, false, max, List, [], ◌∷◌, ◌++◌, get_or, take, subst, sym, ap, ◌∙◌, true≢false, arith}
+use Rattle.std.proofs.Common.{◌≡◌, ◌≢◌, ◌+◌, true, false, max, List, [], ◌∷◌, ◌++◌, get_or, take, subst, sym, ap, ◌∙◌, true≢false, arith}
 use Rattle.std.proofs.lemmas.List.{take_more}
 use Rattle.nz_log.specs.declared.lits.Lit.{Lit}
 use Rattle.nz_log.specs.Lits.{are_same_lit}
 use Rattle.nz_sat.specs.Conflicts.{IsGreatestBut}
 use Rattle.nz_sat.specs.Trails.{level_on}
-use Rattle.nz_sat.proofs.Chains.{one_lit, same_lit}
+use Rattle.nz_sat.proofs.Clausal.{lit_same, same_lit}
 use Rattle.nz_sat.proofs.Lessons.{greater_of, greatest_more, greatest_same}
 use Rattle.nz_sat.proofs.analyze.level_but.Goals as goal
 use Rattle.nz_sat.proofs.analyze.level_but.Goals.{then-not-is, else-not-is}
@@ -22,7 +22,7 @@ loop-literal-preserved c =
     subst (λ (d : List Lit). IsGreatestBut es but d c.if-not-is.level) (sym more)
     (elim c.if-not-is.branch [
       | then-not-is w ↦
-          let other : l ≢ but = λ same. true≢false (sym (ap (are_same_lit l) (sym same) ∙ one_lit l) ∙ sym c.is.ensures.same ∙ w.if-not-is.true) in
+          let other : l ≢ but = λ same. true≢false (sym (ap (are_same_lit l) (sym same) ∙ lit_same l) ∙ sym c.is.ensures.same ∙ w.if-not-is.true) in
           let most : c.if-not-is.level ≡ max n (level_on es l.term) = w.level-is ∙ w.max-level.ensures ∙ greater_of n w.level_of.result ∙ ap (max n) w.level_of.ensures.level in
           greatest_more es but before n l c.loop-literal.invariant other c.if-not-is.level most
       | else-not-is w ↦

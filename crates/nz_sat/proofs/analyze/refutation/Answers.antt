@@ -1,10 +1,11 @@
 -- Without a link the clause itself refutes, and else the last of the chain.
-use Rattle.std.proofs.Common.{◌≡◌, ℕ, ◌<◌, List, [], length, subst, sym, arith, rules}
+use Rattle.std.proofs.Common.{◌≡◌, ◌<◌, List, length, subst, sym, rules}
 use Rattle.std.specs.Prelude.{All}
+use Rattle.std.proofs.lemmas.List.{nil_from_length}
 use Rattle.nz_log.specs.declared.origins.Link.{Link}
 use Rattle.nz_log.specs.Logs.{chained, literals_at}
 use Rattle.nz_sat.specs.Conflicts.{RefutesFrom}
-use Rattle.nz_sat.proofs.Lessons.{links_within, none_of}
+use Rattle.nz_sat.proofs.Lessons.{links_within}
 use Rattle.nz_sat.proofs.analyze.refutation.Goals as goal
 
 pub returns-then-is_empty-clause-refutes : goal.returns-then-is_empty-clause-refutes
@@ -12,7 +13,7 @@ returns-then-is_empty-clause-refutes c =
     let s = c.args.log.now in
     let es = c.args.trail.now.entries in
     let none : length c.in_ok-links.links.items ≡ 0 = search rules in
-    subst (λ (ks : List Link). RefutesFrom es (literals_at s c.args.dead) (chained s (literals_at s c.args.dead) ks)) (none_of c.in_ok-links.links.items none)
+    subst (λ (ks : List Link). RefutesFrom es (literals_at s c.args.dead) (chained s (literals_at s c.args.dead) ks)) (nil_from_length c.in_ok-links.links.items none)
     c.in_ok-links.ensures.refutes
 
 pub returns-clause-sound : goal.returns-clause-sound
