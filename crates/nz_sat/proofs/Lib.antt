@@ -1,10 +1,16 @@
 pub mod Advancing
 pub mod Assuming
+pub mod Backward
+pub mod Chains
 pub mod Clausal
 pub mod Cutting
 pub mod Indexing
 pub mod Keeping
+pub mod Lessons
+pub mod Marks
 pub mod Numbering
+pub mod Refuting
+pub mod Resolving
 pub mod Standing
 pub mod Trailing
 pub mod Visiting
