@@ -87,7 +87,7 @@ module _ (size : ℕ) (es : List Assigned) (order : EachBehind (IsNext size) es)
   its_level : e.level ≡ depth (take n es)
   its_level = level_is size es order i e at ∙ ap (λ (k : ℕ). depth (take k es)) (sym is)
 
-  lower : (x : Assigned) → Contains (take n es) x → x.level ≤ e.level
+  pub lower : (x : Assigned) → Contains (take n es) x → x.level ≤ e.level
   lower x has =
       let p = front_place es n x has in
       let there = level_is size es order p.0 x p.2 in

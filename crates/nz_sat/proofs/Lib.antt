@@ -7,6 +7,7 @@ pub mod Cutting
 pub mod Indexing
 pub mod Keeping
 pub mod Lessons
+pub mod Levels
 pub mod Marks
 pub mod Numbering
 pub mod Refuting
