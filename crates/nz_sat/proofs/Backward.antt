@@ -42,7 +42,7 @@ false_push front e m dead =
     ] refl
 
 -- what a front has stands at a place
-front_place : (es : List Assigned) (n : ℕ) (x : Assigned) → Contains (take n es) x → (j : ℕ) × (j < n) × (slice_get es j ≡ Some x)
+pub front_place : (es : List Assigned) (n : ℕ) (x : Assigned) → Contains (take n es) x → (j : ℕ) × (j < n) × (slice_get es j ≡ Some x)
 front_place es n x h =
     let at : slice_get (take n es) h.0 ≡ Some x = slice_get-get_or (take n es) h.0 x h.1 ∙ ap Some h.2 in
     let kept : slice_get es h.0 ≡ Some x =

@@ -22,7 +22,7 @@ module _ {X : Type 0} where
   has_at x y xs zero less e = inl e
   has_at x y xs (suc k) less e = inr (k, omega arith, e)
 
-  has_cases : (x y : X) (xs : List X) → Contains (x ∷ xs) y → (x ≡ y) ⊎ Contains xs y
+  pub has_cases : (x y : X) (xs : List X) → Contains (x ∷ xs) y → (x ≡ y) ⊎ Contains xs y
   has_cases x y xs h = has_at x y xs h.0 h.1 h.2
 
   pub has_first : (x : X) (xs : List X) → Contains (x ∷ xs) x
@@ -46,7 +46,7 @@ module _ {X : Type 0} where
   kept_first true x zs e = has_first x zs
   kept_first false x zs e = absurd (true≢false (sym e))
 
-  filter_has : (p : X → Bool) (xs : List X) (y : X) → Contains xs y → p y ≡ true → Contains (filter p xs) y
+  pub filter_has : (p : X → Bool) (xs : List X) (y : X) → Contains xs y → p y ≡ true → Contains (filter p xs) y
   filter_has p [] y h t = absurd (has_none y h)
   filter_has p (x ∷ xs) y h t =
       elim (has_cases x y xs h) [

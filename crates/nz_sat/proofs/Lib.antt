@@ -4,11 +4,15 @@ pub mod Backward
 pub mod Chains
 pub mod Clausal
 pub mod Cutting
+pub mod DeadEnds
 pub mod Indexing
 pub mod Keeping
+pub mod Learning
 pub mod Lessons
 pub mod Levels
 pub mod Marks
+pub mod Newness
+pub mod Noting
 pub mod Numbering
 pub mod Refuting
 pub mod Resolving

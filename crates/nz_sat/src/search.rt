@@ -19,7 +19,9 @@ use crate::order::Order;
 use crate::propagate::{propagate, visit_held};
 use crate::trail::Trail;
 use nz_base::{Entry, Literals, Memory, Work};
+use nz_log::laws::clauses_are_true;
 use nz_log::{ClauseId, Lit, Log, Note, Stop};
+use nz_spec::work::legal_work_goes_on;
 use nz_term::TermId;
 use std::alloc::Global;
 
@@ -222,6 +224,8 @@ impl Search {
         ensures learned { IfOk result (λ from. Learned log.new held.new.items self.old self.new work.old work.new from) }
         ensures spent { IfErr result (λ e. e ≡ stop.Spent → IsSpent work.new) }
     {
+        clauses_are_true();
+        legal_work_goes_on();
         let alloc = *held.allocator();
         let lesson = learn_from(
             alloc,
