@@ -16,7 +16,7 @@ use Rattle.nz_sat.specs.declared.analyze.Lesson.{Lesson}
 use Rattle.nz_sat.specs.declared.clauses.Held.{Held}
 use Rattle.nz_sat.specs.declared.search.Search as state
 use Rattle.nz_sat.specs.declared.trail.Assigned.{Assigned}
-use Rattle.nz_sat.specs.Clauses.{Adds, HasReasonOf, IsAssumed, IsImplied, IsListed, IsOfSize, IsOpen, IsReasonOf, IsReasonOneOf, Waits, by_true, by_two, ids_of}
+use Rattle.nz_sat.specs.Clauses.{Adds, HasReasonOf, IsAssumed, IsImplied, IsListed, IsOfSize, IsOpen, IsReasonOf, IsReasonOneOf, IsWithin, Waits, by_true, by_two, ids_of}
 use Rattle.nz_sat.specs.Conflicts.{AreUnmarked, Grows}
 use Rattle.nz_sat.specs.Numbers.{numbered}
 use Rattle.nz_sat.specs.Sats.{AreHeld, held_of}
@@ -83,6 +83,14 @@ module _ (log log' : LogState) (held : List Held) (s : state.Search) (work : Wor
 
   pub literal_within : l.literal.term < s.trail.size
   literal_within = All-contains (λ (t : ℕ). t < s.trail.size) s.atoms l.literal.term h.search.within (lesson_named log log' held s work dead l h l.literal h.lesson.has)
+
+  -- each literal has its place in the index
+  pub literals_within : All (λ (m : Lit). IsWithin m s.index) lits
+  literals_within =
+      all_from (λ (m : Lit). IsWithin m s.index) lits
+      (λ m has.
+        let low = All-contains (λ (t : ℕ). t < s.trail.size) s.atoms m.term h.search.within (lesson_named log log' held s work dead l h m has) in
+        (omega (arith, low, h.search.indexed.0), omega (arith, low, h.search.indexed.1)))
 
   after_depth : depth (after_lesson es l) ≡ l.level
   after_depth =

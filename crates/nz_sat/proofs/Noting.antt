@@ -1,10 +1,11 @@
 -- What a search knows of a lesson, and that its line may follow.
-use Rattle.std.proofs.Common.{◌≡◌, ◌≢◌, ℕ, zero, suc, ◌+◌, ◌-◌, ◌<◌, ◌≤◌, Bool, List, [], ◌∷◌, ◌++◌, length, map, Option, Some, None, refl, sym, ap, subst, ◌∙◌, arith}
+use Rattle.std.proofs.Common.{◌≡◌, ◌≢◌, ℕ, zero, suc, ◌+◌, ◌-◌, ◌<◌, ◌≤◌, Bool, not, List, [], ◌∷◌, ◌++◌, length, map, Option, Some, None, refl, sym, ap, subst, ◌∙◌, arith}
 use Rattle.std.specs.Prelude.{All, Contains, filter}
 use Rattle.std.specs.List.{AllByRecursion}
 use Rattle.std.proofs.lemmas.List.{length-map, map-append}
 use Rattle.std.proofs.lemmas.List.Elements.{All-contains, All-weaker}
 use Rattle.std.proofs.lemmas.List.Sums.{length-filter}
+use Rattle.std.proofs.lemmas.Option.{same_Some}
 use Rattle.nz_spec.specs.Legal.{AreLegal, LegalWorkGoesOn, MayLearn, Question, Search, IsDeadEnd, after_lines, at_first, literals_by}
 use Rattle.nz_spec.specs.Literal.{AreSameSet, AreTrueLiterals, IsClauseTrue}
 use Rattle.nz_spec.specs.Model.{IsModel}
@@ -22,19 +23,50 @@ use Rattle.nz_sat.specs.declared.analyze.Lesson.{Lesson}
 use Rattle.nz_sat.specs.declared.clauses.Held.{Held}
 use Rattle.nz_sat.specs.declared.search.Search as state
 use Rattle.nz_sat.specs.declared.trail.Assigned.{Assigned}
-use Rattle.nz_sat.specs.Clauses.{IsAssumed, IsDead, IsOpen}
-use Rattle.nz_sat.specs.Conflicts.{Grows, IsLesson, StaysSound}
+use Rattle.nz_sat.specs.Clauses.{IsAssumed, IsDead, IsOpen, by_true, by_two}
+use Rattle.nz_sat.specs.Conflicts.{Grows, HasTwoLast, IsLesson, StaysSound}
 use Rattle.nz_sat.specs.Numbers.{numbered}
-use Rattle.nz_sat.specs.Sats.{IsAsked, IsLegalWork}
-use Rattle.nz_sat.specs.Searching.{IsNoted, IsSearch, StaysInOrder, StaysLegal, WereOpen, ids, learned_line}
-use Rattle.nz_sat.specs.Trails.{EachBehind, IsNext, IsTrail, below, depth, is_decision}
+use Rattle.nz_sat.specs.Sats.{HoldsMore, IsAsked, IsLegalWork}
+use Rattle.nz_sat.specs.Searching.{Advances, IsNoted, IsSearch, StaysInOrder, StaysLegal, WereOpen, ids, learned_line}
+use Rattle.nz_sat.specs.Trails.{EachBehind, IsFreeOn, IsNext, IsTrail, below, depth, is_decision, level_on}
 use Rattle.nz_sat.proofs.Chains.{has_found}
 use Rattle.nz_sat.proofs.DeadEnds.{clause_true, literals_numbered, none_dead}
 use Rattle.nz_sat.proofs.Keeping.{held_live}
 use Rattle.nz_sat.proofs.Lessons.{all_from}
-use Rattle.nz_sat.proofs.Marks.{false_entry}
+use Rattle.nz_sat.proofs.Levels.{below_true, free_high}
+use Rattle.nz_sat.proofs.Marks.{false_entry, level_found, not_itself}
 use Rattle.nz_sat.proofs.Newness.{numbers_once, numbers_within, open_differs}
-use Rattle.nz_sat.proofs.Trailing.{assigned_place}
+use Rattle.nz_sat.proofs.Trailing.{assigned_place, level_within}
+
+-- A clause that is dead, and was open when the last decision was taken, has two literals of the last level.
+two_last : (size : ℕ) (es : List Assigned) → EachBehind (IsNext size) es → (c : List Lit) → IsDead es c → IsOpen (below (depth es - 1) es) c → HasTwoLast es c
+two_last size es order c dead (by_true l has holds) =
+    absurd (not_itself l.sign (same_Some l.sign (not l.sign) (sym (below_true size es order (depth es - 1) l.term l.sign holds) ∙ dead l has)))
+two_last size es order c dead (by_two l m has_l has_m differ free_l free_m) =
+    record {
+      first = l;
+      second = m;
+      has_first = has_l;
+      has_second = has_m;
+      differ = differ;
+      first_last = last l has_l free_l;
+      second_last = last m has_m free_m;
+    } where
+      last : (x : Lit) → Contains c x → IsFreeOn (below (depth es - 1) es) x → level_on es x.term ≡ depth es
+      last x has free =
+          let high = free_high size es order (depth es - 1) x (dead x has) free in
+          let e = false_entry es x (dead x has) in
+          let place = (assigned_place es x.term e.0 e.1).1 in
+          let most = level_within size es order place.0 e.0 place.1 in
+          let level = level_found es x.term e.0 e.1 in
+          omega (arith, high, most, level)
+
+pub held_two : (size : ℕ) (es : List Assigned) → EachBehind (IsNext size) es → (log : LogState) (held : List Held) → WereOpen log held es → 0 < depth es
+    → (i : ℕ) → Contains (ids held) i → IsDead es (literals_at log i) → HasTwoLast es (literals_at log i)
+held_two size es order log held were_open decided i has dead =
+    let k = depth es - 1 in
+    two_last size es order (literals_at log i) dead
+    (All-contains (λ (j : ℕ). IsOpen (below k es) (literals_at log j)) (ids held) i (were_open k (omega arith)) has)
 
 -- What is known where a search has a lesson from a clause that is dead.
 pub record IsTaught (log log' : LogState) (held : List Held) (s : state.Search) (work : WorkList Note) (dead : ℕ) (l : Lesson) : Type 0 where
@@ -48,6 +80,24 @@ pub record IsTaught (log log' : LogState) (held : List Held) (s : state.Search) 
   pub grows : Grows log log'
   pub sound : StaysSound s.trail.entries log log'
   pub lesson : IsLesson log' s.trail.entries l
+
+pub taught : {log log' : LogState} {held : List Held} {s : state.Search} {work : WorkList Note} {l : Lesson} (dead : ℕ) → IsSearch log held s → IsTrail s.trail
+    → WereOpen log held s.trail.entries → Contains (ids held) dead → IsDead s.trail.entries (literals_at log dead) → 0 < depth s.trail.entries
+    → IsNoted log held s.atoms s.trail.entries work → Grows log log' → StaysSound s.trail.entries log log' → IsLesson log' s.trail.entries l
+    → IsTaught log log' held s work dead l
+taught dead search order were_open held_dead dies decided noted grows sound lesson =
+    record {
+      search = search;
+      order = order;
+      were_open = were_open;
+      held_dead = held_dead;
+      dies = dies;
+      decided = decided;
+      noted = noted;
+      grows = grows;
+      sound = sound;
+      lesson = lesson;
+    }
 
 -- the literals of a false clause are of atoms
 pub false_named : (atoms : List ℕ) (es : List Assigned) → All (λ (e : Assigned). Contains atoms e.literal.term) es → (c : List Lit) → IsDead es c
@@ -144,3 +194,10 @@ module _ (log log' : LogState) (held : List Held) (s : state.Search) (work : Wor
       let line : WorkLine reply.Note = UnitLine (LearnedEntry l.level (map (numbered s.atoms) lits)) in
       subst (λ (lines : List (WorkLine reply.Note)). AreLegal q at_first lines) (sym (map-append (noted_line ns) work.lines (learned_line s.atoms log' l ∷ [])))
       (goes_on q at_first (noted_list ns work).lines line legal (may_learn clauses ns levels assumed q only asked))
+
+  -- a step that adds it
+  pub line_advances : ClausesAreTrue → LegalWorkGoesOn → (held' : List Held) → HoldsMore log' held held' → (work' : WorkList Note)
+      → work' ≡ with_line work (learned_line s.atoms log' l) → Advances s.atoms es log log' held held' work work'
+  line_advances clauses goes_on held' more work' is =
+      subst (Advances s.atoms es log log' held held' work) (sym is)
+      (record { grows = h.grows; sound = stays; holds_more = more; legal = line_legal clauses goes_on; limit = refl })

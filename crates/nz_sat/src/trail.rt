@@ -59,6 +59,11 @@ impl Trail {
         self.entries.len()
     }
 
+    /// A trail is in order.
+    pub fn is_in_order(&self)
+        ensures trail { IsTrail self.now }
+    {}
+
     /// The entry of a place, counted from 0.
     pub fn entry(&self, i: usize) -> Assigned
         requires within { i < length self.now.entries }

@@ -1,6 +1,4 @@
 -- Each term is an atom.
-use Rattle.nz_sat.proofs.Learning.{learned}
-use Rattle.nz_sat.proofs.Noting.{line_legal}
 use Rattle.std.proofs.Common.{ℕ, ◌<◌, false, length, get_or, sym, arith}
 use Rattle.nz_log.specs.declared.lits.Lit.{Lit}
 use Rattle.nz_sat.proofs.Numbering.{unnamed}
