@@ -101,9 +101,9 @@ module _ (size : ℕ) (es : List Assigned) (order : EachBehind (IsNext size) es)
         | inl same ↦ same
         | inr other ↦
             let none = none_counted marks (depth es) (take n es) (λ x has on last.
-              let low = lower x has in
-              let high = level_within size es order i e at in
-              other (omega (arith, low, high, last))) in
+            let low = lower x has in
+            let high = level_within size es order i e at in
+            other (omega (arith, low, high, last))) in
             absurd (omega (arith, none, some))
       ]
 
@@ -113,7 +113,7 @@ module _ (size : ℕ) (es : List Assigned) (order : EachBehind (IsNext size) es)
       let sum : depth (take n es) ≡ depth (take i es) + one_if (is_decision e) = ap depth front_is ∙ sum_by_push (λ (x : Assigned). one_if (is_decision x)) (take i es) e in
       let one : one_if (is_decision e) ≡ 1 = ap one_if (decides e reason (omega (arith, last))) in
       none_counted marks (depth es) (take i es) (λ x has on top.
-        let p = front_place es i x has in
-        let there = level_is size es order p.0 x p.2 in
-        let less = depth_front (p.0 + 1) i es (omega (arith, p.1)) in
-        omega (arith, there, less, its_level, sum, one, last, top))
+      let p = front_place es i x has in
+      let there = level_is size es order p.0 x p.2 in
+      let less = depth_front (p.0 + 1) i es (omega (arith, p.1)) in
+      omega (arith, there, less, its_level, sum, one, last, top))

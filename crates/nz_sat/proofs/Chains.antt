@@ -98,13 +98,13 @@ module _ {X : Type 0} where
     push_once ys x new h i j z at to =
         elim (slice_get-push_cases ys x i z at) [
           | inl a ↦ elim (slice_get-push_cases ys x j z to) [
-              | inl b ↦ h i j z a b
-              | inr b ↦ absurd (new (subst (Contains ys) (sym b.1) (has_found ys i z a)))
-            ]
+            | inl b ↦ h i j z a b
+            | inr b ↦ absurd (new (subst (Contains ys) (sym b.1) (has_found ys i z a)))
+          ]
           | inr a ↦ elim (slice_get-push_cases ys x j z to) [
-              | inl b ↦ absurd (new (subst (Contains ys) (sym a.1) (has_found ys j z b)))
-              | inr b ↦ a.0 ∙ sym b.0
-            ]
+            | inl b ↦ absurd (new (subst (Contains ys) (sym a.1) (has_found ys j z b)))
+            | inr b ↦ a.0 ∙ sym b.0
+          ]
         ]
 
     with_once : (b : Bool) (ys : List X) (x : X) → (b ≡ false → Contains ys x → ⊥) → StandOnce ys → StandOnce (if b then ys else ys ++ x ∷ [])
@@ -128,9 +128,9 @@ module _ {X : Type 0} where
     put_from (x ∷ xs) ys y h =
         elim (put_from xs (with_one same ys x) y h) [
           | inl set ↦ elim (with_from (list_any (same x) ys) ys x y set) [
-              | inl old ↦ inl old
-              | inr is ↦ inr (subst (Contains (x ∷ xs)) is (has_first x xs))
-            ]
+            | inl old ↦ inl old
+            | inr is ↦ inr (subst (Contains (x ∷ xs)) is (has_first x xs))
+          ]
           | inr more ↦ inr (has_more x y xs more)
         ]
 

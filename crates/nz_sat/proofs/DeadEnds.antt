@@ -1,8 +1,8 @@
 -- Under an assignment that makes the asserted terms, the assumed literals and the decisions true, each literal of the trail is true: where a clause
 -- is dead there is none.
-use Rattle.std.proofs.Common.{◌≡◌, ◌≢◌, ℕ, zero, suc, ◌<◌, ◌≤◌, ◌||◌, Bool, true, false, not, List, [], ◌∷◌, ◌++◌, length, take, drop, map, get_or, Option, Some, None, ◌⊎◌, inl, inr, refl, sym, ap, subst, ◌∙◌, true≢false, arith}
-use Rattle.std.specs.Prelude.{All, Contains, IsTrue, IsSome, filter, nat_lt, slice_get, slice_index_or, unwrap_or}
-use Rattle.std.specs.List.{AllByRecursion, list_any, flat_map}
+use Rattle.std.proofs.Common.{◌≡◌, ◌≢◌, ℕ, zero, suc, ◌<◌, ◌||◌, Bool, true, false, not, List, [], ◌∷◌, ◌++◌, length, take, drop, map, Option, Some, None, ◌⊎◌, inl, inr, refl, sym, ap, subst, ◌∙◌, true≢false, arith}
+use Rattle.std.specs.Prelude.{All, Contains, IsTrue, IsSome, filter, nat_lt, slice_get, unwrap_or}
+use Rattle.std.specs.List.{AllByRecursion, list_any}
 use Rattle.std.proofs.lemmas.Bool.Decides.{Decides-ltb}
 use Rattle.std.proofs.lemmas.List.{get_or-map, map-append, take-append-drop}
 use Rattle.std.proofs.lemmas.List.Concat.{flat_map-append}
@@ -169,8 +169,8 @@ module _ (clauses : ClausesAreTrue) (ns : List Node) (table : IsTable ns) (level
     front_holds zero i less e at = absurd (omega arith)
     front_holds (suc n) i less e at =
         entry_holds i e at (λ x has.
-          let p = front_place es i x has in
-          front_holds n p.0 (omega (arith, p.1)) x p.2)
+        let p = front_place es i x has in
+        front_holds n p.0 (omega (arith, p.1)) x p.2)
 
     trail_holds : (e : Assigned) → Contains es e → Holds e.literal
     trail_holds e has =

@@ -1,22 +1,22 @@
 -- What a search is after a lesson: back where the lesson makes a literal true.
-use Rattle.std.proofs.Common.{◌≡◌, ◌≢◌, ℕ, zero, suc, ◌+◌, ◌<◌, ◌≤◌, Bool, true, false, if◌then◌else◌, List, [], ◌∷◌, ◌++◌, length, take, map, fold, Option, Some, None, ◌⊎◌, inl, inr, refl, sym, ap, subst, ◌∙◌, arith}
-use Rattle.std.specs.Prelude.{All, Contains, filter, nat_le, option_map, sum_by}
+use Rattle.std.proofs.Common.{◌≡◌, if◌then◌else◌, ℕ, suc, ◌+◌, ◌<◌, Bool, false, List, [], ◌∷◌, ◌++◌, length, take, map, Option, Some, None, inl, inr, refl, sym, ap, subst, ◌∙◌, arith}
+use Rattle.std.specs.Prelude.{All, Contains, filter, nat_le, option_map}
 use Rattle.std.proofs.lemmas.List.{append-nil, length_push, map-append, take-map}
 use Rattle.std.proofs.lemmas.List.Elements.{All-contains, All-filter, All-push, All-weaker, Contains-append_left, Contains-push, filter-append}
 use Rattle.std.proofs.lemmas.List.Sums.{fold-append, sum_by_push}
 use Rattle.nz_spec.specs.Legal.{Search, after_line, after_lines, at_first}
 use Rattle.nz_spec.specs.Reply as reply
-use Rattle.nz_spec.specs.Table.{Node, term_in}
+use Rattle.nz_spec.specs.Table.{Node}
 use Rattle.nz_spec.specs.Work.{WorkLine, WorkList, UnitLine, LearnedEntry, is_unit, unit_count, with_line}
 use Rattle.nz_log.specs.declared.lits.Lit.{Lit}
 use Rattle.nz_log.specs.declared.note.Note.{Note}
-use Rattle.nz_log.specs.Logs.{Entry, LogState, IsLive, entry_at, literals_at}
+use Rattle.nz_log.specs.Logs.{Entry, LogState, IsLive, literals_at}
 use Rattle.nz_log.specs.Notes.{noted_line, noted_list}
 use Rattle.nz_sat.specs.declared.analyze.Lesson.{Lesson}
 use Rattle.nz_sat.specs.declared.clauses.Held.{Held}
 use Rattle.nz_sat.specs.declared.search.Search as state
 use Rattle.nz_sat.specs.declared.trail.Assigned.{Assigned}
-use Rattle.nz_sat.specs.Clauses.{Adds, HasReasonOf, IsAssumed, IsImplied, IsListed, IsOfSize, IsOpen, IsReasonOf, IsReasonOneOf, IsWithin, Waits, by_true, by_two, ids_of}
+use Rattle.nz_sat.specs.Clauses.{Adds, HasReasonOf, IsAssumed, IsImplied, IsListed, IsOpen, IsReasonOf, IsReasonOneOf, IsWithin, Waits, by_true, by_two}
 use Rattle.nz_sat.specs.Conflicts.{AreUnmarked, Grows}
 use Rattle.nz_sat.specs.Numbers.{numbered}
 use Rattle.nz_sat.specs.Sats.{AreHeld, held_of}
@@ -89,8 +89,8 @@ module _ (log log' : LogState) (held : List Held) (s : state.Search) (work : Wor
   literals_within =
       all_from (λ (m : Lit). IsWithin m s.index) lits
       (λ m has.
-        let low = All-contains (λ (t : ℕ). t < s.trail.size) s.atoms m.term h.search.within (lesson_named log log' held s work dead l h m has) in
-        (omega (arith, low, h.search.indexed.0), omega (arith, low, h.search.indexed.1)))
+      let low = All-contains (λ (t : ℕ). t < s.trail.size) s.atoms m.term h.search.within (lesson_named log log' held s work dead l h m has) in
+      (omega (arith, low, h.search.indexed.0), omega (arith, low, h.search.indexed.1)))
 
   after_depth : depth (after_lesson es l) ≡ l.level
   after_depth =
@@ -225,15 +225,15 @@ module _ (log log' : LogState) (held : List Held) (s : state.Search) (work : Wor
         let named : All N (ids held') =
         each_held N
         (λ i has. subst (All (λ (m : Lit). Contains s.atoms m.term)) (sym (old_literals i has))
-          (All-contains (λ (j : ℕ). All (λ (m : Lit). Contains s.atoms m.term) (literals_at log j)) (ids held) i h.search.named has))
+        (All-contains (λ (j : ℕ). All (λ (m : Lit). Contains s.atoms m.term) (literals_at log j)) (ids held) i h.search.named has))
         (all_from (λ (m : Lit). Contains s.atoms m.term) lits (lesson_named log log' held s work dead l h)) in
         let on_trail = after_each (λ (e : Assigned). Contains s.atoms e.literal.term) h.search.on_trail (lesson_named log log' held s work dead l h l.literal h.lesson.has) in
         record {
           are_held = are_held;
           listed = each_held (IsListed log' s'.index)
               (λ i has m there.
-                index.kept m i
-                (All-contains (IsListed log s.index) (ids held) i h.search.listed has m (subst (λ (c : List Lit). Contains c m) (old_literals i has) there)))
+              index.kept m i
+              (All-contains (IsListed log s.index) (ids held) i h.search.listed has m (subst (λ (c : List Lit). Contains c m) (old_literals i has) there)))
               index.listed;
           only = λ m i has.
               elim (index.only m i has) [

@@ -1,16 +1,16 @@
 -- Trails in order up to a level: they are fronts, with so many decisions, and what is true and free there.
-use Rattle.std.proofs.Common.{◌≡◌, ◌≢◌, ℕ, zero, suc, ◌+◌, ◌<◌, ◌≤◌, ◌==◌, Bool, true, false, not, if◌then◌else◌, List, [], ◌∷◌, ◌++◌, length, take, get_or, Option, Some, None, ◌⊎◌, inl, inr, refl, sym, ap, subst, ◌∙◌, arith, append_assoc}
-use Rattle.std.specs.Prelude.{All, Contains, filter, nat_le, slice_get, option_map, count_by}
+use Rattle.std.proofs.Common.{◌≡◌, if◌then◌else◌, ℕ, zero, suc, ◌+◌, ◌<◌, ◌≤◌, ◌==◌, Bool, true, false, not, List, [], ◌∷◌, ◌++◌, length, take, get_or, Some, None, inl, inr, refl, sym, ap, subst, ◌∙◌, arith, append_assoc}
+use Rattle.std.specs.Prelude.{filter, nat_le, slice_get, option_map}
 use Rattle.std.proofs.lemmas.Bool.Decides.{eqb_tells, leb_tells}
-use Rattle.std.proofs.lemmas.List.{append-nil, length-take-le, take_all, take_more, take-append-le, length_push}
+use Rattle.std.proofs.lemmas.List.{length-take-le, take_all, take_more, take-append-le}
 use Rattle.std.proofs.lemmas.List.Elements.{filter-append}
 use Rattle.std.proofs.lemmas.List.Sums.{length-filter, sum_by_push}
 use Rattle.std.proofs.lemmas.Option.{same_Some, slice_get-get_or}
 use Rattle.nz_log.specs.declared.lits.Lit.{Lit}
 use Rattle.nz_sat.specs.declared.trail.Assigned.{Assigned}
-use Rattle.nz_sat.specs.Trails.{AreUpTo, DropsLast, EachBehind, IsFalseOn, IsFreeOn, IsFrontOf, IsNext, IsTrueOn, assigned, below, depth, is_decision, level_on, truth_on}
+use Rattle.nz_sat.specs.Trails.{AreUpTo, DropsLast, EachBehind, IsFalseOn, IsFreeOn, IsFrontOf, IsNext, assigned, below, depth, is_decision, level_on, truth_on}
 use Rattle.nz_sat.proofs.Backward.{lower}
-use Rattle.nz_sat.proofs.Clausal.{free_missing, missing_free, truth_found}
+use Rattle.nz_sat.proofs.Clausal.{missing_free, truth_found}
 use Rattle.nz_sat.proofs.Cutting.{above_level, below_all, below_last, front_all}
 use Rattle.nz_sat.proofs.Lessons.{all_from}
 use Rattle.nz_sat.proofs.Marks.{false_entry, level_found}

@@ -182,8 +182,8 @@ none_counted marks level [] f = refl
 none_counted marks level (e ∷ es) f =
     let here : counted marks level e ≡ 0 =
     not_counted (is_marked marks e.literal.term && (e.level == level)) (λ both.
-      let parts = and_parts (is_marked marks e.literal.term) (e.level == level) both in
-      f e (has_first e es) parts.0 (eqb-true e.level level parts.1)) in
+    let parts = and_parts (is_marked marks e.literal.term) (e.level == level) both in
+    f e (has_first e es) parts.0 (eqb-true e.level level parts.1)) in
     let rest = none_counted marks level es (λ x has on is. f x (has_more e x es has) on is) in
     let sum = sum_by-cons (counted marks level) e es in
     omega arith

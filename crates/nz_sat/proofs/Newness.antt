@@ -1,19 +1,18 @@
 -- A lesson is none that was learned before, and names no atom twice.
-use Rattle.std.proofs.Common.{◌≡◌, ◌≢◌, ℕ, zero, suc, ◌<◌, ◌≤◌, Bool, true, false, not, List, [], ◌∷◌, length, map, get_or, Option, Some, None, ◌⊎◌, inl, inr, refl, sym, ap, subst, ◌∙◌, arith}
-use Rattle.std.specs.Prelude.{All, Contains, slice_get, option_map, unwrap_or}
+use Rattle.std.proofs.Common.{◌≡◌, ◌≢◌, ℕ, ◌<◌, ◌≤◌, Bool, true, false, not, List, [], ◌∷◌, length, map, Some, None, inl, inr, refl, sym, ap, subst, ◌∙◌, arith}
+use Rattle.std.specs.Prelude.{Contains, slice_get, option_map, unwrap_or}
 use Rattle.std.proofs.Math.Bool.{not-not}
 use Rattle.std.proofs.lemmas.List.{get_or-map, length-map}
 use Rattle.std.proofs.lemmas.Option.{same_Some, slice_get-map, slice_get_within}
 use Rattle.nz_spec.specs.Legal.{AreNamed}
 use Rattle.nz_spec.specs.Literal.{AreSameSet, StandOnce}
 use Rattle.nz_spec.specs.Table.{Node, term_in}
-use Rattle.nz_spec.specs.Term.{Term}
 use Rattle.nz_log.specs.declared.lits.Lit.{Lit}
 use Rattle.nz_log.specs.Lits.{are_same_lit}
 use Rattle.nz_sat.specs.declared.trail.Assigned.{Assigned}
 use Rattle.nz_sat.specs.Clauses.{IsDead, IsOpen, by_true, by_two}
 use Rattle.nz_sat.specs.Numbers.{number_of, numbered}
-use Rattle.nz_sat.specs.Trails.{EachBehind, IsFreeOn, IsNext, below, depth, level_on, truth_on}
+use Rattle.nz_sat.specs.Trails.{EachBehind, IsFreeOn, IsNext, below, level_on, truth_on}
 use Rattle.nz_sat.proofs.Chains.{has_cases, has_first, has_found, has_more, lit_is}
 use Rattle.nz_sat.proofs.Clausal.{other_lit, same_lit}
 use Rattle.nz_sat.proofs.DeadEnds.{number_at}
@@ -63,11 +62,11 @@ module _ (atoms : List ℕ) where
   numbers_within ns c named =
       all_from (λ (p : ℕ × Bool). p.0 < length (map (term_in ns) atoms)) (map (numbered atoms) c)
       (λ p has.
-        let w = map_from (numbered atoms) c p has in
-        let n = unwrap_or (number_of atoms w.0.term) 0 in
-        let inside : n < length atoms = slice_get_within atoms n w.0.term (number_at atoms w.0.term (named w.0 w.1)) in
-        let same : n ≡ p.0 = ap (λ (q : ℕ × Bool). q.0) w.2 in
-        omega (arith, inside, same, length-map atoms (term_in ns)))
+      let w = map_from (numbered atoms) c p has in
+      let n = unwrap_or (number_of atoms w.0.term) 0 in
+      let inside : n < length atoms = slice_get_within atoms n w.0.term (number_at atoms w.0.term (named w.0 w.1)) in
+      let same : n ≡ p.0 = ap (λ (q : ℕ × Bool). q.0) w.2 in
+      omega (arith, inside, same, length-map atoms (term_in ns)))
 
   -- ---- Clauses in which each literal is false
 

@@ -1,5 +1,5 @@
 -- What a search knows of a lesson, and that its line may follow.
-use Rattle.std.proofs.Common.{◌≡◌, ◌≢◌, ℕ, zero, suc, ◌+◌, ◌-◌, ◌<◌, ◌≤◌, Bool, not, List, [], ◌∷◌, ◌++◌, length, map, Option, Some, None, refl, sym, ap, subst, ◌∙◌, arith}
+use Rattle.std.proofs.Common.{◌≡◌, ℕ, ◌-◌, ◌<◌, Bool, not, List, [], ◌∷◌, length, map, refl, sym, ap, subst, ◌∙◌, arith}
 use Rattle.std.specs.Prelude.{All, Contains, filter}
 use Rattle.std.specs.List.{AllByRecursion}
 use Rattle.std.proofs.lemmas.List.{length-map, map-append}
@@ -15,8 +15,7 @@ use Rattle.nz_spec.specs.Work.{WorkLine, WorkList, UnitLine, LearnedEntry, with_
 use Rattle.nz_spec.specs.Reply as reply
 use Rattle.nz_log.specs.declared.lits.Lit.{Lit}
 use Rattle.nz_log.specs.declared.note.Note.{Note}
-use Rattle.nz_log.specs.Lits.{clause_in, literal_of}
-use Rattle.nz_log.specs.Logs.{Entry, LogState, IsLive, literals_at}
+use Rattle.nz_log.specs.Logs.{LogState, literals_at}
 use Rattle.nz_log.specs.Notes.{noted_line, noted_list}
 use Rattle.nz_log.specs.Sound.{ClausesAreTrue, IsLog}
 use Rattle.nz_sat.specs.declared.analyze.Lesson.{Lesson}
@@ -26,13 +25,12 @@ use Rattle.nz_sat.specs.declared.trail.Assigned.{Assigned}
 use Rattle.nz_sat.specs.Clauses.{IsAssumed, IsDead, IsOpen, by_true, by_two}
 use Rattle.nz_sat.specs.Conflicts.{Grows, HasTwoLast, IsLesson, StaysSound}
 use Rattle.nz_sat.specs.Numbers.{numbered}
-use Rattle.nz_sat.specs.Sats.{HoldsMore, IsAsked, IsLegalWork}
+use Rattle.nz_sat.specs.Sats.{HoldsMore, IsAsked}
 use Rattle.nz_sat.specs.Searching.{Advances, IsNoted, IsSearch, StaysInOrder, StaysLegal, WereOpen, ids, learned_line}
 use Rattle.nz_sat.specs.Trails.{EachBehind, IsFreeOn, IsNext, IsTrail, below, depth, is_decision, level_on}
 use Rattle.nz_sat.proofs.Chains.{has_found}
 use Rattle.nz_sat.proofs.DeadEnds.{clause_true, literals_numbered, none_dead}
 use Rattle.nz_sat.proofs.Keeping.{held_live}
-use Rattle.nz_sat.proofs.Lessons.{all_from}
 use Rattle.nz_sat.proofs.Levels.{below_true, free_high}
 use Rattle.nz_sat.proofs.Marks.{false_entry, level_found, not_itself}
 use Rattle.nz_sat.proofs.Newness.{numbers_once, numbers_within, open_differs}

@@ -33,9 +33,9 @@ module _ (s : LogState) (size : ℕ) (es : List Assigned) (order : EachBehind (I
         elim (way.each assumed all under m has) [
           | inl negated ↦ inl negated
           | inr w ↦ elim (earlier m w) [
-              | inl same ↦ absurd (true≢false (sym w.marked ∙ ap (λ (k : Lit). is_marked marks k.term) same ∙ off))
-              | inr before ↦ inr before
-            ]
+            | inl same ↦ absurd (true≢false (sym w.marked ∙ ap (λ (k : Lit). is_marked marks k.term) same ∙ off))
+            | inr before ↦ inr before
+          ]
         ];
   }
 
@@ -47,12 +47,12 @@ module _ (s : LogState) (size : ℕ) (es : List Assigned) (order : EachBehind (I
         elim (way.each assumed all under m has) [
           | inl negated ↦ inl negated
           | inr w ↦ elim (earlier m w) [
-              | inl same ↦
-                  let level = level_within size es order i e at in
-                  let given = All-contains (IsAssumed assumed) es e all (has_found es i e at) none (omega (arith, level, undecided)) in
-                  inl (subst (Contains assumed) (sym (ap negated_lit same ∙ twice_negated e.literal)) given)
-              | inr before ↦ inr before
-            ]
+            | inl same ↦
+                let level = level_within size es order i e at in
+                let given = All-contains (IsAssumed assumed) es e all (has_found es i e at) none (omega (arith, level, undecided)) in
+                inl (subst (Contains assumed) (sym (ap negated_lit same ∙ twice_negated e.literal)) given)
+            | inr before ↦ inr before
+          ]
         ];
   }
 
@@ -65,12 +65,12 @@ module _ (s : LogState) (size : ℕ) (es : List Assigned) (order : EachBehind (I
         each = λ assumed all under m has.
             elim (longer_from s (literals_at s dead) ks e clause m has) [
               | inl old ↦ elim (way.each assumed all under m old.0) [
-                  | inl negated ↦ inl negated
-                  | inr w ↦ elim (earlier m w) [
-                      | inl same ↦ absurd (old.1 same)
-                      | inr before ↦ inr (record { false_before = before.false_before; marked = made.kept m.term before.marked })
-                    ]
+                | inl negated ↦ inl negated
+                | inr w ↦ elim (earlier m w) [
+                  | inl same ↦ absurd (old.1 same)
+                  | inr before ↦ inr (record { false_before = before.false_before; marked = made.kept m.term before.marked })
                 ]
+              ]
               | inr of_reason ↦
                   let before = why.others m of_reason.0 of_reason.1 in
                   inr (record { false_before = before; marked = made.marked m of_reason.0 (false_whole es i m before) })

@@ -28,7 +28,7 @@ pub longer_from : (s : LogState) (c : List Lit) (ks : List Link) (e : Assigned) 
     → (Contains (chained s c ks) m × (m ≢ negated_lit e.literal)) ⊎ (Contains (literals_at s clause) m × (m ≢ e.literal))
 longer_from s c ks e clause m has =
     elim (resolvent_from (negated_lit e.literal) (chained s c ks) (literals_at s clause) m
-      (subst (λ (d : List Lit). Contains d m) (chained_more s c ks (link_of e clause)) has)) [
+    (subst (λ (d : List Lit). Contains d m) (chained_more s c ks (link_of e clause)) has)) [
       | inl old ↦ inl (old.0, λ same. old.1 (sym same))
       | inr of_reason ↦ inr (of_reason.0, λ same. of_reason.1 (twice_negated e.literal ∙ sym same))
     ]

@@ -62,7 +62,9 @@ impl Trail {
     /// A trail is in order.
     pub fn is_in_order(&self)
         ensures trail { IsTrail self.now }
-    {}
+    {
+        let _ = &self.entries;
+    }
 
     /// The entry of a place, counted from 0.
     pub fn entry(&self, i: usize) -> Assigned

@@ -55,13 +55,15 @@ loop-literal-preserved c =
           (omega (arith, c.loop-literal.invariant.0), counted_as es (take (i + 1) c.args.literals.now) (before ++ l ∷ []) level old c.if-eq.seen _ c.if-eq.count _ more w.seen-is (zero_more ∙ ap (λ (n : ℕ). count + n) (sym none)) set)
       | else-eq w ↦
           elim w.else-eq.branch [
-            | else-eq-via-then-eq+else-not-seen-literal u ↦
-                (omega (arith, c.loop-literal.invariant.0),
-                counted_as es (take (i + 1) c.args.literals.now) (before ++ l ∷ []) level old c.if-eq.seen _ c.if-eq.count _ more w.seen-is w.count-is (counted_same es before l level old seen count (λ dead. u.if-not-seen-literal.false) so_far))
+            | else-eq-via-then-eq+else-not-seen-literal u ↦ (
+              omega (arith, c.loop-literal.invariant.0),
+              counted_as es (take (i + 1) c.args.literals.now) (before ++ l ∷ []) level old c.if-eq.seen _ c.if-eq.count _ more w.seen-is w.count-is (counted_same es before l level old seen count (λ dead. u.if-not-seen-literal.false) so_far),
+            )
             | else-eq-via-else-eq u ↦
-                let other : c.value.result ≡ Some false → false ≡ true = λ is. u.if-eq.ensures ∙ ap (λ o. option_eq beq o (Some false)) is in
-                (omega (arith, c.loop-literal.invariant.0),
-                counted_as es (take (i + 1) c.args.literals.now) (before ++ l ∷ []) level old c.if-eq.seen _ c.if-eq.count _ more w.seen-is w.count-is
-                (counted_same es before l level old seen count (λ dead. absurd (true≢false (sym (other (told_false es l c.value.result c.value.ensures.value dead))))) so_far))
+                let other : c.value.result ≡ Some false → false ≡ true = λ is. u.if-eq.ensures ∙ ap (λ o. option_eq beq o (Some false)) is in (
+                  omega (arith, c.loop-literal.invariant.0),
+                  counted_as es (take (i + 1) c.args.literals.now) (before ++ l ∷ []) level old c.if-eq.seen _ c.if-eq.count _ more w.seen-is w.count-is
+                      (counted_same es before l level old seen count (λ dead. absurd (true≢false (sym (other (told_false es l c.value.result c.value.ensures.value dead))))) so_far),
+                )
           ]
     ]

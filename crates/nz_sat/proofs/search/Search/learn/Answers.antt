@@ -1,17 +1,16 @@
 -- The lesson is noted and added, and its literal is true where the search goes back to.
 use Rattle.std.proofs.Common.{◌≡◌, ◌<◌, ◌++◌, ◌∷◌, [], List, None, length, sym, ap, subst, ◌∙◌, rules}
 use Rattle.std.specs.Prelude.{Contains}
-use Rattle.nz_spec.specs.Work.{WorkList, with_line}
+use Rattle.nz_spec.specs.Work.{WorkList}
 use Rattle.nz_log.specs.declared.lits.Lit.{Lit}
 use Rattle.nz_log.specs.declared.note.Note.{Note}
 use Rattle.nz_log.specs.Logs.{literals_at}
 use Rattle.nz_sat.specs.declared.clauses.Held.{Held}
-use Rattle.nz_sat.specs.declared.clauses.Index.{Index}
 use Rattle.nz_sat.specs.declared.search.Search.{Search}
 use Rattle.nz_sat.specs.Clauses.{Adds}
 use Rattle.nz_sat.specs.Conflicts.{AreUnmarked}
 use Rattle.nz_sat.specs.Sats.{AreHeld, held_of}
-use Rattle.nz_sat.specs.Searching.{Advances, Learned, after_lesson, learned_line}
+use Rattle.nz_sat.specs.Searching.{Advances, Learned, after_lesson}
 use Rattle.nz_sat.specs.Trails.{assigned, below}
 use Rattle.nz_sat.proofs.Advancing.{log_advances}
 use Rattle.nz_sat.proofs.Keeping.{held_live}
@@ -96,7 +95,7 @@ returns-clause-learned c =
     let back = c.go_back.ensures.rest in
     let place = c.go_back.result in
     let lengths : length c.hold.new.self.seen.items ≡ length s.seen.items = ap (λ (x : Search). length x.seen.items) after ∙ search rules in
-    let unmarked : AreUnmarked c.hold.new.self.seen.items = subst (λ (x : Search). AreUnmarked x.seen.items) (sym after) (search rules) in
+    let unmarked : AreUnmarked c.hold.new.self.seen.items = subst (λ (x : Search). AreUnmarked x.seen.items) (sym after) c.in_ok-lesson.ensures.unmarked in
     let there = learned c.args.log.now c.learn_from.new.log c.args.held.now.items c.args.self.now c.args.work.now c.args.dead c.in_ok-lesson.lesson
     (taught c.args.dead c.requires.search c.is_in_order.ensures.trail c.requires.all_open c.requires.held c.requires.dead c.requires.decided c.requires.noted c.learn_from.ensures.grows
     c.learn_from.ensures.sound c.in_ok-lesson.ensures.lesson)

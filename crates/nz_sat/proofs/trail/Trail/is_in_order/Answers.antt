@@ -3,5 +3,5 @@ use Rattle.std.proofs.Common.{subst}
 use Rattle.nz_sat.specs.Trails.{IsTrail, TrailState}
 use Rattle.nz_sat.proofs.trail.Trail.is_in_order.Goals as goal
 
-pub returns-clause-trail : goal.returns-clause-trail
-returns-clause-trail c = let P : TrailState → Type 0 = IsTrail in subst P c.self.view_is c.self.invariant.order
+pub returns : goal.returns
+returns c = record { trail = let P : TrailState → Type 0 = IsTrail in subst P c.self.view_is c.self.invariant.order }
