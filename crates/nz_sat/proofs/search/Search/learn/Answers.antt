@@ -1,5 +1,6 @@
 -- The lesson is noted and added, and its literal is true where the search goes back to.
-use Rattle.std.proofs.Common.{◌≡◌, ◌<◌, ◌++◌, ◌∷◌, [], List, None, length, sym, ap, subst, ◌∙◌, rules}
+use Rattle.std.proofs.Common.{◌≡◌, ◌<◌, ◌++◌, ◌∷◌, [], List, None, length, take, drop, vec_len, sym, ap, subst, ◌∙◌, arith, rules}
+use Rattle.std.proofs.lemmas.List.{take_all, take-append-le}
 use Rattle.std.specs.Prelude.{Contains}
 use Rattle.nz_spec.specs.Work.{WorkList}
 use Rattle.nz_log.specs.declared.lits.Lit.{Lit}
@@ -95,7 +96,12 @@ returns-clause-learned c =
     let back = c.go_back.ensures.rest in
     let place = c.go_back.result in
     let lengths : length c.hold.new.self.seen.items ≡ length s.seen.items = ap (λ (x : Search). length x.seen.items) after ∙ search rules in
-    let unmarked : AreUnmarked c.hold.new.self.seen.items = subst (λ (x : Search). AreUnmarked x.seen.items) (sym after) c.in_ok-lesson.ensures.unmarked in
+    let marks = c.learn_from.new.seen in
+    let rest = drop (length marks) s.seen.items in
+    let long : vec_len s.seen ≡ length marks = first_of (search rules, omega (arith, c.learn_from.auto.seen, c.deref_mut.ensures.len)) in
+    let same : take (vec_len s.seen) (marks ++ rest) ≡ marks = take-append-le (vec_len s.seen) marks rest (omega arith) ∙ take_all (vec_len s.seen) marks (omega arith) in
+    let unmarked : AreUnmarked c.hold.new.self.seen.items =
+    subst (λ (x : Search). AreUnmarked x.seen.items) (sym after) (subst AreUnmarked (sym same) c.in_ok-lesson.ensures.unmarked) in
     let there = learned c.args.log.now c.learn_from.new.log c.args.held.now.items c.args.self.now c.args.work.now c.args.dead c.in_ok-lesson.lesson
     (taught c.args.dead c.requires.search c.is_in_order.ensures.trail c.requires.all_open c.requires.held c.requires.dead c.requires.decided c.requires.noted c.learn_from.ensures.grows
     c.learn_from.ensures.sound c.in_ok-lesson.ensures.lesson)
