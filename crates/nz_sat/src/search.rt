@@ -226,7 +226,7 @@ impl Search {
     {
         clauses_are_true();
         legal_work_goes_on();
-        self.trail.is_in_order();
+        self.trail.entries_are_in_order();
         let alloc = *held.allocator();
         let lesson = learn_from(
             alloc,

@@ -59,10 +59,11 @@ impl Trail {
         self.entries.len()
     }
 
-    /// A trail is in order.
-    pub fn is_in_order(&self)
+    /// The entries are in order: each is of a new term, and its level is how many decisions there are up to it.
+    pub fn entries_are_in_order(&self)
         ensures trail { IsTrail self.now }
     {
+        // The invariant is known where a field is used.
         let _ = &self.entries;
     }
 

@@ -25,7 +25,7 @@ learn_from-requires-clause-live c = held_live c.args.log.now c.args.held.now.ite
 
 pub learn_from-requires-clause-two : goal.learn_from-requires-clause-two
 learn_from-requires-clause-two c =
-    held_two c.args.self.now.trail.size c.args.self.now.trail.entries c.is_in_order.ensures.trail c.args.log.now c.args.held.now.items c.requires.all_open c.requires.decided c.args.dead
+    held_two c.args.self.now.trail.size c.args.self.now.trail.entries c.entries_are_in_order.ensures.trail c.args.log.now c.args.held.now.items c.requires.all_open c.requires.decided c.args.dead
     c.requires.held c.requires.dead
 
 pub returns-in_err-lesson-clause-advances : goal.returns-in_err-lesson-clause-advances
@@ -39,7 +39,7 @@ pub note-requires-clause-named : goal.note-requires-clause-named
 note-requires-clause-named c =
     all_from (λ (m : Lit). Contains c.args.self.now.atoms m.term) (literals_at c.learn_from.new.log c.in_ok-lesson.lesson.clause)
     (lesson_named c.args.log.now c.learn_from.new.log c.args.held.now.items c.args.self.now c.args.work.now c.args.dead c.in_ok-lesson.lesson
-    (taught c.args.dead c.requires.search c.is_in_order.ensures.trail c.requires.all_open c.requires.held c.requires.dead c.requires.decided c.requires.noted c.learn_from.ensures.grows
+    (taught c.args.dead c.requires.search c.entries_are_in_order.ensures.trail c.requires.all_open c.requires.held c.requires.dead c.requires.decided c.requires.noted c.learn_from.ensures.grows
     c.learn_from.ensures.sound c.in_ok-lesson.ensures.lesson))
 
 pub returns-in_err-note-clause-advances : goal.returns-in_err-note-clause-advances
@@ -54,13 +54,13 @@ returns-in_err-note-clause-advances c =
 pub hold-requires-clause-within : goal.hold-requires-clause-within
 hold-requires-clause-within c =
     literals_within c.args.log.now c.learn_from.new.log c.args.held.now.items c.args.self.now c.args.work.now c.args.dead c.in_ok-lesson.lesson
-    (taught c.args.dead c.requires.search c.is_in_order.ensures.trail c.requires.all_open c.requires.held c.requires.dead c.requires.decided c.requires.noted c.learn_from.ensures.grows
+    (taught c.args.dead c.requires.search c.entries_are_in_order.ensures.trail c.requires.all_open c.requires.held c.requires.dead c.requires.decided c.requires.noted c.learn_from.ensures.grows
     c.learn_from.ensures.sound c.in_ok-lesson.ensures.lesson)
 
 pub returns-in_err-hold-clause-advances : goal.returns-in_err-hold-clause-advances
 returns-in_err-hold-clause-advances c =
     line_advances c.args.log.now c.learn_from.new.log c.args.held.now.items c.args.self.now c.args.work.now c.args.dead c.in_ok-lesson.lesson
-    (taught c.args.dead c.requires.search c.is_in_order.ensures.trail c.requires.all_open c.requires.held c.requires.dead c.requires.decided c.requires.noted c.learn_from.ensures.grows
+    (taught c.args.dead c.requires.search c.entries_are_in_order.ensures.trail c.requires.all_open c.requires.held c.requires.dead c.requires.decided c.requires.noted c.learn_from.ensures.grows
     c.learn_from.ensures.sound c.in_ok-lesson.ensures.lesson)
     c.clauses_are_true.ensures.clauses c.legal_work_goes_on.ensures.goes_on c.hold.new.held.items c.hold.ensures.more c.note.new.work c.in_ok-note.ensures.noted
 
@@ -69,20 +69,20 @@ go_back-requires-clause-free c =
     let l = c.in_ok-lesson.lesson in
     subst (λ (x : Search). assigned (below l.level x.trail.entries) l.literal.term ≡ None) (sym c.hold.ensures.rest)
     (literal_missing c.args.log.now c.learn_from.new.log c.args.held.now.items c.args.self.now c.args.work.now c.args.dead c.in_ok-lesson.lesson
-    (taught c.args.dead c.requires.search c.is_in_order.ensures.trail c.requires.all_open c.requires.held c.requires.dead c.requires.decided c.requires.noted c.learn_from.ensures.grows
+    (taught c.args.dead c.requires.search c.entries_are_in_order.ensures.trail c.requires.all_open c.requires.held c.requires.dead c.requires.decided c.requires.noted c.learn_from.ensures.grows
     c.learn_from.ensures.sound c.in_ok-lesson.ensures.lesson))
 
 pub go_back-requires-clause-within : goal.go_back-requires-clause-within
 go_back-requires-clause-within c =
     subst (λ (x : Search). c.in_ok-lesson.lesson.literal.term < x.trail.size) (sym c.hold.ensures.rest)
     (literal_within c.args.log.now c.learn_from.new.log c.args.held.now.items c.args.self.now c.args.work.now c.args.dead c.in_ok-lesson.lesson
-    (taught c.args.dead c.requires.search c.is_in_order.ensures.trail c.requires.all_open c.requires.held c.requires.dead c.requires.decided c.requires.noted c.learn_from.ensures.grows
+    (taught c.args.dead c.requires.search c.entries_are_in_order.ensures.trail c.requires.all_open c.requires.held c.requires.dead c.requires.decided c.requires.noted c.learn_from.ensures.grows
     c.learn_from.ensures.sound c.in_ok-lesson.ensures.lesson))
 
 pub returns-clause-advances : goal.returns-clause-advances
 returns-clause-advances c =
     line_advances c.args.log.now c.learn_from.new.log c.args.held.now.items c.args.self.now c.args.work.now c.args.dead c.in_ok-lesson.lesson
-    (taught c.args.dead c.requires.search c.is_in_order.ensures.trail c.requires.all_open c.requires.held c.requires.dead c.requires.decided c.requires.noted c.learn_from.ensures.grows
+    (taught c.args.dead c.requires.search c.entries_are_in_order.ensures.trail c.requires.all_open c.requires.held c.requires.dead c.requires.decided c.requires.noted c.learn_from.ensures.grows
     c.learn_from.ensures.sound c.in_ok-lesson.ensures.lesson)
     c.clauses_are_true.ensures.clauses c.legal_work_goes_on.ensures.goes_on c.hold.new.held.items c.hold.ensures.more c.note.new.work c.in_ok-note.ensures.noted
 
@@ -98,12 +98,12 @@ returns-clause-learned c =
     let lengths : length c.hold.new.self.seen.items ≡ length s.seen.items = ap (λ (x : Search). length x.seen.items) after ∙ search rules in
     let marks = c.learn_from.new.seen in
     let rest = drop (length marks) s.seen.items in
-    let long : vec_len s.seen ≡ length marks = first_of (search rules, omega (arith, c.learn_from.auto.seen, c.deref_mut.ensures.len)) in
+    let long : vec_len s.seen ≡ length marks = search rules in
     let same : take (vec_len s.seen) (marks ++ rest) ≡ marks = take-append-le (vec_len s.seen) marks rest (omega arith) ∙ take_all (vec_len s.seen) marks (omega arith) in
     let unmarked : AreUnmarked c.hold.new.self.seen.items =
     subst (λ (x : Search). AreUnmarked x.seen.items) (sym after) (subst AreUnmarked (sym same) c.in_ok-lesson.ensures.unmarked) in
     let there = learned c.args.log.now c.learn_from.new.log c.args.held.now.items c.args.self.now c.args.work.now c.args.dead c.in_ok-lesson.lesson
-    (taught c.args.dead c.requires.search c.is_in_order.ensures.trail c.requires.all_open c.requires.held c.requires.dead c.requires.decided c.requires.noted c.learn_from.ensures.grows
+    (taught c.args.dead c.requires.search c.entries_are_in_order.ensures.trail c.requires.all_open c.requires.held c.requires.dead c.requires.decided c.requires.noted c.learn_from.ensures.grows
     c.learn_from.ensures.sound c.in_ok-lesson.ensures.lesson)
     c.go_back.new.self (ap (λ (x : Search). x.atoms) back ∙ ap (λ (x : Search). x.atoms) after) (c.go_back.ensures.size ∙ ap (λ (x : Search). x.trail.size) after)
     (c.go_back.ensures.entries ∙ ap (λ (x : Search). after_lesson x.trail.entries l) after)
