@@ -12,13 +12,14 @@ use Rattle.nz_log.specs.Logs.{LogState, IsLive, literals_at}
 use Rattle.nz_sat.specs.declared.clauses.Held.{Held}
 use Rattle.nz_sat.specs.declared.search.Search.{Search}
 use Rattle.nz_sat.specs.declared.trail.Assigned.{Assigned}
-use Rattle.nz_sat.specs.Trails.{EachBehind, GoesOn, IsFalseOn, IsTrueOn, TrailState, assigned, depth, is_decision, truth_on, with_entry}
+use Rattle.nz_sat.specs.Trails.{EachBehind, GoesOn, IsFalseOn, IsTrail, IsTrueOn, TrailState, assigned, depth, is_decision, truth_on, with_entry}
 use Rattle.nz_sat.specs.Clauses.{HasReasonOf, IsAssumed, IsDead, IsImplied, IsOpen, IsReason, IsReasonOf, Waits, ids_of}
 use Rattle.nz_sat.specs.Conflicts.{IsDeadUnder}
 use Rattle.nz_sat.specs.Searching.{AreOpen, Assumes, IsSearch, MayAssume, ids}
 use Rattle.nz_sat.proofs.Clausal.{either_sign, missing_free, open_grows, other_lit, same_lit, sign_again, truth_found, truth_missing}
-use Rattle.nz_sat.proofs.Keeping.{at_contains, goes_assumed, goes_depth, goes_search, goes_true, held_live}
-use Rattle.nz_sat.proofs.Trailing.{assigned_missing, assigned_one, assigned_place, each_push}
+use Rattle.nz_sat.proofs.Keeping.{at_contains, goes_assumed, goes_search, goes_true, held_live}
+use Rattle.nz_sat.proofs.Visiting.{goes_depth}
+use Rattle.nz_sat.proofs.Trailing.{assigned_missing, assigned_one, assigned_place, each_push, order_put}
 
 -- ---- Under no decision
 
@@ -109,6 +110,9 @@ module _ (log : LogState) (held : List Held) (assumed : List Lit) (l : Lit) (s :
   entry = record { literal = l; level = 0; reason = None }
 
   module _ (free : assigned s.trail.entries l.term ≡ None) (t : TrailState) (size : t.size ≡ s.trail.size) (goes : GoesOn (s.trail.entries ++ entry ∷ []) t.entries) where
+    put_depth : depth (s.trail.entries ++ entry ∷ []) ≡ 0
+    put_depth = let one : depth (s.trail.entries ++ entry ∷ []) ≡ depth s.trail.entries + 0 = sum_by_push (λ (x : Assigned). if is_decision x then 1 else 0) s.trail.entries entry in omega arith
+
     pub put_search : IsSearch log held (record s { trail = with_entry s.trail entry })
     put_search =
         let h = may.search in
@@ -122,12 +126,11 @@ module _ (log : LogState) (held : List Held) (assumed : List Lit) (l : Lit) (s :
           indexed = h.indexed;
           marks = h.marks;
           unmarked = h.unmarked;
+          order = order_put s.trail.size s.trail.entries entry h.order free
+              (All-contains (λ (u : ℕ). u < s.trail.size) s.atoms l.term h.within may.atom) (sym put_depth);
           implied = each_push (IsImplied log) s.trail.entries entry h.implied tt;
           reasons = All-push (HasReasonOf (ids held)) s.trail.entries entry h.reasons tt;
         }
-
-    put_depth : depth (s.trail.entries ++ entry ∷ []) ≡ 0
-    put_depth = let one : depth (s.trail.entries ++ entry ∷ []) ≡ depth s.trail.entries + 0 = sum_by_push (λ (x : Assigned). if is_decision x then 1 else 0) s.trail.entries entry in omega arith
 
     put_true : IsTrueOn (s.trail.entries ++ entry ∷ []) l
     put_true = ap (option_map (λ (x : Assigned). x.literal.sign)) (assigned_missing s.trail.entries (entry ∷ []) l.term free ∙ assigned_one entry l.term refl)
@@ -137,12 +140,12 @@ module _ (log : LogState) (held : List Held) (assumed : List Lit) (l : Lit) (s :
         open_grows s.trail.entries (entry ∷ []) (length s.trail.entries) (literals_at log i) (omega arith)
         (All-contains (λ (j : ℕ). IsOpen s.trail.entries (literals_at log j)) (ids held) i may.all_open has)
 
-    pub assume_goes : (told : Option ℕ) → EachBehind (IsImplied log) t.entries → All (HasReasonOf (ids held)) t.entries → (told ≡ None → AreOpen log held t.entries)
+    pub assume_goes : (told : Option ℕ) → IsTrail t → EachBehind (IsImplied log) t.entries → All (HasReasonOf (ids held)) t.entries → (told ≡ None → AreOpen log held t.entries)
         → IfSome told (λ id. Contains (ids held) id × IsDead t.entries (literals_at log id))
         → Assumes log held assumed l s.trail.entries (record s { trail = t }) told
-    assume_goes told implied reasons all_open dead =
+    assume_goes told order implied reasons all_open dead =
         record {
-          search = goes_search log held (record s { trail = with_entry s.trail entry }) t put_search size goes implied reasons;
+          search = goes_search log held (record s { trail = with_entry s.trail entry }) t put_search size order goes implied reasons;
           assumed_only = goes_assumed (s.trail.entries ++ entry ∷ []) t.entries assumed goes
               (All-push (IsAssumed assumed) s.trail.entries entry may.assumed_only (λ none level. may.among));
           undecided = goes_depth (s.trail.entries ++ entry ∷ []) t.entries goes ∙ put_depth;

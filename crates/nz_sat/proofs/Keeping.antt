@@ -1,7 +1,7 @@
 -- What a search keeps where its trail goes on.
 use Rattle.std.proofs.Common.{◌≡◌, ◌≢◌, ℕ, zero, suc, ◌+◌, ◌<◌, ◌≤◌, Bool, true, false, if◌then◌else◌, List, [], ◌∷◌, ◌++◌, length, take, drop, map, get_or, Option, Some, None, ◌⊎◌, inl, inr, refl, sym, ap, subst, ◌∙◌, arith, add-zero}
-use Rattle.std.specs.Prelude.{All, Contains, IsSome, is_some, replicate, nat_lt, slice_get, count_by, sum_by}
-use Rattle.std.proofs.lemmas.List.{get_or-map, length-map}
+use Rattle.std.specs.Prelude.{All, Contains, IfSome, IsSome, is_some, replicate, nat_lt, slice_get, count_by, sum_by}
+use Rattle.std.proofs.lemmas.List.{append-nil, get_or-map, length-map}
 use Rattle.std.proofs.lemmas.List.Elements.{All-append, All-contains, All-head, All-map, All-tail, Contains-get_or}
 use Rattle.std.proofs.lemmas.List.Sums.{sum_by-append, sum_by-cons}
 use Rattle.std.proofs.lemmas.Option.{get_or_from_slice_get, slice_get-get_or, slice_get_within}
@@ -11,39 +11,19 @@ use Rattle.nz_log.specs.Logs.{LogState, IsLive, literals_at}
 use Rattle.nz_sat.specs.declared.clauses.Held.{Held}
 use Rattle.nz_sat.specs.declared.search.Search.{Search}
 use Rattle.nz_sat.specs.declared.trail.Assigned.{Assigned}
-use Rattle.nz_sat.specs.Trails.{EachBehind, GoesOn, IsTrueOn, TrailState, depth, is_decision}
-use Rattle.nz_sat.specs.Clauses.{AreUsable, HasReasonOf, IsAssumed, IsImplied, IsOfSize, IsReasonOf, IsReasonOneOf, IsUsable, ids_of}
+use Rattle.nz_sat.specs.Trails.{EachBehind, GoesOn, IsTrail, IsTrueOn, TrailState, below, depth}
+use Rattle.nz_sat.specs.Clauses.{AreUsable, HasReasonOf, IsAssumed, IsDead, IsImplied, IsOfSize, IsReasonOf, IsReasonOneOf, IsUsable, ids_of}
 use Rattle.nz_sat.specs.Conflicts.{AreUnmarked}
 use Rattle.nz_sat.specs.Sats.{AreHeld}
-use Rattle.nz_sat.specs.Searching.{IsSearch, ids}
+use Rattle.nz_sat.specs.Searching.{AreOpen, IsSearch, OpenOrDead, WereOpen, ids}
 use Rattle.nz_sat.proofs.Clausal.{slice_get_behind, truth_found}
+use Rattle.nz_sat.proofs.Cutting.{below_join, below_none}
+use Rattle.nz_sat.proofs.Visiting.{goes_depth}
 
 pub at_contains : {X : Type 0} (xs : List X) (i : ℕ) (x : X) → slice_get xs i ≡ Some x → Contains xs x
 at_contains xs i x at = (i, slice_get_within xs i x at, get_or_from_slice_get xs i x x at)
 
--- ---- The depth
-
-decision_by : (o : Option ℕ) (level : ℕ) → IsSome o → (elim o [ None ↦ nat_lt 0 level | Some c ↦ false ]) ≡ false
-decision_by None level h = cc
-decision_by (Some c) level h = refl
-
-no_decision : (e : Assigned) → IsSome e.reason → is_decision e ≡ false
-no_decision e h = decision_by e.reason e.level h
-
-pub implied_depth : (more : List Assigned) → All (λ (e : Assigned). IsSome e.reason) more → depth more ≡ 0
-implied_depth [] h = refl
-implied_depth (e ∷ es) h =
-    let P : Assigned → Type 0 = λ x. IsSome x.reason in
-    let first : (if is_decision e then 1 else 0) ≡ 0 = ap (λ (b : Bool). if b then 1 else 0) (no_decision e (All-head P e es h)) in
-    sum_by-cons (λ (x : Assigned). if is_decision x then 1 else 0) e es ∙ ap (λ (n : ℕ). n + depth es) first
-    ∙ ap (λ (n : ℕ). 0 + n) (implied_depth es (All-tail P e es h))
-
-pub goes_depth : (es es' : List Assigned) → GoesOn es es' → depth es' ≡ depth es
-goes_depth es es' g =
-    let none = implied_depth g.more g.implied in
-    let both : depth (es ++ g.more) ≡ depth es + depth g.more = sum_by-append (λ (x : Assigned). if is_decision x then 1 else 0) es g.more in
-    let same : depth es' ≡ depth (es ++ g.more) = ap depth g.joined in
-    omega arith
+-- ---- What is true
 
 pub goes_true : (es es' : List Assigned) → GoesOn es es' → (l : Lit) → IsTrueOn es l → IsTrueOn es' l
 goes_true es es' g l h = subst (λ (xs : List Assigned). IsTrueOn xs l) (sym g.joined) (truth_found es g.more l.term l.sign h)
@@ -62,9 +42,9 @@ some_reason : (o : Option ℕ) → IsSome o → o ≡ None → ⊥
 some_reason None h e = cc
 some_reason (Some c) h e = cc
 
-pub goes_search : (log : LogState) (held : List Held) (s : Search) (t : TrailState) → IsSearch log held s → t.size ≡ s.trail.size
+pub goes_search : (log : LogState) (held : List Held) (s : Search) (t : TrailState) → IsSearch log held s → t.size ≡ s.trail.size → IsTrail t
     → GoesOn s.trail.entries t.entries → EachBehind (IsImplied log) t.entries → All (HasReasonOf (ids held)) t.entries → IsSearch log held (record s { trail = t })
-goes_search log held s t h size g implied reasons =
+goes_search log held s t h size order g implied reasons =
     let es = s.trail.entries in
     let N : Assigned → Type 0 = λ e. Contains s.atoms e.literal.term in
     let place : (k : ℕ) (d : Assigned) → k < length g.more → slice_get t.entries (length es + k) ≡ Some (get_or g.more k d) =
@@ -87,6 +67,7 @@ goes_search log held s t h size g implied reasons =
       indexed = subst (λ (n : ℕ). IsOfSize n s.index) (sym size) h.indexed;
       marks = h.marks ∙ sym size;
       unmarked = h.unmarked;
+      order = order;
       implied = implied;
       reasons = reasons;
     }
@@ -144,3 +125,22 @@ pub none_marked : (n : ℕ) → AreUnmarked (replicate n false)
 none_marked zero t = refl
 none_marked (suc n) zero = refl
 none_marked (suc n) (suc t) = none_marked n t
+
+-- ---- Levels
+
+-- the entries of lower levels are as before
+pub goes_below : (es es' : List Assigned) → GoesOn es es' → (k : ℕ) → k < depth es → below k es' ≡ below k es
+goes_below es es' g k less =
+    let none : below k g.more ≡ [] = below_none k g.more (λ j d inside. let same : (get_or g.more j d).level ≡ depth es = g.last j d inside in omega arith) in
+    ap (below k) g.joined ∙ below_join k es g.more ∙ ap (λ (xs : List Assigned). below k es ++ xs) none ∙ append-nil (below k es)
+
+pub goes_were_open : (log : LogState) (held : List Held) (es es' : List Assigned) → GoesOn es es' → WereOpen log held es → WereOpen log held es'
+goes_were_open log held es es' g were k less =
+    let same : depth es' ≡ depth es = goes_depth es es' g in
+    let low : k < depth es = omega arith in
+    subst (AreOpen log held) (sym (goes_below es es' g k low)) (were k low)
+
+pub open_or_dead : (log : LogState) (held : List Held) (s : Search) (es : List Assigned) (told : Option ℕ) → IsSearch log held s → (told ≡ None → AreOpen log held es)
+    → IfSome told (λ id. ((l : Lit) × Contains (ids_of s.index l) id) × IsDead es (literals_at log id)) → OpenOrDead log held es told
+open_or_dead log held s es None h all_open dead = all_open refl
+open_or_dead log held s es (Some id) h all_open dead = (h.only dead.0.0 id dead.0.1, dead.1)

@@ -21,7 +21,7 @@ use Rattle.nz_sat.specs.Conflicts.{AreUnmarked, Grows}
 use Rattle.nz_sat.specs.Numbers.{numbered}
 use Rattle.nz_sat.specs.Sats.{AreHeld, held_of}
 use Rattle.nz_sat.specs.Searching.{AreOpen, AreWaiting, Carries, IsNoted, IsSearch, KeepsFirst, Learned, WereOpen, after_lesson, ids, learned_line}
-use Rattle.nz_sat.specs.Trails.{EachBehind, IsFalseOn, IsFreeOn, IsTrueOn, assigned, below, depth, implied, is_decision}
+use Rattle.nz_sat.specs.Trails.{EachBehind, IsFalseOn, IsFreeOn, IsTrail, IsTrueOn, assigned, below, depth, implied, is_decision}
 use Rattle.nz_sat.proofs.Clausal.{free_missing, open_grows, truth_found, truth_missing}
 use Rattle.nz_sat.proofs.Cutting.{above_level, below_join}
 use Rattle.nz_sat.proofs.Keeping.{held_live}
@@ -73,10 +73,10 @@ module _ (log log' : LogState) (held : List Held) (s : state.Search) (work : Wor
   false_literal = h.lesson.dead l.literal h.lesson.has
 
   front_depth : depth front ≡ l.level
-  front_depth = let earlier = h.lesson.earlier in below_depth s.trail.size es h.order l.level (omega arith)
+  front_depth = let earlier = h.lesson.earlier in below_depth s.trail.size es h.search.order l.level (omega arith)
 
   literal_free : (k : ℕ) → k < depth es → IsFreeOn (below k es) l.literal
-  literal_free k less = let last = h.lesson.last in below_free s.trail.size es h.order k l.literal false_literal (omega (arith, last, less))
+  literal_free k less = let last = h.lesson.last in below_free s.trail.size es h.search.order k l.literal false_literal (omega (arith, last, less))
 
   pub literal_missing : assigned front l.literal.term ≡ None
   literal_missing = free_missing front l.literal.term (literal_free l.level h.lesson.earlier)
@@ -122,7 +122,7 @@ module _ (log log' : LogState) (held : List Held) (s : state.Search) (work : Wor
       let earlier = h.lesson.earlier in
       let w = h.lesson.reached (omega (arith, less)) in
       by_two l.literal w.0 h.lesson.has w.1 (λ same. w.2 (sym same)) (literal_free k (omega (arith, less, earlier)))
-      (below_free s.trail.size es h.order k w.0 (h.lesson.dead w.0 w.1) (omega (arith, less, w.3)))
+      (below_free s.trail.size es h.search.order k w.0 (h.lesson.dead w.0 w.1) (omega (arith, less, w.3)))
 
   after_open : WereOpen log' held' (after_lesson es l)
   after_open k less =
@@ -148,13 +148,13 @@ module _ (log log' : LogState) (held : List Held) (s : state.Search) (work : Wor
 
   after_implied : EachBehind (IsImplied log') (after_lesson es l)
   after_implied =
-      let f = below_front s.trail.size es h.order l.level in
+      let f = below_front s.trail.size es h.search.order l.level in
       let grown = each_weaker (IsImplied log) (IsImplied log') (λ before e r. reason_kept log log' h.grows before e.literal e.reason r) es h.search.implied in
       each_push (IsImplied log') front mine (each_front (IsImplied log') front f.more (subst (EachBehind (IsImplied log')) f.joined grown))
       (record {
         live = h.lesson.live;
         has = h.lesson.has;
-        others = λ m has other. below_false s.trail.size es h.order l.level m (h.lesson.dead m has) (h.lesson.others m has other);
+        others = λ m has other. below_false s.trail.size es h.search.order l.level m (h.lesson.dead m has) (h.lesson.others m has other);
       })
 
   after_reasons : All (HasReasonOf (ids held')) (after_lesson es l)
@@ -179,7 +179,7 @@ module _ (log log' : LogState) (held : List Held) (s : state.Search) (work : Wor
       ∙ fold-append after_line at_first (noted_list ns work).lines (line ∷ [])
 
   after_decided : filter is_decision (after_lesson es l) ≡ take l.level (filter is_decision es)
-  after_decided = filter-append is_decision front (mine ∷ []) ∙ append-nil (filter is_decision front) ∙ below_decided s.trail.size es h.order l.level
+  after_decided = filter-append is_decision front (mine ∷ []) ∙ append-nil (filter is_decision front) ∙ below_decided s.trail.size es h.search.order l.level
 
   after_noted : IsNoted log' held' s.atoms (after_lesson es l) work'
   after_noted =
@@ -217,7 +217,7 @@ module _ (log log' : LogState) (held : List Held) (s : state.Search) (work : Wor
 
   module _ (s' : state.Search) (atoms : s'.atoms ≡ s.atoms) (size : s'.trail.size ≡ s.trail.size) (entries : s'.trail.entries ≡ after_lesson es l)
       (index : Adds log' l.clause s.index s'.index) (marks : length s'.seen.items ≡ length s.seen.items) (unmarked : AreUnmarked s'.seen.items)
-      (are_held : AreHeld log' held') where
+      (are_held : AreHeld log' held') (ordered : IsTrail s'.trail) (room : unit_count work.lines < work.limit) where
     after_search : IsSearch log' held' s'
     after_search =
         let more : (i : ℕ) → Contains (ids held ++ l.clause ∷ []) i → Contains (ids held') i = λ i has. subst (λ (is : List ℕ). Contains is i) (sym ids_more) has in
@@ -247,6 +247,7 @@ module _ (log log' : LogState) (held : List Held) (s : state.Search) (work : Wor
           indexed = (index.size.0 ∙ h.search.indexed.0 ∙ sym size, index.size.1 ∙ h.search.indexed.1 ∙ sym size);
           marks = marks ∙ h.search.marks ∙ sym size;
           unmarked = unmarked;
+          order = ordered;
           implied = subst (EachBehind (IsImplied log')) (sym entries) after_implied;
           reasons = subst (All (HasReasonOf (ids held'))) (sym entries) after_reasons;
         }
@@ -270,4 +271,5 @@ module _ (log log' : LogState) (held : List Held) (s : state.Search) (work : Wor
               (subst (λ (xs : List Assigned). IsNoted log' held' s.atoms xs work') (sym entries) after_noted);
           carries = after_carries;
           unit = one_unit;
+          within = omega (arith, one_unit);
         }

@@ -5,6 +5,8 @@ pub mod Chains
 pub mod Clausal
 pub mod Cutting
 pub mod DeadEnds
+pub mod Deciding
+pub mod Following
 pub mod Indexing
 pub mod Keeping
 pub mod Learning
@@ -16,6 +18,7 @@ pub mod Noting
 pub mod Numbering
 pub mod Refuting
 pub mod Resolving
+pub mod Retaining
 pub mod Standing
 pub mod Trailing
 pub mod Visiting

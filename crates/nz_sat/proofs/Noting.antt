@@ -27,7 +27,7 @@ use Rattle.nz_sat.specs.Conflicts.{Grows, HasTwoLast, IsLesson, StaysSound}
 use Rattle.nz_sat.specs.Numbers.{numbered}
 use Rattle.nz_sat.specs.Sats.{HoldsMore, IsAsked}
 use Rattle.nz_sat.specs.Searching.{Advances, IsNoted, IsSearch, StaysInOrder, StaysLegal, WereOpen, ids, learned_line}
-use Rattle.nz_sat.specs.Trails.{EachBehind, IsFreeOn, IsNext, IsTrail, below, depth, is_decision, level_on}
+use Rattle.nz_sat.specs.Trails.{EachBehind, IsFreeOn, IsNext, below, depth, is_decision, level_on}
 use Rattle.nz_sat.proofs.Chains.{has_found}
 use Rattle.nz_sat.proofs.DeadEnds.{clause_true, literals_numbered, none_dead}
 use Rattle.nz_sat.proofs.Keeping.{held_live}
@@ -69,7 +69,6 @@ held_two size es order log held were_open decided i has dead =
 -- What is known where a search has a lesson from a clause that is dead.
 pub record IsTaught (log log' : LogState) (held : List Held) (s : state.Search) (work : WorkList Note) (dead : ℕ) (l : Lesson) : Type 0 where
   pub search : IsSearch log held s
-  pub order : IsTrail s.trail
   pub were_open : WereOpen log held s.trail.entries
   pub held_dead : Contains (ids held) dead
   pub dies : IsDead s.trail.entries (literals_at log dead)
@@ -79,14 +78,13 @@ pub record IsTaught (log log' : LogState) (held : List Held) (s : state.Search) 
   pub sound : StaysSound s.trail.entries log log'
   pub lesson : IsLesson log' s.trail.entries l
 
-pub taught : {log log' : LogState} {held : List Held} {s : state.Search} {work : WorkList Note} {l : Lesson} (dead : ℕ) → IsSearch log held s → IsTrail s.trail
+pub taught : {log log' : LogState} {held : List Held} {s : state.Search} {work : WorkList Note} {l : Lesson} (dead : ℕ) → IsSearch log held s
     → WereOpen log held s.trail.entries → Contains (ids held) dead → IsDead s.trail.entries (literals_at log dead) → 0 < depth s.trail.entries
     → IsNoted log held s.atoms s.trail.entries work → Grows log log' → StaysSound s.trail.entries log log' → IsLesson log' s.trail.entries l
     → IsTaught log log' held s work dead l
-taught dead search order were_open held_dead dies decided noted grows sound lesson =
+taught dead search were_open held_dead dies decided noted grows sound lesson =
     record {
       search = search;
-      order = order;
       were_open = were_open;
       held_dead = held_dead;
       dies = dies;
@@ -139,7 +137,7 @@ module _ (log log' : LogState) (held : List Held) (s : state.Search) (work : Wor
       let k = depth es - 1 in
       let less : k < depth es = omega (arith, h.decided) in
       let opened = All-contains (λ (j : ℕ). IsOpen (below k es) (literals_at log j)) (ids held) i (h.were_open k less) has in
-      open_differs s.atoms es lits lesson_named h.lesson.dead s.trail.size h.order k l.literal
+      open_differs s.atoms es lits lesson_named h.lesson.dead s.trail.size h.search.order k l.literal
       (λ m there other. let low = h.lesson.others m there other in let earlier = h.lesson.earlier in omega (arith, low, earlier))
       (literals_at log i) (held_named s.atoms log (ids held) h.search.named i has) opened same
 

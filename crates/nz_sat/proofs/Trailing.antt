@@ -36,6 +36,11 @@ module _ (P : List Assigned → Assigned → Type 0) where
       slice_get-get_or (es ++ e ∷ []) (length es) e long ∙ ap Some (get_or_push es e e (length es) refl) in
       subst (λ (front : List Assigned). P front e) (take_at es (e ∷ []) (length es) refl) (h (length es) e at)
 
+-- one entry more that is in order
+pub order_put : (n : ℕ) (es : List Assigned) (e : Assigned) → EachBehind (IsNext n) es → assigned es e.literal.term ≡ None → e.literal.term < n
+    → e.level ≡ depth (es ++ e ∷ []) → EachBehind (IsNext n) (es ++ e ∷ [])
+order_put n es e before fresh within level = each_push (IsNext n) es e before (record { fresh = fresh; within = within; level = level })
+
 -- what holds of each entry behind those before it holds of each by a weaker word
 pub each_weaker : (P Q : List Assigned → Assigned → Type 0) → ((before : List Assigned) (e : Assigned) → P before e → Q before e)
     → (es : List Assigned) → EachBehind P es → EachBehind Q es

@@ -1,9 +1,10 @@
 -- Clauses that are visited: what one makes true, and that each is open once every literal was looked at.
-use Rattle.std.proofs.Common.{◌≡◌, ◌≢◌, ℕ, zero, suc, ◌+◌, ◌<◌, ◌≤◌, List, [], ◌∷◌, ◌++◌, length, get_or, Option, Some, None, ◌⊎◌, inl, inr, refl, sym, ap, subst, ◌∙◌, arith, append_assoc, append-nil, below_more}
-use Rattle.std.specs.Prelude.{All, Contains, IsSome, slice_get, option_map}
+use Rattle.std.proofs.Common.{◌≡◌, ◌≢◌, ℕ, zero, suc, ◌+◌, ◌<◌, ◌≤◌, Bool, true, false, if◌then◌else◌, List, [], ◌∷◌, ◌++◌, length, get_or, Option, Some, None, ◌⊎◌, inl, inr, refl, sym, ap, subst, ◌∙◌, arith, append_assoc, append-nil, below_more}
+use Rattle.std.specs.Prelude.{All, Contains, IsSome, nat_lt, slice_get, option_map}
 use Rattle.std.proofs.lemmas.Bool.{cases_eq}
+use Rattle.std.proofs.lemmas.List.Sums.{sum_by-append, sum_by-cons}
 use Rattle.std.proofs.lemmas.List.{get_or_default, length-append}
-use Rattle.std.proofs.lemmas.List.Elements.{All-append, All-cons, All-contains, All-nil, Contains-get_or}
+use Rattle.std.proofs.lemmas.List.Elements.{All-append, All-cons, All-contains, All-head, All-nil, All-tail, Contains-get_or}
 use Rattle.std.proofs.lemmas.Option.{same_Some, slice_get_within}
 use Rattle.nz_lists.proofs.Places.{slice_get_kept}
 use Rattle.nz_log.specs.declared.lits.Lit.{Lit}
@@ -12,28 +13,60 @@ use Rattle.nz_log.specs.Logs.{LogState, literals_at}
 use Rattle.nz_sat.specs.declared.clauses.Held.{Held}
 use Rattle.nz_sat.specs.declared.clauses.Index.{Index}
 use Rattle.nz_sat.specs.declared.trail.Assigned.{Assigned}
-use Rattle.nz_sat.specs.Trails.{EachBehind, GoesOn, IsTrueOn, assigned, implied, truth_on}
+use Rattle.nz_sat.specs.Trails.{EachBehind, GoesOn, IsTrueOn, assigned, depth, implied, is_decision, truth_on}
 use Rattle.nz_sat.specs.Clauses.{IsAhead, IsImplied, IsListed, IsOpen, by_true, IsReason, IsUnit, AreUsable, IsUsable, Waits, ids_of}
 use Rattle.nz_sat.proofs.Trailing.{assigned_missing, assigned_one, each_push}
 use Rattle.nz_sat.proofs.Clausal.{free_missing, waits_grow, open_grows}
 
 -- ---- Trails that go on
 
-pub goes_same : (es : List Assigned) → GoesOn es es
-goes_same es = record { more = []; joined = sym (append-nil es); implied = All-nil (λ (e : Assigned). IsSome e.reason) }
+decision_by : (o : Option ℕ) (level : ℕ) → IsSome o → (elim o [ None ↦ nat_lt 0 level | Some c ↦ false ]) ≡ false
+decision_by None level h = cc
+decision_by (Some c) level h = refl
 
-pub goes_one : (es : List Assigned) (e : Assigned) → IsSome e.reason → GoesOn es (es ++ e ∷ [])
-goes_one es e by_reason =
+pub no_decision : (e : Assigned) → IsSome e.reason → is_decision e ≡ false
+no_decision e h = decision_by e.reason e.level h
+
+pub implied_depth : (more : List Assigned) → All (λ (e : Assigned). IsSome e.reason) more → depth more ≡ 0
+implied_depth [] h = refl
+implied_depth (e ∷ es) h =
     let P : Assigned → Type 0 = λ x. IsSome x.reason in
-    record { more = e ∷ []; joined = refl; implied = All-cons P e [] by_reason (All-nil P) }
+    let first : (if is_decision e then 1 else 0) ≡ 0 = ap (λ (b : Bool). if b then 1 else 0) (no_decision e (All-head P e es h)) in
+    sum_by-cons (λ (x : Assigned). if is_decision x then 1 else 0) e es ∙ ap (λ (n : ℕ). n + depth es) first
+    ∙ ap (λ (n : ℕ). 0 + n) (implied_depth es (All-tail P e es h))
+
+pub goes_depth : (es es' : List Assigned) → GoesOn es es' → depth es' ≡ depth es
+goes_depth es es' g =
+    let none = implied_depth g.more g.implied in
+    let both : depth (es ++ g.more) ≡ depth es + depth g.more = sum_by-append (λ (x : Assigned). if is_decision x then 1 else 0) es g.more in
+    let same : depth es' ≡ depth (es ++ g.more) = ap depth g.joined in
+    omega arith
+
+pub goes_same : (es : List Assigned) → GoesOn es es
+goes_same es =
+    record {
+      more = [];
+      joined = sym (append-nil es);
+      implied = All-nil (λ (e : Assigned). IsSome e.reason);
+      last = All-nil (λ (e : Assigned). e.level ≡ depth es);
+    }
+
+pub goes_one : (es : List Assigned) (e : Assigned) → IsSome e.reason → e.level ≡ depth es → GoesOn es (es ++ e ∷ [])
+goes_one es e by_reason level =
+    let P : Assigned → Type 0 = λ x. IsSome x.reason in
+    let L : Assigned → Type 0 = λ x. x.level ≡ depth es in
+    record { more = e ∷ []; joined = refl; implied = All-cons P e [] by_reason (All-nil P); last = All-cons L e [] level (All-nil L) }
 
 pub goes_far : (a b c : List Assigned) → GoesOn a b → GoesOn b c → GoesOn a c
 goes_far a b c g h =
     let P : Assigned → Type 0 = λ x. IsSome x.reason in
+    let L : Assigned → Type 0 = λ x. x.level ≡ depth a in
+    let same : depth b ≡ depth a = goes_depth a b g in
     record {
       more = g.more ++ h.more;
       joined = h.joined ∙ ap (λ (xs : List Assigned). xs ++ h.more) g.joined ∙ append_assoc a g.more h.more;
       implied = All-append P g.more h.more g.implied h.implied;
+      last = All-append L g.more h.more g.last (λ k d inside. h.last k d inside ∙ same);
     }
 
 pub goes_longer : (a b : List Assigned) → GoesOn a b → length a ≤ length b

@@ -12,7 +12,7 @@ use Rattle.nz_sat.specs.declared.analyze.Lesson.{Lesson}
 use Rattle.nz_sat.specs.declared.search.Search.{Search}
 use Rattle.nz_sat.specs.declared.trail.Assigned.{Assigned}
 use Rattle.nz_log.specs.Sound.{IsLog}
-use Rattle.nz_sat.specs.Trails.{EachBehind, IsTrueOn, below, decided, depth, implied, is_decision, with_entry}
+use Rattle.nz_sat.specs.Trails.{EachBehind, GoesOn, IsTrail, IsTrueOn, assigned, below, decided, depth, implied, is_decision, with_entry}
 use Rattle.nz_sat.specs.Clauses.{HasReasonOf, IsAssumed, IsDead, IsImplied, IsListed, IsOfSize, IsOpen, Waits, ids_of}
 use Rattle.nz_sat.specs.Conflicts.{AreUnmarked, Grows, IsDeadUnder}
 use Rattle.nz_sat.specs.Numbers.{number_of, numbered}
@@ -33,6 +33,7 @@ pub record IsSearch (log : LogState) (held : List Held) (s : Search) : Type 0 wh
   pub indexed : IsOfSize s.trail.size s.index
   pub marks : length s.seen.items ≡ s.trail.size
   pub unmarked : AreUnmarked s.seen.items
+  pub order : IsTrail s.trail
   pub implied : EachBehind (IsImplied log) s.trail.entries
   pub reasons : All (HasReasonOf (ids held)) s.trail.entries
 
@@ -103,6 +104,10 @@ abbrev pub StaysLegal : List ℕ → LogState → List Assigned → (old new : W
 StaysLegal atoms log es old new = (ns : List Node) (levels : List (List ℕ)) (assumed : List Lit) (q : Question) → All (IsAssumed assumed) es
     → IsAsked ns levels log atoms assumed q → IsLegalWork ns q old → IsLegalWork ns q new
 
+-- the entries that these assumed literals are
+abbrev pub assumed_entries : List Lit → List Assigned
+assumed_entries assumed = map (λ (l : Lit). record { literal = l; level = 0; reason = None }) assumed
+
 -- What each step of a search keeps, also one that ends with no answer.
 pub record Advances (atoms : List ℕ) (es : List Assigned) (log log' : LogState) (held held' : List Held) (work work' : WorkList Note) : Type 0 where
   pub grows : Grows log log'
@@ -114,6 +119,24 @@ pub record Advances (atoms : List ℕ) (es : List Assigned) (log log' : LogState
 -- what is true under no decision stays so
 abbrev pub KeepsFirst : (es es' : List Assigned) → Type 0
 KeepsFirst es es' = (l : Lit) → IsTrueOn (below 0 es) l → IsTrueOn (below 0 es') l
+
+-- Clauses are open or wait for the entries from a place of the trail on, and were open when a decision was taken.
+pub record MayFollow (log : LogState) (held : List Held) (s : Search) (place : ℕ) : Type 0 where
+  pub search : IsSearch log held s
+  pub were_open : WereOpen log held s.trail.entries
+  pub waits : AreWaiting log held s.trail.entries place
+
+-- the clauses are open, or this one is dead
+abbrev pub OpenOrDead : LogState → List Held → List Assigned → Option ℕ → Type 0
+OpenOrDead log held es None = AreOpen log held es
+OpenOrDead log held es (Some id) = Contains (ids held) id × IsDead es (literals_at log id)
+
+-- The trail goes on, up to a dead clause, if one is told.
+pub record Follows (log : LogState) (held : List Held) (s s' : Search) (told : Option ℕ) : Type 0 where
+  pub search : IsSearch log held s'
+  pub were_open : WereOpen log held s'.trail.entries
+  pub goes_on : GoesOn s.trail.entries s'.trail.entries
+  pub told_so : OpenOrDead log held s'.trail.entries told
 
 -- What a search that goes on keeps of its trail: what is true under no decision, and that no other entry is assumed. Its atoms stay, and no unit
 -- is given back.
@@ -140,6 +163,7 @@ pub record Learned (log : LogState) (held : List Held) (s s' : Search) (work wor
   pub noted : IsNoted log held s'.atoms s'.trail.entries work'
   pub carries : Carries s s' work work'
   pub unit : unit_count work'.lines ≡ suc (unit_count work.lines)
+  pub within : unit_count work'.lines ≤ work'.limit
 
 -- Each clause is open, and was when a decision was taken, with the work noted.
 pub record Settles (log : LogState) (held : List Held) (s s' : Search) (work work' : WorkList Note) : Type 0 where
@@ -148,6 +172,14 @@ pub record Settles (log : LogState) (held : List Held) (s s' : Search) (work wor
   pub were_open : WereOpen log held s'.trail.entries
   pub noted : IsNoted log held s'.atoms s'.trail.entries work'
   pub carries : Carries s s' work work'
+
+-- Each clause is open, each assumed literal is true, and each atom is decided.
+pub record Satisfies (log : LogState) (held : List Held) (assumed : List Lit) (atoms : List ℕ) (s : Search) : Type 0 where
+  pub search : IsSearch log held s
+  pub all_open : AreOpen log held s.trail.entries
+  pub same : s.atoms ≡ atoms
+  pub hold : All (IsTrueOn (below 0 s.trail.entries)) assumed
+  pub all_decided : All (λ (t : ℕ). IsSome (assigned s.trail.entries t)) s.atoms
 
 -- An atom is decided, and noted.
 pub record Decides (s s' : Search) (term : ℕ) (work work' : WorkList Note) : Type 0 where

@@ -100,8 +100,9 @@ pub record IsFrontOf (front es : List Assigned) : Type 0 where
   pub more : List Assigned
   pub joined : es ≡ front ++ more
 
--- The trail goes on: what comes more are literals that clauses make true.
+-- The trail goes on: what comes more are literals of the last level that clauses make true.
 pub record GoesOn (old new : List Assigned) : Type 0 where
   pub more : List Assigned
   pub joined : new ≡ old ++ more
   pub implied : All (λ (e : Assigned). IsSome e.reason) more
+  pub last : All (λ (e : Assigned). e.level ≡ depth old) more

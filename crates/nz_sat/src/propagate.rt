@@ -3,7 +3,7 @@ ghost use Rattle.std.specs.Prelude.{◌≡◌, ℕ, ◌≤◌, true, false, All,
 ghost use Rattle.nz_log.specs.declared.lits.Lit.{Lit};
 ghost use Rattle.nz_log.specs.Logs.{literals_at};
 ghost use Rattle.nz_sat.specs.Clauses.{AreUsable, HasReasonOf, IsDead, IsImplied, IsListed, IsOpen, IsUsable, StandsSo, Waits, ids_of};
-ghost use Rattle.nz_sat.specs.Trails.{EachBehind, GoesOn};
+ghost use Rattle.nz_sat.specs.Trails.{EachBehind, GoesOn, IsTrail};
 
 use crate::clauses::{Held, Index};
 use crate::trail::Trail;
@@ -48,6 +48,7 @@ fn stands(trail: &Trail, literals: &[Lit]) -> Standing
 fn visit(log: &Log, trail: &mut Trail, id: ClauseId) -> bool
     requires usable { IsUsable log.now trail.old.size id }
     ensures size { trail.new.size ≡ trail.old.size }
+    ensures order { IsTrail trail.old → IsTrail trail.new }
     ensures goes_on { GoesOn trail.old.entries trail.new.entries }
     ensures implied { EachBehind (IsImplied log.now) trail.old.entries → EachBehind (IsImplied log.now) trail.new.entries }
     ensures reasons { (us : List ℕ) → Contains us id → All (HasReasonOf us) trail.old.entries → All (HasReasonOf us) trail.new.entries }
@@ -68,6 +69,7 @@ fn visit(log: &Log, trail: &mut Trail, id: ClauseId) -> bool
 pub fn visit_all(log: &Log, trail: &mut Trail, ids: &[ClauseId]) -> Option<ClauseId>
     requires usable { All (IsUsable log.now trail.old.size) ids.now }
     ensures size { trail.new.size ≡ trail.old.size }
+    ensures order { IsTrail trail.old → IsTrail trail.new }
     ensures goes_on { GoesOn trail.old.entries trail.new.entries }
     ensures implied { EachBehind (IsImplied log.now) trail.old.entries → EachBehind (IsImplied log.now) trail.new.entries }
     ensures reasons { (us : List ℕ) → All (Contains us) ids.now → All (HasReasonOf us) trail.old.entries → All (HasReasonOf us) trail.new.entries }
@@ -87,6 +89,7 @@ pub fn visit_all(log: &Log, trail: &mut Trail, ids: &[ClauseId]) -> Option<Claus
 pub fn visit_held(log: &Log, trail: &mut Trail, held: &[Held]) -> Option<ClauseId>
     requires usable { All (λ h. IsUsable log.now trail.old.size h.id) held.now }
     ensures size { trail.new.size ≡ trail.old.size }
+    ensures order { IsTrail trail.old → IsTrail trail.new }
     ensures goes_on { GoesOn trail.old.entries trail.new.entries }
     ensures implied { EachBehind (IsImplied log.now) trail.old.entries → EachBehind (IsImplied log.now) trail.new.entries }
     ensures reasons { (us : List ℕ) → All (λ h. Contains us h.id) held.now → All (HasReasonOf us) trail.old.entries → All (HasReasonOf us) trail.new.entries }
@@ -107,6 +110,7 @@ pub fn propagate(log: &Log, index: &Index, trail: &mut Trail, from: usize) -> Op
     requires usable { AreUsable log.now trail.old.size index.now }
     requires from { from ≤ length trail.old.entries }
     ensures size { trail.new.size ≡ trail.old.size }
+    ensures order { IsTrail trail.old → IsTrail trail.new }
     ensures goes_on { GoesOn trail.old.entries trail.new.entries }
     ensures implied { EachBehind (IsImplied log.now) trail.old.entries → EachBehind (IsImplied log.now) trail.new.entries }
     // Each reason is a clause of the index.

@@ -1,5 +1,5 @@
 //! The search as its callers see it.
-ghost use Rattle.std.specs.Prelude.{◌≡◌, ℕ, ◌<◌, ◌∷◌, ◌++◌, [], All, List, None, length, map, IfErr, IfOk, IfSome, OnErr, OnOk};
+ghost use Rattle.std.specs.Prelude.{◌≡◌, ℕ, ◌<◌, ◌∷◌, ◌++◌, [], All, List, nat_le, None, length, map, IfErr, IfOk, IfSome, OnErr, OnOk};
 ghost use Rattle.nz_spec.specs.Legal.{Question};
 ghost use Rattle.nz_spec.specs.Table.{Node};
 ghost use Rattle.nz_spec.specs.Work.{IsSpent, unit_count};
@@ -115,6 +115,10 @@ impl Sat {
         ensures clauses { self.new.clauses ≡ held_up_to level self.old.clauses }
         ensures truths { self.new.truths ≡ self.old.truths }
     {
-        self.clauses.retain(|held| held.level <= level);
+        self.clauses.retain(
+            |held: &Held| -> bool
+                ensures { result ≡ nat_le held.now.level level }
+            { held.level <= level },
+        );
     }
 }

@@ -1,6 +1,7 @@
 //! The search: decisions, what follows from them, and what each conflict teaches.
 ghost use Rattle.std.specs.Prelude.{◌≡◌, ℕ, suc, ◌<◌, ◌≤◌, ◌++◌, ◌∷◌, [], All, Contains, List, None, Some, length, map, IfErr, IfOk, IfSome, IsSome, OnErr, OnOk, MatchOption};
-ghost use Rattle.nz_spec.specs.Work.{IsSpent, unit_count, with_line};
+ghost use Rattle.nz_spec.specs.Work.{IsSpent, UnitLine, unit_count, with_line};
+ghost use Rattle.nz_base.specs.Entries.{entry_of};
 ghost use Rattle.nz_log.specs.declared.lits.Lit.{Lit};
 ghost use Rattle.nz_log.specs.declared.stop.Stop.TheVariants as stop;
 ghost use Rattle.nz_log.specs.Logs.{IsLive, literals_at};
@@ -9,8 +10,8 @@ ghost use Rattle.nz_sat.specs.Clauses.{Adds, AreUsable, IsAssumed, IsDead, IsImp
 ghost use Rattle.nz_sat.specs.Conflicts.{AreUnmarked, Grows, IsDeadUnder, Refutes, RefutesFrom, StaysSound};
 ghost use Rattle.nz_sat.specs.Numbers.{noted_atoms, number_of, numbered};
 ghost use Rattle.nz_sat.specs.Sats.{AreAtoms, AreConsistent, AreHeld, HoldsMore, held_of};
-ghost use Rattle.nz_sat.specs.Searching.{Advances, AreOpen, AreWaiting, Assumes, AssumesAll, MayAssume, Starts, Decides, IsNoted, IsSearch, Learned, Settles, WereOpen, after_lesson, ids, learned_line};
-ghost use Rattle.nz_sat.specs.Trails.{EachBehind, IsFrontOf, IsTrueOn, assigned, below, depth};
+ghost use Rattle.nz_sat.specs.Searching.{Advances, AreOpen, AreWaiting, Assumes, AssumesAll, Follows, MayAssume, MayFollow, Starts, Decides, IsNoted, IsSearch, Learned, Satisfies, Settles, WereOpen, after_lesson, assumed_entries, ids, learned_line};
+ghost use Rattle.nz_sat.specs.Trails.{EachBehind, IsFrontOf, IsTrail, IsTrueOn, assigned, below, depth};
 
 use crate::analyze::{Lesson, learn_from, refutation};
 use crate::atoms::Atoms;
@@ -151,8 +152,18 @@ impl Search {
         }
     }
 
+    /// Makes true what the clauses make true by the literals from a place of the trail on, up to the first dead clause.
+    fn follow(&mut self, log: &Log, from: usize) -> Option<ClauseId>
+        requires usable { AreUsable log.now self.old.trail.size self.old.index }
+        requires from { from ≤ length self.old.trail.entries }
+        ensures rest { self.new ≡ record self.old { trail = self.new.trail } }
+        ensures comes { (held : List Held) → MayFollow log.now held self.old from → Follows log.now held self.old self.new result }
+    {
+        propagate(log, &self.index, &mut self.trail, from)
+    }
+
     /// Notes the clause of a lesson.
-    fn note(
+    fn note_lesson(
         &self,
         alloc: Global,
         log: &Log,
@@ -162,15 +173,18 @@ impl Search {
         requires live { IsLive log.now lesson.clause }
         requires named { All (λ l. Contains self.now.atoms l.term) (literals_at log.now lesson.clause) }
         ensures noted { OnOk result (work.new ≡ with_line work.old (learned_line self.now.atoms log.now lesson)) }
+        ensures free { OnOk result (unit_count work.old.lines < work.old.limit) }
         ensures err { OnErr result (work.new ≡ work.old) }
         ensures spent { IfErr result (λ e. e ≡ stop.Spent → IsSpent work.new) }
     {
         let lits = by_numbers(alloc, &self.atoms, log.clause(lesson.clause))?;
-        work.unit(Entry::Learned {
-            keep: lesson.level,
-            lits,
-        })?;
-        Ok(())
+        note(
+            work,
+            Entry::Learned {
+                keep: lesson.level,
+                lits,
+            },
+        )
     }
 
     /// Adds a clause of the log to those that are held.
@@ -196,6 +210,7 @@ impl Search {
         requires within { lesson.literal.term < self.old.trail.size }
         ensures rest { self.new ≡ record self.old { trail = self.new.trail; order = self.new.order } }
         ensures size { self.new.trail.size ≡ self.old.trail.size }
+        ensures order { IsTrail self.new.trail }
         ensures place { result ≡ length (below lesson.level self.old.trail.entries) }
         ensures entries { self.new.trail.entries ≡ after_lesson self.old.trail.entries lesson }
     {
@@ -226,7 +241,6 @@ impl Search {
     {
         clauses_are_true();
         legal_work_goes_on();
-        self.trail.entries_are_in_order();
         let alloc = *held.allocator();
         let lesson = learn_from(
             alloc,
@@ -236,7 +250,7 @@ impl Search {
             &mut self.seen,
             dead,
         )?;
-        self.note(alloc, log, work, lesson)?;
+        self.note_lesson(alloc, log, work, lesson)?;
         self.hold(log, held, lesson.clause)?;
         Ok(self.go_back(lesson))
     }
@@ -260,24 +274,34 @@ impl Search {
         ensures refuted { IfOk result (λ r. IfSome r (λ id. IsLive log.new id × ((assumed : List Lit) → All (IsAssumed assumed) self.old.trail.entries → Refutes assumed (literals_at log.new id)))) }
         ensures spent { IfErr result (λ e. e ≡ stop.Spent → IsSpent work.new) }
     {
-        let mut dead = propagate(log, &self.index, &mut self.trail, from);
+        let mut dead = self.follow(log, from);
         while let Some(clause) = dead {
             if self.trail.level() == 0 {
                 return Ok(Some(self.refute(*held.allocator(), log, clause)?));
             }
             let from = self.learn(log, held, work, clause)?;
-            dead = propagate(log, &self.index, &mut self.trail, from);
+            dead = self.follow(log, from);
         }
         Ok(None)
     }
 
-    /// Decides an atom, with the sign that it had last.
-    fn decide(&mut self, work: &mut Work<Note>, term: TermId) -> Result<(), Stop>
+    /// The undecided atom that took most part in conflicts.
+    fn next(&self) -> Option<TermId>
+        ensures undecided { IfSome result (λ t. Contains self.now.atoms t × (assigned self.now.trail.entries t ≡ None)) }
+        ensures none { result ≡ None → All (λ t. IsSome (assigned self.now.trail.entries t)) self.now.atoms }
+    {
+        self.order.next(self.atoms.terms(), &self.trail)
+    }
+
+    /// Decides an atom, with the sign that it had last. Answers the place of its literal on the trail.
+    fn decide(&mut self, work: &mut Work<Note>, term: TermId) -> Result<usize, Stop>
         requires free { assigned self.old.trail.entries term ≡ None }
         requires named { Contains self.old.atoms term }
         requires within { term < self.old.trail.size }
         ensures rest { self.new ≡ record self.old { trail = self.new.trail } }
         ensures decides { OnOk result (Decides self.old self.new term work.old work.new) }
+        ensures place { IfOk result (λ place. place ≡ length self.old.trail.entries) }
+        ensures free { OnOk result (unit_count work.old.lines < work.old.limit) }
         ensures err { OnErr result (work.new ≡ work.old) }
         ensures spent { IfErr result (λ e. e ≡ stop.Spent → IsSpent work.new) }
     {
@@ -285,9 +309,10 @@ impl Search {
             unreachable!()
         };
         let sign = self.order.sign(term);
-        work.unit(Entry::Decision { atom, sign })?;
+        note(work, Entry::Decision { atom, sign })?;
+        let place = self.trail.len();
         self.trail.decide(Lit { term, sign });
-        Ok(())
+        Ok(place)
     }
 
     /// Searches for truths of the atoms under which each clause has a true literal, and each assumed one is true. Answers the clause
@@ -304,26 +329,37 @@ impl Search {
         requires named { All (λ l. Contains self.old.atoms l.term) assumed.now }
         requires consistent { AreConsistent assumed.now }
         requires noted { IsNoted log.old held.old.items self.old.atoms [] work.old }
-        ensures advances { Advances self.old.atoms self.old.trail.entries log.old log.new held.old.items held.new.items work.old work.new }
-        ensures all_open { IfOk result (λ r. r ≡ None → AreOpen log.new held.new.items self.new.trail.entries) }
-        ensures hold { IfOk result (λ r. r ≡ None → All (IsTrueOn self.new.trail.entries) assumed.now) }
-        ensures decided { IfOk result (λ r. r ≡ None → All (λ t. IsSome (assigned self.new.trail.entries t)) self.old.atoms) }
-        ensures named { IfOk result (λ r. r ≡ None → All (λ i. All (λ l. Contains self.old.atoms l.term) (literals_at log.new i)) (ids held.new.items)) }
+        ensures advances { Advances self.old.atoms (assumed_entries assumed.now) log.old log.new held.old.items held.new.items work.old work.new }
+        ensures satisfied { IfOk result (λ r. r ≡ None → Satisfies log.new held.new.items assumed.now self.old.atoms self.new) }
         ensures refuted { IfOk result (λ r. IfSome r (λ id. IsLive log.new id × Refutes assumed.now (literals_at log.new id))) }
         ensures spent { IfErr result (λ e. e ≡ stop.Spent → IsSpent work.new) }
     {
+        legal_work_goes_on();
         if let Some(dead) = self.assume_all(log, held, assumed) {
             return Ok(Some(self.refute(*held.allocator(), log, dead)?));
         }
-        while let Some(term) = self.order.next(self.atoms.terms(), &self.trail) {
-            let from = self.trail.len();
-            self.decide(work, term)?;
+        while let Some(term) = self.next() {
+            let from = self.decide(work, term)?;
             if let Some(refuted) = self.settle(log, held, work, from)? {
                 return Ok(Some(refuted));
             }
         }
         Ok(None)
     }
+}
+
+/// Notes a step that counts.
+fn note(work: &mut Work<Note>, entry: Entry) -> Result<(), Stop>
+    ensures noted { OnOk result (work.new ≡ with_line work.old (UnitLine (entry_of entry))) }
+    ensures free { OnOk result (unit_count work.old.lines < work.old.limit) }
+    ensures err { OnErr result (work.new ≡ work.old) }
+    ensures spent { IfErr result (λ e. e ≡ stop.Spent → IsSpent work.new) }
+{
+    if work.left() == 0 {
+        return Err(Stop::Spent);
+    }
+    work.unit(entry)?;
+    Ok(())
 }
 
 /// These literals by the numbers of their atoms.

@@ -59,14 +59,6 @@ impl Trail {
         self.entries.len()
     }
 
-    /// The entries are in order: each is of a new term, and its level is how many decisions there are up to it.
-    pub fn entries_are_in_order(&self)
-        ensures trail { IsTrail self.now }
-    {
-        // The invariant is known where a field is used.
-        let _ = &self.entries;
-    }
-
     /// The entry of a place, counted from 0.
     pub fn entry(&self, i: usize) -> Assigned
         requires within { i < length self.now.entries }
@@ -122,6 +114,7 @@ impl Trail {
         requires within { entry.literal.term < self.old.size }
         requires level { entry.level ≡ depth (self.old.entries ++ entry ∷ []) }
         ensures put { self.new ≡ with_entry self.old entry }
+        ensures order { IsTrail self.new }
     {
         self.by_term[entry.literal.term] = Some(entry);
         self.entries.push(entry).unwrap();
@@ -133,6 +126,7 @@ impl Trail {
         requires within { literal.term < self.old.size }
         requires undecided { depth self.old.entries ≡ 0 }
         ensures put { self.new ≡ with_entry self.old (record { literal = literal; level = 0; reason = None }) }
+        ensures order { IsTrail self.new }
     {
         self.put(Assigned {
             literal,
@@ -146,6 +140,7 @@ impl Trail {
         requires free { assigned self.old.entries literal.term ≡ None }
         requires within { literal.term < self.old.size }
         ensures put { self.new ≡ with_entry self.old (decided self.old.entries literal) }
+        ensures order { IsTrail self.new }
     {
         let level = self.level() + 1;
         self.put(Assigned {
@@ -160,6 +155,7 @@ impl Trail {
         requires free { assigned self.old.entries literal.term ≡ None }
         requires within { literal.term < self.old.size }
         ensures put { self.new ≡ with_entry self.old (implied self.old.entries literal reason) }
+        ensures order { IsTrail self.new }
     {
         let level = self.level();
         self.put(Assigned {

@@ -48,6 +48,7 @@ loop-head-preserved c =
     let all : P (ids_of c.args.index.now l) = subst P same (c.visit_all-dead.ensures.waits none) in
     record {
       size = c.visit_all-dead.ensures.size ∙ before.size;
+      order = λ h. c.visit_all-dead.ensures.order (before.order h);
       goes_on = goes_far old es new before.goes_on goes;
       implied = λ h. c.visit_all-dead.ensures.implied (before.implied h);
       reasons = λ us all h.
@@ -61,3 +62,6 @@ loop-head-preserved c =
 pub returns-clause-all_open : goal.returns-clause-all_open
 returns-clause-all_open c none i listed w =
     waits_no_more c.loop-head.trail.entries c.loop-head.head (literals_at c.args.log.now i) (omega arith) (c.loop-head.invariant.waits i listed w)
+
+pub returns-then-is_some-clause-order : goal.returns-then-is_some-clause-order
+returns-then-is_some-clause-order c h = c.visit_all-dead.ensures.order (c.loop-head.invariant.order h)

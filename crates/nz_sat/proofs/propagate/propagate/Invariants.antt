@@ -2,7 +2,7 @@ use Rattle.std.proofs.Common.{◌≡◌, ℕ, ◌-◌, ◌≤◌, List, length}
 use Rattle.std.specs.Prelude.{All, Contains}
 use Rattle.nz_log.specs.declared.lits.Lit.{Lit}
 use Rattle.nz_log.specs.Logs.{literals_at}
-use Rattle.nz_sat.specs.Trails.{EachBehind, GoesOn}
+use Rattle.nz_sat.specs.Trails.{EachBehind, GoesOn, IsTrail}
 use Rattle.nz_sat.specs.Clauses.{HasReasonOf, IsImplied, IsListed, Waits, ids_of}
 use Rattle.nz_sat.proofs.propagate.propagate.Given as goal
 
@@ -11,6 +11,7 @@ abbrev pub invariant-loop-head : goal.invariant-loop-head
 invariant-loop-head l =
     record {
       size : l.trail.size ≡ l.fn.trail.size;
+      order : IsTrail l.fn.trail → IsTrail l.trail;
       goes_on : GoesOn l.fn.trail.entries l.trail.entries;
       implied : EachBehind (IsImplied l.log) l.fn.trail.entries → EachBehind (IsImplied l.log) l.trail.entries;
       reasons : (us : List ℕ) → ((m : Lit) (i : ℕ) → Contains (ids_of l.index m) i → Contains us i) → All (HasReasonOf us) l.fn.trail.entries → All (HasReasonOf us) l.trail.entries;

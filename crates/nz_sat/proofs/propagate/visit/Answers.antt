@@ -1,13 +1,13 @@
 -- A clause by how it stands.
-use Rattle.std.proofs.Common.{◌≡◌, List, sym, subst}
+use Rattle.std.proofs.Common.{◌≡◌, List, refl, sym, subst}
 use Rattle.std.specs.Prelude.{All}
 use Rattle.std.proofs.lemmas.List.Elements.{All-push}
 use Rattle.nz_log.specs.declared.lits.Lit.{Lit}
 use Rattle.nz_log.specs.Logs.{literals_at}
 use Rattle.nz_sat.specs.Clauses.{HasReasonOf, IsImplied, IsOpen, IsUnit}
-use Rattle.nz_sat.specs.Trails.{EachBehind, TrailState, implied}
+use Rattle.nz_sat.specs.Trails.{EachBehind, GoesOn, TrailState, implied}
 use Rattle.nz_sat.proofs.Clausal.{free_missing}
-use Rattle.nz_sat.proofs.Visiting.{unit_implied, unit_open}
+use Rattle.nz_sat.proofs.Visiting.{goes_one, goes_same, unit_implied, unit_open}
 use Rattle.nz_sat.proofs.propagate.visit.Goals as goal
 
 unit_left : (c : goal.After-imply-arg-1) → IsUnit c.args.trail.now.entries (literals_at c.args.log.now c.args.id) c.in-Unit.literal
@@ -46,3 +46,14 @@ pub returns-in-Unit-clause-reasons : goal.returns-in-Unit-clause-reasons
 returns-in-Unit-clause-reasons c us has before =
     subst (λ (t : TrailState). All (HasReasonOf us) t.entries) (sym c.imply.ensures.put)
     (All-push (HasReasonOf us) c.args.trail.now.entries (implied c.args.trail.now.entries c.in-Unit.literal c.args.id) before has)
+
+pub returns-in-Unit-clause-goes_on : goal.returns-in-Unit-clause-goes_on
+returns-in-Unit-clause-goes_on c =
+    let es = c.args.trail.now.entries in
+    subst (λ (t : TrailState). GoesOn es t.entries) (sym c.imply.ensures.put) (goes_one es (implied es c.in-Unit.literal c.args.id) refl refl)
+
+pub returns-in-Open-clause-goes_on : goal.returns-in-Open-clause-goes_on
+returns-in-Open-clause-goes_on c = goes_same c.args.trail.now.entries
+
+pub returns-in-Dead-clause-goes_on : goal.returns-in-Dead-clause-goes_on
+returns-in-Dead-clause-goes_on c = goes_same c.args.trail.now.entries

@@ -13,6 +13,7 @@ loop-id-preserved c =
     let left : c.visit.result ≡ true = search rules in
     record {
       size = c.visit.ensures.size ∙ before.size;
+      order = λ h. c.visit.ensures.order (before.order h);
       goes_on = goes_far old es new before.goes_on c.visit.ensures.goes_on;
       implied = λ h. c.visit.ensures.implied (before.implied h);
       reasons = λ us all h. c.visit.ensures.reasons us (all c.loop-id.id-index 0 inside) (before.reasons us all h);
@@ -27,3 +28,10 @@ pub returns-then-not-visit-clause-reasons : goal.returns-then-not-visit-clause-r
 returns-then-not-visit-clause-reasons c us all h =
     let inside : c.loop-id.id-index < length c.args.ids.now = omega arith in
     c.visit.ensures.reasons us (all c.loop-id.id-index 0 inside) (c.loop-id.invariant.reasons us all h)
+
+pub returns-then-not-visit-clause-goes_on : goal.returns-then-not-visit-clause-goes_on
+returns-then-not-visit-clause-goes_on c =
+    goes_far c.args.trail.now.entries c.loop-id.trail.entries c.visit.new.trail.entries c.loop-id.invariant.goes_on c.visit.ensures.goes_on
+
+pub returns-then-not-visit-clause-order : goal.returns-then-not-visit-clause-order
+returns-then-not-visit-clause-order c h = c.visit.ensures.order (c.loop-id.invariant.order h)

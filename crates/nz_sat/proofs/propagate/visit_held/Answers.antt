@@ -17,6 +17,7 @@ loop-clause-preserved c =
     let left : c.visit.result ≡ true = search rules in
     record {
       size = c.visit.ensures.size ∙ before.size;
+      order = λ h. c.visit.ensures.order (before.order h);
       goes_on = goes_far old es new before.goes_on c.visit.ensures.goes_on;
       implied = λ h. c.visit.ensures.implied (before.implied h);
       reasons = λ us all h. c.visit.ensures.reasons us (all c.loop-clause.clause-index blank inside) (before.reasons us all h);
@@ -31,3 +32,10 @@ pub returns-then-not-visit-clause-reasons : goal.returns-then-not-visit-clause-r
 returns-then-not-visit-clause-reasons c us all h =
     let inside : c.loop-clause.clause-index < length c.args.held.now = omega arith in
     c.visit.ensures.reasons us (all c.loop-clause.clause-index blank inside) (c.loop-clause.invariant.reasons us all h)
+
+pub returns-then-not-visit-clause-goes_on : goal.returns-then-not-visit-clause-goes_on
+returns-then-not-visit-clause-goes_on c =
+    goes_far c.args.trail.now.entries c.loop-clause.trail.entries c.visit.new.trail.entries c.loop-clause.invariant.goes_on c.visit.ensures.goes_on
+
+pub returns-then-not-visit-clause-order : goal.returns-then-not-visit-clause-order
+returns-then-not-visit-clause-order c h = c.visit.ensures.order (c.loop-clause.invariant.order h)

@@ -25,7 +25,7 @@ learn_from-requires-clause-live c = held_live c.args.log.now c.args.held.now.ite
 
 pub learn_from-requires-clause-two : goal.learn_from-requires-clause-two
 learn_from-requires-clause-two c =
-    held_two c.args.self.now.trail.size c.args.self.now.trail.entries c.entries_are_in_order.ensures.trail c.args.log.now c.args.held.now.items c.requires.all_open c.requires.decided c.args.dead
+    held_two c.args.self.now.trail.size c.args.self.now.trail.entries c.requires.search.order c.args.log.now c.args.held.now.items c.requires.all_open c.requires.decided c.args.dead
     c.requires.held c.requires.dead
 
 pub returns-in_err-lesson-clause-advances : goal.returns-in_err-lesson-clause-advances
@@ -35,56 +35,56 @@ returns-in_err-lesson-clause-advances c =
     log_advances atoms es c.args.log.now c.learn_from.new.log c.args.held.now.items c.args.work.now c.requires.search.are_held c.learn_from.ensures.grows
     (stays_in_order atoms es c.requires.search.on_trail c.args.log.now c.learn_from.new.log c.learn_from.ensures.sound)
 
-pub note-requires-clause-named : goal.note-requires-clause-named
-note-requires-clause-named c =
+pub note_lesson-requires-clause-named : goal.note_lesson-requires-clause-named
+note_lesson-requires-clause-named c =
     all_from (λ (m : Lit). Contains c.args.self.now.atoms m.term) (literals_at c.learn_from.new.log c.in_ok-lesson.lesson.clause)
     (lesson_named c.args.log.now c.learn_from.new.log c.args.held.now.items c.args.self.now c.args.work.now c.args.dead c.in_ok-lesson.lesson
-    (taught c.args.dead c.requires.search c.entries_are_in_order.ensures.trail c.requires.all_open c.requires.held c.requires.dead c.requires.decided c.requires.noted c.learn_from.ensures.grows
+    (taught c.args.dead c.requires.search c.requires.all_open c.requires.held c.requires.dead c.requires.decided c.requires.noted c.learn_from.ensures.grows
     c.learn_from.ensures.sound c.in_ok-lesson.ensures.lesson))
 
-pub returns-in_err-note-clause-advances : goal.returns-in_err-note-clause-advances
-returns-in_err-note-clause-advances c =
+pub returns-in_err-note_lesson-clause-advances : goal.returns-in_err-note_lesson-clause-advances
+returns-in_err-note_lesson-clause-advances c =
     let atoms = c.args.self.now.atoms in
     let es = c.args.self.now.trail.entries in
     let held = c.args.held.now.items in
-    subst (Advances atoms es c.args.log.now c.learn_from.new.log held held c.args.work.now) (sym c.in_err-note.ensures.err)
+    subst (Advances atoms es c.args.log.now c.learn_from.new.log held held c.args.work.now) (sym c.in_err-note_lesson.ensures.err)
     (log_advances atoms es c.args.log.now c.learn_from.new.log held c.args.work.now c.requires.search.are_held c.learn_from.ensures.grows
     (stays_in_order atoms es c.requires.search.on_trail c.args.log.now c.learn_from.new.log c.learn_from.ensures.sound))
 
 pub hold-requires-clause-within : goal.hold-requires-clause-within
 hold-requires-clause-within c =
     literals_within c.args.log.now c.learn_from.new.log c.args.held.now.items c.args.self.now c.args.work.now c.args.dead c.in_ok-lesson.lesson
-    (taught c.args.dead c.requires.search c.entries_are_in_order.ensures.trail c.requires.all_open c.requires.held c.requires.dead c.requires.decided c.requires.noted c.learn_from.ensures.grows
+    (taught c.args.dead c.requires.search c.requires.all_open c.requires.held c.requires.dead c.requires.decided c.requires.noted c.learn_from.ensures.grows
     c.learn_from.ensures.sound c.in_ok-lesson.ensures.lesson)
 
 pub returns-in_err-hold-clause-advances : goal.returns-in_err-hold-clause-advances
 returns-in_err-hold-clause-advances c =
     line_advances c.args.log.now c.learn_from.new.log c.args.held.now.items c.args.self.now c.args.work.now c.args.dead c.in_ok-lesson.lesson
-    (taught c.args.dead c.requires.search c.entries_are_in_order.ensures.trail c.requires.all_open c.requires.held c.requires.dead c.requires.decided c.requires.noted c.learn_from.ensures.grows
+    (taught c.args.dead c.requires.search c.requires.all_open c.requires.held c.requires.dead c.requires.decided c.requires.noted c.learn_from.ensures.grows
     c.learn_from.ensures.sound c.in_ok-lesson.ensures.lesson)
-    c.clauses_are_true.ensures.clauses c.legal_work_goes_on.ensures.goes_on c.hold.new.held.items c.hold.ensures.more c.note.new.work c.in_ok-note.ensures.noted
+    c.clauses_are_true.ensures.clauses c.legal_work_goes_on.ensures.goes_on c.hold.new.held.items c.hold.ensures.more c.note_lesson.new.work c.in_ok-note_lesson.ensures.noted
 
 pub go_back-requires-clause-free : goal.go_back-requires-clause-free
 go_back-requires-clause-free c =
     let l = c.in_ok-lesson.lesson in
     subst (λ (x : Search). assigned (below l.level x.trail.entries) l.literal.term ≡ None) (sym c.hold.ensures.rest)
     (literal_missing c.args.log.now c.learn_from.new.log c.args.held.now.items c.args.self.now c.args.work.now c.args.dead c.in_ok-lesson.lesson
-    (taught c.args.dead c.requires.search c.entries_are_in_order.ensures.trail c.requires.all_open c.requires.held c.requires.dead c.requires.decided c.requires.noted c.learn_from.ensures.grows
+    (taught c.args.dead c.requires.search c.requires.all_open c.requires.held c.requires.dead c.requires.decided c.requires.noted c.learn_from.ensures.grows
     c.learn_from.ensures.sound c.in_ok-lesson.ensures.lesson))
 
 pub go_back-requires-clause-within : goal.go_back-requires-clause-within
 go_back-requires-clause-within c =
     subst (λ (x : Search). c.in_ok-lesson.lesson.literal.term < x.trail.size) (sym c.hold.ensures.rest)
     (literal_within c.args.log.now c.learn_from.new.log c.args.held.now.items c.args.self.now c.args.work.now c.args.dead c.in_ok-lesson.lesson
-    (taught c.args.dead c.requires.search c.entries_are_in_order.ensures.trail c.requires.all_open c.requires.held c.requires.dead c.requires.decided c.requires.noted c.learn_from.ensures.grows
+    (taught c.args.dead c.requires.search c.requires.all_open c.requires.held c.requires.dead c.requires.decided c.requires.noted c.learn_from.ensures.grows
     c.learn_from.ensures.sound c.in_ok-lesson.ensures.lesson))
 
 pub returns-clause-advances : goal.returns-clause-advances
 returns-clause-advances c =
     line_advances c.args.log.now c.learn_from.new.log c.args.held.now.items c.args.self.now c.args.work.now c.args.dead c.in_ok-lesson.lesson
-    (taught c.args.dead c.requires.search c.entries_are_in_order.ensures.trail c.requires.all_open c.requires.held c.requires.dead c.requires.decided c.requires.noted c.learn_from.ensures.grows
+    (taught c.args.dead c.requires.search c.requires.all_open c.requires.held c.requires.dead c.requires.decided c.requires.noted c.learn_from.ensures.grows
     c.learn_from.ensures.sound c.in_ok-lesson.ensures.lesson)
-    c.clauses_are_true.ensures.clauses c.legal_work_goes_on.ensures.goes_on c.hold.new.held.items c.hold.ensures.more c.note.new.work c.in_ok-note.ensures.noted
+    c.clauses_are_true.ensures.clauses c.legal_work_goes_on.ensures.goes_on c.hold.new.held.items c.hold.ensures.more c.note_lesson.new.work c.in_ok-note_lesson.ensures.noted
 
 pub returns-clause-learned : goal.returns-clause-learned
 returns-clause-learned c =
@@ -103,12 +103,12 @@ returns-clause-learned c =
     let unmarked : AreUnmarked c.hold.new.self.seen.items =
     subst (λ (x : Search). AreUnmarked x.seen.items) (sym after) (subst AreUnmarked (sym same) c.in_ok-lesson.ensures.unmarked) in
     let there = learned c.args.log.now c.learn_from.new.log c.args.held.now.items c.args.self.now c.args.work.now c.args.dead c.in_ok-lesson.lesson
-    (taught c.args.dead c.requires.search c.entries_are_in_order.ensures.trail c.requires.all_open c.requires.held c.requires.dead c.requires.decided c.requires.noted c.learn_from.ensures.grows
+    (taught c.args.dead c.requires.search c.requires.all_open c.requires.held c.requires.dead c.requires.decided c.requires.noted c.learn_from.ensures.grows
     c.learn_from.ensures.sound c.in_ok-lesson.ensures.lesson)
     c.go_back.new.self (ap (λ (x : Search). x.atoms) back ∙ ap (λ (x : Search). x.atoms) after) (c.go_back.ensures.size ∙ ap (λ (x : Search). x.trail.size) after)
     (c.go_back.ensures.entries ∙ ap (λ (x : Search). after_lesson x.trail.entries l) after)
     (subst (λ (x : Search). Adds log l.clause s.index x.index) (sym back) c.in_ok-hold.ensures.added)
     (ap (λ (x : Search). length x.seen.items) back ∙ lengths) (subst (λ (x : Search). AreUnmarked x.seen.items) (sym back) unmarked)
-    (subst (AreHeld log) c.in_ok-hold.ensures.held c.hold.ensures.more.held) place (c.go_back.ensures.place ∙ ap (λ (x : Search). length (below l.level x.trail.entries)) after) in
-    subst (λ (hs : List Held). Learned log hs s c.go_back.new.self c.args.work.now c.note.new.work place) (sym c.in_ok-hold.ensures.held)
-    (subst (λ (w : WorkList Note). Learned log held s c.go_back.new.self c.args.work.now w place) (sym c.in_ok-note.ensures.noted) there)
+    (subst (AreHeld log) c.in_ok-hold.ensures.held c.hold.ensures.more.held) c.go_back.ensures.order c.in_ok-note_lesson.ensures.free place (c.go_back.ensures.place ∙ ap (λ (x : Search). length (below l.level x.trail.entries)) after) in
+    subst (λ (hs : List Held). Learned log hs s c.go_back.new.self c.args.work.now c.note_lesson.new.work place) (sym c.in_ok-hold.ensures.held)
+    (subst (λ (w : WorkList Note). Learned log held s c.go_back.new.self c.args.work.now w place) (sym c.in_ok-note_lesson.ensures.noted) there)

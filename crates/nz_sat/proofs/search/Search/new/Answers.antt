@@ -9,7 +9,7 @@ use Rattle.nz_sat.specs.declared.clauses.Held.{Held}
 use Rattle.nz_sat.specs.declared.trail.Assigned.{Assigned}
 use Rattle.nz_sat.specs.Clauses.{HasReasonOf, IsImplied, IsListed, IsOfSize}
 use Rattle.nz_sat.specs.Conflicts.{AreUnmarked}
-use Rattle.nz_sat.specs.Trails.{EachBehind, TrailState, empty_trail}
+use Rattle.nz_sat.specs.Trails.{EachBehind, IsTrail, TrailState, empty_trail}
 use Rattle.nz_sat.specs.Searching.{ids}
 use Rattle.nz_sat.proofs.Keeping.{held_has, none_marked}
 use Rattle.nz_sat.proofs.search.Search.new.Goals as goal
@@ -74,6 +74,7 @@ returns-clause-search c =
       indexed = subst (λ (u : TrailState). IsOfSize u.size c.loop-clause.index) (sym empty) before.size;
       marks = ap length marks ∙ length-replicate size false ∙ sym (ap (λ (u : TrailState). u.size) empty);
       unmarked = subst AreUnmarked (sym marks) (none_marked size);
+      order = subst IsTrail (sym empty) (λ i e at. cc);
       implied = subst (λ (u : TrailState). EachBehind (IsImplied log) u.entries) (sym empty) (λ i e at. cc);
       reasons = subst (λ (u : TrailState). All (HasReasonOf (ids held)) u.entries) (sym empty) (All-nil (HasReasonOf (ids held)));
     }
