@@ -1,5 +1,5 @@
 -- What a conflict teaches.
-use Rattle.std.specs.Prelude.{◌≡◌, ◌≢◌, ℕ, ◌<◌, ◌≤◌, ◌⊎◌, ◌==◌, ◌&&◌, Bool, true, false, All, List, length, Contains, count_by, slice_index_or}
+use Rattle.std.specs.Prelude.{◌≡◌, ◌≢◌, ℕ, ◌+◌, ◌<◌, ◌≤◌, ◌⊎◌, ◌==◌, ◌&&◌, Bool, true, false, All, List, length, Contains, count_by, slice_index_or, take}
 use Rattle.nz_spec.specs.Literal.{StandOnce}
 use Rattle.nz_spec.specs.Table.{Node}
 use Rattle.nz_log.specs.declared.lits.Lit.{Lit}
@@ -46,6 +46,11 @@ pub record MarksFalse (es : List Assigned) (c : List Lit) (old new : List Bool) 
 abbrev pub AreFalseIn : (es front : List Assigned) → List Lit → Type 0
 AreFalseIn es front c = (l : Lit) → Contains c l → IsFalseOn es l → IsFalseOn front l
 
+-- The same, and in a front of the trail that has all these, so many more entries of the level are marked.
+pub record MarksCounted (es : List Assigned) (c : List Lit) (level : ℕ) (old new : List Bool) (more : ℕ) : Type 0 where
+  pub marks : MarksFalse es c old new
+  pub count : (n : ℕ) → AreFalseIn es (take n es) c → marked_of old level (take n es) + more ≡ marked_of new level (take n es)
+
 -- A clause has two literals of the last level.
 pub record HasTwoLast (es : List Assigned) (c : List Lit) : Type 0 where
   pub first : Lit
@@ -60,7 +65,22 @@ pub record HasTwoLast (es : List Assigned) (c : List Lit) : Type 0 where
 abbrev pub AreLinks : LogState → List Assigned → List Link → Type 0
 AreLinks s es ks = All (λ (k : Link). IsLive s k.clause × ((e : Assigned) × Contains es e × (e.literal.term ≡ k.literal.term))) ks
 
--- The chain from a clause comes to one in which each literal is false, and this one alone of the last level; only its terms are marked.
+-- Just the terms of these literals are marked.
+pub record AreMarked (c : List Lit) (marks : List Bool) : Type 0 where
+  pub each : (m : Lit) → Contains c m → is_marked marks m.term ≡ true
+  pub only : (t : ℕ) → is_marked marks t ≡ true → (m : Lit) × Contains c m × (m.term ≡ t)
+
+-- The way back along the trail, down to a place: the chain so far comes to a clause whose literals are false before that place, just
+-- its terms are marked, and so many of them are of the last level. Where one is left, there is a link.
+pub record IsOnWayBack (s : LogState) (es : List Assigned) (dead place : ℕ) (marks : List Bool) (ks : List Link) (left : ℕ) : Type 0 where
+  pub links : AreLinks s es ks
+  pub dead_before : IsDead (take place es) (chained s (literals_at s dead) ks)
+  pub marked : AreMarked (chained s (literals_at s dead) ks) marks
+  pub count : left ≡ marked_of marks (depth es) (take place es)
+  pub some : 0 < left
+  pub linked : left ≡ 1 → 0 < length ks
+
+-- The chain from a clause comes to one in which each literal is false, and this one alone of the last level; just its terms are marked.
 pub record IsChain (s : LogState) (es : List Assigned) (dead : ℕ) (marks : List Bool) (c : Chain) : Type 0 where
   pub links : AreLinks s es c.links.items
   pub some : 0 < length c.links.items
@@ -68,7 +88,12 @@ pub record IsChain (s : LogState) (es : List Assigned) (dead : ℕ) (marks : Lis
   pub has : Contains (chained s (literals_at s dead) c.links.items) c.literal
   pub last : level_on es c.literal.term ≡ depth es
   pub others : (m : Lit) → Contains (chained s (literals_at s dead) c.links.items) m → m ≢ c.literal → level_on es m.term < depth es
-  pub marked : (t : ℕ) → is_marked marks t ≡ true → (m : Lit) × Contains (chained s (literals_at s dead) c.links.items) m × (m.term ≡ t)
+  pub marked : AreMarked (chained s (literals_at s dead) c.links.items) marks
+
+-- A level is the greatest of those of the literals but one.
+pub record IsGreatestBut (es : List Assigned) (but : Lit) (c : List Lit) (level : ℕ) : Type 0 where
+  pub most : (m : Lit) → Contains c m → m ≢ but → level_on es m.term ≤ level
+  pub reached : 0 < level → (m : Lit) × Contains c m × (m ≢ but) × (level_on es m.term ≡ level)
 
 -- A clause in which each literal is false, of which one literal is of the last level; the greatest level of the others is told.
 pub record IsLesson (s : LogState) (es : List Assigned) (l : Lesson) : Type 0 where
@@ -81,13 +106,25 @@ pub record IsLesson (s : LogState) (es : List Assigned) (l : Lesson) : Type 0 wh
   pub others : (m : Lit) → Contains (literals_at s l.clause) m → m ≢ l.literal → level_on es m.term ≤ l.level
   pub reached : 0 < l.level → (m : Lit) × Contains (literals_at s l.clause) m × (m ≢ l.literal) × (level_on es m.term ≡ l.level)
 
+-- each literal is the negation of an assumed one
+abbrev pub Refutes : List Lit → List Lit → Type 0
+Refutes assumed c = (l : Lit) → Contains c l → Contains assumed (negated_lit l)
+
 -- each literal is false, or the negation of an assumed one
 abbrev pub IsDeadUnder : List Lit → List Assigned → List Lit → Type 0
 IsDeadUnder assumed es c = (l : Lit) → Contains c l → IsFalseOn es l ⊎ Contains assumed (negated_lit l)
 
--- each literal is the negation of an assumed one
-abbrev pub Refutes : List Lit → List Lit → Type 0
-Refutes assumed c = (l : Lit) → Contains c l → Contains assumed (negated_lit l)
+-- A literal is false before a place of the trail, and its term is marked.
+pub record IsMarkedBefore (es : List Assigned) (place : ℕ) (marks : List Bool) (l : Lit) : Type 0 where
+  pub false_before : IsFalseOn (take place es) l
+  pub marked : is_marked marks l.term ≡ true
+
+-- The way back to the assumed literals, down to a place: each literal of the clause so far is the negation of an assumed one, or is false
+-- before that place, and marked.
+pub record IsOnWayToAssumed (s : LogState) (es : List Assigned) (dead place : ℕ) (marks : List Bool) (ks : List Link) : Type 0 where
+  pub links : AreLinks s es ks
+  pub each : (assumed : List Lit) → All (IsAssumed assumed) es → IsDeadUnder assumed es (literals_at s dead) → (l : Lit)
+      → Contains (chained s (literals_at s dead) ks) l → Contains assumed (negated_lit l) ⊎ IsMarkedBefore es place marks l
 
 -- where the trail has no entries without a reason but assumed ones, and a clause is dead but for negations of assumed ones, what comes of it
 -- refutes these

@@ -2,16 +2,17 @@
 use Rattle.std.specs.Prelude.{◌≡◌, ℕ, suc, ◌<◌, ◌≤◌, ◌++◌, Bool, All, Contains, List, [], ◌∷◌, length, map, filter, Option, Some, None, IfSome, IsSome, unwrap_or}
 use Rattle.nz_spec.specs.Table.{Node, term_in}
 use Rattle.nz_spec.specs.Legal.{after_lines, at_first, Question}
-use Rattle.nz_spec.specs.Work.{DecisionEntry, UnitLine, WorkList, unit_count, with_line}
+use Rattle.nz_spec.specs.Work.{DecisionEntry, LearnedEntry, UnitLine, WorkLine, WorkList, unit_count, with_line}
 use Rattle.nz_log.specs.declared.lits.Lit.{Lit}
 use Rattle.nz_log.specs.declared.note.Note.{Note}
 use Rattle.nz_log.specs.Logs.{LogState, IsLive, literals_at}
 use Rattle.nz_log.specs.Notes.{noted_list}
 use Rattle.nz_sat.specs.declared.clauses.Held.{Held}
+use Rattle.nz_sat.specs.declared.analyze.Lesson.{Lesson}
 use Rattle.nz_sat.specs.declared.search.Search.{Search}
 use Rattle.nz_sat.specs.declared.trail.Assigned.{Assigned}
 use Rattle.nz_log.specs.Sound.{IsLog}
-use Rattle.nz_sat.specs.Trails.{EachBehind, GoesOn, IsTrail, IsTrueOn, assigned, below, decided, depth, is_decision, with_entry}
+use Rattle.nz_sat.specs.Trails.{EachBehind, GoesOn, IsTrail, IsTrueOn, assigned, below, decided, depth, implied, is_decision, with_entry}
 use Rattle.nz_sat.specs.Clauses.{HasReasonOf, IsAssumed, IsDead, IsImplied, IsListed, IsOfSize, IsOpen, Waits, ids_of}
 use Rattle.nz_sat.specs.Conflicts.{AreUnmarked, Grows, IsDeadUnder}
 use Rattle.nz_sat.specs.Numbers.{number_of, numbered}
@@ -144,6 +145,14 @@ pub record Carries (s s' : Search) (work work' : WorkList Note) : Type 0 where
   pub first : KeepsFirst s.trail.entries s'.trail.entries
   pub assumed_only : (assumed : List Lit) → All (IsAssumed assumed) s.trail.entries → All (IsAssumed assumed) s'.trail.entries
   pub units : unit_count work.lines ≤ unit_count work'.lines
+
+-- the line of a lesson
+abbrev pub learned_line : List ℕ → LogState → Lesson → WorkLine Note
+learned_line atoms log l = UnitLine (LearnedEntry l.level (map (numbered atoms) (literals_at log l.clause)))
+
+-- the entries where a lesson makes a literal true
+abbrev pub after_lesson : List Assigned → Lesson → List Assigned
+after_lesson es l = below l.level es ++ implied (below l.level es) l.literal l.clause ∷ []
 
 -- A clause was learned and noted, and what it makes true stands at a place of the trail.
 pub record Learned (log : LogState) (held : List Held) (s s' : Search) (work work' : WorkList Note) (place : ℕ) : Type 0 where

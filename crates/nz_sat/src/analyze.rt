@@ -1,10 +1,10 @@
 //! Conflict analysis: the clause that a conflict teaches, and the one that refutes the assumed literals.
-ghost use Rattle.std.specs.Prelude.{◌≡◌, ◌≢◌, ℕ, ◌+◌, ◌<◌, ◌≤◌, true, false, All, Contains, length, take, IfOk, OnOk};
+ghost use Rattle.std.specs.Prelude.{◌≡◌, ◌≢◌, ℕ, ◌<◌, ◌≤◌, true, false, All, Contains, length, IfOk, OnOk};
 ghost use Rattle.nz_log.specs.declared.lits.Lit.{Lit};
 ghost use Rattle.nz_log.specs.Logs.{IsLive, chained, literals_at};
 ghost use Rattle.nz_sat.specs.Clauses.{IsDead, IsImplied};
-ghost use Rattle.nz_sat.specs.Conflicts.{AreFalseIn, AreLinks, AreUnmarked, Grows, HasTwoLast, IsChain, IsLesson, MarksFalse, RefutesFrom, StaysSound, is_marked, marked_of};
-ghost use Rattle.nz_sat.specs.Trails.{EachBehind, depth, level_on};
+ghost use Rattle.nz_sat.specs.Conflicts.{AreLinks, AreUnmarked, Grows, HasTwoLast, IsChain, IsGreatestBut, IsLesson, MarksCounted, RefutesFrom, StaysSound, is_marked};
+ghost use Rattle.nz_sat.specs.Trails.{EachBehind, IsTrail, depth, level_on};
 
 use crate::order::Order;
 use crate::trail::Trail;
@@ -37,10 +37,9 @@ fn mark(
     literals: &[Lit],
     level: usize,
 ) -> usize
+    requires trail { IsTrail trail.now }
     requires size { length seen.old ≡ trail.now.size }
-    ensures marks { MarksFalse trail.now.entries literals.now seen.old seen.new }
-    // In a front of the trail that has all these, so many more entries of the level are marked.
-    ensures count { (n : ℕ) → AreFalseIn trail.now.entries (take n trail.now.entries) literals.now → marked_of seen.old level (take n trail.now.entries) + result ≡ marked_of seen.new level (take n trail.now.entries) }
+    ensures marks { MarksCounted trail.now.entries literals.now level seen.old seen.new result }
 {
     let mut count = 0;
     for literal in literals {
@@ -86,17 +85,18 @@ fn chain_back(
     ensures chain { IfOk result (λ c. IsChain log.now trail.now.entries dead seen.new c) }
 {
     let level = trail.level();
+    let count = trail.len();
     let mut links = Vec::new(alloc);
-    let mut open = mark(trail, order, seen, log.clause(dead), level);
-    for i in (0..trail.len()).rev() {
+    let mut left = mark(trail, order, seen, log.clause(dead), level);
+    for i in (0..count).rev() {
         let entry = trail.entry(i);
         if seen[entry.literal.term] {
             let literal = entry.literal.not();
             match entry.reason {
-                Some(clause) if open > 1 => {
+                Some(clause) if left > 1 => {
                     seen[entry.literal.term] = false;
-                    open -= 1;
-                    open += mark(trail, order, seen, log.clause(clause), level);
+                    left -= 1;
+                    left += mark(trail, order, seen, log.clause(clause), level);
                     links.push(Link { clause, literal })?;
                 }
                 _ => return Ok(Chain { links, literal }),
@@ -108,8 +108,7 @@ fn chain_back(
 
 /// The greatest level of these literals but one.
 fn level_but(trail: &Trail, literals: &[Lit], but: Lit) -> usize
-    ensures most { All (λ m. m ≢ but → level_on trail.now.entries m.term ≤ result) literals.now }
-    ensures reached { 0 < result → (m : Lit) × Contains literals.now m × (m ≢ but) × (level_on trail.now.entries m.term ≡ result) }
+    ensures greatest { IsGreatestBut trail.now.entries but literals.now result }
 {
     let mut level = 0;
     for literal in literals {
@@ -171,9 +170,10 @@ fn chain_to_assumed(
     ensures links { IfOk result (λ v. AreLinks log.now trail.now.entries v.items) }
     ensures refutes { IfOk result (λ v. RefutesFrom trail.now.entries (literals_at log.now dead) (chained log.now (literals_at log.now dead) v.items)) }
 {
+    let count = trail.len();
     let mut links = Vec::new(alloc);
     mark(trail, order, seen, log.clause(dead), 0);
-    for i in (0..trail.len()).rev() {
+    for i in (0..count).rev() {
         let entry = trail.entry(i);
         if seen[entry.literal.term] {
             if let Some(clause) = entry.reason {

@@ -1,17 +1,17 @@
 //! The search: decisions, what follows from them, and what each conflict teaches.
-ghost use Rattle.std.specs.Prelude.{◌≡◌, ℕ, suc, ◌<◌, ◌≤◌, [], All, Contains, List, None, Some, length, map, IfErr, IfOk, IfSome, IsSome, OnErr, OnOk, MatchOption};
+ghost use Rattle.std.specs.Prelude.{◌≡◌, ℕ, suc, ◌<◌, ◌≤◌, ◌++◌, ◌∷◌, [], All, Contains, List, None, Some, length, map, IfErr, IfOk, IfSome, IsSome, OnErr, OnOk, MatchOption};
 ghost use Rattle.nz_spec.specs.Work.{IsSpent, UnitLine, unit_count, with_line};
 ghost use Rattle.nz_base.specs.Entries.{entry_of};
 ghost use Rattle.nz_log.specs.declared.lits.Lit.{Lit};
 ghost use Rattle.nz_log.specs.declared.stop.Stop.TheVariants as stop;
 ghost use Rattle.nz_log.specs.Logs.{IsLive, literals_at};
 ghost use Rattle.nz_sat.specs.declared.clauses.Held.{Held};
-ghost use Rattle.nz_sat.specs.Clauses.{AreUsable, IsAssumed, IsDead, IsImplied};
+ghost use Rattle.nz_sat.specs.Clauses.{Adds, AreUsable, IsAssumed, IsDead, IsImplied, IsWithin};
 ghost use Rattle.nz_sat.specs.Conflicts.{AreUnmarked, Grows, IsDeadUnder, Refutes, RefutesFrom, StaysSound};
 ghost use Rattle.nz_sat.specs.Numbers.{noted_atoms, number_of, numbered};
-ghost use Rattle.nz_sat.specs.Sats.{AreAtoms, AreConsistent, AreHeld};
-ghost use Rattle.nz_sat.specs.Searching.{Advances, AreOpen, AreWaiting, Assumes, AssumesAll, Follows, MayAssume, MayFollow, Starts, Decides, IsNoted, IsSearch, Learned, Satisfies, Settles, WereOpen, assumed_entries, ids};
-ghost use Rattle.nz_sat.specs.Trails.{EachBehind, IsFrontOf, IsTrueOn, assigned, below, depth};
+ghost use Rattle.nz_sat.specs.Sats.{AreAtoms, AreConsistent, AreHeld, HoldsMore, held_of};
+ghost use Rattle.nz_sat.specs.Searching.{Advances, AreOpen, AreWaiting, Assumes, AssumesAll, Follows, MayAssume, MayFollow, Starts, Decides, IsNoted, IsSearch, Learned, Satisfies, Settles, WereOpen, after_lesson, assumed_entries, ids, learned_line};
+ghost use Rattle.nz_sat.specs.Trails.{EachBehind, IsFrontOf, IsTrail, IsTrueOn, assigned, below, depth};
 
 use crate::analyze::{Lesson, learn_from, refutation};
 use crate::atoms::Atoms;
@@ -20,6 +20,7 @@ use crate::order::Order;
 use crate::propagate::{propagate, visit_held};
 use crate::trail::Trail;
 use nz_base::{Entry, Literals, Memory, Work};
+use nz_log::laws::clauses_are_true;
 use nz_log::{ClauseId, Lit, Log, Note, Stop};
 use nz_spec::work::legal_work_goes_on;
 use nz_term::TermId;
@@ -161,6 +162,64 @@ impl Search {
         propagate(log, &self.index, &mut self.trail, from)
     }
 
+    /// Notes the clause of a lesson.
+    fn note_lesson(
+        &self,
+        alloc: Global,
+        log: &Log,
+        work: &mut Work<Note>,
+        lesson: Lesson,
+    ) -> Result<(), Stop>
+        requires live { IsLive log.now lesson.clause }
+        requires named { All (λ l. Contains self.now.atoms l.term) (literals_at log.now lesson.clause) }
+        ensures noted { OnOk result (work.new ≡ with_line work.old (learned_line self.now.atoms log.now lesson)) }
+        ensures free { OnOk result (unit_count work.old.lines < work.old.limit) }
+        ensures err { OnErr result (work.new ≡ work.old) }
+        ensures spent { IfErr result (λ e. e ≡ stop.Spent → IsSpent work.new) }
+    {
+        let lits = by_numbers(alloc, &self.atoms, log.clause(lesson.clause))?;
+        note(
+            work,
+            Entry::Learned {
+                keep: lesson.level,
+                lits,
+            },
+        )
+    }
+
+    /// Adds a clause of the log to those that are held.
+    fn hold(&mut self, log: &Log, held: &mut Vec<Held>, id: ClauseId) -> Result<(), Memory>
+        requires live { IsLive log.now id }
+        requires held { AreHeld log.now held.old.items }
+        requires within { All (λ l. IsWithin l self.old.index) (literals_at log.now id) }
+        ensures rest { self.new ≡ record self.old { index = self.new.index } }
+        ensures more { HoldsMore log.now held.old.items held.new.items }
+        ensures held { OnOk result (held.new.items ≡ held.old.items ++ held_of log.now id ∷ []) }
+        ensures added { OnOk result (Adds log.now id self.old.index self.new.index) }
+    {
+        held.push(Held {
+            id,
+            level: log.level(id),
+        })?;
+        self.index.add(log, id)
+    }
+
+    /// Goes back to where a lesson makes a literal true, and puts that on the trail. Answers its place.
+    fn go_back(&mut self, lesson: Lesson) -> usize
+        requires free { assigned (below lesson.level self.old.trail.entries) lesson.literal.term ≡ None }
+        requires within { lesson.literal.term < self.old.trail.size }
+        ensures rest { self.new ≡ record self.old { trail = self.new.trail; order = self.new.order } }
+        ensures size { self.new.trail.size ≡ self.old.trail.size }
+        ensures order { IsTrail self.new.trail }
+        ensures place { result ≡ length (below lesson.level self.old.trail.entries) }
+        ensures entries { self.new.trail.entries ≡ after_lesson self.old.trail.entries lesson }
+    {
+        self.jump(lesson.level);
+        let place = self.trail.len();
+        self.trail.imply(lesson.literal, lesson.clause);
+        place
+    }
+
     /// Learns from a dead clause: notes the clause learned, adds it, and goes back to where it makes a literal true. Answers the place
     /// of that literal.
     fn learn(
@@ -180,12 +239,10 @@ impl Search {
         ensures learned { IfOk result (λ from. Learned log.new held.new.items self.old self.new work.old work.new from) }
         ensures spent { IfErr result (λ e. e ≡ stop.Spent → IsSpent work.new) }
     {
+        clauses_are_true();
+        legal_work_goes_on();
         let alloc = *held.allocator();
-        let Lesson {
-            clause,
-            literal,
-            level,
-        } = learn_from(
+        let lesson = learn_from(
             alloc,
             log,
             &self.trail,
@@ -193,17 +250,9 @@ impl Search {
             &mut self.seen,
             dead,
         )?;
-        let lits = by_numbers(alloc, &self.atoms, log.clause(clause))?;
-        note(work, Entry::Learned { keep: level, lits })?;
-        held.push(Held {
-            id: clause,
-            level: log.level(clause),
-        })?;
-        self.index.add(log, clause)?;
-        self.jump(level);
-        let from = self.trail.len();
-        self.trail.imply(literal, clause);
-        Ok(from)
+        self.note_lesson(alloc, log, work, lesson)?;
+        self.hold(log, held, lesson.clause)?;
+        Ok(self.go_back(lesson))
     }
 
     /// Makes true what the clauses make true by the literals from a place of the trail on, and learns from each conflict. Answers the
