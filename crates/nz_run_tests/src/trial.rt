@@ -10,7 +10,7 @@ ghost use Rattle.nz_term.specs.Heads.{head_of};
 use nz_base::{Memory, Noted, Text, Work};
 use nz_reply::Note;
 use nz_session::{Decide, Stop, Trial, Verdict};
-use nz_term::{Assign, Constant, Head, Sort, TermId, Terms, Value};
+use nz_term::{Assign, Constant, Head, Operator, Sort, TermId, Terms, Value};
 use std::alloc::Global;
 use std::test::Fail;
 
@@ -146,8 +146,8 @@ fn found(alloc: Global, terms: &Terms, asserted: &[TermId]) -> Result<Option<Ass
 #[test]
 fn no_constant_takes_no_unit(rt: HostRuntime) -> Result<(), Fail> {
     let mut terms = no_terms(rt.alloc())?;
-    let truth = operation(&mut terms, Head::True, &[])?;
-    let falsity = operation(&mut terms, Head::False, &[])?;
+    let truth = operation(&mut terms, Head::Operator(Operator::True), &[])?;
+    let falsity = operation(&mut terms, Head::Operator(Operator::False), &[])?;
     let sat = checked(rt.alloc(), &terms, &[truth], 0)?;
     assert_eq!(rt; sat, (Answer::Sat, 0));
     let unsat = checked(rt.alloc(), &terms, &[falsity], 0)?;
@@ -158,9 +158,9 @@ fn no_constant_takes_no_unit(rt: HostRuntime) -> Result<(), Fail> {
 #[test]
 fn two_constants_take_nine_units(rt: HostRuntime) -> Result<(), Fail> {
     let (mut terms, p, q) = two_constants(rt.alloc())?;
-    let not_p = operation(&mut terms, Head::Not, &[p])?;
-    let not_q = operation(&mut terms, Head::Not, &[q])?;
-    let either = operation(&mut terms, Head::Or, &[p, q])?;
+    let not_p = operation(&mut terms, Head::Operator(Operator::Not), &[p])?;
+    let not_q = operation(&mut terms, Head::Operator(Operator::Not), &[q])?;
+    let either = operation(&mut terms, Head::Operator(Operator::Or), &[p, q])?;
     assert_eq!(rt; checked(rt.alloc(), &terms, &[], 9)?, (Answer::Sat, 2));
     assert_eq!(rt;
         checked(rt.alloc(), &terms, &[either], 9)?,
@@ -180,7 +180,7 @@ fn two_constants_take_nine_units(rt: HostRuntime) -> Result<(), Fail> {
 #[test]
 fn values_are_told_by_number(rt: HostRuntime) -> Result<(), Fail> {
     let (mut terms, p, q) = two_constants(rt.alloc())?;
-    let not_q = operation(&mut terms, Head::Not, &[q])?;
+    let not_q = operation(&mut terms, Head::Operator(Operator::Not), &[q])?;
     let Some(assign) = found(rt.alloc(), &terms, &[p, not_q])? else {
         return Err(Fail::from("sat"));
     };
@@ -192,7 +192,7 @@ fn values_are_told_by_number(rt: HostRuntime) -> Result<(), Fail> {
 #[test]
 fn pop_takes_the_last_level_off(rt: HostRuntime) -> Result<(), Fail> {
     let mut terms = no_terms(rt.alloc())?;
-    let falsity = operation(&mut terms, Head::False, &[])?;
+    let falsity = operation(&mut terms, Head::Operator(Operator::False), &[])?;
     let mut trial = asserting(rt.alloc(), &[falsity])?;
     trial.pop(1);
     let mut work = Work::new(rt.alloc())?;

@@ -10,10 +10,11 @@ use Rattle.std.proofs.lemmas.Option.{get_or_from_slice_get, slice_get_within}
 use Rattle.nz_spec.specs.Term.{Constant, Head, Term, apply, constant, no_terms}
 use Rattle.nz_spec.specs.Table.{Node, HasItsArguments, term_in, terms_at}
 use Rattle.nz_spec.specs.Decide.{constants_in_table, constants_of_head}
+use Rattle.nz_term.specs.declared.heads.Operator as operators
 use Rattle.nz_term.specs.declared.heads.Head as heads
 use Rattle.nz_term.specs.declared.heads.Head.TheVariants as own
 use Rattle.nz_term.specs.declared.heads.Constant as constants
-use Rattle.nz_term.specs.Heads.{head_of}
+use Rattle.nz_term.specs.Heads.{head_of, operator_of}
 use Rattle.nz_truth.specs.Numbers.{IsNumberOf, AreNumbersOf, HasNoneTwice}
 
 -- one constant more
@@ -49,9 +50,13 @@ constants_more (m ∷ ns) (suc i) n at =
 
 -- ---- Heads that are no constants
 
+no_constant : (o : operators.Operator) (c : Constant) → operator_of o ≡ constant c → ⊥
+no_constant o c e = cc
+
 -- a head of the code that is no constant is none
 pub not_constant : (h : heads.Head) → ((k : constants.Constant) → h ≡ own.Constant k → ⊥) → (c : Constant) → head_of h ≡ constant c → ⊥
 not_constant (own.Constant k) isnt c e = isnt k refl
+not_constant (own.Operator o) isnt c e = absurd (no_constant o c e)
 not_constant h isnt c e = cc
 
 pub no_constants : (h : Head) → ((c : Constant) → h ≡ constant c → ⊥) → constants_of_head h ≡ []

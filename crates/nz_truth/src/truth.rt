@@ -6,11 +6,11 @@ ghost use Rattle.nz_spec.specs.Table.{term_in};
 ghost use Rattle.nz_spec.specs.Decide.{constants_in_table};
 ghost use Rattle.nz_spec.specs.Order.{ComeBehindArguments};
 ghost use Rattle.nz_spec.specs.Model.{IsAssignment};
-ghost use Rattle.nz_term.specs.Heads.{head_of};
+ghost use Rattle.nz_term.specs.Heads.{head_of, operator_of};
 ghost use Rattle.nz_truth.specs.Numbers.{AreNumbersOf, HasNoneTwice};
 ghost use Rattle.nz_truth.specs.Truths.{GivesTruths, IsTold, values_by};
 
-use nz_term::{Head, Node, TermId, Terms};
+use nz_term::{Head, Node, Operator, TermId, Terms};
 use std::alloc::{AllocError, Global};
 
 /// Writes the truth of these terms, in their order, by the decided constants of the table in theirs.
@@ -53,20 +53,31 @@ fn node_truth(node: &Node, decided: bool, values: &[bool]) -> bool
     requires truths { is_bool (head_sort (head_of node.now.head)) ≡ true }
     ensures value { (a : Assignment) → IsTold a (head_of node.now.head) decided → truth result ≡ head_value a (head_of node.now.head) (values_by (λ k. slice_index_or values.now k false) node.now.kids) }
 {
-    let kids = node.kids.as_slice();
     match &node.head {
         Head::Constant(_) => decided,
-        Head::True => true,
-        Head::Not => negation(kids, values),
-        Head::And => are_true(kids, values),
-        Head::Or => is_one_true(kids, values),
-        Head::Xor => exclusion(kids, values),
-        Head::Equal => are_chained(kids, values),
-        Head::Ite(_) => choice(kids, values),
-        // Each truth counts as 0.
-        Head::Less => kids.len() < 2,
-        Head::AtMost => true,
-        Head::IsInt => kids.len() == 1,
+        Head::Operator(operator) => operator_truth(*operator, node.kids.as_slice(), values),
+        _ => false,
+    }
+}
+
+// The truth of an operator over that of its arguments. Where a number is meant, each truth counts as 0.
+#[tactic(auto, using(crate::proofs::Deciding::all_is, crate::proofs::Deciding::any_is, crate::proofs::Deciding::less_is, crate::proofs::Deciding::at_most_is, crate::proofs::Deciding::is_int_is))]
+fn operator_truth(operator: Operator, kids: &[TermId], values: &[bool]) -> bool
+    requires within { All (λ k. k < length values.now) kids.now }
+    requires truths { is_bool (head_sort (operator_of operator)) ≡ true }
+    ensures value { (a : Assignment) → truth result ≡ head_value a (operator_of operator) (values_by (λ k. slice_index_or values.now k false) kids.now) }
+{
+    match operator {
+        Operator::True => true,
+        Operator::Not => negation(kids, values),
+        Operator::And => are_true(kids, values),
+        Operator::Or => is_one_true(kids, values),
+        Operator::Xor => exclusion(kids, values),
+        Operator::Equal => are_chained(kids, values),
+        Operator::Ite(_) => choice(kids, values),
+        Operator::Less => kids.len() < 2,
+        Operator::AtMost => true,
+        Operator::IsInt => kids.len() == 1,
         _ => false,
     }
 }
