@@ -11,6 +11,7 @@ use Rattle.nz_spec.specs.Term.{Constant, Head, Term, apply, constant, no_terms}
 use Rattle.nz_spec.specs.Table.{Node, HasItsArguments, term_in, terms_at}
 use Rattle.nz_spec.specs.Decide.{constants_in_table, constants_of_head}
 use Rattle.nz_term.specs.declared.heads.Operator as operators
+use Rattle.nz_term.specs.declared.heads.Operator.TheVariants as operator
 use Rattle.nz_term.specs.declared.heads.Head as heads
 use Rattle.nz_term.specs.declared.heads.Head.TheVariants as own
 use Rattle.nz_term.specs.declared.heads.Constant as constants
@@ -51,6 +52,7 @@ constants_more (m ∷ ns) (suc i) n at =
 -- ---- Heads that are no constants
 
 no_constant : (o : operators.Operator) (c : Constant) → operator_of o ≡ constant c → ⊥
+no_constant operator.True c e = cc
 no_constant o c e = cc
 
 -- a head of the code that is no constant is none

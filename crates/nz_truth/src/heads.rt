@@ -31,7 +31,7 @@ pub(crate) fn outcome_over(head: &Head, given: Value, args: &[Value]) -> Outcome
 }
 
 /// What an operator comes to.
-#[tactic(auto, unfolding(nz_spec::specs::Fraction::first_wide), using(crate::proofs::Carrying::plain))]
+#[tactic(auto, unfolding(nz_spec::specs::Fraction::first_wide))]
 fn outcome_of(operator: Operator, args: &[Value]) -> Outcome
     ensures outcome { (a : Assignment) → IsOutcomeOf (head_operations (operator_of operator) (map value_of args.now)) (head_value a (operator_of operator) (map value_of args.now)) result }
 {
