@@ -1,12 +1,12 @@
 //! Normal terms, made in the table from the numbers of their arguments: what is chained, pairwise or grouped is written out.
-ghost use Rattle.std.specs.Prelude.{◌≡◌, ◌<◌, length, All, IfOk, OnOk};
-ghost use Rattle.nz_spec.specs.Term.{Terms as Arguments, apply, conjunction};
+ghost use Rattle.std.specs.Prelude.{◌≡◌, ◌<◌, length, All, IfOk, IsTrue, OnOk};
+ghost use Rattle.nz_spec.specs.Term.{Terms as Arguments, apply, conjunction, head_fits, no_terms};
 ghost use Rattle.nz_spec.specs.Normal.{joined_by, disequations_onto, disequations_of, normal_node, grouped_by, chained_by, implication_of};
 ghost use Rattle.nz_spec.specs.Elaboration.{operator_head};
 ghost use Rattle.nz_spec.specs.Table.{term_in, terms_at};
 ghost use Rattle.nz_term.specs.Constants.{sort_of};
-ghost use Rattle.nz_term.specs.Heads.{operator_of};
-ghost use Rattle.nz_elaborate.specs.Typed.{Grows, StandsFor, terms_before};
+ghost use Rattle.nz_term.specs.Heads.{head_of, operator_of};
+ghost use Rattle.nz_elaborate.specs.Typed.{Grows, IsOperator, StandsFor, terms_before};
 ghost use Rattle.nz_elaborate.specs.Operators.{operator_meaning};
 ghost use Rattle.nz_elaborate.specs.Links.{link_pair};
 
@@ -69,6 +69,16 @@ pub(crate) fn make(
 {
     operators_are_no_leaves();
     terms.make(Head::Operator(operator), kids)
+}
+
+/// The number of the term of this leaf, which is no constant.
+pub(crate) fn make_leaf(terms: &mut Terms, head: Head) -> Result<TermId, Memory>
+    requires operator { IsOperator (head_of head) }
+    requires fits { IsTrue (head_fits (head_of head)) }
+    ensures grows { Grows terms.old terms.new }
+    ensures made { IfOk result (λ id. StandsFor terms.new id (apply (head_of head) no_terms)) }
+{
+    terms.make(head, &[])
 }
 
 // An operator over one term stands for that term.
