@@ -4,3 +4,4 @@ pub mod Notes
 pub mod Sound
 pub mod Spelling
 pub mod Stored
+pub mod Verdicts

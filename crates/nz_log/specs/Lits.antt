@@ -1,5 +1,5 @@
 -- Literals and clauses by the numbers of their terms.
-use Rattle.std.specs.Prelude.{ℕ, Bool, true, false, not, ◌&&◌, ◌==◌, List, [], ◌∷◌, ◌++◌, map, Some, None, slice_get}
+use Rattle.std.specs.Prelude.{ℕ, Bool, true, false, not, ◌&&◌, ◌==◌, List, [], ◌∷◌, ◌++◌, map, All, Contains, Option, Some, None, slice_get}
 use Rattle.nz_spec.specs.Term.{Head, sort_of, is_bool}
 use Rattle.nz_spec.specs.Table.{Node, term_in}
 use Rattle.nz_spec.specs.Literal.{Literal, term_literal, Clause, are_same_sign, once, without}
@@ -18,6 +18,15 @@ negated_lit l = record { term = l.term; sign = not l.sign }
 
 abbrev pub are_same_lit : Lit → Lit → Bool
 are_same_lit l m = (l.term == m.term) && are_same_sign l.sign m.sign
+
+-- no literal of these is the negation of one of them
+abbrev pub AreConsistent : List Lit → Type 0
+AreConsistent ls = All (λ (l : Lit). Contains ls (negated_lit l) → ⊥) ls
+
+-- there are such literals, each the negation of one of these
+abbrev pub AreNegations : List Lit → Option (List Lit) → Type 0
+AreNegations ls None = ⊥
+AreNegations ls (Some c) = All (λ (l : Lit). Contains ls (negated_lit l)) c
 
 abbrev pub lit_resolvent : Lit → List Lit → List Lit → List Lit
 lit_resolvent l c d = once are_same_lit (without are_same_lit l c ++ without are_same_lit (negated_lit l) d)

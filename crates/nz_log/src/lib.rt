@@ -2,6 +2,7 @@
 //! resolution, from the assertions that are live at its level, and the log tells how.
 #![tactic(auto)]
 
+mod decide;
 mod gates;
 pub mod laws;
 mod lits;
@@ -12,6 +13,7 @@ mod sets;
 mod steps;
 mod stop;
 
+pub use decide::{Decide, Verdict};
 pub use gates::gate_count;
 pub use lits::Lit;
 pub use log::Log;

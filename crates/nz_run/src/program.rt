@@ -13,8 +13,10 @@ ghost use Rattle.nz_run.specs.Words.{AreTaken, AreUnits};
 
 use crate::words::{Refused, units_of};
 use nz_base::{Error, Memory, Sink, Source};
+use nz_engine::Engine;
+use nz_log::Decide;
 use nz_reply::{Journal, Kept, Reply};
-use nz_session::{Decide, Fed, Session, Trial};
+use nz_session::{Fed, Session};
 use nz_term::Terms;
 use std::alloc::Global;
 
@@ -241,7 +243,11 @@ pub fn run<S: Source, K: Sink>(alloc: Global, words: &[String], input: &mut S, o
         Err(Refused::Usage) => return ended_at_once(alloc, USAGE),
         Err(Refused::Memory) => return ended_at_once(alloc, MEMORY),
     };
-    let mut session = match Session::new(alloc, Trial::new(alloc), units) {
+    let engine = match Engine::new(alloc) {
+        Ok(engine) => engine,
+        Err(Memory) => return ended_at_once(alloc, MEMORY),
+    };
+    let mut session = match Session::new(alloc, engine, units) {
         Ok(session) => session,
         Err(Memory) => return ended_at_once(alloc, MEMORY),
     };

@@ -9,5 +9,3 @@ mod examples;
 mod run;
 #[cfg(test)]
 mod session;
-#[cfg(test)]
-mod trial;

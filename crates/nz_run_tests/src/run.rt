@@ -126,7 +126,8 @@ fn other_words_are_not_taken(rt: HostRuntime) -> Result<(), Fail> {
 
 #[test]
 fn a_check_uses_no_more_units_than_the_words_allow(rt: HostRuntime) -> Result<(), Fail> {
-    let script = b"(declare-const p Bool)(assert p)(check-sat)(get-info :reason-unknown)";
+    let script = b"(declare-const p Bool)(declare-const q Bool)(assert (or p q))
+        (check-sat)(get-info :reason-unknown)";
     let mut input = PlainSource::new(script.as_slice().to_vec(rt.alloc())?, 43);
     let mut out = PlainSink::new(rt.alloc(), ROOM)?;
     let words = ["nuz", "solve", "--work", "0"];

@@ -2,14 +2,15 @@
 ghost use Rattle.std.specs.Prelude.{◌≡◌, []};
 
 use nz_base::{Error, Memory, PlainSink, Work};
-use nz_log::{Note, Stop};
+use nz_engine::Engine;
+use nz_log::{ClauseId, Decide, Lit, Note, Step, Stop, Verdict};
 use nz_reply::{Journal, Reply};
-use nz_session::{Decide, Fed, Session, Trial, Verdict};
+use nz_session::{Fed, Session};
 use nz_term::{TermId, Terms};
 use std::alloc::Global;
 use std::test::Fail;
 
-/// The most units of work that a check may use.
+/// The most units of work that a check may use, where it is to come to its end.
 const UNITS: u64 = 100;
 
 /// How many bytes the replies of a test may have.
@@ -18,36 +19,49 @@ const ROOM: usize = 200;
 /// One list more than may stand in one another.
 const TOO_DEEP: usize = 201;
 
-/// A trial of which each check but the first finds no memory.
+/// An engine of which each check but the first finds no memory.
 #[derive(Drop)]
 struct OnceOnly {
-    trial: Trial,
+    engine: Engine,
     has_checked: bool,
 }
 
 impl Decide for OnceOnly {
-    ghost levels = { λ e. e.trial };
+    ghost use Rattle.nz_engine.specs.Engines.{clause_at};
 
-    ghost table = { λ _. [] };
+    ghost levels = { λ e. e.engine.levels };
+
+    ghost table = { λ e. e.engine.table };
+
+    ghost clause = { λ e id. clause_at e.engine id };
 
     fn push(&mut self) -> Result<(), Memory> {
-        self.trial.push()
+        self.engine.push()
     }
 
     fn pop(&mut self, count: usize) {
-        self.trial.pop(count);
+        self.engine.pop(count);
     }
 
     fn add(&mut self, term: TermId) -> Result<(), Memory> {
-        self.trial.add(term)
+        self.engine.add(term)
     }
 
-    fn check(&mut self, terms: &Terms, work: &mut Work<Note>) -> Result<Verdict, Stop> {
+    fn check(
+        &mut self,
+        terms: &Terms,
+        assumed: &[Lit],
+        work: &mut Work<Note>,
+    ) -> Result<Verdict, Stop> {
         if self.has_checked {
             return Err(Stop::Memory);
         }
         self.has_checked = true;
-        self.trial.check(terms, work)
+        self.engine.check(terms, assumed, work)
+    }
+
+    fn steps(&self, id: ClauseId) -> Result<Vec<Step>, Memory> {
+        self.engine.steps(id)
     }
 }
 
@@ -59,17 +73,18 @@ struct Outcome {
     journal: Journal,
 }
 
-/// Feeds a session a script in one piece, and ends it there, unless it has ended.
+/// Feeds a session of so many units a script in one piece, and ends it there, unless it has ended.
 fn run_script<E: Decide>(
     alloc: Global,
     engine: E,
+    units: u64,
     script: &[u8],
     sink: &mut PlainSink,
 ) -> Result<Outcome, Memory>
     requires told { E.levels engine ≡ [] }
     requires table { E.table engine ≡ [] }
 {
-    let mut session = Session::new(alloc, engine, UNITS)?;
+    let mut session = Session::new(alloc, engine, units)?;
     let fed = session.feed(script, sink);
     let ended = match fed {
         Fed::Going => session.finish(sink),
@@ -93,7 +108,13 @@ fn a_session_answers_what_is_no_command(rt: HostRuntime) -> Result<(), Fail> {
     let mut script = vec![in rt.alloc(); b'('; TOO_DEEP]?;
     script.resize(2 * TOO_DEEP, b')')?;
     script.extend_from_slice(b"(check-sat")?;
-    let ended = run_script(rt.alloc(), Trial::new(rt.alloc()), &script, &mut sink)?;
+    let ended = run_script(
+        rt.alloc(),
+        Engine::new(rt.alloc())?,
+        UNITS,
+        &script,
+        &mut sink,
+    )?;
     let [deep, unclosed] = ended.journal.as_slice() else {
         return Err(Fail::from("two replies"));
     };
@@ -107,7 +128,13 @@ fn a_session_answers_what_is_no_command(rt: HostRuntime) -> Result<(), Fail> {
 fn a_session_answers_to_its_exit(rt: HostRuntime) -> Result<(), Fail> {
     let mut sink = PlainSink::new(rt.alloc(), ROOM)?;
     let script = b"(declare-const p Bool)(assert p)(check-sat)(get-model)(exit)(check-sat)";
-    let ended = run_script(rt.alloc(), Trial::new(rt.alloc()), script, &mut sink)?;
+    let ended = run_script(
+        rt.alloc(),
+        Engine::new(rt.alloc())?,
+        UNITS,
+        script,
+        &mut sink,
+    )?;
     assert_eq!(rt; ended.fed, Fed::Exited);
     assert_eq!(rt; ended.journal.as_slice().len(), 5);
     assert_eq!(rt;
@@ -120,7 +147,13 @@ fn a_session_answers_to_its_exit(rt: HostRuntime) -> Result<(), Fail> {
 #[test]
 fn a_session_ends_with_its_script(rt: HostRuntime) -> Result<(), Fail> {
     let mut sink = PlainSink::new(rt.alloc(), ROOM)?;
-    let ended = run_script(rt.alloc(), Trial::new(rt.alloc()), b"(check-sat", &mut sink)?;
+    let ended = run_script(
+        rt.alloc(),
+        Engine::new(rt.alloc())?,
+        UNITS,
+        b"(check-sat",
+        &mut sink,
+    )?;
     assert_eq!(rt; ended.fed, Fed::Going);
     assert_eq!(rt; ended.ended, Fed::Going);
     assert_eq!(rt; ended.journal.as_slice().len(), 1);
@@ -135,11 +168,11 @@ fn a_session_ends_with_its_script(rt: HostRuntime) -> Result<(), Fail> {
 fn a_model_outlives_a_check_without_memory(rt: HostRuntime) -> Result<(), Fail> {
     let mut sink = PlainSink::new(rt.alloc(), ROOM)?;
     let engine = OnceOnly {
-        trial: Trial::new(rt.alloc()),
+        engine: Engine::new(rt.alloc())?,
         has_checked: false,
     };
     let script = b"(declare-const p Bool)(assert p)(check-sat)(check-sat)(get-model)";
-    let ended = run_script(rt.alloc(), engine, script, &mut sink)?;
+    let ended = run_script(rt.alloc(), engine, UNITS, script, &mut sink)?;
     assert_eq!(rt; ended.ended, Fed::Going);
     let wanted = b"sat\n(error \"11 out of memory\")\n(\n(define-fun p () Bool true)\n)\n";
     assert_eq!(rt; sink.bytes(), wanted.as_slice());
@@ -149,14 +182,13 @@ fn a_model_outlives_a_check_without_memory(rt: HostRuntime) -> Result<(), Fail> 
 #[test]
 fn a_reason_is_shown_until_an_assertion_is_accepted(rt: HostRuntime) -> Result<(), Fail> {
     let mut sink = PlainSink::new(rt.alloc(), ROOM)?;
-    let script = b"(declare-const a Bool)(declare-const b Bool)(declare-const c Bool)
-        (declare-const d Bool)(declare-const e Bool)(declare-const f Bool)(assert (and a false))
+    let script = b"(declare-const a Bool)(declare-const b Bool)(assert (or a b))
         (check-sat)(get-info :reason-unknown)(assert x)(get-info :reason-unknown)
         (assert b)(get-info :reason-unknown)";
-    let ended = run_script(rt.alloc(), Trial::new(rt.alloc()), script, &mut sink)?;
+    let ended = run_script(rt.alloc(), Engine::new(rt.alloc())?, 0, script, &mut sink)?;
     assert_eq!(rt; ended.ended, Fed::Going);
-    let wanted = b"unknown\n(:reason-unknown (spent 100))\n(error \"2 unknown symbol\")\n\
-        (:reason-unknown (spent 100))\n(error \"7 no answer to show\")\n";
+    let wanted = b"unknown\n(:reason-unknown (spent 0))\n(error \"2 unknown symbol\")\n\
+        (:reason-unknown (spent 0))\n(error \"7 no answer to show\")\n";
     assert_eq!(rt; sink.bytes(), wanted.as_slice());
     Ok(())
 }
@@ -166,7 +198,13 @@ fn only_what_was_answered_last_is_shown(rt: HostRuntime) -> Result<(), Fail> {
     let mut sink = PlainSink::new(rt.alloc(), ROOM)?;
     let script = b"(get-model)(get-info :reason-unknown)(check-sat)(get-info :reason-unknown)
         (assert false)(check-sat)(get-model)";
-    let ended = run_script(rt.alloc(), Trial::new(rt.alloc()), script, &mut sink)?;
+    let ended = run_script(
+        rt.alloc(),
+        Engine::new(rt.alloc())?,
+        UNITS,
+        script,
+        &mut sink,
+    )?;
     assert_eq!(rt; ended.ended, Fed::Going);
     let wanted = b"(error \"7 no answer to show\")\n(error \"7 no answer to show\")\nsat\n\
         (error \"7 no answer to show\")\nunsat\n(error \"7 no answer to show\")\n";
@@ -179,7 +217,13 @@ fn a_refusal_is_told_by_its_number(rt: HostRuntime) -> Result<(), Fail> {
     let mut sink = PlainSink::new(rt.alloc(), ROOM)?;
     let script = b"(declare-const p Bool)(assert q)(assert (not p p))
         (set-info :size 170141183460469231731687303715884105728)(get-model)(declare-const p Bool)";
-    let ended = run_script(rt.alloc(), Trial::new(rt.alloc()), script, &mut sink)?;
+    let ended = run_script(
+        rt.alloc(),
+        Engine::new(rt.alloc())?,
+        UNITS,
+        script,
+        &mut sink,
+    )?;
     assert_eq!(rt; ended.ended, Fed::Going);
     let wanted = b"(error \"2 unknown symbol\")\n(error \"3 sort\")\n\
         (error \"5 number too wide\")\n(error \"7 no answer to show\")\n\
@@ -193,7 +237,13 @@ fn values_are_told_of_terms_over_numbers(rt: HostRuntime) -> Result<(), Fail> {
     let mut sink = PlainSink::new(rt.alloc(), ROOM)?;
     let script = b"(get-value (true))(declare-const p Bool)(assert p)(check-sat)
         (get-value (p (ite p 1 2) (/ 1 2)))";
-    let ended = run_script(rt.alloc(), Trial::new(rt.alloc()), script, &mut sink)?;
+    let ended = run_script(
+        rt.alloc(),
+        Engine::new(rt.alloc())?,
+        UNITS,
+        script,
+        &mut sink,
+    )?;
     assert_eq!(rt; ended.ended, Fed::Going);
     let wanted = b"(error \"7 no answer to show\")\nsat\n\
         ((p true) ((ite p 1 2) 1) ((/ 1 2) (/ 1.0 2.0)))\n";
@@ -205,7 +255,13 @@ fn values_are_told_of_terms_over_numbers(rt: HostRuntime) -> Result<(), Fail> {
 fn an_operation_that_leaves_the_numbers_is_told(rt: HostRuntime) -> Result<(), Fail> {
     let mut sink = PlainSink::new(rt.alloc(), ROOM)?;
     let script = b"(check-sat)(get-value ((+ 170141183460469231731687303715884105727 1)))";
-    let ended = run_script(rt.alloc(), Trial::new(rt.alloc()), script, &mut sink)?;
+    let ended = run_script(
+        rt.alloc(),
+        Engine::new(rt.alloc())?,
+        UNITS,
+        script,
+        &mut sink,
+    )?;
     assert_eq!(rt; ended.ended, Fed::Going);
     let wanted = b"sat\n(((+ 170141183460469231731687303715884105727 1) \
         (wide add 170141183460469231731687303715884105727 1)))\n";
@@ -218,7 +274,13 @@ fn success_is_told_from_the_option_on(rt: HostRuntime) -> Result<(), Fail> {
     let mut sink = PlainSink::new(rt.alloc(), ROOM)?;
     let script = b"(declare-const p Bool)(set-option :print-success true)(assert p)
         (set-info :status sat)(set-option :print-success false)(assert p)(exit)";
-    let ended = run_script(rt.alloc(), Trial::new(rt.alloc()), script, &mut sink)?;
+    let ended = run_script(
+        rt.alloc(),
+        Engine::new(rt.alloc())?,
+        UNITS,
+        script,
+        &mut sink,
+    )?;
     assert_eq!(rt; ended.ended, Fed::Exited);
     assert_eq!(rt; sink.bytes(), b"success\nsuccess\nsuccess\n".as_slice());
     Ok(())
@@ -228,7 +290,13 @@ fn success_is_told_from_the_option_on(rt: HostRuntime) -> Result<(), Fail> {
 fn texts_and_infos_are_told(rt: HostRuntime) -> Result<(), Fail> {
     let mut sink = PlainSink::new(rt.alloc(), ROOM)?;
     let script = b"(echo \"say \"\"no\"\"\")(get-info :name)(get-info :assertion-stack-levels)";
-    let ended = run_script(rt.alloc(), Trial::new(rt.alloc()), script, &mut sink)?;
+    let ended = run_script(
+        rt.alloc(),
+        Engine::new(rt.alloc())?,
+        UNITS,
+        script,
+        &mut sink,
+    )?;
     assert_eq!(rt; ended.ended, Fed::Going);
     let wanted = b"\"say \"\"no\"\"\"\n(:name \"nuz\")\n(:assertion-stack-levels 0)\n";
     assert_eq!(rt; sink.bytes(), wanted.as_slice());
@@ -240,7 +308,13 @@ fn numbers_are_defined_and_not_checked(rt: HostRuntime) -> Result<(), Fail> {
     let mut sink = PlainSink::new(rt.alloc(), ROOM)?;
     let script = b"(define-fun two () Int 2)(check-sat)(get-value ((+ two two)))
         (declare-const x Int)(assert (= (* x x) two))(check-sat)";
-    let ended = run_script(rt.alloc(), Trial::new(rt.alloc()), script, &mut sink)?;
+    let ended = run_script(
+        rt.alloc(),
+        Engine::new(rt.alloc())?,
+        UNITS,
+        script,
+        &mut sink,
+    )?;
     assert_eq!(rt; ended.ended, Fed::Going);
     let wanted = b"sat\n(((+ two two) 4))\n(error \"4 not linear\")\nunsupported\n";
     assert_eq!(rt; sink.bytes(), wanted.as_slice());

@@ -132,7 +132,7 @@ abbrev head_in : Term → Head
 head_in (apply h ts) = h
 
 -- the number of a constant's term is that of its node
-pub constant_node : (ns : List Node) → TermOfNode → IsTable ns → (i : ℕ) (c : Constant) → i < length ns → term_in ns i ≡ apply (constant c) no_terms
+constant_node : (ns : List Node) → TermOfNode → IsTable ns → (i : ℕ) (c : Constant) → i < length ns → term_in ns i ≡ apply (constant c) no_terms
     → (n : Node) × (slice_get ns i ≡ Some n) × (n.head ≡ constant c)
 constant_node ns law table i c below e =
     let n : Node = get_or ns i (record { head = falsum; kids = [] }) in
@@ -171,7 +171,7 @@ normals_true law a (t ∷ ts) h = (subst (λ v. IsTrue (is_true v)) (sym (law a 
 model_of_normals : NormalKeepsValue → (a : Assignment) (ts assumed : List Term) → IsModel (map normal_of ts) assumed a → IsModel ts assumed a
 model_of_normals law a ts assumed m = record { sorts = m.sorts; asserted_hold = true_normals law a ts m.asserted_hold; assumed_hold = m.assumed_hold }
 
-normals_of_model : NormalKeepsValue → (a : Assignment) (ts assumed : List Term) → IsModel ts assumed a → IsModel (map normal_of ts) assumed a
+pub normals_of_model : NormalKeepsValue → (a : Assignment) (ts assumed : List Term) → IsModel ts assumed a → IsModel (map normal_of ts) assumed a
 normals_of_model law a ts assumed m = record { sorts = m.sorts; asserted_hold = normals_true law a ts m.asserted_hold; assumed_hold = m.assumed_hold }
 
 -- Values that a search gave, completed over the constants of the table, are a model of what is asserted.

@@ -1,16 +1,9 @@
 pub mod Answering
 pub mod Assigning
-pub mod AtomsNoted
 pub mod Checking
 pub mod Feeding
 pub mod Fronts
-pub mod Leveling
-pub mod Noting
-pub mod Orders
-pub mod SearchOrder
-pub mod SearchUnits
+pub mod LegalWork
 pub mod Serving
-pub mod TrialValues
-pub mod Trials
 pub mod ValuesKept
 pub mod Valuing

@@ -1,9 +1,5 @@
 pub mod Completed
 pub mod Desk
-pub mod Levels
-pub mod Search
-pub mod SearchNotes
 pub mod Serve
 pub mod Told
 pub mod Valued
-pub mod Verdicts

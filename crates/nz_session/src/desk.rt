@@ -1,22 +1,21 @@
 //! The desk: what a command acts on, and the answer to it.
-ghost use Rattle.std.specs.Prelude.{◌≡◌, ◌<◌, ◌*◌, ◌^◌, [], ◌∷◌, ◌++◌, length, map, slice_get, All, Some, IfOk, IfErr, IfSome, IfNone, OnOk, false};
-ghost use Rattle.std.specs.List.{AllByRecursion};
+ghost use Rattle.std.specs.Prelude.{◌≡◌, ◌<◌, [], ◌∷◌, ◌++◌, length, map, slice_get, All, Some, IfOk, IfErr, OnOk, false};
 ghost use Rattle.nz_sexpr.specs.View.{view, what_view};
 ghost use Rattle.nz_spec.specs.Text as text;
 ghost use Rattle.nz_spec.specs.Text.{intact};
 ghost use Rattle.nz_spec.specs.Term as term;
-ghost use Rattle.nz_spec.specs.Term.{bool_sort, holds_number};
-ghost use Rattle.nz_spec.specs.Decide.{constants_in_table, IsFrontOfTable, AreModelValues};
+ghost use Rattle.nz_spec.specs.Gates.{IsGated};
+ghost use Rattle.nz_spec.specs.Decide.{IsFrontOfTable, AreModelValues};
 ghost use Rattle.nz_spec.specs.Model.{IsUnsatisfiable};
 ghost use Rattle.nz_spec.specs.Live.{items_of, items_hold_numbers};
 ghost use Rattle.nz_spec.specs.Request.{Request};
 ghost use Rattle.nz_spec.specs.Parse.{request_of};
 ghost use Rattle.nz_spec.specs.Command.{Command};
 ghost use Rattle.nz_spec.specs.Right.{Context, done as done_by};
-ghost use Rattle.nz_spec.specs.Atoms.{AreAtoms};
+ghost use Rattle.nz_spec.specs.Legal.{IsSpentLegally};
 ghost use Rattle.nz_spec.specs.Table.{term_in};
-ghost use Rattle.nz_spec.specs.Work.{IsSpent};
 ghost use Rattle.nz_log.specs.Notes.{noted_list, AreNotedWithin};
+ghost use Rattle.nz_log.specs.Verdicts.{IfSat, OnUnsat, OnSpent, task_in};
 ghost use Rattle.nz_reply.specs.Infos.{info_of};
 ghost use Rattle.nz_reply.specs.Replies.{reply_of};
 ghost use Rattle.nz_sort.specs.Acts.{info_meaning};
@@ -25,19 +24,18 @@ ghost use Rattle.nz_sort.specs.Live.{AsksValues};
 ghost use Rattle.nz_elaborate.specs.Typed.{AreTyped};
 ghost use Rattle.nz_session.specs.Completed.{bound_at, completed};
 ghost use Rattle.nz_session.specs.Told.{IsTold};
-ghost use Rattle.nz_session.specs.Verdicts.{IfSat, OnUnsat, OnSpent};
 
-use crate::decide::{Decide, Verdict};
 use crate::values::values_shown;
 use nz_base::{Error, Memory, Work};
 use nz_elaborate::Typed;
-use nz_log::{Note, Stop};
+use nz_log::{Decide, Note, Stop, Verdict};
 use nz_reply::{Binding, Bindings, Cause, Info, Reason, Reply, SpentList};
 use nz_sexpr::{Tree, What};
 use nz_sort::{Accepted, Act, Info as InfoAsked, Live};
 use nz_spec::script::argument_tells;
 use nz_spec::table::{assigns_by_number, term_of_node};
 use nz_spec::term::{decimals_are_numbers, normal_keeps_value, numerals_are_whole};
+use nz_spec::transcript::{assertions_are_gated, states_stay_sorted};
 use nz_term::{Assign, Head, TermId, Terms, known_table};
 use nz_truth::default_value;
 use std::alloc::Global;
@@ -130,6 +128,7 @@ impl<E: Decide> Desk<E> {
         ensures front { IsFrontOfTable (table_of self.old) (table_of self.new) }
     {
         argument_tells();
+        states_stay_sorted();
         match self.live.command(&mut self.terms, tree) {
             Err(refusal) => said(Reply::Error(refusal)),
             Ok(Act::Changed) => {
@@ -164,6 +163,7 @@ impl<E: Decide> Desk<E> {
         ensures terms { table_of self.new ≡ table_of self.old }
     {
         normal_keeps_value();
+        assertions_are_gated();
         let decided = decide(
             &mut self.engine,
             &mut self.told,
@@ -174,7 +174,7 @@ impl<E: Decide> Desk<E> {
         );
         match decided {
             Ok(Verdict::Sat(assign)) => self.found(assign),
-            Ok(Verdict::Unsat) => {
+            Ok(Verdict::Unsat(_)) => {
                 self.last = Some(LastAnswer::Refutation);
                 said(Reply::Unsat)
             }
@@ -353,21 +353,18 @@ fn decide<E: Decide>(
     requires told { IsTold (E.levels engine.old) told.old (table_numbers assertions.now) }
     requires within { All (λ i. i < length terms.now) (table_numbers assertions.now) }
     requires front { IsFrontOfTable (E.table engine.old) terms.now }
-    requires truths { All (λ i. holds_number (term_in terms.now i) ≡ false) (table_numbers assertions.now) }
-    requires bools { AllByRecursion (λ c. c.sort ≡ bool_sort) (constants_in_table terms.now) }
+    requires gated { All (λ i. IsGated (term_in terms.now i)) (table_numbers assertions.now) }
     ensures told { IsTold (E.levels engine.new) told.new (table_numbers assertions.now) }
     ensures sat { IfOk result (λ v. IfSat v (AreModelValues terms.now (map (term_in terms.now) (table_numbers assertions.now)) [])) }
     ensures unsat { IfOk result (λ v. OnUnsat v (IsUnsatisfiable (map (term_in terms.now) (table_numbers assertions.now)) [])) }
-    ensures spent { IfErr result (λ s. OnSpent s (IsSpent (noted_list terms.now work.new))) }
-    ensures short { IfErr result (λ s. OnSpent s (limit < 3 * 2 ^ length (constants_in_table terms.now))) }
+    ensures spent { IfErr result (λ s. OnSpent s (IsSpentLegally (task_in terms.now (table_numbers assertions.now ∷ []) []) (noted_list terms.now work.new))) }
     ensures limit { IfErr result (λ s. OnSpent s (work.new.limit ≡ limit)) }
     ensures within { IfErr result (λ s. OnSpent s (AreNotedWithin terms.now work.new.lines)) }
-    ensures noted { IfErr result (λ s. OnSpent s (AreAtoms (constants_in_table terms.now) (noted_list terms.now work.new).lines)) }
     ensures front { IsFrontOfTable (E.table engine.new) terms.now }
 {
     tell(engine, told, assertions)?;
     work.reserve(limit)?;
-    engine.check(terms, work)
+    engine.check(terms, &[], work)
 }
 
 /// The bindings of these constants by an assignment, twice: to be shown, and to be kept.

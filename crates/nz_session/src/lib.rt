@@ -1,12 +1,8 @@
-//! Commands in, replies out: the session of a script, and the search that decides its checks.
+//! Commands in, replies out: the session of a script.
 #![tactic(auto)]
 
-mod decide;
 mod desk;
 mod session;
-mod trial;
 mod values;
 
-pub use decide::{Decide, Verdict};
 pub use session::{Fed, Session};
-pub use trial::Trial;

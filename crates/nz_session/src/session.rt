@@ -11,9 +11,9 @@ ghost use Rattle.nz_spec.specs.Transcript.{AreRight, EndsByExit, GoesOn};
 ghost use Rattle.nz_reply.specs.Replies.{reply_of};
 ghost use Rattle.nz_session.specs.Serve.{Answers, AnswersInPart, IsGoing, is_sink_fault, kept_at};
 
-use crate::decide::Decide;
 use crate::desk::{Answer, Desk};
 use nz_base::{Error, Memory, Sink};
+use nz_log::Decide;
 use nz_reply::{Journal, Kept, Reply, WriteFault, kept_stay, write_reply};
 use nz_sexpr::{Heard, Limits, Reader, What};
 use nz_spec::text::{one_reading, reading_tells_first};

@@ -1,5 +1,4 @@
 pub mod Argument
-pub mod Atoms
 pub mod Bounds
 pub mod Command
 pub mod Decide
@@ -42,6 +41,7 @@ pub mod Told
 pub mod Transcript
 pub mod Tree
 pub mod TruthTables
+pub mod WellSorted
 pub mod Work
 pub mod WorkedLinear
 pub mod WorkedListings

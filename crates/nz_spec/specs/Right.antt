@@ -1,5 +1,5 @@
 -- Which reply to a thing heard is right, and what it leaves (SMT-LIB 2.6, section 4.2).
-use Rattle.std.specs.Prelude.{◌≡◌, ℕ, ◌*◌, ◌^◌, ◌<◌, List, [], ◌∷◌, length, map, Option, Some, None, ◌⊎◌, if◌then◌else◌}
+use Rattle.std.specs.Prelude.{◌≡◌, ℕ, List, [], ◌∷◌, map, Option, Some, None, ◌⊎◌, if◌then◌else◌}
 use Rattle.nz_spec.specs.Tree.{Tree}
 use Rattle.nz_spec.specs.Term.{Term, Assignment}
 use Rattle.nz_spec.specs.Text.{What, intact, faulty, unclosed, unread}
@@ -8,8 +8,9 @@ use Rattle.nz_spec.specs.Model.{assignment_of, AreModel, IsUnsatisfiable}
 use Rattle.nz_spec.specs.Live.{units_spent, declared, defined, asserted, LastAnswer, model_found, refutation, undecided, Options, State, start, constants_of, assertions_of, grown, pushed_levels}
 use Rattle.nz_spec.specs.Command.{Asked, Command, declare_const, define, assert_term, check_sat, get_model, get_value, get_info, get_levels, get_reason, set_print_success, echo, exit, Outcome, accepted, refused, not_taken}
 use Rattle.nz_spec.specs.Script.{outcome_of}
-use Rattle.nz_spec.specs.Work.{IsSpent}
-use Rattle.nz_spec.specs.Atoms.{AreAtoms}
+use Rattle.nz_spec.specs.TermList.{terms_added}
+use Rattle.nz_spec.specs.Gates.{holds}
+use Rattle.nz_spec.specs.Legal.{Task, IsSpentLegally}
 use Rattle.nz_spec.specs.Reply.{Shown, term_shown, Reply, quiet, success, sat, unsat, unknown, model, values, info, levels, reason, echoed, unsupported, error, Cause, plain, spent}
 
 -- What a reply is judged by: the most units of work that a check may use, the states before, the newest first, and the state
@@ -23,14 +24,18 @@ pub record Context : Type 0 where
 abbrev pub beginning : ℕ → Context
 beginning limit = record { limit = limit; before = []; state = start }
 
+-- what a check under these assumed terms asks a search
+abbrev pub task_of : State → List Term → Task
+task_of s assumed = record { asserted = assertions_of s; assumed = map holds assumed; listed = terms_added s assumed }
+
 -- An answer to a check under these assumed terms.
 abbrev pub IsRightCheck : Context → List Term → Reply → Cause → Type 0
 IsRightCheck c assumed (sat bs) cause = AreModel (constants_of c.state) (assertions_of c.state) assumed bs × (cause ≡ plain)
 IsRightCheck c assumed unsat cause = IsUnsatisfiable (assertions_of c.state) assumed × (cause ≡ plain)
--- Each unit of the limit was used, there were fewer than a search through all assignments takes, and the atoms are live constants.
+-- Each unit of the limit was used, step by step as a search may.
 IsRightCheck c assumed (unknown r) plain = ⊥
 IsRightCheck c assumed (unknown r) (spent list) =
-    (r ≡ units_spent c.limit) × (list.limit ≡ c.limit) × IsSpent list × (c.limit < 3 * 2 ^ length (constants_of c.state)) × AreAtoms (constants_of c.state) list.lines
+    (r ≡ units_spent c.limit) × (list.limit ≡ c.limit) × IsSpentLegally (task_of c.state assumed) list
 IsRightCheck c assumed reply cause = ⊥
 
 -- what the last answer shows, where it has something to show

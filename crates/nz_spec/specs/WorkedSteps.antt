@@ -2,7 +2,8 @@
 use Rattle.std.specs.Prelude.{◌≡◌, List, [], ◌∷◌, ◌++◌}
 use Rattle.nz_spec.specs.Term.{bool_sort, int_sort, verum, falsum, integer, conjunction, disjunction, exclusion, equality, choice, Term, apply, no_terms}
 use Rattle.nz_spec.specs.Normal.{negated, paired}
-use Rattle.nz_spec.specs.TruthTables.{a_term, b_term, c_term, of_three}
+use Rattle.nz_spec.specs.Samples.{a_term}
+use Rattle.nz_spec.specs.TruthTables.{b_term, c_term, of_three}
 use Rattle.nz_spec.specs.Literal.{Literal, Clause, clause_of, resolvent}
 use Rattle.nz_spec.specs.Gates.{holds, fails, gate_clauses}
 use Rattle.nz_spec.specs.Steps.{Step, given_step, gate_step, resolve_step, IsDerivation}
@@ -60,8 +61,8 @@ pub record HasResolvents : Type 0 where
 abbrev pub opposites : List Term
 opposites = a_term ∷ negated a_term ∷ []
 
-abbrev pub refutation : List Step
-refutation =
+abbrev pub refuting_steps : List Step
+refuting_steps =
     given_step 0 ∷ given_step 1 ∷ gate_step (negated a_term) 0
     ∷ resolve_step 1 2 (holds (negated a_term)) ∷ resolve_step 0 3 a_true ∷ []
 
@@ -72,4 +73,4 @@ refuting_clauses =
 
 -- The last step gives the empty clause.
 abbrev pub HasRefutation : Type 0
-HasRefutation = IsDerivation opposites refutation (refuting_clauses ++ [] ∷ [])
+HasRefutation = IsDerivation opposites refuting_steps (refuting_clauses ++ [] ∷ [])

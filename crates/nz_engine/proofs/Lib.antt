@@ -1,0 +1,10 @@
+pub mod Adding
+pub mod Deciding
+pub mod GateNames
+pub mod Leveling
+pub mod Modeling
+pub mod Naming
+pub mod Orders
+pub mod Posing
+pub mod Ready
+pub mod Refuting

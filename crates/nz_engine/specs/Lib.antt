@@ -1,0 +1,4 @@
+pub mod Clausal
+pub mod Engines
+pub mod Levels
+pub mod Posed

@@ -1,0 +1,41 @@
+-- The answers to a check, by cases, and what a check is about.
+use Rattle.std.specs.Prelude.{⊤, ℕ, List, ◌++◌, map, flat_map}
+use Rattle.nz_spec.specs.Term as spec
+use Rattle.nz_spec.specs.Table.{Node, term_in}
+use Rattle.nz_spec.specs.Order.{listing_order}
+use Rattle.nz_spec.specs.Decide.{asserted_terms}
+use Rattle.nz_spec.specs.Legal.{Task}
+use Rattle.nz_log.specs.declared.decide.Verdict.{Verdict}
+use Rattle.nz_log.specs.declared.decide.Verdict.TheVariants.{Sat, Unsat}
+use Rattle.nz_log.specs.declared.lits.Lit.{Lit}
+use Rattle.nz_log.specs.declared.stop.Stop.{Stop}
+use Rattle.nz_log.specs.declared.stop.Stop.TheVariants.{Spent, Memory}
+use Rattle.nz_log.specs.Lits.{literal_of}
+
+-- the fact of the assignment that was found
+abbrev pub IfSat : Verdict → (List (ℕ × spec.Value) → Type 0) → Type 0
+IfSat (Sat assign) P = P assign
+IfSat (Unsat id) P = ⊤
+
+-- the fact of the clause that was derived
+abbrev pub IfUnsat : Verdict → (ℕ → Type 0) → Type 0
+IfUnsat (Sat assign) P = ⊤
+IfUnsat (Unsat id) P = P id
+
+-- the fact where there is no assignment
+abbrev pub OnUnsat : Verdict → Type 0 → Type 0
+OnUnsat (Sat assign) P = ⊤
+OnUnsat (Unsat id) P = P
+
+-- the fact where every unit was used
+abbrev pub OnSpent : Stop → Type 0 → Type 0
+OnSpent Spent P = P
+OnSpent Memory P = ⊤
+
+-- What a search is asked: of the asserted terms and the assumed literals, and of all that they are made of.
+abbrev pub task_in : List Node → List (List ℕ) → List Lit → Task
+task_in ns levels assumed = record {
+  asserted = asserted_terms ns levels;
+  assumed = map (literal_of ns) assumed;
+  listed = flat_map listing_order (asserted_terms ns levels ++ map (λ (l : Lit). term_in ns l.term) assumed);
+}

@@ -1,0 +1,117 @@
+//! What decides checks: the trait that a search implements, and its answers.
+use crate::lits::Lit;
+use crate::note::Note;
+use crate::origins::ClauseId;
+use crate::steps::Step;
+use crate::stop::Stop;
+use nz_base::{Memory, Work};
+use nz_term::{Assign, TermId, Terms};
+
+/// What a check found.
+#[derive(Debug, Drop)]
+pub enum Verdict {
+    /// Values of constants, under which the asserted terms and the assumed literals are true. A constant that isn't among them may have
+    /// any value.
+    Sat(Assign),
+    /// No assignment makes them true. The clause of this number says so: it follows from the asserted terms, and each of its literals is the
+    /// negation of an assumed one.
+    Unsat(ClauseId),
+}
+
+/// A search that decides whether asserted terms and assumed literals can all be true. Terms are asserted by levels.
+pub trait Decide: Drop {
+    ghost use Rattle.std.specs.Prelude.{◌≡◌, ℕ, ◌-◌, ◌<◌, ◌≤◌, List, [], ◌∷◌, ◌++◌, length, map, take, All, Option, Some, IsSome, OnOk, OnErr, IfOk, IfErr};
+    ghost use Rattle.nz_spec.specs.Gates.{IsGated};
+    ghost use Rattle.nz_spec.specs.Table.{Node, term_in, assignment_by};
+    ghost use Rattle.nz_spec.specs.Literal.{AreTrueLiterals};
+    ghost use Rattle.nz_spec.specs.Decide.{AreInTable, asserted_numbers, with_number, asserted_terms, IsFrontOfTable, AreModelValues};
+    ghost use Rattle.nz_spec.specs.Legal.{at_first, IsDeadEnd, AreLegal};
+    ghost use Rattle.nz_spec.specs.Steps.{Derives};
+    ghost use Rattle.nz_spec.specs.Work.{IsSpent};
+    ghost use Rattle.nz_log.specs.declared.lits.Lit.{Lit};
+    ghost use Rattle.nz_log.specs.Lits.{literal_of, clause_in, AreConsistent, AreNegations};
+    ghost use Rattle.nz_log.specs.Notes.{noted_list, AreNotedWithin};
+    ghost use Rattle.nz_log.specs.Sound.{AreWithin};
+    ghost use Rattle.nz_log.specs.Spelling.{step_of};
+    ghost use Rattle.nz_log.specs.Verdicts.{IfSat, IfUnsat, OnUnsat, OnSpent, task_in};
+
+    /// The numbers of the asserted terms by level, the oldest level first.
+    ghost levels: { Self → List (List ℕ) };
+
+    /// The table of the last check, or a front of it: each later table begins with it, so that a number keeps its term.
+    ghost table: { Self → List Node };
+
+    /// The literals of the clause of a number, where it can be asked for.
+    ghost clause: { Self → ℕ → Option (List Lit) };
+
+    /// Begins a level, in which nothing is asserted yet.
+    ///
+    /// # Errors
+    ///
+    /// `Memory`. Then the levels are as before.
+    fn push(&mut self) -> Result<(), Memory>
+        ensures ok { OnOk result (levels self.new ≡ levels self.old ++ [] ∷ []) }
+        ensures err { OnErr result (levels self.new ≡ levels self.old) }
+        ensures table { table self.new ≡ table self.old };
+
+    /// Takes the last levels off, so many of them. Takes no memory.
+    fn pop(&mut self, count: usize)
+        requires { count ≤ length (levels self.old) }
+        ensures rest { levels self.new ≡ take (length (levels self.old) - count) (levels self.old) }
+        ensures table { table self.new ≡ table self.old };
+
+    /// Asserts the term of this number in the last level.
+    ///
+    /// # Errors
+    ///
+    /// `Memory`. Then the levels are as before.
+    fn add(&mut self, term: TermId) -> Result<(), Memory>
+        requires { 0 < length (levels self.old) }
+        ensures ok { OnOk result (levels self.new ≡ with_number (levels self.old) term) }
+        ensures err { OnErr result (levels self.new ≡ levels self.old) }
+        ensures table { table self.new ≡ table self.old };
+
+    /// Decides whether some assignment makes every asserted term and every assumed literal true. The steps go into the work list, which is to
+    /// have none yet.
+    ///
+    /// # Errors
+    ///
+    /// `Spent` where every unit of the work list is used and one more was wanted. `Memory`. After either, what is asserted stands as before.
+    fn check(
+        &mut self,
+        terms: &Terms,
+        assumed: &[Lit],
+        work: &mut Work<Note>,
+    ) -> Result<Verdict, Stop>
+        requires known { AreInTable terms.now (levels self.old) }
+        requires within { AreWithin terms.now assumed.now }
+        requires grown { IsFrontOfTable (table self.old) terms.now }
+        requires no_steps { work.old.lines ≡ [] }
+
+        // What is asserted and what is assumed is of the gate table, and no assumed literal is the negation of another.
+        requires gated { All (λ i. IsGated (term_in terms.now i)) (asserted_numbers (levels self.old)) }
+        requires assumed_gated { All (λ l. IsGated (term_in terms.now l.term)) assumed.now }
+        requires consistent { AreConsistent assumed.now }
+        ensures sat { IfOk result (λ v. IfSat v (AreModelValues terms.now (asserted_terms terms.now (levels self.old)) [])) }
+        ensures sat_assumed { IfOk result (λ v. IfSat v (λ ps. AreTrueLiterals (assignment_by terms.now ps) (map (literal_of terms.now) assumed.now))) }
+        ensures unsat { IfOk result (λ v. OnUnsat v (IsDeadEnd (task_in terms.now (levels self.old) assumed.now) at_first)) }
+        ensures derived { IfOk result (λ v. IfUnsat v (λ id. AreNegations assumed.now (clause self.new id))) }
+
+        // Each step is one that a search may take there, whatever comes of it.
+        ensures legal { AreLegal (task_in terms.now (levels self.old) assumed.now) at_first (noted_list terms.now work.new).lines }
+        ensures named { AreNotedWithin terms.now work.new.lines }
+        ensures spent { IfErr result (λ s. OnSpent s (IsSpent work.new)) }
+        ensures limit { work.new.limit ≡ work.old.limit }
+        ensures levels { levels self.new ≡ levels self.old }
+        ensures table { OnOk result (table self.new ≡ terms.now) }
+        ensures front { IsFrontOfTable (table self.new) terms.now };
+
+    /// The derivation of a clause from the asserted terms: steps, numbered from 0, of which the last gives it.
+    ///
+    /// # Errors
+    ///
+    /// `Memory`.
+    fn steps(&self, id: ClauseId) -> Result<Vec<Step>, Memory>
+        requires derived { IsSome (clause self.now id) }
+        ensures derives { IfOk result (λ steps. (c : List Lit) → clause self.now id ≡ Some c → Derives (asserted_terms (table self.now) (levels self.now)) (map (step_of (table self.now)) steps.items) (clause_in (table self.now) c)) };
+}

@@ -1,0 +1,183 @@
+-- Under an assignment that makes the asserted terms, the assumed literals and the decisions true, each literal of the trail is true: where a clause
+-- is dead there is none.
+use Rattle.std.proofs.Common.{◌≡◌, ℕ, zero, suc, ◌<◌, ◌||◌, Bool, true, false, not, List, [], ◌∷◌, ◌++◌, length, take, drop, map, Option, Some, None, ◌⊎◌, inl, inr, refl, sym, ap, subst, ◌∙◌, true≢false, arith}
+use Rattle.std.specs.Prelude.{All, Contains, IsTrue, IsSome, filter, nat_lt, slice_get, unwrap_or}
+use Rattle.std.specs.List.{AllByRecursion, list_any}
+use Rattle.std.proofs.lemmas.Bool.Decides.{Decides-ltb}
+use Rattle.std.proofs.lemmas.List.{get_or-map, map-append, take-append-drop}
+use Rattle.std.proofs.lemmas.List.Concat.{flat_map-append}
+use Rattle.std.proofs.lemmas.List.Elements.{All-contains, All-from_recursion}
+use Rattle.std.proofs.lemmas.Option.{get_or_from_slice_get, slice_get_within, slice_get-get_or}
+use Rattle.nz_lists.proofs.Elements.{AllByRecursion-map}
+use Rattle.nz_lists.proofs.Tests.{no_contradiction}
+use Rattle.nz_spec.specs.Decide.{asserted_numbers, asserted_terms}
+use Rattle.nz_spec.specs.Legal.{literal_by, literals_by}
+use Rattle.nz_spec.specs.Literal.{Literal, AreTrueLiterals, IsClauseTrue, are_same_sign, is_literal_true, term_literal}
+use Rattle.nz_spec.specs.Model.{IsAssignment}
+use Rattle.nz_spec.specs.Table.{Node, IsTable, term_in}
+use Rattle.nz_spec.specs.Term.{Term, Assignment, IsTrueUnder, apply, falsum, no_terms, is_true, value_of}
+use Rattle.nz_log.specs.declared.lits.Lit.{Lit}
+use Rattle.nz_log.specs.Lits.{are_same_lit, clause_in, literal_of, negated_lit}
+use Rattle.nz_log.specs.Logs.{Entry, LogState, IsLive, entry_at, literals_at}
+use Rattle.nz_log.specs.Sound.{ClausesAreTrue, IsLog, live_terms}
+use Rattle.nz_sat.specs.declared.trail.Assigned.{Assigned}
+use Rattle.nz_sat.specs.Clauses.{IsAssumed, IsDead, IsImplied, IsReason, IsReasonOf}
+use Rattle.nz_sat.specs.Numbers.{number_of, numbered}
+use Rattle.nz_sat.specs.Trails.{EachBehind, IsFalseOn, is_decision}
+use Rattle.nz_sat.proofs.Backward.{front_place}
+use Rattle.nz_sat.proofs.Chains.{filter_has, has_first, has_found, has_more, lit_is}
+use Rattle.nz_sat.proofs.Clausal.{other_lit, same_lit}
+use Rattle.nz_sat.proofs.Marks.{false_entry}
+use Rattle.nz_sat.proofs.Numbering.{number_place, unnamed}
+use Rattle.nz_sat.proofs.Trailing.{assigned_place}
+
+-- ---- Atoms by their numbers
+
+-- a named literal has its number among the atoms
+pub number_at : (atoms : List ℕ) (t : ℕ) → Contains atoms t → (slice_get atoms (unwrap_or (number_of atoms t) 0) ≡ Some t)
+number_at atoms t has =
+    elim (number_of atoms t) as (λ o. number_of atoms t ≡ o → slice_get atoms (unwrap_or o 0) ≡ Some t) [
+      | None ↦ λ none. absurd (unnamed atoms t has none)
+      | Some n ↦ λ at. number_place atoms t n at
+    ] refl
+
+pub literal_numbered : (ns : List Node) (atoms : List ℕ) (l : Lit) → Contains atoms l.term → literal_by (map (term_in ns) atoms) (numbered atoms l) ≡ literal_of ns l
+literal_numbered ns atoms l has =
+    let n = unwrap_or (number_of atoms l.term) 0 in
+    let at = number_at atoms l.term has in
+    let inside : n < length atoms = slice_get_within atoms n l.term at in
+    ap (λ (t : Term). term_literal t l.sign)
+    (get_or-map (term_in ns) atoms n l.term (apply falsum no_terms) inside ∙ ap (term_in ns) (get_or_from_slice_get atoms n l.term l.term at))
+
+pub literals_numbered : (ns : List Node) (atoms : List ℕ) (c : List Lit) → ((l : Lit) → Contains c l → Contains atoms l.term)
+    → literals_by (map (term_in ns) atoms) (map (numbered atoms) c) ≡ clause_in ns c
+literals_numbered ns atoms [] named = refl
+literals_numbered ns atoms (l ∷ c) named =
+    let first = literal_numbered ns atoms l (named l (has_first l c)) in
+    let rest = literals_numbered ns atoms c (λ m has. named m (has_more l m c has)) in
+    λ i. first i ∷ rest i
+
+-- ---- Lists
+
+recursion_left : {X : Type 0} (P : X → Type 0) (xs ys : List X) → AllByRecursion P (xs ++ ys) → AllByRecursion P xs
+recursion_left P [] ys h = tt
+recursion_left P (x ∷ xs) ys h = (h.0, recursion_left P xs ys h.1)
+
+recursion_has : {X Y : Type 0} (P : Y → Type 0) (f : X → Y) (xs : List X) (x : X) → AllByRecursion P (map f xs) → Contains xs x → P (f x)
+recursion_has P f xs x h has = All-contains (λ y. P (f y)) xs x (All-from_recursion (λ y. P (f y)) xs (AllByRecursion-map P f xs h)) has
+
+either_is : (b c : Bool) → IsTrue (b || c) → IsTrue b ⊎ IsTrue c
+either_is true c h = inl h
+either_is false c h = inr h
+
+-- one of them passes
+some_true : {X Y : Type 0} (p : Y → Bool) (f : X → Y) (xs : List X) → IsTrue (list_any p (map f xs)) → (x : X) × Contains xs x × IsTrue (p (f x))
+some_true p f [] h = absurd (true≢false (sym h))
+some_true p f (x ∷ xs) h =
+    elim (either_is (p (f x)) (list_any p (map f xs)) h) [
+      | inl here ↦ (x, has_first x xs, here)
+      | inr later ↦ let r = some_true p f xs later in (r.0, has_more x r.0 xs r.1, r.2)
+    ]
+
+signs_clash : (sign b : Bool) → IsTrue (are_same_sign sign b) → IsTrue (are_same_sign (not sign) b) → ⊥
+signs_clash true b h k = no_contradiction b h k
+signs_clash false b h k = no_contradiction b k h
+
+no_entry : IsSome {T = Entry} None → ⊥
+no_entry h = cc
+
+-- ---- Clauses
+
+module _ (clauses : ClausesAreTrue) (ns : List Node) (table : IsTable ns) (levels : List (List ℕ)) (log : LogState) (order : IsLog ns levels log)
+    (a : Assignment) (sorts : IsAssignment a) (hold : AllByRecursion (IsTrueUnder a) (asserted_terms ns levels)) where
+  abbrev Holds : Lit → Type 0
+  Holds l = IsTrue (is_literal_true a (literal_of ns l))
+
+  fronts_hold : (level : ℕ) → AllByRecursion (IsTrueUnder a) (live_terms ns levels level)
+  fronts_hold level =
+      let front = take (suc level) levels in
+      let back = drop (suc level) levels in
+      let parts : asserted_terms ns levels ≡ map (term_in ns) (asserted_numbers front) ++ map (term_in ns) (asserted_numbers back) =
+      ap (asserted_terms ns) (sym (take-append-drop (suc level) levels)) ∙ ap (map (term_in ns)) (flat_map-append (λ (l : List ℕ). l) front back)
+      ∙ map-append (term_in ns) (asserted_numbers front) (asserted_numbers back) in
+      recursion_left (IsTrueUnder a) (map (term_in ns) (asserted_numbers front)) (map (term_in ns) (asserted_numbers back))
+      (subst (AllByRecursion (IsTrueUnder a)) parts hold)
+
+  -- each clause of the log is true
+  pub clause_true : (i : ℕ) → IsLive log i → IsClauseTrue a (clause_in ns (literals_at log i))
+  clause_true i live =
+      elim (entry_at log i) as (λ o. entry_at log i ≡ o → IsSome o → IsClauseTrue a (clause_in ns (elim o [ None ↦ [] | Some e ↦ e.literals ]))) [
+        | None ↦ λ at some. absurd (no_entry some)
+        | Some e ↦ λ at some. clauses ns table levels log order i e at a sorts (fronts_hold e.level)
+      ] refl live
+
+  -- a literal and its negation aren't both
+  both_hold : (l : Lit) → Holds l → Holds (negated_lit l) → ⊥
+  both_hold l h k = signs_clash l.sign (is_true (value_of a (term_in ns l.term))) h k
+
+  -- what is false on a trail on which each literal holds doesn't hold
+  false_fails : (es : List Assigned) → ((e : Assigned) → Contains es e → Holds e.literal) → (l : Lit) → IsFalseOn es l → Holds l → ⊥
+  false_fails es each l dead h =
+      let x = false_entry es l dead in
+      let place = assigned_place es l.term x.0 x.1 in
+      let turned : x.0.literal ≡ negated_lit l = lit_is x.0.literal (negated_lit l) place.0 x.2 in
+      both_hold l h (subst Holds turned (each x.0 (has_found es place.1.0 x.0 place.1.1)))
+
+  -- ---- The trail
+
+  module _ (atoms : List ℕ) (assumed : List Lit) (es : List Assigned) (implied : EachBehind (IsImplied log) es)
+      (on_trail : All (λ (e : Assigned). Contains atoms e.literal.term) es) (only : All (IsAssumed assumed) es)
+      (assumed_hold : AreTrueLiterals a (map (literal_of ns) assumed))
+      (decided_hold : AreTrueLiterals a (literals_by (map (term_in ns) atoms) (map (λ (e : Assigned). numbered atoms e.literal) (filter is_decision es)))) where
+    decision_holds : (e : Assigned) → Contains es e → is_decision e ≡ true → Holds e.literal
+    decision_holds e has decides =
+        let P : Literal → Type 0 = λ l. IsTrue (is_literal_true a l) in
+        let f : Assigned → ℕ × Bool = λ (x : Assigned). numbered atoms x.literal in
+        let each = AllByRecursion-map P (literal_by (map (term_in ns) atoms)) (map f (filter is_decision es)) decided_hold in
+        let one = recursion_has (λ p. P (literal_by (map (term_in ns) atoms) p)) f (filter is_decision es) e each (filter_has is_decision es e has decides) in
+        subst P (literal_numbered ns atoms e.literal (All-contains (λ (x : Assigned). Contains atoms x.literal.term) es e on_trail has)) one
+
+    given_holds : (e : Assigned) → Contains es e → e.reason ≡ None → Holds e.literal
+    given_holds e has none =
+        elim e.level as (λ n. e.level ≡ n → Holds e.literal) [
+          | zero ↦ λ low.
+              let among = All-contains (IsAssumed assumed) es e only has none low in
+              recursion_has (λ (l : Literal). IsTrue (is_literal_true a l)) (literal_of ns) assumed e.literal assumed_hold among
+          | suc n ↦ λ high.
+              let above : nat_lt 0 (suc n) ≡ true = (Decides-ltb 0 (suc n)).1 (omega arith) in
+              let decides : is_decision e ≡ true =
+              ap (λ (o : Option ℕ). elim o [ None ↦ nat_lt 0 e.level | Some c ↦ false ]) none ∙ ap (nat_lt 0) high ∙ above in
+              decision_holds e has decides
+        ] refl
+
+    reason_holds : (before : List Assigned) → ((e : Assigned) → Contains before e → Holds e.literal) → (l : Lit) (c : ℕ) → IsReason log before l c → Holds l
+    reason_holds before each l c reason =
+        let w = some_true (is_literal_true a) (literal_of ns) (literals_at log c) (clause_true c reason.live) in
+        elim (are_same_lit w.0 l) as (λ b. are_same_lit w.0 l ≡ b → Holds l) [
+          | true ↦ λ same. subst Holds (same_lit w.0 l same) w.2
+          | false ↦ λ differ. absurd (false_fails before each w.0 (reason.others w.0 w.1 (other_lit w.0 l differ)) w.2)
+        ] refl
+
+    entry_holds : (i : ℕ) (e : Assigned) → slice_get es i ≡ Some e → ((x : Assigned) → Contains (take i es) x → Holds x.literal) → Holds e.literal
+    entry_holds i e at each =
+        elim e.reason as (λ o. e.reason ≡ o → IsReasonOf log (take i es) e.literal o → Holds e.literal) [
+          | None ↦ λ none reason. given_holds e (has_found es i e at) none
+          | Some c ↦ λ some reason. reason_holds (take i es) each e.literal c reason
+        ] refl (implied i e at)
+
+    front_holds : (n : ℕ) (i : ℕ) → i < n → (e : Assigned) → slice_get es i ≡ Some e → Holds e.literal
+    front_holds zero i less e at = absurd (omega arith)
+    front_holds (suc n) i less e at =
+        entry_holds i e at (λ x has.
+        let p = front_place es i x has in
+        front_holds n p.0 (omega (arith, p.1)) x p.2)
+
+    trail_holds : (e : Assigned) → Contains es e → Holds e.literal
+    trail_holds e has =
+        front_holds (length es) has.0 has.1 e (slice_get-get_or es has.0 e has.1 ∙ ap Some has.2)
+
+    -- so no clause of the log is dead
+    pub none_dead : (i : ℕ) → IsLive log i → IsDead es (literals_at log i) → ⊥
+    none_dead i live dead =
+        let w = some_true (is_literal_true a) (literal_of ns) (literals_at log i) (clause_true i live) in
+        false_fails es trail_holds w.0 (dead w.0 w.1) w.2

@@ -1,0 +1,111 @@
+-- What a conflict teaches: the clause that is put into the log, and its levels.
+use Rattle.std.proofs.Common.{◌≡◌, ◌≢◌, ℕ, ◌<◌, max, Bool, true, false, inl, inr, List, [], ◌∷◌, ◌++◌, length, Some, None, refl, sym, ap, subst, ◌∙◌, true≢false, arith}
+use Rattle.std.specs.Prelude.{All, Contains, Option}
+use Rattle.std.specs.Ordering.{nat_cmp, ord_max}
+use Rattle.std.proofs.lemmas.Bool.{cases_lt}
+use Rattle.std.proofs.lemmas.Bool.Decides.{nat_tests}
+use Rattle.std.proofs.lemmas.List.Elements.{All-contains, All-contains_itself, All-weaker, Contains-append_left, Contains-push, Contains-push_cases}
+use Rattle.nz_spec.specs.Literal.{StandOnce}
+use Rattle.nz_log.specs.declared.lits.Lit.{Lit}
+use Rattle.nz_log.specs.declared.origins.Link.{Link}
+use Rattle.nz_log.specs.Logs.{Entry, LogState, IsLive, Puts, chain_entry, chained, literals_at}
+use Rattle.nz_sat.specs.declared.analyze.Chain.{Chain}
+use Rattle.nz_sat.specs.declared.trail.Assigned.{Assigned}
+use Rattle.nz_sat.specs.Trails.{depth, level_on}
+use Rattle.nz_sat.specs.Clauses.{IsDead}
+use Rattle.nz_sat.specs.Conflicts.{AreLinks, AreUnmarked, IsChain, IsGreatestBut, IsLesson, is_marked}
+use Rattle.nz_sat.proofs.Chains.{chained_once}
+use Rattle.nz_sat.proofs.Marks.{marked_within}
+
+-- ---- The greatest level but one
+
+-- what `max` answers
+pub greater_of : (m n : ℕ) → ord_max nat_cmp m n ≡ max m n
+greater_of m n = grind (arith, nat_tests)
+
+module _ (es : List Assigned) (but : Lit) (c : List Lit) (n : ℕ) (l : Lit) (h : IsGreatestBut es but c n) where
+  kept_reached : 0 < n → (m : Lit) × Contains (c ++ l ∷ []) m × (m ≢ but) × (level_on es m.term ≡ n)
+  kept_reached some = let w = h.reached some in (w.0, Contains-append_left c (l ∷ []) w.0 w.1, w.2, w.3)
+
+  pub greatest_same : l ≡ but → IsGreatestBut es but (c ++ l ∷ []) n
+  greatest_same same = record {
+    most = λ m has other.
+        elim (Contains-push_cases c l m has) [ inl before ↦ h.most m before other | inr is ↦ absurd (other (sym is ∙ same)) ];
+    reached = kept_reached;
+  }
+
+  pub greatest_more : l ≢ but → (k : ℕ) → k ≡ max n (level_on es l.term) → IsGreatestBut es but (c ++ l ∷ []) k
+  greatest_more other k most = record {
+    most = λ m has differs.
+        elim (Contains-push_cases c l m has) [
+          | inl before ↦ let less = h.most m before differs in omega arith
+          | inr is ↦
+              let same : level_on es m.term ≡ level_on es l.term = ap (λ (x : Lit). level_on es x.term) (sym is) in
+              omega arith
+        ];
+    reached = λ some.
+        elim (cases_lt n (level_on es l.term)) [
+          | inl less ↦ (l, Contains-push c l, other, omega arith)
+          | inr atleast ↦
+              let w = kept_reached (omega arith) in
+              (w.0, w.1, w.2, omega (arith, w.3))
+        ];
+  }
+
+-- ---- The clause in the log
+
+-- what holds of each that a list has holds of all
+pub all_from : {X : Type 0} (P : X → Type 0) (xs : List X) → ((x : X) → Contains xs x → P x) → All P xs
+all_from P xs f = All-weaker (Contains xs) P f xs (All-contains_itself xs)
+
+puts_literals : (old new : LogState) (id : ℕ) (e : Entry) → Puts old id e new → literals_at new id ≡ e.literals
+puts_literals old new id e p = ap (λ (o : Option Entry). elim o [ None ↦ [] | Some x ↦ x.literals ]) p.made
+
+-- the links resolve on terms of the table
+pub links_within : (s : LogState) (es : List Assigned) (n : ℕ) (ks : List Link) → All (λ (e : Assigned). e.literal.term < n) es → AreLinks s es ks
+    → All (λ (k : Link). k.literal.term < n) ks
+links_within s es n ks within links =
+    All-weaker (λ (k : Link). IsLive s k.clause × ((e : Assigned) × Contains es e × (e.literal.term ≡ k.literal.term))) (λ (k : Link). k.literal.term < n)
+    (λ k w. let less = All-contains (λ (e : Assigned). e.literal.term < n) es w.1.0 within w.1.1 in omega (arith, w.1.2, less)) ks links
+
+-- ---- The lesson
+
+unless : (b : Bool) → (b ≡ true → ⊥) → b ≡ false
+unless true f = absurd (f refl)
+unless false f = refl
+
+module _ (old new : LogState) (es : List Assigned) (dead : ℕ) (marks : List Bool) (c : Chain) (chain : IsChain old es dead marks c) where
+  -- the marks are those of the clause, within the list
+  pub literals_within : (m : Lit) → Contains (chained old (literals_at old dead) c.links.items) m → m.term < length marks
+  literals_within m has = marked_within marks m.term (chain.marked.each m has)
+
+  pub all_unmarked : (left : List Bool) → ((t : ℕ) → is_marked left t ≡ true → is_marked marks t ≡ true)
+      → ((m : Lit) → Contains (chained old (literals_at old dead) c.links.items) m → is_marked left m.term ≡ false) → AreUnmarked left
+  all_unmarked left fewer off t = unless (is_marked left t) (λ on.
+      let w = chain.marked.only t (fewer t on) in
+      true≢false (sym on ∙ ap (is_marked left) (sym w.2) ∙ off w.0 w.1))
+
+  module _ (id : ℕ) (puts : Puts old id (chain_entry old dead c.links.items) new) where
+    pub literals_are : literals_at new id ≡ chained old (literals_at old dead) c.links.items
+    literals_are = puts_literals old new id (chain_entry old dead c.links.items) puts
+
+    pub taught : (level : ℕ) → 0 < depth es → IsGreatestBut es c.literal (literals_at new id) level
+        → IsLesson new es (record { clause = id; literal = c.literal; level = level })
+    taught level above greatest =
+        record {
+          live = puts.live;
+          once = subst StandOnce (sym literals_are) (chained_once old (literals_at old dead) c.links.items chain.some);
+          dead = subst (IsDead es) (sym literals_are) chain.dead_too;
+          has = subst (λ (l : List Lit). Contains l c.literal) (sym literals_are) chain.has;
+          last = chain.last;
+          earlier =
+              elim (cases_lt level (depth es)) [
+                | inl less ↦ less
+                | inr atleast ↦
+                    let w = greatest.reached (omega arith) in
+                    let less = chain.others w.0 (subst (λ (l : List Lit). Contains l w.0) literals_are w.1) w.2 in
+                    absurd (omega (arith, less, w.3))
+              ];
+          others = greatest.most;
+          reached = greatest.reached;
+        }

@@ -1,0 +1,59 @@
+-- A clause by how it stands.
+use Rattle.std.proofs.Common.{List, refl, sym, subst}
+use Rattle.std.specs.Prelude.{All}
+use Rattle.std.proofs.lemmas.List.Elements.{All-push}
+use Rattle.nz_log.specs.declared.lits.Lit.{Lit}
+use Rattle.nz_log.specs.Logs.{literals_at}
+use Rattle.nz_sat.specs.Clauses.{HasReasonOf, IsImplied, IsOpen, IsUnit}
+use Rattle.nz_sat.specs.Trails.{EachBehind, GoesOn, TrailState, implied}
+use Rattle.nz_sat.proofs.Clausal.{free_missing}
+use Rattle.nz_sat.proofs.Visiting.{goes_one, goes_same, unit_implied, unit_open}
+use Rattle.nz_sat.proofs.propagate.visit.Goals as goal
+
+unit_left : (c : goal.After-imply-arg-1) → IsUnit c.args.trail.now.entries (literals_at c.args.log.now c.args.id) c.in-Unit.literal
+unit_left c = subst (λ (xs : List Lit). IsUnit c.args.trail.now.entries xs c.in-Unit.literal) c.clause.ensures.literals c.in-Unit.ensures.stands
+
+pub imply-requires : goal.imply-requires
+imply-requires c =
+    let unit = unit_left c in
+    record {
+      free = free_missing c.args.trail.now.entries c.in-Unit.literal.term unit.free;
+      within = c.requires.usable.within c.in-Unit.literal unit.has;
+    }
+
+pub returns-in-Open-clause-all_open : goal.returns-in-Open-clause-all_open
+returns-in-Open-clause-all_open c e = subst (IsOpen c.args.trail.now.entries) c.clause.ensures.literals c.in-Open.ensures.stands
+
+pub returns-in-Unit-clause-implied : goal.returns-in-Unit-clause-implied
+returns-in-Unit-clause-implied c before =
+    let s = c.args.log.now in
+    let es = c.args.trail.now.entries in
+    let l = c.in-Unit.literal in
+    let unit : IsUnit es (literals_at s c.args.id) l = subst (λ (xs : List Lit). IsUnit es xs l) c.clause.ensures.literals c.in-Unit.ensures.stands in
+    subst (λ (t : TrailState). EachBehind (IsImplied s) t.entries) (sym c.imply.ensures.put)
+    (unit_implied s es c.args.trail.now.size c.args.id c.requires.usable l unit before)
+
+pub returns-in-Unit-clause-all_open : goal.returns-in-Unit-clause-all_open
+returns-in-Unit-clause-all_open c e =
+    let s = c.args.log.now in
+    let es = c.args.trail.now.entries in
+    let l = c.in-Unit.literal in
+    let unit : IsUnit es (literals_at s c.args.id) l = subst (λ (xs : List Lit). IsUnit es xs l) c.clause.ensures.literals c.in-Unit.ensures.stands in
+    subst (λ (t : TrailState). IsOpen t.entries (literals_at s c.args.id)) (sym c.imply.ensures.put)
+    (unit_open s es c.args.trail.now.size c.args.id c.requires.usable l unit)
+
+pub returns-in-Unit-clause-reasons : goal.returns-in-Unit-clause-reasons
+returns-in-Unit-clause-reasons c us has before =
+    subst (λ (t : TrailState). All (HasReasonOf us) t.entries) (sym c.imply.ensures.put)
+    (All-push (HasReasonOf us) c.args.trail.now.entries (implied c.args.trail.now.entries c.in-Unit.literal c.args.id) before has)
+
+pub returns-in-Unit-clause-goes_on : goal.returns-in-Unit-clause-goes_on
+returns-in-Unit-clause-goes_on c =
+    let es = c.args.trail.now.entries in
+    subst (λ (t : TrailState). GoesOn es t.entries) (sym c.imply.ensures.put) (goes_one es (implied es c.in-Unit.literal c.args.id) refl refl)
+
+pub returns-in-Open-clause-goes_on : goal.returns-in-Open-clause-goes_on
+returns-in-Open-clause-goes_on c = goes_same c.args.trail.now.entries
+
+pub returns-in-Dead-clause-goes_on : goal.returns-in-Dead-clause-goes_on
+returns-in-Dead-clause-goes_on c = goes_same c.args.trail.now.entries

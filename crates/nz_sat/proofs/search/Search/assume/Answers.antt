@@ -1,0 +1,53 @@
+-- Each arm by what is known of the literal's term.
+use Rattle.std.proofs.Common.{◌≡◌, ℕ, false, length, get_or, None, ap, sym, subst, ◌∙◌, rules}
+use Rattle.std.specs.Prelude.{All, Contains}
+use Rattle.std.proofs.lemmas.List.Elements.{Contains-get_or}
+use Rattle.std.proofs.lemmas.Option.{IfSome_then}
+use Rattle.nz_log.specs.Lits.{are_same_lit}
+use Rattle.nz_log.specs.Logs.{literals_at}
+use Rattle.nz_sat.specs.Clauses.{HasReasonOf, IsImplied, IsUsable, Waits}
+use Rattle.nz_sat.specs.Searching.{ids}
+use Rattle.nz_sat.specs.Trails.{EachBehind, GoesOn, TrailState, assigned, with_entry}
+use Rattle.nz_sat.proofs.Assuming.{assume_fails, assume_goes, entry, put_search, put_waits}
+use Rattle.nz_sat.proofs.Clausal.{other_lit}
+use Rattle.nz_sat.proofs.search.Search.assume.Goals as goal
+
+pub propagate-requires-clause-usable : goal.propagate-requires-clause-usable
+propagate-requires-clause-usable c l i has =
+    subst (λ (n : ℕ). IsUsable c.args.log.now n i) (sym (ap (λ (t : TrailState). t.size) c.assume.ensures.put)) (c.requires.usable l i has)
+
+pub returns-in-Some-2-clause-comes : goal.returns-in-Some-2-clause-comes
+returns-in-Some-2-clause-comes c held assumed may =
+    let e = c.in-Some.entry in
+    let differ : are_same_lit e.literal c.args.literal ≡ false = search rules in
+    assume_fails c.args.log.now held assumed c.args.literal c.args.self.now may c.requires.undecided e (sym c.in-Some.ensures.assigned)
+    (other_lit e.literal c.args.literal differ)
+
+pub returns-in-None-clause-comes : goal.returns-in-None-clause-comes
+returns-in-None-clause-comes c held assumed may =
+    let s = c.args.self.now in
+    let log = c.args.log.now in
+    let l = c.args.literal in
+    let h = may.search in
+    let p = c.propagate.ensures in
+    let t = c.propagate.new.trail in
+    let put = c.assume.ensures.put in
+    let free : assigned s.trail.entries l.term ≡ None = sym c.in-None.ensures.assigned in
+    let size : t.size ≡ s.trail.size = p.size ∙ ap (λ (u : TrailState). u.size) put in
+    let goes : GoesOn (with_entry s.trail (entry log held assumed l s may c.requires.undecided)).entries t.entries =
+    subst (λ (u : TrailState). GoesOn u.entries t.entries) put p.goes_on in
+    let before = put_search log held assumed l s may c.requires.undecided free t size goes in
+    let I : TrailState → Type 0 = λ u. EachBehind (IsImplied log) u.entries in
+    let R : TrailState → Type 0 = λ u. All (HasReasonOf (ids held)) u.entries in
+    let waits : (i : ℕ) → Contains (ids held) i → Waits c.assume.new.self.entries c.len-from.result (literals_at log i) =
+    λ i has.
+    let at : Waits c.assume.new.self.entries (length s.trail.entries) (literals_at log i) =
+    subst (λ (u : TrailState). Waits u.entries (length s.trail.entries) (literals_at log i)) (sym put)
+    (put_waits log held assumed l s may c.requires.undecided free t size goes i has) in
+    subst (λ (n : ℕ). Waits c.assume.new.self.entries n (literals_at log i)) (sym c.len-from.ensures.count) at in
+    assume_goes log held assumed l s may c.requires.undecided free t size goes c.propagate.result (p.order c.assume.ensures.order)
+    (p.implied (subst I (sym put) before.implied))
+    (p.reasons (ids held) h.only (subst R (sym put) before.reasons))
+    (λ told k d inside.
+    p.all_open told (get_or (ids held) k d) (h.listed k d inside) (waits (get_or (ids held) k d) (Contains-get_or (ids held) k d inside)))
+    (IfSome_then c.propagate.result p.dead (λ id q. (h.only q.0.0 id q.0.1, q.1)))

@@ -1,0 +1,7 @@
+-- The term is an atom.
+use Rattle.std.proofs.Common.{sym, ◌∙◌}
+use Rattle.nz_sat.proofs.Numbering.{unnamed}
+use Rattle.nz_sat.proofs.search.Search.decide.Goals as goal
+
+pub unreachable-requires : goal.unreachable-requires
+unreachable-requires c = unnamed c.args.self.now.atoms c.args.term c.requires.named (sym c.number.ensures.number ∙ c.in_default.is)

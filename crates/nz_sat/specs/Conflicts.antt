@@ -1,0 +1,132 @@
+-- What a conflict teaches.
+use Rattle.std.specs.Prelude.{◌≡◌, ◌≢◌, ℕ, ◌+◌, ◌<◌, ◌≤◌, ◌⊎◌, ◌==◌, ◌&&◌, Bool, true, false, All, List, length, Contains, count_by, slice_index_or, take}
+use Rattle.nz_spec.specs.Literal.{StandOnce}
+use Rattle.nz_spec.specs.Table.{Node}
+use Rattle.nz_log.specs.declared.lits.Lit.{Lit}
+use Rattle.nz_log.specs.Lits.{negated_lit}
+use Rattle.nz_log.specs.declared.origins.Link.{Link}
+use Rattle.nz_log.specs.Logs.{LogState, IsLive, chained, entry_at, literals_at}
+use Rattle.nz_log.specs.Sound.{IsLog}
+use Rattle.nz_sat.specs.declared.analyze.Chain.{Chain}
+use Rattle.nz_sat.specs.declared.analyze.Lesson.{Lesson}
+use Rattle.nz_sat.specs.declared.trail.Assigned.{Assigned}
+use Rattle.nz_sat.specs.Trails.{IsFalseOn, depth, level_on}
+use Rattle.nz_sat.specs.Clauses.{IsDead, IsAssumed}
+
+-- The log keeps each of its clauses, and what was told.
+pub record Grows (old new : LogState) : Type 0 where
+  pub live : (i : ℕ) → IsLive old i → IsLive new i
+  pub kept : (i : ℕ) → IsLive old i → entry_at new i ≡ entry_at old i
+  pub told : new.told ≡ old.told
+
+-- where the trail is over a table, the log stays in order
+abbrev pub StaysSound : List Assigned → LogState → LogState → Type 0
+StaysSound es old new = (ns : List Node) (levels : List (List ℕ)) → All (λ (e : Assigned). e.literal.term < length ns) es → IsLog ns levels old → IsLog ns levels new
+
+-- ---- Marks, by the numbers of terms
+
+abbrev pub is_marked : List Bool → ℕ → Bool
+is_marked marks t = slice_index_or marks t false
+
+-- no term is marked
+abbrev pub AreUnmarked : List Bool → Type 0
+AreUnmarked marks = (t : ℕ) → is_marked marks t ≡ false
+
+-- how many entries of a level are marked
+abbrev pub marked_of : List Bool → ℕ → List Assigned → ℕ
+marked_of marks level es = count_by (λ (e : Assigned). is_marked marks e.literal.term && (e.level == level)) es
+
+-- The terms of these literals that are false are marked, beside those that were.
+pub record MarksFalse (es : List Assigned) (c : List Lit) (old new : List Bool) : Type 0 where
+  pub kept : (t : ℕ) → is_marked old t ≡ true → is_marked new t ≡ true
+  pub marked : (l : Lit) → Contains c l → IsFalseOn es l → is_marked new l.term ≡ true
+  pub only : (t : ℕ) → is_marked new t ≡ true → (is_marked old t ≡ true) ⊎ ((l : Lit) × Contains c l × IsFalseOn es l × (l.term ≡ t))
+
+-- the false ones of these literals are false in a front of the trail
+abbrev pub AreFalseIn : (es front : List Assigned) → List Lit → Type 0
+AreFalseIn es front c = (l : Lit) → Contains c l → IsFalseOn es l → IsFalseOn front l
+
+-- The same, and in a front of the trail that has all these, so many more entries of the level are marked.
+pub record MarksCounted (es : List Assigned) (c : List Lit) (level : ℕ) (old new : List Bool) (more : ℕ) : Type 0 where
+  pub marks : MarksFalse es c old new
+  pub count : (n : ℕ) → AreFalseIn es (take n es) c → marked_of old level (take n es) + more ≡ marked_of new level (take n es)
+
+-- A clause has two literals of the last level.
+pub record HasTwoLast (es : List Assigned) (c : List Lit) : Type 0 where
+  pub first : Lit
+  pub second : Lit
+  pub has_first : Contains c first
+  pub has_second : Contains c second
+  pub differ : first ≢ second
+  pub first_last : level_on es first.term ≡ depth es
+  pub second_last : level_on es second.term ≡ depth es
+
+-- the links rest on live clauses, and resolve on terms of the trail
+abbrev pub AreLinks : LogState → List Assigned → List Link → Type 0
+AreLinks s es ks = All (λ (k : Link). IsLive s k.clause × ((e : Assigned) × Contains es e × (e.literal.term ≡ k.literal.term))) ks
+
+-- Just the terms of these literals are marked.
+pub record AreMarked (c : List Lit) (marks : List Bool) : Type 0 where
+  pub each : (m : Lit) → Contains c m → is_marked marks m.term ≡ true
+  pub only : (t : ℕ) → is_marked marks t ≡ true → (m : Lit) × Contains c m × (m.term ≡ t)
+
+-- The way back along the trail, down to a place: the chain so far comes to a clause whose literals are false before that place, just
+-- its terms are marked, and so many of them are of the last level. Where one is left, there is a link.
+pub record IsOnWayBack (s : LogState) (es : List Assigned) (dead place : ℕ) (marks : List Bool) (ks : List Link) (left : ℕ) : Type 0 where
+  pub links : AreLinks s es ks
+  pub dead_before : IsDead (take place es) (chained s (literals_at s dead) ks)
+  pub marked : AreMarked (chained s (literals_at s dead) ks) marks
+  pub count : left ≡ marked_of marks (depth es) (take place es)
+  pub some : 0 < left
+  pub linked : left ≡ 1 → 0 < length ks
+
+-- The chain from a clause comes to one in which each literal is false, and this one alone of the last level; just its terms are marked.
+pub record IsChain (s : LogState) (es : List Assigned) (dead : ℕ) (marks : List Bool) (c : Chain) : Type 0 where
+  pub links : AreLinks s es c.links.items
+  pub some : 0 < length c.links.items
+  pub dead_too : IsDead es (chained s (literals_at s dead) c.links.items)
+  pub has : Contains (chained s (literals_at s dead) c.links.items) c.literal
+  pub last : level_on es c.literal.term ≡ depth es
+  pub others : (m : Lit) → Contains (chained s (literals_at s dead) c.links.items) m → m ≢ c.literal → level_on es m.term < depth es
+  pub marked : AreMarked (chained s (literals_at s dead) c.links.items) marks
+
+-- A level is the greatest of those of the literals but one.
+pub record IsGreatestBut (es : List Assigned) (but : Lit) (c : List Lit) (level : ℕ) : Type 0 where
+  pub most : (m : Lit) → Contains c m → m ≢ but → level_on es m.term ≤ level
+  pub reached : 0 < level → (m : Lit) × Contains c m × (m ≢ but) × (level_on es m.term ≡ level)
+
+-- A clause in which each literal is false, of which one literal is of the last level; the greatest level of the others is told.
+pub record IsLesson (s : LogState) (es : List Assigned) (l : Lesson) : Type 0 where
+  pub live : IsLive s l.clause
+  pub once : StandOnce (literals_at s l.clause)
+  pub dead : IsDead es (literals_at s l.clause)
+  pub has : Contains (literals_at s l.clause) l.literal
+  pub last : level_on es l.literal.term ≡ depth es
+  pub earlier : l.level < depth es
+  pub others : (m : Lit) → Contains (literals_at s l.clause) m → m ≢ l.literal → level_on es m.term ≤ l.level
+  pub reached : 0 < l.level → (m : Lit) × Contains (literals_at s l.clause) m × (m ≢ l.literal) × (level_on es m.term ≡ l.level)
+
+-- each literal is the negation of an assumed one
+abbrev pub Refutes : List Lit → List Lit → Type 0
+Refutes assumed c = (l : Lit) → Contains c l → Contains assumed (negated_lit l)
+
+-- each literal is false, or the negation of an assumed one
+abbrev pub IsDeadUnder : List Lit → List Assigned → List Lit → Type 0
+IsDeadUnder assumed es c = (l : Lit) → Contains c l → IsFalseOn es l ⊎ Contains assumed (negated_lit l)
+
+-- A literal is false before a place of the trail, and its term is marked.
+pub record IsMarkedBefore (es : List Assigned) (place : ℕ) (marks : List Bool) (l : Lit) : Type 0 where
+  pub false_before : IsFalseOn (take place es) l
+  pub marked : is_marked marks l.term ≡ true
+
+-- The way back to the assumed literals, down to a place: each literal of the clause so far is the negation of an assumed one, or is false
+-- before that place, and marked.
+pub record IsOnWayToAssumed (s : LogState) (es : List Assigned) (dead place : ℕ) (marks : List Bool) (ks : List Link) : Type 0 where
+  pub links : AreLinks s es ks
+  pub each : (assumed : List Lit) → All (IsAssumed assumed) es → IsDeadUnder assumed es (literals_at s dead) → (l : Lit)
+      → Contains (chained s (literals_at s dead) ks) l → Contains assumed (negated_lit l) ⊎ IsMarkedBefore es place marks l
+
+-- where the trail has no entries without a reason but assumed ones, and a clause is dead but for negations of assumed ones, what comes of it
+-- refutes these
+abbrev pub RefutesFrom : List Assigned → (from to : List Lit) → Type 0
+RefutesFrom es from to = (assumed : List Lit) → All (IsAssumed assumed) es → IsDeadUnder assumed es from → Refutes assumed to

@@ -1,0 +1,7 @@
+pub mod Clauses
+pub mod Conflicts
+pub mod Numbers
+pub mod Sats
+pub mod Searching
+pub mod Stored
+pub mod Trails

@@ -1,0 +1,81 @@
+-- A search over clauses of a log, as its callers see it.
+use Rattle.std.specs.Prelude.{◌≡◌, ℕ, ◌<◌, ◌++◌, Bool, All, Contains, List, length, map, filter, nat_le, Option, Some, None, IsSome, option_map, slice_index_or}
+use Rattle.nz_spec.specs.Table.{Node, IsTable}
+use Rattle.nz_spec.specs.Decide.{asserted_terms}
+use Rattle.nz_spec.specs.Legal.{Task, AreLegal, at_first}
+use Rattle.nz_spec.specs.Literal.{are_same_sign, StandOnce}
+use Rattle.nz_spec.specs.Work.{WorkList}
+use Rattle.nz_log.specs.declared.lits.Lit.{Lit}
+use Rattle.nz_log.specs.declared.note.Note.{Note}
+use Rattle.nz_log.specs.Lits.{literal_of}
+use Rattle.nz_log.specs.Logs.{LogState, IsLive, literals_at, level_at}
+use Rattle.nz_log.specs.Notes.{noted_list}
+use Rattle.nz_log.specs.Sound.{IsLog}
+use Rattle.nz_sat.specs.declared.clauses.Held.{Held}
+
+-- The clauses, and by the numbers of terms the truths that the last search left.
+pub record SatState : Type 0 where
+  pub clauses : List Held
+  pub truths : List (Option Bool)
+
+-- ---- Truths
+
+abbrev pub truth_of : SatState → ℕ → Option Bool
+truth_of s t = slice_index_or s.truths t None
+
+-- whether a literal is true, where its term has a truth
+abbrev pub literal_truth : SatState → Lit → Option Bool
+literal_truth s l = option_map (are_same_sign l.sign) (truth_of s l.term)
+
+abbrev pub IsTrueLit : SatState → Lit → Type 0
+IsTrueLit s l = truth_of s l.term ≡ Some l.sign
+
+-- One of the literals is true.
+abbrev pub IsTrueClause : SatState → List Lit → Type 0
+IsTrueClause s c = (l : Lit) × Contains c l × IsTrueLit s l
+
+-- Each clause has a true literal, each assumed literal is true, and each of the atoms has a truth.
+pub record IsSatisfied (log : LogState) (s : SatState) (assumed : List Lit) (atoms : List ℕ) : Type 0 where
+  pub clauses : All (λ (h : Held). IsTrueClause s (literals_at log h.id)) s.clauses
+  pub assumed_hold : All (IsTrueLit s) assumed
+  pub atoms_decided : All (λ (t : ℕ). IsSome (truth_of s t)) atoms
+
+-- ---- Clauses
+
+-- each clause is live in the log, with its level
+abbrev pub AreHeld : LogState → List Held → Type 0
+AreHeld log held = All (λ (h : Held). IsLive log h.id × (level_at log h.id ≡ h.level)) held
+
+-- a clause, with its level
+abbrev pub held_of : LogState → ℕ → Held
+held_of log id = record { id = id; level = level_at log id }
+
+-- those at or below a level
+abbrev pub held_up_to : ℕ → List Held → List Held
+held_up_to level held = filter (λ (h : Held). nat_le h.level level) held
+
+-- The clauses that were held still are, then those that were learned.
+pub record HoldsMore (log : LogState) (old new : List Held) : Type 0 where
+  pub learned : List Held
+  pub joined : new ≡ old ++ learned
+  pub held : AreHeld log new
+
+-- ---- What a search is asked
+
+-- Each term that a clause names is an atom, and each that an assumed literal names. No atom is named twice.
+pub record AreAtoms (log : LogState) (held : List Held) (assumed : List Lit) (atoms : List ℕ) : Type 0 where
+  pub clauses : All (λ (h : Held). All (λ (l : Lit). Contains atoms l.term) (literals_at log h.id)) held
+  pub assumed_named : All (λ (l : Lit). Contains atoms l.term) assumed
+  pub once : StandOnce atoms
+
+-- The task of a search: over a table that has the atoms, and levels of assertions, of which all are asserted.
+pub record IsAsked (ns : List Node) (levels : List (List ℕ)) (log : LogState) (atoms : List ℕ) (assumed : List Lit) (q : Task) : Type 0 where
+  pub table : IsTable ns
+  pub within : All (λ (t : ℕ). t < length ns) atoms
+  pub order : IsLog ns levels log
+  pub asserted : q.asserted ≡ asserted_terms ns levels
+  pub assumed_literals : q.assumed ≡ map (literal_of ns) assumed
+
+-- the lines of a work list, over a table, are legal
+abbrev pub IsLegalWork : List Node → Task → WorkList Note → Type 0
+IsLegalWork ns q work = AreLegal q at_first (noted_list ns work).lines

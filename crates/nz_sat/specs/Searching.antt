@@ -1,0 +1,190 @@
+-- A search under way.
+use Rattle.std.specs.Prelude.{◌≡◌, ℕ, suc, ◌<◌, ◌≤◌, ◌++◌, Bool, All, Contains, List, [], ◌∷◌, length, map, filter, Option, Some, None, IfSome, IsSome, unwrap_or}
+use Rattle.nz_spec.specs.Table.{Node, term_in}
+use Rattle.nz_spec.specs.Legal.{after_lines, at_first, Task}
+use Rattle.nz_spec.specs.Work.{DecisionEntry, LearnedEntry, UnitLine, WorkLine, WorkList, unit_count, with_line}
+use Rattle.nz_log.specs.declared.lits.Lit.{Lit}
+use Rattle.nz_log.specs.declared.note.Note.{Note}
+use Rattle.nz_log.specs.Lits.{AreConsistent}
+use Rattle.nz_log.specs.Logs.{LogState, IsLive, literals_at}
+use Rattle.nz_log.specs.Notes.{noted_list}
+use Rattle.nz_sat.specs.declared.clauses.Held.{Held}
+use Rattle.nz_sat.specs.declared.analyze.Lesson.{Lesson}
+use Rattle.nz_sat.specs.declared.search.Search.{Search}
+use Rattle.nz_sat.specs.declared.trail.Assigned.{Assigned}
+use Rattle.nz_log.specs.Sound.{IsLog}
+use Rattle.nz_sat.specs.Trails.{EachBehind, GoesOn, IsTrail, IsTrueOn, assigned, below, decided, depth, implied, is_decision, with_entry}
+use Rattle.nz_sat.specs.Clauses.{HasReasonOf, IsAssumed, IsDead, IsImplied, IsListed, IsOfSize, IsOpen, Waits, ids_of}
+use Rattle.nz_sat.specs.Conflicts.{AreUnmarked, Grows, IsDeadUnder}
+use Rattle.nz_sat.specs.Numbers.{noted_atoms, number_of, numbered}
+use Rattle.nz_sat.specs.Sats.{AreHeld, HoldsMore, IsAsked, IsLegalWork}
+
+abbrev pub ids : List Held → List ℕ
+ids held = map (λ (h : Held). h.id) held
+
+-- Each clause that is held is in the index, and no other; the terms of clauses and trail are atoms, and have their places in each table; each
+-- entry of the trail that has a reason follows by it.
+pub record IsSearch (log : LogState) (held : List Held) (s : Search) : Type 0 where
+  pub are_held : AreHeld log held
+  pub listed : All (IsListed log s.index) (ids held)
+  pub only : (l : Lit) (i : ℕ) → Contains (ids_of s.index l) i → Contains (ids held) i
+  pub named : All (λ (i : ℕ). All (λ (l : Lit). Contains s.atoms l.term) (literals_at log i)) (ids held)
+  pub on_trail : All (λ (e : Assigned). Contains s.atoms e.literal.term) s.trail.entries
+  pub within : All (λ (t : ℕ). t < s.trail.size) s.atoms
+  pub indexed : IsOfSize s.trail.size s.index
+  pub marks : length s.seen.items ≡ s.trail.size
+  pub unmarked : AreUnmarked s.seen.items
+  pub order : IsTrail s.trail
+  pub implied : EachBehind (IsImplied log) s.trail.entries
+  pub reasons : All (HasReasonOf (ids held)) s.trail.entries
+
+-- each clause is open
+abbrev pub AreOpen : LogState → List Held → List Assigned → Type 0
+AreOpen log held es = All (λ (i : ℕ). IsOpen es (literals_at log i)) (ids held)
+
+-- each clause is open, or is still to be looked at
+abbrev pub AreWaiting : LogState → List Held → List Assigned → ℕ → Type 0
+AreWaiting log held es head = All (λ (i : ℕ). Waits es head (literals_at log i)) (ids held)
+
+-- each clause was open when a decision was taken
+abbrev pub WereOpen : LogState → List Held → List Assigned → Type 0
+WereOpen log held es = (k : ℕ) → k < depth es → AreOpen log held (below k es)
+
+-- The work list, over each table, tells the atoms, the decisions of the trail, and what was learned: clauses that are held.
+pub record IsNoted (log : LogState) (held : List Held) (atoms : List ℕ) (es : List Assigned) (work : WorkList Note) : Type 0 where
+  pub named : (ns : List Node) → (after_lines at_first (noted_list ns work).lines).atoms ≡ map (term_in ns) atoms
+  pub decided : (ns : List Node) → (after_lines at_first (noted_list ns work).lines).decided ≡ map (λ (e : Assigned). numbered atoms e.literal) (filter is_decision es)
+  pub learned : (ns : List Node) → All (λ (c : List (ℕ × Bool)). (i : ℕ) × Contains (ids held) i × (map (numbered atoms) (literals_at log i) ≡ c)) (after_lines at_first (noted_list ns work).lines).learned
+
+-- ---- Before the first decision
+
+-- Nothing is decided, and each clause is open where none is told dead.
+pub record Starts (log : LogState) (held : List Held) (s : Search) (told : Option ℕ) : Type 0 where
+  pub search : IsSearch log held s
+  pub by_reasons : All (λ (e : Assigned). IsSome e.reason) s.trail.entries
+  pub undecided : depth s.trail.entries ≡ 0
+  pub all_open : told ≡ None → AreOpen log held s.trail.entries
+  pub dead : IfSome told (λ id. Contains (ids held) id × IsDead s.trail.entries (literals_at log id))
+
+-- An assumed literal of an atom may be put on the trail of a search whose clauses are open, before the first decision.
+pub record MayAssume (log : LogState) (held : List Held) (assumed : List Lit) (literal : Lit) (s : Search) : Type 0 where
+  pub search : IsSearch log held s
+  pub all_open : AreOpen log held s.trail.entries
+  pub assumed_only : All (IsAssumed assumed) s.trail.entries
+  pub among : Contains assumed literal
+  pub atom : Contains s.atoms literal.term
+  pub consistent : AreConsistent assumed
+
+-- The same where one more assumed literal is true, or a clause is told that is dead but for negations of assumed literals.
+pub record Assumes (log : LogState) (held : List Held) (assumed : List Lit) (literal : Lit) (es : List Assigned) (s : Search) (told : Option ℕ) : Type 0 where
+  pub search : IsSearch log held s
+  pub assumed_only : All (IsAssumed assumed) s.trail.entries
+  pub undecided : depth s.trail.entries ≡ 0
+  pub kept : (l : Lit) → IsTrueOn es l → IsTrueOn s.trail.entries l
+  pub holds : told ≡ None → IsTrueOn s.trail.entries literal
+  pub all_open : told ≡ None → AreOpen log held s.trail.entries
+  pub dead : IfSome told (λ id. IsLive log id × IsDeadUnder assumed s.trail.entries (literals_at log id))
+
+-- The same where each assumed literal is true.
+pub record AssumesAll (log : LogState) (held : List Held) (assumed : List Lit) (s : Search) (told : Option ℕ) : Type 0 where
+  pub search : IsSearch log held s
+  pub assumed_only : All (IsAssumed assumed) s.trail.entries
+  pub undecided : depth s.trail.entries ≡ 0
+  pub hold : told ≡ None → All (IsTrueOn s.trail.entries) assumed
+  pub all_open : told ≡ None → AreOpen log held s.trail.entries
+  pub dead : IfSome told (λ id. IsLive log id × IsDeadUnder assumed s.trail.entries (literals_at log id))
+
+-- ---- Steps
+
+-- where the atoms are of a table, the log stays in order
+abbrev pub StaysInOrder : List ℕ → LogState → LogState → Type 0
+StaysInOrder atoms old new = (ns : List Node) (levels : List (List ℕ)) → All (λ (t : ℕ). t < length ns) atoms → IsLog ns levels old → IsLog ns levels new
+
+-- where the old lines are legal, so are the new ones
+abbrev pub StaysLegal : List ℕ → LogState → List Assigned → (old new : WorkList Note) → Type 0
+StaysLegal atoms log es old new = (ns : List Node) (levels : List (List ℕ)) (assumed : List Lit) (q : Task) → All (IsAssumed assumed) es
+    → IsAsked ns levels log atoms assumed q → IsLegalWork ns q old → IsLegalWork ns q new
+
+-- the entries that these assumed literals are
+abbrev pub assumed_entries : List Lit → List Assigned
+assumed_entries assumed = map (λ (l : Lit). record { literal = l; level = 0; reason = None }) assumed
+
+-- What each step of a search keeps, also one that ends with no answer.
+pub record Advances (atoms : List ℕ) (es : List Assigned) (log log' : LogState) (held held' : List Held) (work work' : WorkList Note) : Type 0 where
+  pub grows : Grows log log'
+  pub sound : StaysInOrder atoms log log'
+  pub holds_more : HoldsMore log' held held'
+  pub legal : StaysLegal atoms log es work work'
+  pub notes : noted_atoms work'.lines ≡ noted_atoms work.lines
+  pub limit : work'.limit ≡ work.limit
+
+-- what is true under no decision stays so
+abbrev pub KeepsFirst : (es es' : List Assigned) → Type 0
+KeepsFirst es es' = (l : Lit) → IsTrueOn (below 0 es) l → IsTrueOn (below 0 es') l
+
+-- Clauses are open or wait for the entries from a place of the trail on, and were open when a decision was taken.
+pub record MayFollow (log : LogState) (held : List Held) (s : Search) (place : ℕ) : Type 0 where
+  pub search : IsSearch log held s
+  pub were_open : WereOpen log held s.trail.entries
+  pub waits : AreWaiting log held s.trail.entries place
+
+-- the clauses are open, or this one is dead
+abbrev pub OpenOrDead : LogState → List Held → List Assigned → Option ℕ → Type 0
+OpenOrDead log held es None = AreOpen log held es
+OpenOrDead log held es (Some id) = Contains (ids held) id × IsDead es (literals_at log id)
+
+-- The trail goes on, up to a dead clause, if one is told.
+pub record Follows (log : LogState) (held : List Held) (s s' : Search) (told : Option ℕ) : Type 0 where
+  pub search : IsSearch log held s'
+  pub were_open : WereOpen log held s'.trail.entries
+  pub goes_on : GoesOn s.trail.entries s'.trail.entries
+  pub told_so : OpenOrDead log held s'.trail.entries told
+
+-- What a search that goes on keeps of its trail: what is true under no decision, and that no other entry is assumed. Its atoms stay, and no unit
+-- is given back.
+pub record Carries (s s' : Search) (work work' : WorkList Note) : Type 0 where
+  pub atoms : s'.atoms ≡ s.atoms
+  pub first : KeepsFirst s.trail.entries s'.trail.entries
+  pub assumed_only : (assumed : List Lit) → All (IsAssumed assumed) s.trail.entries → All (IsAssumed assumed) s'.trail.entries
+  pub units : unit_count work.lines ≤ unit_count work'.lines
+
+-- the line of a lesson
+abbrev pub learned_line : List ℕ → LogState → Lesson → WorkLine Note
+learned_line atoms log l = UnitLine (LearnedEntry l.level (map (numbered atoms) (literals_at log l.clause)))
+
+-- the entries where a lesson makes a literal true
+abbrev pub after_lesson : List Assigned → Lesson → List Assigned
+after_lesson es l = below l.level es ++ implied (below l.level es) l.literal l.clause ∷ []
+
+-- A clause was learned and noted, and what it makes true stands at a place of the trail.
+pub record Learned (log : LogState) (held : List Held) (s s' : Search) (work work' : WorkList Note) (place : ℕ) : Type 0 where
+  pub search : IsSearch log held s'
+  pub were_open : WereOpen log held s'.trail.entries
+  pub inside : place ≤ length s'.trail.entries
+  pub waits : AreWaiting log held s'.trail.entries place
+  pub noted : IsNoted log held s'.atoms s'.trail.entries work'
+  pub carries : Carries s s' work work'
+  pub unit : unit_count work'.lines ≡ suc (unit_count work.lines)
+  pub within : unit_count work'.lines ≤ work'.limit
+
+-- Each clause is open, and was when a decision was taken, with the work noted.
+pub record Settles (log : LogState) (held : List Held) (s s' : Search) (work work' : WorkList Note) : Type 0 where
+  pub search : IsSearch log held s'
+  pub all_open : AreOpen log held s'.trail.entries
+  pub were_open : WereOpen log held s'.trail.entries
+  pub noted : IsNoted log held s'.atoms s'.trail.entries work'
+  pub carries : Carries s s' work work'
+
+-- Each clause is open, each assumed literal is true, and each atom is decided.
+pub record Satisfies (log : LogState) (held : List Held) (assumed : List Lit) (atoms : List ℕ) (s : Search) : Type 0 where
+  pub search : IsSearch log held s
+  pub all_open : AreOpen log held s.trail.entries
+  pub same : s.atoms ≡ atoms
+  pub hold : All (IsTrueOn (below 0 s.trail.entries)) assumed
+  pub all_decided : All (λ (t : ℕ). IsSome (assigned s.trail.entries t)) s.atoms
+
+-- An atom is decided, and noted.
+pub record Decides (s s' : Search) (term : ℕ) (work work' : WorkList Note) : Type 0 where
+  pub sign : Bool
+  pub trail : s'.trail ≡ with_entry s.trail (decided s.trail.entries (record { term = term; sign = sign }))
+  pub noted : work' ≡ with_line work (UnitLine (DecisionEntry (unwrap_or (number_of s.atoms term) 0) sign))

@@ -1,0 +1,216 @@
+//! Conflict analysis: the clause that a conflict teaches, and the one that refutes the assumed literals.
+ghost use Rattle.std.specs.Prelude.{◌≡◌, ◌≢◌, ℕ, ◌<◌, ◌≤◌, true, false, All, Contains, length, IfOk, OnOk};
+ghost use Rattle.nz_log.specs.declared.lits.Lit.{Lit};
+ghost use Rattle.nz_log.specs.Logs.{IsLive, chained, literals_at};
+ghost use Rattle.nz_sat.specs.Clauses.{IsDead, IsImplied};
+ghost use Rattle.nz_sat.specs.Conflicts.{AreLinks, AreUnmarked, Grows, HasTwoLast, IsChain, IsGreatestBut, IsLesson, MarksCounted, RefutesFrom, StaysSound, is_marked};
+ghost use Rattle.nz_sat.specs.Trails.{EachBehind, IsTrail, depth, level_on};
+
+use crate::order::Order;
+use crate::trail::Trail;
+use nz_base::Memory;
+use nz_log::{ClauseId, Link, Lit, Log};
+use std::alloc::Global;
+
+/// What a conflict teaches: a clause in which each literal is false, with one literal of the last level.
+#[derive(Clone, Copy)]
+pub struct Lesson {
+    pub clause: ClauseId,
+    /// The literal of the last level.
+    pub literal: Lit,
+    /// The greatest level of the others.
+    pub level: usize,
+}
+
+/// Links of a chain, and the literal of the last level that is left.
+#[derive(Drop)]
+struct Chain {
+    links: Vec<Link>,
+    literal: Lit,
+}
+
+/// Marks the terms of the false ones of these literals. Answers how many of those that weren't marked are of the level.
+fn mark(
+    trail: &Trail,
+    order: &mut Order,
+    seen: &mut [bool],
+    literals: &[Lit],
+    level: usize,
+) -> usize
+    requires trail { IsTrail trail.now }
+    requires size { length seen.old ≡ trail.now.size }
+    ensures marks { MarksCounted trail.now.entries literals.now level seen.old seen.new result }
+{
+    let mut count = 0;
+    for literal in literals {
+        if trail.value(*literal) == Some(false) && !seen[literal.term] {
+            seen[literal.term] = true;
+            order.raise(literal.term);
+            if trail.level_of(literal.term) == level {
+                count += 1;
+            }
+        }
+    }
+    count
+}
+
+/// Takes the marks off.
+fn unmark(seen: &mut [bool], literals: &[Lit])
+    requires within { All (λ l. l.term < length seen.old) literals.now }
+    ensures only { (t : ℕ) → is_marked seen.new t ≡ true → is_marked seen.old t ≡ true }
+    ensures unmarked { All (λ l. is_marked seen.new l.term ≡ false) literals.now }
+{
+    for literal in literals {
+        seen[literal.term] = false;
+    }
+}
+
+/// Goes back over the trail and resolves a dead clause with the reasons of its literals, up to the first literal that is the only
+/// one of the last level.
+fn chain_back(
+    alloc: Global,
+    log: &Log,
+    trail: &Trail,
+    order: &mut Order,
+    seen: &mut [bool],
+    dead: ClauseId,
+) -> Result<Chain, Memory>
+    requires live { IsLive log.now dead }
+    requires dead { IsDead trail.now.entries (literals_at log.now dead) }
+    requires two { HasTwoLast trail.now.entries (literals_at log.now dead) }
+    requires implied { EachBehind (IsImplied log.now) trail.now.entries }
+    requires decided { 0 < depth trail.now.entries }
+    requires size { length seen.old ≡ trail.now.size }
+    requires unmarked { AreUnmarked seen.old }
+    ensures chain { IfOk result (λ c. IsChain log.now trail.now.entries dead seen.new c) }
+{
+    let level = trail.level();
+    let count = trail.len();
+    let mut links = Vec::new(alloc);
+    let mut left = mark(trail, order, seen, log.clause(dead), level);
+    for i in (0..count).rev() {
+        let entry = trail.entry(i);
+        if seen[entry.literal.term] {
+            let literal = entry.literal.not();
+            match entry.reason {
+                Some(clause) if left > 1 => {
+                    seen[entry.literal.term] = false;
+                    left -= 1;
+                    left += mark(trail, order, seen, log.clause(clause), level);
+                    links.push(Link { clause, literal })?;
+                }
+                _ => return Ok(Chain { links, literal }),
+            }
+        }
+    }
+    unreachable!()
+}
+
+/// The greatest level of these literals but one.
+fn level_but(trail: &Trail, literals: &[Lit], but: Lit) -> usize
+    ensures greatest { IsGreatestBut trail.now.entries but literals.now result }
+{
+    let mut level = 0;
+    for literal in literals {
+        if !literal.is(but) {
+            level = level.max(trail.level_of(literal.term));
+        }
+    }
+    level
+}
+
+/// Learns from a clause in which each literal is false, two of them of the last level, and puts the clause learned into the log.
+pub fn learn_from(
+    alloc: Global,
+    log: &mut Log,
+    trail: &Trail,
+    order: &mut Order,
+    seen: &mut [bool],
+    dead: ClauseId,
+) -> Result<Lesson, Memory>
+    requires live { IsLive log.old dead }
+    requires dead { IsDead trail.now.entries (literals_at log.old dead) }
+    requires two { HasTwoLast trail.now.entries (literals_at log.old dead) }
+    requires implied { EachBehind (IsImplied log.old) trail.now.entries }
+    requires decided { 0 < depth trail.now.entries }
+    requires size { length seen.old ≡ trail.now.size }
+    requires unmarked { AreUnmarked seen.old }
+    ensures grows { Grows log.old log.new }
+    ensures sound { StaysSound trail.now.entries log.old log.new }
+    ensures lesson { IfOk result (λ l. IsLesson log.new trail.now.entries l) }
+    ensures unmarked { OnOk result (AreUnmarked seen.new) }
+{
+    let Chain { links, literal } = chain_back(alloc, log, trail, order, seen, dead)?;
+    order.decay();
+    let clause = log.chain(dead, &links)?;
+    let literals = log.clause(clause);
+    unmark(seen, literals);
+    let level = level_but(trail, literals, literal);
+    Ok(Lesson {
+        clause,
+        literal,
+        level,
+    })
+}
+
+/// Goes back over the trail and resolves a clause with the reasons of its literals, until only negations of assumed ones are left.
+fn chain_to_assumed(
+    alloc: Global,
+    log: &Log,
+    trail: &Trail,
+    order: &mut Order,
+    seen: &mut [bool],
+    dead: ClauseId,
+) -> Result<Vec<Link>, Memory>
+    requires live { IsLive log.now dead }
+    requires implied { EachBehind (IsImplied log.now) trail.now.entries }
+    requires undecided { depth trail.now.entries ≡ 0 }
+    requires size { length seen.old ≡ trail.now.size }
+    requires unmarked { AreUnmarked seen.old }
+    ensures links { IfOk result (λ v. AreLinks log.now trail.now.entries v.items) }
+    ensures refutes { IfOk result (λ v. RefutesFrom trail.now.entries (literals_at log.now dead) (chained log.now (literals_at log.now dead) v.items)) }
+{
+    let count = trail.len();
+    let mut links = Vec::new(alloc);
+    mark(trail, order, seen, log.clause(dead), 0);
+    for i in (0..count).rev() {
+        let entry = trail.entry(i);
+        if seen[entry.literal.term] {
+            if let Some(clause) = entry.reason {
+                mark(trail, order, seen, log.clause(clause), 0);
+                links.push(Link {
+                    clause,
+                    literal: entry.literal.not(),
+                })?;
+            }
+        }
+    }
+    Ok(links)
+}
+
+/// The clause of the log that says that the assumed literals aren't true together, from one in which each literal is false or the
+/// negation of an assumed one.
+pub fn refutation(
+    alloc: Global,
+    log: &mut Log,
+    trail: &Trail,
+    order: &mut Order,
+    seen: &mut [bool],
+    dead: ClauseId,
+) -> Result<ClauseId, Memory>
+    requires live { IsLive log.old dead }
+    requires implied { EachBehind (IsImplied log.old) trail.now.entries }
+    requires undecided { depth trail.now.entries ≡ 0 }
+    requires size { length seen.old ≡ trail.now.size }
+    requires unmarked { AreUnmarked seen.old }
+    ensures grows { Grows log.old log.new }
+    ensures sound { StaysSound trail.now.entries log.old log.new }
+    ensures live { IfOk result (IsLive log.new) }
+    ensures refutes { IfOk result (λ id. RefutesFrom trail.now.entries (literals_at log.old dead) (literals_at log.new id)) }
+{
+    let links = chain_to_assumed(alloc, log, trail, order, seen, dead)?;
+    if links.is_empty() {
+        return Ok(dead);
+    }
+    log.chain(dead, &links)
+}

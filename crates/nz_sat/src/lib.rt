@@ -1,0 +1,16 @@
+//! A search by clause learning over the clauses of a log: an assignment of the noted atoms that makes each of its clauses true, or a
+//! clause of the log that refutes the assumed literals.
+#![tactic(auto)]
+
+mod analyze;
+mod atoms;
+mod clauses;
+mod heap;
+mod order;
+mod propagate;
+mod sat;
+mod search;
+mod trail;
+
+pub use clauses::Held;
+pub use sat::Sat;

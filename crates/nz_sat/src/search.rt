@@ -1,0 +1,381 @@
+//! The search: decisions, what follows from them, and what each conflict teaches.
+ghost use Rattle.std.specs.Prelude.{◌≡◌, ℕ, suc, ◌<◌, ◌≤◌, ◌++◌, ◌∷◌, [], All, Contains, List, None, Some, length, map, IfErr, IfOk, IfSome, IsSome, OnErr, OnOk, MatchOption};
+ghost use Rattle.nz_spec.specs.Work.{IsSpent, UnitLine, unit_count, with_line};
+ghost use Rattle.nz_base.specs.Entries.{entry_of};
+ghost use Rattle.nz_log.specs.declared.lits.Lit.{Lit};
+ghost use Rattle.nz_log.specs.declared.stop.Stop.TheVariants as stop;
+ghost use Rattle.nz_log.specs.Lits.{AreConsistent};
+ghost use Rattle.nz_log.specs.Logs.{IsLive, literals_at};
+ghost use Rattle.nz_sat.specs.declared.clauses.Held.{Held};
+ghost use Rattle.nz_sat.specs.Clauses.{Adds, AreUsable, IsAssumed, IsDead, IsImplied, IsWithin};
+ghost use Rattle.nz_sat.specs.Conflicts.{AreUnmarked, Grows, IsDeadUnder, Refutes, RefutesFrom, StaysSound};
+ghost use Rattle.nz_sat.specs.Numbers.{noted_atoms, number_of, numbered};
+ghost use Rattle.nz_sat.specs.Sats.{AreAtoms, AreHeld, HoldsMore, held_of};
+ghost use Rattle.nz_sat.specs.Searching.{Advances, AreOpen, AreWaiting, Assumes, AssumesAll, Follows, MayAssume, MayFollow, Starts, Decides, IsNoted, IsSearch, Learned, Satisfies, Settles, WereOpen, after_lesson, assumed_entries, ids, learned_line};
+ghost use Rattle.nz_sat.specs.Trails.{EachBehind, IsFrontOf, IsTrail, IsTrueOn, assigned, below, depth};
+
+use crate::analyze::{Lesson, learn_from, refutation};
+use crate::atoms::Atoms;
+use crate::clauses::{Held, Index};
+use crate::order::Order;
+use crate::propagate::{propagate, visit_held};
+use crate::trail::Trail;
+use nz_base::{Entry, Literals, Memory, Work};
+use nz_log::laws::clauses_are_true;
+use nz_log::{ClauseId, Lit, Log, Note, Stop};
+use nz_spec::work::legal_work_goes_on;
+use nz_term::TermId;
+use std::alloc::Global;
+
+/// A search under way.
+#[derive(Debug, Drop)]
+pub struct Search {
+    pub atoms: Atoms,
+    pub trail: Trail,
+    index: Index,
+    order: Order,
+    // By the numbers of terms, the marks of the conflict analysis: none between two conflicts.
+    seen: Vec<bool>,
+}
+
+impl Search {
+    /// A search over these clauses, with nothing decided.
+    pub fn new(alloc: Global, log: &Log, held: &[Held], work: &Work<Note>) -> Result<Search, Memory>
+        requires held { AreHeld log.now held.now }
+        requires named { All (λ h. All (λ l. Contains (noted_atoms work.now.lines) l.term) (literals_at log.now h.id)) held.now }
+        ensures search { IfOk result (λ s. IsSearch log.now held.now s) }
+        ensures atoms { IfOk result (λ s. s.atoms ≡ noted_atoms work.now.lines) }
+        ensures none { IfOk result (λ s. s.trail.entries ≡ []) }
+    {
+        let atoms = Atoms::noted(alloc, work)?;
+        let size = atoms.size();
+        let order = Order::new(alloc, &atoms)?;
+        let mut index = Index::new(alloc, size)?;
+        for clause in held {
+            index.add(log, clause.id)?;
+        }
+        Ok(Search {
+            atoms,
+            trail: Trail::new(alloc, size)?,
+            index,
+            order,
+            seen: vec![in alloc; false; size]?,
+        })
+    }
+
+    /// Puts what the clauses alone make true on the trail. Answers a dead clause.
+    fn start(&mut self, log: &Log, held: &[Held]) -> Option<ClauseId>
+        requires search { IsSearch log.now held.now self.old }
+        requires none { self.old.trail.entries ≡ [] }
+        ensures rest { self.new ≡ record self.old { trail = self.new.trail } }
+        ensures comes { Starts log.now held.now self.new result }
+    {
+        let dead = visit_held(log, &mut self.trail, held);
+        if dead.is_some() {
+            return dead;
+        }
+        propagate(log, &self.index, &mut self.trail, 0)
+    }
+
+    /// Puts an assumed literal on the trail, and what the clauses make true with it. Answers a clause in which each literal is false
+    /// or the negation of the assumed one.
+    fn assume(&mut self, log: &Log, literal: Lit) -> Option<ClauseId>
+        requires usable { AreUsable log.now self.old.trail.size self.old.index }
+        requires within { literal.term < self.old.trail.size }
+        requires undecided { depth self.old.trail.entries ≡ 0 }
+        ensures rest { self.new ≡ record self.old { trail = self.new.trail } }
+        ensures comes { (held : List Held) (assumed : List Lit) → MayAssume log.now held assumed literal self.old → Assumes log.now held assumed literal self.old.trail.entries self.new result }
+    {
+        match self.trail.assigned(literal.term) {
+            Some(entry) if entry.literal.is(literal) => None,
+            Some(entry) => entry.reason,
+            None => {
+                let from = self.trail.len();
+                self.trail.assume(literal);
+                propagate(log, &self.index, &mut self.trail, from)
+            }
+        }
+    }
+
+    /// Puts what the clauses alone make true on the trail, and then each assumed literal with what the clauses make true. Answers a
+    /// clause in which each literal is false or the negation of an assumed one.
+    fn assume_all(&mut self, log: &Log, held: &[Held], assumed: &[Lit]) -> Option<ClauseId>
+        requires search { IsSearch log.now held.now self.old }
+        requires none { self.old.trail.entries ≡ [] }
+        requires named { All (λ l. Contains self.old.atoms l.term) assumed.now }
+        requires consistent { AreConsistent assumed.now }
+        ensures rest { self.new ≡ record self.old { trail = self.new.trail } }
+        ensures comes { AssumesAll log.now held.now assumed.now self.new result }
+    {
+        let dead = self.start(log, held);
+        if dead.is_some() {
+            return dead;
+        }
+        for literal in assumed {
+            let dead = self.assume(log, *literal);
+            if dead.is_some() {
+                return dead;
+            }
+        }
+        None
+    }
+
+    /// The clause of the log that refutes the assumed literals, from a dead one under no decision.
+    fn refute(&mut self, alloc: Global, log: &mut Log, dead: ClauseId) -> Result<ClauseId, Memory>
+        requires live { IsLive log.old dead }
+        requires implied { EachBehind (IsImplied log.old) self.old.trail.entries }
+        requires undecided { depth self.old.trail.entries ≡ 0 }
+        requires size { length self.old.seen.items ≡ self.old.trail.size }
+        requires unmarked { AreUnmarked self.old.seen.items }
+        ensures grows { Grows log.old log.new }
+        ensures sound { StaysSound self.old.trail.entries log.old log.new }
+        ensures live { IfOk result (IsLive log.new) }
+        ensures refutes { IfOk result (λ id. RefutesFrom self.old.trail.entries (literals_at log.old dead) (literals_at log.new id)) }
+    {
+        refutation(
+            alloc,
+            log,
+            &self.trail,
+            &mut self.order,
+            &mut self.seen,
+            dead,
+        )
+    }
+
+    /// Takes the literals above a level off the trail.
+    fn jump(&mut self, level: usize)
+        ensures rest { self.new ≡ record self.old { trail = self.new.trail; order = self.new.order } }
+        ensures size { self.new.trail.size ≡ self.old.trail.size }
+        ensures below { self.new.trail.entries ≡ below level self.old.trail.entries }
+        ensures front { IsFrontOf self.new.trail.entries self.old.trail.entries }
+    {
+        while let Some(literal) = self.trail.pop_above(level) {
+            self.order.keep(literal);
+        }
+    }
+
+    /// Makes true what the clauses make true by the literals from a place of the trail on, up to the first dead clause.
+    fn follow(&mut self, log: &Log, from: usize) -> Option<ClauseId>
+        requires usable { AreUsable log.now self.old.trail.size self.old.index }
+        requires from { from ≤ length self.old.trail.entries }
+        ensures rest { self.new ≡ record self.old { trail = self.new.trail } }
+        ensures comes { (held : List Held) → MayFollow log.now held self.old from → Follows log.now held self.old self.new result }
+    {
+        propagate(log, &self.index, &mut self.trail, from)
+    }
+
+    /// Notes the clause of a lesson.
+    fn note_lesson(
+        &self,
+        alloc: Global,
+        log: &Log,
+        work: &mut Work<Note>,
+        lesson: Lesson,
+    ) -> Result<(), Stop>
+        requires live { IsLive log.now lesson.clause }
+        requires named { All (λ l. Contains self.now.atoms l.term) (literals_at log.now lesson.clause) }
+        ensures noted { OnOk result (work.new ≡ with_line work.old (learned_line self.now.atoms log.now lesson)) }
+        ensures free { OnOk result (unit_count work.old.lines < work.old.limit) }
+        ensures err { OnErr result (work.new ≡ work.old) }
+        ensures spent { IfErr result (λ e. e ≡ stop.Spent → IsSpent work.new) }
+    {
+        let lits = by_numbers(alloc, &self.atoms, log.clause(lesson.clause))?;
+        note(
+            work,
+            Entry::Learned {
+                keep: lesson.level,
+                lits,
+            },
+        )
+    }
+
+    /// Adds a clause of the log to those that are held.
+    fn hold(&mut self, log: &Log, held: &mut Vec<Held>, id: ClauseId) -> Result<(), Memory>
+        requires live { IsLive log.now id }
+        requires held { AreHeld log.now held.old.items }
+        requires within { All (λ l. IsWithin l self.old.index) (literals_at log.now id) }
+        ensures rest { self.new ≡ record self.old { index = self.new.index } }
+        ensures more { HoldsMore log.now held.old.items held.new.items }
+        ensures held { OnOk result (held.new.items ≡ held.old.items ++ held_of log.now id ∷ []) }
+        ensures added { OnOk result (Adds log.now id self.old.index self.new.index) }
+    {
+        held.push(Held {
+            id,
+            level: log.level(id),
+        })?;
+        self.index.add(log, id)
+    }
+
+    /// Goes back to where a lesson makes a literal true, and puts that on the trail. Answers its place.
+    fn go_back(&mut self, lesson: Lesson) -> usize
+        requires free { assigned (below lesson.level self.old.trail.entries) lesson.literal.term ≡ None }
+        requires within { lesson.literal.term < self.old.trail.size }
+        ensures rest { self.new ≡ record self.old { trail = self.new.trail; order = self.new.order } }
+        ensures size { self.new.trail.size ≡ self.old.trail.size }
+        ensures order { IsTrail self.new.trail }
+        ensures place { result ≡ length (below lesson.level self.old.trail.entries) }
+        ensures entries { self.new.trail.entries ≡ after_lesson self.old.trail.entries lesson }
+    {
+        self.jump(lesson.level);
+        let place = self.trail.len();
+        self.trail.imply(lesson.literal, lesson.clause);
+        place
+    }
+
+    /// Learns from a dead clause: notes the clause learned, adds it, and goes back to where it makes a literal true. Answers the place
+    /// of that literal.
+    fn learn(
+        &mut self,
+        log: &mut Log,
+        held: &mut Vec<Held>,
+        work: &mut Work<Note>,
+        dead: ClauseId,
+    ) -> Result<usize, Stop>
+        requires search { IsSearch log.old held.old.items self.old }
+        requires all_open { WereOpen log.old held.old.items self.old.trail.entries }
+        requires held { Contains (ids held.old.items) dead }
+        requires dead { IsDead self.old.trail.entries (literals_at log.old dead) }
+        requires decided { 0 < depth self.old.trail.entries }
+        requires noted { IsNoted log.old held.old.items self.old.atoms self.old.trail.entries work.old }
+        ensures advances { Advances self.old.atoms self.old.trail.entries log.old log.new held.old.items held.new.items work.old work.new }
+        ensures learned { IfOk result (λ from. Learned log.new held.new.items self.old self.new work.old work.new from) }
+        ensures spent { IfErr result (λ e. e ≡ stop.Spent → IsSpent work.new) }
+    {
+        clauses_are_true();
+        legal_work_goes_on();
+        let alloc = *held.allocator();
+        let lesson = learn_from(
+            alloc,
+            log,
+            &self.trail,
+            &mut self.order,
+            &mut self.seen,
+            dead,
+        )?;
+        self.note_lesson(alloc, log, work, lesson)?;
+        self.hold(log, held, lesson.clause)?;
+        Ok(self.go_back(lesson))
+    }
+
+    /// Makes true what the clauses make true by the literals from a place of the trail on, and learns from each conflict. Answers the
+    /// clause that refutes the assumed literals, if one does.
+    fn settle(
+        &mut self,
+        log: &mut Log,
+        held: &mut Vec<Held>,
+        work: &mut Work<Note>,
+        from: usize,
+    ) -> Result<Option<ClauseId>, Stop>
+        requires search { IsSearch log.old held.old.items self.old }
+        requires all_open { WereOpen log.old held.old.items self.old.trail.entries }
+        requires from { from ≤ length self.old.trail.entries }
+        requires waits { AreWaiting log.old held.old.items self.old.trail.entries from }
+        requires noted { IsNoted log.old held.old.items self.old.atoms self.old.trail.entries work.old }
+        ensures advances { Advances self.old.atoms self.old.trail.entries log.old log.new held.old.items held.new.items work.old work.new }
+        ensures settled { IfOk result (λ r. r ≡ None → Settles log.new held.new.items self.old self.new work.old work.new) }
+        ensures refuted { IfOk result (λ r. IfSome r (λ id. IsLive log.new id × ((assumed : List Lit) → All (IsAssumed assumed) self.old.trail.entries → Refutes assumed (literals_at log.new id)))) }
+        ensures spent { IfErr result (λ e. e ≡ stop.Spent → IsSpent work.new) }
+    {
+        let mut dead = self.follow(log, from);
+        while let Some(clause) = dead {
+            if self.trail.level() == 0 {
+                return Ok(Some(self.refute(*held.allocator(), log, clause)?));
+            }
+            let from = self.learn(log, held, work, clause)?;
+            dead = self.follow(log, from);
+        }
+        Ok(None)
+    }
+
+    /// The undecided atom that took most part in conflicts.
+    fn next(&mut self) -> Option<TermId>
+        ensures rest { self.new ≡ record self.old { order = self.new.order } }
+        ensures undecided { IfSome result (λ t. Contains self.new.atoms t × (assigned self.new.trail.entries t ≡ None)) }
+        ensures none { result ≡ None → All (λ t. IsSome (assigned self.new.trail.entries t)) self.new.atoms }
+    {
+        self.order.next(&self.atoms, &self.trail)
+    }
+
+    /// Decides an atom, with the sign that it had last. Answers the place of its literal on the trail.
+    fn decide(&mut self, work: &mut Work<Note>, term: TermId) -> Result<usize, Stop>
+        requires free { assigned self.old.trail.entries term ≡ None }
+        requires named { Contains self.old.atoms term }
+        requires within { term < self.old.trail.size }
+        ensures rest { self.new ≡ record self.old { trail = self.new.trail } }
+        ensures decides { OnOk result (Decides self.old self.new term work.old work.new) }
+        ensures place { IfOk result (λ place. place ≡ length self.old.trail.entries) }
+        ensures free { OnOk result (unit_count work.old.lines < work.old.limit) }
+        ensures err { OnErr result (work.new ≡ work.old) }
+        ensures spent { IfErr result (λ e. e ≡ stop.Spent → IsSpent work.new) }
+    {
+        let Some(atom) = self.atoms.number(term) else {
+            unreachable!()
+        };
+        let sign = self.order.sign(term);
+        note(work, Entry::Decision { atom, sign })?;
+        let place = self.trail.len();
+        self.trail.decide(Lit { term, sign });
+        Ok(place)
+    }
+
+    /// Searches for truths of the atoms under which each clause has a true literal, and each assumed one is true. Answers the clause
+    /// that refutes the assumed literals, if one does.
+    pub fn run(
+        &mut self,
+        log: &mut Log,
+        held: &mut Vec<Held>,
+        assumed: &[Lit],
+        work: &mut Work<Note>,
+    ) -> Result<Option<ClauseId>, Stop>
+        requires search { IsSearch log.old held.old.items self.old }
+        requires none { self.old.trail.entries ≡ [] }
+        requires named { All (λ l. Contains self.old.atoms l.term) assumed.now }
+        requires consistent { AreConsistent assumed.now }
+        requires noted { IsNoted log.old held.old.items self.old.atoms [] work.old }
+        ensures advances { Advances self.old.atoms (assumed_entries assumed.now) log.old log.new held.old.items held.new.items work.old work.new }
+        ensures satisfied { IfOk result (λ r. r ≡ None → Satisfies log.new held.new.items assumed.now self.old.atoms self.new) }
+        ensures refuted { IfOk result (λ r. IfSome r (λ id. IsLive log.new id × Refutes assumed.now (literals_at log.new id))) }
+        ensures spent { IfErr result (λ e. e ≡ stop.Spent → IsSpent work.new) }
+    {
+        legal_work_goes_on();
+        if let Some(dead) = self.assume_all(log, held, assumed) {
+            return Ok(Some(self.refute(*held.allocator(), log, dead)?));
+        }
+        while let Some(term) = self.next() {
+            let from = self.decide(work, term)?;
+            if let Some(refuted) = self.settle(log, held, work, from)? {
+                return Ok(Some(refuted));
+            }
+        }
+        Ok(None)
+    }
+}
+
+/// Notes a step that counts.
+fn note(work: &mut Work<Note>, entry: Entry) -> Result<(), Stop>
+    ensures noted { OnOk result (work.new ≡ with_line work.old (UnitLine (entry_of entry))) }
+    ensures free { OnOk result (unit_count work.old.lines < work.old.limit) }
+    ensures err { OnErr result (work.new ≡ work.old) }
+    ensures spent { IfErr result (λ e. e ≡ stop.Spent → IsSpent work.new) }
+{
+    if work.left() == 0 {
+        return Err(Stop::Spent);
+    }
+    work.unit(entry)?;
+    Ok(())
+}
+
+/// These literals by the numbers of their atoms.
+fn by_numbers(alloc: Global, atoms: &Atoms, literals: &[Lit]) -> Result<Literals, Memory>
+    requires named { All (λ l. Contains atoms.now l.term) literals.now }
+    ensures numbers { IfOk result (λ ps. ps ≡ map (numbered atoms.now) literals.now) }
+{
+    let mut pairs = Vec::with_capacity(alloc, literals.len())?;
+    for literal in literals {
+        match atoms.number(literal.term) {
+            Some(number) => pairs.push((number, literal.sign))?,
+            None => unreachable!(),
+        }
+    }
+    Ok(Literals::from(pairs))
+}
