@@ -1,0 +1,4 @@
+mod Ordered
+mod Outcomes
+mod Standing
+mod Tables
