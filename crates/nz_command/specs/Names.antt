@@ -2,7 +2,7 @@
 use Rattle.std.specs.Prelude.{[], Option, option_map}
 use Rattle.nz_spec.specs.Tree.{Trees}
 use Rattle.nz_spec.specs.Request.{least, greatest, Request, declares, asserts, seeks, checks, checks_assuming, pushes, pops, resets, resets_assertions, shows_model, shows_values, shows_objectives, shows_info, sets_option, sets_nothing, echoes, exits}
-use Rattle.nz_spec.specs.Parse.{name_of, keyword_of, expression_of, none, one, first, within, each, sort_of, assumption_of, some_questions, literal_of, level_count, wish_of, setting_of, info_key, info_of, function_of, definition_of}
+use Rattle.nz_spec.specs.Parse.{name_of, keyword_of, expression_of, none, one, first, within, each, written_sort, assumption_of, some_questions, literal_of, level_count, wish_of, setting_of, info_key, info_of, function_of, written_definition}
 use Rattle.nz_command.specs.declared.grammar.CommandName.{CommandName}
 use Rattle.nz_command.specs.declared.grammar.CommandName.TheVariants as names
 
@@ -11,9 +11,9 @@ arguments_of names.Assert = one expression_of asserts
 arguments_of names.AssertSoft = first expression_of wish_of
 arguments_of names.CheckSat = none checks
 arguments_of names.CheckSatAssuming = one (within (each assumption_of)) checks_assuming
-arguments_of names.DeclareConst = first name_of (λ name. one sort_of (declares name []))
+arguments_of names.DeclareConst = first name_of (λ name. one written_sort (declares name []))
 arguments_of names.DeclareFun = first name_of function_of
-arguments_of names.DefineFun = first name_of definition_of
+arguments_of names.DefineFun = first name_of written_definition
 arguments_of names.Echo = one literal_of echoes
 arguments_of names.Exit = none exits
 arguments_of names.GetInfo = one keyword_of (λ name. shows_info (info_key name))

@@ -15,7 +15,7 @@ use crate::lists::{only, pair, triple};
 use crate::names::{keyword_of, listed_with, name_of};
 use crate::parts::{
     assumptions, attributes_onto, info_key, is_attribute_value, level_count, literal_of,
-    parameters, questions, setting_of, sort_of, sorts,
+    parameters, questions, setting_of, written_sort, sorts,
 };
 use crate::terms::expression;
 use nz_base::{Memory, Text};
@@ -274,10 +274,10 @@ fn named(list: &[Tree]) -> Option<(&Text, &[Tree])>
 }
 
 fn constant<'a>(alloc: Global, arguments: &'a [Tree]) -> Option<Command<'a>>
-    ensures parsed { option_map request result ≡ parse.first parse.name_of (λ name. parse.one parse.sort_of (spec.declares name [])) (seen arguments.now) }
+    ensures parsed { option_map request result ≡ parse.first parse.name_of (λ name. parse.one parse.written_sort (spec.declares name [])) (seen arguments.now) }
 {
     let (name, others) = named(arguments)?;
-    let sort = sort_of(only(others)?)?;
+    let sort = written_sort(only(others)?)?;
     Some(Command::Declare(name, Vec::new(alloc), sort))
 }
 
@@ -306,27 +306,27 @@ fn function_of<'a>(
     let Some(sorts) = sorts(alloc, list)? else {
         return Ok(None);
     };
-    match sort_of(sort) {
+    match written_sort(sort) {
         Some(sort) => Ok(Some(Command::Declare(name, sorts, sort))),
         None => Ok(None),
     }
 }
 
 fn definition<'a>(alloc: Global, arguments: &'a [Tree]) -> Result<Option<Command<'a>>, Memory>
-    ensures parsed { IfOk result (λ c. option_map request c ≡ parse.first parse.name_of parse.definition_of (seen arguments.now)) }
+    ensures parsed { IfOk result (λ c. option_map request c ≡ parse.first parse.name_of parse.written_definition (seen arguments.now)) }
 {
     match named(arguments) {
-        Some((name, others)) => definition_of(alloc, name, others),
+        Some((name, others)) => written_definition(alloc, name, others),
         None => Ok(None),
     }
 }
 
-fn definition_of<'a>(
+fn written_definition<'a>(
     alloc: Global,
     name: &'a Text,
     arguments: &'a [Tree],
 ) -> Result<Option<Command<'a>>, Memory>
-    ensures parsed { IfOk result (λ c. option_map request c ≡ parse.definition_of name.now (seen arguments.now)) }
+    ensures parsed { IfOk result (λ c. option_map request c ≡ parse.written_definition name.now (seen arguments.now)) }
 {
     let Some((list, sort, body)) = triple(arguments) else {
         return Ok(None);
@@ -337,7 +337,7 @@ fn definition_of<'a>(
     let Some(parameters) = parameters(alloc, list)? else {
         return Ok(None);
     };
-    let Some(sort) = sort_of(sort) else {
+    let Some(sort) = written_sort(sort) else {
         return Ok(None);
     };
     match expression(alloc, body)? {

@@ -22,8 +22,8 @@ use std::alloc::Global;
 // ---- Sorts and parameters
 
 /// A sort: its name, or a list, whatever stands in it.
-pub(crate) fn sort_of(tree: &Tree) -> Option<WrittenSort<'_>>
-    ensures parsed { option_map sort_view result ≡ parse.sort_of (view tree.now) }
+pub(crate) fn written_sort(tree: &Tree) -> Option<WrittenSort<'_>>
+    ensures parsed { option_map sort_view result ≡ parse.written_sort (view tree.now) }
 {
     match tree {
         Tree::Word(token) => Some(WrittenSort::Named(token_name(token)?)),
@@ -36,11 +36,11 @@ pub(crate) fn sorts<'a>(
     alloc: Global,
     list: &'a [Tree],
 ) -> Result<Option<Vec<WrittenSort<'a>>>, Memory>
-    ensures parsed { IfOk result (λ r. option_map (λ v. map sort_view v.items) r ≡ parse.each parse.sort_of (seen list.now)) }
+    ensures parsed { IfOk result (λ r. option_map (λ v. map sort_view v.items) r ≡ parse.each parse.written_sort (seen list.now)) }
 {
     let mut items = Vec::with_capacity(alloc, list.len())?;
     for tree in list {
-        match sort_of(tree) {
+        match written_sort(tree) {
             Some(item) => items.push(item)?,
             None => return Ok(None),
         }
@@ -63,7 +63,7 @@ fn parameter_in(list: &[Tree]) -> Option<Parameter<'_>>
 {
     let (name, sort) = pair(list)?;
     let name = name_of(name)?;
-    let sort = sort_of(sort)?;
+    let sort = written_sort(sort)?;
     Some(Parameter { name, sort })
 }
 
@@ -247,7 +247,7 @@ fn with_attribute<'a>(
     let key = keyword_of(key)?;
     if key.as_bytes() == b":weight".as_slice() && found.weight.is_none() {
         return Some(Attributes {
-            weight: Some(number_of(value)?),
+            weight: Some(written_number(value)?),
             group: found.group,
         });
     }
@@ -261,8 +261,8 @@ fn with_attribute<'a>(
 }
 
 /// The number of a numeral or a decimal.
-fn number_of(tree: &Tree) -> Option<Number>
-    ensures number { option_map views.number_view result ≡ parse.number_of (view tree.now) }
+fn written_number(tree: &Tree) -> Option<Number>
+    ensures number { option_map views.number_view result ≡ parse.written_number (view tree.now) }
 {
     match tree {
         Tree::Word(token) => token_number(token),

@@ -13,12 +13,12 @@ use Rattle.nz_spec.specs.Literal.{StandOnce}
 use Rattle.nz_spec.specs.Gates.{is_boolean_term}
 use Rattle.nz_spec.specs.Work.{WorkLine, UnitLine, NoteLine, WorkList, unit_count}
 use Rattle.nz_spec.specs.Reply as reply
-use Rattle.nz_spec.specs.Legal.{Question, Search, at_first, after_line, after_lines, AreLegal, LegalWorkDoesNotRepeat}
+use Rattle.nz_spec.specs.Legal.{Task, Search, at_first, after_line, after_lines, AreLegal, LegalWorkDoesNotRepeat}
 use Rattle.nz_log.specs.declared.lits.Lit.{Lit}
 use Rattle.nz_log.specs.declared.note.Note.{Note}
 use Rattle.nz_log.specs.declared.note.Note.TheVariants.{Atom}
 use Rattle.nz_log.specs.Notes.{noted_line, noted_list, AreNotedWithin}
-use Rattle.nz_log.specs.Verdicts.{question_in}
+use Rattle.nz_log.specs.Verdicts.{task_in}
 use Rattle.nz_sat.specs.Numbers.{noted_atoms}
 use Rattle.nz_engine.specs.Posed.{ArePlain, NotesFirst, Works, terms_named, with_atoms}
 use Rattle.nz_engine.proofs.Orders.{HasNoNumber, parts_boolean}
@@ -28,7 +28,7 @@ abbrev pub notes_of : List ℕ → List (WorkLine Note)
 notes_of ids = map (λ (t : ℕ). NoteLine (Atom t)) ids
 
 -- a term that a search may name, if it hasn't
-abbrev pub IsNameable : Question → Term → Type 0
+abbrev pub IsNameable : Task → Term → Type 0
 IsNameable q t = Contains q.listed t × (is_boolean_term t ≡ true)
 
 one_seen : (seen xs : List Term) (t u : Term) → ((v : Term) → Contains xs v → Contains seen v) → Contains (xs ++ t ∷ []) u → Contains (t ∷ seen) u
@@ -40,7 +40,7 @@ one_seen seen xs t u h c =
     ]
 
 -- each of the first ones among terms that may be named may be named after those before it
-legal_names : (q : Question) (ns : List Node) (seen all : List Term) (ids : List ℕ) (s : Search) → ((u : Term) → Contains s.atoms u → Contains seen u)
+legal_names : (q : Task) (ns : List Node) (seen all : List Term) (ids : List ℕ) (s : Search) → ((u : Term) → Contains s.atoms u → Contains seen u)
     → AllByRecursion (IsNameable q) all → AreFirst seen all (map (term_in ns) ids) → AreLegal q s (map (noted_line ns) (notes_of ids))
 legal_names q ns seen [] [] s h each first = tt
 legal_names q ns seen [] (i ∷ ids) s h each first = absurd cc
@@ -61,7 +61,7 @@ legal_names q ns seen (t ∷ ts) (i ∷ ids) s h each (inr new) =
     )
 
 -- the front of a legal list is legal
-legal_front : (q : Question) (s : Search) (n : ℕ) (lines : List (WorkLine reply.Note)) → AreLegal q s lines → AreLegal q s (take n lines)
+legal_front : (q : Task) (s : Search) (n : ℕ) (lines : List (WorkLine reply.Note)) → AreLegal q s lines → AreLegal q s (take n lines)
 legal_front q s zero lines h = tt
 legal_front q s (suc n) [] h = tt
 legal_front q s (suc n) (line ∷ lines) h = (h.0, legal_front q (after_line s line) n lines h.1)
@@ -87,7 +87,7 @@ pub lines_noted : (ids : List ℕ) (old new : WorkList Note) → old.lines ≡ [
 lines_noted ids old new none e = ap (λ w. w.lines) e ∙ ap (λ ls. ls ++ notes_of ids) none
 
 -- a front of the notes
-pub works_first : (q : Question) (ns : List Node) (all : List Term) (ids : List ℕ) (old new : WorkList Note) → old.lines ≡ [] → AllByRecursion (IsNameable q) all
+pub works_first : (q : Task) (ns : List Node) (all : List Term) (ids : List ℕ) (old new : WorkList Note) → old.lines ≡ [] → AllByRecursion (IsNameable q) all
     → AreFirst [] all (map (term_in ns) ids) → All (λ t. t < length ns) ids → NotesFirst ids old new → Works ns q old new
 works_first q ns all ids old new none each first within n =
     let front : List ℕ = take n.count ids in
@@ -102,7 +102,7 @@ works_first q ns all ids old new none each first within n =
     }
 
 -- nothing is noted yet
-pub works_none : (q : Question) (ns : List Node) (old new : WorkList Note) → old.lines ≡ [] → new ≡ old → Works ns q old new
+pub works_none : (q : Task) (ns : List Node) (old new : WorkList Note) → old.lines ≡ [] → new ≡ old → Works ns q old new
 works_none q ns old new none e =
     let lines : new.lines ≡ [] = ap (λ w. w.lines) e ∙ none in
     record {
@@ -112,7 +112,7 @@ works_none q ns old new none e =
     }
 
 -- what a search did behind notes of atoms
-pub works_solved : (q : Question) (ns : List Node) (atoms : List ℕ) (old mid new : WorkList Note) → Works ns q old mid → mid.lines ≡ notes_of atoms → All (λ t. t < length ns) atoms
+pub works_solved : (q : Task) (ns : List Node) (atoms : List ℕ) (old mid new : WorkList Note) → Works ns q old mid → mid.lines ≡ notes_of atoms → All (λ t. t < length ns) atoms
     → (AreLegal q at_first (noted_list ns mid).lines → AreLegal q at_first (noted_list ns new).lines) → noted_atoms new.lines ≡ noted_atoms mid.lines → new.limit ≡ mid.limit
     → Works ns q old new
 works_solved q ns atoms old mid new works lines within legal notes limit =
@@ -133,7 +133,7 @@ after_names ns (i ∷ ids) s =
 once_by_terms : (f : ℕ → Term) (ids : List ℕ) → StandOnce (map f ids) → StandOnce ids
 once_by_terms f ids once i j t e k = once i j (f t) (slice_get-map f ids i ∙ ap (option_map f) e) (slice_get-map f ids j ∙ ap (option_map f) k)
 
-pub noted_once : LegalWorkDoesNotRepeat → (q : Question) (ns : List Node) (ids : List ℕ) (work : WorkList Note) → work.lines ≡ notes_of ids
+pub noted_once : LegalWorkDoesNotRepeat → (q : Task) (ns : List Node) (ids : List ℕ) (work : WorkList Note) → work.lines ≡ notes_of ids
     → AreLegal q at_first (noted_list ns work).lines → StandOnce (noted_atoms work.lines)
 noted_once law q ns ids work lines legal =
     let repeats = law q (map (noted_line ns) (notes_of ids)) (subst (λ ls. AreLegal q at_first (map (noted_line ns) ls)) lines legal) in
@@ -177,12 +177,12 @@ both P Q (x ∷ xs) h k = ((h.0, k.0), both P Q xs h.1 k.1)
 
 -- so each of them may be named
 pub nameable : (ns : List Node) (levels : List (List ℕ)) (assumed : List Lit) → ArePlain ns (asserted_numbers levels ++ terms_named assumed)
-    → AllByRecursion (IsNameable (question_in ns levels assumed)) (flat_map post_order (map (term_in ns) (asserted_numbers levels ++ terms_named assumed)))
+    → AllByRecursion (IsNameable (task_in ns levels assumed)) (flat_map post_order (map (term_in ns) (asserted_numbers levels ++ terms_named assumed)))
 nameable ns levels assumed plain =
     let roots = asserted_numbers levels ++ terms_named assumed in
     let ts = map (term_in ns) roots in
     let all = flat_map post_order ts in
-    let q = question_in ns levels assumed in
+    let q = task_in ns levels assumed in
     let same : ts ≡ asserted_terms ns levels ++ map (λ (l : Lit). term_in ns l.term) assumed =
     map-append (term_in ns) (asserted_numbers levels) (terms_named assumed) ∙ ap (λ us. asserted_terms ns levels ++ us) (named_terms ns assumed) in
     let listed : (u : Term) → Contains all u → Contains q.listed u = λ u c. subst (λ us. Contains (flat_map listing_order us) u) same (each_listed ts u c) in

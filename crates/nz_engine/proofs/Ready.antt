@@ -11,7 +11,7 @@ use Rattle.nz_log.specs.declared.lits.Lit.{Lit}
 use Rattle.nz_log.specs.declared.note.Note.{Note}
 use Rattle.nz_log.specs.Lits.{yes}
 use Rattle.nz_log.specs.Sound.{AreWithin}
-use Rattle.nz_log.specs.Verdicts.{question_in}
+use Rattle.nz_log.specs.Verdicts.{task_in}
 use Rattle.nz_sat.specs.Numbers.{noted_atoms}
 use Rattle.nz_sat.specs.Sats.{IsAsked, IsLegalWork}
 use Rattle.nz_engine.specs.Clausal.{ClausesState, AreIn}
@@ -26,15 +26,15 @@ module _ (ns : List Node) (levels : List (List ℕ)) (assumed : List Lit) where
   pub record IsReady (atoms : List ℕ) (clauses : ClausesState) (old mid : WorkList Note) : Type 0 where
     pub are : AreAtomsOf ns roots atoms
     pub stands : AreIn ns levels atoms clauses
-    pub works : Works ns (question_in ns levels assumed) old mid
+    pub works : Works ns (task_in ns levels assumed) old mid
     pub lines : mid.lines ≡ notes_of atoms
 
   -- some of the atoms are noted
   pub noting : (posed atoms : List ℕ) (old mid : WorkList Note) → atoms ≡ posed → ArePlain ns roots → AreAtomsOf ns roots posed → old.lines ≡ [] → NotesFirst atoms old mid
-      → Works ns (question_in ns levels assumed) old mid
+      → Works ns (task_in ns levels assumed) old mid
   noting posed atoms old mid same plain are none first =
       let own : AreAtomsOf ns roots atoms = subst (AreAtomsOf ns roots) (sym same) are in
-      works_first (question_in ns levels assumed) ns _ atoms old mid none (nameable ns levels assumed plain) own.first own.within first
+      works_first (task_in ns levels assumed) ns _ atoms old mid none (nameable ns levels assumed plain) own.first own.within first
 
   -- all of them are
   pub ready : (posed atoms : List ℕ) (clauses : ClausesState) (old mid : WorkList Note) → atoms ≡ posed → ArePlain ns roots → AreAtomsOf ns roots posed
@@ -59,7 +59,7 @@ module _ (ns : List Node) (levels : List (List ℕ)) (assumed : List Lit) where
         subst (λ ts. All (λ (l : Lit). Contains ts l.term) assumed) (sym named) (all_named (Contains atoms) assumed (all_of_others (Contains atoms) (asserted_numbers levels) (terms_named assumed) r.are.roots_in))
 
     pub ready_once : LegalWorkDoesNotRepeat → StandOnce (noted_atoms mid.lines)
-    ready_once law = noted_once law (question_in ns levels assumed) ns atoms mid r.lines r.works.legal
+    ready_once law = noted_once law (task_in ns levels assumed) ns atoms mid r.lines r.works.legal
 
     pub ready_units : unit_count mid.lines ≡ 0
     ready_units = ap unit_count r.lines ∙ no_units atoms
@@ -67,13 +67,13 @@ module _ (ns : List Node) (levels : List (List ℕ)) (assumed : List Lit) where
     pub ready_within : All (λ t. t < length ns) (noted_atoms mid.lines)
     ready_within = subst (All (λ t. t < length ns)) (sym named) r.are.within
 
-    pub ready_asked : IsTable ns → IsAsked ns levels clauses.log (noted_atoms mid.lines) assumed (question_in ns levels assumed)
+    pub ready_asked : IsTable ns → IsAsked ns levels clauses.log (noted_atoms mid.lines) assumed (task_in ns levels assumed)
     ready_asked table = record { table = table; within = ready_within; order = r.stands.order; asserted = refl; assumed_literals = refl }
 
     -- what a search did
-    pub solved : (new : WorkList Note) → (IsLegalWork ns (question_in ns levels assumed) mid → IsLegalWork ns (question_in ns levels assumed) new)
-        → noted_atoms new.lines ≡ noted_atoms mid.lines → new.limit ≡ mid.limit → Works ns (question_in ns levels assumed) old new
-    solved new legal notes limit = works_solved (question_in ns levels assumed) ns atoms old mid new r.works r.lines r.are.within legal notes limit
+    pub solved : (new : WorkList Note) → (IsLegalWork ns (task_in ns levels assumed) mid → IsLegalWork ns (task_in ns levels assumed) new)
+        → noted_atoms new.lines ≡ noted_atoms mid.lines → new.limit ≡ mid.limit → Works ns (task_in ns levels assumed) old new
+    solved new legal notes limit = works_solved (task_in ns levels assumed) ns atoms old mid new r.works r.lines r.are.within legal notes limit
 
 -- the literals that terms of the table are true are of the table
 pub within_yes : (ns : List Node) (ids given : List ℕ) → given ≡ ids → All (λ t. t < length ns) ids → AreWithin ns (map yes given)

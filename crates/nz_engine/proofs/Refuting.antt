@@ -20,7 +20,7 @@ use Rattle.nz_log.specs.declared.steps.Step as own
 use Rattle.nz_log.specs.Logs.{LogState, Entry, entry_at, IsLive, level_at, literals_at}
 use Rattle.nz_log.specs.Spelling.{AreStepsOf, step_of}
 use Rattle.nz_log.specs.Sound.{IsLog, live_terms, ClausesAreTrue}
-use Rattle.nz_log.specs.Verdicts.{OnUnsat, question_in}
+use Rattle.nz_log.specs.Verdicts.{OnUnsat, task_in}
 use Rattle.nz_sat.specs.Conflicts.{Refutes}
 use Rattle.nz_engine.specs.Engines.{IsInOrder, literals_in}
 use Rattle.nz_engine.specs.Posed.{IsAnswer}
@@ -82,7 +82,7 @@ negations_of assumed (Some e) h = (e, refl, h)
 
 -- so no assignment makes what is asserted and assumed true
 pub dead_end : ClausesAreTrue → (ns : List Node) → IsTable ns → (levels : List (List ℕ)) (log : LogState) → IsLog ns levels log → (assumed : List Lit) (id : ℕ)
-    → AreNegations assumed (literals_in log id) → IsDeadEnd (question_in ns levels assumed) at_first
+    → AreNegations assumed (literals_in log id) → IsDeadEnd (task_in ns levels assumed) at_first
 dead_end law ns table levels log order assumed id h a model holds decided =
     let e = negations_of assumed (entry_at log id) h in
     let true_there = law ns table levels log order id e.0 e.1 a model.sorts (live_true ns levels e.0.level a model.asserted_hold) in
@@ -118,6 +118,6 @@ refuted_by log assumed (Err x) h = tt
 
 -- an answer without values
 pub unsat_of : (ns : List Node) (levels : List (List ℕ)) (assumed : List Lit) (log : LogState) (v : Verdict) → IsAnswer ns levels assumed log v
-    → OnUnsat v (IsDeadEnd (question_in ns levels assumed) at_first)
+    → OnUnsat v (IsDeadEnd (task_in ns levels assumed) at_first)
 unsat_of ns levels assumed log (Sat ps) h = tt
 unsat_of ns levels assumed log (Unsat id) h = h.0

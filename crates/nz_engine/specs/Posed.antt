@@ -6,14 +6,14 @@ use Rattle.nz_spec.specs.Table.{Node, term_in, assignment_by}
 use Rattle.nz_spec.specs.Order.{post_order, AreFirst}
 use Rattle.nz_spec.specs.Decide.{asserted_terms, IsValueOf, AreModelValues}
 use Rattle.nz_spec.specs.Literal.{AreTrueLiterals}
-use Rattle.nz_spec.specs.Legal.{Question, at_first, IsDeadEnd, AreLegal}
+use Rattle.nz_spec.specs.Legal.{Task, at_first, IsDeadEnd, AreLegal}
 use Rattle.nz_spec.specs.Work.{NoteLine, WorkList}
 use Rattle.nz_log.specs.declared.decide.Verdict.{Verdict}
 use Rattle.nz_log.specs.declared.decide.Verdict.TheVariants.{Sat, Unsat}
 use Rattle.nz_log.specs.declared.lits.Lit.{Lit}
 use Rattle.nz_log.specs.Lits.{literal_of, AreNegations}
 use Rattle.nz_log.specs.Logs.{LogState}
-use Rattle.nz_log.specs.Verdicts.{question_in}
+use Rattle.nz_log.specs.Verdicts.{task_in}
 use Rattle.nz_log.specs.declared.note.Note.{Note}
 use Rattle.nz_log.specs.declared.note.Note.TheVariants.{Atom}
 use Rattle.nz_log.specs.Notes.{noted_list, AreNotedWithin}
@@ -63,8 +63,8 @@ pub record NotesFirst (atoms : List ℕ) (old new : WorkList Note) : Type 0 wher
   pub count : ℕ
   pub noted : new ≡ with_atoms old (take count atoms)
 
--- The list is legal for a question, and names terms of the table alone; its limit is as before.
-pub record Works (ns : List Node) (q : Question) (old new : WorkList Note) : Type 0 where
+-- The list is legal for a task, and names terms of the table alone; its limit is as before.
+pub record Works (ns : List Node) (q : Task) (old new : WorkList Note) : Type 0 where
   pub legal : AreLegal q at_first (noted_list ns new).lines
   pub named : AreNotedWithin ns new.lines
   pub limit : new.limit ≡ old.limit
@@ -76,4 +76,4 @@ abbrev pub IsAnswer : List Node → List (List ℕ) → List Lit → LogState �
 IsAnswer ns levels assumed log (Sat ps) =
     AreModelValues ns (asserted_terms ns levels) [] ps × AreTrueLiterals (assignment_by ns ps) (map (literal_of ns) assumed)
 IsAnswer ns levels assumed log (Unsat id) =
-    IsDeadEnd (question_in ns levels assumed) at_first × AreNegations assumed (literals_in log id)
+    IsDeadEnd (task_in ns levels assumed) at_first × AreNegations assumed (literals_in log id)

@@ -1,7 +1,7 @@
 //! The clauses of a problem, in a log, each held by a search.
 ghost use Rattle.std.specs.Prelude.{◌≡◌, ℕ, ◌<◌, false, List, All, Contains, Some, length, slice_get, IfErr, IfOk, IfSome, OnOk};
 ghost use Rattle.nz_spec.specs.Gates.{HasBooleanArguments};
-ghost use Rattle.nz_spec.specs.Legal.{Question};
+ghost use Rattle.nz_spec.specs.Legal.{Task};
 ghost use Rattle.nz_spec.specs.Literal.{StandOnce};
 ghost use Rattle.nz_spec.specs.Table.{Node, term_in};
 ghost use Rattle.nz_spec.specs.Term.{holds_number};
@@ -139,7 +139,7 @@ impl Clauses {
         requires notes { unit_count work.old.lines ≡ 0 }
         ensures refuted { IfOk result (λ r. IfSome r (λ id. AreNegations assumed.now (literals_in self.new.log id))) }
         ensures order { (ns : List Node) (levels : List (List ℕ)) → All (λ t. t < length ns) (noted_atoms work.old.lines) → IsLog ns levels self.old.log → IsLog ns levels self.new.log }
-        ensures legal { (ns : List Node) (levels : List (List ℕ)) (q : Question) → IsAsked ns levels self.old.log (noted_atoms work.old.lines) assumed.now q → IsLegalWork ns q work.old → IsLegalWork ns q work.new }
+        ensures legal { (ns : List Node) (levels : List (List ℕ)) (q : Task) → IsAsked ns levels self.old.log (noted_atoms work.old.lines) assumed.now q → IsLegalWork ns q work.old → IsLegalWork ns q work.new }
         ensures notes { noted_atoms work.new.lines ≡ noted_atoms work.old.lines }
         ensures limit { work.new.limit ≡ work.old.limit }
         ensures spent { IfErr result (λ s. OnSpent s (IsSpent work.new)) }

@@ -7,7 +7,7 @@ ghost use Rattle.nz_spec.specs.Decide.{AreInTable, AreModelValues, asserted_numb
 ghost use Rattle.nz_spec.specs.Work.{IsSpent};
 ghost use Rattle.nz_log.specs.Lits.{AreConsistent, literal_of, yes};
 ghost use Rattle.nz_log.specs.Sound.{AreWithin};
-ghost use Rattle.nz_log.specs.Verdicts.{OnSpent, question_in};
+ghost use Rattle.nz_log.specs.Verdicts.{OnSpent, task_in};
 ghost use Rattle.nz_engine.specs.Clausal.{AreIn};
 ghost use Rattle.nz_engine.specs.Engines.{IsInOrder};
 ghost use Rattle.nz_engine.specs.Posed.{AreAtomsOf, AreConstantValues, ArePlain, IsAnswer, NotesFirst, Works, terms_named, with_atoms};
@@ -179,7 +179,7 @@ pub fn decide(
     requires consistent { AreConsistent assumed.now }
     ensures answer { IfOk result (λ f. IsAnswer terms.now levels.now assumed.now f.log f.verdict) }
     ensures order { IfOk result (λ f. IsInOrder terms.now levels.now f.log) }
-    ensures works { Works terms.now (question_in terms.now levels.now assumed.now) work.old work.new }
+    ensures works { Works terms.now (task_in terms.now levels.now assumed.now) work.old work.new }
     ensures spent { IfErr result (λ s. OnSpent s (IsSpent work.new)) }
 {
     known_table(terms);

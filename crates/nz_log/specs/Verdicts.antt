@@ -4,7 +4,7 @@ use Rattle.nz_spec.specs.Term as spec
 use Rattle.nz_spec.specs.Table.{Node, term_in}
 use Rattle.nz_spec.specs.Order.{listing_order}
 use Rattle.nz_spec.specs.Decide.{asserted_terms}
-use Rattle.nz_spec.specs.Legal.{Question}
+use Rattle.nz_spec.specs.Legal.{Task}
 use Rattle.nz_log.specs.declared.decide.Verdict.{Verdict}
 use Rattle.nz_log.specs.declared.decide.Verdict.TheVariants.{Sat, Unsat}
 use Rattle.nz_log.specs.declared.lits.Lit.{Lit}
@@ -33,8 +33,8 @@ OnSpent Spent P = P
 OnSpent Memory P = ⊤
 
 -- What a search is asked: of the asserted terms and the assumed literals, and of all that they are made of.
-abbrev pub question_in : List Node → List (List ℕ) → List Lit → Question
-question_in ns levels assumed = record {
+abbrev pub task_in : List Node → List (List ℕ) → List Lit → Task
+task_in ns levels assumed = record {
   asserted = asserted_terms ns levels;
   assumed = map (literal_of ns) assumed;
   listed = flat_map listing_order (asserted_terms ns levels ++ map (λ (l : Lit). term_in ns l.term) assumed);

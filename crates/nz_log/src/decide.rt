@@ -33,7 +33,7 @@ pub trait Decide: Drop {
     ghost use Rattle.nz_log.specs.Notes.{noted_list, AreNotedWithin};
     ghost use Rattle.nz_log.specs.Sound.{AreWithin};
     ghost use Rattle.nz_log.specs.Spelling.{step_of};
-    ghost use Rattle.nz_log.specs.Verdicts.{IfSat, IfUnsat, OnUnsat, OnSpent, question_in};
+    ghost use Rattle.nz_log.specs.Verdicts.{IfSat, IfUnsat, OnUnsat, OnSpent, task_in};
 
     /// The numbers of the asserted terms by level, the oldest level first.
     ghost levels: { Self → List (List ℕ) };
@@ -94,11 +94,11 @@ pub trait Decide: Drop {
         requires consistent { AreConsistent assumed.now }
         ensures sat { IfOk result (λ v. IfSat v (AreModelValues terms.now (asserted_terms terms.now (levels self.old)) [])) }
         ensures sat_assumed { IfOk result (λ v. IfSat v (λ ps. AreTrueLiterals (assignment_by terms.now ps) (map (literal_of terms.now) assumed.now))) }
-        ensures unsat { IfOk result (λ v. OnUnsat v (IsDeadEnd (question_in terms.now (levels self.old) assumed.now) at_first)) }
+        ensures unsat { IfOk result (λ v. OnUnsat v (IsDeadEnd (task_in terms.now (levels self.old) assumed.now) at_first)) }
         ensures derived { IfOk result (λ v. IfUnsat v (λ id. AreNegations assumed.now (clause self.new id))) }
 
         // Each step is one that a search may take there, whatever comes of it.
-        ensures legal { AreLegal (question_in terms.now (levels self.old) assumed.now) at_first (noted_list terms.now work.new).lines }
+        ensures legal { AreLegal (task_in terms.now (levels self.old) assumed.now) at_first (noted_list terms.now work.new).lines }
         ensures named { AreNotedWithin terms.now work.new.lines }
         ensures spent { IfErr result (λ s. OnSpent s (IsSpent work.new)) }
         ensures limit { work.new.limit ≡ work.old.limit }

@@ -63,8 +63,8 @@ far_advances atoms es es' a b c h h' h'' w w' w'' only p q =
         joined = q.holds_more.joined ∙ ap (λ (xs : List Held). xs ++ q.holds_more.learned) p.holds_more.joined ∙ append_assoc h p.holds_more.learned q.holds_more.learned;
         held = q.holds_more.held;
       };
-      legal = λ ns levels assumed question assumed_only asked legal.
-          q.legal ns levels assumed question (only assumed assumed_only)
+      legal = λ ns levels assumed task assumed_only asked legal.
+          q.legal ns levels assumed task (only assumed assumed_only)
           (record {
             table = asked.table;
             within = asked.within;
@@ -72,6 +72,6 @@ far_advances atoms es es' a b c h h' h'' w w' w'' only p q =
             asserted = asked.asserted;
             assumed_literals = asked.assumed_literals;
           })
-          (p.legal ns levels assumed question assumed_only asked legal);
+          (p.legal ns levels assumed task assumed_only asked legal);
       limit = q.limit ∙ p.limit;
     }

@@ -7,7 +7,7 @@ use Rattle.std.proofs.lemmas.List.{append-nil, length-map, map_push}
 use Rattle.std.proofs.lemmas.List.Elements.{All-contains, All-cons, All-filter, All-map, All-nil, All-push, filter-append}
 use Rattle.std.proofs.lemmas.List.Sums.{sum_by_push}
 use Rattle.std.proofs.lemmas.Option.{same_Some, slice_get-get_or, slice_get_within}
-use Rattle.nz_spec.specs.Legal.{AreLegal, LegalWorkGoesOn, MayDecide, Question, after_line, after_lines, at_first}
+use Rattle.nz_spec.specs.Legal.{AreLegal, LegalWorkGoesOn, MayDecide, Task, after_line, after_lines, at_first}
 use Rattle.nz_spec.specs.Legal as legal
 use Rattle.nz_spec.specs.Reply as reply
 use Rattle.nz_spec.specs.Table.{Node, term_in}
@@ -144,7 +144,7 @@ module _ (log : LogState) (held : List Held) (s : Search) (h : IsSearch log held
         found : (u : ℕ) → Contains s.atoms u → (n : ℕ) × (number_of s.atoms u ≡ Some n)
         found u has = number_found s.atoms u has.0 (slice_get-get_or s.atoms has.0 u has.1 ∙ ap Some has.2)
 
-  pub decided_legal : LegalWorkGoesOn → (ns : List Node) (q : Question) (work : WorkList Note) → IsNoted log held s.atoms s.trail.entries work → IsLegalWork ns q work
+  pub decided_legal : LegalWorkGoesOn → (ns : List Node) (q : Task) (work : WorkList Note) → IsNoted log held s.atoms s.trail.entries work → IsLegalWork ns q work
       → IsLegalWork ns q (with_line work line)
   decided_legal goes_on ns q work n before =
       let r = after_lines at_first (noted_list ns work).lines in

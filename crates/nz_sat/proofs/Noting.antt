@@ -6,7 +6,7 @@ use Rattle.std.proofs.lemmas.List.{length-map, map-append}
 use Rattle.std.proofs.lemmas.List.Elements.{All-contains, All-weaker}
 use Rattle.std.proofs.lemmas.List.Sums.{length-filter}
 use Rattle.std.proofs.lemmas.Option.{same_Some}
-use Rattle.nz_spec.specs.Legal.{AreLegal, LegalWorkGoesOn, MayLearn, Question, Search, IsDeadEnd, after_lines, at_first, literals_by}
+use Rattle.nz_spec.specs.Legal.{AreLegal, LegalWorkGoesOn, MayLearn, Task, Search, IsDeadEnd, after_lines, at_first, literals_by}
 use Rattle.nz_spec.specs.Literal.{AreSameSet, AreTrueLiterals, IsClauseTrue}
 use Rattle.nz_spec.specs.Model.{IsModel}
 use Rattle.nz_spec.specs.Table.{Node, term_in}
@@ -141,7 +141,7 @@ module _ (log log' : LogState) (held : List Held) (s : state.Search) (work : Wor
       (λ m there other. let low = h.lesson.others m there other in let earlier = h.lesson.earlier in omega (arith, low, earlier))
       (literals_at log i) (held_named s.atoms log (ids held) h.search.named i has) opened same
 
-  module _ (clauses : ClausesAreTrue) (ns : List Node) (levels : List (List ℕ)) (assumed : List Lit) (q : Question) (only : All (IsAssumed assumed) es)
+  module _ (clauses : ClausesAreTrue) (ns : List Node) (levels : List (List ℕ)) (assumed : List Lit) (q : Task) (only : All (IsAssumed assumed) es)
       (asked : IsAsked ns levels log s.atoms assumed q) where
     abbrev at : Search
     at = after_lines at_first (noted_list ns work).lines

@@ -2,7 +2,7 @@
 use Rattle.std.specs.Prelude.{◌≡◌, ◌≢◌, ℕ, ◌<◌, ◌++◌, ◌⊎◌, Bool, true, false, All, Contains, List, [], ◌∷◌, length, map, filter, nat_le, Option, Some, None, IsSome, option_map, slice_get, slice_index_or}
 use Rattle.nz_spec.specs.Table.{Node, IsTable, term_in}
 use Rattle.nz_spec.specs.Decide.{asserted_terms}
-use Rattle.nz_spec.specs.Legal.{Question, AreLegal, at_first}
+use Rattle.nz_spec.specs.Legal.{Task, AreLegal, at_first}
 use Rattle.nz_spec.specs.Literal.{are_same_sign, StandOnce}
 use Rattle.nz_spec.specs.Work.{WorkLine, WorkList, unit_count}
 use Rattle.nz_log.specs.declared.lits.Lit.{Lit}
@@ -73,8 +73,8 @@ pub record AreAtoms (log : LogState) (held : List Held) (assumed : List Lit) (at
 abbrev pub AreConsistent : List Lit → Type 0
 AreConsistent assumed = (l : Lit) → Contains assumed l → Contains assumed (negated_lit l) → ⊥
 
--- The question that a search is asked: over a table that has the atoms, and levels of assertions, of which all are asserted.
-pub record IsAsked (ns : List Node) (levels : List (List ℕ)) (log : LogState) (atoms : List ℕ) (assumed : List Lit) (q : Question) : Type 0 where
+-- The task of a search: over a table that has the atoms, and levels of assertions, of which all are asserted.
+pub record IsAsked (ns : List Node) (levels : List (List ℕ)) (log : LogState) (atoms : List ℕ) (assumed : List Lit) (q : Task) : Type 0 where
   pub table : IsTable ns
   pub within : All (λ (t : ℕ). t < length ns) atoms
   pub order : IsLog ns levels log
@@ -82,5 +82,5 @@ pub record IsAsked (ns : List Node) (levels : List (List ℕ)) (log : LogState) 
   pub assumed_literals : q.assumed ≡ map (literal_of ns) assumed
 
 -- the lines of a work list, over a table, are legal
-abbrev pub IsLegalWork : List Node → Question → WorkList Note → Type 0
+abbrev pub IsLegalWork : List Node → Task → WorkList Note → Type 0
 IsLegalWork ns q work = AreLegal q at_first (noted_list ns work).lines

@@ -1,7 +1,7 @@
 -- A search under way.
 use Rattle.std.specs.Prelude.{◌≡◌, ℕ, suc, ◌<◌, ◌≤◌, ◌++◌, Bool, All, Contains, List, [], ◌∷◌, length, map, filter, Option, Some, None, IfSome, IsSome, unwrap_or}
 use Rattle.nz_spec.specs.Table.{Node, term_in}
-use Rattle.nz_spec.specs.Legal.{after_lines, at_first, Question}
+use Rattle.nz_spec.specs.Legal.{after_lines, at_first, Task}
 use Rattle.nz_spec.specs.Work.{DecisionEntry, LearnedEntry, UnitLine, WorkLine, WorkList, unit_count, with_line}
 use Rattle.nz_log.specs.declared.lits.Lit.{Lit}
 use Rattle.nz_log.specs.declared.note.Note.{Note}
@@ -101,7 +101,7 @@ StaysInOrder atoms old new = (ns : List Node) (levels : List (List ℕ)) → All
 
 -- where the old lines are legal, so are the new ones
 abbrev pub StaysLegal : List ℕ → LogState → List Assigned → (old new : WorkList Note) → Type 0
-StaysLegal atoms log es old new = (ns : List Node) (levels : List (List ℕ)) (assumed : List Lit) (q : Question) → All (IsAssumed assumed) es
+StaysLegal atoms log es old new = (ns : List Node) (levels : List (List ℕ)) (assumed : List Lit) (q : Task) → All (IsAssumed assumed) es
     → IsAsked ns levels log atoms assumed q → IsLegalWork ns q old → IsLegalWork ns q new
 
 -- the entries that these assumed literals are

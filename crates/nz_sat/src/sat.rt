@@ -1,6 +1,6 @@
 //! The search as its callers see it.
 ghost use Rattle.std.specs.Prelude.{◌≡◌, ℕ, ◌<◌, ◌∷◌, ◌++◌, [], All, List, nat_le, None, length, map, IfErr, IfOk, IfSome, OnErr, OnOk};
-ghost use Rattle.nz_spec.specs.Legal.{Question};
+ghost use Rattle.nz_spec.specs.Legal.{Task};
 ghost use Rattle.nz_spec.specs.Table.{Node};
 ghost use Rattle.nz_spec.specs.Work.{IsSpent, unit_count};
 ghost use Rattle.nz_log.specs.declared.stop.Stop.TheVariants as stop;
@@ -86,7 +86,7 @@ impl Sat {
         // Where the atoms are of a table, the log stays in order.
         ensures sound { (ns : List Node) (levels : List (List ℕ)) → All (λ t. t < length ns) (noted_atoms work.old.lines) → IsLog ns levels log.old → IsLog ns levels log.new }
         // Where the notes are legal, so is the whole list.
-        ensures legal { (ns : List Node) (levels : List (List ℕ)) (q : Question) → IsAsked ns levels log.old (noted_atoms work.old.lines) assumed.now q → IsLegalWork ns q work.old → IsLegalWork ns q work.new }
+        ensures legal { (ns : List Node) (levels : List (List ℕ)) (q : Task) → IsAsked ns levels log.old (noted_atoms work.old.lines) assumed.now q → IsLegalWork ns q work.old → IsLegalWork ns q work.new }
         // No atom is named that wasn't.
         ensures notes { noted_atoms work.new.lines ≡ noted_atoms work.old.lines }
         ensures limit { work.new.limit ≡ work.old.limit }

@@ -20,7 +20,7 @@ use Rattle.nz_reply.specs.Replies.{reply_of, cause_of, IsCauseWithin}
 use Rattle.nz_session.specs.Desk.{last_of, BindsConstants, KeepsValues, Holds, IsAnswer}
 use Rattle.nz_session.proofs.ValuesKept.{values_stay}
 use Rattle.nz_session.proofs.LegalWork.{one_level}
-use Rattle.nz_log.specs.Verdicts.{OnUnsat, question_in}
+use Rattle.nz_log.specs.Verdicts.{OnUnsat, task_in}
 use Rattle.nz_log.specs.declared.decide.Verdict.{Verdict}
 use Rattle.nz_log.specs.declared.decide.Verdict.TheVariants.{Unsat}
 use Rattle.nz_log.specs.declared.stop.Stop.{Stop}
@@ -43,7 +43,7 @@ told_of_more levels (Some n) old new e h =
 
 -- a dead end before any decision, where nothing is assumed
 pub unsat_in_one_level : (ns : List Node) (levels : List (List ℕ)) (ids : List ℕ) (r : Result Verdict Stop) → levels ≡ ids ∷ []
-    → IfOk r (λ v. OnUnsat v (IsDeadEnd (question_in ns levels []) at_first)) → IfOk r (λ v. OnUnsat v (IsUnsatisfiable (map (term_in ns) ids) []))
+    → IfOk r (λ v. OnUnsat v (IsDeadEnd (task_in ns levels []) at_first)) → IfOk r (λ v. OnUnsat v (IsUnsatisfiable (map (term_in ns) ids) []))
 unsat_in_one_level ns levels ids (Ok (Unsat id)) e h = λ a m. h a (subst (λ ts. IsModel ts [] a) (sym (one_level ns levels ids e)) m) tt tt
 unsat_in_one_level ns levels ids r e h = tt
 

@@ -14,26 +14,26 @@ use Rattle.nz_spec.specs.Live.{State, Item, declared, defined, asserted, sought,
 use Rattle.nz_spec.specs.Work.{DecisionEntry, LearnedEntry, WorkLine, UnitLine, NoteLine, WorkList, is_unit, unit_count, IsSpent}
 use Rattle.nz_spec.specs.Reply.{atom_note}
 use Rattle.nz_spec.specs.Reply as reply
-use Rattle.nz_spec.specs.Legal.{Question, Search, at_first, MayFollow, after_line, AreLegal, IsSpentLegally}
-use Rattle.nz_spec.specs.Right.{question_of}
+use Rattle.nz_spec.specs.Legal.{Task, Search, at_first, MayFollow, after_line, AreLegal, IsSpentLegally}
+use Rattle.nz_spec.specs.Right.{task_of}
 use Rattle.nz_sort.specs.Live.{Standing, IsLive}
 use Rattle.nz_log.specs.declared.note.Note.{Note}
 use Rattle.nz_log.specs.declared.decide.Verdict.{Verdict}
 use Rattle.nz_log.specs.declared.stop.Stop.{Stop}
 use Rattle.nz_log.specs.declared.stop.Stop.TheVariants.{Spent, Memory}
 use Rattle.nz_log.specs.Notes.{note_of, noted_line, noted_list}
-use Rattle.nz_log.specs.Verdicts.{OnSpent, question_in}
+use Rattle.nz_log.specs.Verdicts.{OnSpent, task_in}
 use Rattle.nz_session.proofs.Assigning.{normals_of_model}
 
 -- ---- Questions of which one asks what the other does
 
 -- The models of the second question's assertions are models of the first's, both assume the same, and the second lists what the first does.
-record AsksThat (q r : Question) : Type 0 where
+record AsksThat (q r : Task) : Type 0 where
   pub models : (a : Assignment) → IsModel r.asserted [] a → IsModel q.asserted [] a
   pub assumed : r.assumed ≡ q.assumed
   pub listed : (t : Term) → Contains q.listed t → Contains r.listed t
 
-may_follow_too : (q r : Question) → AsksThat q r → (s : Search) (line : WorkLine reply.Note) → MayFollow q s line → MayFollow r s line
+may_follow_too : (q r : Task) → AsksThat q r → (s : Search) (line : WorkLine reply.Note) → MayFollow q s line → MayFollow r s line
 may_follow_too q r h s (NoteLine (atom_note t)) m = record { listed = h.listed t m.listed; boolean = m.boolean; fresh = m.fresh }
 may_follow_too q r h s (UnitLine (DecisionEntry atom sign)) m = m
 may_follow_too q r h s (UnitLine (LearnedEntry keep clause)) m =
@@ -46,7 +46,7 @@ may_follow_too q r h s (UnitLine (LearnedEntry keep clause)) m =
       new = m.new;
     }
 
-legal_too : (q r : Question) → AsksThat q r → (s : Search) (lines : List (WorkLine reply.Note)) → AreLegal q s lines → AreLegal r s lines
+legal_too : (q r : Task) → AsksThat q r → (s : Search) (lines : List (WorkLine reply.Note)) → AreLegal q s lines → AreLegal r s lines
 legal_too q r h s [] l = l
 legal_too q r h s (line ∷ lines) l = (may_follow_too q r h s line l.0, legal_too q r h (after_line s line) lines l.1)
 
@@ -74,7 +74,7 @@ asserted_listed (sought g ∷ items) t h =
 asserted_listed (wished w ∷ items) t h =
     Contains-append_right (listing_order (normal_of (cost_of w))) (flat_map listing_order (flat_map item_terms items ++ [])) t (asserted_listed items t h)
 
-asks_that : NormalKeepsValue → (ns : List Node) (l : Standing) (s : State) → IsLive ns l s → AsksThat (question_in ns (l.asserted ∷ []) []) (question_of s [])
+asks_that : NormalKeepsValue → (ns : List Node) (l : Standing) (s : State) → IsLive ns l s → AsksThat (task_in ns (l.asserted ∷ []) []) (task_of s [])
 asks_that keeps ns l s h =
     let same : asserted_terms ns (l.asserted ∷ []) ≡ map normal_of (assertions_of s) = one_level ns (l.asserted ∷ []) l.asserted refl ∙ h.terms in
     record {
@@ -85,9 +85,9 @@ asks_that keeps ns l s h =
 
 -- a search of the table's assertions that used each unit is one of the live state
 spent_live : NormalKeepsValue → (ns : List Node) (l : Standing) (s : State) (work : WorkList reply.Note) → IsLive ns l s
-    → IsSpentLegally (question_in ns (l.asserted ∷ []) []) work → IsSpentLegally (question_of s []) work
+    → IsSpentLegally (task_in ns (l.asserted ∷ []) []) work → IsSpentLegally (task_of s []) work
 spent_live keeps ns l s work h w =
-    record { spent = w.spent; legal = legal_too (question_in ns (l.asserted ∷ []) []) (question_of s []) (asks_that keeps ns l s h) at_first work.lines w.legal }
+    record { spent = w.spent; legal = legal_too (task_in ns (l.asserted ∷ []) []) (task_of s []) (asks_that keeps ns l s h) at_first work.lines w.legal }
 
 -- ---- Lists with their notes by terms
 
@@ -103,22 +103,22 @@ same_units ns (NoteLine note ∷ lines) =
 
 -- what a search did in one level, where it used each unit
 pub spent_in_one_level : (ns : List Node) (levels : List (List ℕ)) (ids : List ℕ) (work : WorkList Note) (r : Result Verdict Stop) → levels ≡ ids ∷ []
-    → AreLegal (question_in ns levels []) at_first (noted_list ns work).lines → IfErr r (λ s. OnSpent s (IsSpent work))
-    → IfErr r (λ s. OnSpent s (IsSpentLegally (question_in ns (ids ∷ []) []) (noted_list ns work)))
+    → AreLegal (task_in ns levels []) at_first (noted_list ns work).lines → IfErr r (λ s. OnSpent s (IsSpent work))
+    → IfErr r (λ s. OnSpent s (IsSpentLegally (task_in ns (ids ∷ []) []) (noted_list ns work)))
 spent_in_one_level ns levels ids work (Ok v) e legal spent = tt
 spent_in_one_level ns levels ids work (Err Memory) e legal spent = tt
 spent_in_one_level ns levels ids work (Err Spent) e legal spent =
     record {
       spent = same_units ns work.lines ∙ spent;
-      legal = subst (λ ls. AreLegal (question_in ns ls []) at_first (noted_list ns work).lines) e legal;
+      legal = subst (λ ls. AreLegal (task_in ns ls []) at_first (noted_list ns work).lines) e legal;
     }
 
 -- so it is told of the live state
 pub told_spent : NormalKeepsValue → (ns : List Node) (l : Standing) (s : State) (work : WorkList Note) (lines : List (WorkLine Note)) (limit : ℕ) → IsLive ns l s
-    → lines ≡ work.lines → work.limit ≡ limit → IsSpentLegally (question_in ns (l.asserted ∷ []) []) (noted_list ns work)
-    → IsSpentLegally (question_of s []) (record { lines = map (noted_line ns) lines; limit = limit })
+    → lines ≡ work.lines → work.limit ≡ limit → IsSpentLegally (task_in ns (l.asserted ∷ []) []) (noted_list ns work)
+    → IsSpentLegally (task_of s []) (record { lines = map (noted_line ns) lines; limit = limit })
 told_spent keeps ns l s work lines limit h e f w =
     let same : noted_list ns work ≡ record { lines = map (noted_line ns) lines; limit = limit } =
     ap (λ n. let r : WorkList reply.Note = record { lines = map (noted_line ns) work.lines; limit = n } in r) f
     ∙ ap (λ ls. let r : WorkList reply.Note = record { lines = map (noted_line ns) ls; limit = limit } in r) (sym e) in
-    subst (IsSpentLegally (question_of s [])) same (spent_live keeps ns l s (noted_list ns work) h w)
+    subst (IsSpentLegally (task_of s [])) same (spent_live keeps ns l s (noted_list ns work) h w)

@@ -15,7 +15,7 @@ ghost use Rattle.nz_spec.specs.Right.{Context, done as done_by};
 ghost use Rattle.nz_spec.specs.Legal.{IsSpentLegally};
 ghost use Rattle.nz_spec.specs.Table.{term_in};
 ghost use Rattle.nz_log.specs.Notes.{noted_list, AreNotedWithin};
-ghost use Rattle.nz_log.specs.Verdicts.{IfSat, OnUnsat, OnSpent, question_in};
+ghost use Rattle.nz_log.specs.Verdicts.{IfSat, OnUnsat, OnSpent, task_in};
 ghost use Rattle.nz_reply.specs.Infos.{info_of};
 ghost use Rattle.nz_reply.specs.Replies.{reply_of};
 ghost use Rattle.nz_sort.specs.Acts.{info_meaning};
@@ -354,7 +354,7 @@ fn decide<E: Decide>(
     ensures told { IsTold (E.levels engine.new) told.new (table_numbers assertions.now) }
     ensures sat { IfOk result (λ v. IfSat v (AreModelValues terms.now (map (term_in terms.now) (table_numbers assertions.now)) [])) }
     ensures unsat { IfOk result (λ v. OnUnsat v (IsUnsatisfiable (map (term_in terms.now) (table_numbers assertions.now)) [])) }
-    ensures spent { IfErr result (λ s. OnSpent s (IsSpentLegally (question_in terms.now (table_numbers assertions.now ∷ []) []) (noted_list terms.now work.new))) }
+    ensures spent { IfErr result (λ s. OnSpent s (IsSpentLegally (task_in terms.now (table_numbers assertions.now ∷ []) []) (noted_list terms.now work.new))) }
     ensures limit { IfErr result (λ s. OnSpent s (work.new.limit ≡ limit)) }
     ensures within { IfErr result (λ s. OnSpent s (AreNotedWithin terms.now work.new.lines)) }
     ensures front { IsFrontOfTable (E.table engine.new) terms.now }

@@ -9,7 +9,7 @@ use Rattle.nz_spec.specs.Reading.{trees_from}
 use Rattle.nz_spec.specs.Expression.{Expression}
 use Rattle.nz_spec.specs.Request.{WrittenSort, Parameter, Question, Request, declares, defines, asserts, wishes, seeks, checks, checks_assuming, pushes, pops, resets, resets_assertions, shows_model, shows_values, shows_objectives, shows_info, sets_option, sets_nothing, echoes, exits, other_request}
 use Rattle.nz_spec.specs.Argument.{argument_in, argument_of, Tells, ArgumentTells}
-use Rattle.nz_spec.specs.Parse.{name_of, one, first, none, within, cons_onto, each, expression_of, sort_of, question_of, some_questions, literal_of, level_count, wish_of, attributes_onto, info_of, is_attribute_value, function_of, definition_of, listed_with, commands, request_named, request_of}
+use Rattle.nz_spec.specs.Parse.{name_of, one, first, none, within, cons_onto, each, expression_of, written_sort, question_of, some_questions, literal_of, level_count, wish_of, attributes_onto, info_of, is_attribute_value, function_of, written_definition, listed_with, commands, request_named, request_of}
 
 -- of these arguments
 abbrev only_tree : Trees → Option Tree
@@ -113,11 +113,11 @@ all_told = (
       (
         silent_tells (one (within (each assumption_of)) checks_assuming) (one_silent checks_assuming (λ t a. tt) (within (each assumption_of))),
         (
-          silent_tells (first name_of (λ name. one sort_of (declares name []))) (first_silent name_of (λ name. one sort_of (declares name [])) (λ name. one_silent (declares name []) (λ t s. tt) sort_of)),
+          silent_tells (first name_of (λ name. one written_sort (declares name []))) (first_silent name_of (λ name. one written_sort (declares name [])) (λ name. one_silent (declares name []) (λ t s. tt) written_sort)),
           (
-            silent_tells (first name_of function_of) (first_silent name_of function_of (λ name. first_silent (within (each sort_of)) (λ arguments. one sort_of (declares name arguments)) (λ arguments. one_silent (declares name arguments) (λ t s. tt) sort_of))),
+            silent_tells (first name_of function_of) (first_silent name_of function_of (λ name. first_silent (within (each written_sort)) (λ arguments. one written_sort (declares name arguments)) (λ arguments. one_silent (declares name arguments) (λ t s. tt) written_sort))),
             (
-              silent_tells (first name_of definition_of) (first_silent name_of definition_of (λ name. first_silent (within (each parameter_of)) (λ parameters. first sort_of (λ sort. one expression_of (defines name parameters sort))) (λ parameters. first_silent sort_of (λ sort. one expression_of (defines name parameters sort)) (λ sort. one_silent (defines name parameters sort) (λ t e. tt) expression_of)))),
+              silent_tells (first name_of written_definition) (first_silent name_of written_definition (λ name. first_silent (within (each parameter_of)) (λ parameters. first written_sort (λ sort. one expression_of (defines name parameters sort))) (λ parameters. first_silent written_sort (λ sort. one expression_of (defines name parameters sort)) (λ sort. one_silent (defines name parameters sort) (λ t e. tt) expression_of)))),
               (
                 echo_told,
                 (

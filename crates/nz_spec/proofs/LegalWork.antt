@@ -7,7 +7,7 @@ use Rattle.nz_spec.specs.Term.{Term}
 use Rattle.nz_spec.specs.Literal.{AreSameSet, StandOnce}
 use Rattle.nz_spec.specs.Work.{DecisionEntry, LearnedEntry, WorkLine, UnitLine, NoteLine}
 use Rattle.nz_spec.specs.Reply.{Note, atom_note}
-use Rattle.nz_spec.specs.Legal.{Question, Search, at_first, MayFollow, after_line, after_lines, AreLegal, LegalWorkGoesOn, IsWithoutRepeats, LegalWorkDoesNotRepeat}
+use Rattle.nz_spec.specs.Legal.{Task, Search, at_first, MayFollow, after_line, after_lines, AreLegal, LegalWorkGoesOn, IsWithoutRepeats, LegalWorkDoesNotRepeat}
 
 pub goes_on : LegalWorkGoesOn
 goes_on q s [] line legal may = (may, _)
@@ -77,7 +77,7 @@ undecided_numbers ps atom all (k, within, at) =
 same_back : (c d : List (ℕ × Bool)) → AreSameSet c d → AreSameSet d c
 same_back c d same x = (λ h. (same x).1 h, λ h. (same x).0 h)
 
-kept : (q : Question) (s : Search) (line : WorkLine Note) → MayFollow q s line → IsWithoutRepeats s → IsWithoutRepeats (after_line s line)
+kept : (q : Task) (s : Search) (line : WorkLine Note) → MayFollow q s line → IsWithoutRepeats s → IsWithoutRepeats (after_line s line)
 kept q s (NoteLine (atom_note t)) may h = record { atoms = stand_more s.atoms t h.atoms may.fresh; decided = h.decided; learned = h.learned }
 kept q s (UnitLine (DecisionEntry atom sign)) may h = record {
   atoms = h.atoms;
@@ -91,7 +91,7 @@ kept q s (UnitLine (LearnedEntry keep clause)) may h = record {
   learned = once_more AreSameSet same_back s.learned clause h.learned (λ i c at. all_at (λ d. AreSameSet d clause → ⊥) s.learned i c may.new at);
 }
 
-stays : (q : Question) (s : Search) (lines : List (WorkLine Note)) → AreLegal q s lines → IsWithoutRepeats s → IsWithoutRepeats (after_lines s lines)
+stays : (q : Task) (s : Search) (lines : List (WorkLine Note)) → AreLegal q s lines → IsWithoutRepeats s → IsWithoutRepeats (after_lines s lines)
 stays q s [] legal h = h
 stays q s (line ∷ lines) legal h = stays q (after_line s line) lines legal.1 (kept q s line legal.0 h)
 

@@ -9,7 +9,7 @@ use Rattle.nz_spec.specs.Work.{DecisionEntry, LearnedEntry, WorkLine, UnitLine, 
 use Rattle.nz_spec.specs.Reply.{Note, atom_note}
 
 -- What a search is asked: whether the asserted terms and the assumed literals can be true together, which are made of the listed terms.
-pub record Question : Type 0 where
+pub record Task : Type 0 where
   pub asserted : List Term
   pub assumed : List Literal
   pub listed : List Term
@@ -39,7 +39,7 @@ AreNamed atoms ps = All (λ (p : ℕ × Bool). p.0 < length atoms) ps
 -- ---- Rules
 
 -- An atom is a Boolean term of those listed, and is named once.
-pub record MayName (q : Question) (s : Search) (t : Term) : Type 0 where
+pub record MayName (q : Task) (s : Search) (t : Term) : Type 0 where
   pub listed : Contains q.listed t
   pub boolean : is_boolean_term t ≡ true
   pub fresh : Contains s.atoms t → ⊥
@@ -50,12 +50,12 @@ pub record MayDecide (s : Search) (atom : ℕ) : Type 0 where
   pub undecided : All (λ (p : ℕ × Bool). p.0 ≢ atom) s.decided
 
 -- No assignment makes the asserted terms, the assumed literals and the decisions true.
-abbrev pub IsDeadEnd : Question → Search → Type 0
+abbrev pub IsDeadEnd : Task → Search → Type 0
 IsDeadEnd q s = (a : Assignment) → IsModel q.asserted [] a → AreTrueLiterals a q.assumed → AreTrueLiterals a (literals_by s.atoms s.decided) → ⊥
 
 -- A clause is learned at a dead end, and fewer decisions are kept. It is true wherever the asserted terms are, names no atom twice, and is
 -- none that was learned before.
-pub record MayLearn (q : Question) (s : Search) (keep : ℕ) (clause : List (ℕ × Bool)) : Type 0 where
+pub record MayLearn (q : Task) (s : Search) (keep : ℕ) (clause : List (ℕ × Bool)) : Type 0 where
   pub fewer : keep < length s.decided
   pub dead_end : IsDeadEnd q s
   pub follows : (a : Assignment) → IsModel q.asserted [] a → IsClauseTrue a (literals_by s.atoms clause)
@@ -64,7 +64,7 @@ pub record MayLearn (q : Question) (s : Search) (keep : ℕ) (clause : List (ℕ
   pub new : All (λ (c : List (ℕ × Bool)). AreSameSet c clause → ⊥) s.learned
 
 -- What the next line may be.
-abbrev pub MayFollow : Question → Search → WorkLine Note → Type 0
+abbrev pub MayFollow : Task → Search → WorkLine Note → Type 0
 MayFollow q s (NoteLine (atom_note t)) = MayName q s t
 MayFollow q s (UnitLine (DecisionEntry atom sign)) = MayDecide s atom
 MayFollow q s (UnitLine (LearnedEntry keep clause)) = MayLearn q s keep clause
@@ -82,12 +82,12 @@ abbrev pub after_lines : Search → List (WorkLine Note) → Search
 after_lines s lines = fold after_line s lines
 
 -- From where a search stands, each line is one that may follow.
-abbrev pub AreLegal : Question → Search → List (WorkLine Note) → Type 0
+abbrev pub AreLegal : Task → Search → List (WorkLine Note) → Type 0
 AreLegal q s [] = ⊤
 AreLegal q s (line ∷ lines) = MayFollow q s line × AreLegal q (after_line s line) lines
 
 -- The list of a search that used each of its units, step by step.
-pub record IsSpentLegally (q : Question) (work : WorkList Note) : Type 0 where
+pub record IsSpentLegally (q : Task) (work : WorkList Note) : Type 0 where
   pub spent : IsSpent work
   pub legal : AreLegal q at_first work.lines
 
@@ -95,7 +95,7 @@ pub record IsSpentLegally (q : Question) (work : WorkList Note) : Type 0 where
 
 -- A legal list goes on by a line that may follow.
 abbrev pub LegalWorkGoesOn : Type 0
-LegalWorkGoesOn = (q : Question) (s : Search) (lines : List (WorkLine Note)) (line : WorkLine Note)
+LegalWorkGoesOn = (q : Task) (s : Search) (lines : List (WorkLine Note)) (line : WorkLine Note)
     → AreLegal q s lines → MayFollow q (after_lines s lines) line → AreLegal q s (lines ++ line ∷ [])
 
 -- In a legal list no atom is named twice, none is decided twice at a time, and no clause is learned twice.
@@ -105,4 +105,4 @@ pub record IsWithoutRepeats (s : Search) : Type 0 where
   pub learned : (i j : ℕ) (c d : List (ℕ × Bool)) → slice_get s.learned i ≡ Some c → slice_get s.learned j ≡ Some d → AreSameSet c d → i ≡ j
 
 abbrev pub LegalWorkDoesNotRepeat : Type 0
-LegalWorkDoesNotRepeat = (q : Question) (lines : List (WorkLine Note)) → AreLegal q at_first lines → IsWithoutRepeats (after_lines at_first lines)
+LegalWorkDoesNotRepeat = (q : Task) (lines : List (WorkLine Note)) → AreLegal q at_first lines → IsWithoutRepeats (after_lines at_first lines)

@@ -150,12 +150,12 @@ each part no_trees = Some []
 each part (trees t ts) = cons_onto (part t) (each part ts)
 
 -- a sort: its name, or a list
-abbrev pub sort_of : Tree → Option WrittenSort
-sort_of (leaf t) = option_map named_sort (token_name t)
-sort_of (node ts) = Some listed_sort
+abbrev pub written_sort : Tree → Option WrittenSort
+written_sort (leaf t) = option_map named_sort (token_name t)
+written_sort (node ts) = Some listed_sort
 
 abbrev pub parameter_in : Trees → Option Parameter
-parameter_in ts = first name_of (λ name. one sort_of (λ sort. record { name = name; sort = sort })) ts
+parameter_in ts = first name_of (λ name. one written_sort (λ sort. record { name = name; sort = sort })) ts
 
 abbrev pub parameter_of : Tree → Option Parameter
 parameter_of t = within parameter_in t
@@ -202,9 +202,9 @@ level_count ts = one level_number (λ n. n) ts
 
 -- ---- Wishes
 
-abbrev pub number_of : Tree → Option (Option Numeric)
-number_of (leaf t) = token_number t
-number_of (node ts) = None
+abbrev pub written_number : Tree → Option (Option Numeric)
+written_number (leaf t) = token_number t
+written_number (node ts) = None
 
 abbrev pub keyword_of : Tree → Option (List ℕ)
 keyword_of (leaf (keyword name)) = Some name
@@ -213,7 +213,7 @@ keyword_of t = None
 -- one attribute more, which was not there before
 abbrev pub attribute_onto : Attributes → List ℕ → Tree → Option Attributes
 attribute_onto a name v =
-    if bytes_eq name (codes ":weight") && is_none a.weight then option_map (λ w. record a { weight = Some w }) (number_of v)
+    if bytes_eq name (codes ":weight") && is_none a.weight then option_map (λ w. record a { weight = Some w }) (written_number v)
     else (if bytes_eq name (codes ":id") && is_none a.group then option_map (λ g. record a { group = Some g }) (name_of v)
     else None)
 
@@ -277,10 +277,10 @@ info_of key ts = one (λ v. if is_attribute_value v then Some v else None) (λ v
 
 -- after its name: the sorts of its arguments and its own; parameters, a sort and a body
 abbrev pub function_of : List ℕ → Trees → Option Request
-function_of name ts = first (within (each sort_of)) (λ arguments. one sort_of (declares name arguments)) ts
+function_of name ts = first (within (each written_sort)) (λ arguments. one written_sort (declares name arguments)) ts
 
-abbrev pub definition_of : List ℕ → Trees → Option Request
-definition_of name ts = first (within (each parameter_of)) (λ parameters. first sort_of (λ sort. one expression_of (defines name parameters sort))) ts
+abbrev pub written_definition : List ℕ → Trees → Option Request
+written_definition name ts = first (within (each parameter_of)) (λ parameters. first written_sort (λ sort. one expression_of (defines name parameters sort))) ts
 
 -- the commands that the program knows, each with what its arguments are
 abbrev pub commands : List (List ℕ × (Trees → Option Request))
@@ -289,9 +289,9 @@ commands =
     ∷ (codes "assert-soft", first expression_of wish_of)
     ∷ (codes "check-sat", none checks)
     ∷ (codes "check-sat-assuming", one (within (each assumption_of)) checks_assuming)
-    ∷ (codes "declare-const", first name_of (λ name. one sort_of (declares name [])))
+    ∷ (codes "declare-const", first name_of (λ name. one written_sort (declares name [])))
     ∷ (codes "declare-fun", first name_of function_of)
-    ∷ (codes "define-fun", first name_of definition_of)
+    ∷ (codes "define-fun", first name_of written_definition)
     ∷ (codes "echo", one literal_of echoes)
     ∷ (codes "exit", none exits)
     ∷ (codes "get-info", one keyword_of (λ name. shows_info (info_key name)))

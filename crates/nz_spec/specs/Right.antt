@@ -10,7 +10,7 @@ use Rattle.nz_spec.specs.Command.{Asked, Command, declare_const, define, assert_
 use Rattle.nz_spec.specs.Script.{outcome_of}
 use Rattle.nz_spec.specs.TermList.{terms_added}
 use Rattle.nz_spec.specs.Gates.{holds}
-use Rattle.nz_spec.specs.Legal.{Question, IsSpentLegally}
+use Rattle.nz_spec.specs.Legal.{Task, IsSpentLegally}
 use Rattle.nz_spec.specs.Reply.{Shown, term_shown, Reply, quiet, success, sat, unsat, unknown, model, values, info, levels, reason, echoed, unsupported, error, Cause, plain, spent}
 
 -- What a reply is judged by: the most units of work that a check may use, the states before, the newest first, and the state
@@ -25,8 +25,8 @@ abbrev pub beginning : ℕ → Context
 beginning limit = record { limit = limit; before = []; state = start }
 
 -- what a check under these assumed terms asks a search
-abbrev pub question_of : State → List Term → Question
-question_of s assumed = record { asserted = assertions_of s; assumed = map holds assumed; listed = terms_added s assumed }
+abbrev pub task_of : State → List Term → Task
+task_of s assumed = record { asserted = assertions_of s; assumed = map holds assumed; listed = terms_added s assumed }
 
 -- An answer to a check under these assumed terms.
 abbrev pub IsRightCheck : Context → List Term → Reply → Cause → Type 0
@@ -35,7 +35,7 @@ IsRightCheck c assumed unsat cause = IsUnsatisfiable (assertions_of c.state) ass
 -- Each unit of the limit was used, step by step as a search may.
 IsRightCheck c assumed (unknown r) plain = ⊥
 IsRightCheck c assumed (unknown r) (spent list) =
-    (r ≡ units_spent c.limit) × (list.limit ≡ c.limit) × IsSpentLegally (question_of c.state assumed) list
+    (r ≡ units_spent c.limit) × (list.limit ≡ c.limit) × IsSpentLegally (task_of c.state assumed) list
 IsRightCheck c assumed reply cause = ⊥
 
 -- what the last answer shows, where it has something to show

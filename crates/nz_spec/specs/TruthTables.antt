@@ -2,6 +2,7 @@
 use Rattle.std.specs.Prelude.{◌≡◌, Bool, true, false, List, [], ◌∷◌, ◌++◌, map, codes}
 use Rattle.nz_spec.specs.Term.{bool_sort, Head, constant, conjunction, implication, exclusion, equality, distinction, choice, disjunction, Term, apply, no_terms, terms, Value, truth, is_true, head_value}
 use Rattle.nz_spec.specs.Normal.{negated, paired, normal_of}
+use Rattle.nz_spec.specs.Samples.{a_term}
 
 -- the values of two, and of three, arguments, the last changing first
 abbrev pub pairs : List (List Value)
@@ -36,9 +37,6 @@ pub record HasTriples : Type 0 where
   pub chooses : column (choice bool_sort) triples ≡ false ∷ true ∷ false ∷ true ∷ false ∷ false ∷ true ∷ true ∷ []
 
 -- three constants
-abbrev pub a_term : Term
-a_term = apply (constant (record { name = codes "a"; sort = bool_sort })) no_terms
-
 abbrev pub b_term : Term
 b_term = apply (constant (record { name = codes "b"; sort = bool_sort })) no_terms
 

@@ -71,8 +71,8 @@ nonlinear =
     codes "(define-fun g ((k Int) (l Int)) Int (* k l))" ∷ codes "(define-fun g ((k Int)) Int (div 6 k))" ∷ []
 
 -- A number above the greatest, wherever it stands.
-abbrev pub too_wide : List (List ℕ)
-too_wide =
+abbrev pub wide_numbers : List (List ℕ)
+wide_numbers =
     codes "(assert (< x 170141183460469231731687303715884105728))" ∷ codes "(assert (< u 17014118346046923173168730371588410572.8))" ∷
     codes "(set-info :foo 170141183460469231731687303715884105728)" ∷ codes "(set-info :foo (170141183460469231731687303715884105728))" ∷
     codes "(frob 170141183460469231731687303715884105728)" ∷ codes "(pop 170141183460469231731687303715884105728)" ∷
@@ -105,7 +105,7 @@ without_effect =
 pub record HasRefusals : Type 0 where
   pub syntax : outcomes_in formless ≡ all_end (refused fault.bad_syntax) formless
   pub limits : outcomes_in past_limits ≡ all_end (refused fault.past_limit) past_limits
-  pub width : outcomes_in too_wide ≡ all_end (refused fault.too_wide) too_wide
+  pub width : outcomes_in wide_numbers ≡ all_end (refused fault.too_wide) wide_numbers
   pub others : outcomes_in unsupported_texts ≡ all_end not_taken unsupported_texts
   pub unknown : outcomes_in unknown_names ≡ all_end (refused fault.unknown_symbol) unknown_names
   pub known : outcomes_in declared_names ≡ all_end (refused fault.already_declared) declared_names

@@ -60,8 +60,8 @@ pub record HasResolvents : Type 0 where
 abbrev pub opposites : List Term
 opposites = a_term ∷ negated a_term ∷ []
 
-abbrev pub refutation : List Step
-refutation =
+abbrev pub refuting_steps : List Step
+refuting_steps =
     given_step 0 ∷ given_step 1 ∷ gate_step (negated a_term) 0
     ∷ resolve_step 1 2 (holds (negated a_term)) ∷ resolve_step 0 3 a_true ∷ []
 
@@ -72,4 +72,4 @@ refuting_clauses =
 
 -- The last step gives the empty clause.
 abbrev pub HasRefutation : Type 0
-HasRefutation = IsDerivation opposites refutation (refuting_clauses ++ [] ∷ [])
+HasRefutation = IsDerivation opposites refuting_steps (refuting_clauses ++ [] ∷ [])

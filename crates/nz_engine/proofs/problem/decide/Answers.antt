@@ -4,7 +4,7 @@ use Rattle.nz_spec.specs.Decide.{asserted_numbers, AreModelValues}
 use Rattle.nz_log.specs.Lits.{AreNegations}
 use Rattle.nz_log.specs.Logs.{LogState}
 use Rattle.nz_log.specs.Sound.{IsLog}
-use Rattle.nz_log.specs.Verdicts.{question_in}
+use Rattle.nz_log.specs.Verdicts.{task_in}
 use Rattle.nz_engine.specs.Engines.{IsInOrder, literals_in}
 use Rattle.nz_engine.specs.Posed.{ArePlain, terms_named}
 use Rattle.nz_engine.proofs.Naming.{works_none}
@@ -15,7 +15,7 @@ use Rattle.nz_engine.proofs.problem.decide.Goals as goal
 
 pub returns-in_err-problem-clause-works : goal.returns-in_err-problem-clause-works
 returns-in_err-problem-clause-works c =
-    works_none (question_in c.args.terms.now c.args.levels.now c.args.assumed.now) c.args.terms.now c.args.work.now c.args.work.now c.requires.no_steps refl
+    works_none (task_in c.args.terms.now c.args.levels.now c.args.assumed.now) c.args.terms.now c.args.work.now c.args.work.now c.requires.no_steps refl
 
 pub returns-in_err-note_atoms-clause-works : goal.returns-in_err-note_atoms-clause-works
 returns-in_err-note_atoms-clause-works c =
@@ -96,7 +96,7 @@ returns-in_err-refuted-clause-works c =
     let r = ready ns levels assumed problem.atoms.items atoms problem.clauses old mid c.deref.ensures.value plain c.in_ok-problem.ensures.atoms c.in_ok-problem.ensures.clauses
     c.requires.no_steps c.note_atoms.ensures.first c.in_ok-note_atoms.ensures.all in
     solved ns levels assumed atoms problem.clauses old mid r c.solve.new.work
-    (c.solve.ensures.legal ns levels (question_in ns levels assumed) (ready_asked ns levels assumed atoms problem.clauses old mid r c.known_table.ensures.table))
+    (c.solve.ensures.legal ns levels (task_in ns levels assumed) (ready_asked ns levels assumed atoms problem.clauses old mid r c.known_table.ensures.table))
     c.solve.ensures.notes c.solve.ensures.limit
 
 pub returns-in_err-values-in-None-clause-works : goal.returns-in_err-values-in-None-clause-works
@@ -112,7 +112,7 @@ returns-in_err-values-in-None-clause-works c =
     let r = ready ns levels assumed problem.atoms.items atoms problem.clauses old mid c.deref.ensures.value plain c.in_ok-problem.ensures.atoms c.in_ok-problem.ensures.clauses
     c.requires.no_steps c.note_atoms.ensures.first c.in_ok-note_atoms.ensures.all in
     solved ns levels assumed atoms problem.clauses old mid r c.solve.new.work
-    (c.solve.ensures.legal ns levels (question_in ns levels assumed) (ready_asked ns levels assumed atoms problem.clauses old mid r c.known_table.ensures.table))
+    (c.solve.ensures.legal ns levels (task_in ns levels assumed) (ready_asked ns levels assumed atoms problem.clauses old mid r c.known_table.ensures.table))
     c.solve.ensures.notes c.solve.ensures.limit
 
 pub returns-in-Some-clause-works : goal.returns-in-Some-clause-works
@@ -128,7 +128,7 @@ returns-in-Some-clause-works c =
     let r = ready ns levels assumed problem.atoms.items atoms problem.clauses old mid c.deref.ensures.value plain c.in_ok-problem.ensures.atoms c.in_ok-problem.ensures.clauses
     c.requires.no_steps c.note_atoms.ensures.first c.in_ok-note_atoms.ensures.all in
     solved ns levels assumed atoms problem.clauses old mid r c.solve.new.work
-    (c.solve.ensures.legal ns levels (question_in ns levels assumed) (ready_asked ns levels assumed atoms problem.clauses old mid r c.known_table.ensures.table))
+    (c.solve.ensures.legal ns levels (task_in ns levels assumed) (ready_asked ns levels assumed atoms problem.clauses old mid r c.known_table.ensures.table))
     c.solve.ensures.notes c.solve.ensures.limit
 
 pub returns-in_ok-values-in-None-clause-works : goal.returns-in_ok-values-in-None-clause-works
@@ -144,7 +144,7 @@ returns-in_ok-values-in-None-clause-works c =
     let r = ready ns levels assumed problem.atoms.items atoms problem.clauses old mid c.deref.ensures.value plain c.in_ok-problem.ensures.atoms c.in_ok-problem.ensures.clauses
     c.requires.no_steps c.note_atoms.ensures.first c.in_ok-note_atoms.ensures.all in
     solved ns levels assumed atoms problem.clauses old mid r c.solve.new.work
-    (c.solve.ensures.legal ns levels (question_in ns levels assumed) (ready_asked ns levels assumed atoms problem.clauses old mid r c.known_table.ensures.table))
+    (c.solve.ensures.legal ns levels (task_in ns levels assumed) (ready_asked ns levels assumed atoms problem.clauses old mid r c.known_table.ensures.table))
     c.solve.ensures.notes c.solve.ensures.limit
 
 pub model-requires-clause-known : goal.model-requires-clause-known

@@ -2,7 +2,7 @@ use Rattle.std.proofs.Common.{ℕ, false, List, [], ◌≡◌, ◌∙◌, map, E
 use Rattle.std.specs.Prelude.{All}
 use Rattle.nz_spec.specs.Live.{units_spent}
 use Rattle.nz_spec.specs.Legal.{IsSpentLegally}
-use Rattle.nz_spec.specs.Right.{question_of}
+use Rattle.nz_spec.specs.Right.{task_of}
 use Rattle.nz_log.specs.Notes.{noted_line, AreNotedWithin}
 use Rattle.nz_log.specs.declared.stop.Stop.TheVariants.{Spent}
 use Rattle.nz_spec.specs.Term.{holds_number}
@@ -39,5 +39,5 @@ returns-in-Err-Spent-clause-right g c x t h e =
     let live = told_spent c.normal_keeps_value.ensures.keeps ns c.args.self.now.live x.state c.decide-decided.new.work c.take.result x.limit h.live c.take.ensures.lines (limit ∙ h.bounded) spent in
     checked_answer g.E.Decide.levels g.E.Decide.table x t _ _ c.args.self.now.last
     (record { live = h.live; told = told; front = c.decide-decided.ensures.front; last = h.last; bound = h.bound; values = h.values; success = h.success; bounded = h.bounded }) refl e refl
-    (ap units_spent h.bounded, h.bounded, subst (λ n. IsSpentLegally (question_of x.state []) (record { lines = map (noted_line ns) c.take.result; limit = n })) (sym h.bounded) live)
+    (ap units_spent h.bounded, h.bounded, subst (λ n. IsSpentLegally (task_of x.state []) (record { lines = map (noted_line ns) c.take.result; limit = n })) (sym h.bounded) live)
     (subst (AreNotedWithin ns) (sym c.take.ensures.lines) within) tt
