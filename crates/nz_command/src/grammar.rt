@@ -15,7 +15,7 @@ use crate::lists::{only, pair, triple};
 use crate::names::{keyword_of, listed_with, name_of};
 use crate::parts::{
     assumptions, attributes_onto, info_key, is_attribute_value, level_count, literal_of,
-    parameters, questions, setting_of, written_sort, sorts,
+    parameters, questions, setting_of, sorts, written_sort,
 };
 use crate::terms::expression;
 use nz_base::{Memory, Text};

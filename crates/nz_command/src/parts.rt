@@ -247,7 +247,7 @@ fn with_attribute<'a>(
     let key = keyword_of(key)?;
     if key.as_bytes() == b":weight".as_slice() && found.weight.is_none() {
         return Some(Attributes {
-            weight: Some(written_number(value)?),
+            weight: Some(weight_of(value)?),
             group: found.group,
         });
     }
@@ -261,8 +261,8 @@ fn with_attribute<'a>(
 }
 
 /// The number of a numeral or a decimal.
-fn written_number(tree: &Tree) -> Option<Number>
-    ensures number { option_map views.number_view result ≡ parse.written_number (view tree.now) }
+fn weight_of(tree: &Tree) -> Option<Number>
+    ensures number { option_map views.number_view result ≡ parse.weight_of (view tree.now) }
 {
     match tree {
         Tree::Word(token) => token_number(token),

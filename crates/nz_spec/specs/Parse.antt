@@ -202,9 +202,9 @@ level_count ts = one level_number (λ n. n) ts
 
 -- ---- Wishes
 
-abbrev pub written_number : Tree → Option (Option Numeric)
-written_number (leaf t) = token_number t
-written_number (node ts) = None
+abbrev pub weight_of : Tree → Option (Option Numeric)
+weight_of (leaf t) = token_number t
+weight_of (node ts) = None
 
 abbrev pub keyword_of : Tree → Option (List ℕ)
 keyword_of (leaf (keyword name)) = Some name
@@ -213,7 +213,7 @@ keyword_of t = None
 -- one attribute more, which was not there before
 abbrev pub attribute_onto : Attributes → List ℕ → Tree → Option Attributes
 attribute_onto a name v =
-    if bytes_eq name (codes ":weight") && is_none a.weight then option_map (λ w. record a { weight = Some w }) (written_number v)
+    if bytes_eq name (codes ":weight") && is_none a.weight then option_map (λ w. record a { weight = Some w }) (weight_of v)
     else (if bytes_eq name (codes ":id") && is_none a.group then option_map (λ g. record a { group = Some g }) (name_of v)
     else None)
 

@@ -36,7 +36,7 @@ pub record HasTriples : Type 0 where
   pub differs : column distinction triples ≡ false ∷ false ∷ false ∷ false ∷ false ∷ false ∷ false ∷ false ∷ []
   pub chooses : column (choice bool_sort) triples ≡ false ∷ true ∷ false ∷ true ∷ false ∷ false ∷ true ∷ true ∷ []
 
--- three constants
+-- two constants more
 abbrev pub b_term : Term
 b_term = apply (constant (record { name = codes "b"; sort = bool_sort })) no_terms
 

@@ -2,7 +2,8 @@
 use Rattle.std.specs.Prelude.{◌≡◌, List, [], ◌∷◌, ◌++◌}
 use Rattle.nz_spec.specs.Term.{bool_sort, int_sort, verum, falsum, integer, conjunction, disjunction, exclusion, equality, choice, Term, apply, no_terms}
 use Rattle.nz_spec.specs.Normal.{negated, paired}
-use Rattle.nz_spec.specs.TruthTables.{a_term, b_term, c_term, of_three}
+use Rattle.nz_spec.specs.Samples.{a_term}
+use Rattle.nz_spec.specs.TruthTables.{b_term, c_term, of_three}
 use Rattle.nz_spec.specs.Literal.{Literal, Clause, clause_of, resolvent}
 use Rattle.nz_spec.specs.Gates.{holds, fails, gate_clauses}
 use Rattle.nz_spec.specs.Steps.{Step, given_step, gate_step, resolve_step, IsDerivation}
