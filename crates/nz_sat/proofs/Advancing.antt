@@ -44,6 +44,7 @@ log_advances atoms es a b held work h g sound =
       sound = sound;
       holds_more = record { learned = []; joined = sym (append-nil held); held = held_on a b held g h };
       legal = λ ns levels assumed q only asked legal. legal;
+      notes = refl;
       limit = refl;
     }
 
@@ -73,5 +74,6 @@ far_advances atoms es es' a b c h h' h'' w w' w'' only p q =
             assumed_literals = asked.assumed_literals;
           })
           (p.legal ns levels assumed task assumed_only asked legal);
+      notes = q.notes ∙ p.notes;
       limit = q.limit ∙ p.limit;
     }

@@ -33,6 +33,7 @@ use Rattle.nz_sat.proofs.DeadEnds.{clause_true, literals_numbered, none_dead}
 use Rattle.nz_sat.proofs.Keeping.{held_live}
 use Rattle.nz_sat.proofs.Levels.{below_true, free_high}
 use Rattle.nz_sat.proofs.Marks.{false_entry, level_found, not_itself}
+use Rattle.nz_sat.proofs.Numbering.{unit_noted}
 use Rattle.nz_sat.proofs.Newness.{numbers_once, numbers_within, open_differs}
 use Rattle.nz_sat.proofs.Trailing.{assigned_place, level_within}
 
@@ -196,4 +197,11 @@ module _ (log log' : LogState) (held : List Held) (s : state.Search) (work : Wor
       → work' ≡ with_line work (learned_line s.atoms log' l) → Advances s.atoms es log log' held held' work work'
   line_advances clauses goes_on held' more work' is =
       subst (Advances s.atoms es log log' held held' work) (sym is)
-      (record { grows = h.grows; sound = stays; holds_more = more; legal = line_legal clauses goes_on; limit = refl })
+      (record {
+        grows = h.grows;
+        sound = stays;
+        holds_more = more;
+        legal = line_legal clauses goes_on;
+        notes = unit_noted work.lines (LearnedEntry l.level (map (numbered s.atoms) (literals_at log' l.clause)));
+        limit = refl;
+      })

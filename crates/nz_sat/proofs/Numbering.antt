@@ -108,3 +108,7 @@ unnamed us t has none =
     let found = number_found us t has.0 at in
     let clash : Some found.0 ≡ None = sym found.1 ∙ none in
     cc
+
+-- a line that is no note names no atom
+pub unit_noted : (lines : List (WorkLine Note)) (x : Entry) → noted_atoms (lines ++ UnitLine x ∷ []) ≡ noted_atoms lines
+unit_noted lines x = noted-append lines (UnitLine x ∷ []) ∙ append-nil (noted_atoms lines)

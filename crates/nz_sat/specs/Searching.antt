@@ -15,7 +15,7 @@ use Rattle.nz_log.specs.Sound.{IsLog}
 use Rattle.nz_sat.specs.Trails.{EachBehind, GoesOn, IsTrail, IsTrueOn, assigned, below, decided, depth, implied, is_decision, with_entry}
 use Rattle.nz_sat.specs.Clauses.{HasReasonOf, IsAssumed, IsDead, IsImplied, IsListed, IsOfSize, IsOpen, Waits, ids_of}
 use Rattle.nz_sat.specs.Conflicts.{AreUnmarked, Grows, IsDeadUnder}
-use Rattle.nz_sat.specs.Numbers.{number_of, numbered}
+use Rattle.nz_sat.specs.Numbers.{noted_atoms, number_of, numbered}
 use Rattle.nz_sat.specs.Sats.{AreConsistent, AreHeld, HoldsMore, IsAsked, IsLegalWork}
 
 abbrev pub ids : List Held → List ℕ
@@ -114,6 +114,7 @@ pub record Advances (atoms : List ℕ) (es : List Assigned) (log log' : LogState
   pub sound : StaysInOrder atoms log log'
   pub holds_more : HoldsMore log' held held'
   pub legal : StaysLegal atoms log es work work'
+  pub notes : noted_atoms work'.lines ≡ noted_atoms work.lines
   pub limit : work'.limit ≡ work.limit
 
 -- what is true under no decision stays so
