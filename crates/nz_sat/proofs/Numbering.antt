@@ -3,9 +3,9 @@ use Rattle.std.proofs.Common.{◌≡◌, ◌≢◌, ℕ, zero, suc, ◌+◌, ◌
 use Rattle.std.specs.Prelude.{Contains, slice_get, slice_index_or, option_map, unwrap_or}
 use Rattle.std.proofs.lemmas.Bool.{cases_eq, eq-eqb}
 use Rattle.std.proofs.lemmas.Bool.Decides.{eqb_tells}
-use Rattle.std.proofs.lemmas.List.{take_more}
+use Rattle.std.proofs.lemmas.List.{append-nil, take_more}
 use Rattle.std.proofs.lemmas.Option.{get_or_from_slice_get, same_Some, slice_get-get_or, slice_get_within}
-use Rattle.nz_spec.specs.Work.{WorkLine, UnitLine, NoteLine}
+use Rattle.nz_spec.specs.Work.{WorkEntry, WorkLine, UnitLine, NoteLine}
 use Rattle.nz_log.specs.declared.lits.Lit.{Lit}
 use Rattle.nz_log.specs.declared.note.Note.{Note}
 use Rattle.nz_log.specs.declared.note.Note.TheVariants.{Atom}
@@ -110,5 +110,5 @@ unnamed us t has none =
     cc
 
 -- a line that is no note names no atom
-pub unit_noted : (lines : List (WorkLine Note)) (x : Entry) → noted_atoms (lines ++ UnitLine x ∷ []) ≡ noted_atoms lines
+pub unit_noted : (lines : List (WorkLine Note)) (x : WorkEntry) → noted_atoms (lines ++ UnitLine x ∷ []) ≡ noted_atoms lines
 unit_noted lines x = noted-append lines (UnitLine x ∷ []) ∙ append-nil (noted_atoms lines)
