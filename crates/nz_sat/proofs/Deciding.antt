@@ -1,4 +1,4 @@
--- A search after one decision more. (Not checked yet: the check of `run`, which is to cite it, was cut off.)
+-- A search after one decision more.
 use Rattle.std.proofs.Common.{◌≡◌, ◌≢◌, ℕ, zero, suc, ◌+◌, ◌<◌, ◌≤◌, Bool, true, false, if◌then◌else◌, List, [], ◌∷◌, ◌++◌, length, take, map, get_or, Option, Some, None, inl, inr, refl, sym, ap, subst, ◌∙◌, arith}
 use Rattle.std.specs.Prelude.{All, Contains, filter, fold, nat_lt, slice_get, unwrap_or}
 use Rattle.std.proofs.lemmas.Bool.{cases_lt}
@@ -19,14 +19,15 @@ use Rattle.nz_log.specs.Notes.{noted_line, noted_list}
 use Rattle.nz_sat.specs.declared.clauses.Held.{Held}
 use Rattle.nz_sat.specs.declared.search.Search.{Search}
 use Rattle.nz_sat.specs.declared.trail.Assigned.{Assigned}
-use Rattle.nz_sat.specs.Trails.{AreUpTo, EachBehind, IsTrail, TrailState, assigned, below, decided, depth, is_decision, with_entry}
-use Rattle.nz_sat.specs.Clauses.{HasReasonOf, IsImplied, IsOpen, Waits}
+use Rattle.nz_sat.specs.Trails.{AreUpTo, EachBehind, IsTrail, IsTrueOn, TrailState, assigned, below, decided, depth, is_decision, with_entry}
+use Rattle.nz_sat.specs.Clauses.{HasReasonOf, IsAssumed, IsImplied, IsOpen, Waits}
 use Rattle.nz_sat.specs.Numbers.{number_of, numbered}
 use Rattle.nz_sat.specs.Sats.{IsLegalWork}
-use Rattle.nz_sat.specs.Searching.{AreOpen, AreWaiting, IsNoted, IsSearch, WereOpen, ids}
+use Rattle.nz_sat.specs.Searching.{Advances, AreOpen, AreWaiting, IsNoted, IsSearch, KeepsFirst, WereOpen, ids}
+use Rattle.nz_sat.proofs.Advancing.{grows_none}
 use Rattle.nz_sat.proofs.Clausal.{open_grows}
 use Rattle.nz_sat.proofs.Cutting.{below_all, below_join, below_none}
-use Rattle.nz_sat.proofs.Numbering.{number_found, number_place}
+use Rattle.nz_sat.proofs.Numbering.{number_found, number_place, unit_noted}
 use Rattle.nz_sat.proofs.Trailing.{assigned_at, each_push, level_within, order_put}
 
 module _ (log : LogState) (held : List Held) (s : Search) (h : IsSearch log held s) (t : ℕ) (sign : Bool)
@@ -163,3 +164,25 @@ module _ (log : LogState) (held : List Held) (s : Search) (h : IsSearch log held
       } in
       subst (AreLegal q at_first) (sym (map_push (noted_line ns) work.lines line))
       (goes_on q at_first (map (noted_line ns) work.lines) (UnitLine (DecisionEntry number sign)) before may)
+
+  -- ---- The step
+
+  pub decided_advances : LegalWorkGoesOn → (work : WorkList Note) → IsNoted log held s.atoms s.trail.entries work
+      → Advances s.atoms s.trail.entries log log held held work (with_line work line)
+  decided_advances goes_on work n =
+      record {
+        grows = grows_none log;
+        sound = λ ns levels within order. order;
+        holds_more = record { learned = []; joined = sym (append-nil held); held = h.are_held };
+        legal = λ ns levels assumed q only asked legal. decided_legal goes_on ns q work n legal;
+        notes = unit_noted work.lines (DecisionEntry number sign);
+        limit = refl;
+      }
+
+  -- what is decided isn't assumed
+  pub decided_assumed : (assumed : List Lit) → All (IsAssumed assumed) s.trail.entries → All (IsAssumed assumed) more
+  decided_assumed assumed only =
+      All-push (IsAssumed assumed) s.trail.entries entry only (λ none level. absurd (omega arith))
+
+  pub decided_first : KeepsFirst s.trail.entries more
+  decided_first l true_before = subst (λ (xs : List Assigned). IsTrueOn xs l) (sym (below_more 0 (omega arith))) true_before
