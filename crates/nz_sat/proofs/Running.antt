@@ -1,21 +1,25 @@
 -- A search from its start to its end: what is assumed, and one turn of decision and conflicts.
-use Rattle.std.proofs.Common.{◌≡◌, ℕ, ◌<◌, ◌≤◌, List, [], ◌∷◌, length, map, get_or, Some, None, refl, sym, ap, subst, ◌∙◌, arith}
-use Rattle.std.specs.Prelude.{All, Contains, filter}
+use Rattle.std.proofs.Common.{◌≡◌, ℕ, suc, ◌+◌, ◌<◌, ◌≤◌, if◌then◌else◌, List, [], ◌∷◌, length, map, get_or, Option, Some, None, refl, sym, ap, subst, ◌∙◌, arith}
+use Rattle.std.specs.Prelude.{All, Contains, filter, unwrap_or}
 use Rattle.std.proofs.lemmas.List.{length-map, get_or-map}
 use Rattle.std.proofs.lemmas.List.Elements.{All-contains}
-use Rattle.std.proofs.lemmas.List.Sums.{length-filter}
+use Rattle.std.proofs.lemmas.List.Sums.{length-filter, sum_by_push}
 use Rattle.std.proofs.lemmas.Option.{slice_get-get_or}
-use Rattle.nz_spec.specs.Work.{WorkList}
+use Rattle.nz_spec.specs.Legal.{LegalWorkGoesOn}
+use Rattle.nz_spec.specs.Work.{DecisionEntry, UnitLine, WorkLine, WorkList, is_unit, unit_count, with_line}
 use Rattle.nz_log.specs.declared.lits.Lit.{Lit}
 use Rattle.nz_log.specs.declared.note.Note.{Note}
 use Rattle.nz_log.specs.Logs.{LogState}
 use Rattle.nz_sat.specs.declared.clauses.Held.{Held}
+use Rattle.nz_sat.specs.declared.search.Search.{Search}
 use Rattle.nz_sat.specs.declared.trail.Assigned.{Assigned}
 use Rattle.nz_sat.specs.Clauses.{IsAssumed}
-use Rattle.nz_sat.specs.Numbers.{numbered}
-use Rattle.nz_sat.specs.Searching.{IsNoted, assumed_entries}
-use Rattle.nz_sat.specs.Trails.{AreUpTo, EachBehind, IsNext, IsTrueOn, below, depth, is_decision}
+use Rattle.nz_sat.specs.Numbers.{number_of, numbered}
+use Rattle.nz_sat.specs.Searching.{Advances, AreOpen, AreWaiting, AssumesAll, Carries, Decides, IsNoted, IsSearch, KeepsFirst, Settles, WereOpen, assumed_entries}
+use Rattle.nz_sat.specs.Trails.{AreUpTo, EachBehind, IsNext, IsTrueOn, TrailState, assigned, below, decided, depth, is_decision, with_entry}
+use Rattle.nz_sat.proofs.Advancing.{far_advances, none_advances}
 use Rattle.nz_sat.proofs.Cutting.{below_all}
+use Rattle.nz_sat.proofs.Deciding.{decided_advances, decided_assumed, decided_first, decided_noted, decided_search, decided_waits, decided_were}
 use Rattle.nz_sat.proofs.Trailing.{level_within}
 
 abbrev entry_of : Lit → Assigned
@@ -55,3 +59,107 @@ below_first size es order none =
     let up_to : AreUpTo 0 es =
     λ k d inside. let level = level_within size es order k (get_or es k d) (slice_get-get_or es k d inside) in omega (arith, level, none) in
     below_all 0 es up_to
+
+-- ---- One decision
+
+-- An atom is decided: the clauses wait for it.
+pub record HasDecided (log : LogState) (held : List Held) (s mid : Search) (work work' : WorkList Note) : Type 0 where
+  pub search : IsSearch log held mid
+  pub were_open : WereOpen log held mid.trail.entries
+  pub waits : AreWaiting log held mid.trail.entries (length s.trail.entries)
+  pub noted : IsNoted log held mid.atoms mid.trail.entries work'
+  pub atoms : mid.atoms ≡ s.atoms
+  pub assumed_only : (assumed : List Lit) → All (IsAssumed assumed) s.trail.entries → All (IsAssumed assumed) mid.trail.entries
+  pub first : KeepsFirst s.trail.entries mid.trail.entries
+  pub advances : Advances s.atoms s.trail.entries log log held held work work'
+  pub units : unit_count work'.lines ≡ unit_count work.lines + 1
+
+-- ---- The run
+
+-- What has come of a search since it began: all that steps keep, each clause is open, and each assumed literal is true.
+pub record Runs (assumed : List Lit) (start s : Search) (log log' : LogState) (held held' : List Held) (work work' : WorkList Note) : Type 0 where
+  pub advances : Advances start.atoms (assumed_entries assumed) log log' held held' work work'
+  pub search : IsSearch log' held' s
+  pub all_open : AreOpen log' held' s.trail.entries
+  pub were_open : WereOpen log' held' s.trail.entries
+  pub noted : IsNoted log' held' s.atoms s.trail.entries work'
+  pub same : s.atoms ≡ start.atoms
+  pub assumed_only : All (IsAssumed assumed) s.trail.entries
+  pub hold : All (IsTrueOn (below 0 s.trail.entries)) assumed
+
+-- nothing is decided yet
+pub runs_first : (assumed : List Lit) (start s : Search) (log : LogState) (held : List Held) (work : WorkList Note) → IsSearch log held start
+    → IsNoted log held start.atoms [] work → s ≡ record start { trail = s.trail } → AssumesAll log held assumed s None → Runs assumed start s log log held held work work
+runs_first assumed start s log held work h noted rest a =
+    let es = s.trail.entries in
+    let same : s.atoms ≡ start.atoms = ap (λ (r : Search). r.atoms) rest in
+    let none = a.undecided in
+    record {
+      advances = none_advances start.atoms (assumed_entries assumed) log held work h.are_held;
+      search = a.search;
+      all_open = a.all_open refl;
+      were_open = λ k less. absurd (omega (arith, less, none));
+      noted = noted_first log held s.atoms es work none (subst (λ (us : List ℕ). IsNoted log held us [] work) (sym same) noted);
+      same = same;
+      assumed_only = a.assumed_only;
+      hold = subst (λ (xs : List Assigned). All (IsTrueOn xs) assumed) (sym (below_first s.trail.size es a.search.order none)) (a.hold refl);
+    }
+
+pub has_decided : LegalWorkGoesOn → {assumed : List Lit} → {start s mid : Search} → {log log' : LogState} → {held held' : List Held} → {work work' : WorkList Note} → (work'' : WorkList Note) → (t : ℕ)
+    → Runs assumed start s log log' held held' work work' → Contains s.atoms t × (assigned s.trail.entries t ≡ None) → mid ≡ record s { trail = mid.trail }
+    → Decides s mid t work' work'' → HasDecided log' held' s mid work' work''
+has_decided goes_on {s = s} {log' = log} {held' = held} {work' = work} work'' t h undecided rest d =
+    let free = undecided.1 in
+    let atom = undecided.0 in
+    let trail : TrailState = with_entry s.trail (decided s.trail.entries (record { term = t; sign = d.sign })) in
+    let made : Search = record s { trail = trail } in
+    let line : WorkLine Note = UnitLine (DecisionEntry (unwrap_or (number_of s.atoms t) 0) d.sign) in
+    subst (λ (r : Search). HasDecided log held s r work work'') (sym (rest ∙ ap (λ (e : TrailState). record s { trail = e }) d.trail))
+    (subst (HasDecided log held s made work) (sym d.noted)
+    (record {
+      search = decided_search log held s h.search t d.sign free atom;
+      were_open = decided_were log held s h.search t d.sign free atom h.all_open h.were_open;
+      waits = decided_waits log held s h.search t d.sign free atom h.all_open;
+      noted = decided_noted log held s h.search t d.sign free atom work h.noted;
+      atoms = refl;
+      assumed_only = decided_assumed log held s h.search t d.sign free atom;
+      first = decided_first log held s h.search t d.sign free atom;
+      advances = decided_advances log held s h.search t d.sign free atom goes_on work h.noted;
+      units = sum_by_push (λ (x : WorkLine Note). if is_unit x then 1 else 0) work.lines line;
+    }))
+
+module _ (assumed : List Lit) (start s : Search) (log log' : LogState) (held held' : List Held) (work work' : WorkList Note) (h : Runs assumed start s log log' held held' work work') where
+  -- one step more
+  pub runs_on : (log'' : LogState) (held'' : List Held) (work'' : WorkList Note) → Advances s.atoms s.trail.entries log' log'' held' held'' work' work''
+      → Advances start.atoms (assumed_entries assumed) log log'' held held'' work work''
+  runs_on log'' held'' work'' step =
+      far_advances start.atoms (assumed_entries assumed) s.trail.entries log log' log'' held held' held'' work work' work''
+      (λ all only. assumed_wider assumed all only s.trail.entries h.assumed_only) h.advances
+      (subst (λ (us : List ℕ). Advances us s.trail.entries log' log'' held' held'' work' work'') h.same step)
+
+  module _ (mid : Search) (work₁ : WorkList Note) (d : HasDecided log' held' s mid work' work₁) where
+    -- a decision, and what comes of it
+    pub turn_advances : (log'' : LogState) (held'' : List Held) (work'' : WorkList Note) → Advances mid.atoms mid.trail.entries log' log'' held' held'' work₁ work''
+        → Advances start.atoms (assumed_entries assumed) log log'' held held'' work work''
+    turn_advances log'' held'' work'' step =
+        far_advances start.atoms (assumed_entries assumed) mid.trail.entries log log' log'' held held' held'' work work₁ work''
+        (λ all only. d.assumed_only all (assumed_wider assumed all only s.trail.entries h.assumed_only)) (runs_on log' held' work₁ d.advances)
+        (subst (λ (us : List ℕ). Advances us mid.trail.entries log' log'' held' held'' work₁ work'') (d.atoms ∙ h.same) step)
+
+    pub mid_assumed : All (IsAssumed assumed) mid.trail.entries
+    mid_assumed = d.assumed_only assumed h.assumed_only
+
+    pub runs_turn : (log'' : LogState) (held'' : List Held) (work'' : WorkList Note) (new : Search)
+        → Advances mid.atoms mid.trail.entries log' log'' held' held'' work₁ work'' → Settles log'' held'' mid new work₁ work''
+        → Runs assumed start new log log'' held held'' work work''
+    runs_turn log'' held'' work'' new step st =
+        record {
+          advances = turn_advances log'' held'' work'' step;
+          search = st.search;
+          all_open = st.all_open;
+          were_open = st.were_open;
+          noted = st.noted;
+          same = st.carries.atoms ∙ d.atoms ∙ h.same;
+          assumed_only = st.carries.assumed_only assumed mid_assumed;
+          hold = λ k e inside. let l = get_or assumed k e in st.carries.first l (d.first l (h.hold k e inside));
+        }
