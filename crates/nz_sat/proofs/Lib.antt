@@ -19,6 +19,7 @@ pub mod Numbering
 pub mod Refuting
 pub mod Resolving
 pub mod Retaining
+pub mod Solving
 pub mod Standing
 pub mod Trailing
 pub mod Visiting
