@@ -20,6 +20,7 @@ pub mod Refuting
 pub mod Resolving
 pub mod Retaining
 pub mod Running
+pub mod Solving
 pub mod Standing
 pub mod Trailing
 pub mod Visiting

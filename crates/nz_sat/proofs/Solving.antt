@@ -1,0 +1,106 @@
+-- What a search knows where it begins, and what its end tells its callers.
+use Rattle.std.proofs.Common.{◌≡◌, ℕ, ◌+◌, Bool, List, [], ◌∷◌, ◌++◌, map, get_or, Option, Some, None, sym, ap, subst, ◌∙◌, arith, append_assoc, if◌then◌else◌}
+use Rattle.std.specs.Prelude.{All, Contains, IsSome, option_map}
+use Rattle.std.proofs.lemmas.List.{append-nil}
+use Rattle.std.proofs.lemmas.List.Elements.{All-contains, All-map, All-nil, All-same, Contains-get_or}
+use Rattle.std.proofs.lemmas.List.Sums.{sum_by-cons}
+use Rattle.nz_spec.specs.Legal as legal
+use Rattle.nz_spec.specs.Legal.{Task, after_lines, at_first}
+use Rattle.nz_spec.specs.Table.{Node, term_in}
+use Rattle.nz_spec.specs.Term.{Term}
+use Rattle.nz_spec.specs.Work.{NoteLine, UnitLine, WorkLine, WorkList, is_unit, unit_count}
+use Rattle.nz_log.specs.declared.lits.Lit.{Lit}
+use Rattle.nz_log.specs.declared.note.Note.{Note}
+use Rattle.nz_log.specs.declared.note.Note.TheVariants.{Atom}
+use Rattle.nz_log.specs.Logs.{LogState, literals_at}
+use Rattle.nz_log.specs.Notes.{noted_line}
+use Rattle.nz_sat.specs.declared.clauses.Held.{Held}
+use Rattle.nz_sat.specs.declared.search.Search.{Search}
+use Rattle.nz_sat.specs.declared.trail.Assigned.{Assigned}
+use Rattle.nz_sat.specs.Clauses.{IsAssumed, IsOpen, by_true, by_two}
+use Rattle.nz_sat.specs.Numbers.{noted_atoms, numbered}
+use Rattle.nz_sat.specs.Sats.{IsAsked, IsLegalWork, IsSatisfied, IsTrueClause, IsTrueLit, SatState, truth_of}
+use Rattle.nz_sat.specs.Searching.{IsNoted, Satisfies, StaysLegal, assumed_entries, ids}
+use Rattle.nz_sat.specs.Trails.{AreTruthsOn, IsTrueOn, assigned}
+use Rattle.nz_sat.proofs.Clausal.{free_missing}
+use Rattle.nz_sat.proofs.Keeping.{held_has}
+use Rattle.nz_sat.proofs.Levels.{below_true}
+use Rattle.nz_sat.proofs.Noting.{held_named}
+
+-- ---- At the start
+
+-- lines that are notes name atoms, and nothing more
+after_notes : (ns : List Node) (r : legal.Search) (lines : List (WorkLine Note)) → unit_count lines ≡ 0
+    → after_lines r (map (noted_line ns) lines) ≡ record r { atoms = r.atoms ++ map (term_in ns) (noted_atoms lines) }
+after_notes ns r [] none = ap (λ (ts : List Term). record r { atoms = ts }) (sym (append-nil r.atoms))
+after_notes ns r (UnitLine entry ∷ lines) none =
+    let count = sum_by-cons (λ (x : WorkLine Note). if is_unit x then 1 else 0) (UnitLine entry) lines in
+    absurd (omega arith)
+after_notes ns r (NoteLine (Atom t) ∷ lines) none =
+    let count = sum_by-cons (λ (x : WorkLine Note). if is_unit x then 1 else 0) (NoteLine (Atom t)) lines in
+    after_notes ns (record r { atoms = r.atoms ++ term_in ns t ∷ [] }) lines (omega arith)
+    ∙ ap (λ (ts : List Term). record r { atoms = ts }) (append_assoc r.atoms (term_in ns t ∷ []) (map (term_in ns) (noted_atoms lines)))
+
+-- the work list of a search that begins
+pub first_noted : (log : LogState) (held : List Held) (work : WorkList Note) → unit_count work.lines ≡ 0 → IsNoted log held (noted_atoms work.lines) [] work
+first_noted log held work none =
+    let L : List ℕ → List (ℕ × Bool) → Type 0 =
+    λ atoms c. (i : ℕ) × Contains (ids held) i × (map (numbered atoms) (literals_at log i) ≡ c) in
+    record {
+      named = λ ns. ap (λ (r : legal.Search). r.atoms) (after_notes ns at_first work.lines none);
+      decided = λ ns. ap (λ (r : legal.Search). r.decided) (after_notes ns at_first work.lines none);
+      learned = λ ns.
+          subst (λ (r : legal.Search). All (L (noted_atoms work.lines)) r.learned) (sym (after_notes ns at_first work.lines none)) (All-nil (L (noted_atoms work.lines)));
+    }
+
+-- assumed literals are assumed
+assumed_only : (assumed : List Lit) → All (IsAssumed assumed) (assumed_entries assumed)
+assumed_only assumed =
+    All-map (IsAssumed assumed) (λ (l : Lit). record { literal = l; level = 0; reason = None }) assumed (λ k d inside none level. Contains-get_or assumed k d inside)
+
+-- where the old lines are legal, so are the new ones
+pub stays_legal : (atoms noted : List ℕ) → atoms ≡ noted → (log : LogState) (assumed : List Lit) (old new : WorkList Note)
+    → StaysLegal atoms log (assumed_entries assumed) old new → (ns : List Node) (levels : List (List ℕ)) (q : Task) → IsAsked ns levels log noted assumed q
+    → IsLegalWork ns q old → IsLegalWork ns q new
+stays_legal atoms noted same log assumed old new legal ns levels q asked =
+    legal ns levels assumed q (assumed_only assumed) (subst (λ (us : List ℕ). IsAsked ns levels log us assumed q) (sym same) asked)
+
+-- ---- At the end
+
+decided_not_missing : (o : Option Assigned) → IsSome o → o ≡ None → ⊥
+decided_not_missing None some none = cc
+decided_not_missing (Some e) some none = cc
+
+-- where each atom is decided, a clause that is open has a true literal
+open_true : (es : List Assigned) (atoms : List ℕ) → All (λ (t : ℕ). IsSome (assigned es t)) atoms → (c : List Lit) → ((l : Lit) → Contains c l → Contains atoms l.term)
+    → IsOpen es c → (l : Lit) × Contains c l × IsTrueOn es l
+open_true es atoms decided c named (by_true l has holds) = (l, has, holds)
+open_true es atoms decided c named (by_two l m has_l has_m differ free_l free_m) =
+    absurd
+    (decided_not_missing (assigned es l.term) (All-contains (λ (t : ℕ). IsSome (assigned es t)) atoms l.term decided (named l has_l)) (free_missing es l.term free_l))
+
+some_truth : (o : Option Assigned) → IsSome o → IsSome (option_map (λ (e : Assigned). e.literal.sign) o)
+some_truth None some = some
+some_truth (Some e) some = some
+
+-- what holds on the trail is what the truths say
+pub satisfied : (log : LogState) (held : List Held) (assumed : List Lit) (atoms : List ℕ) (s : Search) (t : SatState) → t.clauses ≡ held
+    → AreTruthsOn s.trail.entries t.truths → Satisfies log held assumed atoms s → IsSatisfied log t assumed atoms
+satisfied log held assumed atoms s t same truths h =
+    let es = s.trail.entries in
+    let is_true : (l : Lit) → IsTrueOn es l → IsTrueLit t l = λ l on. truths l.term ∙ on in
+    let clause : (x : Held) → Contains (ids held) x.id → IsTrueClause t (literals_at log x.id) =
+    λ x there.
+    let l = open_true es s.atoms h.all_decided (literals_at log x.id) (held_named s.atoms log (ids held) h.search.named x.id there)
+    (All-contains (λ (i : ℕ). IsOpen es (literals_at log i)) (ids held) x.id h.all_open there) in
+    (l.0, l.1, is_true l.0 l.2) in
+    record {
+      clauses = All-same (λ (x : Held). IsTrueClause t (literals_at log x.id)) t.clauses held same (λ k d inside. clause (get_or held k d) (held_has held k d inside));
+      assumed_hold = λ k d inside.
+          let l = get_or assumed k d in
+          is_true l (below_true s.trail.size es h.search.order 0 l.term l.sign (h.hold k d inside));
+      atoms_decided = subst (All (λ (u : ℕ). IsSome (truth_of t u))) h.same
+          (λ k d inside.
+          let u = get_or s.atoms k d in
+          subst IsSome (sym (truths u)) (some_truth (assigned es u) (h.all_decided k d inside)));
+    }
