@@ -1,6 +1,6 @@
 -- Atoms by their numbers, and the lines that name them.
-use Rattle.std.proofs.Common.{◌≡◌, ◌≢◌, ℕ, zero, suc, ◌+◌, ◌<◌, ◌==◌, Bool, true, false, if◌then◌else◌, List, [], ◌∷◌, ◌++◌, length, take, map, get_or, Option, Some, None, inl, inr, refl, sym, ap, subst, ◌∙◌, arith, ne_eqb}
-use Rattle.std.specs.Prelude.{Contains, slice_get, slice_index_or, option_map, unwrap_or}
+use Rattle.std.proofs.Common.{◌≡◌, ◌≢◌, ℕ, zero, suc, ◌+◌, ◌<◌, ◌==◌, Bool, true, false, if◌then◌else◌, List, [], ◌∷◌, ◌++◌, length, take, map, get_or, Option, Some, None, inl, inr, refl, sym, ap, subst, ◌∙◌, arith, ne_eqb, true≢false}
+use Rattle.std.specs.Prelude.{Contains, is_some, slice_get, slice_index_or, option_map, unwrap_or}
 use Rattle.std.proofs.lemmas.Bool.{cases_eq, eq-eqb}
 use Rattle.std.proofs.lemmas.Bool.Decides.{eqb_tells}
 use Rattle.std.proofs.lemmas.List.{append-nil, take_more}
@@ -9,6 +9,7 @@ use Rattle.nz_spec.specs.Work.{WorkEntry, WorkLine, UnitLine, NoteLine}
 use Rattle.nz_log.specs.declared.lits.Lit.{Lit}
 use Rattle.nz_log.specs.declared.note.Note.{Note}
 use Rattle.nz_log.specs.declared.note.Note.TheVariants.{Atom}
+use Rattle.nz_sat.proofs.Chains.{has_found}
 use Rattle.nz_sat.specs.Numbers.{IsNumbered, noted_atoms, number_of, number_or, numbered}
 
 -- ---- Numbers
@@ -112,3 +113,8 @@ unnamed us t has none =
 -- a line that is no note names no atom
 pub unit_noted : (lines : List (WorkLine Note)) (x : WorkEntry) → noted_atoms (lines ++ UnitLine x ∷ []) ≡ noted_atoms lines
 unit_noted lines x = noted-append lines (UnitLine x ∷ []) ∙ append-nil (noted_atoms lines)
+
+-- what has a number is one of the atoms
+pub has_numbered : (us : List ℕ) (t : ℕ) (o : Option ℕ) → number_of us t ≡ o → is_some o ≡ true → Contains us t
+has_numbered us t (Some n) is some = has_found us n t (number_place us t n is)
+has_numbered us t None is some = absurd (true≢false (sym some))

@@ -128,6 +128,36 @@ has_decided goes_on {s = s} {log' = log} {held' = held} {work' = work} work'' t 
       units = sum_by_push (λ (x : WorkLine Note). if is_unit x then 1 else 0) work.lines line;
     }))
 
+-- the order of what is decided next has no part in it
+pub runs_ordered : {assumed : List Lit} → {start s new : Search} → {log log' : LogState} → {held held' : List Held} → {work work' : WorkList Note}
+    → Runs assumed start s log log' held held' work work' → new ≡ record s { order = new.order } → Runs assumed start new log log' held held' work work'
+runs_ordered {assumed} {start} {s} {new} {log} {log'} {held} {held'} {work} {work'} h rest =
+    let q = h.search in
+    subst (λ (r : Search). Runs assumed start r log log' held held' work work') (sym rest)
+    (record {
+      advances = h.advances;
+      search = record {
+        are_held = q.are_held;
+        listed = q.listed;
+        only = q.only;
+        named = q.named;
+        on_trail = q.on_trail;
+        within = q.within;
+        indexed = q.indexed;
+        marks = q.marks;
+        unmarked = q.unmarked;
+        order = q.order;
+        implied = q.implied;
+        reasons = q.reasons;
+      };
+      all_open = h.all_open;
+      were_open = h.were_open;
+      noted = h.noted;
+      same = h.same;
+      assumed_only = h.assumed_only;
+      hold = h.hold;
+    })
+
 module _ (assumed : List Lit) (start s : Search) (log log' : LogState) (held held' : List Held) (work work' : WorkList Note) (h : Runs assumed start s log log' held held' work work') where
   -- one step more
   pub runs_on : (log'' : LogState) (held'' : List Held) (work'' : WorkList Note) → Advances s.atoms s.trail.entries log' log'' held' held'' work' work''

@@ -2,20 +2,23 @@
 ghost use Rattle.std.specs.Prelude.{◌≡◌, true, All, Contains, IfSome, IsSome};
 ghost use Rattle.nz_sat.specs.Trails.{assigned};
 
+use crate::atoms::Atoms;
+use crate::heap::Heap;
 use crate::trail::Trail;
 use nz_base::Memory;
 use nz_log::Lit;
 use nz_term::TermId;
 use std::alloc::Global;
 
-// The greatest activity that is left to grow.
+// The greatest step: a term takes part in fewer conflicts than would bring its activity to the type's end.
 const GREATEST: u64 = 1 << 60;
 
 /// How much each term took part in conflicts of late, and the sign that it had last.
 #[derive(Debug, Drop)]
 pub struct Order {
+    // Has the undecided atoms, and maybe decided ones; the keys are the activities.
+    heap: Heap,
     // By the numbers of terms.
-    activity: Vec<u64>,
     signs: Vec<bool>,
     // What is added where a term takes part.
     step: u64,
@@ -23,9 +26,14 @@ pub struct Order {
 
 impl Order {
     /// No term took part in a conflict, and each sign is `false`.
-    pub fn new(alloc: Global, size: usize) -> Result<Order, Memory> {
+    pub fn new(alloc: Global, atoms: &Atoms) -> Result<Order, Memory> {
+        let size = atoms.size();
+        let mut heap = Heap::new(alloc, size)?;
+        for term in atoms.terms() {
+            heap.insert(*term);
+        }
         Ok(Order {
-            activity: vec![in alloc; 0; size]?,
+            heap,
             signs: vec![in alloc; false; size]?,
             step: 16,
         })
@@ -39,18 +47,17 @@ impl Order {
         }
     }
 
-    /// Keeps the sign of a literal that is taken off the trail.
+    /// Keeps the sign of a literal that is taken off the trail: its term is undecided again.
     pub fn keep(&mut self, literal: Lit) {
         if let Some(sign) = self.signs.get_mut(literal.term) {
             *sign = literal.sign;
         }
+        self.heap.insert(literal.term);
     }
 
     /// A term takes part in a conflict.
     pub fn raise(&mut self, term: TermId) {
-        if let Some(activity) = self.activity.get_mut(term) {
-            *activity = activity.saturating_add(self.step);
-        }
+        self.heap.raise(term, self.step);
     }
 
     /// What took part in the conflicts so far counts less.
@@ -58,33 +65,33 @@ impl Order {
         self.step = self.step.saturating_add(self.step / 16);
         if self.step > GREATEST {
             self.step = 16;
-            for activity in self.activity.iter_mut() {
-                *activity >>= 56;
-            }
+            self.heap.lower(56);
         }
     }
 
-    /// The undecided term of these that took most part.
-    pub fn next(&self, terms: &[TermId], trail: &Trail) -> Option<TermId>
-        ensures undecided { IfSome result (λ t. Contains terms.now t × (assigned trail.now.entries t ≡ None)) }
-        ensures none { result ≡ None → All (λ t. IsSome (assigned trail.now.entries t)) terms.now }
+    /// The undecided atom that took most part.
+    pub fn next(&mut self, atoms: &Atoms, trail: &Trail) -> Option<TermId>
+        ensures undecided { IfSome result (λ t. Contains atoms.now t × (assigned trail.now.entries t ≡ None)) }
+        ensures none { result ≡ None → All (λ t. IsSome (assigned trail.now.entries t)) atoms.now }
     {
-        let mut best: Option<TermId> = None;
-        for term in terms {
-            if trail.assigned(*term).is_none() && self.is_before(*term, best) {
-                best = Some(*term);
+        while let Some(term) = self.heap.take() {
+            if atoms.number(term).is_some() && trail.assigned(term).is_none() {
+                return Some(term);
             }
         }
-        best
+        first_undecided(atoms.terms(), trail)
     }
+}
 
-    /// Whether a term took more part than the best one so far.
-    fn is_before(&self, term: TermId, best: Option<TermId>) -> bool
-        ensures first { best ≡ None → result ≡ true }
-    {
-        match best {
-            Some(other) => self.activity.get(term) > self.activity.get(other),
-            None => true,
+/// The first undecided one of these terms.
+fn first_undecided(terms: &[TermId], trail: &Trail) -> Option<TermId>
+    ensures undecided { IfSome result (λ t. Contains terms.now t × (assigned trail.now.entries t ≡ None)) }
+    ensures none { result ≡ None → All (λ t. IsSome (assigned trail.now.entries t)) terms.now }
+{
+    for term in terms {
+        if trail.assigned(*term).is_none() {
+            return Some(*term);
         }
     }
+    None
 }

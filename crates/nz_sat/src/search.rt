@@ -48,6 +48,7 @@ impl Search {
     {
         let atoms = Atoms::noted(alloc, work)?;
         let size = atoms.size();
+        let order = Order::new(alloc, &atoms)?;
         let mut index = Index::new(alloc, size)?;
         for clause in held {
             index.add(log, clause.id)?;
@@ -56,7 +57,7 @@ impl Search {
             atoms,
             trail: Trail::new(alloc, size)?,
             index,
-            order: Order::new(alloc, size)?,
+            order,
             seen: vec![in alloc; false; size]?,
         })
     }
@@ -286,11 +287,12 @@ impl Search {
     }
 
     /// The undecided atom that took most part in conflicts.
-    fn next(&self) -> Option<TermId>
-        ensures undecided { IfSome result (λ t. Contains self.now.atoms t × (assigned self.now.trail.entries t ≡ None)) }
-        ensures none { result ≡ None → All (λ t. IsSome (assigned self.now.trail.entries t)) self.now.atoms }
+    fn next(&mut self) -> Option<TermId>
+        ensures rest { self.new ≡ record self.old { order = self.new.order } }
+        ensures undecided { IfSome result (λ t. Contains self.new.atoms t × (assigned self.new.trail.entries t ≡ None)) }
+        ensures none { result ≡ None → All (λ t. IsSome (assigned self.new.trail.entries t)) self.new.atoms }
     {
-        self.order.next(self.atoms.terms(), &self.trail)
+        self.order.next(&self.atoms, &self.trail)
     }
 
     /// Decides an atom, with the sign that it had last. Answers the place of its literal on the trail.

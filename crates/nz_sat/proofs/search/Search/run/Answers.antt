@@ -13,7 +13,7 @@ use Rattle.nz_sat.specs.Conflicts.{Grows, StaysSound, Refutes}
 use Rattle.nz_sat.specs.Searching.{Advances, AreWaiting, AssumesAll, IsSearch, StaysInOrder, assumed_entries}
 use Rattle.nz_sat.proofs.Advancing.{log_advances}
 use Rattle.nz_sat.proofs.Following.{stays_in_order}
-use Rattle.nz_sat.proofs.Running.{HasDecided, Runs, has_decided, mid_assumed, runs_first, runs_on, runs_turn, turn_advances}
+use Rattle.nz_sat.proofs.Running.{HasDecided, Runs, has_decided, mid_assumed, runs_first, runs_on, runs_ordered, runs_turn, turn_advances}
 use Rattle.nz_sat.proofs.search.Search.run.Goals as goal
 
 -- the log grows by a refutation before anything is decided
@@ -45,8 +45,8 @@ loop-term-init c =
 
 pub decide-requires-clause-within : goal.decide-requires-clause-within
 decide-requires-clause-within c =
-    let s = c.loop-term.self in
-    All-contains (λ (t : ℕ). t < s.trail.size) s.atoms c.in-Some-next.term c.loop-term.invariant.search.within c.in-Some-next.ensures.undecided.0
+    let s = c.next.new.self in
+    All-contains (λ (t : ℕ). t < s.trail.size) s.atoms c.in-Some-next.term (runs_ordered c.loop-term.invariant c.next.ensures.rest).search.within c.in-Some-next.ensures.undecided.0
 
 pub returns-in_err-from-clause-advances : goal.returns-in_err-from-clause-advances
 returns-in_err-from-clause-advances c =
@@ -55,31 +55,31 @@ returns-in_err-from-clause-advances c =
 
 pub settle-requires-clause-search : goal.settle-requires-clause-search
 settle-requires-clause-search c =
-    (has_decided c.legal_work_goes_on.ensures.goes_on c.decide.new.work c.in-Some-next.term c.loop-term.invariant c.in-Some-next.ensures.undecided c.in_ok-from.ensures.rest c.in_ok-from.ensures.decides).search
+    (has_decided c.legal_work_goes_on.ensures.goes_on c.decide.new.work c.in-Some-next.term (runs_ordered c.loop-term.invariant c.next.ensures.rest) c.in-Some-next.ensures.undecided c.in_ok-from.ensures.rest c.in_ok-from.ensures.decides).search
 
 pub settle-requires-clause-all_open : goal.settle-requires-clause-all_open
 settle-requires-clause-all_open c =
-    (has_decided c.legal_work_goes_on.ensures.goes_on c.decide.new.work c.in-Some-next.term c.loop-term.invariant c.in-Some-next.ensures.undecided c.in_ok-from.ensures.rest c.in_ok-from.ensures.decides).were_open
+    (has_decided c.legal_work_goes_on.ensures.goes_on c.decide.new.work c.in-Some-next.term (runs_ordered c.loop-term.invariant c.next.ensures.rest) c.in-Some-next.ensures.undecided c.in_ok-from.ensures.rest c.in_ok-from.ensures.decides).were_open
 
 pub settle-requires-clause-waits : goal.settle-requires-clause-waits
 settle-requires-clause-waits c =
     subst (AreWaiting c.loop-term.log c.loop-term.held.items c.decide.new.self.trail.entries) (sym c.in_ok-from.ensures.place)
-    (has_decided c.legal_work_goes_on.ensures.goes_on c.decide.new.work c.in-Some-next.term c.loop-term.invariant c.in-Some-next.ensures.undecided c.in_ok-from.ensures.rest c.in_ok-from.ensures.decides).waits
+    (has_decided c.legal_work_goes_on.ensures.goes_on c.decide.new.work c.in-Some-next.term (runs_ordered c.loop-term.invariant c.next.ensures.rest) c.in-Some-next.ensures.undecided c.in_ok-from.ensures.rest c.in_ok-from.ensures.decides).waits
 
 pub settle-requires-clause-noted : goal.settle-requires-clause-noted
 settle-requires-clause-noted c =
-    (has_decided c.legal_work_goes_on.ensures.goes_on c.decide.new.work c.in-Some-next.term c.loop-term.invariant c.in-Some-next.ensures.undecided c.in_ok-from.ensures.rest c.in_ok-from.ensures.decides).noted
+    (has_decided c.legal_work_goes_on.ensures.goes_on c.decide.new.work c.in-Some-next.term (runs_ordered c.loop-term.invariant c.next.ensures.rest) c.in-Some-next.ensures.undecided c.in_ok-from.ensures.rest c.in_ok-from.ensures.decides).noted
 
 pub returns-in_err-refuted-clause-advances : goal.returns-in_err-refuted-clause-advances
 returns-in_err-refuted-clause-advances c =
-    turn_advances c.args.assumed.now c.args.self.now c.loop-term.self c.args.log.now c.loop-term.log c.args.held.now.items c.loop-term.held.items c.args.work.now c.loop-term.work c.loop-term.invariant c.decide.new.self c.decide.new.work
-    (has_decided c.legal_work_goes_on.ensures.goes_on c.decide.new.work c.in-Some-next.term c.loop-term.invariant c.in-Some-next.ensures.undecided c.in_ok-from.ensures.rest c.in_ok-from.ensures.decides)
+    turn_advances c.args.assumed.now c.args.self.now c.next.new.self c.args.log.now c.loop-term.log c.args.held.now.items c.loop-term.held.items c.args.work.now c.loop-term.work (runs_ordered c.loop-term.invariant c.next.ensures.rest) c.decide.new.self c.decide.new.work
+    (has_decided c.legal_work_goes_on.ensures.goes_on c.decide.new.work c.in-Some-next.term (runs_ordered c.loop-term.invariant c.next.ensures.rest) c.in-Some-next.ensures.undecided c.in_ok-from.ensures.rest c.in_ok-from.ensures.decides)
     c.settle.new.log c.settle.new.held.items c.settle.new.work c.settle.ensures.advances
 
 pub returns-in-Some-2-clause-advances : goal.returns-in-Some-2-clause-advances
 returns-in-Some-2-clause-advances c =
-    turn_advances c.args.assumed.now c.args.self.now c.loop-term.self c.args.log.now c.loop-term.log c.args.held.now.items c.loop-term.held.items c.args.work.now c.loop-term.work c.loop-term.invariant c.decide.new.self c.decide.new.work
-    (has_decided c.legal_work_goes_on.ensures.goes_on c.decide.new.work c.in-Some-next.term c.loop-term.invariant c.in-Some-next.ensures.undecided c.in_ok-from.ensures.rest c.in_ok-from.ensures.decides)
+    turn_advances c.args.assumed.now c.args.self.now c.next.new.self c.args.log.now c.loop-term.log c.args.held.now.items c.loop-term.held.items c.args.work.now c.loop-term.work (runs_ordered c.loop-term.invariant c.next.ensures.rest) c.decide.new.self c.decide.new.work
+    (has_decided c.legal_work_goes_on.ensures.goes_on c.decide.new.work c.in-Some-next.term (runs_ordered c.loop-term.invariant c.next.ensures.rest) c.in-Some-next.ensures.undecided c.in_ok-from.ensures.rest c.in_ok-from.ensures.decides)
     c.settle.new.log c.settle.new.held.items c.settle.new.work c.settle.ensures.advances
 
 pub returns-in-Some-2-clause-refuted : goal.returns-in-Some-2-clause-refuted
@@ -88,14 +88,14 @@ returns-in-Some-2-clause-refuted c =
     λ id. IsLive c.settle.new.log id × ((assumed : List Lit) → All (IsAssumed assumed) c.decide.new.self.trail.entries → Refutes assumed (literals_at c.settle.new.log id)) in
     let refuted : P c.in-Some-2.refuted = subst (λ (told : Option ℕ). IfSome told P) c.in-Some-2.is c.in_ok-refuted.ensures.refuted in (
       refuted.0,
-      refuted.1 c.args.assumed.now (mid_assumed c.args.assumed.now c.args.self.now c.loop-term.self c.args.log.now c.loop-term.log c.args.held.now.items c.loop-term.held.items c.args.work.now c.loop-term.work c.loop-term.invariant c.decide.new.self c.decide.new.work
-          (has_decided c.legal_work_goes_on.ensures.goes_on c.decide.new.work c.in-Some-next.term c.loop-term.invariant c.in-Some-next.ensures.undecided c.in_ok-from.ensures.rest c.in_ok-from.ensures.decides)),
+      refuted.1 c.args.assumed.now (mid_assumed c.args.assumed.now c.args.self.now c.next.new.self c.args.log.now c.loop-term.log c.args.held.now.items c.loop-term.held.items c.args.work.now c.loop-term.work (runs_ordered c.loop-term.invariant c.next.ensures.rest) c.decide.new.self c.decide.new.work
+          (has_decided c.legal_work_goes_on.ensures.goes_on c.decide.new.work c.in-Some-next.term (runs_ordered c.loop-term.invariant c.next.ensures.rest) c.in-Some-next.ensures.undecided c.in_ok-from.ensures.rest c.in_ok-from.ensures.decides)),
     )
 
 pub loop-term-smaller : goal.loop-term-smaller
 loop-term-smaller c =
     let none : c.in_ok-refuted.field-0 ≡ None = search rules in
-    let decides = (has_decided c.legal_work_goes_on.ensures.goes_on c.decide.new.work c.in-Some-next.term c.loop-term.invariant c.in-Some-next.ensures.undecided c.in_ok-from.ensures.rest c.in_ok-from.ensures.decides) in
+    let decides = (has_decided c.legal_work_goes_on.ensures.goes_on c.decide.new.work c.in-Some-next.term (runs_ordered c.loop-term.invariant c.next.ensures.rest) c.in-Some-next.ensures.undecided c.in_ok-from.ensures.rest c.in_ok-from.ensures.decides) in
     let free = c.in_ok-from.ensures.free in
     let units = decides.units in
     let more = (c.in_ok-refuted.ensures.settled none).carries.units in
@@ -106,8 +106,8 @@ loop-term-smaller c =
 pub loop-term-preserved : goal.loop-term-preserved
 loop-term-preserved c =
     let none : c.in_ok-refuted.field-0 ≡ None = search rules in
-    runs_turn c.args.assumed.now c.args.self.now c.loop-term.self c.args.log.now c.loop-term.log c.args.held.now.items c.loop-term.held.items c.args.work.now c.loop-term.work c.loop-term.invariant c.decide.new.self c.decide.new.work
-    (has_decided c.legal_work_goes_on.ensures.goes_on c.decide.new.work c.in-Some-next.term c.loop-term.invariant c.in-Some-next.ensures.undecided c.in_ok-from.ensures.rest c.in_ok-from.ensures.decides)
+    runs_turn c.args.assumed.now c.args.self.now c.next.new.self c.args.log.now c.loop-term.log c.args.held.now.items c.loop-term.held.items c.args.work.now c.loop-term.work (runs_ordered c.loop-term.invariant c.next.ensures.rest) c.decide.new.self c.decide.new.work
+    (has_decided c.legal_work_goes_on.ensures.goes_on c.decide.new.work c.in-Some-next.term (runs_ordered c.loop-term.invariant c.next.ensures.rest) c.in-Some-next.ensures.undecided c.in_ok-from.ensures.rest c.in_ok-from.ensures.decides)
     c.settle.new.log c.settle.new.held.items c.settle.new.work c.settle.new.self c.settle.ensures.advances (c.in_ok-refuted.ensures.settled none)
 
 pub returns-clause-advances : goal.returns-clause-advances
@@ -115,6 +115,6 @@ returns-clause-advances c = c.loop-term.invariant.advances
 
 pub returns-clause-satisfied : goal.returns-clause-satisfied
 returns-clause-satisfied c =
-    let h = c.loop-term.invariant in
+    let h = (runs_ordered c.loop-term.invariant c.next.ensures.rest) in
     let none : c.next.result ≡ None = search rules in
     λ told. record { search = h.search; all_open = h.all_open; same = h.same; hold = h.hold; all_decided = c.next.ensures.none none }
