@@ -9,6 +9,7 @@ pub mod Examples
 pub mod FractionArithmetic
 pub mod FractionLaws
 pub mod FractionOrder
+pub mod GateSettling
 pub mod GateTruths
 pub mod InfinitesimalLaws
 pub mod Instances
