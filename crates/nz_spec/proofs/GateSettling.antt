@@ -1,13 +1,12 @@
 -- Truths that meet the clauses of a gate: the value of its term is the truth that is told of it.
-use Rattle.std.proofs.Common.{◌≡◌, ℕ, zero, suc, ◌<◌, ◌⊎◌, inl, inr, Bool, true, false, not, ◌&&◌, ◌||◌, List, [], ◌∷◌, ◌++◌, length, map, Some, refl, sym, ap, subst, ◌∙◌, true≢false, arith}
+use Rattle.std.proofs.Common.{◌≡◌, ℕ, zero, suc, ◌<◌, ◌⊎◌, inl, inr, Bool, true, false, not, ◌&&◌, ◌||◌, List, [], ◌∷◌, ◌++◌, length, map, refl, sym, ap, subst, ◌∙◌, true≢false, arith}
 use Rattle.std.specs.Prelude.{Contains, ⊤, slice_index_or, if◌then◌else◌}
 use Rattle.std.specs.List.{AllByRecursion, list_all, list_any}
 use Rattle.std.proofs.Math.Bool.{and-false, or-true}
 use Rattle.std.proofs.lemmas.Option.{same_Some}
 use Rattle.std.proofs.lemmas.List.Elements.{Contains-append_left, Contains-append_right, Contains-push}
 use Rattle.nz_lists.proofs.Elements.{AllByRecursion-weaker}
-use Rattle.nz_spec.specs.Term.{Sort, bool_sort, Head, constant, verum, falsum, negation, conjunction, disjunction, exclusion, equality, choice, Term, apply, Terms, no_terms, terms, Value, truth, Assignment, is_true, are_equal, excluded, all_true, some_true, head_sort, sort_of, is_bool, value_of, values_of}
-use Rattle.nz_spec.specs.Table.{Node, term_in, HasOneNumberEach}
+use Rattle.nz_spec.specs.Term.{bool_sort, Head, constant, verum, falsum, negation, conjunction, disjunction, exclusion, equality, choice, Term, apply, Terms, no_terms, terms, Value, truth, Assignment, is_true, are_equal, excluded, all_true, some_true, head_sort, sort_of, is_bool, value_of, values_of}
 use Rattle.nz_spec.specs.Order.{post_order, post_orders}
 use Rattle.nz_spec.specs.Literal.{Literal, term_literal, Clause}
 use Rattle.nz_spec.specs.Gates.{list_of, holds, fails, gate_clauses, IsRow, IsGated, AreGated, HasTold, MeetsGates, IsToldBy, IsToldAt, GatesDecide, NumberedGatesDecide}
@@ -43,17 +42,17 @@ module _ (a : Assignment) (Told : Term → Bool → Type 0) (consistent : (t : T
   abbrev Says : Literal → Type 0
   Says (term_literal t sign) = Told t sign
 
-  abbrev Some_told : Clause → Type 0
-  Some_told [] = ⊥
-  Some_told (l ∷ ls) = Says l ⊎ Some_told ls
+  abbrev SaysOne : Clause → Type 0
+  SaysOne [] = ⊥
+  SaysOne (l ∷ ls) = Says l ⊎ SaysOne ls
 
-  told_at : (c : Clause) (t : Term) (sign : Bool) (k : ℕ) → k < length c → slice_index_or c k (term_literal t sign) ≡ term_literal t sign → Told t sign → Some_told c
+  told_at : (c : Clause) (t : Term) (sign : Bool) (k : ℕ) → k < length c → slice_index_or c k (term_literal t sign) ≡ term_literal t sign → Told t sign → SaysOne c
   told_at [] t sign k below e told = absurd (omega (arith, below))
   told_at (l ∷ ls) t sign zero below e told = inl (subst Says (sym e) told)
   told_at (l ∷ ls) t sign (suc k) below e told = inr (told_at ls t sign k (omega (arith, below)) e told)
 
-  some_told : (c : Clause) → HasTold Told c → Some_told c
-  some_told c h = told_at c h.0 h.1 h.2.0 h.2.1 h.2.2 h.3
+  says_one : (c : Clause) → HasTold Told c → SaysOne c
+  says_one c h = told_at c h.0 h.1 h.2.0 h.2.1 h.2.2 h.3
 
   -- no term is told both ways
   never : (t : Term) (sign : Bool) → Told t sign → Told t (not sign) → ⊥
@@ -92,16 +91,16 @@ module _ (a : Assignment) (Told : Term → Bool → Type 0) (consistent : (t : T
   abbrev Pairs : Term → Bool → Terms → List Clause
   Pairs t sign ts = map (λ u. term_literal t (not sign) ∷ term_literal u sign ∷ []) (list_of ts)
 
-  each_is : (t : Term) (sign : Bool) → Told t sign → (ts : Terms) (more : List Clause) → AllByRecursion Some_told (Pairs t sign ts ++ more) → AreSettled ts → EachIs sign ts
+  each_is : (t : Term) (sign : Bool) → Told t sign → (ts : Terms) (more : List Clause) → AllByRecursion SaysOne (Pairs t sign ts ++ more) → AreSettled ts → EachIs sign ts
   each_is t sign told no_terms more h s = tt
   each_is t sign told (terms u us) more h s =
       (s.0 sign (alone (Told u sign) (others t sign (Told u sign ⊎ ⊥) told h.0)), each_is t sign told us more h.1 s.1)
 
-  last_told : (t : Term) (sign : Bool) (ts : Terms) (c : Clause) → AllByRecursion Some_told (Pairs t sign ts ++ c ∷ []) → Some_told c
+  last_told : (t : Term) (sign : Bool) (ts : Terms) (c : Clause) → AllByRecursion SaysOne (Pairs t sign ts ++ c ∷ []) → SaysOne c
   last_told t sign no_terms c h = h.0
   last_told t sign (terms u us) c h = last_told t sign us c h.1
 
-  one_is : (sign : Bool) (ts : Terms) → Some_told (map (λ u. term_literal u sign) (list_of ts)) → AreSettled ts → OneIs sign ts
+  one_is : (sign : Bool) (ts : Terms) → SaysOne (map (λ u. term_literal u sign) (list_of ts)) → AreSettled ts → OneIs sign ts
   one_is sign no_terms h s = absurd h
   one_is sign (terms u us) (inl h) s = inl (s.0 sign h)
   one_is sign (terms u us) (inr h) s = inr (one_is sign us h s.1)
@@ -147,19 +146,19 @@ module _ (a : Assignment) (Told : Term → Bool → Type 0) (consistent : (t : T
   some_is (terms t (terms u ts)) h = ap truth (some_pass (terms t (terms u ts)) h)
 
   abbrev Met : Term → Type 0
-  Met t = AllByRecursion Some_told (gate_clauses t)
+  Met t = AllByRecursion SaysOne (gate_clauses t)
 
   conjunction_settled : (ts : Terms) → Met (apply conjunction ts) → AreSettled ts → IsSettled (apply conjunction ts)
   conjunction_settled ts h s true told = all_is ts (each_is (apply conjunction ts) true told ts _ h s)
   conjunction_settled ts h s false told =
       let rest = map fails (list_of ts) in
-      all_fails ts (one_is false ts (others (apply conjunction ts) false (Some_told rest) told (last_told (apply conjunction ts) true ts (holds (apply conjunction ts) ∷ rest) h)) s)
+      all_fails ts (one_is false ts (others (apply conjunction ts) false (SaysOne rest) told (last_told (apply conjunction ts) true ts (holds (apply conjunction ts) ∷ rest) h)) s)
 
   disjunction_settled : (ts : Terms) → Met (apply disjunction ts) → AreSettled ts → IsSettled (apply disjunction ts)
   disjunction_settled ts h s false told = some_fails ts (each_is (apply disjunction ts) false told ts _ h s)
   disjunction_settled ts h s true told =
       let rest = map holds (list_of ts) in
-      some_is ts (one_is true ts (others (apply disjunction ts) true (Some_told rest) told (last_told (apply disjunction ts) false ts (fails (apply disjunction ts) ∷ rest) h)) s)
+      some_is ts (one_is true ts (others (apply disjunction ts) true (SaysOne rest) told (last_told (apply disjunction ts) false ts (fails (apply disjunction ts) ∷ rest) h)) s)
 
   -- ---- Operators of a fixed number of arguments
 
@@ -210,10 +209,10 @@ module _ (a : Assignment) (Told : Term → Bool → Type 0) (consistent : (t : T
   equality_settled : (u v : Term) → is_bool (sort_of u) ≡ true → Met (apply equality (terms u (terms v no_terms))) → IsSettled u → IsSettled v
       → IsSettled (apply equality (terms u (terms v no_terms)))
   equality_settled u v e k s r true told =
-      let h = passed (AllByRecursion Some_told) (is_bool (sort_of u)) _ e k in
+      let h = passed (AllByRecursion SaysOne) (is_bool (sort_of u)) _ e k in
       paired_settled (apply equality (terms u (terms v no_terms))) true told equated u v false true s r h.0 h.1.0 refl refl
   equality_settled u v e k s r false told =
-      let h = passed (AllByRecursion Some_told) (is_bool (sort_of u)) _ e k in
+      let h = passed (AllByRecursion SaysOne) (is_bool (sort_of u)) _ e k in
       paired_settled (apply equality (terms u (terms v no_terms))) false told equated u v true true s r h.1.1.0 h.1.1.1.0 refl refl
 
   -- by what the clauses say of the condition and the branches
@@ -271,7 +270,7 @@ module _ (a : Assignment) (Told : Term → Bool → Type 0) (consistent : (t : T
     settled : (t : Term) → IsGated t → MeetsGates Told a (post_order t) → IsSettled t
     settled (apply h ts) g m =
         let own = Contains-push (post_orders ts) (apply h ts) in
-        node_settled h ts g.0 g.1 (AllByRecursion-weaker (HasTold Told) Some_told some_told (gate_clauses (apply h ts)) (m.clauses (apply h ts) own))
+        node_settled h ts g.0 g.1 (AllByRecursion-weaker (HasTold Told) SaysOne says_one (gate_clauses (apply h ts)) (m.clauses (apply h ts) own))
         (all_settled ts g.1 (fewer (post_orders ts) (post_order (apply h ts)) (Contains-append_left (post_orders ts) (apply h ts ∷ [])) m))
         (λ c sign e told. m.constants c sign (subst (Contains (post_order (apply h ts))) e own) told)
 

@@ -16,6 +16,7 @@ pub mod Instances
 pub mod LegalWork
 pub mod Literals
 pub mod Normal
+pub mod NormalGates
 pub mod Pieces
 pub mod Placed
 pub mod ReadOperands
