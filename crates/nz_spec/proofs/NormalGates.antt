@@ -1,11 +1,11 @@
 -- The normal term of a well sorted term is one of the gate table, or it holds a number.
-use Rattle.std.proofs.Common.{◌≡◌, suc, Bool, true, false, not, ◌&&◌, ◌||◌, ◌==◌, List, [], Some, refl, sym, ap, subst, ◌∙◌, true≢false, arith, eqb-true}
+use Rattle.std.proofs.Common.{◌≡◌, true, false, not, ◌||◌, ◌==◌, [], refl, sym, ap, subst, ◌∙◌, true≢false, arith, eqb-true}
 use Rattle.std.specs.Prelude.{⊤, nat_lt}
 use Rattle.std.proofs.Math.Bool.{or-true}
 use Rattle.std.proofs.lemmas.Bool.{and_parts}
 use Rattle.std.proofs.lemmas.Option.{none-some}
 use Rattle.nz_spec.specs.Term.{Sort, bool_sort, int_sort, real_sort, is_bool, Constant, Head, constant, parameter, integer, decimal_number, verum, falsum, negation, conjunction, disjunction, exclusion, equality, choice, less, at_most, is_int, sum, difference, product, quotient, integer_quotient, head_sort, Term, apply, Terms, no_terms, terms, sort_of, is_numeric, holds_number, hold_number}
-use Rattle.nz_spec.specs.Normal.{negated, paired, turned, implication_of, grouped_onto, grouped_by, neighbours_of, disequations_onto, disequations_of, joined_by, chained_by, normal_node, normal_of, normals_of}
+use Rattle.nz_spec.specs.Normal.{negated, paired, turned, implication_of, grouped_onto, neighbours_of, disequations_onto, disequations_of, joined_by, chained_by, normal_node, normal_of, normals_of}
 use Rattle.nz_spec.specs.Elaboration.{Operator, true_operator, false_operator, not_operator, and_operator, or_operator, implies_operator, xor_operator, equals_operator, distinct_operator, ite_operator, at_most_operator, less_operator, at_least_operator, greater_operator, plus_operator, times_operator, minus_operator, over_operator, div_operator, mod_operator, abs_operator, to_real_operator, to_int_operator, is_int_operator, has_sort, all_terms, term_count, takes, operands_of, numbers_at, operator_head}
 use Rattle.nz_spec.specs.Gates.{IsRow, IsGated, AreGated}
 use Rattle.nz_spec.specs.WellSorted.{are_numbers, AreOperands, IsApplied, IsSortedHead, IsWellSorted, AreWellSorted, NormalTermsAreGated}

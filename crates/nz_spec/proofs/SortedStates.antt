@@ -1,5 +1,5 @@
 -- Definitions and assertions stay well sorted, whatever is told.
-use Rattle.std.proofs.Common.{◌≡◌, ℕ, suc, ◌+◌, Bool, true, false, not, ◌||◌, List, [], ◌∷◌, ◌++◌, Option, Some, None, refl, sym, ap, ◌∙◌, subst, if◌then◌else◌, arith}
+use Rattle.std.proofs.Common.{◌≡◌, ℕ, suc, ◌+◌, Bool, true, false, ◌||◌, List, [], ◌∷◌, ◌++◌, Option, Some, None, refl, sym, ap, ◌∙◌, subst, if◌then◌else◌, arith}
 use Rattle.std.proofs.lemmas.List.{append_assoc, map-append}
 use Rattle.std.specs.Bool.{⊤}
 use Rattle.std.specs.Prelude.{map, slice_get, option_and_then}
@@ -10,12 +10,12 @@ use Rattle.nz_spec.specs.Request.{WrittenSort, Parameter, Question, lex_priority
 use Rattle.nz_spec.specs.Parse.{request_of}
 use Rattle.nz_spec.specs.Bounds.{has_token, is_wide_token, is_long_decimal}
 use Rattle.nz_lists.proofs.Options.{IfFound, and_then_found}
-use Rattle.nz_spec.specs.Term.{Sort, bool_sort, Constant, Term, Terms, sort_of, holds_number, Assignment, IsOfSort, value_of}
+use Rattle.nz_spec.specs.Term.{Sort, bool_sort, Term, Terms, sort_of, holds_number, Assignment, IsOfSort, value_of}
 use Rattle.nz_spec.specs.Normal.{normal_of}
 use Rattle.nz_spec.specs.Linear.{is_linear}
-use Rattle.nz_spec.specs.Elaboration.{has_sort, placed, Definition, term_of, terms_of}
+use Rattle.nz_spec.specs.Elaboration.{has_sort, placed, term_of, terms_of}
 use Rattle.nz_spec.specs.Live.{State, start, constants_of, LiveItem, numbered_items, Item, declared, defined, asserted, sought, wished, items_of, items_hold_numbers, definitions_in, assertions_in, assertions_of, with_item, grown}
-use Rattle.nz_spec.specs.Command.{Command, declare_const, define, assert_term, check_sat, get_value, get_info, get_levels, get_reason, name_info, version_info, authors_info, error_behavior_info, set_print_success, no_effect, Outcome, accepted, refused, not_taken}
+use Rattle.nz_spec.specs.Command.{Command, declare_const, define, assert_term, check_sat, get_value, set_print_success, Outcome, accepted, refused, not_taken}
 use Rattle.nz_spec.specs.Error.{bad_syntax, unknown_symbol, wrong_sort, too_wide, past_limit, already_declared}
 use Rattle.nz_spec.specs.Limits.{passes_limit}
 use Rattle.nz_spec.specs.Script.{is_live_name, scope_of, constant_sort, sort_written, is_unknown_sort, declaration_of, parameter_names, parameter_sorts, sorts_written, parameters_from, body_scope, linear_outcome, definition_by, definition_of, asserted_outcome, assertion_of, asked_expressions, all_linear, asked_of, values_asked, info_asked, option_set, outcome_by, outcome_requested, outcome_of}
@@ -25,7 +25,7 @@ use Rattle.nz_spec.specs.Reply.{Reply, error}
 use Rattle.nz_spec.specs.Right.{Context, beginning, effect, effect_of, after, context_after}
 use Rattle.nz_spec.specs.Transcript.{Kept, context_of}
 use Rattle.nz_spec.specs.Model.{IsAssignment}
-use Rattle.nz_spec.specs.Sorts.{TermsHaveTheirSorts, IsSortedState, StatesStaySorted, AssertionsAreGated}
+use Rattle.nz_spec.specs.Sorts.{TermsHaveTheirSorts, AreSortedItems, IsSortedState, StatesStaySorted, AssertionsAreGated}
 use Rattle.nz_spec.specs.Gates.{IsGated}
 use Rattle.nz_spec.specs.WellSorted.{IsWellSorted, IsWellDefined, IsStatement}
 use Rattle.nz_spec.proofs.NormalGates.{normal_terms_are_gated}
@@ -33,10 +33,6 @@ use Rattle.nz_spec.proofs.Sorted.{same_sorts, value_is}
 use Rattle.nz_spec.proofs.Placed.{IsPlaced, is_placed}
 use Rattle.nz_spec.proofs.WrittenTerms.{AreBound, are_constants}
 use Rattle.nz_spec.proofs.SortedTerms.{sorted_real, IsSortedScope, term_sorted}
-
-record AreSound (items : List Item) : Type 0 where
-  pub definitions : AllByRecursion IsWellDefined (definitions_in items)
-  pub assertions : AllByRecursion IsStatement (assertions_in items)
 
 -- ---- One more item
 
@@ -62,15 +58,12 @@ items_with (items ∷ older) l =
     ap (map (λ (k : LiveItem). k.item)) (sym (append_assoc (numbered_items older) items (l ∷ [])))
     ∙ map-append (λ (k : LiveItem). k.item) (numbered_items older ++ items) (l ∷ [])
 
-abbrev IsSound : State → Type 0
-IsSound s = AreSound (items_of s.levels)
-
-grown_sound : (s : State) (i : Item) → IsSound s → AreSound (i ∷ []) → IsSound (grown s i)
-grown_sound s i sound new =
-    subst AreSound (sym (items_with s.levels (record { number = s.next; item = i })))
+grown_sorted : (s : State) (i : Item) → IsSortedState s → AreSortedItems (i ∷ []) → IsSortedState (grown s i)
+grown_sorted s i sorted new =
+    subst AreSortedItems (sym (items_with s.levels (record { number = s.next; item = i })))
     (record {
-      definitions = definitions_with (items_of s.levels) i sound.definitions new.definitions;
-      assertions = assertions_with (items_of s.levels) i sound.assertions new.assertions;
+      definitions = definitions_with (items_of s.levels) i sorted.definitions new.definitions;
+      assertions = assertions_with (items_of s.levels) i sorted.assertions new.assertions;
     })
 
 -- ---- Commands
@@ -114,12 +107,12 @@ body_good : (name : List ℕ) (sorts : List Sort) (sort : Sort) (m : Option Term
 body_good name sorts sort (Some t) h = linear_good (is_linear (normal_of t)) (define (record { name = name; parameters = sorts; body = t })) h.0
 body_good name sorts sort None h = tt
 
-module _ (s : State) (sound : AreSound (items_of s.levels)) where
+module _ (s : State) (sorted : IsSortedState s) where
   scope_is : IsSortedScope [] (scope_of s)
-  scope_is = record { constants = are_constants (constants_of s); definitions = sound.definitions; bound = tt }
+  scope_is = record { constants = are_constants (constants_of s); definitions = sorted.definitions; bound = tt }
 
   body_scope_is : (names : List (List ℕ)) (sorts : List Sort) → IsSortedScope sorts (body_scope s names sorts)
-  body_scope_is names sorts = record { constants = are_constants (constants_of s); definitions = sound.definitions; bound = parameters_bound sorts sorts 0 names (λ j i e. let f : i ≡ j = omega (arith, e) in ap (slice_get sorts) f) }
+  body_scope_is names sorts = record { constants = are_constants (constants_of s); definitions = sorted.definitions; bound = parameters_bound sorts sorts 0 names (λ j i e. let f : i ≡ j = omega (arith, e) in ap (slice_get sorts) f) }
 
   definition_by_good : (name : List ℕ) (names : List (List ℕ)) (m : Option (List Sort)) (n : Option Sort) (body : Expression) → IsGood (definition_by s name names m n body)
   definition_by_good name names (Some sorts) (Some sort) body =
@@ -208,33 +201,33 @@ module _ (s : State) (sound : AreSound (items_of s.levels)) where
 
 -- ---- States
 
-command_sound : (s : State) (c : Command) (reply : Reply) → IsSound s → IsGoodCommand c → IsSound (effect s c reply)
-command_sound s (declare_const c) reply sound good = grown_sound s (declared c) sound (record { definitions = tt; assertions = tt })
-command_sound s (define d) reply sound good = grown_sound s (defined d) sound (record { definitions = (good, tt); assertions = tt })
-command_sound s (assert_term t) reply sound good = grown_sound s (asserted t) sound (record { definitions = tt; assertions = (good, tt) })
-command_sound s (check_sat assumed) reply sound good = sound
-command_sound s (set_print_success b) reply sound good = sound
-command_sound s c reply sound good = sound
+command_sorted : (s : State) (c : Command) (reply : Reply) → IsSortedState s → IsGoodCommand c → IsSortedState (effect s c reply)
+command_sorted s (declare_const c) reply sorted good = grown_sorted s (declared c) sorted (record { definitions = tt; assertions = tt })
+command_sorted s (define d) reply sorted good = grown_sorted s (defined d) sorted (record { definitions = (good, tt); assertions = tt })
+command_sorted s (assert_term t) reply sorted good = grown_sorted s (asserted t) sorted (record { definitions = tt; assertions = (good, tt) })
+command_sorted s (check_sat assumed) reply sorted good = sorted
+command_sorted s (set_print_success b) reply sorted good = sorted
+command_sorted s c reply sorted good = sorted
 
-effect_sound : (s : State) (o : Outcome) (reply : Reply) → IsSound s → IsGood o → IsSound (effect_of s o reply)
-effect_sound s (accepted c) reply sound good = command_sound s c reply sound good
-effect_sound s (refused n) reply sound good = sound
-effect_sound s not_taken reply sound good = sound
+effect_sorted : (s : State) (o : Outcome) (reply : Reply) → IsSortedState s → IsGood o → IsSortedState (effect_of s o reply)
+effect_sorted s (accepted c) reply sorted good = command_sorted s c reply sorted good
+effect_sorted s (refused n) reply sorted good = sorted
+effect_sorted s not_taken reply sorted good = sorted
 
-tree_sound : (s : State) (t : Tree) (reply : Reply) → IsSound s → IsSound (effect_of s (outcome_of s t) reply)
-tree_sound s t reply sound = effect_sound s (outcome_of s t) reply sound (outcome_good s sound t)
+tree_sorted : (s : State) (t : Tree) (reply : Reply) → IsSortedState s → IsSortedState (effect_of s (outcome_of s t) reply)
+tree_sorted s t reply sorted = effect_sorted s (outcome_of s t) reply sorted (outcome_good s sorted t)
 
-after_sound : (s : State) (what : What) (reply : Reply) → IsSound s → IsSound (after s what reply)
-after_sound s (intact t) (error n) sound = sound
-after_sound s (intact t) reply sound = tree_sound s t reply sound
-after_sound s what reply sound = sound
+after_sorted : (s : State) (what : What) (reply : Reply) → IsSortedState s → IsSortedState (after s what reply)
+after_sorted s (intact t) (error n) sorted = sorted
+after_sorted s (intact t) reply sorted = tree_sorted s t reply sorted
+after_sorted s what reply sorted = sorted
 
-kept_sound : (c : Context) (kept : List Kept) → IsSound c.state → IsSound (context_of c kept).state
-kept_sound c [] sound = sound
-kept_sound c (k ∷ ks) sound = kept_sound (context_after c k.heard.what k.reply) ks (after_sound c.state k.heard.what k.reply sound)
+kept_sorted : (c : Context) (kept : List Kept) → IsSortedState c.state → IsSortedState (context_of c kept).state
+kept_sorted c [] sorted = sorted
+kept_sorted c (k ∷ ks) sorted = kept_sorted (context_after c k.heard.what k.reply) ks (after_sorted c.state k.heard.what k.reply sorted)
 
-first_sound : IsSound start
-first_sound = record { definitions = tt; assertions = tt }
+first_sorted : IsSortedState start
+first_sorted = record { definitions = tt; assertions = tt }
 
 -- ---- Values
 
@@ -248,29 +241,21 @@ statements_are a given (t ∷ ts) h = (subst (λ s. IsOfSort s (value_of a t)) h
 pub terms_have_their_sorts : TermsHaveTheirSorts
 terms_have_their_sorts limit kept a given =
     let s = (context_of (beginning limit) kept).state in
-    let sound = kept_sound (beginning limit) kept first_sound in
+    let sorted = kept_sorted (beginning limit) kept first_sorted in
     record {
-      terms = λ written t e. value_is a given [] t (found_is (term_of (scope_of s) written) t (term_sorted [] (scope_of s) written (scope_is s sound)) e);
-      assertions = statements_are a given (assertions_of s) sound.assertions;
+      terms = λ written t e. value_is a given [] t (found_is (term_of (scope_of s) written) t (term_sorted [] (scope_of s) written (scope_is s sorted)) e);
+      assertions = statements_are a given (assertions_of s) sorted.assertions;
     }
 
 -- ---- States that stay so
 
-sorted_state : (s : State) → IsSound s → IsSortedState s
-sorted_state s sound = record { definitions = sound.definitions; assertions = sound.assertions }
-
-sound_state : (s : State) → IsSortedState s → IsSound s
-sound_state s sorted = record { definitions = sorted.definitions; assertions = sorted.assertions }
-
 pub states_stay_sorted : StatesStaySorted
 states_stay_sorted =
     record {
-      start = sorted_state start first_sound;
-      by_command = λ s t c reply e sorted.
-        let sound = sound_state s sorted in
-        sorted_state (effect s c reply) (command_sound s c reply sound (subst IsGood e (outcome_good s sound t)));
-      by_reply = λ s what reply sorted. sorted_state (after s what reply) (after_sound s what reply (sound_state s sorted));
-      in_context = λ limit kept. sorted_state (context_of (beginning limit) kept).state (kept_sound (beginning limit) kept first_sound);
+      start = first_sorted;
+      by_command = λ s t c reply e sorted. command_sorted s c reply sorted (subst IsGood e (outcome_good s sorted t));
+      by_reply = after_sorted;
+      in_context = λ limit kept. kept_sorted (beginning limit) kept first_sorted;
     }
 
 each_gated : (ts : List Term) → AllByRecursion IsStatement ts → AllByRecursion (λ (t : Term). holds_number t ≡ false → IsGated t) (map normal_of ts)

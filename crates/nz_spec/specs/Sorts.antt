@@ -9,7 +9,7 @@ use Rattle.nz_spec.specs.Gates.{IsGated}
 use Rattle.nz_spec.specs.Model.{IsAssignment}
 use Rattle.nz_spec.specs.Elaboration.{term_of}
 use Rattle.nz_spec.specs.WellSorted.{IsWellDefined, IsStatement}
-use Rattle.nz_spec.specs.Live.{State, start, definitions_of, assertions_of}
+use Rattle.nz_spec.specs.Live.{State, start, Item, items_of, definitions_in, assertions_in, assertions_of}
 use Rattle.nz_spec.specs.Command.{Command, accepted}
 use Rattle.nz_spec.specs.Script.{scope_of, outcome_of}
 use Rattle.nz_spec.specs.Text.{What}
@@ -17,10 +17,14 @@ use Rattle.nz_spec.specs.Reply.{Reply}
 use Rattle.nz_spec.specs.Right.{beginning, effect, after}
 use Rattle.nz_spec.specs.Transcript.{Kept, context_of}
 
--- Each live definition and each live assertion is well sorted.
-pub record IsSortedState (s : State) : Type 0 where
-  pub definitions : AllByRecursion IsWellDefined (definitions_of s)
-  pub assertions : AllByRecursion IsStatement (assertions_of s)
+-- Each definition and each assertion is well sorted.
+pub record AreSortedItems (items : List Item) : Type 0 where
+  pub definitions : AllByRecursion IsWellDefined (definitions_in items)
+  pub assertions : AllByRecursion IsStatement (assertions_in items)
+
+-- So are those that are live.
+abbrev pub IsSortedState : State → Type 0
+IsSortedState s = AreSortedItems (items_of s.levels)
 
 -- What is written in this state has a value of its sort, and each live assertion has a truth.
 pub record HaveTheirSorts (s : State) (a : Assignment) : Type 0 where
@@ -31,7 +35,7 @@ pub record HaveTheirSorts (s : State) (a : Assignment) : Type 0 where
 abbrev pub TermsHaveTheirSorts : Type 0
 TermsHaveTheirSorts = (limit : ℕ) (kept : List Kept) (a : Assignment) → IsAssignment a → HaveTheirSorts (context_of (beginning limit) kept).state a
 
--- So it is at first, and stays so whatever is told and replied.
+-- What is live is well sorted at first, and stays so whatever is told and replied.
 pub record StatesStaySorted : Type 0 where
   pub start : IsSortedState start
   pub by_command : (s : State) (t : Tree) (c : Command) (reply : Reply) → outcome_of s t ≡ accepted c → IsSortedState s → IsSortedState (effect s c reply)
