@@ -1,4 +1,4 @@
--- Truths that meet the clauses of a gate: the value of its term is the truth that is told of it.
+-- Truths that meet the clauses of the gate table are those of the values.
 use Rattle.std.proofs.Common.{◌≡◌, ℕ, zero, suc, ◌<◌, ◌⊎◌, inl, inr, Bool, true, false, not, ◌&&◌, ◌||◌, List, [], ◌∷◌, ◌++◌, length, map, refl, sym, ap, subst, ◌∙◌, true≢false, arith}
 use Rattle.std.specs.Prelude.{Contains, ⊤, slice_index_or, if◌then◌else◌}
 use Rattle.std.specs.List.{AllByRecursion, list_all, list_any}
@@ -9,7 +9,7 @@ use Rattle.nz_lists.proofs.Elements.{AllByRecursion-weaker}
 use Rattle.nz_spec.specs.Term.{bool_sort, Head, constant, verum, falsum, negation, conjunction, disjunction, exclusion, equality, choice, Term, apply, Terms, no_terms, terms, Value, truth, Assignment, is_true, are_equal, excluded, all_true, some_true, head_sort, sort_of, is_bool, value_of, values_of}
 use Rattle.nz_spec.specs.Order.{post_order, post_orders}
 use Rattle.nz_spec.specs.Literal.{Literal, term_literal, Clause}
-use Rattle.nz_spec.specs.Gates.{list_of, holds, fails, gate_clauses, IsRow, IsGated, AreGated, HasTold, MeetsGates, IsToldBy, IsToldAt, GatesDecide, NumberedGatesDecide}
+use Rattle.nz_spec.specs.Gates.{list_of, holds, fails, gate_clauses, IsRow, IsGated, AreGated, HasTrueLiteral, MeetsGates, IsTruthBy, IsTruthAt, GatesDecide, NumberedGatesDecide}
 
 -- a term of the table is of sort Bool
 row_boolean : (h : Head) (ts : Terms) → IsRow h ts → is_bool (head_sort h) ≡ true
@@ -36,31 +36,31 @@ same_either_way : (b : Bool) (v w x : Value) → v ≡ x → w ≡ x → (if b t
 same_either_way true v w x e f = e
 same_either_way false v w x e f = f
 
-module _ (a : Assignment) (Told : Term → Bool → Type 0) (consistent : (t : Term) → Told t true → Told t false → ⊥) where
-  -- ---- One of the literals is told
+module _ (a : Assignment) (HasTruth : Term → Bool → Type 0) (consistent : (t : Term) → HasTruth t true → HasTruth t false → ⊥) where
+  -- ---- One of the literals is true
 
   abbrev Says : Literal → Type 0
-  Says (term_literal t sign) = Told t sign
+  Says (term_literal t sign) = HasTruth t sign
 
   abbrev SaysOne : Clause → Type 0
   SaysOne [] = ⊥
   SaysOne (l ∷ ls) = Says l ⊎ SaysOne ls
 
-  told_at : (c : Clause) (t : Term) (sign : Bool) (k : ℕ) → k < length c → slice_index_or c k (term_literal t sign) ≡ term_literal t sign → Told t sign → SaysOne c
-  told_at [] t sign k below e told = absurd (omega (arith, below))
-  told_at (l ∷ ls) t sign zero below e told = inl (subst Says (sym e) told)
-  told_at (l ∷ ls) t sign (suc k) below e told = inr (told_at ls t sign k (omega (arith, below)) e told)
+  says_at : (c : Clause) (t : Term) (sign : Bool) (k : ℕ) → k < length c → slice_index_or c k (term_literal t sign) ≡ term_literal t sign → HasTruth t sign → SaysOne c
+  says_at [] t sign k below e has = absurd (omega (arith, below))
+  says_at (l ∷ ls) t sign zero below e has = inl (subst Says (sym e) has)
+  says_at (l ∷ ls) t sign (suc k) below e has = inr (says_at ls t sign k (omega (arith, below)) e has)
 
-  says_one : (c : Clause) → HasTold Told c → SaysOne c
-  says_one c h = told_at c h.0 h.1 h.2.0 h.2.1 h.2.2 h.3
+  says_one : (c : Clause) → HasTrueLiteral HasTruth c → SaysOne c
+  says_one c h = says_at c h.0 h.1 h.2.0 h.2.1 h.2.2 h.3
 
-  -- no term is told both ways
-  never : (t : Term) (sign : Bool) → Told t sign → Told t (not sign) → ⊥
+  -- no term has both truths
+  never : (t : Term) (sign : Bool) → HasTruth t sign → HasTruth t (not sign) → ⊥
   never t true h k = consistent t h k
   never t false h k = consistent t k h
 
-  -- what is told of a term leaves the other literals of a clause that denies it
-  others : (t : Term) (sign : Bool) (rest : Type 0) → Told t sign → Told t (not sign) ⊎ rest → rest
+  -- a clause that denies a term's truth says one of the others
+  others : (t : Term) (sign : Bool) (rest : Type 0) → HasTruth t sign → HasTruth t (not sign) ⊎ rest → rest
   others t sign rest h (inl k) = absurd (never t sign h k)
   others t sign rest h (inr r) = r
 
@@ -70,9 +70,9 @@ module _ (a : Assignment) (Told : Term → Bool → Type 0) (consistent : (t : T
 
   -- ---- Values
 
-  -- the value of the term is the truth that is told of it
+  -- where the term has a truth, that is its value
   abbrev IsSettled : Term → Type 0
-  IsSettled t = (sign : Bool) → Told t sign → value_of a t ≡ truth sign
+  IsSettled t = (sign : Bool) → HasTruth t sign → value_of a t ≡ truth sign
 
   abbrev AreSettled : Terms → Type 0
   AreSettled no_terms = ⊤
@@ -91,14 +91,14 @@ module _ (a : Assignment) (Told : Term → Bool → Type 0) (consistent : (t : T
   abbrev Pairs : Term → Bool → Terms → List Clause
   Pairs t sign ts = map (λ u. term_literal t (not sign) ∷ term_literal u sign ∷ []) (list_of ts)
 
-  each_is : (t : Term) (sign : Bool) → Told t sign → (ts : Terms) (more : List Clause) → AllByRecursion SaysOne (Pairs t sign ts ++ more) → AreSettled ts → EachIs sign ts
-  each_is t sign told no_terms more h s = tt
-  each_is t sign told (terms u us) more h s =
-      (s.0 sign (alone (Told u sign) (others t sign (Told u sign ⊎ ⊥) told h.0)), each_is t sign told us more h.1 s.1)
+  each_is : (t : Term) (sign : Bool) → HasTruth t sign → (ts : Terms) (more : List Clause) → AllByRecursion SaysOne (Pairs t sign ts ++ more) → AreSettled ts → EachIs sign ts
+  each_is t sign has no_terms more h s = tt
+  each_is t sign has (terms u us) more h s =
+      (s.0 sign (alone (HasTruth u sign) (others t sign (HasTruth u sign ⊎ ⊥) has h.0)), each_is t sign has us more h.1 s.1)
 
-  last_told : (t : Term) (sign : Bool) (ts : Terms) (c : Clause) → AllByRecursion SaysOne (Pairs t sign ts ++ c ∷ []) → SaysOne c
-  last_told t sign no_terms c h = h.0
-  last_told t sign (terms u us) c h = last_told t sign us c h.1
+  last_says : (t : Term) (sign : Bool) (ts : Terms) (c : Clause) → AllByRecursion SaysOne (Pairs t sign ts ++ c ∷ []) → SaysOne c
+  last_says t sign no_terms c h = h.0
+  last_says t sign (terms u us) c h = last_says t sign us c h.1
 
   one_is : (sign : Bool) (ts : Terms) → SaysOne (map (λ u. term_literal u sign) (list_of ts)) → AreSettled ts → OneIs sign ts
   one_is sign no_terms h s = absurd h
@@ -149,36 +149,36 @@ module _ (a : Assignment) (Told : Term → Bool → Type 0) (consistent : (t : T
   Met t = AllByRecursion SaysOne (gate_clauses t)
 
   conjunction_settled : (ts : Terms) → Met (apply conjunction ts) → AreSettled ts → IsSettled (apply conjunction ts)
-  conjunction_settled ts h s true told = all_is ts (each_is (apply conjunction ts) true told ts _ h s)
-  conjunction_settled ts h s false told =
+  conjunction_settled ts h s true has = all_is ts (each_is (apply conjunction ts) true has ts _ h s)
+  conjunction_settled ts h s false has =
       let rest = map fails (list_of ts) in
-      all_fails ts (one_is false ts (others (apply conjunction ts) false (SaysOne rest) told (last_told (apply conjunction ts) true ts (holds (apply conjunction ts) ∷ rest) h)) s)
+      all_fails ts (one_is false ts (others (apply conjunction ts) false (SaysOne rest) has (last_says (apply conjunction ts) true ts (holds (apply conjunction ts) ∷ rest) h)) s)
 
   disjunction_settled : (ts : Terms) → Met (apply disjunction ts) → AreSettled ts → IsSettled (apply disjunction ts)
-  disjunction_settled ts h s false told = some_fails ts (each_is (apply disjunction ts) false told ts _ h s)
-  disjunction_settled ts h s true told =
+  disjunction_settled ts h s false has = some_fails ts (each_is (apply disjunction ts) false has ts _ h s)
+  disjunction_settled ts h s true has =
       let rest = map holds (list_of ts) in
-      some_is ts (one_is true ts (others (apply disjunction ts) true (SaysOne rest) told (last_told (apply disjunction ts) false ts (fails (apply disjunction ts) ∷ rest) h)) s)
+      some_is ts (one_is true ts (others (apply disjunction ts) true (SaysOne rest) has (last_says (apply disjunction ts) false ts (fails (apply disjunction ts) ∷ rest) h)) s)
 
   -- ---- Operators of a fixed number of arguments
 
   negation_settled : (u : Term) → Met (apply negation (terms u no_terms)) → IsSettled u → IsSettled (apply negation (terms u no_terms))
-  negation_settled u h s true told =
-      ap (λ v. truth (not (is_true v))) (s false (alone (Told u false) (others (apply negation (terms u no_terms)) true (Told u false ⊎ ⊥) told h.0)))
-  negation_settled u h s false told =
-      ap (λ v. truth (not (is_true v))) (s true (alone (Told u true) (others (apply negation (terms u no_terms)) false (Told u true ⊎ ⊥) told h.1.0)))
+  negation_settled u h s true has =
+      ap (λ v. truth (not (is_true v))) (s false (alone (HasTruth u false) (others (apply negation (terms u no_terms)) true (HasTruth u false ⊎ ⊥) has h.0)))
+  negation_settled u h s false has =
+      ap (λ v. truth (not (is_true v))) (s true (alone (HasTruth u true) (others (apply negation (terms u no_terms)) false (HasTruth u true ⊎ ⊥) has h.1.0)))
 
   -- the arguments have these truths, or both the others
   abbrev AreBoth : (u v : Term) (p q : Bool) → Type 0
   AreBoth u v p q = (value_of a u ≡ truth p) × (value_of a v ≡ truth q)
 
   -- by a clause that says one of two things, and one that denies one of them
-  crossed : (u v : Term) (p q : Bool) → IsSettled u → IsSettled v → Told u p ⊎ (Told v q ⊎ ⊥) → Told u (not p) ⊎ (Told v (not q) ⊎ ⊥)
+  crossed : (u v : Term) (p q : Bool) → IsSettled u → IsSettled v → HasTruth u p ⊎ (HasTruth v q ⊎ ⊥) → HasTruth u (not p) ⊎ (HasTruth v (not q) ⊎ ⊥)
       → AreBoth u v p (not q) ⊎ AreBoth u v (not p) q
   crossed u v p q s r (inl h) (inl k) = absurd (never u p h k)
-  crossed u v p q s r (inl h) (inr k) = inl (s p h, r (not q) (alone (Told v (not q)) k))
-  crossed u v p q s r (inr h) (inl k) = inr (s (not p) k, r q (alone (Told v q) h))
-  crossed u v p q s r (inr h) (inr k) = absurd (never v q (alone (Told v q) h) (alone (Told v (not q)) k))
+  crossed u v p q s r (inl h) (inr k) = inl (s p h, r (not q) (alone (HasTruth v (not q)) k))
+  crossed u v p q s r (inr h) (inl k) = inr (s (not p) k, r q (alone (HasTruth v q) h))
+  crossed u v p q s r (inr h) (inr k) = absurd (never v q (alone (HasTruth v q) h) (alone (HasTruth v (not q)) k))
 
   -- what is made of both
   made_of : (f : Value → Value → Value) (u v : Term) (p q : Bool) → AreBoth u v p q → f (value_of a u) (value_of a v) ≡ f (truth p) (truth q)
@@ -189,65 +189,65 @@ module _ (a : Assignment) (Told : Term → Bool → Type 0) (consistent : (t : T
   by_either f u v p q sign (inl h) e g = made_of f u v p (not q) h ∙ e
   by_either f u v p q sign (inr h) e g = made_of f u v (not p) q h ∙ g
 
-  -- a clause on the term and both arguments, where the term is told
+  -- a clause on the term and both arguments
   abbrev Row : Type 0 → (u v : Term) (p q : Bool) → Type 0
-  Row first u v p q = first ⊎ (Told u p ⊎ (Told v q ⊎ ⊥))
+  Row first u v p q = first ⊎ (HasTruth u p ⊎ (HasTruth v q ⊎ ⊥))
 
-  paired_settled : (t : Term) (sign : Bool) → Told t sign → (f : Value → Value → Value) (u v : Term) (p q : Bool) → IsSettled u → IsSettled v
-      → Row (Told t (not sign)) u v p q → Row (Told t (not sign)) u v (not p) (not q)
+  paired_settled : (t : Term) (sign : Bool) → HasTruth t sign → (f : Value → Value → Value) (u v : Term) (p q : Bool) → IsSettled u → IsSettled v
+      → Row (HasTruth t (not sign)) u v p q → Row (HasTruth t (not sign)) u v (not p) (not q)
       → f (truth p) (truth (not q)) ≡ truth sign → f (truth (not p)) (truth q) ≡ truth sign → f (value_of a u) (value_of a v) ≡ truth sign
-  paired_settled t sign told f u v p q s r h k e g =
-      by_either f u v p q sign (crossed u v p q s r (others t sign (Told u p ⊎ (Told v q ⊎ ⊥)) told h) (others t sign (Told u (not p) ⊎ (Told v (not q) ⊎ ⊥)) told k)) e g
+  paired_settled t sign has f u v p q s r h k e g =
+      by_either f u v p q sign (crossed u v p q s r (others t sign (HasTruth u p ⊎ (HasTruth v q ⊎ ⊥)) has h) (others t sign (HasTruth u (not p) ⊎ (HasTruth v (not q) ⊎ ⊥)) has k)) e g
 
   exclusion_settled : (u v : Term) → Met (apply exclusion (terms u (terms v no_terms))) → IsSettled u → IsSettled v → IsSettled (apply exclusion (terms u (terms v no_terms)))
-  exclusion_settled u v h s r true told = paired_settled (apply exclusion (terms u (terms v no_terms))) true told excluded u v true true s r h.0 h.1.0 refl refl
-  exclusion_settled u v h s r false told = paired_settled (apply exclusion (terms u (terms v no_terms))) false told excluded u v false true s r h.1.1.0 h.1.1.1.0 refl refl
+  exclusion_settled u v h s r true has = paired_settled (apply exclusion (terms u (terms v no_terms))) true has excluded u v true true s r h.0 h.1.0 refl refl
+  exclusion_settled u v h s r false has = paired_settled (apply exclusion (terms u (terms v no_terms))) false has excluded u v false true s r h.1.1.0 h.1.1.1.0 refl refl
 
   abbrev equated : Value → Value → Value
   equated v w = truth (are_equal v w && true)
 
   equality_settled : (u v : Term) → is_bool (sort_of u) ≡ true → Met (apply equality (terms u (terms v no_terms))) → IsSettled u → IsSettled v
       → IsSettled (apply equality (terms u (terms v no_terms)))
-  equality_settled u v e k s r true told =
+  equality_settled u v e k s r true has =
       let h = passed (AllByRecursion SaysOne) (is_bool (sort_of u)) _ e k in
-      paired_settled (apply equality (terms u (terms v no_terms))) true told equated u v false true s r h.0 h.1.0 refl refl
-  equality_settled u v e k s r false told =
+      paired_settled (apply equality (terms u (terms v no_terms))) true has equated u v false true s r h.0 h.1.0 refl refl
+  equality_settled u v e k s r false has =
       let h = passed (AllByRecursion SaysOne) (is_bool (sort_of u)) _ e k in
-      paired_settled (apply equality (terms u (terms v no_terms))) false told equated u v true true s r h.1.1.0 h.1.1.1.0 refl refl
+      paired_settled (apply equality (terms u (terms v no_terms))) false has equated u v true true s r h.1.1.0 h.1.1.1.0 refl refl
 
   -- by what the clauses say of the condition and the branches
-  chosen : (c u v : Term) (sign : Bool) → IsSettled c → IsSettled u → IsSettled v → Told c false ⊎ (Told u sign ⊎ ⊥) → Told c true ⊎ (Told v sign ⊎ ⊥)
+  chosen : (c u v : Term) (sign : Bool) → IsSettled c → IsSettled u → IsSettled v → HasTruth c false ⊎ (HasTruth u sign ⊎ ⊥) → HasTruth c true ⊎ (HasTruth v sign ⊎ ⊥)
       → (if is_true (value_of a c) then value_of a u else value_of a v) ≡ truth sign
   chosen c u v sign s r q (inl h) (inl k) = absurd (never c false h k)
   chosen c u v sign s r q (inl h) (inr k) =
-      ap (λ x. if is_true x then value_of a u else value_of a v) (s false h) ∙ q sign (alone (Told v sign) k)
+      ap (λ x. if is_true x then value_of a u else value_of a v) (s false h) ∙ q sign (alone (HasTruth v sign) k)
   chosen c u v sign s r q (inr h) (inl k) =
-      ap (λ x. if is_true x then value_of a u else value_of a v) (s true k) ∙ r sign (alone (Told u sign) h)
+      ap (λ x. if is_true x then value_of a u else value_of a v) (s true k) ∙ r sign (alone (HasTruth u sign) h)
   chosen c u v sign s r q (inr h) (inr k) =
-      same_either_way (is_true (value_of a c)) (value_of a u) (value_of a v) (truth sign) (r sign (alone (Told u sign) h)) (q sign (alone (Told v sign) k))
+      same_either_way (is_true (value_of a c)) (value_of a u) (value_of a v) (truth sign) (r sign (alone (HasTruth u sign) h)) (q sign (alone (HasTruth v sign) k))
 
   choice_settled : (c u v : Term) → Met (apply (choice bool_sort) (terms c (terms u (terms v no_terms)))) → IsSettled c → IsSettled u → IsSettled v
       → IsSettled (apply (choice bool_sort) (terms c (terms u (terms v no_terms))))
-  choice_settled c u v h s r q true told =
+  choice_settled c u v h s r q true has =
       let t = apply (choice bool_sort) (terms c (terms u (terms v no_terms))) in
-      chosen c u v true s r q (others t true (Told c false ⊎ (Told u true ⊎ ⊥)) told h.0) (others t true (Told c true ⊎ (Told v true ⊎ ⊥)) told h.1.0)
-  choice_settled c u v h s r q false told =
+      chosen c u v true s r q (others t true (HasTruth c false ⊎ (HasTruth u true ⊎ ⊥)) has h.0) (others t true (HasTruth c true ⊎ (HasTruth v true ⊎ ⊥)) has h.1.0)
+  choice_settled c u v h s r q false has =
       let t = apply (choice bool_sort) (terms c (terms u (terms v no_terms))) in
-      chosen c u v false s r q (others t false (Told c false ⊎ (Told u false ⊎ ⊥)) told h.1.1.0) (others t false (Told c true ⊎ (Told v false ⊎ ⊥)) told h.1.1.1.0)
+      chosen c u v false s r q (others t false (HasTruth c false ⊎ (HasTruth u false ⊎ ⊥)) has h.1.1.0) (others t false (HasTruth c true ⊎ (HasTruth v false ⊎ ⊥)) has h.1.1.1.0)
 
   verum_settled : Met (apply verum no_terms) → IsSettled (apply verum no_terms)
-  verum_settled h true told = refl
-  verum_settled h false told = absurd (never (apply verum no_terms) false told (alone (Told (apply verum no_terms) true) h.0))
+  verum_settled h true has = refl
+  verum_settled h false has = absurd (never (apply verum no_terms) false has (alone (HasTruth (apply verum no_terms) true) h.0))
 
   falsum_settled : Met (apply falsum no_terms) → IsSettled (apply falsum no_terms)
-  falsum_settled h false told = refl
-  falsum_settled h true told = absurd (never (apply falsum no_terms) true told (alone (Told (apply falsum no_terms) false) h.0))
+  falsum_settled h false has = refl
+  falsum_settled h true has = absurd (never (apply falsum no_terms) true has (alone (HasTruth (apply falsum no_terms) false) h.0))
 
   -- ---- Terms
 
   node_settled : (h : Head) (ts : Terms) → IsRow h ts → AreGated ts → Met (apply h ts) → AreSettled ts
-      → ((c : _) (sign : Bool) → apply h ts ≡ apply (constant c) no_terms → Told (apply (constant c) no_terms) sign → a c ≡ truth sign) → IsSettled (apply h ts)
-  node_settled (constant c) no_terms r g m s k = λ sign told. k c sign refl told
+      → ((c : _) (sign : Bool) → apply h ts ≡ apply (constant c) no_terms → HasTruth (apply (constant c) no_terms) sign → a c ≡ truth sign) → IsSettled (apply h ts)
+  node_settled (constant c) no_terms r g m s k = λ sign has. k c sign refl has
   node_settled verum no_terms r g m s k = verum_settled m
   node_settled falsum no_terms r g m s k = falsum_settled m
   node_settled negation (terms u no_terms) r g m s k = negation_settled u m s.0
@@ -259,34 +259,35 @@ module _ (a : Assignment) (Told : Term → Bool → Type 0) (consistent : (t : T
   node_settled h ts r g m s k = absurd r
 
   -- fewer terms
-  fewer : (parts more : List Term) → ((u : Term) → Contains parts u → Contains more u) → MeetsGates Told a more → MeetsGates Told a parts
+  fewer : (parts more : List Term) → ((u : Term) → Contains parts u → Contains more u) → MeetsGates HasTruth a more → MeetsGates HasTruth a parts
   fewer parts more within m =
       record {
         clauses = λ u at. m.clauses u (within u at);
-        constants = λ c sign at told. m.constants c sign (within (apply (constant c) no_terms) at) told;
+        constants = λ c sign at has. m.constants c sign (within (apply (constant c) no_terms) at) has;
       }
 
   mutual
-    settled : (t : Term) → IsGated t → MeetsGates Told a (post_order t) → IsSettled t
+    settled : (t : Term) → IsGated t → MeetsGates HasTruth a (post_order t) → IsSettled t
     settled (apply h ts) g m =
         let own = Contains-push (post_orders ts) (apply h ts) in
-        node_settled h ts g.0 g.1 (AllByRecursion-weaker (HasTold Told) SaysOne says_one (gate_clauses (apply h ts)) (m.clauses (apply h ts) own))
+        node_settled h ts g.0 g.1 (AllByRecursion-weaker (HasTrueLiteral HasTruth) SaysOne says_one (gate_clauses (apply h ts)) (m.clauses (apply h ts) own))
         (all_settled ts g.1 (fewer (post_orders ts) (post_order (apply h ts)) (Contains-append_left (post_orders ts) (apply h ts ∷ [])) m))
-        (λ c sign e told. m.constants c sign (subst (Contains (post_order (apply h ts))) e own) told)
+        (λ c sign e has. m.constants c sign (subst (Contains (post_order (apply h ts))) e own) has)
 
-    all_settled : (ts : Terms) → AreGated ts → MeetsGates Told a (post_orders ts) → AreSettled ts
+    all_settled : (ts : Terms) → AreGated ts → MeetsGates HasTruth a (post_orders ts) → AreSettled ts
     all_settled no_terms g m = tt
-    all_settled (terms t ts) g m =
-        (settled t g.0 (fewer (post_order t) (post_orders (terms t ts)) (Contains-append_left (post_order t) (post_orders ts)) m),
-        all_settled ts g.1 (fewer (post_orders ts) (post_orders (terms t ts)) (Contains-append_right (post_order t) (post_orders ts)) m))
+    all_settled (terms t ts) g m = (
+      settled t g.0 (fewer (post_order t) (post_orders (terms t ts)) (Contains-append_left (post_order t) (post_orders ts)) m),
+      all_settled ts g.1 (fewer (post_orders ts) (post_orders (terms t ts)) (Contains-append_right (post_order t) (post_orders ts)) m),
+    )
 
 pub gates_decide : GatesDecide
-gates_decide a truths t g m = settled a (IsToldBy truths) (λ u h k. true≢false (sym h ∙ k)) t g m (truths t) refl
+gates_decide a truths t g m = settled a (IsTruthBy truths) (λ u h k. true≢false (sym h ∙ k)) t g m (truths t) refl
 
 pub numbered_gates_decide : NumberedGatesDecide
-numbered_gates_decide ns one a truths t sign g m told =
-    settled a (IsToldAt ns truths)
+numbered_gates_decide ns one a truths t sign g m has =
+    settled a (IsTruthAt ns truths)
     (λ u h k.
-      let same : h.0 ≡ k.0 = one h.0 k.0 h.1 k.1 (h.2 ∙ sym k.2) in
-      true≢false (same_Some true false (sym h.3 ∙ ap truths same ∙ k.3)))
-    t g m sign told
+    let same : h.0 ≡ k.0 = one h.0 k.0 h.1 k.1 (h.2 ∙ sym k.2) in
+    true≢false (same_Some true false (sym h.3 ∙ ap truths same ∙ k.3)))
+    t g m sign has

@@ -27,7 +27,7 @@ use Rattle.nz_spec.specs.Transcript.{Kept, context_of}
 use Rattle.nz_spec.specs.Model.{IsAssignment}
 use Rattle.nz_spec.specs.Sorts.{TermsHaveTheirSorts, AreSortedItems, IsSortedState, StatesStaySorted, AssertionsAreGated}
 use Rattle.nz_spec.specs.Gates.{IsGated}
-use Rattle.nz_spec.specs.WellSorted.{IsWellSorted, IsWellDefined, IsStatement}
+use Rattle.nz_spec.specs.WellSorted.{IsWellSorted, IsSortedDefinition, IsSortedAssertion}
 use Rattle.nz_spec.proofs.NormalGates.{normal_terms_are_gated}
 use Rattle.nz_spec.proofs.Sorted.{same_sorts, value_is}
 use Rattle.nz_spec.proofs.Placed.{IsPlaced, is_placed}
@@ -36,7 +36,7 @@ use Rattle.nz_spec.proofs.SortedTerms.{sorted_real, IsSortedScope, term_sorted}
 
 -- ---- One more item
 
-definitions_with : (items : List Item) (i : Item) → AllByRecursion IsWellDefined (definitions_in items) → AllByRecursion IsWellDefined (definitions_in (i ∷ [])) → AllByRecursion IsWellDefined (definitions_in (items ++ i ∷ []))
+definitions_with : (items : List Item) (i : Item) → AllByRecursion IsSortedDefinition (definitions_in items) → AllByRecursion IsSortedDefinition (definitions_in (i ∷ [])) → AllByRecursion IsSortedDefinition (definitions_in (items ++ i ∷ []))
 definitions_with [] i h k = k
 definitions_with (declared c ∷ items) i h k = definitions_with items i h k
 definitions_with (defined d ∷ items) i h k = (h.0, definitions_with items i h.1 k)
@@ -44,7 +44,7 @@ definitions_with (asserted t ∷ items) i h k = definitions_with items i h k
 definitions_with (sought g ∷ items) i h k = definitions_with items i h k
 definitions_with (wished w ∷ items) i h k = definitions_with items i h k
 
-assertions_with : (items : List Item) (i : Item) → AllByRecursion IsStatement (assertions_in items) → AllByRecursion IsStatement (assertions_in (i ∷ [])) → AllByRecursion IsStatement (assertions_in (items ++ i ∷ []))
+assertions_with : (items : List Item) (i : Item) → AllByRecursion IsSortedAssertion (assertions_in items) → AllByRecursion IsSortedAssertion (assertions_in (i ∷ [])) → AllByRecursion IsSortedAssertion (assertions_in (items ++ i ∷ []))
 assertions_with [] i h k = k
 assertions_with (declared c ∷ items) i h k = assertions_with items i h k
 assertions_with (defined d ∷ items) i h k = assertions_with items i h k
@@ -69,8 +69,8 @@ grown_sorted s i sorted new =
 -- ---- Commands
 
 abbrev IsGoodCommand : Command → Type 0
-IsGoodCommand (define d) = IsWellDefined d
-IsGoodCommand (assert_term t) = IsStatement t
+IsGoodCommand (define d) = IsSortedDefinition d
+IsGoodCommand (assert_term t) = IsSortedAssertion t
 IsGoodCommand c = ⊤
 
 abbrev IsGood : Outcome → Type 0
@@ -234,7 +234,7 @@ first_sorted = record { definitions = tt; assertions = tt }
 found_is : (m : Option Term) (t : Term) → IfFound (IsWellSorted []) m → m ≡ Some t → IsWellSorted [] t
 found_is m t h e = subst (IfFound (IsWellSorted [])) e h
 
-statements_are : (a : Assignment) → IsAssignment a → (ts : List Term) → AllByRecursion IsStatement ts → AllByRecursion (λ (t : Term). IsOfSort bool_sort (value_of a t)) ts
+statements_are : (a : Assignment) → IsAssignment a → (ts : List Term) → AllByRecursion IsSortedAssertion ts → AllByRecursion (λ (t : Term). IsOfSort bool_sort (value_of a t)) ts
 statements_are a given [] h = tt
 statements_are a given (t ∷ ts) h = (subst (λ s. IsOfSort s (value_of a t)) h.0.1 (value_is a given [] t h.0.0), statements_are a given ts h.1)
 
@@ -258,7 +258,7 @@ states_stay_sorted =
       in_context = λ limit kept. kept_sorted (beginning limit) kept first_sorted;
     }
 
-each_gated : (ts : List Term) → AllByRecursion IsStatement ts → AllByRecursion (λ (t : Term). holds_number t ≡ false → IsGated t) (map normal_of ts)
+each_gated : (ts : List Term) → AllByRecursion IsSortedAssertion ts → AllByRecursion (λ (t : Term). holds_number t ≡ false → IsGated t) (map normal_of ts)
 each_gated [] h = tt
 each_gated (t ∷ ts) h = (normal_terms_are_gated t h.0.0, each_gated ts h.1)
 

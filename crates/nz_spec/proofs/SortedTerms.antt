@@ -7,7 +7,7 @@ use Rattle.std.proofs.lemmas.Bool.{and_from}
 use Rattle.nz_lists.proofs.Options.{IfFound, map_found}
 use Rattle.nz_spec.specs.Term.{Sort, are_same_sort, bool_sort, int_sort, real_sort, Head, constant, parameter, integer, decimal_number, to_real, head_sort, Term, apply, Terms, no_terms, terms, sort_of, is_bool}
 use Rattle.nz_spec.specs.Elaboration.{Operator, true_operator, to_real_operator, has_sort, all_terms, term_count, as_real, as_reals, takes, Operands, bools, ints, reals, numbers, alike, branches, operands_of, operand_sort, read_at, operator_head, applied, Definition, instance_node, instance_of, instances_of, all_placed, expansion, Scope, term_of}
-use Rattle.nz_spec.specs.WellSorted.{AreOperands, IsApplied, IsSortedHead, IsWellSorted, AreWellSorted, IsWellDefined}
+use Rattle.nz_spec.specs.WellSorted.{AreOperands, IsApplied, IsSortedHead, IsWellSorted, AreWellSorted, IsSortedDefinition}
 use Rattle.nz_spec.proofs.ReadOperands.{count_read, operands_read}
 use Rattle.nz_spec.proofs.Placed.{HaveSorts, AllAre, IsPlaced, ArePlaced, are_placed, at_place}
 use Rattle.nz_spec.proofs.WrittenTerms.{IsConstant, StaysSo, IsScope, term_found}
@@ -86,8 +86,8 @@ module _ (ss : List Sort) where
   applied_by o ts true e i =
       map_found (λ s. AreOperands (operands_of o) s (read_at s ts)) (IsWellSorted ss) (λ s. apply (operator_head o s) (read_at s ts)) (operand_sort (operands_of o) ts)
       (λ s r.
-        let counted : takes o (term_count (read_at s ts)) ≡ true = ap (takes o) (count_read s ts) ∙ e in
-        (head_applied o s (read_at s ts) (record { operator = o; sort = s; is = refl; count = counted; operands = r }), sorted_read s ts i))
+      let counted : takes o (term_count (read_at s ts)) ≡ true = ap (takes o) (count_read s ts) ∙ e in
+      (head_applied o s (read_at s ts) (record { operator = o; sort = s; is = refl; count = counted; operands = r }), sorted_read s ts i))
       (operands_read (operands_of o) ts)
   applied_by o ts false e i = tt
 
@@ -125,12 +125,12 @@ module _ (ss : List Sort) where
         let others = instances_placed rs us m g ts k.1 in
         ((first.0, others.0), (first.1, others.1))
 
-  expansions : (d : Definition) (ts : Terms) → IsWellDefined d → AllAre (IsWellSorted ss) ts → IsTerm (expansion d ts)
+  expansions : (d : Definition) (ts : Terms) → IsSortedDefinition d → AllAre (IsWellSorted ss) ts → IsTerm (expansion d ts)
   expansions d ts k h =
       map_found (ArePlaced (IsWellSorted ss) d.parameters) (IsWellSorted ss) (λ us. instance_of us d.body) (all_placed d.parameters ts)
       (λ us p. (instance_placed d.parameters us p.1 (sorted_all us p.0) d.body k).0) (are_placed (IsWellSorted ss) sorted_real d.parameters ts h)
 
-  stays_sorted : StaysSo (IsWellSorted ss) IsConstant IsWellDefined
+  stays_sorted : StaysSo (IsWellSorted ss) IsConstant IsSortedDefinition
   stays_sorted =
       record {
         numerals = λ n. (refl, tt);
@@ -142,7 +142,7 @@ module _ (ss : List Sort) where
 
   -- a scope in which all is well sorted
   abbrev pub IsSortedScope : Scope → Type 0
-  IsSortedScope sc = IsScope (IsWellSorted ss) IsConstant IsWellDefined sc
+  IsSortedScope sc = IsScope (IsWellSorted ss) IsConstant IsSortedDefinition sc
 
   pub term_sorted : (sc : Scope) (e : Expression) → IsSortedScope sc → IsTerm (term_of sc e)
-  term_sorted sc e g = term_found (IsWellSorted ss) IsConstant IsWellDefined stays_sorted sc e g
+  term_sorted sc e g = term_found (IsWellSorted ss) IsConstant IsSortedDefinition stays_sorted sc e g

@@ -57,7 +57,7 @@ gate_clauses (apply h ts) = clauses_over holds fails is_boolean_term (apply h ts
 
 -- ---- Terms of the table alone
 
--- The head is a constant of sort Bool, or one of the table over as many arguments as it has there.
+-- a constant of sort Bool, or a head of the table over as many arguments as it has there
 abbrev pub IsRow : Head → Terms → Type 0
 IsRow (constant c) no_terms = c.sort ≡ bool_sort
 IsRow verum no_terms = ⊤
@@ -70,7 +70,7 @@ IsRow equality (terms t (terms u no_terms)) = ⊤
 IsRow (choice bool_sort) (terms c (terms t (terms u no_terms))) = ⊤
 IsRow h ts = ⊥
 
--- So it is of the term, and of all that it is made of.
+-- The term is so, and all that it is made of.
 abbrev mutual
   pub IsGated : Term → Type 0
   IsGated (apply h ts) = IsRow h ts × AreGated ts
@@ -79,25 +79,25 @@ abbrev mutual
   AreGated no_terms = ⊤
   AreGated (terms t ts) = IsGated t × AreGated ts
 
--- ---- Truths that are told of terms
+-- ---- Truths of terms, which some terms have
 
-module _ (Told : Term → Bool → Type 0) where
-  -- one of the literals is told
-  abbrev pub HasTold : Clause → Type 0
-  HasTold c = (u : Term) × (sign : Bool) × Contains c (term_literal u sign) × Told u sign
+module _ (HasTruth : Term → Bool → Type 0) where
+  -- one of the literals is true
+  abbrev pub HasTrueLiteral : Clause → Type 0
+  HasTrueLiteral c = (u : Term) × (sign : Bool) × Contains c (term_literal u sign) × HasTruth u sign
 
-  -- What is told meets each clause of these terms, and constants among them have the truths that are told of them.
+  -- Each clause of these terms has a true literal, and the assignment gives the constants among them their truths.
   pub record MeetsGates (a : Assignment) (parts : List Term) : Type 0 where
-    pub clauses : (u : Term) → Contains parts u → AllByRecursion HasTold (gate_clauses u)
-    pub constants : (c : Constant) (sign : Bool) → Contains parts (apply (constant c) no_terms) → Told (apply (constant c) no_terms) sign → a c ≡ truth sign
+    pub clauses : (u : Term) → Contains parts u → AllByRecursion HasTrueLiteral (gate_clauses u)
+    pub constants : (c : Constant) (sign : Bool) → Contains parts (apply (constant c) no_terms) → HasTruth (apply (constant c) no_terms) sign → a c ≡ truth sign
 
--- a truth of each term
-abbrev pub IsToldBy : (Term → Bool) → Term → Bool → Type 0
-IsToldBy truths t sign = truths t ≡ sign
+-- each term has the truth that a function gives it
+abbrev pub IsTruthBy : (Term → Bool) → Term → Bool → Type 0
+IsTruthBy truths t sign = truths t ≡ sign
 
--- truths of terms by their numbers in a table, of some of them
-abbrev pub IsToldAt : List Node → (ℕ → Option Bool) → Term → Bool → Type 0
-IsToldAt ns truths t sign = (i : ℕ) × (i < length ns) × (term_in ns i ≡ t) × (truths i ≡ Some sign)
+-- the term has the truth that is listed with a number of it in a table
+abbrev pub IsTruthAt : List Node → (ℕ → Option Bool) → Term → Bool → Type 0
+IsTruthAt ns truths t sign = (i : ℕ) × (i < length ns) × (term_in ns i ≡ t) × (truths i ≡ Some sign)
 
 -- ---- Laws
 
@@ -117,11 +117,11 @@ pub record PlainTermsAreBoolean : Type 0 where
   pub itself : (t : Term) → holds_number t ≡ false → IsBoolean t
   pub arguments : (t : Term) → holds_number t ≡ false → HasBooleanArguments t
 
--- Truths of what a term of the table is made of, that meet its clauses, are those of the values.
+-- Where the truths of all that a term of the table is made of meet the clauses, the term has the value that its truth says.
 abbrev pub GatesDecide : Type 0
-GatesDecide = (a : Assignment) (truths : Term → Bool) (t : Term) → IsGated t → MeetsGates (IsToldBy truths) a (post_order t) → value_of a t ≡ truth (truths t)
+GatesDecide = (a : Assignment) (truths : Term → Bool) (t : Term) → IsGated t → MeetsGates (IsTruthBy truths) a (post_order t) → value_of a t ≡ truth (truths t)
 
--- So are truths by numbers, where terms have one number each.
+-- So it is of truths by numbers, where each term has one number at most.
 abbrev pub NumberedGatesDecide : Type 0
 NumberedGatesDecide = (ns : List Node) → HasOneNumberEach ns → (a : Assignment) (truths : ℕ → Option Bool) (t : Term) (sign : Bool)
-    → IsGated t → MeetsGates (IsToldAt ns truths) a (post_order t) → IsToldAt ns truths t sign → value_of a t ≡ truth sign
+    → IsGated t → MeetsGates (IsTruthAt ns truths) a (post_order t) → IsTruthAt ns truths t sign → value_of a t ≡ truth sign

@@ -8,7 +8,7 @@ use Rattle.nz_spec.specs.Normal.{normal_of}
 use Rattle.nz_spec.specs.Gates.{IsGated}
 use Rattle.nz_spec.specs.Model.{IsAssignment}
 use Rattle.nz_spec.specs.Elaboration.{term_of}
-use Rattle.nz_spec.specs.WellSorted.{IsWellDefined, IsStatement}
+use Rattle.nz_spec.specs.WellSorted.{IsSortedDefinition, IsSortedAssertion}
 use Rattle.nz_spec.specs.Live.{State, start, Item, items_of, definitions_in, assertions_in, assertions_of}
 use Rattle.nz_spec.specs.Command.{Command, accepted}
 use Rattle.nz_spec.specs.Script.{scope_of, outcome_of}
@@ -19,8 +19,8 @@ use Rattle.nz_spec.specs.Transcript.{Kept, context_of}
 
 -- Each definition and each assertion is well sorted.
 pub record AreSortedItems (items : List Item) : Type 0 where
-  pub definitions : AllByRecursion IsWellDefined (definitions_in items)
-  pub assertions : AllByRecursion IsStatement (assertions_in items)
+  pub definitions : AllByRecursion IsSortedDefinition (definitions_in items)
+  pub assertions : AllByRecursion IsSortedAssertion (assertions_in items)
 
 -- So are those that are live.
 abbrev pub IsSortedState : State → Type 0

@@ -45,12 +45,12 @@ abbrev mutual
   AreWellSorted ss (terms t ts) = IsWellSorted ss t × AreWellSorted ss ts
 
 -- a definition whose body is well sorted under its parameters
-abbrev pub IsWellDefined : Definition → Type 0
-IsWellDefined d = IsWellSorted d.parameters d.body
+abbrev pub IsSortedDefinition : Definition → Type 0
+IsSortedDefinition d = IsWellSorted d.parameters d.body
 
 -- a well sorted term of sort Bool
-abbrev pub IsStatement : Term → Type 0
-IsStatement t = IsWellSorted [] t × (sort_of t ≡ bool_sort)
+abbrev pub IsSortedAssertion : Term → Type 0
+IsSortedAssertion t = IsWellSorted [] t × (sort_of t ≡ bool_sort)
 
 -- ---- Laws
 
