@@ -166,7 +166,7 @@ gates_are_true a good (apply h ts) s = gates_over a good h ts s
 
 -- ---- Terms that hold no number
 
-or_neither : (b c : Bool) → (b || c) ≡ false → (b ≡ false) × (c ≡ false)
+pub or_neither : (b c : Bool) → (b || c) ≡ false → (b ≡ false) × (c ≡ false)
 or_neither true c e = absurd (true≢false e)
 or_neither false c e = (refl, e)
 

@@ -9,12 +9,14 @@ pub mod Examples
 pub mod FractionArithmetic
 pub mod FractionLaws
 pub mod FractionOrder
+pub mod GateSettling
 pub mod GateTruths
 pub mod InfinitesimalLaws
 pub mod Instances
 pub mod LegalWork
 pub mod Literals
 pub mod Normal
+pub mod NormalGates
 pub mod Pieces
 pub mod Placed
 pub mod ReadOperands

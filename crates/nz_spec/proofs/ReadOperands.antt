@@ -4,7 +4,7 @@ use Rattle.std.proofs.lemmas.Bool.{and_from, and_parts}
 use Rattle.nz_lists.proofs.Options.{IfFound, found_weaker}
 use Rattle.nz_spec.specs.Term.{Sort, bool_sort, int_sort, real_sort, to_real, Term, apply, Terms, no_terms, terms, sort_of, is_bool, are_same_sort}
 use Rattle.nz_spec.specs.Elaboration.{has_sort, is_number_term, all_terms, term_count, as_real, as_reals, number_sort, alike_sort, Operands, bools, ints, reals, numbers, alike, branches, operand_sort, read_at}
-use Rattle.nz_spec.proofs.Sorted.{fit_numbers}
+use Rattle.nz_spec.specs.WellSorted.{are_numbers, AreOperands}
 
 -- ---- Conversions
 
@@ -36,16 +36,6 @@ bool_is_no_int real_sort e f = true≢false (sym e)
 
 -- ---- Operands
 
--- what is known of operands that are read at a sort
-abbrev pub Reads : Operands → Sort → Terms → Type 0
-Reads bools s us = all_terms (has_sort bool_sort) us ≡ true
-Reads ints s us = all_terms (has_sort int_sort) us ≡ true
-Reads reals s us = all_terms (has_sort real_sort) us ≡ true
-Reads numbers s us = fit_numbers s us ≡ true
-Reads alike s us = all_terms (has_sort s) us ≡ true
-Reads branches s no_terms = ⊥
-Reads branches s (terms c us) = (has_sort bool_sort c ≡ true) × (all_terms (has_sort s) us ≡ true)
-
 -- a sort that is found where a test holds
 sort_if : (b : Bool) (P : Sort → Type 0) (s : Sort) → (b ≡ true → P s) → IfFound P (if b then Some s else None)
 sort_if true P s k = k refl
@@ -56,9 +46,9 @@ number_sort_by true c P k l = k refl
 number_sort_by false true P k l = l refl
 number_sort_by false false P k l = tt
 
-numbers_read : (ts : Terms) → IfFound (λ s. fit_numbers s (read_at s ts) ≡ true) (number_sort ts)
+numbers_read : (ts : Terms) → IfFound (λ s. are_numbers s (read_at s ts) ≡ true) (number_sort ts)
 numbers_read ts =
-    number_sort_by (all_terms (has_sort int_sort) ts) (all_terms is_number_term ts) (λ s. fit_numbers s (read_at s ts) ≡ true) (λ e. e) (λ e. all_real ts e)
+    number_sort_by (all_terms (has_sort int_sort) ts) (all_terms is_number_term ts) (λ s. are_numbers s (read_at s ts) ≡ true) (λ e. e) (λ e. all_real ts e)
 
 alike_by : (b : Bool) (o : Option Sort) (ts : Terms) → all_terms (has_sort bool_sort) ts ≡ b → IfFound (λ s. all_terms (has_sort s) (read_at s ts) ≡ true) o
     → IfFound (λ s. all_terms (has_sort s) (read_at s ts) ≡ true) (if b then Some bool_sort else o)
@@ -68,7 +58,7 @@ alike_by false o ts e h = h
 alike_read : (ts : Terms) → IfFound (λ s. all_terms (has_sort s) (read_at s ts) ≡ true) (alike_sort ts)
 alike_read ts =
     alike_by (all_terms (has_sort bool_sort) ts) (number_sort ts) ts refl
-    (found_weaker (λ s. fit_numbers s (read_at s ts) ≡ true) (λ s. all_terms (has_sort s) (read_at s ts) ≡ true) (number_sort ts)
+    (found_weaker (λ s. are_numbers s (read_at s ts) ≡ true) (λ s. all_terms (has_sort s) (read_at s ts) ≡ true) (number_sort ts)
     (λ s e. (and_parts (not (is_bool s)) (all_terms (has_sort s) (read_at s ts)) e).1) (numbers_read ts))
 
 -- a term of sort Bool is read as itself
@@ -76,21 +66,21 @@ bool_read_by : (b : Bool) (c : Term) → has_sort int_sort c ≡ b → has_sort 
 bool_read_by true c e f = absurd (bool_is_no_int (sort_of c) f e)
 bool_read_by false c e f = f
 
-branches_read : (s : Sort) (c : Term) (ts : Terms) → has_sort bool_sort c ≡ true → all_terms (has_sort s) (read_at s ts) ≡ true → Reads branches s (read_at s (terms c ts))
+branches_read : (s : Sort) (c : Term) (ts : Terms) → has_sort bool_sort c ≡ true → all_terms (has_sort s) (read_at s ts) ≡ true → AreOperands branches s (read_at s (terms c ts))
 branches_read bool_sort c ts e h = (e, h)
 branches_read int_sort c ts e h = (e, h)
 branches_read real_sort c ts e h = (bool_read_by (has_sort int_sort c) c refl e, h)
 
-branches_if : (b : Bool) (c : Term) (ts : Terms) → has_sort bool_sort c ≡ b → IfFound (λ s. Reads branches s (read_at s (terms c ts))) (if b then alike_sort ts else None)
+branches_if : (b : Bool) (c : Term) (ts : Terms) → has_sort bool_sort c ≡ b → IfFound (λ s. AreOperands branches s (read_at s (terms c ts))) (if b then alike_sort ts else None)
 branches_if true c ts e =
-    found_weaker (λ s. all_terms (has_sort s) (read_at s ts) ≡ true) (λ s. Reads branches s (read_at s (terms c ts))) (alike_sort ts) (λ s h. branches_read s c ts e h) (alike_read ts)
+    found_weaker (λ s. all_terms (has_sort s) (read_at s ts) ≡ true) (λ s. AreOperands branches s (read_at s (terms c ts))) (alike_sort ts) (λ s h. branches_read s c ts e h) (alike_read ts)
 branches_if false c ts e = tt
 
 -- What operands are read at is of the sorts that their operator takes.
-pub operands_read : (k : Operands) (ts : Terms) → IfFound (λ s. Reads k s (read_at s ts)) (operand_sort k ts)
-operands_read bools ts = sort_if (all_terms (has_sort bool_sort) ts) (λ s. Reads bools s (read_at s ts)) bool_sort (λ e. e)
-operands_read ints ts = sort_if (all_terms (has_sort int_sort) ts) (λ s. Reads ints s (read_at s ts)) int_sort (λ e. e)
-operands_read reals ts = sort_if (all_terms is_number_term ts) (λ s. Reads reals s (read_at s ts)) real_sort (λ e. all_real ts e)
+pub operands_read : (k : Operands) (ts : Terms) → IfFound (λ s. AreOperands k s (read_at s ts)) (operand_sort k ts)
+operands_read bools ts = sort_if (all_terms (has_sort bool_sort) ts) (λ s. AreOperands bools s (read_at s ts)) bool_sort (λ e. e)
+operands_read ints ts = sort_if (all_terms (has_sort int_sort) ts) (λ s. AreOperands ints s (read_at s ts)) int_sort (λ e. e)
+operands_read reals ts = sort_if (all_terms is_number_term ts) (λ s. AreOperands reals s (read_at s ts)) real_sort (λ e. all_real ts e)
 operands_read numbers ts = numbers_read ts
 operands_read alike ts = alike_read ts
 operands_read branches no_terms = tt

@@ -1,23 +1,15 @@
 -- What is written is no parameter, or one that fits; and a use of a definition has the sort of its body.
-use Rattle.std.proofs.Common.{◌≡◌, Bool, true, false, List, [], ◌∷◌, Option, Some, None, refl, subst, if◌then◌else◌}
+use Rattle.std.proofs.Common.{◌≡◌, Bool, true, false, List, Option, Some, None, refl, subst, if◌then◌else◌}
 use Rattle.std.specs.Bool.{⊤}
 use Rattle.std.specs.Prelude.{option_map}
-use Rattle.std.specs.List.{AllByRecursion}
 use Rattle.nz_lists.proofs.Options.{IfFound, map_found, if_found}
-use Rattle.nz_spec.specs.Term.{Sort, int_sort, Constant, parameter, to_real, Term, apply, Terms, no_terms, terms, sort_of}
+use Rattle.nz_spec.specs.Term.{Sort, int_sort, parameter, to_real, Term, apply, Terms, no_terms, terms, sort_of}
 use Rattle.nz_spec.specs.Elaboration.{Operator, true_operator, false_operator, not_operator, and_operator, or_operator, implies_operator, xor_operator, equals_operator, distinct_operator, ite_operator, at_most_operator, less_operator, at_least_operator, greater_operator, plus_operator, times_operator, minus_operator, over_operator, div_operator, mod_operator, abs_operator, to_real_operator, to_int_operator, is_int_operator, has_sort, as_real, takes, term_count, operands_of, operand_sort, read_at, operator_head, applied, Definition, instance_of, instances_of, all_placed, RootFits, expansion, Scope, ScopeFits, TermFits, ExpansionKeepsSort}
 use Rattle.nz_spec.proofs.Placed.{HaveSorts, AllAre, ArePlaced, are_placed, at_place}
-use Rattle.nz_spec.proofs.WrittenTerms.{StaysSo, IsScope, term_found}
+use Rattle.nz_spec.proofs.WrittenTerms.{IsConstant, are_constants, StaysSo, IsScope, term_found}
 
 abbrev HasRoot : Definition → Type 0
 HasRoot d = RootFits d.parameters d.body
-
-abbrev IsConstant : Constant → Type 0
-IsConstant c = ⊤
-
-are_constants : (cs : List Constant) → AllByRecursion IsConstant cs
-are_constants [] = tt
-are_constants (c ∷ cs) = (tt, are_constants cs)
 
 abbrev IsAny : Term → Type 0
 IsAny t = ⊤

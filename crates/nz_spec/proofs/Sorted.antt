@@ -1,15 +1,15 @@
--- Well sorted terms: the arguments of a head are of the sorts on which the sort of its value rests. Such a term has a value of
--- its sort.
-use Rattle.std.proofs.Common.{◌≡◌, ℕ, Bool, true, false, not, ◌&&◌, ◌==◌, List, [], ◌∷◌, Some, refl, sym, subst, true≢false, if◌then◌else◌, ℤ, pos, ◌∙◌, ◌*◌, arith, eqb-true, unsigned_abs}
+-- A well sorted term has a value of its sort.
+use Rattle.std.proofs.Common.{◌≡◌, ℕ, Bool, true, false, not, ◌==◌, List, [], ◌∷◌, refl, sym, subst, true≢false, if◌then◌else◌, ℤ, pos, ◌∙◌, ◌*◌, arith, eqb-true, unsigned_abs}
 use Rattle.std.specs.Bool.{⊤}
-use Rattle.std.specs.Prelude.{slice_get}
 use Rattle.std.proofs.Math.Nat.{div-le_self}
 use Rattle.std.proofs.lemmas.Bool.{and_parts}
 use Rattle.nz_ints.specs.Division.{gcd}
 use Rattle.std.specs.List.{AllByRecursion}
 use Rattle.nz_spec.specs.Fraction.{Fraction, denominator, IsWhole, reduce, ◌+ℚ◌, neg_ℚ, ◌-ℚ◌, ◌*ℚ◌, outcome, exact, Arithmetic, Sum, Difference, Product, Quotient}
-use Rattle.nz_spec.specs.Term.{Sort, NumberSort, sort_over, bool_sort, int_sort, real_sort, Constant, Head, constant, parameter, integer, decimal_number, verum, falsum, negation, conjunction, disjunction, implication, exclusion, equality, distinction, choice, less, at_most, greater, at_least, sum, difference, product, quotient, integer_quotient, modulus, magnitude, to_real, to_int, is_int, head_sort, Term, apply, Terms, no_terms, terms, sort_of, is_bool, Value, truth, number, Assignment, is_true, number_of, IsOfSort, all_true, some_true, implied, excluded, combined, is_undefined, carried_out, divided, whole_number, default_value, head_value, value_of, values_of, are_same_sort}
-use Rattle.nz_spec.specs.Elaboration.{has_sort, all_terms, term_count}
+use Rattle.nz_spec.specs.Term.{Sort, NumberSort, sort_over, bool_sort, int_sort, real_sort, Head, constant, parameter, integer, decimal_number, choice, sum, difference, product, head_sort, Term, apply, Terms, no_terms, terms, sort_of, is_bool, Value, truth, number, Assignment, is_true, number_of, IsOfSort, all_true, some_true, implied, excluded, combined, is_undefined, carried_out, divided, whole_number, default_value, head_value, value_of, values_of, are_same_sort}
+use Rattle.nz_spec.specs.Model.{IsAssignment}
+use Rattle.nz_spec.specs.Elaboration.{Operator, true_operator, false_operator, not_operator, and_operator, or_operator, implies_operator, xor_operator, equals_operator, distinct_operator, ite_operator, at_most_operator, less_operator, at_least_operator, greater_operator, plus_operator, times_operator, minus_operator, over_operator, div_operator, mod_operator, abs_operator, to_real_operator, to_int_operator, is_int_operator, has_sort, all_terms, term_count, takes, branches, operands_of, numbers_at, operator_head}
+use Rattle.nz_spec.specs.WellSorted.{are_numbers, AreOperands, IsApplied, IsSortedHead, IsWellSorted, AreWellSorted}
 use Rattle.nz_spec.proofs.FractionArithmetic.{denominator-sum, denominator-product, denominator-neg}
 use Rattle.nz_spec.proofs.FractionLaws.{denominator-reduce, denominator_pos}
 
@@ -25,50 +25,6 @@ same_sorts int_sort bool_sort e = absurd (true≢false (sym e))
 same_sorts int_sort real_sort e = absurd (true≢false (sym e))
 same_sorts real_sort bool_sort e = absurd (true≢false (sym e))
 same_sorts real_sort int_sort e = absurd (true≢false (sym e))
-
--- ---- Well sorted
-
--- a condition, and two branches of this sort
-abbrev pub fit_branches : Sort → Terms → Bool
-fit_branches s no_terms = false
-fit_branches s (terms c ts) = has_sort bool_sort c && ((term_count ts == 2) && all_terms (has_sort s) ts)
-
--- numbers of this sort
-abbrev pub fit_numbers : Sort → Terms → Bool
-fit_numbers s ts = not (is_bool s) && all_terms (has_sort s) ts
-
--- the arguments are those on which the sort of the head's value rests
-abbrev pub fit : Head → Terms → Bool
-fit conjunction ts = all_terms (has_sort bool_sort) ts
-fit disjunction ts = all_terms (has_sort bool_sort) ts
-fit implication ts = all_terms (has_sort bool_sort) ts
-fit exclusion ts = all_terms (has_sort bool_sort) ts
-fit (choice s) ts = fit_branches s ts
-fit (sum s) ts = fit_numbers (sort_over s) ts
-fit (difference s) ts = fit_numbers (sort_over s) ts
-fit (product s) ts = fit_numbers (sort_over s) ts
-fit quotient ts = all_terms (has_sort real_sort) ts
-fit integer_quotient ts = all_terms (has_sort int_sort) ts
-fit to_real ts = all_terms (has_sort int_sort) ts
-fit h ts = true
-
--- the assignment gives the constant a value of its sort
-abbrev pub Gives : Assignment → Constant → Type 0
-Gives a c = IsOfSort c.sort (a c)
-
--- a constant has a value of its sort, and a parameter the sort that is listed at its place
-abbrev pub Stands : Assignment → List Sort → Head → Type 0
-Stands a ss (constant c) = Gives a c
-Stands a ss (parameter i s) = slice_get ss i ≡ Some s
-Stands a ss h = ⊤
-
-abbrev mutual
-  pub IsSorted : Assignment → List Sort → Term → Type 0
-  IsSorted a ss (apply h ts) = Stands a ss h × (fit h ts ≡ true) × AreSorted a ss ts
-
-  pub AreSorted : Assignment → List Sort → Terms → Type 0
-  AreSorted a ss no_terms = ⊤
-  AreSorted a ss (terms t ts) = IsSorted a ss t × AreSorted a ss ts
 
 -- ---- Values of their sorts
 
@@ -179,21 +135,19 @@ real_is : (v : Value) → IsOfSort int_sort v → IsOfSort real_sort v
 real_is (truth b) i = absurd i
 real_is (number q) i = tt
 
-choice_is : (a : Assignment) (s : Sort) (ts : Terms) → fit_branches s ts ≡ true → HaveSorts a ts → IsOfSort s (head_value a (choice s) (values_of a ts))
-choice_is a s no_terms e h = absurd (true≢false (sym e))
-choice_is a s (terms c no_terms) e h = absurd (true≢false (sym (and_parts (has_sort bool_sort c) false e).1))
-choice_is a s (terms c (terms t no_terms)) e h = absurd (true≢false (sym (and_parts (has_sort bool_sort c) false e).1))
-choice_is a s (terms c (terms t (terms u no_terms))) e h =
-    let alike = (and_parts (has_sort bool_sort c) (all_terms (has_sort s) (terms t (terms u no_terms))) e).1 in
-    let both = all_of a s (terms t (terms u no_terms)) alike h.1 in
+choice_is : (a : Assignment) (s : Sort) (ts : Terms) → (term_count ts == 3) ≡ true → AreOperands branches s ts → HaveSorts a ts
+    → IsOfSort s (head_value a (choice s) (values_of a ts))
+choice_is a s no_terms n e h = absurd e
+choice_is a s (terms c no_terms) n e h = absurd (true≢false (sym n))
+choice_is a s (terms c (terms t no_terms)) n e h = absurd (true≢false (sym n))
+choice_is a s (terms c (terms t (terms u no_terms))) n e h =
+    let both = all_of a s (terms t (terms u no_terms)) e.1 h.1 in
     chosen_is (is_true (value_of a c)) s (value_of a t) (value_of a u) both.0 both.1.0
-choice_is a s (terms c (terms t (terms u (terms w ts)))) e h =
-    let ws = terms t (terms u (terms w ts)) in
-    let rest = (and_parts (has_sort bool_sort c) ((term_count ws == 2) && all_terms (has_sort s) ws) e).1 in
-    let two : term_count ws ≡ 2 = eqb-true (term_count ws) 2 (and_parts (term_count ws == 2) (all_terms (has_sort s) ws) rest).0 in
-    absurd (omega (arith, two))
+choice_is a s (terms c (terms t (terms u (terms w ts)))) n e h =
+    let three : term_count (terms c (terms t (terms u (terms w ts)))) ≡ 3 = eqb-true (term_count (terms c (terms t (terms u (terms w ts))))) 3 n in
+    absurd (omega (arith, three))
 
-sum_is : (a : Assignment) (n : NumberSort) (ts : Terms) → fit_numbers (sort_over n) ts ≡ true → HaveSorts a ts → IsOfSort (sort_over n) (head_value a (sum n) (values_of a ts))
+sum_is : (a : Assignment) (n : NumberSort) (ts : Terms) → are_numbers (sort_over n) ts ≡ true → HaveSorts a ts → IsOfSort (sort_over n) (head_value a (sum n) (values_of a ts))
 sum_is a n no_terms e h = let s = sort_over n in whole_is s (pos 0) (and_parts (not (is_bool s)) true e).0
 sum_is a n (terms t ts) e h =
     let s = sort_over n in
@@ -201,7 +155,7 @@ sum_is a n (terms t ts) e h =
     let all = all_of a s (terms t ts) (and_parts (not (is_bool s)) (all_terms (has_sort s) (terms t ts)) e).1 h in
     combined_is s (carried_out Sum) (carried_is s Sum sum_whole wanted) (value_of a t) (values_of a ts) all.0 all.1
 
-product_is : (a : Assignment) (n : NumberSort) (ts : Terms) → fit_numbers (sort_over n) ts ≡ true → HaveSorts a ts → IsOfSort (sort_over n) (head_value a (product n) (values_of a ts))
+product_is : (a : Assignment) (n : NumberSort) (ts : Terms) → are_numbers (sort_over n) ts ≡ true → HaveSorts a ts → IsOfSort (sort_over n) (head_value a (product n) (values_of a ts))
 product_is a n no_terms e h = let s = sort_over n in whole_is s (pos 1) (and_parts (not (is_bool s)) true e).0
 product_is a n (terms t ts) e h =
     let s = sort_over n in
@@ -209,7 +163,7 @@ product_is a n (terms t ts) e h =
     let all = all_of a s (terms t ts) (and_parts (not (is_bool s)) (all_terms (has_sort s) (terms t ts)) e).1 h in
     combined_is s (carried_out Product) (carried_is s Product product_whole wanted) (value_of a t) (values_of a ts) all.0 all.1
 
-difference_is : (a : Assignment) (n : NumberSort) (ts : Terms) → fit_numbers (sort_over n) ts ≡ true → HaveSorts a ts → IsOfSort (sort_over n) (head_value a (difference n) (values_of a ts))
+difference_is : (a : Assignment) (n : NumberSort) (ts : Terms) → are_numbers (sort_over n) ts ≡ true → HaveSorts a ts → IsOfSort (sort_over n) (head_value a (difference n) (values_of a ts))
 difference_is a n no_terms e h = let s = sort_over n in whole_is s (pos 0) (and_parts (not (is_bool s)) true e).0
 difference_is a n (terms t no_terms) e h =
     let s = sort_over n in
@@ -223,61 +177,76 @@ difference_is a n (terms t (terms u ts)) e h =
     let all = all_of a s (terms t us) (and_parts (not (is_bool s)) (all_terms (has_sort s) (terms t us)) e).1 h in
     combined_is s (carried_out Difference) (carried_is s Difference difference_whole wanted) (value_of a t) (values_of a us) all.0 all.1
 
-head_is : (a : Assignment) (ss : List Sort) (h : Head) (ts : Terms) → Stands a ss h → fit h ts ≡ true → HaveSorts a ts → IsOfSort (head_sort h) (head_value a h (values_of a ts))
-head_is a ss (constant c) ts s e h = s
-head_is a ss (parameter i r) ts s e h = default_is r
-head_is a ss (integer n) ts s e h = refl
-head_is a ss (decimal_number n places) ts s e h = tt
-head_is a ss verum ts s e h = tt
-head_is a ss falsum ts s e h = tt
-head_is a ss negation no_terms s e h = tt
-head_is a ss negation (terms t ts) s e h = tt
-head_is a ss conjunction ts s e h = all_true_is (values_of a ts) (all_of a bool_sort ts e h)
-head_is a ss disjunction ts s e h = some_true_is (values_of a ts) (all_of a bool_sort ts e h)
-head_is a ss implication ts s e h = implied_is (values_of a ts) (all_of a bool_sort ts e h)
-head_is a ss exclusion no_terms s e h = tt
-head_is a ss exclusion (terms t ts) s e h =
+-- numbers of a sort are read at it
+numbers_at_sort : (s : Sort) (us : Terms) → are_numbers s us ≡ true → are_numbers (sort_over (numbers_at s)) us ≡ true
+numbers_at_sort bool_sort us e = absurd (true≢false (sym e))
+numbers_at_sort int_sort us e = e
+numbers_at_sort real_sort us e = e
+
+applied_is : (a : Assignment) (o : Operator) (s : Sort) (ts : Terms) → takes o (term_count ts) ≡ true → AreOperands (operands_of o) s ts → HaveSorts a ts
+    → IsOfSort (head_sort (operator_head o s)) (head_value a (operator_head o s) (values_of a ts))
+applied_is a true_operator s ts n e h = tt
+applied_is a false_operator s ts n e h = tt
+applied_is a not_operator s no_terms n e h = tt
+applied_is a not_operator s (terms t ts) n e h = tt
+applied_is a and_operator s ts n e h = all_true_is (values_of a ts) (all_of a bool_sort ts e h)
+applied_is a or_operator s ts n e h = some_true_is (values_of a ts) (all_of a bool_sort ts e h)
+applied_is a implies_operator s ts n e h = implied_is (values_of a ts) (all_of a bool_sort ts e h)
+applied_is a xor_operator s no_terms n e h = tt
+applied_is a xor_operator s (terms t ts) n e h =
     let all = all_of a bool_sort (terms t ts) e h in
     combined_is bool_sort excluded (λ v w i j. tt) (value_of a t) (values_of a ts) all.0 all.1
-head_is a ss equality ts s e h = tt
-head_is a ss distinction ts s e h = tt
-head_is a ss (choice r) ts s e h = choice_is a r ts e h
-head_is a ss less ts s e h = tt
-head_is a ss at_most ts s e h = tt
-head_is a ss greater ts s e h = tt
-head_is a ss at_least ts s e h = tt
-head_is a ss (sum r) ts s e h = sum_is a r ts e h
-head_is a ss (difference r) ts s e h = difference_is a r ts e h
-head_is a ss (product r) ts s e h = product_is a r ts e h
-head_is a ss quotient no_terms s e h = tt
-head_is a ss quotient (terms t ts) s e h =
+applied_is a equals_operator s ts n e h = tt
+applied_is a distinct_operator s ts n e h = tt
+applied_is a ite_operator s ts n e h = choice_is a s ts n e h
+applied_is a at_most_operator s ts n e h = tt
+applied_is a less_operator s ts n e h = tt
+applied_is a at_least_operator s ts n e h = tt
+applied_is a greater_operator s ts n e h = tt
+applied_is a plus_operator s ts n e h = sum_is a (numbers_at s) ts (numbers_at_sort s ts e) h
+applied_is a times_operator s ts n e h = product_is a (numbers_at s) ts (numbers_at_sort s ts e) h
+applied_is a minus_operator s ts n e h = difference_is a (numbers_at s) ts (numbers_at_sort s ts e) h
+applied_is a over_operator s no_terms n e h = tt
+applied_is a over_operator s (terms t ts) n e h =
     let all = all_of a real_sort (terms t ts) e h in
     combined_is real_sort (carried_out Quotient) (λ v w i j. real_carried Quotient v w) (value_of a t) (values_of a ts) all.0 all.1
-head_is a ss integer_quotient no_terms s e h = refl
-head_is a ss integer_quotient (terms t ts) s e h =
+applied_is a div_operator s no_terms n e h = refl
+applied_is a div_operator s (terms t ts) n e h =
     let all = all_of a int_sort (terms t ts) e h in
     combined_is int_sort divided (λ v w i j. refl) (value_of a t) (values_of a ts) all.0 all.1
-head_is a ss modulus no_terms s e h = refl
-head_is a ss modulus (terms t no_terms) s e h = refl
-head_is a ss modulus (terms t (terms u no_terms)) s e h = refl
-head_is a ss modulus (terms t (terms u (terms v ts))) s e h = refl
-head_is a ss magnitude no_terms s e h = refl
-head_is a ss magnitude (terms t no_terms) s e h = refl
-head_is a ss magnitude (terms t (terms u ts)) s e h = refl
-head_is a ss to_real no_terms s e h = tt
-head_is a ss to_real (terms t no_terms) s e h = real_is (value_of a t) (all_of a int_sort (terms t no_terms) e h).0
-head_is a ss to_real (terms t (terms u ts)) s e h = tt
-head_is a ss to_int no_terms s e h = refl
-head_is a ss to_int (terms t no_terms) s e h = refl
-head_is a ss to_int (terms t (terms u ts)) s e h = refl
-head_is a ss is_int no_terms s e h = tt
-head_is a ss is_int (terms t no_terms) s e h = tt
-head_is a ss is_int (terms t (terms u ts)) s e h = tt
+applied_is a mod_operator s no_terms n e h = refl
+applied_is a mod_operator s (terms t no_terms) n e h = refl
+applied_is a mod_operator s (terms t (terms u no_terms)) n e h = refl
+applied_is a mod_operator s (terms t (terms u (terms v ts))) n e h = refl
+applied_is a abs_operator s no_terms n e h = refl
+applied_is a abs_operator s (terms t no_terms) n e h = refl
+applied_is a abs_operator s (terms t (terms u ts)) n e h = refl
+applied_is a to_real_operator s no_terms n e h = tt
+applied_is a to_real_operator s (terms t no_terms) n e h = real_is (value_of a t) (all_of a int_sort (terms t no_terms) e h).0
+applied_is a to_real_operator s (terms t (terms u ts)) n e h = tt
+applied_is a to_int_operator s no_terms n e h = refl
+applied_is a to_int_operator s (terms t no_terms) n e h = refl
+applied_is a to_int_operator s (terms t (terms u ts)) n e h = refl
+applied_is a is_int_operator s no_terms n e h = tt
+applied_is a is_int_operator s (terms t no_terms) n e h = tt
+applied_is a is_int_operator s (terms t (terms u ts)) n e h = tt
+
+by_operator : (a : Assignment) (h : Head) (ts : Terms) → IsApplied h ts → HaveSorts a ts → IsOfSort (head_sort h) (head_value a h (values_of a ts))
+by_operator a h ts i k =
+    subst (λ g. IsOfSort (head_sort g) (head_value a g (values_of a ts))) (sym i.is) (applied_is a i.operator i.sort ts i.count i.operands k)
+
+head_is : (a : Assignment) → IsAssignment a → (ss : List Sort) (h : Head) (ts : Terms) → IsSortedHead ss h ts → HaveSorts a ts
+    → IsOfSort (head_sort h) (head_value a h (values_of a ts))
+head_is a given ss (constant c) ts i k = given c
+head_is a given ss (parameter n r) ts i k = default_is r
+head_is a given ss (integer n) ts i k = refl
+head_is a given ss (decimal_number n places) ts i k = tt
+head_is a given ss h ts i k = by_operator a h ts i k
 
 mutual
-  pub value_is : (a : Assignment) (ss : List Sort) (t : Term) → IsSorted a ss t → IsOfSort (sort_of t) (value_of a t)
-  value_is a ss (apply h ts) i = head_is a ss h ts i.0 i.1 (values_are a ss ts i.2)
+  pub value_is : (a : Assignment) → IsAssignment a → (ss : List Sort) (t : Term) → IsWellSorted ss t → IsOfSort (sort_of t) (value_of a t)
+  value_is a given ss (apply h ts) i = head_is a given ss h ts i.0 (values_are a given ss ts i.1)
 
-  values_are : (a : Assignment) (ss : List Sort) (ts : Terms) → AreSorted a ss ts → HaveSorts a ts
-  values_are a ss no_terms i = tt
-  values_are a ss (terms t ts) i = (value_is a ss t i.0, values_are a ss ts i.1)
+  values_are : (a : Assignment) → IsAssignment a → (ss : List Sort) (ts : Terms) → AreWellSorted ss ts → HaveSorts a ts
+  values_are a given ss no_terms i = tt
+  values_are a given ss (terms t ts) i = (value_is a given ss t i.0, values_are a given ss ts i.1)

@@ -1,6 +1,7 @@
 -- What stays so under operators and uses of definitions, and holds of all that is in scope, holds of each term that is written.
-use Rattle.std.proofs.Common.{ℕ, Bool, true, false, List, [], ◌∷◌, ◌++◌, Option, Some, None, if◌then◌else◌, bytes_eq, length}
+use Rattle.std.proofs.Common.{ℕ, Bool, true, false, List, [], ◌∷◌, ◌++◌, Option, Some, None, if◌then◌else◌, bytes_eq}
 use Rattle.std.specs.Prelude.{option_and_then, is_some}
+use Rattle.std.specs.Bool.{⊤}
 use Rattle.std.specs.List.{AllByRecursion}
 use Rattle.nz_spec.specs.Expression.{Numeric, written_integer, written_decimal, Expression, written_number, written_name, written_use, written_let, Expressions, no_expressions, expressions, Locals, no_locals, locals}
 use Rattle.nz_spec.specs.Term.{Constant, constant, integer, decimal_number, head_fits, Term, apply, Terms, no_terms}
@@ -11,6 +12,14 @@ use Rattle.nz_spec.proofs.Placed.{AllAre}
 -- each name is bound to a term that is so
 abbrev pub AreBound : (Term → Type 0) → List (List ℕ × Term) → Type 0
 AreBound P ps = AllByRecursion (λ (p : List ℕ × Term). P p.1) ps
+
+-- where it doesn't matter which constants are in scope
+abbrev pub IsConstant : Constant → Type 0
+IsConstant c = ⊤
+
+pub are_constants : (cs : List Constant) → AllByRecursion IsConstant cs
+are_constants [] = tt
+are_constants (c ∷ cs) = (tt, are_constants cs)
 
 module _ (P : Term → Type 0) (Q : Constant → Type 0) (R : Definition → Type 0) where
   -- Numbers, constants that are Q, operators, and uses of definitions that are R, all over terms that are P, are P.

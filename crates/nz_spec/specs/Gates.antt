@@ -1,7 +1,9 @@
 -- The gate table: the clauses that tie a Boolean operator to its arguments (Tseitin 1968), as a function of the term.
-use Rattle.std.specs.Prelude.{◌≡◌, Bool, true, false, List, [], ◌∷◌, ◌++◌, map, if◌then◌else◌}
+use Rattle.std.specs.Prelude.{◌≡◌, ℕ, ◌<◌, Bool, true, false, ⊤, List, [], ◌∷◌, ◌++◌, length, map, Contains, Option, Some, if◌then◌else◌}
 use Rattle.std.specs.List.{AllByRecursion}
-use Rattle.nz_spec.specs.Term.{Head, bool_sort, verum, falsum, negation, conjunction, disjunction, exclusion, equality, choice, Term, apply, Terms, no_terms, terms, Assignment, value_of, sort_of, is_bool, IsOfSort, holds_number}
+use Rattle.nz_spec.specs.Term.{Constant, Head, bool_sort, constant, verum, falsum, negation, conjunction, disjunction, exclusion, equality, choice, Term, apply, Terms, no_terms, terms, Assignment, truth, value_of, sort_of, is_bool, IsOfSort, holds_number}
+use Rattle.nz_spec.specs.Table.{Node, term_in, HasOneNumberEach}
+use Rattle.nz_spec.specs.Order.{post_order}
 use Rattle.nz_spec.specs.Model.{IsAssignment}
 use Rattle.nz_spec.specs.Literal.{Literal, term_literal, Clause, IsClauseTrue}
 
@@ -53,6 +55,50 @@ is_boolean_term t = is_bool (sort_of t)
 abbrev pub gate_clauses : Term → List Clause
 gate_clauses (apply h ts) = clauses_over holds fails is_boolean_term (apply h ts) h (list_of ts)
 
+-- ---- Terms of the table alone
+
+-- a constant of sort Bool, or a head of the table over as many arguments as it has there
+abbrev pub IsRow : Head → Terms → Type 0
+IsRow (constant c) no_terms = c.sort ≡ bool_sort
+IsRow verum no_terms = ⊤
+IsRow falsum no_terms = ⊤
+IsRow negation (terms t no_terms) = ⊤
+IsRow conjunction ts = ⊤
+IsRow disjunction ts = ⊤
+IsRow exclusion (terms t (terms u no_terms)) = ⊤
+IsRow equality (terms t (terms u no_terms)) = ⊤
+IsRow (choice bool_sort) (terms c (terms t (terms u no_terms))) = ⊤
+IsRow h ts = ⊥
+
+-- The term is so, and all that it is made of.
+abbrev mutual
+  pub IsGated : Term → Type 0
+  IsGated (apply h ts) = IsRow h ts × AreGated ts
+
+  pub AreGated : Terms → Type 0
+  AreGated no_terms = ⊤
+  AreGated (terms t ts) = IsGated t × AreGated ts
+
+-- ---- Truths of terms, which some terms have
+
+module _ (HasTruth : Term → Bool → Type 0) where
+  -- one of the literals is true
+  abbrev pub HasTrueLiteral : Clause → Type 0
+  HasTrueLiteral c = (u : Term) × (sign : Bool) × Contains c (term_literal u sign) × HasTruth u sign
+
+  -- Each clause of these terms has a true literal, and the assignment gives the constants among them their truths.
+  pub record MeetsGates (a : Assignment) (parts : List Term) : Type 0 where
+    pub clauses : (u : Term) → Contains parts u → AllByRecursion HasTrueLiteral (gate_clauses u)
+    pub constants : (c : Constant) (sign : Bool) → Contains parts (apply (constant c) no_terms) → HasTruth (apply (constant c) no_terms) sign → a c ≡ truth sign
+
+-- each term has the truth that a function gives it
+abbrev pub IsTruthBy : (Term → Bool) → Term → Bool → Type 0
+IsTruthBy truths t sign = truths t ≡ sign
+
+-- the term has the truth that is listed with a number of it in a table
+abbrev pub IsTruthAt : List Node → (ℕ → Option Bool) → Term → Bool → Type 0
+IsTruthAt ns truths t sign = (i : ℕ) × (i < length ns) × (term_in ns i ≡ t) × (truths i ≡ Some sign)
+
 -- ---- Laws
 
 -- The term has a truth under each assignment.
@@ -70,3 +116,12 @@ GatesAreTrue = (a : Assignment) → IsAssignment a → (t : Term) → HasBoolean
 pub record PlainTermsAreBoolean : Type 0 where
   pub itself : (t : Term) → holds_number t ≡ false → IsBoolean t
   pub arguments : (t : Term) → holds_number t ≡ false → HasBooleanArguments t
+
+-- Where the truths of all that a term of the table is made of meet the clauses, the term has the value that its truth says.
+abbrev pub GatesDecide : Type 0
+GatesDecide = (a : Assignment) (truths : Term → Bool) (t : Term) → IsGated t → MeetsGates (IsTruthBy truths) a (post_order t) → value_of a t ≡ truth (truths t)
+
+-- So it is of truths by numbers, where each term has one number at most.
+abbrev pub NumberedGatesDecide : Type 0
+NumberedGatesDecide = (ns : List Node) → HasOneNumberEach ns → (a : Assignment) (truths : ℕ → Option Bool) (t : Term) (sign : Bool)
+    → IsGated t → MeetsGates (IsTruthAt ns truths) a (post_order t) → IsTruthAt ns truths t sign → value_of a t ≡ truth sign

@@ -41,6 +41,7 @@ pub mod Told
 pub mod Transcript
 pub mod Tree
 pub mod TruthTables
+pub mod WellSorted
 pub mod Work
 pub mod WorkedLinear
 pub mod WorkedListings

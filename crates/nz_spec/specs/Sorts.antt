@@ -1,14 +1,30 @@
 -- Terms and their sorts, after any commands.
-use Rattle.std.specs.Prelude.{◌≡◌, ℕ, List, Some}
+use Rattle.std.specs.Prelude.{◌≡◌, ℕ, false, List, Some, map}
 use Rattle.std.specs.List.{AllByRecursion}
+use Rattle.nz_spec.specs.Tree.{Tree}
 use Rattle.nz_spec.specs.Expression.{Expression}
-use Rattle.nz_spec.specs.Term.{bool_sort, Term, sort_of, Assignment, value_of, IsOfSort}
+use Rattle.nz_spec.specs.Term.{bool_sort, Term, sort_of, holds_number, Assignment, value_of, IsOfSort}
+use Rattle.nz_spec.specs.Normal.{normal_of}
+use Rattle.nz_spec.specs.Gates.{IsGated}
 use Rattle.nz_spec.specs.Model.{IsAssignment}
 use Rattle.nz_spec.specs.Elaboration.{term_of}
-use Rattle.nz_spec.specs.Live.{State, assertions_of}
-use Rattle.nz_spec.specs.Script.{scope_of}
-use Rattle.nz_spec.specs.Right.{beginning}
+use Rattle.nz_spec.specs.WellSorted.{IsSortedDefinition, IsSortedAssertion}
+use Rattle.nz_spec.specs.Live.{State, start, Item, items_of, definitions_in, assertions_in, assertions_of}
+use Rattle.nz_spec.specs.Command.{Command, accepted}
+use Rattle.nz_spec.specs.Script.{scope_of, outcome_of}
+use Rattle.nz_spec.specs.Text.{What}
+use Rattle.nz_spec.specs.Reply.{Reply}
+use Rattle.nz_spec.specs.Right.{beginning, effect, after}
 use Rattle.nz_spec.specs.Transcript.{Kept, context_of}
+
+-- Each definition and each assertion is well sorted.
+pub record AreSortedItems (items : List Item) : Type 0 where
+  pub definitions : AllByRecursion IsSortedDefinition (definitions_in items)
+  pub assertions : AllByRecursion IsSortedAssertion (assertions_in items)
+
+-- So are those that are live.
+abbrev pub IsSortedState : State → Type 0
+IsSortedState s = AreSortedItems (items_of s.levels)
 
 -- What is written in this state has a value of its sort, and each live assertion has a truth.
 pub record HaveTheirSorts (s : State) (a : Assignment) : Type 0 where
@@ -18,3 +34,14 @@ pub record HaveTheirSorts (s : State) (a : Assignment) : Type 0 where
 -- Whatever was told and replied, that holds under each assignment.
 abbrev pub TermsHaveTheirSorts : Type 0
 TermsHaveTheirSorts = (limit : ℕ) (kept : List Kept) (a : Assignment) → IsAssignment a → HaveTheirSorts (context_of (beginning limit) kept).state a
+
+-- What is live is well sorted at first, and stays so whatever is told and replied.
+pub record StatesStaySorted : Type 0 where
+  pub start : IsSortedState start
+  pub by_command : (s : State) (t : Tree) (c : Command) (reply : Reply) → outcome_of s t ≡ accepted c → IsSortedState s → IsSortedState (effect s c reply)
+  pub by_reply : (s : State) (what : What) (reply : Reply) → IsSortedState s → IsSortedState (after s what reply)
+  pub in_context : (limit : ℕ) (kept : List Kept) → IsSortedState (context_of (beginning limit) kept).state
+
+-- In such a state the normal term of each assertion is one of the gate table, where it holds no number.
+abbrev pub AssertionsAreGated : Type 0
+AssertionsAreGated = (s : State) → IsSortedState s → AllByRecursion (λ (t : Term). holds_number t ≡ false → IsGated t) (map normal_of (assertions_of s))

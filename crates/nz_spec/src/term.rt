@@ -3,6 +3,7 @@ ghost use Rattle.nz_spec.specs.Term.{DecimalsAreNumbers, Divides, DividesOnce};
 ghost use Rattle.nz_spec.specs.Numerals.{NumeralsAreWhole};
 ghost use Rattle.nz_spec.specs.Normal.{NormalKeepsValue};
 ghost use Rattle.nz_spec.specs.Elaboration.{InstanceKeepsNormal};
+ghost use Rattle.nz_spec.specs.WellSorted.{NormalTermsAreGated};
 ghost use Rattle.nz_spec.specs.TruthTables.{HasNormalTerms, HasPairs, HasTriples};
 ghost use Rattle.nz_spec.specs.WorkedLinear.{HasConstants, HasLinearTerms};
 ghost use Rattle.nz_spec.specs.WorkedListings.{HasListings};
@@ -17,6 +18,11 @@ pub fn normal_keeps_value()
 /// Terms may be put for the parameters of a body before or after both are made normal.
 pub fn instance_keeps_normal()
     ensures keeps { InstanceKeepsNormal }
+{}
+
+/// A normal term that holds no number is one of the gate table.
+pub fn normal_terms_are_gated()
+    ensures gated { NormalTermsAreGated }
 {}
 
 /// `div` and `mod` compute the quotient and the remainder of integers, and no other two numbers are so.

@@ -1,5 +1,5 @@
 //! Laws of transcripts.
-ghost use Rattle.nz_spec.specs.Sorts.{TermsHaveTheirSorts};
+ghost use Rattle.nz_spec.specs.Sorts.{AssertionsAreGated, StatesStaySorted, TermsHaveTheirSorts};
 ghost use Rattle.nz_spec.specs.Transcript.{TranscriptGrows};
 
 /// A transcript goes on by one thing told and its right reply.
@@ -10,4 +10,14 @@ pub fn transcript_grows()
 /// After any commands, what a tree stands for has a value of its sort, and each assertion has a truth.
 pub fn terms_have_their_sorts()
     ensures sorts { TermsHaveTheirSorts }
+{}
+
+/// Definitions and assertions are well sorted at first, and stay so.
+pub fn states_stay_sorted()
+    ensures stay { StatesStaySorted }
+{}
+
+/// In a state whose assertions are well sorted, their normal terms are of the gate table, where they hold no number.
+pub fn assertions_are_gated()
+    ensures gated { AssertionsAreGated }
 {}

@@ -1,0 +1,59 @@
+-- Well sorted terms (SMT-LIB 2.6, section 3.6): each operator has as many arguments as it takes, of the sorts that it takes.
+use Rattle.std.specs.Prelude.{◌≡◌, ◌&&◌, not, Bool, true, false, List, [], Some, slice_get, ⊤}
+use Rattle.nz_spec.specs.Term.{Sort, bool_sort, int_sort, real_sort, is_bool, Head, constant, parameter, integer, decimal_number, Term, apply, Terms, no_terms, terms, sort_of, holds_number}
+use Rattle.nz_spec.specs.Normal.{normal_of}
+use Rattle.nz_spec.specs.Elaboration.{has_sort, all_terms, term_count, Operator, takes, Operands, bools, ints, reals, numbers, alike, branches, operands_of, operator_head, Definition}
+use Rattle.nz_spec.specs.Gates.{IsGated}
+
+-- numbers of this sort
+abbrev pub are_numbers : Sort → Terms → Bool
+are_numbers s ts = not (is_bool s) && all_terms (has_sort s) ts
+
+-- Such operands, where all that are read at one sort are of it.
+abbrev pub AreOperands : Operands → Sort → Terms → Type 0
+AreOperands bools s ts = all_terms (has_sort bool_sort) ts ≡ true
+AreOperands ints s ts = all_terms (has_sort int_sort) ts ≡ true
+AreOperands reals s ts = all_terms (has_sort real_sort) ts ≡ true
+AreOperands numbers s ts = are_numbers s ts ≡ true
+AreOperands alike s ts = all_terms (has_sort s) ts ≡ true
+AreOperands branches s no_terms = ⊥
+AreOperands branches s (terms c ts) = (has_sort bool_sort c ≡ true) × (all_terms (has_sort s) ts ≡ true)
+
+-- The head is an operator's, over as many arguments as it takes, of the sorts that it takes.
+pub record IsApplied (h : Head) (ts : Terms) : Type 0 where
+  pub operator : Operator
+  pub sort : Sort
+  pub is : h ≡ operator_head operator sort
+  pub count : takes operator (term_count ts) ≡ true
+  pub operands : AreOperands (operands_of operator) sort ts
+
+-- Constants, parameters and numbers have no arguments; a parameter is of the sort that is listed at its place.
+abbrev pub IsSortedHead : List Sort → Head → Terms → Type 0
+IsSortedHead ss (constant c) ts = ts ≡ no_terms
+IsSortedHead ss (parameter i s) ts = (slice_get ss i ≡ Some s) × (ts ≡ no_terms)
+IsSortedHead ss (integer n) ts = ts ≡ no_terms
+IsSortedHead ss (decimal_number n places) ts = ts ≡ no_terms
+IsSortedHead ss h ts = IsApplied h ts
+
+-- The term is well sorted under parameters of these sorts.
+abbrev mutual
+  pub IsWellSorted : List Sort → Term → Type 0
+  IsWellSorted ss (apply h ts) = IsSortedHead ss h ts × AreWellSorted ss ts
+
+  pub AreWellSorted : List Sort → Terms → Type 0
+  AreWellSorted ss no_terms = ⊤
+  AreWellSorted ss (terms t ts) = IsWellSorted ss t × AreWellSorted ss ts
+
+-- a definition whose body is well sorted under its parameters
+abbrev pub IsSortedDefinition : Definition → Type 0
+IsSortedDefinition d = IsWellSorted d.parameters d.body
+
+-- a well sorted term of sort Bool
+abbrev pub IsSortedAssertion : Term → Type 0
+IsSortedAssertion t = IsWellSorted [] t × (sort_of t ≡ bool_sort)
+
+-- ---- Laws
+
+-- The normal term of a well sorted term without parameters is one of the gate table, where it holds no number.
+abbrev pub NormalTermsAreGated : Type 0
+NormalTermsAreGated = (t : Term) → IsWellSorted [] t → holds_number (normal_of t) ≡ false → IsGated (normal_of t)
