@@ -6,7 +6,7 @@ use Rattle.std.proofs.Math.Bool.{and-false, or-true}
 use Rattle.std.proofs.lemmas.Option.{same_Some}
 use Rattle.std.proofs.lemmas.List.Elements.{Contains-append_left, Contains-append_right, Contains-push}
 use Rattle.nz_lists.proofs.Elements.{AllByRecursion-weaker}
-use Rattle.nz_spec.specs.Term.{bool_sort, Head, constant, verum, falsum, negation, conjunction, disjunction, exclusion, equality, choice, Term, apply, Terms, no_terms, terms, Value, truth, Assignment, is_true, are_equal, excluded, all_true, some_true, head_sort, sort_of, is_bool, value_of, values_of}
+use Rattle.nz_spec.specs.Term.{Sort, bool_sort, Head, constant, verum, falsum, negation, conjunction, disjunction, exclusion, equality, choice, Term, apply, Terms, no_terms, terms, Value, truth, Assignment, is_true, are_equal, excluded, all_true, some_true, head_sort, sort_of, is_bool, is_numeric, holds_number, hold_number, value_of, values_of}
 use Rattle.nz_spec.specs.Order.{post_order, post_orders}
 use Rattle.nz_spec.specs.Literal.{Literal, term_literal, Clause}
 use Rattle.nz_spec.specs.Gates.{list_of, holds, fails, gate_clauses, IsRow, IsGated, AreGated, HasTrueLiteral, MeetsGates, IsTruthBy, IsTruthAt, GatesDecide, NumberedGatesDecide}
@@ -26,6 +26,31 @@ row_boolean h ts r = absurd r
 
 gated_boolean : (t : Term) → IsGated t → is_bool (sort_of t) ≡ true
 gated_boolean (apply h ts) g = row_boolean h ts g.0
+
+row_plain : (h : Head) (ts : Terms) → IsRow h ts → is_numeric h ≡ false
+row_plain (constant c) no_terms r = ap (λ (s : Sort). not (is_bool s)) r
+row_plain verum no_terms r = refl
+row_plain falsum no_terms r = refl
+row_plain negation (terms t no_terms) r = refl
+row_plain conjunction ts r = refl
+row_plain disjunction ts r = refl
+row_plain exclusion (terms t (terms u no_terms)) r = refl
+row_plain equality (terms t (terms u no_terms)) r = refl
+row_plain (choice bool_sort) (terms c (terms t (terms u no_terms))) r = refl
+row_plain h ts r = absurd r
+
+-- where neither is so, nor is one of them
+neither : (a b : Bool) → a ≡ false → b ≡ false → (a || b) ≡ false
+neither true b e f = absurd (true≢false e)
+neither false b e f = f
+
+mutual
+  pub gated_plain : (t : Term) → IsGated t → holds_number t ≡ false
+  gated_plain (apply h ts) g = neither (is_numeric h) (hold_number ts) (row_plain h ts g.0) (all_plain ts g.1)
+
+  all_plain : (ts : Terms) → AreGated ts → hold_number ts ≡ false
+  all_plain no_terms g = refl
+  all_plain (terms t ts) g = neither (holds_number t) (hold_number ts) (gated_plain t g.0) (all_plain ts g.1)
 
 -- what holds where a test passes
 passed : (P : List Clause → Type 0) (b : Bool) (cs : List Clause) → b ≡ true → P (if b then cs else []) → P cs

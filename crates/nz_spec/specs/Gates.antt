@@ -117,6 +117,10 @@ pub record PlainTermsAreBoolean : Type 0 where
   pub itself : (t : Term) → holds_number t ≡ false → IsBoolean t
   pub arguments : (t : Term) → holds_number t ≡ false → HasBooleanArguments t
 
+-- A term of the table holds no number.
+abbrev pub GatedTermsArePlain : Type 0
+GatedTermsArePlain = (t : Term) → IsGated t → holds_number t ≡ false
+
 -- Where the truths of all that a term of the table is made of meet the clauses, the term has the value that its truth says.
 abbrev pub GatesDecide : Type 0
 GatesDecide = (a : Assignment) (truths : Term → Bool) (t : Term) → IsGated t → MeetsGates (IsTruthBy truths) a (post_order t) → value_of a t ≡ truth (truths t)

@@ -1,6 +1,6 @@
 //! Laws of literals, clauses, gates and derivations.
 ghost use Rattle.nz_spec.specs.Literal.{ClauseIsTrueTogether, ResolventIsTrue, TellsLiterals};
-ghost use Rattle.nz_spec.specs.Gates.{GatesAreTrue, GatesDecide, NumberedGatesDecide, PlainTermsAreBoolean};
+ghost use Rattle.nz_spec.specs.Gates.{GatedTermsArePlain, GatesAreTrue, GatesDecide, NumberedGatesDecide, PlainTermsAreBoolean};
 ghost use Rattle.nz_spec.specs.Steps.{DerivationsGrow, DerivedClausesAreTrue, EmptyClauseRefutes};
 ghost use Rattle.nz_spec.specs.WorkedSteps.{HasGateTable, HasRefutation, HasResolvents};
 
@@ -21,10 +21,11 @@ pub fn gates_are_true()
     ensures plain { PlainTermsAreBoolean }
 {}
 
-/// Truths that meet the clauses of a term of the gate table are those of its value.
+/// Truths that meet the clauses of a term of the gate table are those of its value. Such a term holds no number.
 pub fn gates_decide()
     ensures decide { GatesDecide }
     ensures numbers { NumberedGatesDecide }
+    ensures plain { GatedTermsArePlain }
 {}
 
 /// What is derived is true wherever the live assertions are; so the empty clause refutes them.
