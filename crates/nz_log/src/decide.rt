@@ -20,8 +20,8 @@ pub enum Verdict {
 
 /// A search that decides whether asserted terms and assumed literals can all be true. Terms are asserted by levels.
 pub trait Decide: Drop {
-    ghost use Rattle.std.specs.Prelude.{◌≡◌, ℕ, ◌-◌, ◌<◌, ◌≤◌, false, List, [], ◌∷◌, ◌++◌, length, map, take, All, Option, Some, IsSome, OnOk, OnErr, IfOk, IfErr};
-    ghost use Rattle.nz_spec.specs.Term.{holds_number};
+    ghost use Rattle.std.specs.Prelude.{◌≡◌, ℕ, ◌-◌, ◌<◌, ◌≤◌, List, [], ◌∷◌, ◌++◌, length, map, take, All, Option, Some, IsSome, OnOk, OnErr, IfOk, IfErr};
+    ghost use Rattle.nz_spec.specs.Gates.{IsGated};
     ghost use Rattle.nz_spec.specs.Table.{Node, term_in, assignment_by};
     ghost use Rattle.nz_spec.specs.Literal.{AreTrueLiterals};
     ghost use Rattle.nz_spec.specs.Decide.{AreInTable, asserted_numbers, with_number, asserted_terms, IsFrontOfTable, AreModelValues};
@@ -88,9 +88,9 @@ pub trait Decide: Drop {
         requires grown { IsFrontOfTable (table self.old) terms.now }
         requires no_steps { work.old.lines ≡ [] }
 
-        // Nothing is over numbers, and no assumed literal is the negation of another.
-        requires truths { All (λ i. holds_number (term_in terms.now i) ≡ false) (asserted_numbers (levels self.old)) }
-        requires assumed_truths { All (λ l. holds_number (term_in terms.now l.term) ≡ false) assumed.now }
+        // What is asserted and what is assumed is of the gate table, and no assumed literal is the negation of another.
+        requires gated { All (λ i. IsGated (term_in terms.now i)) (asserted_numbers (levels self.old)) }
+        requires assumed_gated { All (λ l. IsGated (term_in terms.now l.term)) assumed.now }
         requires consistent { AreConsistent assumed.now }
         ensures sat { IfOk result (λ v. IfSat v (AreModelValues terms.now (asserted_terms terms.now (levels self.old)) [])) }
         ensures sat_assumed { IfOk result (λ v. IfSat v (λ ps. AreTrueLiterals (assignment_by terms.now ps) (map (literal_of terms.now) assumed.now))) }
