@@ -12,6 +12,7 @@ use Rattle.nz_spec.specs.Model.{IsModel, IsUnsatisfiable}
 use Rattle.nz_spec.specs.Live.{LastAnswer, model_found, State, Options}
 use Rattle.nz_spec.specs.Command.{Command, Info, declare_const, define, assert_term, check_sat, get_model, get_value, get_info, get_levels, get_reason, set_print_success, no_effect, echo, exit, accepted}
 use Rattle.nz_spec.specs.Script.{outcome_of}
+use Rattle.nz_spec.specs.Sorts.{IsSortedState, StatesStaySorted}
 use Rattle.nz_spec.specs.Reply.{Reply, quiet, success, sat, unsat, unknown, model, values, info, levels as levels_reply, reason, echoed, unsupported, error, Cause, plain}
 use Rattle.nz_spec.specs.Right.{Context, done, IsRightCheck, IsRightCommand, IsRightOutcome, IsRight, IsExit, last_after, effect, effect_of, after}
 use Rattle.nz_sort.specs.Live.{Standing, IsLive, IsChange}
@@ -113,7 +114,7 @@ module _ {E : Type 0} (levels : E → List (List ℕ)) (table : E → List Node)
   -- nothing that is held is of the states before
   pub holds_next : (desk : Desk E) (c : Context) → Holds levels table desk c → Holds levels table desk (next c c.state)
   holds_next desk c h =
-      record { live = h.live; told = h.told; front = h.front; last = h.last; bound = h.bound; values = h.values; success = h.success; bounded = h.bounded }
+      record { live = h.live; sorted = h.sorted; told = h.told; front = h.front; last = h.last; bound = h.bound; values = h.values; success = h.success; bounded = h.bounded }
 
   -- the desk holds the context where what stands is another that stands for its state
   holds_kept : (old : Desk E) (c : Context) (ns : List Node) (l : Standing) → Holds levels table old c → GoesOn old ns l → IsLive ns l c.state
@@ -121,6 +122,7 @@ module _ {E : Type 0} (levels : E → List (List ℕ)) (table : E → List Node)
   holds_kept old c ns l h on live =
       record {
         live = live;
+        sorted = h.sorted;
         told = told_of_more (levels old.engine) old.told old.live.asserted l.asserted on.asserted h.told;
         front = front_of_more (table old.engine) old.terms ns h.front on.terms;
         last = h.last;
@@ -141,6 +143,7 @@ module _ {E : Type 0} (levels : E → List (List ℕ)) (table : E → List Node)
   holds_set old c ns l b r h on live =
       record {
         live = live;
+        sorted = h.sorted;
         told = told_of_more (levels old.engine) old.told old.live.asserted l.asserted on.asserted h.told;
         front = front_of_more (table old.engine) old.terms ns h.front on.terms;
         last = h.last;
@@ -152,10 +155,11 @@ module _ {E : Type 0} (levels : E → List (List ℕ)) (table : E → List Node)
 
   -- where the last answer has ended
   holds_fresh : (old : Desk E) (c : Context) (ns : List Node) (l : Standing) (s : State) → Holds levels table old c → GoesOn old ns l → IsLive ns l s
-      → s.last ≡ None → s.options ≡ c.state.options → Holds levels table (record (standing old ns l) { last = None }) (next c s)
-  holds_fresh old c ns l s h on live none same =
+      → IsSortedState s → s.last ≡ None → s.options ≡ c.state.options → Holds levels table (record (standing old ns l) { last = None }) (next c s)
+  holds_fresh old c ns l s h on live sorted none same =
       record {
         live = live;
+        sorted = sorted;
         told = told_of_more (levels old.engine) old.told old.live.asserted l.asserted on.asserted h.told;
         front = front_of_more (table old.engine) old.terms ns h.front on.terms;
         last = sym none;
@@ -290,15 +294,15 @@ module _ {E : Type 0} (levels : E → List (List ℕ)) (table : E → List Node)
       (refl, refl) (holds_next levels table desk c h) (λ x. refl) (λ x. cc)
 
   -- one to an item more
-  pub changed_answer : (c : Context) (t : Tree) (k : Command) (q : said.Reply) (answer : Answer) (old : Desk E) (ns : List Node) (l : Standing)
+  pub changed_answer : StatesStaySorted → (c : Context) (t : Tree) (k : Command) (q : said.Reply) (answer : Answer) (old : Desk E) (ns : List Node) (l : Standing)
       → answer ≡ plainly q → reply_of (intact t) q ≡ done (record { prints_success = old.prints_success }) → Holds levels table old c → GoesOn old ns l
       → outcome_of c.state t ≡ accepted k → IsChange k → ((r : Reply) → IsLive ns l (effect c.state k r))
       → IsAnswer levels table c (intact t) answer (record (standing old ns l) { last = None })
-  changed_answer c t k q answer old ns l is tells h on e change live =
+  changed_answer stay c t k q answer old ns l is tells h on e change live =
       let r : Reply = done c.state.options in
       done_answer c t k c.state.options q answer (record (standing old ns l) { last = None }) is (tells_done c.state t old.prints_success q tells h.success) e
       (right_change c k change)
-      (holds_fresh levels table old c ns l (effect c.state k r) h on (live r) (fresh_after c.state k r change) (options_after c.state k r change)) (λ x. subst IsChange x change)
+      (holds_fresh levels table old c ns l (effect c.state k r) h on (live r) (stay.by_command c.state t k r e h.sorted) (fresh_after c.state k r change) (options_after c.state k r change)) (λ x. subst IsChange x change)
 
   -- ---- Checks
 
@@ -313,6 +317,7 @@ module _ {E : Type 0} (levels : E → List (List ℕ)) (table : E → List Node)
       let kept : Holds levels table desk (next c (effect c.state (check_sat []) r)) =
       record {
         live = live_still desk.terms desk.live c.state c.state.last (last_after r) c.state.options c.state.options h.live;
+        sorted = h.sorted;
         told = h.told;
         front = h.front;
         last = told;

@@ -8,6 +8,7 @@ use Rattle.nz_spec.specs.Decide.{IsFrontOfTable}
 use Rattle.nz_spec.specs.Model.{Binding, assignment_of}
 use Rattle.nz_spec.specs.Live as live_state
 use Rattle.nz_spec.specs.Live.{State, constants_of}
+use Rattle.nz_spec.specs.Sorts.{IsSortedState}
 use Rattle.nz_spec.specs.Right.{Context, IsRight, IsExit, context_after}
 use Rattle.nz_sort.specs.Live.{IsLive}
 use Rattle.nz_reply.specs.Reasons.{reason_of}
@@ -50,6 +51,7 @@ KeepsValues ns last = ⊤
 -- The desk holds what a context says; what its engine was told stands in its table.
 pub record Holds {E : Type 0} (levels : E → List (List ℕ)) (table : E → List Node) (desk : Desk E) (c : Context) : Type 0 where
   pub live : IsLive desk.terms desk.live c.state
+  pub sorted : IsSortedState c.state
   pub told : IsTold (levels desk.engine) desk.told desk.live.asserted
   pub front : IsFrontOfTable (table desk.engine) desk.terms
   pub last : option_map last_of desk.last ≡ c.state.last

@@ -4,7 +4,7 @@ ghost use Rattle.nz_sexpr.specs.View.{view, what_view};
 ghost use Rattle.nz_spec.specs.Text as text;
 ghost use Rattle.nz_spec.specs.Text.{intact};
 ghost use Rattle.nz_spec.specs.Term as term;
-ghost use Rattle.nz_spec.specs.Term.{holds_number};
+ghost use Rattle.nz_spec.specs.Gates.{IsGated};
 ghost use Rattle.nz_spec.specs.Decide.{IsFrontOfTable, AreModelValues};
 ghost use Rattle.nz_spec.specs.Model.{IsUnsatisfiable};
 ghost use Rattle.nz_spec.specs.Live.{items_of, items_hold_numbers};
@@ -35,6 +35,7 @@ use nz_sort::{Accepted, Act, Info as InfoAsked, Live};
 use nz_spec::script::argument_tells;
 use nz_spec::table::{assigns_by_number, term_of_node};
 use nz_spec::term::{decimals_are_numbers, normal_keeps_value, numerals_are_whole};
+use nz_spec::transcript::{assertions_are_gated, states_stay_sorted};
 use nz_term::{Assign, Head, TermId, Terms, known_table};
 use nz_truth::default_value;
 use std::alloc::Global;
@@ -127,6 +128,7 @@ impl<E: Decide> Desk<E> {
         ensures front { IsFrontOfTable (table_of self.old) (table_of self.new) }
     {
         argument_tells();
+        states_stay_sorted();
         match self.live.command(&mut self.terms, tree) {
             Err(refusal) => said(Reply::Error(refusal)),
             Ok(Act::Changed) => {
@@ -161,6 +163,7 @@ impl<E: Decide> Desk<E> {
         ensures terms { table_of self.new ≡ table_of self.old }
     {
         normal_keeps_value();
+        assertions_are_gated();
         let decided = decide(
             &mut self.engine,
             &mut self.told,
@@ -350,7 +353,7 @@ fn decide<E: Decide>(
     requires told { IsTold (E.levels engine.old) told.old (table_numbers assertions.now) }
     requires within { All (λ i. i < length terms.now) (table_numbers assertions.now) }
     requires front { IsFrontOfTable (E.table engine.old) terms.now }
-    requires truths { All (λ i. holds_number (term_in terms.now i) ≡ false) (table_numbers assertions.now) }
+    requires gated { All (λ i. IsGated (term_in terms.now i)) (table_numbers assertions.now) }
     ensures told { IsTold (E.levels engine.new) told.new (table_numbers assertions.now) }
     ensures sat { IfOk result (λ v. IfSat v (AreModelValues terms.now (map (term_in terms.now) (table_numbers assertions.now)) [])) }
     ensures unsat { IfOk result (λ v. OnUnsat v (IsUnsatisfiable (map (term_in terms.now) (table_numbers assertions.now)) [])) }

@@ -38,7 +38,7 @@ returns-in-Ok-Changed-clause-right g c x h =
     let carried = rw c.in-Ok-Changed.field-0-is at c.in-Ok-Changed.ensures.accepted in
     let r : IsCarriedOut x.state t changed ns l = carried x.state h.live in
     let k = r.leaves in
-    changed_answer g.E.Decide.levels g.E.Decide.table x t k.command c.done.result c.said-in-Ok-Changed.result c.args.self.now ns l c.said-in-Ok-Changed.ensures.said
+    changed_answer g.E.Decide.levels g.E.Decide.table c.states_stay_sorted.ensures.stay x t k.command c.done.result c.said-in-Ok-Changed.result c.args.self.now ns l c.said-in-Ok-Changed.ensures.said
     (c.done.ensures.done (intact t)) h on k.is k.asks k.live
 
 pub returns-in-Ok-Check-clause-right : goal.returns-in-Ok-Check-clause-right
