@@ -1,7 +1,8 @@
 -- What is made of numbered literals says what is made of the literals that they stand for.
-use Rattle.std.proofs.Common.{◌≡◌, ℕ, ◌<◌, Bool, true, false, not, ◌&&◌, ◌||◌, ◌==◌, List, [], ◌∷◌, ◌++◌, length, map, Some, None, refl, sym, ap, ◌∙◌, eqb-true, eq-eqb}
+use Rattle.std.proofs.Common.{◌≡◌, ℕ, ◌<◌, Bool, true, false, not, ◌&&◌, ◌||◌, ◌==◌, List, [], ◌∷◌, ◌++◌, length, map, get_or, Some, None, refl, sym, ap, ◌∙◌, eqb-true, eq-eqb}
 use Rattle.std.proofs.lemmas.Bool.{and_from, and_parts}
 use Rattle.std.proofs.lemmas.List.{map-append}
+use Rattle.std.proofs.lemmas.Option.{slice_get-get_or}
 use Rattle.std.specs.Prelude.{fold, slice_get, if◌then◌else◌}
 use Rattle.std.specs.List.{AllByRecursion, list_any}
 use Rattle.nz_spec.specs.Term.{Head, verum, falsum, negation, conjunction, disjunction, exclusion, equality, choice, bool_sort, Term, apply}
@@ -11,7 +12,7 @@ use Rattle.nz_spec.specs.Gates.{holds, fails, list_of, is_boolean_term, clauses_
 use Rattle.nz_lists.proofs.Tests.{same_tests}
 use Rattle.nz_log.specs.declared.lits.Lit.{Lit}
 use Rattle.nz_log.specs.Lits.{yes, no, negated_lit, are_same_lit, lit_resolvent, literal_of, clause_in, is_boolean_at, gates_at}
-use Rattle.nz_log.specs.Sound.{AreWithin}
+use Rattle.nz_log.specs.Sound.{AreWithin, GatesAreNamed}
 use Rattle.nz_log.proofs.Members.{each-append, each-without, each-put}
 
 -- ---- Sets by names
@@ -139,3 +140,8 @@ module _ (ns : List Node) where
       ∙ ap (clauses_over holds fails is_boolean_term (term_in ns t) n.head) (sym (listed_named n.kids))
       ∙ ap (λ u. clauses_over holds fails is_boolean_term u n.head (list_of (terms_at (term_in ns) n.kids))) term
       ∙ ap gate_clauses (sym term)
+
+pub gates_are_named : TermOfNode → GatesAreNamed
+gates_are_named node ns table t within =
+    let own : Node = get_or ns t (record { head = falsum; kids = [] }) in
+    gates_named ns table node t own (slice_get-get_or ns t (record { head = falsum; kids = [] }) within)

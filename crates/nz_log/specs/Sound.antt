@@ -9,7 +9,7 @@ use Rattle.nz_spec.specs.Literal.{clause_of, IsClauseTrue}
 use Rattle.nz_spec.specs.Gates.{gate_clauses, HasBooleanArguments}
 use Rattle.nz_log.specs.declared.lits.Lit.{Lit}
 use Rattle.nz_log.specs.declared.origins.Link.{Link}
-use Rattle.nz_log.specs.Lits.{yes, clause_in}
+use Rattle.nz_log.specs.Lits.{yes, clause_in, gates_at}
 use Rattle.nz_log.specs.Logs.{Origin, assertion_of, gate_of, chain_of, Entry, LogState, empty_log, entry_at, literals_at, chained, IsPremise}
 
 -- the numbers of the assertions that are live at a level
@@ -63,3 +63,7 @@ pub record LogsStay : Type 0 where
   pub asserted : (ns : List Node) (old new : List (List ℕ)) (s : LogState) → AreMore old new → IsLog ns old s → IsLog ns new s
   pub level : (levels : List (List ℕ)) → AreMore levels (levels ++ [] ∷ [])
   pub number : (levels : List (List ℕ)) (t : ℕ) → AreMore levels (with_number levels t)
+
+-- The clauses of the gate table by the number of a term say those of the term.
+abbrev pub GatesAreNamed : Type 0
+GatesAreNamed = (ns : List Node) → IsTable ns → (t : ℕ) → t < length ns → map (clause_in ns) (gates_at ns t) ≡ gate_clauses (term_in ns t)

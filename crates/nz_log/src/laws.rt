@@ -1,8 +1,8 @@
-//! Laws of logs in order.
-ghost use Rattle.nz_log.specs.Sound.{ClausesAreTrue, LogsStay};
+//! Laws of logs in order, and of clauses by the numbers of terms.
+ghost use Rattle.nz_log.specs.Sound.{ClausesAreTrue, GatesAreNamed, LogsStay};
 
 use nz_spec::derivation::{gates_are_true, resolvent_is_true, tells_literals};
-use nz_spec::table::{one_number, term_stays};
+use nz_spec::table::{one_number, term_of_node, term_stays};
 
 /// Each clause of a log in order is true under every assignment that makes the assertions live at its level true.
 pub fn clauses_are_true()
@@ -19,4 +19,11 @@ pub fn logs_stay()
     ensures stay { LogsStay }
 {
     term_stays();
+}
+
+/// The clauses of the gate table by the number of a term say those of the term.
+pub fn gates_are_named()
+    ensures named { GatesAreNamed }
+{
+    term_of_node();
 }
