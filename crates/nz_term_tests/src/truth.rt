@@ -8,7 +8,7 @@ ghost use Rattle.nz_term.specs.Heads.{head_of};
 use nz_base::{Memory, Text};
 use nz_frac::{Op, Wide};
 use nz_term::{Assign, Constant, Head, NumberSort, Sort, TermId, Terms, Value};
-use nz_truth::{EvalStop, Outcome, Values, constant_numbers, eval, outcomes};
+use nz_truth::{EvalStop, Outcome, Values, eval, outcomes};
 use std::alloc::Global;
 use std::test::Fail;
 
@@ -376,15 +376,5 @@ fn the_first_wide_operation_is_named(rt: HostRuntime) -> Result<(), Fail> {
     assert_eq!(rt; terms.len(), 6);
     let product = stop(rt.alloc(), &terms, &[1, 3, 2])?;
     assert!(rt; is_wide(&product, Op::Mul, GREATEST as i128));
-    Ok(())
-}
-
-#[test]
-fn constants_are_told_in_order(rt: HostRuntime) -> Result<(), Fail> {
-    let (mut terms, p) = one_constant(rt.alloc())?;
-    operation(&mut terms, Head::Not, &[p])?;
-    constant(rt.alloc(), &mut terms, Sort::Int)?;
-    let numbers = constant_numbers(rt.alloc(), &terms)?;
-    assert_eq!(rt; numbers.as_slice(), [0, 2].as_slice());
     Ok(())
 }

@@ -1,5 +1,3 @@
-pub mod Numbers
 pub mod Outcomes
 pub mod Relations
 pub mod Stops
-pub mod Truths
