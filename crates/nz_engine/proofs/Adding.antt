@@ -1,16 +1,20 @@
 -- Clauses that are put into a log and held.
-use Rattle.std.proofs.Common.{◌≡◌, ℕ, ◌<◌, List, [], ◌∷◌, ◌++◌, get_or, Option, Some, None, refl, sym, ap, ◌∙◌, subst, arith}
-use Rattle.std.specs.Prelude.{All, Contains}
-use Rattle.std.proofs.lemmas.List.Elements.{All-append, All-from_recursion, All-weaker, recursion_from_All}
+use Rattle.std.proofs.Common.{◌≡◌, ℕ, ◌+◌, ◌<◌, List, [], ◌∷◌, ◌++◌, append-nil, get_or, length, map, take, Option, Some, None, Result, Ok, Err, IfOk, refl, sym, ap, ◌∙◌, subst, arith}
+use Rattle.std.specs.Prelude.{All, Contains, flat_map}
+use Rattle.std.proofs.lemmas.Grind.{flat_map-append}
+use Rattle.std.proofs.lemmas.List.{map-append, take_more}
+use Rattle.std.proofs.lemmas.List.Elements.{All-append, All-contains, All-from_recursion, All-weaker, Contains-append_left, Contains-push, recursion_from_All}
 use Rattle.nz_spec.specs.Table.{Node}
+use Rattle.nz_spec.specs.Literal.{once}
 use Rattle.nz_log.specs.declared.lits.Lit.{Lit}
-use Rattle.nz_log.specs.Lits.{yes}
+use Rattle.nz_log.specs.Lits.{yes, are_same_lit}
 use Rattle.nz_log.specs.Logs.{LogState, Entry, empty_log, entry_at, IsLive, literals_at, level_at, Puts, gate_entry, given_entry}
 use Rattle.nz_log.specs.Sound.{IsLog}
 use Rattle.nz_sat.specs.declared.clauses.Held.{Held}
-use Rattle.nz_sat.specs.Sats.{AreHeld, held_of}
-use Rattle.nz_engine.specs.Clausal.{ClausesState, no_clauses, IsAtomic, NamesAtoms, AreIn, kids_at}
-use Rattle.nz_engine.proofs.GateNames.{gate_named}
+use Rattle.nz_sat.specs.Conflicts.{Grows}
+use Rattle.nz_sat.specs.Sats.{AreHeld, HoldsMore, IsSatisfied, IsTrueClause, SatState, held_of}
+use Rattle.nz_engine.specs.Clausal.{ClausesState, no_clauses, HasClause, HoldsAlso, IsAtomic, NamesAtoms, AreIn, Satisfies, kids_at, unit_of}
+use Rattle.nz_engine.proofs.GateNames.{gate_named, once_from}
 
 -- no clause is
 pub none_in : (ns : List Node) (levels : List (List ℕ)) (atoms : List ℕ) (c : ClausesState) → IsLog ns levels empty_log → c ≡ no_clauses → AreIn ns levels atoms c
@@ -76,3 +80,79 @@ pub given_more : (ns : List Node) (levels : List (List ℕ)) (atoms : List ℕ) 
 given_more ns levels atoms old new id k t level puts more atomic sound h =
     one_more ns levels atoms old new id (given_entry old.log k t level) puts more
     (All-from_recursion (λ (l : Lit). Contains atoms l.term) (yes t ∷ []) (atomic, tt)) (sound h.order) h
+
+-- ---- What is held
+
+-- the clause that was put is held beside those that were
+pub one_more_clause : (old new : ClausesState) (id : ℕ) (e : Entry) (ls : List Lit) → Puts old.log id e new.log → new.sat.clauses ≡ old.sat.clauses ++ held_of new.log id ∷ []
+    → e.literals ≡ once are_same_lit ls → HoldsAlso old new (ls ∷ [])
+one_more_clause old new id e ls puts more own =
+    let last : Held = held_of new.log id in
+    record {
+      kept = λ ms h.
+          record {
+            held = h.held;
+            there = subst (λ hs. Contains hs h.held) (sym more) (Contains-append_left old.sat.clauses (last ∷ []) h.held h.there);
+            live = puts.stay h.held.id h.live;
+            literals = literals_stay old.log new.log id e puts h.held.id h.live ∙ h.literals;
+          };
+      added = All-from_recursion (HasClause new) (ls ∷ []) (
+        record {
+          held = last;
+          there = subst (λ hs. Contains hs last) (sym more) (Contains-push old.sat.clauses last);
+          live = puts.live;
+          literals = made_literals old.log new.log id e puts ∙ own;
+        },
+        tt,
+      );
+    }
+
+pub no_more : (c : ClausesState) → HoldsAlso c c []
+no_more c = record { kept = λ ls h. h; added = All-from_recursion (HasClause c) [] tt }
+
+pub and_more : (a b c : ClausesState) (xs ys : List (List Lit)) → HoldsAlso a b xs → HoldsAlso b c ys → HoldsAlso a c (xs ++ ys)
+and_more a b c xs ys h k = record {
+  kept = λ ls has. k.kept ls (h.kept ls has);
+  added = All-append (HasClause c) xs ys (All-weaker (HasClause b) (HasClause c) k.kept xs h.added) k.added;
+}
+
+-- those of the first so many, and then the next one
+pub one_row : (a b c : ClausesState) (rows : List (List Lit)) (k : ℕ) → k < length rows → HoldsAlso a b (take k rows) → HoldsAlso b c (get_or rows k [] ∷ [])
+    → HoldsAlso a c (take (k + 1) rows)
+one_row a b c rows k below h next = subst (HoldsAlso a c) (sym (take_more rows k [] below)) (and_more a b c (take k rows) (get_or rows k [] ∷ []) h next)
+
+pub one_step : (f : ℕ → List (List Lit)) (a b c : ClausesState) (ts : List ℕ) (k d : ℕ) → k < length ts → HoldsAlso a b (flat_map f (take k ts))
+    → HoldsAlso b c (f (get_or ts k d)) → HoldsAlso a c (flat_map f (take (k + 1) ts))
+one_step f a b c ts k d below h next =
+    let t = get_or ts k d in
+    let split : flat_map f (take (k + 1) ts) ≡ flat_map f (take k ts) ++ f t =
+    ap (flat_map f) (take_more ts k d below) ∙ flat_map-append f (take k ts) (t ∷ []) ∙ ap (λ ls. flat_map f (take k ts) ++ ls) (append-nil (f t)) in
+    subst (HoldsAlso a c) (sym split) (and_more a b c (flat_map f (take k ts)) (f t) h next)
+
+pub one_unit : (a b c : ClausesState) (ts : List ℕ) (k : ℕ) → k < length ts → HoldsAlso a b (map unit_of (take k ts)) → HoldsAlso b c (unit_of (get_or ts k 0) ∷ [])
+    → HoldsAlso a c (map unit_of (take (k + 1) ts))
+one_unit a b c ts k below h next =
+    let split : map unit_of (take (k + 1) ts) ≡ map unit_of (take k ts) ++ unit_of (get_or ts k 0) ∷ [] =
+    ap (map unit_of) (take_more ts k 0 below) ∙ map-append unit_of (take k ts) (get_or ts k 0 ∷ []) in
+    subst (HoldsAlso a c) (sym split) (and_more a b c (map unit_of (take k ts)) (unit_of (get_or ts k 0) ∷ []) h next)
+
+-- ---- What a search satisfies
+
+pub satisfied_before : (old : ClausesState) (log : LogState) (s : SatState) (assumed : List Lit) (atoms : List ℕ) → Grows old.log log → HoldsMore log old.sat.clauses s.clauses
+    → IsSatisfied log s assumed atoms → Satisfies s old assumed
+satisfied_before old log s assumed atoms grows holds found =
+    record {
+      clauses = λ ls h.
+          let there : Contains s.clauses h.held = subst (λ hs. Contains hs h.held) (sym holds.joined) (Contains-append_left old.sat.clauses holds.learned h.held h.there) in
+          let same : literals_at log h.held.id ≡ once are_same_lit ls =
+          ap (λ (o : Option Entry). elim o [ None ↦ [] | Some x ↦ x.literals ]) (grows.kept h.held.id h.live) ∙ h.literals in
+          let one : IsTrueClause s (once are_same_lit ls) =
+          subst (IsTrueClause s) same (All-contains (λ (x : Held). IsTrueClause s (literals_at log x.id)) s.clauses h.held found.clauses there) in
+          (one.0, once_from ls one.0 one.1, one.2);
+      assumed_hold = found.assumed_hold;
+    }
+
+pub satisfied_by : {E : Type 0} (old : ClausesState) (log : LogState) (s : SatState) (assumed : List Lit) (atoms : List ℕ) (r : Result (Option ℕ) E) → Grows old.log log
+    → HoldsMore log old.sat.clauses s.clauses → IfOk r (λ o. o ≡ None → IsSatisfied log s assumed atoms) → IfOk r (λ o. o ≡ None → Satisfies s old assumed)
+satisfied_by old log s assumed atoms (Ok o) grows holds h = λ none. satisfied_before old log s assumed atoms grows holds (h none)
+satisfied_by old log s assumed atoms (Err e) grows holds h = tt

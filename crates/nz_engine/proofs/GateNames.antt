@@ -1,7 +1,8 @@
 -- The clauses of a term name the term and its arguments alone.
 use Rattle.std.proofs.Common.{ℕ, zero, suc, Bool, true, false, List, [], ◌∷◌, ◌++◌, map, fold, Option, Some, None}
-use Rattle.std.specs.Prelude.{if◌then◌else◌, slice_get, unwrap_or}
+use Rattle.std.specs.Prelude.{Contains, if◌then◌else◌, slice_get, unwrap_or}
 use Rattle.std.specs.List.{AllByRecursion, list_any}
+use Rattle.std.proofs.lemmas.List.Elements.{All-contains, All-contains_itself, All-from_recursion, recursion_from_All}
 use Rattle.nz_lists.proofs.Elements.{AllByRecursion-append}
 use Rattle.nz_spec.specs.Term.{Head, verum, falsum, negation, conjunction, disjunction, exclusion, equality, choice, bool_sort}
 use Rattle.nz_spec.specs.Table.{Node}
@@ -10,6 +11,28 @@ use Rattle.nz_spec.specs.Gates.{clauses_over}
 use Rattle.nz_log.specs.declared.lits.Lit.{Lit}
 use Rattle.nz_log.specs.Lits.{yes, no, are_same_lit, is_boolean_at, gates_at}
 use Rattle.nz_engine.specs.Clausal.{kids_at}
+
+-- ---- Each literal once
+
+module _ (P : Lit → Type 0) where
+  with_kept : (c : List Lit) (l : Lit) (b : Bool) → AllByRecursion P c → P l → AllByRecursion P (if b then c else c ++ l ∷ [])
+  with_kept c l true h q = h
+  with_kept c l false h q = AllByRecursion-append P c (l ∷ []) h (q, tt)
+
+  put_kept : (ls c : List Lit) → AllByRecursion P c → AllByRecursion P ls → AllByRecursion P (fold (with_one are_same_lit) c ls)
+  put_kept [] c h k = h
+  put_kept (l ∷ ls) c h k = put_kept ls (with_one are_same_lit c l) (with_kept c l (list_any (are_same_lit l) c) h k.0) k.1
+
+  once_kept : (ls : List Lit) → AllByRecursion P ls → AllByRecursion P (once are_same_lit ls)
+  once_kept ls h = put_kept ls [] tt h
+
+-- what is there once was there
+pub once_from : (ls : List Lit) (l : Lit) → Contains (once are_same_lit ls) l → Contains ls l
+once_from ls l c =
+    All-contains (Contains ls) (once are_same_lit ls) l
+    (All-from_recursion (Contains ls) (once are_same_lit ls) (once_kept (Contains ls) ls (recursion_from_All (Contains ls) ls (All-contains_itself ls)))) c
+
+-- ---- Names
 
 module _ (Q : ℕ → Type 0) where
   abbrev Named : List Lit → Type 0
@@ -57,19 +80,14 @@ module _ (Q : ℕ → Type 0) where
   row_named (c ∷ cs) zero h = h.0
   row_named (c ∷ cs) (suc j) h = row_named cs j h.1
 
-  with_named : (c : List Lit) (l : Lit) (b : Bool) → Named c → Q l.term → Named (if b then c else c ++ l ∷ [])
-  with_named c l true h q = h
-  with_named c l false h q = AllByRecursion-append (λ (m : Lit). Q m.term) c (l ∷ []) h (q, tt)
-
-  put_named : (ls c : List Lit) → Named c → Named ls → Named (fold (with_one are_same_lit) c ls)
-  put_named [] c h k = h
-  put_named (l ∷ ls) c h k = put_named ls (with_one are_same_lit c l) (with_named c l (list_any (are_same_lit l) c) h k.0) k.1
-
   gates_of : (ns : List Node) (t : ℕ) (o : Option Node) → Q t → AllByRecursion Q (elim o [ None ↦ [] | Some n ↦ n.kids ])
       → AllByRecursion Named (elim o [ None ↦ [] | Some n ↦ clauses_over yes no (is_boolean_at ns) t n.head n.kids ])
   gates_of ns t None q k = tt
   gates_of ns t (Some n) q k = over_named (is_boolean_at ns) t n.head n.kids q k
 
+  pub gates_named : (ns : List Node) (t : ℕ) → Q t → AllByRecursion Q (kids_at ns t) → AllByRecursion Named (gates_at ns t)
+  gates_named ns t q k = gates_of ns t (slice_get ns t) q k
+
   -- so does the clause of each number
   pub gate_named : (ns : List Node) (t j : ℕ) → Q t → AllByRecursion Q (kids_at ns t) → Named (once are_same_lit (unwrap_or (slice_get (gates_at ns t) j) []))
-  gate_named ns t j q k = put_named (unwrap_or (slice_get (gates_at ns t) j) []) [] tt (row_named (gates_at ns t) j (gates_of ns t (slice_get ns t) q k))
+  gate_named ns t j q k = once_kept (λ (l : Lit). Q l.term) (unwrap_or (slice_get (gates_at ns t) j) []) (row_named (gates_at ns t) j (gates_named ns t q k))

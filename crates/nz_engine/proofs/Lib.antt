@@ -1,4 +1,5 @@
 pub mod Adding
+pub mod Deciding
 pub mod GateNames
 pub mod Leveling
 pub mod Modeling

@@ -1,25 +1,23 @@
--- Values of constants under which literals are true are a model of what these say.
-use Rattle.std.proofs.Common.{◌≡◌, ℕ, suc, Bool, true, false, true≢false, List, [], ◌∷◌, ◌++◌, length, map, Option, Some, None, option_map, refl, sym, ap, ◌∙◌, subst, arith}
-use Rattle.std.specs.Prelude.{if◌then◌else◌, slice_get}
-use Rattle.std.specs.Bool.{OnTrue}
+-- The values that a search gives constants: each is of its constant's sort, and is listed with its number.
+use Rattle.std.proofs.Common.{◌≡◌, inl, inr, ℕ, ◌<◌, ◌==◌, Bool, true, false, true≢false, List, [], ◌∷◌, ◌++◌, length, Option, Some, None, option_map, refl, sym, ap, ◌∙◌, subst, arith, eq-eqb}
+use Rattle.std.specs.Prelude.{Contains, flat_map, if◌then◌else◌, slice_get}
 use Rattle.std.specs.List.{AllByRecursion}
 use Rattle.std.proofs.lemmas.Bool.{and_parts}
-use Rattle.std.proofs.lemmas.List.Elements.{All-from_recursion, recursion_from_All}
+use Rattle.std.proofs.lemmas.Bool.Decides.{eqb_tells}
+use Rattle.std.proofs.lemmas.Map.Made.{Contains-tail}
 use Rattle.nz_lists.proofs.Elements.{AllByRecursion-append}
-use Rattle.nz_spec.specs.Term.{Sort, bool_sort, int_sort, real_sort, are_same_sort, Constant, are_same_constant, Head, constant, Term, Value, truth, Assignment, default_value, is_true, value_of, IsOfSort, IsTrueUnder}
-use Rattle.nz_spec.specs.Table.{Node, term_in, is_node_of, assignment_by}
-use Rattle.nz_spec.specs.Decide.{IsValueOf, AreModelValues}
+use Rattle.nz_spec.specs.Term.{Sort, bool_sort, int_sort, real_sort, is_bool, are_same_sort, Constant, are_same_constant, Head, constant, Value, truth, default_value, IsOfSort}
+use Rattle.nz_spec.specs.Table.{Node, is_node_of, listed_value, assignment_by}
+use Rattle.nz_spec.specs.Decide.{IsValueOf}
 use Rattle.nz_spec.specs.Model.{IsAssignment}
-use Rattle.nz_spec.specs.Literal.{are_same_sign, AreTrueLiterals}
-use Rattle.nz_log.specs.declared.lits.Lit.{Lit}
-use Rattle.nz_log.specs.Lits.{yes, literal_of}
-use Rattle.nz_truth.specs.declared.walk.Outcome.{Outcome}
-use Rattle.nz_truth.specs.declared.walk.Outcome.TheVariants as outcome
-use Rattle.nz_term.specs.declared.assign.Value.TheVariants as value
-use Rattle.nz_truth.specs.Outcomes.{IsOutcome, AreOutcomes}
-use Rattle.nz_engine.specs.Posed.{Agree, AreConstantValues, HoldBy, terms_named}
+use Rattle.nz_sat.specs.Sats.{SatState, truth_of}
+use Rattle.nz_engine.specs.Posed.{value_as, value_at}
 
 -- ---- Values of their sorts
+
+-- each number is that of a constant, with a value of its sort
+abbrev pub AreConstantValues : List Node → List (ℕ × Value) → Type 0
+AreConstantValues ns ps = AllByRecursion (IsValueOf ns) ps
 
 same_sorts : (s t : Sort) → are_same_sort s t ≡ true → s ≡ t
 same_sorts bool_sort bool_sort e = refl
@@ -37,83 +35,65 @@ given_or : (c d : Constant) (v w : Value) (b : Bool) → are_same_constant c d �
 given_or c d v w false e h k = k
 given_or c d v w true e h k = subst (λ s. IsOfSort s v) (same_sorts c.sort d.sort (and_parts _ _ e).1) h
 
-is_assignment : (ns : List Node) (ps : List (ℕ × Value)) → AreConstantValues ns ps → IsAssignment (assignment_by ns ps)
+pub is_assignment : (ns : List Node) (ps : List (ℕ × Value)) → AreConstantValues ns ps → IsAssignment (assignment_by ns ps)
 is_assignment ns [] h d = default_of_sort d.sort
 is_assignment ns (p ∷ ps) h d =
     let others : IsOfSort d.sort (assignment_by ns ps d) = is_assignment ns ps h.1 d in
     subst (λ o. IsOfSort d.sort (if is_node_of o d then p.1 else assignment_by ns ps d)) (sym h.0.node)
     (given_or h.0.of d p.1 (assignment_by ns ps d) (are_same_constant h.0.of d) refl h.0.sort others)
 
--- ---- What terms came to
+-- ---- The values of a search
 
-of_outcome : (a : Assignment) (t : Term) (b : Bool) (o : Outcome) → o ≡ outcome.Value (value.Truth b) → IsOutcome a t o → value_of a t ≡ truth b
-of_outcome a t b o e h = let is : IsOutcome a t (outcome.Value (value.Truth b)) = subst (IsOutcome a t) e h in sym is.1
+truth_of_sort : (s : Sort) (b : Bool) → is_bool s ≡ true → IsOfSort s (truth b)
+truth_of_sort bool_sort b e = tt
+truth_of_sort int_sort b e = absurd (true≢false (sym e))
+truth_of_sort real_sort b e = absurd (true≢false (sym e))
 
-hold_from : (ns : List Node) (a : Assignment) (ls : List Lit) (os : List Outcome) → AreOutcomes ns a (terms_named ls) os → Agree ls os
-    → AllByRecursion (λ (l : Lit). value_of a (term_in ns l.term) ≡ truth l.sign) ls
-hold_from ns a [] os h agree = tt
-hold_from ns a (l ∷ ls) [] h agree = absurd h
-hold_from ns a (l ∷ ls) (o ∷ os) h agree =
-    (of_outcome a (term_in ns l.term) l.sign o (agree 0 l o (omega arith)) h.0, hold_from ns a ls os h.1 (λ k m p below. agree (suc k) m p (omega arith)))
+module _ (ns : List Node) (t : ℕ) where
+  by_sort : (c : Constant) (kids : List ℕ) (b test : Bool) → is_bool c.sort ≡ test → slice_get ns t ≡ Some (record { head = constant c; kids = kids })
+      → AreConstantValues ns (if test then (t, truth b) ∷ [] else [])
+  by_sort c kids b true e at = (record { of = c; kids = kids; node = at; sort = truth_of_sort c.sort b e; fits = tt }, tt)
+  by_sort c kids b false e at = tt
 
-pub as_many : (ns : List Node) (a : Assignment) (is : List ℕ) (os : List Outcome) → AreOutcomes ns a is os → length os ≡ length is
-as_many ns a [] [] h = refl
-as_many ns a [] (o ∷ os) h = absurd h
-as_many ns a (i ∷ is) [] h = absurd h
-as_many ns a (i ∷ is) (o ∷ os) h = ap suc (as_many ns a is os h.1)
+  by_head : (h : Head) (kids : List ℕ) (o : Option Bool) → slice_get ns t ≡ Some (record { head = h; kids = kids }) → AreConstantValues ns (value_as t (Some h) o)
+  by_head (constant c) kids (Some b) at = by_sort c kids b (is_bool c.sort) refl at
+  by_head h kids o at = tt
 
--- so literals are true where their terms came to what they say
-pub hold_by : (ns : List Node) (ps : List (ℕ × Value)) (ls : List Lit) (ids : List ℕ) (os : List Outcome) (b : Bool) → ids ≡ terms_named ls
-    → AreOutcomes ns (assignment_by ns ps) ids os → OnTrue b (Agree ls os) → OnTrue b (HoldBy ns ps ls)
-hold_by ns ps ls ids os true e h agree =
-    let a = assignment_by ns ps in
-    All-from_recursion (λ (l : Lit). value_of a (term_in ns l.term) ≡ truth l.sign) ls (hold_from ns a ls os (subst (λ is. AreOutcomes ns a is os) e h) agree)
-hold_by ns ps ls ids os false e h agree = tt
+  by_node : (n : Option Node) (o : Option Bool) → slice_get ns t ≡ n → AreConstantValues ns (value_as t (option_map (λ (m : Node). m.head) n) o)
+  by_node None o at = tt
+  by_node (Some n) o at = by_head n.head n.kids o at
 
--- ---- Models
+pub constant_values : (ns : List Node) (s : SatState) (ts : List ℕ) → AreConstantValues ns (flat_map (value_at ns s) ts)
+constant_values ns s [] = tt
+constant_values ns s (t ∷ ts) =
+    AllByRecursion-append (IsValueOf ns) (value_at ns s t) (flat_map (value_at ns s) ts) (by_node ns t (slice_get ns t) (truth_of s t) refl) (constant_values ns s ts)
 
-each_true : (ns : List Node) (a : Assignment) (ts : List ℕ) → AllByRecursion (λ (l : Lit). value_of a (term_in ns l.term) ≡ truth l.sign) (map yes ts)
-    → AllByRecursion (IsTrueUnder a) (map (term_in ns) ts)
-each_true ns a [] h = tt
-each_true ns a (t ∷ ts) h = (ap is_true h.0, each_true ns a ts h.1)
+-- ---- What is listed
 
-pub model_by : (ns : List Node) (ps : List (ℕ × Value)) (ts : List ℕ) (ls : List Lit) → AreConstantValues ns ps → ls ≡ map yes ts → HoldBy ns ps ls
-    → AreModelValues ns (map (term_in ns) ts) [] ps
-model_by ns ps ts ls values e h =
-    let a = assignment_by ns ps in
-    let each = recursion_from_All (λ (l : Lit). value_of a (term_in ns l.term) ≡ truth l.sign) (map yes ts) (subst (HoldBy ns ps) e h) in
-    record { values = values; makes = record { sorts = is_assignment ns ps values; asserted_hold = each_true ns a ts each; assumed_hold = tt } }
+skip_test : (t u : ℕ) (v : Value) (ps : List (ℕ × Value)) (test : Bool) → (u == t) ≡ false → listed_value ((if test then (u, v) ∷ [] else []) ++ ps) t ≡ listed_value ps t
+skip_test t u v ps true e = ap (λ b. if b then Some v else listed_value ps t) e
+skip_test t u v ps false e = refl
 
-itself : (s : Bool) → are_same_sign s s ≡ true
-itself true = refl
-itself false = refl
+skipped : (t u : ℕ) (h : Option Head) (o : Option Bool) (ps : List (ℕ × Value)) → (u == t) ≡ false → listed_value (value_as u h o ++ ps) t ≡ listed_value ps t
+skipped t u (Some (constant c)) (Some b) ps e = skip_test t u (truth b) ps (is_bool c.sort) e
+skipped t u h o ps e = refl
 
-signs_true : (ns : List Node) (a : Assignment) (ls : List Lit) → AllByRecursion (λ (l : Lit). value_of a (term_in ns l.term) ≡ truth l.sign) ls → AreTrueLiterals a (map (literal_of ns) ls)
-signs_true ns a [] h = tt
-signs_true ns a (l ∷ ls) h = (ap (λ v. are_same_sign l.sign (is_true v)) h.0 ∙ itself l.sign, signs_true ns a ls h.1)
+listed_at : (ns : List Node) (s : SatState) (t : ℕ) (b : Bool) → value_at ns s t ≡ (t, truth b) ∷ [] → (ts : List ℕ) → Contains ts t
+    → listed_value (flat_map (value_at ns s) ts) t ≡ Some (truth b)
+listed_at ns s t b own [] has = let below : has.0 < 0 = has.1 in absurd (omega (arith, below))
+listed_at ns s t b own (u ∷ us) has =
+    let rest = flat_map (value_at ns s) us in
+    elim (eqb_tells u t) [
+      | inl same ↦
+      ap (λ k. listed_value (value_at ns s k ++ rest) t) same.1 ∙ ap (λ ps. listed_value (ps ++ rest) t) own ∙ ap (λ x. if x then Some (truth b) else listed_value rest t) (eq-eqb t t refl)
+      | inr other ↦
+      skipped t u (option_map (λ (m : Node). m.head) (slice_get ns u)) (truth_of s u) rest other.0 ∙ listed_at ns s t b own us (Contains-tail u us t other.1 has)
+    ]
 
-pub literals_by : (ns : List Node) (ps : List (ℕ × Value)) (ls : List Lit) → HoldBy ns ps ls → AreTrueLiterals (assignment_by ns ps) (map (literal_of ns) ls)
-literals_by ns ps ls h =
-    let a = assignment_by ns ps in
-    signs_true ns a ls (recursion_from_All (λ (l : Lit). value_of a (term_in ns l.term) ≡ truth l.sign) ls h)
-
--- ---- One value more
-
-headed : (h : Head) (o : Option Node) → option_map (λ (n : Node). n.head) o ≡ Some h → (kids : List ℕ) × (o ≡ Some (record { head = h; kids = kids }))
-headed h None e = absurd cc
-headed h (Some n) e =
-    let same : n.head ≡ h = cc in
-    (n.kids, ap (λ x. let m : Node = record { head = x; kids = n.kids } in Some m) same)
-
-pub one_value : (ns : List Node) (t : ℕ) (k : Constant) (b : Bool) (old new : List (ℕ × Value)) → option_map (λ (n : Node). n.head) (slice_get ns t) ≡ Some (constant k)
-    → k.sort ≡ bool_sort → new ≡ old ++ (t, truth b) ∷ [] → AreConstantValues ns old → AreConstantValues ns new
-one_value ns t k b old new head sort more h =
-    let node = headed (constant k) (slice_get ns t) head in
-    subst (AreConstantValues ns) (sym more)
-    (AllByRecursion-append (IsValueOf ns) old ((t, truth b) ∷ []) h
-    (record { of = k; kids = node.0; node = node.1; sort = subst (λ s. IsOfSort s (truth b)) (sym sort) tt; fits = tt }, tt))
-
--- what holds where a test is true
-pub when_true : {P : Type 0} (b : Bool) → b ≡ true → OnTrue b P → P
-when_true true e h = h
-when_true false e h = absurd (true≢false (sym e))
+-- a constant of sort Bool with a truth is listed with it
+pub listed_truth : (ns : List Node) (s : SatState) (ts : List ℕ) (t : ℕ) (c : Constant) (b : Bool) → Contains ts t → option_map (λ (n : Node). n.head) (slice_get ns t) ≡ Some (constant c)
+    → is_bool c.sort ≡ true → truth_of s t ≡ Some b → listed_value (flat_map (value_at ns s) ts) t ≡ Some (truth b)
+listed_truth ns s ts t c b has head bool found =
+    let own : value_at ns s t ≡ (t, truth b) ∷ [] =
+    ap (λ h. value_as t h (truth_of s t)) head ∙ ap (λ o. value_as t (Some (constant c)) o) found ∙ ap (λ x. if x then (t, truth b) ∷ [] else []) bool in
+    listed_at ns s t b own ts has

@@ -33,8 +33,12 @@ first_numberless seen [] list h f = subst (AllByRecursion HasNoNumber) (sym h) t
 first_numberless seen (t ∷ ts) list (inl h) f = first_numberless seen ts list h.1 f.1
 first_numberless seen (t ∷ ts) list (inr h) f = subst (AllByRecursion HasNoNumber) (sym h.2) (f.0, first_numberless (t ∷ seen) ts h.1 h.3 f.1)
 
+-- the terms of these numbers hold none
+abbrev pub ArePlain : List Node → List ℕ → Type 0
+ArePlain ns ts = All (λ t. holds_number (term_in ns t) ≡ false) ts
+
 pub order_numberless : (ns : List Node) (roots ids : List ℕ) → AreFirst [] (flat_map post_order (map (term_in ns) roots)) (map (term_in ns) ids)
-    → All (λ i. holds_number (term_in ns i) ≡ false) roots → All (λ i. holds_number (term_in ns i) ≡ false) ids
+    → ArePlain ns roots → ArePlain ns ids
 order_numberless ns roots ids first h =
     let terms : AllByRecursion HasNoNumber (map (term_in ns) roots) = recursion_from_All HasNoNumber (map (term_in ns) roots) (All-map HasNoNumber (term_in ns) roots h) in
     let all = first_numberless [] (flat_map post_order (map (term_in ns) roots)) (map (term_in ns) ids) first (roots_numberless (map (term_in ns) roots) terms) in
@@ -46,7 +50,7 @@ turned : (b : Bool) → not b ≡ false → b ≡ true
 turned true e = refl
 turned false e = absurd (true≢false e)
 
-plain_head : (h : Head) → is_numeric h ≡ false → is_bool (head_sort h) ≡ true
+pub plain_head : (h : Head) → is_numeric h ≡ false → is_bool (head_sort h) ≡ true
 plain_head is_int e = absurd (true≢false e)
 plain_head h e = turned (is_bool (head_sort h)) e
 

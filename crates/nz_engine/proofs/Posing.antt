@@ -9,11 +9,12 @@ use Rattle.nz_spec.specs.Term.{falsum, holds_number}
 use Rattle.nz_spec.specs.Table.{Node, term_in}
 use Rattle.nz_spec.specs.Order.{post_order, AreFirst, ComeBehindArguments}
 use Rattle.nz_spec.specs.Decide.{asserted_numbers}
+use Rattle.nz_spec.specs.Gates.{IsGated, GatedTermsArePlain}
 use Rattle.nz_log.specs.declared.lits.Lit.{Lit}
 use Rattle.nz_log.specs.Sound.{live_at}
 use Rattle.nz_engine.specs.Clausal.{IsAtomic}
-use Rattle.nz_engine.specs.Posed.{AreAtomsOf, ArePlain, terms_named}
-use Rattle.nz_engine.proofs.Orders.{order_numberless}
+use Rattle.nz_engine.specs.Posed.{AreAtomsOf, terms_named}
+use Rattle.nz_engine.proofs.Orders.{ArePlain, order_numberless}
 
 contains_in_front : (n : ℕ) (xs : List ℕ) (x : ℕ) → Contains (take n xs) x → Contains xs x
 contains_in_front n xs x c = subst (λ l. Contains l x) (take-append-drop n xs) (Contains-append_left (take n xs) (drop n xs) x c)
@@ -50,15 +51,22 @@ all_named P ls h = All-from_recursion (λ (l : Lit). P l.term) ls (AllByRecursio
 
 -- ---- Roots
 
-pub plain_roots : (ns : List Node) (asserted : List ℕ) (assumed : List Lit) → ArePlain ns asserted → All (λ (l : Lit). holds_number (term_in ns l.term) ≡ false) assumed
-    → ArePlain ns (asserted ++ terms_named assumed)
-plain_roots ns asserted assumed h k =
-    All-append (λ t. holds_number (term_in ns t) ≡ false) asserted (terms_named assumed) h (All-map (λ t. holds_number (term_in ns t) ≡ false) (λ (l : Lit). l.term) assumed k)
+-- the terms of these numbers are of the gate table
+abbrev pub AreGatedAt : List Node → List ℕ → Type 0
+AreGatedAt ns ts = All (λ t. IsGated (term_in ns t)) ts
 
--- what plain terms are made of is plain
-pub plain_atoms : (ns : List Node) (asserted : List ℕ) (assumed : List Lit) (atoms : List ℕ) → ArePlain ns asserted → All (λ (l : Lit). holds_number (term_in ns l.term) ≡ false) assumed
-    → AreAtomsOf ns (asserted ++ terms_named assumed) atoms → ArePlain ns atoms
-plain_atoms ns asserted assumed atoms h k are = order_numberless ns (asserted ++ terms_named assumed) atoms are.first (plain_roots ns asserted assumed h k)
+pub gated_roots : (ns : List Node) (asserted : List ℕ) (assumed : List Lit) → AreGatedAt ns asserted → All (λ (l : Lit). IsGated (term_in ns l.term)) assumed
+    → AreGatedAt ns (asserted ++ terms_named assumed)
+gated_roots ns asserted assumed h k =
+    All-append (λ t. IsGated (term_in ns t)) asserted (terms_named assumed) h (All-map (λ t. IsGated (term_in ns t)) (λ (l : Lit). l.term) assumed k)
+
+-- so they hold no number
+pub plain_roots : GatedTermsArePlain → (ns : List Node) (roots : List ℕ) → AreGatedAt ns roots → ArePlain ns roots
+plain_roots plain ns roots h = All-weaker (λ t. IsGated (term_in ns t)) (λ t. holds_number (term_in ns t) ≡ false) (λ t. plain (term_in ns t)) roots h
+
+-- nor does what they are made of
+pub plain_atoms : GatedTermsArePlain → (ns : List Node) (roots atoms : List ℕ) → AreGatedAt ns roots → AreAtomsOf ns roots atoms → ArePlain ns atoms
+plain_atoms plain ns roots atoms h are = order_numberless ns roots atoms are.first (plain_roots plain ns roots h)
 
 -- all is live above the last level
 pub all_live : (levels : List (List ℕ)) → live_at levels (length levels) ≡ asserted_numbers levels

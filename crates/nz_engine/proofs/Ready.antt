@@ -1,7 +1,6 @@
 -- A problem whose atoms are noted, so that its search may begin.
-use Rattle.std.proofs.Common.{◌≡◌, ℕ, ◌<◌, List, [], ◌++◌, length, map, refl, sym, ap, ◌∙◌, subst}
+use Rattle.std.proofs.Common.{◌≡◌, ℕ, ◌<◌, List, [], ◌++◌, length, refl, sym, ap, ◌∙◌, subst}
 use Rattle.std.specs.Prelude.{All, Contains}
-use Rattle.std.proofs.lemmas.List.Elements.{All-map, recursion_from_All}
 use Rattle.nz_spec.specs.Table.{Node, IsTable}
 use Rattle.nz_spec.specs.Decide.{asserted_numbers}
 use Rattle.nz_spec.specs.Literal.{StandOnce}
@@ -9,14 +8,13 @@ use Rattle.nz_spec.specs.Legal.{LegalWorkDoesNotRepeat}
 use Rattle.nz_spec.specs.Work.{WorkList, unit_count}
 use Rattle.nz_log.specs.declared.lits.Lit.{Lit}
 use Rattle.nz_log.specs.declared.note.Note.{Note}
-use Rattle.nz_log.specs.Lits.{yes}
-use Rattle.nz_log.specs.Sound.{AreWithin}
 use Rattle.nz_log.specs.Verdicts.{task_in}
 use Rattle.nz_sat.specs.Numbers.{noted_atoms}
 use Rattle.nz_sat.specs.Sats.{IsAsked, IsLegalWork}
 use Rattle.nz_engine.specs.Clausal.{ClausesState, AreIn}
-use Rattle.nz_engine.specs.Posed.{AreAtomsOf, ArePlain, NotesFirst, Works, terms_named, with_atoms}
+use Rattle.nz_engine.specs.Posed.{AreAtomsOf, NotesFirst, Works, terms_named, with_atoms}
 use Rattle.nz_engine.proofs.Naming.{atoms_noted, lines_noted, nameable, no_units, noted_once, notes_of, works_first, works_solved}
+use Rattle.nz_engine.proofs.Orders.{ArePlain}
 use Rattle.nz_engine.proofs.Posing.{all_named, all_of_others}
 
 module _ (ns : List Node) (levels : List (List ℕ)) (assumed : List Lit) where
@@ -74,8 +72,3 @@ module _ (ns : List Node) (levels : List (List ℕ)) (assumed : List Lit) where
     pub solved : (new : WorkList Note) → (IsLegalWork ns (task_in ns levels assumed) mid → IsLegalWork ns (task_in ns levels assumed) new)
         → noted_atoms new.lines ≡ noted_atoms mid.lines → new.limit ≡ mid.limit → Works ns (task_in ns levels assumed) old new
     solved new legal notes limit = works_solved (task_in ns levels assumed) ns atoms old mid new r.works r.lines r.are.within legal notes limit
-
--- the literals that terms of the table are true are of the table
-pub within_yes : (ns : List Node) (ids given : List ℕ) → given ≡ ids → All (λ t. t < length ns) ids → AreWithin ns (map yes given)
-within_yes ns ids given same h =
-    subst (λ ts. AreWithin ns (map yes ts)) (sym same) (recursion_from_All (λ (l : Lit). l.term < length ns) (map yes ids) (All-map (λ (l : Lit). l.term < length ns) yes ids h))

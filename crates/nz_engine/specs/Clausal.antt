@@ -1,11 +1,13 @@
 -- Clauses in a log, each held by a search.
-use Rattle.std.specs.Prelude.{ℕ, List, [], All, Contains, Some, None, slice_get}
+use Rattle.std.specs.Prelude.{◌≡◌, ℕ, List, [], ◌∷◌, All, Contains, Some, None, slice_get}
 use Rattle.nz_spec.specs.Table.{Node}
+use Rattle.nz_spec.specs.Literal.{once}
 use Rattle.nz_log.specs.declared.lits.Lit.{Lit}
-use Rattle.nz_log.specs.Logs.{LogState, empty_log, literals_at}
+use Rattle.nz_log.specs.Lits.{yes, are_same_lit}
+use Rattle.nz_log.specs.Logs.{LogState, IsLive, empty_log, literals_at}
 use Rattle.nz_log.specs.Sound.{IsLog}
 use Rattle.nz_sat.specs.declared.clauses.Held.{Held}
-use Rattle.nz_sat.specs.Sats.{SatState, AreHeld}
+use Rattle.nz_sat.specs.Sats.{SatState, AreHeld, IsTrueClause, IsTrueLit}
 
 pub record ClausesState : Type 0 where
   pub log : LogState
@@ -32,3 +34,26 @@ pub record AreIn (ns : List Node) (levels : List (List ℕ)) (atoms : List ℕ) 
   pub order : IsLog ns levels c.log
   pub held : AreHeld c.log c.sat.clauses
   pub named : All (λ (h : Held). NamesAtoms atoms c.log h.id) c.sat.clauses
+
+-- ---- What is held
+
+-- The search holds the clause of these literals.
+pub record HasClause (c : ClausesState) (ls : List Lit) : Type 0 where
+  pub held : Held
+  pub there : Contains c.sat.clauses held
+  pub live : IsLive c.log held.id
+  pub literals : literals_at c.log held.id ≡ once are_same_lit ls
+
+-- It holds the clauses that it held, and these.
+pub record HoldsAlso (old new : ClausesState) (more : List (List Lit)) : Type 0 where
+  pub kept : (ls : List Lit) → HasClause old ls → HasClause new ls
+  pub added : All (HasClause new) more
+
+-- the clause that a term is true
+abbrev pub unit_of : ℕ → List Lit
+unit_of t = yes t ∷ []
+
+-- Each clause that was held has a true literal, and each assumed literal is true.
+pub record Satisfies (s : SatState) (c : ClausesState) (assumed : List Lit) : Type 0 where
+  pub clauses : (ls : List Lit) → HasClause c ls → IsTrueClause s ls
+  pub assumed_hold : All (IsTrueLit s) assumed

@@ -1,26 +1,24 @@
 -- A problem: what is asserted and assumed, and what it is made of.
-use Rattle.std.specs.Prelude.{◌≡◌, ℕ, ◌<◌, ◌++◌, false, List, [], length, All, Contains, flat_map, map, take, slice_index_or}
-use Rattle.std.specs.List.{AllByRecursion}
-use Rattle.nz_spec.specs.Term.{Value, truth, value_of, holds_number}
+use Rattle.std.specs.Prelude.{◌≡◌, ℕ, ◌<◌, ◌++◌, Bool, List, [], ◌∷◌, length, All, Contains, Option, Some, flat_map, if◌then◌else◌, map, option_map, slice_get, take}
+use Rattle.nz_spec.specs.Term.{Head, constant, Value, is_bool, truth}
 use Rattle.nz_spec.specs.Table.{Node, term_in, assignment_by}
 use Rattle.nz_spec.specs.Order.{post_order, AreFirst}
-use Rattle.nz_spec.specs.Decide.{asserted_terms, IsValueOf, AreModelValues}
+use Rattle.nz_spec.specs.Decide.{asserted_terms, AreModelValues}
+use Rattle.nz_spec.specs.Gates.{IsGated}
 use Rattle.nz_spec.specs.Literal.{AreTrueLiterals}
 use Rattle.nz_spec.specs.Legal.{Task, at_first, IsDeadEnd, AreLegal}
 use Rattle.nz_spec.specs.Work.{NoteLine, WorkList}
 use Rattle.nz_log.specs.declared.decide.Verdict.{Verdict}
 use Rattle.nz_log.specs.declared.decide.Verdict.TheVariants.{Sat, Unsat}
 use Rattle.nz_log.specs.declared.lits.Lit.{Lit}
-use Rattle.nz_log.specs.Lits.{literal_of, AreNegations}
+use Rattle.nz_log.specs.Lits.{literal_of, gates_at, AreNegations}
 use Rattle.nz_log.specs.Logs.{LogState}
 use Rattle.nz_log.specs.Verdicts.{task_in}
 use Rattle.nz_log.specs.declared.note.Note.{Note}
 use Rattle.nz_log.specs.declared.note.Note.TheVariants.{Atom}
 use Rattle.nz_log.specs.Notes.{noted_list, AreNotedWithin}
-use Rattle.nz_term.specs.declared.assign.Value.TheVariants as value
-use Rattle.nz_truth.specs.declared.walk.Outcome.{Outcome}
-use Rattle.nz_truth.specs.declared.walk.Outcome.TheVariants as outcome
-use Rattle.nz_engine.specs.Clausal.{IsAtomic}
+use Rattle.nz_sat.specs.Sats.{SatState, IsTrueClause, IsTrueLit, truth_of}
+use Rattle.nz_engine.specs.Clausal.{IsAtomic, unit_of}
 use Rattle.nz_engine.specs.Engines.{literals_in}
 
 -- the terms that the literals name
@@ -34,23 +32,26 @@ pub record AreAtomsOf (ns : List Node) (roots atoms : List ℕ) : Type 0 where
   pub atomic : All (IsAtomic ns atoms) atoms
   pub roots_in : All (Contains atoms) roots
 
--- the terms hold no number
-abbrev pub ArePlain : List Node → List ℕ → Type 0
-ArePlain ns ts = All (λ t. holds_number (term_in ns t) ≡ false) ts
-
 -- ---- Truths
 
--- the terms came to the truths that the literals tell, one for one
-abbrev pub Agree : List Lit → List Outcome → Type 0
-Agree ls os = (k : ℕ) (l : Lit) (o : Outcome) → k < length ls → slice_index_or os k o ≡ outcome.Value (value.Truth (slice_index_or ls k l).sign)
+-- the clauses of the atoms, and that each assertion is true
+abbrev pub clauses_of : List Node → List ℕ → List ℕ → List (List Lit)
+clauses_of ns asserted atoms = flat_map (gates_at ns) atoms ++ map unit_of asserted
 
--- each literal is true, where constants have the values that are listed with their numbers
-abbrev pub HoldBy : List Node → List (ℕ × Value) → List Lit → Type 0
-HoldBy ns ps ls = All (λ (l : Lit). value_of (assignment_by ns ps) (term_in ns l.term) ≡ truth l.sign) ls
+-- What is asserted and assumed is of the gate table, and under the truths of its atoms each clause and each assumed literal is true.
+pub record IsFound (ns : List Node) (asserted : List ℕ) (assumed : List Lit) (atoms : List ℕ) (s : SatState) : Type 0 where
+  pub are : AreAtomsOf ns (asserted ++ terms_named assumed) atoms
+  pub gated : All (λ t. IsGated (term_in ns t)) (asserted ++ terms_named assumed)
+  pub clauses : All (IsTrueClause s) (clauses_of ns asserted atoms)
+  pub assumed_hold : All (IsTrueLit s) assumed
 
--- each number is that of a constant, with a value of its sort
-abbrev pub AreConstantValues : List Node → List (ℕ × Value) → Type 0
-AreConstantValues ns ps = AllByRecursion (IsValueOf ns) ps
+-- a term with its truth, where it is a constant of sort Bool that has one
+abbrev pub value_as : ℕ → Option Head → Option Bool → List (ℕ × Value)
+value_as t (Some (constant c)) (Some b) = if is_bool c.sort then (t, truth b) ∷ [] else []
+value_as t h o = []
+
+abbrev pub value_at : List Node → SatState → ℕ → List (ℕ × Value)
+value_at ns s t = value_as t (option_map (λ (n : Node). n.head) (slice_get ns t)) (truth_of s t)
 
 -- ---- Work
 

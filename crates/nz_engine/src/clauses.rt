@@ -1,17 +1,17 @@
 //! The clauses of a problem, in a log, each held by a search.
-ghost use Rattle.std.specs.Prelude.{◌≡◌, ℕ, ◌<◌, false, List, All, Contains, Some, length, slice_get, IfErr, IfOk, IfSome, OnOk};
+ghost use Rattle.std.specs.Prelude.{◌≡◌, ℕ, ◌<◌, [], ◌∷◌, false, List, All, Contains, None, Some, flat_map, length, map, slice_get, unwrap_or, IfErr, IfOk, IfSome, OnOk};
 ghost use Rattle.nz_spec.specs.Gates.{HasBooleanArguments};
 ghost use Rattle.nz_spec.specs.Legal.{Task};
 ghost use Rattle.nz_spec.specs.Literal.{StandOnce};
 ghost use Rattle.nz_spec.specs.Table.{Node, term_in};
 ghost use Rattle.nz_spec.specs.Term.{holds_number};
 ghost use Rattle.nz_spec.specs.Work.{IsSpent, unit_count};
-ghost use Rattle.nz_log.specs.Lits.{AreConsistent, AreNegations, gates_at, yes};
+ghost use Rattle.nz_log.specs.Lits.{AreConsistent, AreNegations, gates_at};
 ghost use Rattle.nz_log.specs.Sound.{IsLog, live_at};
 ghost use Rattle.nz_log.specs.Verdicts.{OnSpent};
 ghost use Rattle.nz_sat.specs.Numbers.{noted_atoms};
-ghost use Rattle.nz_sat.specs.Sats.{IsAsked, IsLegalWork, literal_truth};
-ghost use Rattle.nz_engine.specs.Clausal.{AreIn, IsAtomic, no_clauses};
+ghost use Rattle.nz_sat.specs.Sats.{IsAsked, IsLegalWork, truth_of};
+ghost use Rattle.nz_engine.specs.Clausal.{AreIn, HoldsAlso, IsAtomic, Satisfies, no_clauses, unit_of};
 ghost use Rattle.nz_engine.specs.Engines.{literals_in};
 
 use nz_base::{Memory, Work};
@@ -57,6 +57,7 @@ impl Clauses {
         requires within { term < length terms.now }
         requires table { j < length (gates_at terms.now term) }
         ensures added { OnOk result ((levels : List (List ℕ)) (atoms : List ℕ) → HasBooleanArguments (term_in terms.now term) → IsAtomic terms.now atoms term → AreIn terms.now levels atoms self.old → AreIn terms.now levels atoms self.new) }
+        ensures held { OnOk result (HoldsAlso self.old self.new (unwrap_or (slice_get (gates_at terms.now term) j) [] ∷ [])) }
     {
         let clause = self.log.gate(terms, term, j)?;
         self.sat.add(&self.log, clause)?;
@@ -71,6 +72,7 @@ impl Clauses {
     fn add_gates(&mut self, terms: &Terms, term: TermId) -> Result<(), Memory>
         requires within { term < length terms.now }
         ensures added { OnOk result ((levels : List (List ℕ)) (atoms : List ℕ) → HasBooleanArguments (term_in terms.now term) → IsAtomic terms.now atoms term → AreIn terms.now levels atoms self.old → AreIn terms.now levels atoms self.new) }
+        ensures held { OnOk result (HoldsAlso self.old self.new (gates_at terms.now term)) }
     {
         for j in 0..gate_count(terms, term) {
             self.add_gate(terms, term, j)?;
@@ -86,6 +88,7 @@ impl Clauses {
     pub fn add_all_gates(&mut self, terms: &Terms, atoms: &[TermId]) -> Result<(), Memory>
         requires within { All (λ t. t < length terms.now) atoms.now }
         ensures added { OnOk result ((levels : List (List ℕ)) → All (λ t. holds_number (term_in terms.now t) ≡ false) atoms.now → All (IsAtomic terms.now atoms.now) atoms.now → AreIn terms.now levels atoms.now self.old → AreIn terms.now levels atoms.now self.new) }
+        ensures held { OnOk result (HoldsAlso self.old self.new (flat_map (gates_at terms.now) atoms.now)) }
     {
         gates_are_true();
         for term in atoms {
@@ -101,6 +104,7 @@ impl Clauses {
     /// `Memory`.
     fn add_assertion(&mut self, place: usize, term: TermId, level: usize) -> Result<(), Memory>
         ensures added { OnOk result ((ns : List Node) (levels : List (List ℕ)) (atoms : List ℕ) → term < length ns → slice_get (live_at levels level) place ≡ Some term → Contains atoms term → AreIn ns levels atoms self.old → AreIn ns levels atoms self.new) }
+        ensures held { OnOk result (HoldsAlso self.old self.new (unit_of term ∷ [])) }
     {
         let clause = self.log.given(place, term, level)?;
         self.sat.add(&self.log, clause)?;
@@ -114,6 +118,7 @@ impl Clauses {
     /// `Memory`.
     pub fn add_assertions(&mut self, asserted: &[TermId], level: usize) -> Result<(), Memory>
         ensures added { OnOk result ((ns : List Node) (levels : List (List ℕ)) (atoms : List ℕ) → All (λ t. t < length ns) asserted.now → live_at levels level ≡ asserted.now → All (Contains atoms) asserted.now → AreIn ns levels atoms self.old → AreIn ns levels atoms self.new) }
+        ensures held { OnOk result (HoldsAlso self.old self.new (map unit_of asserted.now)) }
     {
         for (place, term) in asserted.iter().enumerate() {
             self.add_assertion(place, *term, level)?;
@@ -137,6 +142,7 @@ impl Clauses {
         requires once { StandOnce (noted_atoms work.old.lines) }
         requires consistent { AreConsistent assumed.now }
         requires notes { unit_count work.old.lines ≡ 0 }
+        ensures satisfied { IfOk result (λ r. r ≡ None → Satisfies self.new.sat self.old assumed.now) }
         ensures refuted { IfOk result (λ r. IfSome r (λ id. AreNegations assumed.now (literals_in self.new.log id))) }
         ensures order { (ns : List Node) (levels : List (List ℕ)) → All (λ t. t < length ns) (noted_atoms work.old.lines) → IsLog ns levels self.old.log → IsLog ns levels self.new.log }
         ensures legal { (ns : List Node) (levels : List (List ℕ)) (q : Task) → IsAsked ns levels self.old.log (noted_atoms work.old.lines) assumed.now q → IsLegalWork ns q work.old → IsLegalWork ns q work.new }
@@ -149,7 +155,7 @@ impl Clauses {
 
     /// Whether the term of this number is true after the last search, where it has a truth.
     pub fn truth(&self, term: TermId) -> Option<bool>
-        ensures truth { result ≡ literal_truth self.now.sat (yes term) }
+        ensures truth { result ≡ truth_of self.now.sat term }
     {
         self.sat.truth(Lit::holds(term))
     }

@@ -88,7 +88,7 @@ impl Decide for Engine {
         derivations_grow();
         match &self.log {
             Some(log) => log.steps(id),
-            None => Err(Memory),
+            None => unreachable!(),
         }
     }
 }

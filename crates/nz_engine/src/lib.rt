@@ -5,6 +5,5 @@ mod clauses;
 mod engine;
 mod levels;
 mod problem;
-mod values;
 
 pub use engine::Engine;

@@ -1,23 +1,25 @@
 //! A problem: what is asserted and assumed, its clauses, and the search over them.
-ghost use Rattle.std.specs.Prelude.{◌≡◌, ◌<◌, ◌++◌, [], All, length, map, false, IfOk, IfErr, OnOk};
-ghost use Rattle.nz_spec.specs.Term.{holds_number};
+ghost use Rattle.std.specs.Prelude.{◌≡◌, ◌<◌, ◌++◌, [], All, List, flat_map, length, map, IfOk, IfErr, OnOk};
+ghost use Rattle.nz_spec.specs.Gates.{IsGated};
 ghost use Rattle.nz_spec.specs.Table.{assignment_by, term_in};
 ghost use Rattle.nz_spec.specs.Literal.{AreTrueLiterals};
 ghost use Rattle.nz_spec.specs.Decide.{AreInTable, AreModelValues, asserted_numbers};
 ghost use Rattle.nz_spec.specs.Work.{IsSpent};
-ghost use Rattle.nz_log.specs.Lits.{AreConsistent, literal_of, yes};
+ghost use Rattle.nz_log.specs.declared.lits.Lit.{Lit};
+ghost use Rattle.nz_log.specs.Lits.{AreConsistent, literal_of};
 ghost use Rattle.nz_log.specs.Sound.{AreWithin};
 ghost use Rattle.nz_log.specs.Verdicts.{OnSpent, task_in};
-ghost use Rattle.nz_engine.specs.Clausal.{AreIn};
+ghost use Rattle.nz_engine.specs.Clausal.{AreIn, HasClause};
 ghost use Rattle.nz_engine.specs.Engines.{IsInOrder};
-ghost use Rattle.nz_engine.specs.Posed.{AreAtomsOf, AreConstantValues, ArePlain, IsAnswer, NotesFirst, Works, terms_named, with_atoms};
+ghost use Rattle.nz_engine.specs.Posed.{AreAtomsOf, IsAnswer, IsFound, NotesFirst, Works, clauses_of, terms_named, value_at, with_atoms};
 
 use crate::clauses::Clauses;
 use crate::levels::Levels;
-use crate::values::{are_true, terms_of};
 use nz_base::{Memory, Work};
-use nz_log::laws::{clauses_are_true, logs_stay};
+use nz_log::laws::{clauses_are_true, gates_are_named, logs_stay};
 use nz_log::{Lit, Log, Note, Stop, Verdict};
+use nz_spec::derivation::gates_decide;
+use nz_spec::table::{assigns_by_number, one_number, term_of_node};
 use nz_spec::work::legal_work_does_not_repeat;
 use nz_term::{Assign, Head, Sort, TermId, Terms, Value, known_table, post_order};
 use std::alloc::Global;
@@ -35,6 +37,13 @@ struct Problem {
 pub struct Found {
     pub verdict: Verdict,
     pub log: Log,
+}
+
+/// The terms that these literals name.
+fn terms_of(alloc: Global, literals: &[Lit]) -> Result<Vec<TermId>, Memory>
+    ensures terms { IfOk result (λ ids. ids.items ≡ terms_named literals.now) }
+{
+    Ok(literals.iter().map(|literal| literal.term).collect(alloc)?)
 }
 
 /// The terms that these and the literals are made of, each behind its arguments.
@@ -59,14 +68,15 @@ fn atoms_of(
 fn pose(alloc: Global, levels: &Levels, terms: &Terms, assumed: &[Lit]) -> Result<Problem, Memory>
     requires known { AreInTable terms.now levels.now }
     requires within { AreWithin terms.now assumed.now }
-    requires truths { All (λ i. holds_number (term_in terms.now i) ≡ false) (asserted_numbers levels.now) }
-    requires assumed_truths { All (λ l. holds_number (term_in terms.now l.term) ≡ false) assumed.now }
+    requires gated { All (λ i. IsGated (term_in terms.now i)) (asserted_numbers levels.now) }
+    requires assumed_gated { All (λ l. IsGated (term_in terms.now l.term)) assumed.now }
     ensures asserted { IfOk result (λ p. p.asserted.items ≡ asserted_numbers levels.now) }
     ensures atoms { IfOk result (λ p. AreAtomsOf terms.now (asserted_numbers levels.now ++ terms_named assumed.now) p.atoms.items) }
-    ensures plain { IfOk result (λ p. ArePlain terms.now p.atoms.items) }
     ensures clauses { IfOk result (λ p. AreIn terms.now levels.now p.atoms.items p.clauses) }
+    ensures held { IfOk result (λ p. All (HasClause p.clauses) (clauses_of terms.now p.asserted.items p.atoms.items)) }
 {
     logs_stay();
+    gates_decide();
     let asserted = levels.all(alloc)?;
     let atoms = atoms_of(alloc, terms, &asserted, assumed)?;
     let mut clauses = Clauses::new(alloc)?;
@@ -90,13 +100,6 @@ fn note_atoms(atoms: &[TermId], work: &mut Work<Note>) -> Result<(), Memory>
     Ok(())
 }
 
-/// The literals that say that these terms are true.
-fn holding(alloc: Global, ids: &[TermId]) -> Result<Vec<Lit>, Memory>
-    ensures literals { IfOk result (λ ls. ls.items ≡ map yes ids.now) }
-{
-    Ok(ids.iter().map(|id| Lit::holds(*id)).collect(alloc)?)
-}
-
 /// Adds the truth of a term, where it is a constant of sort `Bool` that has one.
 fn add_value(
     clauses: &Clauses,
@@ -105,7 +108,7 @@ fn add_value(
     values: &mut Assign,
 ) -> Result<(), Memory>
     requires within { term < length terms.now }
-    ensures values { OnOk result (AreConstantValues terms.now values.old → AreConstantValues terms.now values.new) }
+    ensures values { OnOk result (values.new ≡ values.old ++ value_at terms.now clauses.now.sat term) }
 {
     if let Head::Constant(constant) = terms.head(term) {
         if let Sort::Bool = constant.sort {
@@ -125,7 +128,7 @@ fn values_of(
     atoms: &[TermId],
 ) -> Result<Assign, Memory>
     requires within { All (λ t. t < length terms.now) atoms.now }
-    ensures values { IfOk result (λ ps. AreConstantValues terms.now ps) }
+    ensures values { IfOk result (λ ps. ps ≡ flat_map (value_at terms.now clauses.now.sat) atoms.now) }
 {
     let mut values = Assign::new(alloc)?;
     for term in atoms {
@@ -134,29 +137,18 @@ fn values_of(
     Ok(values)
 }
 
-/// Values of constants under which what is asserted and the assumed literals are true, by the truths that the search found.
-///
-/// # Errors
-///
-/// `Memory`, also where these truths don't make them true: so it is over terms alone that the gate table doesn't tell.
-fn model(alloc: Global, terms: &Terms, problem: &Problem, assumed: &[Lit]) -> Result<Assign, Memory>
-    requires known { AreWithin terms.now (map yes problem.now.asserted.items) }
-    requires within { AreWithin terms.now assumed.now }
+/// Values of constants under which what is asserted and the assumed literals are true: the truths that the search found.
+fn model(alloc: Global, terms: &Terms, problem: &Problem) -> Result<Assign, Memory>
     requires atoms { All (λ t. t < length terms.now) problem.now.atoms.items }
-    ensures model { IfOk result (λ ps. AreModelValues terms.now (map (term_in terms.now) problem.now.asserted.items) [] ps) }
-    ensures assumed { IfOk result (λ ps. AreTrueLiterals (assignment_by terms.now ps) (map (literal_of terms.now) assumed.now)) }
+    ensures model { IfOk result (λ ps. (assumed : List Lit) → IsFound terms.now problem.now.asserted.items assumed problem.now.atoms.items problem.now.clauses.sat → AreModelValues terms.now (map (term_in terms.now) problem.now.asserted.items) [] ps × AreTrueLiterals (assignment_by terms.now ps) (map (literal_of terms.now) assumed)) }
 {
-    let values = values_of(alloc, &problem.clauses, terms, &problem.atoms)?;
-    let asserted = holding(alloc, &problem.asserted)?;
-    let holds = are_true(alloc, terms, &asserted, &values)?;
-    if !holds {
-        return Err(Memory);
-    }
-    let holds_assumed = are_true(alloc, terms, assumed, &values)?;
-    if !holds_assumed {
-        return Err(Memory);
-    }
-    Ok(values)
+    known_table(terms);
+    one_number();
+    term_of_node();
+    assigns_by_number();
+    gates_are_named();
+    gates_decide();
+    values_of(alloc, &problem.clauses, terms, &problem.atoms)
 }
 
 /// Decides whether what is asserted and the assumed literals can all be true.
@@ -174,8 +166,8 @@ pub fn decide(
     requires known { AreInTable terms.now levels.now }
     requires within { AreWithin terms.now assumed.now }
     requires no_steps { work.old.lines ≡ [] }
-    requires truths { All (λ i. holds_number (term_in terms.now i) ≡ false) (asserted_numbers levels.now) }
-    requires assumed_truths { All (λ l. holds_number (term_in terms.now l.term) ≡ false) assumed.now }
+    requires gated { All (λ i. IsGated (term_in terms.now i)) (asserted_numbers levels.now) }
+    requires assumed_gated { All (λ l. IsGated (term_in terms.now l.term)) assumed.now }
     requires consistent { AreConsistent assumed.now }
     ensures answer { IfOk result (λ f. IsAnswer terms.now levels.now assumed.now f.log f.verdict) }
     ensures order { IfOk result (λ f. IsInOrder terms.now levels.now f.log) }
@@ -184,6 +176,7 @@ pub fn decide(
 {
     known_table(terms);
     clauses_are_true();
+    gates_decide();
     legal_work_does_not_repeat();
     let mut problem = pose(alloc, levels, terms, assumed)?;
     note_atoms(&problem.atoms, work)?;
@@ -194,7 +187,7 @@ pub fn decide(
             log: into_log(problem),
         }),
         None => {
-            let values = model(alloc, terms, &problem, assumed)?;
+            let values = model(alloc, terms, &problem)?;
             Ok(Found {
                 verdict: Verdict::Sat(values),
                 log: into_log(problem),

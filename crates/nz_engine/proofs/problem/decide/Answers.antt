@@ -1,4 +1,5 @@
-use Rattle.std.proofs.Common.{ℕ, ◌++◌, List, [], map, refl, sym, subst}
+use Rattle.std.proofs.Common.{◌≡◌, ℕ, ◌++◌, List, [], map, refl, rules, sym, subst}
+use Rattle.std.proofs.lemmas.List.Elements.{All-weaker}
 use Rattle.nz_spec.specs.Table.{term_in}
 use Rattle.nz_spec.specs.Decide.{asserted_numbers, AreModelValues}
 use Rattle.nz_log.specs.Lits.{AreNegations}
@@ -6,10 +7,13 @@ use Rattle.nz_log.specs.Logs.{LogState}
 use Rattle.nz_log.specs.Sound.{IsLog}
 use Rattle.nz_log.specs.Verdicts.{task_in}
 use Rattle.nz_engine.specs.Engines.{IsInOrder, literals_in}
-use Rattle.nz_engine.specs.Posed.{ArePlain, terms_named}
+use Rattle.nz_sat.specs.Sats.{IsTrueClause}
+use Rattle.nz_engine.specs.Clausal.{HasClause, Satisfies}
+use Rattle.nz_engine.specs.Posed.{AreAtomsOf, IsFound, clauses_of, terms_named}
 use Rattle.nz_engine.proofs.Naming.{works_none}
-use Rattle.nz_engine.proofs.Posing.{plain_roots}
-use Rattle.nz_engine.proofs.Ready.{noting, ready, ready_asked, ready_assumed, ready_clauses, ready_once, ready_units, ready_within, solved, within_yes}
+use Rattle.nz_engine.proofs.Orders.{ArePlain}
+use Rattle.nz_engine.proofs.Posing.{AreGatedAt, gated_roots, plain_roots}
+use Rattle.nz_engine.proofs.Ready.{noting, ready, ready_asked, ready_assumed, ready_clauses, ready_once, ready_units, ready_within, solved}
 use Rattle.nz_engine.proofs.Refuting.{dead_end}
 use Rattle.nz_engine.proofs.problem.decide.Goals as goal
 
@@ -23,7 +27,8 @@ returns-in_err-note_atoms-clause-works c =
     let levels = c.args.levels.now in
     let assumed = c.args.assumed.now in
     let problem = c.in_ok-problem.problem in
-    let plain : ArePlain ns (asserted_numbers levels ++ terms_named assumed) = plain_roots ns (asserted_numbers levels) assumed c.requires.truths c.requires.assumed_truths in
+    let roots = asserted_numbers levels ++ terms_named assumed in
+    let plain : ArePlain ns roots = plain_roots c.gates_decide.ensures.plain ns roots (gated_roots ns (asserted_numbers levels) assumed c.requires.gated c.requires.assumed_gated) in
     let atoms : List ℕ = c.deref.result.now in
     noting ns levels assumed problem.atoms.items atoms c.args.work.now c.note_atoms.new.work c.deref.ensures.value plain c.in_ok-problem.ensures.atoms c.requires.no_steps c.note_atoms.ensures.first
 
@@ -33,7 +38,8 @@ solve-requires-clause-clauses c =
     let levels = c.args.levels.now in
     let assumed = c.args.assumed.now in
     let problem = c.in_ok-problem.problem in
-    let plain : ArePlain ns (asserted_numbers levels ++ terms_named assumed) = plain_roots ns (asserted_numbers levels) assumed c.requires.truths c.requires.assumed_truths in
+    let roots = asserted_numbers levels ++ terms_named assumed in
+    let plain : ArePlain ns roots = plain_roots c.gates_decide.ensures.plain ns roots (gated_roots ns (asserted_numbers levels) assumed c.requires.gated c.requires.assumed_gated) in
     let atoms : List ℕ = c.deref.result.now in
     let old = c.args.work.now in
     let mid = c.note_atoms.new.work in
@@ -47,7 +53,8 @@ solve-requires-clause-assumed c =
     let levels = c.args.levels.now in
     let assumed = c.args.assumed.now in
     let problem = c.in_ok-problem.problem in
-    let plain : ArePlain ns (asserted_numbers levels ++ terms_named assumed) = plain_roots ns (asserted_numbers levels) assumed c.requires.truths c.requires.assumed_truths in
+    let roots = asserted_numbers levels ++ terms_named assumed in
+    let plain : ArePlain ns roots = plain_roots c.gates_decide.ensures.plain ns roots (gated_roots ns (asserted_numbers levels) assumed c.requires.gated c.requires.assumed_gated) in
     let atoms : List ℕ = c.deref.result.now in
     let old = c.args.work.now in
     let mid = c.note_atoms.new.work in
@@ -61,7 +68,8 @@ solve-requires-clause-once c =
     let levels = c.args.levels.now in
     let assumed = c.args.assumed.now in
     let problem = c.in_ok-problem.problem in
-    let plain : ArePlain ns (asserted_numbers levels ++ terms_named assumed) = plain_roots ns (asserted_numbers levels) assumed c.requires.truths c.requires.assumed_truths in
+    let roots = asserted_numbers levels ++ terms_named assumed in
+    let plain : ArePlain ns roots = plain_roots c.gates_decide.ensures.plain ns roots (gated_roots ns (asserted_numbers levels) assumed c.requires.gated c.requires.assumed_gated) in
     let atoms : List ℕ = c.deref.result.now in
     let old = c.args.work.now in
     let mid = c.note_atoms.new.work in
@@ -75,7 +83,8 @@ solve-requires-clause-notes c =
     let levels = c.args.levels.now in
     let assumed = c.args.assumed.now in
     let problem = c.in_ok-problem.problem in
-    let plain : ArePlain ns (asserted_numbers levels ++ terms_named assumed) = plain_roots ns (asserted_numbers levels) assumed c.requires.truths c.requires.assumed_truths in
+    let roots = asserted_numbers levels ++ terms_named assumed in
+    let plain : ArePlain ns roots = plain_roots c.gates_decide.ensures.plain ns roots (gated_roots ns (asserted_numbers levels) assumed c.requires.gated c.requires.assumed_gated) in
     let atoms : List ℕ = c.deref.result.now in
     let old = c.args.work.now in
     let mid = c.note_atoms.new.work in
@@ -89,7 +98,8 @@ returns-in_err-refuted-clause-works c =
     let levels = c.args.levels.now in
     let assumed = c.args.assumed.now in
     let problem = c.in_ok-problem.problem in
-    let plain : ArePlain ns (asserted_numbers levels ++ terms_named assumed) = plain_roots ns (asserted_numbers levels) assumed c.requires.truths c.requires.assumed_truths in
+    let roots = asserted_numbers levels ++ terms_named assumed in
+    let plain : ArePlain ns roots = plain_roots c.gates_decide.ensures.plain ns roots (gated_roots ns (asserted_numbers levels) assumed c.requires.gated c.requires.assumed_gated) in
     let atoms : List ℕ = c.deref.result.now in
     let old = c.args.work.now in
     let mid = c.note_atoms.new.work in
@@ -105,7 +115,8 @@ returns-in_err-values-in-None-clause-works c =
     let levels = c.args.levels.now in
     let assumed = c.args.assumed.now in
     let problem = c.in_ok-problem.problem in
-    let plain : ArePlain ns (asserted_numbers levels ++ terms_named assumed) = plain_roots ns (asserted_numbers levels) assumed c.requires.truths c.requires.assumed_truths in
+    let roots = asserted_numbers levels ++ terms_named assumed in
+    let plain : ArePlain ns roots = plain_roots c.gates_decide.ensures.plain ns roots (gated_roots ns (asserted_numbers levels) assumed c.requires.gated c.requires.assumed_gated) in
     let atoms : List ℕ = c.deref.result.now in
     let old = c.args.work.now in
     let mid = c.note_atoms.new.work in
@@ -121,7 +132,8 @@ returns-in-Some-clause-works c =
     let levels = c.args.levels.now in
     let assumed = c.args.assumed.now in
     let problem = c.in_ok-problem.problem in
-    let plain : ArePlain ns (asserted_numbers levels ++ terms_named assumed) = plain_roots ns (asserted_numbers levels) assumed c.requires.truths c.requires.assumed_truths in
+    let roots = asserted_numbers levels ++ terms_named assumed in
+    let plain : ArePlain ns roots = plain_roots c.gates_decide.ensures.plain ns roots (gated_roots ns (asserted_numbers levels) assumed c.requires.gated c.requires.assumed_gated) in
     let atoms : List ℕ = c.deref.result.now in
     let old = c.args.work.now in
     let mid = c.note_atoms.new.work in
@@ -137,7 +149,8 @@ returns-in_ok-values-in-None-clause-works c =
     let levels = c.args.levels.now in
     let assumed = c.args.assumed.now in
     let problem = c.in_ok-problem.problem in
-    let plain : ArePlain ns (asserted_numbers levels ++ terms_named assumed) = plain_roots ns (asserted_numbers levels) assumed c.requires.truths c.requires.assumed_truths in
+    let roots = asserted_numbers levels ++ terms_named assumed in
+    let plain : ArePlain ns roots = plain_roots c.gates_decide.ensures.plain ns roots (gated_roots ns (asserted_numbers levels) assumed c.requires.gated c.requires.assumed_gated) in
     let atoms : List ℕ = c.deref.result.now in
     let old = c.args.work.now in
     let mid = c.note_atoms.new.work in
@@ -147,17 +160,14 @@ returns-in_ok-values-in-None-clause-works c =
     (c.solve.ensures.legal ns levels (task_in ns levels assumed) (ready_asked ns levels assumed atoms problem.clauses old mid r c.known_table.ensures.table))
     c.solve.ensures.notes c.solve.ensures.limit
 
-pub model-requires-clause-known : goal.model-requires-clause-known
-model-requires-clause-known c =
-    within_yes c.args.terms.now (asserted_numbers c.args.levels.now) c.in_ok-problem.problem.asserted.items c.in_ok-problem.ensures.asserted c.requires.known
-
 pub returns-in-Some-clause-order : goal.returns-in-Some-clause-order
 returns-in-Some-clause-order c =
     let ns = c.args.terms.now in
     let levels = c.args.levels.now in
     let assumed = c.args.assumed.now in
     let problem = c.in_ok-problem.problem in
-    let plain : ArePlain ns (asserted_numbers levels ++ terms_named assumed) = plain_roots ns (asserted_numbers levels) assumed c.requires.truths c.requires.assumed_truths in
+    let roots = asserted_numbers levels ++ terms_named assumed in
+    let plain : ArePlain ns roots = plain_roots c.gates_decide.ensures.plain ns roots (gated_roots ns (asserted_numbers levels) assumed c.requires.gated c.requires.assumed_gated) in
     let atoms : List ℕ = c.deref.result.now in
     let old = c.args.work.now in
     let mid = c.note_atoms.new.work in
@@ -172,7 +182,8 @@ returns-in_ok-values-in-None-clause-order c =
     let levels = c.args.levels.now in
     let assumed = c.args.assumed.now in
     let problem = c.in_ok-problem.problem in
-    let plain : ArePlain ns (asserted_numbers levels ++ terms_named assumed) = plain_roots ns (asserted_numbers levels) assumed c.requires.truths c.requires.assumed_truths in
+    let roots = asserted_numbers levels ++ terms_named assumed in
+    let plain : ArePlain ns roots = plain_roots c.gates_decide.ensures.plain ns roots (gated_roots ns (asserted_numbers levels) assumed c.requires.gated c.requires.assumed_gated) in
     let atoms : List ℕ = c.deref.result.now in
     let old = c.args.work.now in
     let mid = c.note_atoms.new.work in
@@ -187,7 +198,8 @@ returns-in-Some-clause-answer c =
     let levels = c.args.levels.now in
     let assumed = c.args.assumed.now in
     let problem = c.in_ok-problem.problem in
-    let plain : ArePlain ns (asserted_numbers levels ++ terms_named assumed) = plain_roots ns (asserted_numbers levels) assumed c.requires.truths c.requires.assumed_truths in
+    let roots = asserted_numbers levels ++ terms_named assumed in
+    let plain : ArePlain ns roots = plain_roots c.gates_decide.ensures.plain ns roots (gated_roots ns (asserted_numbers levels) assumed c.requires.gated c.requires.assumed_gated) in
     let atoms : List ℕ = c.deref.result.now in
     let old = c.args.work.now in
     let mid = c.note_atoms.new.work in
@@ -201,4 +213,16 @@ returns-in-Some-clause-answer c =
 pub returns-in_ok-values-in-None-clause-answer : goal.returns-in_ok-values-in-None-clause-answer
 returns-in_ok-values-in-None-clause-answer c =
     let ns = c.args.terms.now in
-    (subst (λ (ids : List ℕ). AreModelValues ns (map (term_in ns) ids) [] c.in_ok-values-in-None.values) c.in_ok-problem.ensures.asserted c.in_ok-values-in-None.ensures.model, c.in_ok-values-in-None.ensures.assumed)
+    let assumed = c.args.assumed.now in
+    let problem = c.in_ok-problem.problem in
+    let asserted : List ℕ = problem.asserted.items in
+    let same : asserted ≡ asserted_numbers c.args.levels.now = c.in_ok-problem.ensures.asserted in
+    let satisfied : Satisfies c.solve.new.self.sat problem.clauses assumed = search rules in
+    let found : IsFound ns asserted assumed problem.atoms.items c.solve.new.self.sat = record {
+      are = subst (λ ids. AreAtomsOf ns (ids ++ terms_named assumed) problem.atoms.items) (sym same) c.in_ok-problem.ensures.atoms;
+      gated = gated_roots ns asserted assumed (subst (AreGatedAt ns) (sym same) c.requires.gated) c.requires.assumed_gated;
+      clauses = All-weaker (HasClause problem.clauses) (IsTrueClause c.solve.new.self.sat) satisfied.clauses (clauses_of ns asserted problem.atoms.items) c.in_ok-problem.ensures.held;
+      assumed_hold = satisfied.assumed_hold;
+    } in
+    let answer = c.in_ok-values-in-None.ensures.model assumed found in
+    (subst (λ (ids : List ℕ). AreModelValues ns (map (term_in ns) ids) [] c.in_ok-values-in-None.values) same answer.0, answer.1)

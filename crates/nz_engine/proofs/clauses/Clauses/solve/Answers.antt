@@ -1,4 +1,4 @@
-use Rattle.std.proofs.Common.{sym, subst}
+use Rattle.std.proofs.Common.{◌≡◌, None, IfOk, sym, subst}
 use Rattle.std.specs.Prelude.{Contains}
 use Rattle.std.proofs.lemmas.List.Elements.{All-contains}
 use Rattle.nz_log.specs.declared.lits.Lit.{Lit}
@@ -6,7 +6,8 @@ use Rattle.nz_log.specs.Lits.{negated_lit}
 use Rattle.nz_log.specs.Sound.{IsLog}
 use Rattle.nz_sat.specs.Numbers.{noted_atoms}
 use Rattle.nz_sat.specs.Sats.{IsAsked}
-use Rattle.nz_engine.specs.Clausal.{ClausesState, AreIn}
+use Rattle.nz_engine.specs.Clausal.{ClausesState, AreIn, Satisfies}
+use Rattle.nz_engine.proofs.Adding.{satisfied_by}
 use Rattle.nz_engine.proofs.Refuting.{refuted_by}
 use Rattle.nz_engine.proofs.clauses.Clauses.solve.Goals as goal
 
@@ -29,3 +30,9 @@ returns-clause-order c = λ ns levels within order. c.solve.ensures.sound ns lev
 pub returns-clause-legal : goal.returns-clause-legal
 returns-clause-legal c = λ ns levels q asked legal.
     c.solve.ensures.legal ns levels q (subst (λ (s : ClausesState). IsAsked ns levels s.log (noted_atoms c.args.work.now.lines) c.args.assumed.now q) (sym c.self.view_is) asked) legal
+
+pub returns-clause-satisfied : goal.returns-clause-satisfied
+returns-clause-satisfied c =
+    let old : ClausesState = record { log = c.self.inside.log; sat = c.self.inside.sat } in
+    subst (λ (s : ClausesState). IfOk c.solve.result (λ o. o ≡ None → Satisfies c.solve.new.self s c.args.assumed.now)) c.self.view_is
+    (satisfied_by old c.solve.new.log c.solve.new.self c.args.assumed.now (noted_atoms c.args.work.now.lines) c.solve.result c.solve.ensures.grows c.solve.ensures.held c.solve.ensures.satisfied)
