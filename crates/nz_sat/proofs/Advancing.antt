@@ -1,17 +1,17 @@
 -- What the steps of a search keep, one after another.
-use Rattle.std.proofs.Common.{◌≡◌, ℕ, ◌<◌, List, [], ◌++◌, length, get_or, Option, Some, None, refl, sym, ap, subst, ◌∙◌, arith, append_assoc}
+use Rattle.std.proofs.Common.{ℕ, List, [], ◌++◌, get_or, Option, Some, None, refl, sym, ap, ◌∙◌, append_assoc}
 use Rattle.std.specs.Prelude.{All}
 use Rattle.std.proofs.lemmas.List.{append-nil}
 use Rattle.nz_spec.specs.Work.{WorkList}
 use Rattle.nz_log.specs.declared.lits.Lit.{Lit}
 use Rattle.nz_log.specs.declared.note.Note.{Note}
-use Rattle.nz_log.specs.Logs.{Entry, LogState, entry_at, level_at, literals_at}
+use Rattle.nz_log.specs.Logs.{Entry, LogState}
 use Rattle.nz_sat.specs.declared.clauses.Held.{Held}
 use Rattle.nz_sat.specs.declared.trail.Assigned.{Assigned}
 use Rattle.nz_sat.specs.Clauses.{IsAssumed}
 use Rattle.nz_sat.specs.Conflicts.{Grows}
-use Rattle.nz_sat.specs.Sats.{AreHeld, HoldsMore}
-use Rattle.nz_sat.specs.Searching.{Advances, StaysInOrder, StaysLegal}
+use Rattle.nz_sat.specs.Sats.{AreHeld}
+use Rattle.nz_sat.specs.Searching.{Advances, StaysInOrder}
 
 -- ---- Logs that grow
 

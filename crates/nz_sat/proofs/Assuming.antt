@@ -1,22 +1,22 @@
 -- An assumed literal by what is known of its term.
 use Rattle.std.proofs.Common.{◌≡◌, ◌≢◌, ℕ, zero, suc, ◌+◌, ◌<◌, ◌≤◌, Bool, true, false, not, if◌then◌else◌, List, [], ◌∷◌, ◌++◌, length, take, drop, get_or, Option, Some, None, ◌⊎◌, inl, inr, refl, sym, ap, subst, ◌∙◌, arith}
-use Rattle.std.specs.Prelude.{All, Contains, IfSome, IsSome, is_some, nat_lt, option_map, slice_get, sum_by}
+use Rattle.std.specs.Prelude.{All, Contains, IfSome, nat_lt, option_map, slice_get}
 use Rattle.std.proofs.lemmas.Bool.Decides.{Decides-ltb}
-use Rattle.std.proofs.lemmas.List.{take-append-drop, length_push}
+use Rattle.std.proofs.lemmas.List.{take-append-drop}
 use Rattle.std.proofs.lemmas.List.Elements.{All-contains, All-push}
 use Rattle.std.proofs.lemmas.List.Sums.{get_or-le-sum_by, sum_by_push}
 use Rattle.std.proofs.lemmas.Option.{IfSome_then, get_or_from_slice_get, slice_get_within}
 use Rattle.nz_log.specs.declared.lits.Lit.{Lit}
 use Rattle.nz_log.specs.Lits.{are_same_lit, negated_lit}
-use Rattle.nz_log.specs.Logs.{LogState, IsLive, literals_at}
+use Rattle.nz_log.specs.Logs.{LogState, literals_at}
 use Rattle.nz_sat.specs.declared.clauses.Held.{Held}
 use Rattle.nz_sat.specs.declared.search.Search.{Search}
 use Rattle.nz_sat.specs.declared.trail.Assigned.{Assigned}
-use Rattle.nz_sat.specs.Trails.{EachBehind, GoesOn, IsFalseOn, IsTrail, IsTrueOn, TrailState, assigned, depth, is_decision, truth_on, with_entry}
-use Rattle.nz_sat.specs.Clauses.{HasReasonOf, IsAssumed, IsDead, IsImplied, IsOpen, IsReason, IsReasonOf, Waits, ids_of}
+use Rattle.nz_sat.specs.Trails.{EachBehind, GoesOn, IsFalseOn, IsTrail, IsTrueOn, TrailState, assigned, depth, is_decision, with_entry}
+use Rattle.nz_sat.specs.Clauses.{HasReasonOf, IsAssumed, IsDead, IsImplied, IsOpen, IsReason, IsReasonOf, Waits}
 use Rattle.nz_sat.specs.Conflicts.{IsDeadUnder}
 use Rattle.nz_sat.specs.Searching.{AreOpen, Assumes, IsSearch, MayAssume, ids}
-use Rattle.nz_sat.proofs.Clausal.{either_sign, missing_free, open_grows, other_lit, same_lit, sign_again, truth_found, truth_missing}
+use Rattle.nz_sat.proofs.Clausal.{either_sign, open_grows, other_lit, same_lit, sign_again, truth_found}
 use Rattle.nz_sat.proofs.Keeping.{at_contains, goes_assumed, goes_search, goes_true, held_live}
 use Rattle.nz_sat.proofs.Visiting.{goes_depth}
 use Rattle.nz_sat.proofs.Trailing.{assigned_missing, assigned_one, assigned_place, each_push, order_put}

@@ -1,5 +1,5 @@
 -- Clauses under a trail that grows: what is true stays so, and what is open is open or still to be looked at.
-use Rattle.std.proofs.Common.{◌≡◌, ◌≢◌, ℕ, zero, suc, ◌+◌, ◌<◌, ◌≤◌, ◌==◌, ◌&&◌, Bool, true, false, not, List, [], ◌∷◌, ◌++◌, length, Option, Some, None, ◌⊎◌, inl, inr, refl, sym, ap, subst, ◌∙◌, arith, eqb-true}
+use Rattle.std.proofs.Common.{◌≡◌, ◌≢◌, ℕ, suc, ◌+◌, ◌≤◌, ◌==◌, ◌&&◌, Bool, true, false, not, List, [], ◌∷◌, ◌++◌, length, Some, None, ◌⊎◌, inl, inr, refl, sym, ap, subst, ◌∙◌, arith, eqb-true}
 use Rattle.std.specs.Prelude.{Contains, slice_get, option_map}
 use Rattle.std.proofs.lemmas.Bool.{eq-eqb, and_parts}
 use Rattle.std.proofs.lemmas.Option.{same_Some}
@@ -8,8 +8,8 @@ use Rattle.nz_lists.proofs.Places.{slice_get_kept}
 use Rattle.nz_log.specs.declared.lits.Lit.{Lit}
 use Rattle.nz_log.specs.Lits.{are_same_lit, negated_lit}
 use Rattle.nz_sat.specs.declared.trail.Assigned.{Assigned}
-use Rattle.nz_sat.specs.Trails.{IsFalseOn, IsFreeOn, IsTrueOn, assigned, truth_on}
-use Rattle.nz_sat.specs.Clauses.{IsAhead, IsOpen, by_true, by_two, Waits}
+use Rattle.nz_sat.specs.Trails.{IsFreeOn, assigned, truth_on}
+use Rattle.nz_sat.specs.Clauses.{IsOpen, by_true, by_two, Waits}
 use Rattle.nz_sat.proofs.Trailing.{assigned_found, assigned_missing, assigned_place}
 
 -- ---- Literals

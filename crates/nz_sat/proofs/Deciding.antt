@@ -1,6 +1,6 @@
 -- A search after one decision more.
-use Rattle.std.proofs.Common.{◌≡◌, ◌≢◌, ℕ, zero, suc, ◌+◌, ◌<◌, ◌≤◌, Bool, true, false, if◌then◌else◌, List, [], ◌∷◌, ◌++◌, length, take, map, get_or, Option, Some, None, inl, inr, refl, sym, ap, subst, ◌∙◌, arith}
-use Rattle.std.specs.Prelude.{All, Contains, filter, fold, nat_lt, slice_get, unwrap_or}
+use Rattle.std.proofs.Common.{◌≡◌, ◌≢◌, ℕ, ◌+◌, ◌<◌, ◌≤◌, Bool, true, if◌then◌else◌, List, [], ◌∷◌, ◌++◌, length, map, get_or, Option, Some, None, inl, inr, refl, sym, ap, subst, ◌∙◌, arith}
+use Rattle.std.specs.Prelude.{All, Contains, filter, nat_lt, slice_get, unwrap_or}
 use Rattle.std.proofs.lemmas.Bool.{cases_lt}
 use Rattle.std.proofs.lemmas.Bool.Decides.{Decides-ltb}
 use Rattle.std.proofs.lemmas.List.{append-nil, length-map, map_push}
@@ -19,8 +19,8 @@ use Rattle.nz_log.specs.Notes.{noted_line, noted_list}
 use Rattle.nz_sat.specs.declared.clauses.Held.{Held}
 use Rattle.nz_sat.specs.declared.search.Search.{Search}
 use Rattle.nz_sat.specs.declared.trail.Assigned.{Assigned}
-use Rattle.nz_sat.specs.Trails.{AreUpTo, EachBehind, IsTrail, IsTrueOn, TrailState, assigned, below, decided, depth, is_decision, with_entry}
-use Rattle.nz_sat.specs.Clauses.{HasReasonOf, IsAssumed, IsImplied, IsOpen, Waits}
+use Rattle.nz_sat.specs.Trails.{AreUpTo, IsTrueOn, assigned, below, decided, depth, is_decision, with_entry}
+use Rattle.nz_sat.specs.Clauses.{HasReasonOf, IsAssumed, IsImplied}
 use Rattle.nz_sat.specs.Numbers.{number_of, numbered}
 use Rattle.nz_sat.specs.Sats.{IsLegalWork}
 use Rattle.nz_sat.specs.Searching.{Advances, AreOpen, AreWaiting, IsNoted, IsSearch, KeepsFirst, WereOpen, ids}

@@ -1,6 +1,6 @@
 -- Clauses that are put beside their literals, one literal after another.
-use Rattle.std.proofs.Common.{◌≡◌, ◌≢◌, ℕ, zero, suc, ◌+◌, ◌<◌, Bool, true, false, List, [], ◌∷◌, ◌++◌, length, get_or, ◌⊎◌, inl, inr, refl, sym, ap, subst, ◌∙◌, arith, below_more}
-use Rattle.std.specs.Prelude.{All, Contains}
+use Rattle.std.proofs.Common.{◌≡◌, ◌≢◌, ℕ, zero, suc, ◌+◌, ◌<◌, true, false, List, [], ◌∷◌, ◌++◌, length, get_or, ◌⊎◌, inl, inr, refl, sym, subst, ◌∙◌, arith, below_more}
+use Rattle.std.specs.Prelude.{Contains}
 use Rattle.std.specs.declared.vec.Vec.{Vec}
 use Rattle.std.specs.declared.alloc.Global.{Global}
 use Rattle.std.proofs.lemmas.List.{get_or_default}
@@ -9,7 +9,7 @@ use Rattle.nz_log.specs.declared.lits.Lit.{Lit}
 use Rattle.nz_log.specs.Lits.{are_same_lit}
 use Rattle.nz_log.specs.Logs.{LogState, literals_at}
 use Rattle.nz_sat.specs.declared.clauses.Index.{Index}
-use Rattle.nz_sat.specs.Clauses.{Adds, IsListed, IsSameSize, IsWithin, ids_in, ids_of}
+use Rattle.nz_sat.specs.Clauses.{Adds, IsSameSize, IsWithin, ids_in, ids_of}
 use Rattle.nz_sat.proofs.Clausal.{other_lit, same_lit}
 
 -- a clause was put beside so many of these literals

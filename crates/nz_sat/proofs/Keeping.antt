@@ -1,12 +1,10 @@
 -- What a search keeps where its trail goes on.
-use Rattle.std.proofs.Common.{◌≡◌, ◌≢◌, ℕ, zero, suc, ◌+◌, ◌<◌, ◌≤◌, Bool, true, false, if◌then◌else◌, List, [], ◌∷◌, ◌++◌, length, take, drop, map, get_or, Option, Some, None, ◌⊎◌, inl, inr, refl, sym, ap, subst, ◌∙◌, arith, add-zero}
-use Rattle.std.specs.Prelude.{All, Contains, IfSome, IsSome, is_some, replicate, nat_lt, slice_get, count_by, sum_by}
+use Rattle.std.proofs.Common.{◌≡◌, ℕ, zero, suc, ◌+◌, ◌<◌, true, false, List, [], ◌++◌, length, take, get_or, Option, Some, None, refl, sym, ap, subst, ◌∙◌, arith}
+use Rattle.std.specs.Prelude.{All, Contains, IfSome, IsSome, is_some, replicate, slice_get}
 use Rattle.std.proofs.lemmas.List.{append-nil, get_or-map, length-map}
-use Rattle.std.proofs.lemmas.List.Elements.{All-append, All-contains, All-head, All-map, All-tail, Contains-get_or}
-use Rattle.std.proofs.lemmas.List.Sums.{sum_by-append, sum_by-cons}
+use Rattle.std.proofs.lemmas.List.Elements.{All-append, All-contains, All-map, Contains-get_or}
 use Rattle.std.proofs.lemmas.Option.{get_or_from_slice_get, slice_get-get_or, slice_get_within}
 use Rattle.nz_log.specs.declared.lits.Lit.{Lit}
-use Rattle.nz_log.specs.Lits.{negated_lit}
 use Rattle.nz_log.specs.Logs.{LogState, IsLive, literals_at}
 use Rattle.nz_sat.specs.declared.clauses.Held.{Held}
 use Rattle.nz_sat.specs.declared.search.Search.{Search}

@@ -1,16 +1,15 @@
 -- Atoms by their numbers, and the lines that name them.
-use Rattle.std.proofs.Common.{◌≡◌, ◌≢◌, ℕ, zero, suc, ◌+◌, ◌<◌, ◌==◌, Bool, true, false, if◌then◌else◌, List, [], ◌∷◌, ◌++◌, length, take, map, get_or, Option, Some, None, inl, inr, refl, sym, ap, subst, ◌∙◌, arith, ne_eqb, true≢false}
-use Rattle.std.specs.Prelude.{Contains, is_some, slice_get, slice_index_or, option_map, unwrap_or}
+use Rattle.std.proofs.Common.{◌≡◌, ◌≢◌, ℕ, zero, suc, ◌+◌, ◌<◌, ◌==◌, Bool, true, false, if◌then◌else◌, List, [], ◌∷◌, ◌++◌, length, take, get_or, Option, Some, None, inl, inr, refl, sym, ap, ◌∙◌, arith, ne_eqb, true≢false}
+use Rattle.std.specs.Prelude.{Contains, is_some, slice_get, slice_index_or, option_map}
 use Rattle.std.proofs.lemmas.Bool.{cases_eq, eq-eqb}
 use Rattle.std.proofs.lemmas.Bool.Decides.{eqb_tells}
 use Rattle.std.proofs.lemmas.List.{append-nil, take_more}
 use Rattle.std.proofs.lemmas.Option.{get_or_from_slice_get, same_Some, slice_get-get_or, slice_get_within}
 use Rattle.nz_spec.specs.Work.{WorkEntry, WorkLine, UnitLine, NoteLine}
-use Rattle.nz_log.specs.declared.lits.Lit.{Lit}
 use Rattle.nz_log.specs.declared.note.Note.{Note}
 use Rattle.nz_log.specs.declared.note.Note.TheVariants.{Atom}
 use Rattle.nz_sat.proofs.Chains.{has_found}
-use Rattle.nz_sat.specs.Numbers.{IsNumbered, noted_atoms, number_of, number_or, numbered}
+use Rattle.nz_sat.specs.Numbers.{IsNumbered, noted_atoms, number_of, number_or}
 
 -- ---- Numbers
 

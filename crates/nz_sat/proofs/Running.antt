@@ -1,12 +1,12 @@
 -- A search from its start to its end: what is assumed, and one turn of decision and conflicts.
-use Rattle.std.proofs.Common.{◌≡◌, ℕ, suc, ◌+◌, ◌<◌, ◌≤◌, if◌then◌else◌, List, [], ◌∷◌, length, map, get_or, Option, Some, None, refl, sym, ap, subst, ◌∙◌, arith}
+use Rattle.std.proofs.Common.{◌≡◌, ℕ, ◌+◌, if◌then◌else◌, List, [], ◌∷◌, length, map, get_or, None, refl, sym, ap, subst, ◌∙◌, arith}
 use Rattle.std.specs.Prelude.{All, Contains, filter, unwrap_or}
 use Rattle.std.proofs.lemmas.List.{length-map, get_or-map}
 use Rattle.std.proofs.lemmas.List.Elements.{All-contains}
 use Rattle.std.proofs.lemmas.List.Sums.{length-filter, sum_by_push}
 use Rattle.std.proofs.lemmas.Option.{slice_get-get_or}
 use Rattle.nz_spec.specs.Legal.{LegalWorkGoesOn}
-use Rattle.nz_spec.specs.Work.{DecisionEntry, UnitLine, WorkLine, WorkList, is_unit, unit_count, with_line}
+use Rattle.nz_spec.specs.Work.{DecisionEntry, UnitLine, WorkLine, WorkList, is_unit, unit_count}
 use Rattle.nz_log.specs.declared.lits.Lit.{Lit}
 use Rattle.nz_log.specs.declared.note.Note.{Note}
 use Rattle.nz_log.specs.Logs.{LogState}
@@ -15,7 +15,7 @@ use Rattle.nz_sat.specs.declared.search.Search.{Search}
 use Rattle.nz_sat.specs.declared.trail.Assigned.{Assigned}
 use Rattle.nz_sat.specs.Clauses.{IsAssumed}
 use Rattle.nz_sat.specs.Numbers.{number_of, numbered}
-use Rattle.nz_sat.specs.Searching.{Advances, AreOpen, AreWaiting, AssumesAll, Carries, Decides, IsNoted, IsSearch, KeepsFirst, Settles, WereOpen, assumed_entries}
+use Rattle.nz_sat.specs.Searching.{Advances, AreOpen, AreWaiting, AssumesAll, Decides, IsNoted, IsSearch, KeepsFirst, Settles, WereOpen, assumed_entries}
 use Rattle.nz_sat.specs.Trails.{AreUpTo, EachBehind, IsNext, IsTrueOn, TrailState, assigned, below, decided, depth, is_decision, with_entry}
 use Rattle.nz_sat.proofs.Advancing.{far_advances, none_advances}
 use Rattle.nz_sat.proofs.Cutting.{below_all}

@@ -1,11 +1,11 @@
 -- What is known of a clause when so many of its literals were looked at.
-use Rattle.std.proofs.Common.{◌≡◌, ◌≢◌, ℕ, ◌+◌, ◌<◌, List, [], ◌∷◌, ◌++◌, length, take, get_or, Option, Some, None, inl, inr, refl, sym, ap, subst, ◌∙◌, arith, ◌≤◌}
+use Rattle.std.proofs.Common.{◌≡◌, ◌≢◌, ℕ, ◌+◌, ◌<◌, List, length, take, get_or, Option, Some, None, inl, inr, refl, sym, subst, ◌≤◌}
 use Rattle.std.specs.Prelude.{Contains}
 use Rattle.std.proofs.lemmas.List.{take_all, take_more}
 use Rattle.std.proofs.lemmas.List.Elements.{Contains-get_or, Contains-push_cases}
 use Rattle.nz_log.specs.declared.lits.Lit.{Lit}
 use Rattle.nz_sat.specs.declared.trail.Assigned.{Assigned}
-use Rattle.nz_sat.specs.Trails.{IsFalseOn, IsFreeOn, IsTrueOn}
+use Rattle.nz_sat.specs.Trails.{IsFalseOn, IsFreeOn}
 use Rattle.nz_sat.specs.Clauses.{IsDead, IsUnit}
 
 -- each literal of the front is false, but for one that is undecided

@@ -1,15 +1,14 @@
 -- Trails that grow and are cut: the entry of a term, and what stands behind what.
-use Rattle.std.proofs.Common.{◌≡◌, ◌≢◌, ℕ, zero, suc, ◌+◌, ◌-◌, ◌<◌, ◌≤◌, Bool, true, false, if◌then◌else◌, List, [], ◌∷◌, ◌++◌, length, take, drop, get_or, Option, Some, None, ◌⊎◌, inl, inr, refl, sym, ap, subst, ◌∙◌, arith, eqb-true, ne_eqb}
-use Rattle.std.specs.Prelude.{◌==◌, slice_get, slice_index_or, slice_set, sum_by, count_by}
+use Rattle.std.proofs.Common.{◌≡◌, ◌≢◌, ℕ, suc, ◌+◌, ◌-◌, ◌<◌, ◌≤◌, Bool, true, false, if◌then◌else◌, List, [], ◌∷◌, ◌++◌, length, take, drop, get_or, Option, Some, None, inl, inr, refl, sym, ap, subst, ◌∙◌, arith, ne_eqb}
+use Rattle.std.specs.Prelude.{◌==◌, slice_get, slice_index_or, slice_set}
 use Rattle.std.proofs.lemmas.Bool.{cases_eq, eq-eqb}
 use Rattle.std.proofs.lemmas.Bool.Decides.{eqb_tells}
 use Rattle.std.proofs.lemmas.List.{take-append-le, take-append-drop, take_at, take_more, take-take, get_or-set_same, get_or-set_other, get_or_push, length_push}
-use Rattle.std.proofs.lemmas.List.Sums.{sum_by-take-le, sum_by-set, sum_by_push}
+use Rattle.std.proofs.lemmas.List.Sums.{sum_by-take-le}
 use Rattle.std.proofs.lemmas.Option.{same_Some, slice_get_within, slice_get-get_or, get_or_from_slice_get}
 use Rattle.nz_lists.proofs.Places.{slice_get_kept, slice_get-push_cases, drop_found}
 use Rattle.nz_sat.specs.declared.trail.Assigned.{Assigned}
 use Rattle.nz_sat.specs.Trails.{EachBehind, IsNext, assigned, depth, is_decision}
-use Rattle.nz_sat.specs.Stored.{vacancy}
 
 -- ---- What stands behind what
 

@@ -1,5 +1,5 @@
 -- Clauses that are visited: what one makes true, and that each is open once every literal was looked at.
-use Rattle.std.proofs.Common.{◌≡◌, ◌≢◌, ℕ, zero, suc, ◌+◌, ◌<◌, ◌≤◌, Bool, true, false, if◌then◌else◌, List, [], ◌∷◌, ◌++◌, length, get_or, Option, Some, None, ◌⊎◌, inl, inr, refl, sym, ap, subst, ◌∙◌, arith, append_assoc, append-nil, below_more}
+use Rattle.std.proofs.Common.{◌≡◌, ℕ, ◌+◌, ◌<◌, ◌≤◌, Bool, false, if◌then◌else◌, List, [], ◌∷◌, ◌++◌, length, get_or, Option, Some, None, inl, inr, refl, sym, ap, subst, ◌∙◌, arith, append_assoc, append-nil, below_more}
 use Rattle.std.specs.Prelude.{All, Contains, IsSome, nat_lt, slice_get, option_map}
 use Rattle.std.proofs.lemmas.Bool.{cases_eq}
 use Rattle.std.proofs.lemmas.List.Sums.{sum_by-append, sum_by-cons}
@@ -13,8 +13,8 @@ use Rattle.nz_log.specs.Logs.{LogState, literals_at}
 use Rattle.nz_sat.specs.declared.clauses.Held.{Held}
 use Rattle.nz_sat.specs.declared.clauses.Index.{Index}
 use Rattle.nz_sat.specs.declared.trail.Assigned.{Assigned}
-use Rattle.nz_sat.specs.Trails.{EachBehind, GoesOn, IsTrueOn, assigned, depth, implied, is_decision, truth_on}
-use Rattle.nz_sat.specs.Clauses.{IsAhead, IsImplied, IsListed, IsOpen, by_true, IsReason, IsUnit, AreUsable, IsUsable, Waits, ids_of}
+use Rattle.nz_sat.specs.Trails.{EachBehind, GoesOn, depth, implied, is_decision, truth_on}
+use Rattle.nz_sat.specs.Clauses.{IsImplied, IsListed, IsOpen, by_true, IsUnit, AreUsable, IsUsable, Waits, ids_of}
 use Rattle.nz_sat.proofs.Trailing.{assigned_missing, assigned_one, each_push}
 use Rattle.nz_sat.proofs.Clausal.{free_missing, waits_grow, open_grows}
 

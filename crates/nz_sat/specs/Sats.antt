@@ -1,10 +1,10 @@
 -- A search over clauses of a log, as its callers see it.
-use Rattle.std.specs.Prelude.{◌≡◌, ◌≢◌, ℕ, ◌<◌, ◌++◌, ◌⊎◌, Bool, true, false, All, Contains, List, [], ◌∷◌, length, map, filter, nat_le, Option, Some, None, IsSome, option_map, slice_get, slice_index_or}
-use Rattle.nz_spec.specs.Table.{Node, IsTable, term_in}
+use Rattle.std.specs.Prelude.{◌≡◌, ℕ, ◌<◌, ◌++◌, Bool, All, Contains, List, length, map, filter, nat_le, Option, Some, None, IsSome, option_map, slice_index_or}
+use Rattle.nz_spec.specs.Table.{Node, IsTable}
 use Rattle.nz_spec.specs.Decide.{asserted_terms}
 use Rattle.nz_spec.specs.Legal.{Task, AreLegal, at_first}
 use Rattle.nz_spec.specs.Literal.{are_same_sign, StandOnce}
-use Rattle.nz_spec.specs.Work.{WorkLine, WorkList, unit_count}
+use Rattle.nz_spec.specs.Work.{WorkList}
 use Rattle.nz_log.specs.declared.lits.Lit.{Lit}
 use Rattle.nz_log.specs.declared.note.Note.{Note}
 use Rattle.nz_log.specs.Lits.{negated_lit, literal_of}
@@ -12,7 +12,6 @@ use Rattle.nz_log.specs.Logs.{LogState, IsLive, literals_at, level_at}
 use Rattle.nz_log.specs.Notes.{noted_list}
 use Rattle.nz_log.specs.Sound.{IsLog}
 use Rattle.nz_sat.specs.declared.clauses.Held.{Held}
-use Rattle.nz_sat.specs.Numbers.{noted_atoms}
 
 -- The clauses, and by the numbers of terms the truths that the last search left.
 pub record SatState : Type 0 where

@@ -1,7 +1,6 @@
 -- Trails: the literals that are true, in the order in which they became so, each with its level and its reason.
-use Rattle.std.specs.Prelude.{◌≡◌, ◌≢◌, ℕ, ◌+◌, ◌<◌, ◌≤◌, ◌==◌, Bool, true, false, not, List, [], ◌∷◌, ◌++◌, length, take, filter, All, Contains, Option, Some, None, IsSome, option_map, slice_get, slice_index_or, count_by, nat_lt, nat_le, if◌then◌else◌}
+use Rattle.std.specs.Prelude.{◌≡◌, ℕ, ◌+◌, ◌<◌, ◌≤◌, ◌==◌, Bool, true, false, not, List, [], ◌∷◌, ◌++◌, take, filter, All, Option, Some, None, IsSome, option_map, slice_get, slice_index_or, count_by, nat_lt, nat_le, if◌then◌else◌}
 use Rattle.nz_log.specs.declared.lits.Lit.{Lit}
-use Rattle.nz_log.specs.Lits.{negated_lit}
 use Rattle.nz_sat.specs.declared.trail.Assigned.{Assigned}
 
 -- The entries, the oldest first, and a number that all terms are below.

@@ -1,5 +1,5 @@
 -- One literal more is the one left out, or may be of a greater level.
-use Rattle.std.proofs.Common.{◌≡◌, ◌≢◌, ◌+◌, true, false, max, List, [], ◌∷◌, ◌++◌, get_or, take, subst, sym, ap, ◌∙◌, true≢false, arith}
+use Rattle.std.proofs.Common.{◌≡◌, ◌≢◌, ◌+◌, false, max, List, [], ◌∷◌, ◌++◌, get_or, take, subst, sym, ap, ◌∙◌, true≢false, arith}
 use Rattle.std.proofs.lemmas.List.{take_more}
 use Rattle.nz_log.specs.declared.lits.Lit.{Lit}
 use Rattle.nz_log.specs.Lits.{are_same_lit}

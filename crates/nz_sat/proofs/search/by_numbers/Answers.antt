@@ -1,5 +1,5 @@
 -- Each term is an atom.
-use Rattle.std.proofs.Common.{ℕ, ◌<◌, false, length, get_or, sym, arith}
+use Rattle.std.proofs.Common.{◌<◌, false, length, get_or, sym, arith}
 use Rattle.nz_log.specs.declared.lits.Lit.{Lit}
 use Rattle.nz_sat.proofs.Numbering.{unnamed}
 use Rattle.nz_sat.proofs.search.by_numbers.Goals as goal

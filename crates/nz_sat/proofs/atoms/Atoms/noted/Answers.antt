@@ -1,8 +1,8 @@
 -- One line more.
-use Rattle.std.proofs.Common.{◌≡◌, ℕ, ◌+◌, ◌++◌, ◌∷◌, [], List, length, take, Option, Some, ap, subst, sym, ◌∙◌, rules}
+use Rattle.std.proofs.Common.{◌≡◌, ℕ, ◌++◌, ◌∷◌, [], List, take, Some, ap, sym, ◌∙◌}
 use Rattle.std.specs.Prelude.{slice_get}
 use Rattle.std.proofs.lemmas.List.{append-nil}
-use Rattle.nz_spec.specs.Work.{WorkLine, UnitLine, NoteLine}
+use Rattle.nz_spec.specs.Work.{UnitLine, NoteLine}
 use Rattle.nz_base.specs.Entries.{entry_of}
 use Rattle.nz_sat.specs.Numbers.{noted_atoms}
 use Rattle.nz_sat.proofs.Numbering.{noted_more}

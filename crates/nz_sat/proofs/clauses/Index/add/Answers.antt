@@ -1,8 +1,8 @@
 -- One literal more.
-use Rattle.std.proofs.Common.{◌≡◌, ◌≢◌, ◌<◌, ◌++◌, ◌∷◌, [], false, List, length, get_or, ap, sym, subst, ◌∙◌, arith, rules}
+use Rattle.std.proofs.Common.{◌≡◌, ◌<◌, false, List, length, get_or, ap, sym, subst, arith}
 use Rattle.nz_log.specs.declared.lits.Lit.{Lit}
 use Rattle.nz_log.specs.Logs.{literals_at}
-use Rattle.nz_sat.specs.Clauses.{IsWithin, ids_of}
+use Rattle.nz_sat.specs.Clauses.{IsWithin}
 use Rattle.nz_sat.proofs.Indexing.{added_all, adding_more, adding_none, adding_within}
 use Rattle.nz_sat.proofs.clauses.Index.add.Goals as goal
 

@@ -1,6 +1,5 @@
 -- The list of the literal alone is another one.
-use Rattle.std.proofs.Common.{◌≡◌, ◌≢◌, Bool, true, false, List, if◌then◌else◌, refl, sym, ◌∙◌}
-use Rattle.nz_log.specs.declared.lits.Lit.{Lit}
+use Rattle.std.proofs.Common.{◌≡◌, true, false, if◌then◌else◌, refl, sym, ◌∙◌}
 use Rattle.nz_sat.specs.Clauses.{ids_in}
 use Rattle.nz_sat.proofs.clauses.Index.put.Goals as goal
 

@@ -1,4 +1,3 @@
-use Rattle.std.proofs.Common.{ℕ}
 use Rattle.nz_sat.proofs.order.Order.next.Given as goal
 
 -- the heap shrinks

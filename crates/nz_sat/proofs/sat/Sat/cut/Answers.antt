@@ -1,5 +1,5 @@
 -- What the closure tests.
-use Rattle.std.proofs.Common.{◌≡◌, List, ap, ◌∙◌, rules}
+use Rattle.std.proofs.Common.{ap, ◌∙◌, rules}
 use Rattle.std.specs.Prelude.{nat_le}
 use Rattle.nz_sat.specs.declared.clauses.Held.{Held}
 use Rattle.nz_sat.specs.Sats.{SatState, held_up_to}

@@ -1,11 +1,10 @@
 -- Each arm by what is known of the literal's term.
-use Rattle.std.proofs.Common.{◌≡◌, ℕ, ◌≤◌, false, List, length, get_or, Option, None, ap, sym, subst, ◌∙◌, arith, rules}
+use Rattle.std.proofs.Common.{◌≡◌, ℕ, false, length, get_or, None, ap, sym, subst, ◌∙◌, rules}
 use Rattle.std.specs.Prelude.{All, Contains}
 use Rattle.std.proofs.lemmas.List.Elements.{Contains-get_or}
 use Rattle.std.proofs.lemmas.Option.{IfSome_then}
 use Rattle.nz_log.specs.Lits.{are_same_lit}
 use Rattle.nz_log.specs.Logs.{literals_at}
-use Rattle.nz_sat.specs.declared.trail.Assigned.{Assigned}
 use Rattle.nz_sat.specs.Clauses.{HasReasonOf, IsImplied, IsUsable, Waits}
 use Rattle.nz_sat.specs.Searching.{ids}
 use Rattle.nz_sat.specs.Trails.{EachBehind, GoesOn, TrailState, assigned, with_entry}

@@ -1,11 +1,11 @@
 -- One assumed literal more.
-use Rattle.std.proofs.Common.{◌≡◌, ℕ, ◌<◌, true, false, List, length, get_or, Option, None, ap, sym, subst, ◌∙◌, arith, rules, below_more, inl}
+use Rattle.std.proofs.Common.{◌≡◌, ℕ, ◌<◌, true, false, List, length, get_or, None, ap, sym, subst, ◌∙◌, arith, rules, below_more, inl}
 use Rattle.std.specs.Prelude.{All, Contains, is_some}
 use Rattle.std.proofs.lemmas.List.{get_or_default}
 use Rattle.std.proofs.lemmas.List.Elements.{All-contains, Contains-get_or}
 use Rattle.std.proofs.lemmas.Option.{IfSome_then}
 use Rattle.nz_log.specs.declared.lits.Lit.{Lit}
-use Rattle.nz_log.specs.Logs.{LogState, literals_at}
+use Rattle.nz_log.specs.Logs.{LogState}
 use Rattle.nz_sat.specs.declared.clauses.Held.{Held}
 use Rattle.nz_sat.specs.Clauses.{IsAssumed}
 use Rattle.nz_sat.specs.Sats.{AreConsistent}

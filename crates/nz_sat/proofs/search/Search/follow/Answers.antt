@@ -1,9 +1,6 @@
 -- What propagation tells of the clauses that are held.
-use Rattle.std.proofs.Common.{◌≡◌, ℕ, List, get_or, Option, Some, None, refl, ◌∙◌}
-use Rattle.std.specs.Prelude.{Contains}
-use Rattle.nz_log.specs.Logs.{literals_at}
-use Rattle.nz_sat.specs.Clauses.{IsDead}
-use Rattle.nz_sat.specs.Searching.{AreOpen, OpenOrDead, ids}
+use Rattle.std.proofs.Common.{get_or}
+use Rattle.nz_sat.specs.Searching.{ids}
 use Rattle.nz_sat.proofs.Keeping.{goes_search, goes_were_open, open_or_dead}
 use Rattle.nz_sat.proofs.search.Search.follow.Goals as goal
 

@@ -1,7 +1,7 @@
 -- One entry goes, or all that are left are up to the level.
 use Rattle.std.proofs.Common.{◌≡◌, None, ap, sym, ◌∙◌, rules}
 use Rattle.nz_sat.specs.declared.search.Search.{Search}
-use Rattle.nz_sat.specs.Trails.{DropsLast, TrailState, below}
+use Rattle.nz_sat.specs.Trails.{TrailState, below}
 use Rattle.nz_sat.proofs.Cutting.{below_all, below_last, drops_shorter, front_all, front_less}
 use Rattle.nz_sat.proofs.search.Search.jump.Goals as goal
 

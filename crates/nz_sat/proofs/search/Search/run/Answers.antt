@@ -1,6 +1,6 @@
 -- One decision more, with what is learned from its conflicts.
-use Rattle.std.proofs.Common.{◌≡◌, ℕ, ◌<◌, ◌≤◌, List, Option, Some, None, ap, sym, subst, ◌∙◌, arith, rules}
-use Rattle.std.specs.Prelude.{All, Contains, IfSome}
+use Rattle.std.proofs.Common.{◌≡◌, ℕ, ◌<◌, List, Option, None, ap, sym, subst, arith, rules}
+use Rattle.std.specs.Prelude.{All, IfSome}
 use Rattle.std.proofs.lemmas.List.Elements.{All-contains}
 use Rattle.nz_spec.specs.Work.{WorkList}
 use Rattle.nz_log.specs.declared.lits.Lit.{Lit}
@@ -13,7 +13,7 @@ use Rattle.nz_sat.specs.Conflicts.{Grows, StaysSound, Refutes}
 use Rattle.nz_sat.specs.Searching.{Advances, AreWaiting, AssumesAll, IsSearch, StaysInOrder, assumed_entries}
 use Rattle.nz_sat.proofs.Advancing.{log_advances}
 use Rattle.nz_sat.proofs.Following.{stays_in_order}
-use Rattle.nz_sat.proofs.Running.{HasDecided, Runs, has_decided, mid_assumed, runs_first, runs_on, runs_ordered, runs_turn, turn_advances}
+use Rattle.nz_sat.proofs.Running.{has_decided, mid_assumed, runs_first, runs_ordered, runs_turn, turn_advances}
 use Rattle.nz_sat.proofs.search.Search.run.Goals as goal
 
 -- the log grows by a refutation before anything is decided

@@ -1,4 +1,4 @@
-use Rattle.std.proofs.Common.{◌≡◌, ◌-◌}
+use Rattle.std.proofs.Common.{◌-◌}
 use Rattle.nz_spec.specs.Work.{unit_count}
 use Rattle.nz_sat.specs.Searching.{Advances, Carries, IsNoted, IsSearch, OpenOrDead, WereOpen}
 use Rattle.nz_sat.proofs.search.Search.settle.Given as goal

@@ -1,14 +1,13 @@
 -- Each clause is looked at, and then what they made true.
-use Rattle.std.proofs.Common.{◌≡◌, ◌≢◌, ℕ, ◌≤◌, ◌<◌, true, List, [], length, get_or, Option, None, ap, sym, subst, ◌∙◌, arith, rules}
-use Rattle.std.specs.Prelude.{All, Contains, IsSome, is_some}
-use Rattle.std.proofs.lemmas.List.Elements.{All-map, All-nil}
+use Rattle.std.proofs.Common.{◌≡◌, ℕ, true, length, get_or, None, ap, sym, subst, ◌∙◌, arith, rules}
+use Rattle.std.specs.Prelude.{All, is_some}
+use Rattle.std.proofs.lemmas.List.Elements.{All-map}
 use Rattle.std.proofs.lemmas.Option.{IfSome_then}
 use Rattle.nz_log.specs.Logs.{literals_at}
 use Rattle.nz_sat.specs.declared.clauses.Held.{Held}
-use Rattle.nz_sat.specs.declared.trail.Assigned.{Assigned}
-use Rattle.nz_sat.specs.Clauses.{AreUsable, HasReasonOf, IsImplied, Waits}
+use Rattle.nz_sat.specs.Clauses.{AreUsable, Waits}
 use Rattle.nz_sat.specs.Searching.{ids}
-use Rattle.nz_sat.specs.Trails.{EachBehind, GoesOn, depth}
+use Rattle.nz_sat.specs.Trails.{depth}
 use Rattle.nz_sat.proofs.Keeping.{goes_reasons, goes_search, held_has, held_usable, none_told, search_usable}
 use Rattle.nz_sat.proofs.Visiting.{goes_depth, goes_far, waits_less}
 use Rattle.nz_sat.proofs.search.Search.start.Goals as goal

@@ -1,5 +1,5 @@
 -- The trail is always in order, and each entry has its place in the table.
-use Rattle.std.proofs.Common.{◌≤◌, subst, length, arith}
+use Rattle.std.proofs.Common.{◌≤◌, subst, arith}
 use Rattle.nz_sat.specs.Trails.{IsTrail, TrailState}
 use Rattle.nz_sat.proofs.trail.Trail.len.Goals as goal
 

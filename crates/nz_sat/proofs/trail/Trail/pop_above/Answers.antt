@@ -1,12 +1,12 @@
 -- The last entry goes, and its place in the table.
-use Rattle.std.proofs.Common.{◌≡◌, ℕ, ◌<◌, ◌≤◌, ◌++◌, ◌∷◌, [], ◌+◌, ◌-◌, List, length, Option, Some, None, get_or, ap, sym, subst, ◌∙◌, arith, rules, refl}
-use Rattle.std.specs.Prelude.{slice_get, sum_by, slice_set, slice_index_or, vec_capacity, vec_len}
+use Rattle.std.proofs.Common.{◌≡◌, ℕ, ◌<◌, ◌≤◌, ◌++◌, ◌∷◌, [], ◌+◌, ◌-◌, List, length, Some, None, get_or, ap, sym, subst, ◌∙◌, arith, rules, refl}
+use Rattle.std.specs.Prelude.{slice_get, slice_set, slice_index_or}
 use Rattle.std.proofs.lemmas.List.{length-set, length_push}
 use Rattle.std.proofs.lemmas.List.Sums.{sum_by-set}
 use Rattle.std.proofs.lemmas.Option.{slice_get-get_or}
 use Rattle.nz_sat.specs.declared.trail.Assigned.{Assigned}
 use Rattle.nz_sat.specs.Stored.{vacancy}
-use Rattle.nz_sat.specs.Trails.{EachBehind, IsNext, TrailState, assigned, depth}
+use Rattle.nz_sat.specs.Trails.{EachBehind, IsNext, TrailState, assigned}
 use Rattle.nz_sat.proofs.Trailing.{each_front, each_last, table_pop, assigned_missing, assigned_one, last_highest}
 use Rattle.nz_sat.proofs.trail.Trail.pop_above.Goals as goal
 
