@@ -17,7 +17,8 @@ use Rattle.nz_sat.specs.Clauses.{HasReasonOf, IsAssumed, IsDead, IsImplied, IsOp
 use Rattle.nz_sat.specs.Conflicts.{IsDeadUnder}
 use Rattle.nz_sat.specs.Searching.{AreOpen, Assumes, IsSearch, MayAssume, ids}
 use Rattle.nz_sat.proofs.Clausal.{either_sign, open_grows, other_lit, same_lit, sign_again, truth_found}
-use Rattle.nz_sat.proofs.Keeping.{at_contains, goes_assumed, goes_search, goes_true, held_live}
+use Rattle.nz_sat.proofs.Chains.{has_found}
+use Rattle.nz_sat.proofs.Keeping.{goes_assumed, goes_search, goes_true, held_live}
 use Rattle.nz_sat.proofs.Visiting.{goes_depth}
 use Rattle.nz_sat.proofs.Trailing.{assigned_missing, assigned_one, assigned_place, each_push, order_put}
 
@@ -90,8 +91,8 @@ module _ (log : LogState) (held : List Held) (assumed : List Lit) (l : Lit) (s :
       elim e.reason as (λ o. e.reason ≡ o → IsReasonOf log (take place.0 es) e.literal o → Assumes log held assumed l es s o) [
         | None ↦ λ none reason.
             let low = lowest_level es undecided place.0 e place.1 none in
-            let there : Contains assumed e.literal = All-contains (IsAssumed assumed) es e may.assumed_only (at_contains es place.0 e place.1) none low in
-            absurd (may.consistent l may.among (subst (Contains assumed) turned there))
+            let there : Contains assumed e.literal = All-contains (IsAssumed assumed) es e may.assumed_only (has_found es place.0 e place.1) none low in
+            absurd (All-contains (λ (m : Lit). Contains assumed (negated_lit m) → ⊥) assumed l may.consistent may.among (subst (Contains assumed) turned there))
         | Some c ↦ λ some reason.
             record {
               search = may.search;

@@ -3,7 +3,7 @@ use Rattle.std.proofs.Common.{◌≡◌, ℕ, zero, suc, ◌+◌, ◌<◌, true,
 use Rattle.std.specs.Prelude.{All, Contains, IfSome, IsSome, is_some, replicate, slice_get}
 use Rattle.std.proofs.lemmas.List.{append-nil, get_or-map, length-map}
 use Rattle.std.proofs.lemmas.List.Elements.{All-append, All-contains, All-map, Contains-get_or}
-use Rattle.std.proofs.lemmas.Option.{get_or_from_slice_get, slice_get-get_or, slice_get_within}
+use Rattle.std.proofs.lemmas.Option.{slice_get-get_or}
 use Rattle.nz_log.specs.declared.lits.Lit.{Lit}
 use Rattle.nz_log.specs.Logs.{LogState, IsLive, literals_at}
 use Rattle.nz_sat.specs.declared.clauses.Held.{Held}
@@ -14,12 +14,10 @@ use Rattle.nz_sat.specs.Clauses.{AreUsable, HasReasonOf, IsAssumed, IsDead, IsIm
 use Rattle.nz_sat.specs.Conflicts.{AreUnmarked}
 use Rattle.nz_sat.specs.Sats.{AreHeld}
 use Rattle.nz_sat.specs.Searching.{AreOpen, IsSearch, OpenOrDead, WereOpen, ids}
+use Rattle.nz_sat.proofs.Chains.{has_found}
 use Rattle.nz_sat.proofs.Clausal.{slice_get_behind, truth_found}
 use Rattle.nz_sat.proofs.Cutting.{below_join, below_none}
 use Rattle.nz_sat.proofs.Visiting.{goes_depth}
-
-pub at_contains : {X : Type 0} (xs : List X) (i : ℕ) (x : X) → slice_get xs i ≡ Some x → Contains xs x
-at_contains xs i x at = (i, slice_get_within xs i x at, get_or_from_slice_get xs i x x at)
 
 -- ---- What is true
 
@@ -54,7 +52,7 @@ goes_search log held s t h size order g implied reasons =
     let e = get_or g.more k d in
     reason_named log (take (length es + k) t.entries) (ids held) s.atoms e.literal e.reason h.named (g.implied k d inside) (implied (length es + k) e (place k d inside))
     (All-contains (HasReasonOf (ids held)) t.entries e reasons
-    (at_contains t.entries (length es + k) e (place k d inside))) in
+    (has_found t.entries (length es + k) e (place k d inside))) in
     record {
       are_held = h.are_held;
       listed = h.listed;

@@ -7,7 +7,7 @@ use Rattle.nz_spec.specs.Literal.{are_same_sign, StandOnce}
 use Rattle.nz_spec.specs.Work.{WorkList}
 use Rattle.nz_log.specs.declared.lits.Lit.{Lit}
 use Rattle.nz_log.specs.declared.note.Note.{Note}
-use Rattle.nz_log.specs.Lits.{negated_lit, literal_of}
+use Rattle.nz_log.specs.Lits.{literal_of}
 use Rattle.nz_log.specs.Logs.{LogState, IsLive, literals_at, level_at}
 use Rattle.nz_log.specs.Notes.{noted_list}
 use Rattle.nz_log.specs.Sound.{IsLog}
@@ -67,10 +67,6 @@ pub record AreAtoms (log : LogState) (held : List Held) (assumed : List Lit) (at
   pub clauses : All (λ (h : Held). All (λ (l : Lit). Contains atoms l.term) (literals_at log h.id)) held
   pub assumed_named : All (λ (l : Lit). Contains atoms l.term) assumed
   pub once : StandOnce atoms
-
--- no literal is the negation of another
-abbrev pub AreConsistent : List Lit → Type 0
-AreConsistent assumed = (l : Lit) → Contains assumed l → Contains assumed (negated_lit l) → ⊥
 
 -- The task of a search: over a table that has the atoms, and levels of assertions, of which all are asserted.
 pub record IsAsked (ns : List Node) (levels : List (List ℕ)) (log : LogState) (atoms : List ℕ) (assumed : List Lit) (q : Task) : Type 0 where

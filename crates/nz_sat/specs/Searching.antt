@@ -5,6 +5,7 @@ use Rattle.nz_spec.specs.Legal.{after_lines, at_first, Task}
 use Rattle.nz_spec.specs.Work.{DecisionEntry, LearnedEntry, UnitLine, WorkLine, WorkList, unit_count, with_line}
 use Rattle.nz_log.specs.declared.lits.Lit.{Lit}
 use Rattle.nz_log.specs.declared.note.Note.{Note}
+use Rattle.nz_log.specs.Lits.{AreConsistent}
 use Rattle.nz_log.specs.Logs.{LogState, IsLive, literals_at}
 use Rattle.nz_log.specs.Notes.{noted_list}
 use Rattle.nz_sat.specs.declared.clauses.Held.{Held}
@@ -16,7 +17,7 @@ use Rattle.nz_sat.specs.Trails.{EachBehind, GoesOn, IsTrail, IsTrueOn, assigned,
 use Rattle.nz_sat.specs.Clauses.{HasReasonOf, IsAssumed, IsDead, IsImplied, IsListed, IsOfSize, IsOpen, Waits, ids_of}
 use Rattle.nz_sat.specs.Conflicts.{AreUnmarked, Grows, IsDeadUnder}
 use Rattle.nz_sat.specs.Numbers.{noted_atoms, number_of, numbered}
-use Rattle.nz_sat.specs.Sats.{AreConsistent, AreHeld, HoldsMore, IsAsked, IsLegalWork}
+use Rattle.nz_sat.specs.Sats.{AreHeld, HoldsMore, IsAsked, IsLegalWork}
 
 abbrev pub ids : List Held → List ℕ
 ids held = map (λ (h : Held). h.id) held

@@ -4,11 +4,12 @@ ghost use Rattle.nz_spec.specs.Legal.{Task};
 ghost use Rattle.nz_spec.specs.Table.{Node};
 ghost use Rattle.nz_spec.specs.Work.{IsSpent, unit_count};
 ghost use Rattle.nz_log.specs.declared.stop.Stop.TheVariants as stop;
+ghost use Rattle.nz_log.specs.Lits.{AreConsistent};
 ghost use Rattle.nz_log.specs.Logs.{IsLive, literals_at};
 ghost use Rattle.nz_log.specs.Sound.{IsLog};
 ghost use Rattle.nz_sat.specs.Conflicts.{Grows, Refutes};
 ghost use Rattle.nz_sat.specs.Numbers.{noted_atoms};
-ghost use Rattle.nz_sat.specs.Sats.{AreAtoms, AreConsistent, AreHeld, HoldsMore, IsAsked, IsLegalWork, IsSatisfied, held_of, held_up_to, literal_truth};
+ghost use Rattle.nz_sat.specs.Sats.{AreAtoms, AreHeld, HoldsMore, IsAsked, IsLegalWork, IsSatisfied, held_of, held_up_to, literal_truth};
 
 use crate::clauses::Held;
 use crate::search::Search;

@@ -4,12 +4,13 @@ ghost use Rattle.nz_spec.specs.Work.{IsSpent, UnitLine, unit_count, with_line};
 ghost use Rattle.nz_base.specs.Entries.{entry_of};
 ghost use Rattle.nz_log.specs.declared.lits.Lit.{Lit};
 ghost use Rattle.nz_log.specs.declared.stop.Stop.TheVariants as stop;
+ghost use Rattle.nz_log.specs.Lits.{AreConsistent};
 ghost use Rattle.nz_log.specs.Logs.{IsLive, literals_at};
 ghost use Rattle.nz_sat.specs.declared.clauses.Held.{Held};
 ghost use Rattle.nz_sat.specs.Clauses.{Adds, AreUsable, IsAssumed, IsDead, IsImplied, IsWithin};
 ghost use Rattle.nz_sat.specs.Conflicts.{AreUnmarked, Grows, IsDeadUnder, Refutes, RefutesFrom, StaysSound};
 ghost use Rattle.nz_sat.specs.Numbers.{noted_atoms, number_of, numbered};
-ghost use Rattle.nz_sat.specs.Sats.{AreAtoms, AreConsistent, AreHeld, HoldsMore, held_of};
+ghost use Rattle.nz_sat.specs.Sats.{AreAtoms, AreHeld, HoldsMore, held_of};
 ghost use Rattle.nz_sat.specs.Searching.{Advances, AreOpen, AreWaiting, Assumes, AssumesAll, Follows, MayAssume, MayFollow, Starts, Decides, IsNoted, IsSearch, Learned, Satisfies, Settles, WereOpen, after_lesson, assumed_entries, ids, learned_line};
 ghost use Rattle.nz_sat.specs.Trails.{EachBehind, IsFrontOf, IsTrail, IsTrueOn, assigned, below, depth};
 

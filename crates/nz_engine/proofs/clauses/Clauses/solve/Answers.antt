@@ -1,8 +1,4 @@
 use Rattle.std.proofs.Common.{◌≡◌, None, IfOk, sym, subst}
-use Rattle.std.specs.Prelude.{Contains}
-use Rattle.std.proofs.lemmas.List.Elements.{All-contains}
-use Rattle.nz_log.specs.declared.lits.Lit.{Lit}
-use Rattle.nz_log.specs.Lits.{negated_lit}
 use Rattle.nz_log.specs.Sound.{IsLog}
 use Rattle.nz_sat.specs.Numbers.{noted_atoms}
 use Rattle.nz_sat.specs.Sats.{IsAsked}
@@ -17,9 +13,6 @@ solve-requires-clause-atoms c =
     let are : AreIn h.0 h.1 (noted_atoms c.args.work.now.lines) (record { log = c.self.inside.log; sat = c.self.inside.sat }) =
     subst (AreIn h.0 h.1 (noted_atoms c.args.work.now.lines)) (sym c.self.view_is) h.2 in
     record { clauses = are.named; assumed_named = c.requires.assumed; once = c.requires.once }
-
-pub solve-requires-clause-consistent : goal.solve-requires-clause-consistent
-solve-requires-clause-consistent c = λ l has. All-contains (λ (m : Lit). Contains c.args.assumed.now (negated_lit m) → ⊥) c.args.assumed.now l c.requires.consistent has
 
 pub returns-clause-refuted : goal.returns-clause-refuted
 returns-clause-refuted c = refuted_by c.solve.new.log c.args.assumed.now c.solve.result c.solve.ensures.refuted
