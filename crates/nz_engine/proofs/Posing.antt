@@ -13,8 +13,8 @@ use Rattle.nz_spec.specs.Gates.{IsGated, GatedTermsArePlain}
 use Rattle.nz_log.specs.declared.lits.Lit.{Lit}
 use Rattle.nz_log.specs.Sound.{live_at}
 use Rattle.nz_engine.specs.Clausal.{IsAtomic}
-use Rattle.nz_engine.specs.Posed.{AreAtomsOf, terms_named}
-use Rattle.nz_engine.proofs.Orders.{ArePlain, order_numberless}
+use Rattle.nz_engine.specs.Posed.{AreAtomsOf, ArePlain, terms_named}
+use Rattle.nz_engine.proofs.Orders.{order_numberless}
 
 contains_in_front : (n : ℕ) (xs : List ℕ) (x : ℕ) → Contains (take n xs) x → Contains xs x
 contains_in_front n xs x c = subst (λ l. Contains l x) (take-append-drop n xs) (Contains-append_left (take n xs) (drop n xs) x c)
