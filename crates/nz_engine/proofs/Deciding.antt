@@ -21,7 +21,7 @@ use Rattle.nz_engine.specs.Posed.{IsFound, terms_named, value_at}
 use Rattle.nz_engine.proofs.GateNames.{gates_named}
 use Rattle.nz_engine.proofs.Modeling.{constant_values, is_assignment, listed_truth}
 use Rattle.nz_engine.proofs.Orders.{plain_head}
-use Rattle.nz_engine.proofs.Posing.{all_named, all_of_first, all_of_others}
+use Rattle.nz_engine.proofs.Posing.{all_named, all_of_first, all_of_others, each_of}
 
 -- ---- Parts
 
@@ -33,12 +33,7 @@ spread P seen (t ∷ ts) list (inr f) s l =
     let both = subst (AllByRecursion P) f.2 l in
     (both.0, spread P (t ∷ seen) ts f.1 f.3 (both.0, s) both.1)
 
--- what holds of two lists together holds of each
-each_of : {X : Type 0} (P : X → Type 0) (xs ys : List X) → AllByRecursion P (xs ++ ys) → AllByRecursion P xs × AllByRecursion P ys
-each_of P [] ys h = (tt, h)
-each_of P (x ∷ xs) ys h = let rest = each_of P xs ys h.1 in ((h.0, rest.0), rest.1)
-
--- and so of many
+-- what holds of all of many lists holds of all of each
 each_part : {X Y : Type 0} (P : Y → Type 0) (f : X → List Y) (xs : List X) → AllByRecursion P (flat_map f xs) → AllByRecursion (λ x. AllByRecursion P (f x)) xs
 each_part P f [] h = tt
 each_part P f (x ∷ xs) h = let both = each_of P (f x) (flat_map f xs) h in (both.0, each_part P f xs both.1)

@@ -1,6 +1,7 @@
 -- What a problem is made of.
-use Rattle.std.proofs.Common.{◌≡◌, ℕ, suc, ◌<◌, false, List, [], ◌++◌, length, take, drop, map, get_or, Some, None, sym, ap, subst, arith}
+use Rattle.std.proofs.Common.{◌≡◌, ℕ, suc, ◌<◌, false, List, [], ◌∷◌, ◌++◌, length, take, drop, map, get_or, Some, None, sym, ap, subst, arith}
 use Rattle.std.specs.Prelude.{All, Contains, flat_map, slice_get}
+use Rattle.std.specs.List.{AllByRecursion}
 use Rattle.std.proofs.lemmas.List.{take-append-drop, take_all}
 use Rattle.std.proofs.lemmas.List.Elements.{All-append, All-contains, All-contains_itself, All-from_recursion, All-map, All-weaker, Contains-append_left, Contains-append_right, Contains-get_or, recursion_from_All}
 use Rattle.std.proofs.lemmas.Option.{slice_get-get_or}
@@ -44,6 +45,11 @@ all_of_first P xs ys h = All-weaker (Contains xs) P (λ x c. All-contains P (xs 
 -- and of the others
 pub all_of_others : {X : Type 0} (P : X → Type 0) (xs ys : List X) → All P (xs ++ ys) → All P ys
 all_of_others P xs ys h = All-weaker (Contains ys) P (λ x c. All-contains P (xs ++ ys) x h (Contains-append_right xs ys x c)) ys (All-contains_itself ys)
+
+-- both, where what holds is told by recursion
+pub each_of : {X : Type 0} (P : X → Type 0) (xs ys : List X) → AllByRecursion P (xs ++ ys) → AllByRecursion P xs × AllByRecursion P ys
+each_of P [] ys h = (tt, h)
+each_of P (x ∷ xs) ys h = let rest = each_of P xs ys h.1 in ((h.0, rest.0), rest.1)
 
 -- what holds of the terms that literals name holds of those of the literals
 pub all_named : (P : ℕ → Type 0) (ls : List Lit) → All P (terms_named ls) → All (λ (l : Lit). P l.term) ls
