@@ -139,7 +139,7 @@ one_unit a b c ts k below h next =
 -- ---- What a search satisfies
 
 pub satisfied_before : (old : ClausesState) (log : LogState) (s : SatState) (assumed : List Lit) (atoms : List ℕ) → Grows old.log log → HoldsMore log old.sat.clauses s.clauses
-    → IsSatisfied log s assumed atoms → Satisfies s old assumed
+    → IsSatisfied log s assumed atoms → Satisfies s old assumed atoms
 satisfied_before old log s assumed atoms grows holds found =
     record {
       clauses = λ ls h.
@@ -150,9 +150,10 @@ satisfied_before old log s assumed atoms grows holds found =
           subst (IsTrueClause s) same (All-contains (λ (x : Held). IsTrueClause s (literals_at log x.id)) s.clauses h.held found.clauses there) in
           (one.0, once_from ls one.0 one.1, one.2);
       assumed_hold = found.assumed_hold;
+      atoms_decided = found.atoms_decided;
     }
 
 pub satisfied_by : {E : Type 0} (old : ClausesState) (log : LogState) (s : SatState) (assumed : List Lit) (atoms : List ℕ) (r : Result (Option ℕ) E) → Grows old.log log
-    → HoldsMore log old.sat.clauses s.clauses → IfOk r (λ o. o ≡ None → IsSatisfied log s assumed atoms) → IfOk r (λ o. o ≡ None → Satisfies s old assumed)
+    → HoldsMore log old.sat.clauses s.clauses → IfOk r (λ o. o ≡ None → IsSatisfied log s assumed atoms) → IfOk r (λ o. o ≡ None → Satisfies s old assumed atoms)
 satisfied_by old log s assumed atoms (Ok o) grows holds h = λ none. satisfied_before old log s assumed atoms grows holds (h none)
 satisfied_by old log s assumed atoms (Err e) grows holds h = tt

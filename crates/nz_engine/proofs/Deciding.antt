@@ -1,27 +1,27 @@
 -- What a search found makes true what is asserted and assumed, by the law of the gate table.
-use Rattle.std.proofs.Common.{◌≡◌, ℕ, ◌<◌, ◌||◌, Bool, true, false, List, [], ◌∷◌, ◌++◌, length, map, get_or, Option, Some, None, option_map, inl, inr, refl, sym, ap, subst, ◌∙◌}
+use Rattle.std.proofs.Common.{◌≡◌, ℕ, ◌<◌, Bool, true, false, List, [], ◌∷◌, ◌++◌, length, map, get_or, Option, Some, option_map, inl, inr, refl, sym, ap, subst, ◌∙◌}
 use Rattle.std.specs.Prelude.{All, Contains, flat_map, slice_get, unwrap_or}
 use Rattle.std.specs.List.{AllByRecursion}
 use Rattle.std.proofs.lemmas.Bool.{or_parts}
 use Rattle.std.proofs.lemmas.Option.{slice_get-get_or}
 use Rattle.std.proofs.lemmas.List.Elements.{All-contains, All-contains_itself, All-from_recursion, All-map, All-weaker, recursion_from_All}
 use Rattle.nz_lists.proofs.Elements.{AllByRecursion-map}
-use Rattle.nz_spec.specs.Term.{Constant, constant, falsum, Head, Term, apply, Terms, no_terms, Assignment, Value, truth, value_of, is_true, is_bool, is_numeric, hold_number, holds_number, default_value, IsTrueUnder}
+use Rattle.nz_spec.specs.Term.{Constant, constant, falsum, Term, apply, no_terms, Assignment, Value, truth, value_of, is_true, is_bool, is_numeric, holds_number, default_value, IsTrueUnder}
 use Rattle.nz_spec.specs.Table.{Node, IsTable, term_in, terms_at, listed_value, assignment_by, HasOneNumberEach, OneNumber, TermOfNode, AssignsByNumber}
 use Rattle.nz_spec.specs.Order.{post_order, AreFirst}
 use Rattle.nz_spec.specs.Decide.{IsValueOf, AreModelValues}
-use Rattle.nz_spec.specs.Gates.{gate_clauses, IsGated, HasTrueLiteral, IsTruthAt, NumberedGatesDecide, GatedTermsArePlain}
+use Rattle.nz_spec.specs.Gates.{gate_clauses, IsGated, HasTrueLiteral, IsTruthAt, NumberedGatesDecide}
 use Rattle.nz_spec.specs.Literal.{are_same_sign, AreTrueLiterals}
 use Rattle.nz_log.specs.declared.lits.Lit.{Lit}
-use Rattle.nz_log.specs.Lits.{yes, literal_of, clause_in, gates_at}
+use Rattle.nz_log.specs.Lits.{literal_of, clause_in, gates_at}
 use Rattle.nz_log.specs.Sound.{AreWithin, GatesAreNamed}
 use Rattle.nz_sat.specs.Sats.{SatState, IsTrueClause, IsTrueLit, truth_of}
 use Rattle.nz_engine.specs.Clausal.{IsAtomic, kids_at, unit_of}
-use Rattle.nz_engine.specs.Posed.{AreAtomsOf, IsFound, terms_named, value_at}
+use Rattle.nz_engine.specs.Posed.{IsFound, terms_named, value_at}
 use Rattle.nz_engine.proofs.GateNames.{gates_named}
 use Rattle.nz_engine.proofs.Modeling.{constant_values, is_assignment, listed_truth}
 use Rattle.nz_engine.proofs.Orders.{plain_head}
-use Rattle.nz_engine.proofs.Posing.{all_named, all_of_first, all_of_others, plain_atoms}
+use Rattle.nz_engine.proofs.Posing.{all_named, all_of_first, all_of_others, each_of}
 
 -- ---- Parts
 
@@ -33,12 +33,7 @@ spread P seen (t ∷ ts) list (inr f) s l =
     let both = subst (AllByRecursion P) f.2 l in
     (both.0, spread P (t ∷ seen) ts f.1 f.3 (both.0, s) both.1)
 
--- what holds of two lists together holds of each
-each_of : {X : Type 0} (P : X → Type 0) (xs ys : List X) → AllByRecursion P (xs ++ ys) → AllByRecursion P xs × AllByRecursion P ys
-each_of P [] ys h = (tt, h)
-each_of P (x ∷ xs) ys h = let rest = each_of P xs ys h.1 in ((h.0, rest.0), rest.1)
-
--- and so of many
+-- what holds of all of many lists holds of all of each
 each_part : {X Y : Type 0} (P : Y → Type 0) (f : X → List Y) (xs : List X) → AllByRecursion P (flat_map f xs) → AllByRecursion (λ x. AllByRecursion P (f x)) xs
 each_part P f [] h = tt
 each_part P f (x ∷ xs) h = let both = each_of P (f x) (flat_map f xs) h in (both.0, each_part P f xs both.1)
@@ -119,9 +114,9 @@ signs_true : (ns : List Node) (a : Assignment) (ls : List Lit) → AllByRecursio
 signs_true ns a [] h = tt
 signs_true ns a (l ∷ ls) h = (ap (λ v. are_same_sign l.sign (is_true v)) h.0 ∙ itself l.sign, signs_true ns a ls h.1)
 
-module _ (law : NumberedGatesDecide) (plain : GatedTermsArePlain) (named : GatesAreNamed) (one_number : OneNumber) (of_node : TermOfNode) (assigns : AssignsByNumber)
-  (ns : List Node) (table : IsTable ns) (asserted : List ℕ) (assumed : List Lit) (atoms : List ℕ) (s : SatState) (found : IsFound ns asserted assumed atoms s)
-  (ps : List (ℕ × Value)) (listed : ps ≡ flat_map (value_at ns s) atoms) where
+module _ (law : NumberedGatesDecide) (named : GatesAreNamed) (one_number : OneNumber) (of_node : TermOfNode) (assigns : AssignsByNumber)
+    (ns : List Node) (table : IsTable ns) (asserted : List ℕ) (assumed : List Lit) (atoms : List ℕ) (s : SatState) (found : IsFound ns asserted assumed atoms s)
+    (ps : List (ℕ × Value)) (listed : ps ≡ flat_map (value_at ns s) atoms) where
   abbrev values : Assignment
   values = assignment_by ns ps
 
@@ -129,7 +124,7 @@ module _ (law : NumberedGatesDecide) (plain : GatedTermsArePlain) (named : Gates
   within t has = All-contains (λ i. i < length ns) atoms t found.are.within has
 
   numberless : (t : ℕ) → Contains atoms t → holds_number (term_in ns t) ≡ false
-  numberless t has = All-contains (λ i. holds_number (term_in ns i) ≡ false) atoms t (plain_atoms plain ns (asserted ++ terms_named assumed) atoms found.gated found.are) has
+  numberless t has = All-contains (λ i. holds_number (term_in ns i) ≡ false) atoms t found.plain has
 
   -- a constant among the atoms has its truth as its value
   constant_value : (t : ℕ) → Contains atoms t → (c : Constant) (sign : Bool) → term_in ns t ≡ apply (constant c) no_terms → truth_of s t ≡ Some sign → values c ≡ truth sign

@@ -1,5 +1,5 @@
 -- The values that a search gives constants: each is of its constant's sort, and is listed with its number.
-use Rattle.std.proofs.Common.{◌≡◌, inl, inr, ℕ, ◌<◌, ◌==◌, Bool, true, false, true≢false, List, [], ◌∷◌, ◌++◌, length, Option, Some, None, option_map, refl, sym, ap, ◌∙◌, subst, arith, eq-eqb}
+use Rattle.std.proofs.Common.{◌≡◌, inl, inr, ℕ, ◌<◌, ◌==◌, Bool, true, false, true≢false, List, [], ◌∷◌, ◌++◌, Option, Some, None, option_map, refl, sym, ap, ◌∙◌, subst, arith, eq-eqb}
 use Rattle.std.specs.Prelude.{Contains, flat_map, if◌then◌else◌, slice_get}
 use Rattle.std.specs.List.{AllByRecursion}
 use Rattle.std.proofs.lemmas.Bool.{and_parts}
@@ -85,9 +85,9 @@ listed_at ns s t b own (u ∷ us) has =
     let rest = flat_map (value_at ns s) us in
     elim (eqb_tells u t) [
       | inl same ↦
-      ap (λ k. listed_value (value_at ns s k ++ rest) t) same.1 ∙ ap (λ ps. listed_value (ps ++ rest) t) own ∙ ap (λ x. if x then Some (truth b) else listed_value rest t) (eq-eqb t t refl)
+          ap (λ k. listed_value (value_at ns s k ++ rest) t) same.1 ∙ ap (λ ps. listed_value (ps ++ rest) t) own ∙ ap (λ x. if x then Some (truth b) else listed_value rest t) (eq-eqb t t refl)
       | inr other ↦
-      skipped t u (option_map (λ (m : Node). m.head) (slice_get ns u)) (truth_of s u) rest other.0 ∙ listed_at ns s t b own us (Contains-tail u us t other.1 has)
+          skipped t u (option_map (λ (m : Node). m.head) (slice_get ns u)) (truth_of s u) rest other.0 ∙ listed_at ns s t b own us (Contains-tail u us t other.1 has)
     ]
 
 -- a constant of sort Bool with a truth is listed with it

@@ -20,8 +20,8 @@ use Rattle.nz_log.specs.declared.note.Note.TheVariants.{Atom}
 use Rattle.nz_log.specs.Notes.{noted_line, noted_list, AreNotedWithin}
 use Rattle.nz_log.specs.Verdicts.{task_in}
 use Rattle.nz_sat.specs.Numbers.{noted_atoms}
-use Rattle.nz_engine.specs.Posed.{NotesFirst, Works, terms_named, with_atoms}
-use Rattle.nz_engine.proofs.Orders.{ArePlain, HasNoNumber, parts_boolean}
+use Rattle.nz_engine.specs.Posed.{ArePlain, NotesFirst, Works, terms_named, with_atoms}
+use Rattle.nz_engine.proofs.Orders.{HasNoNumber, parts_boolean}
 
 -- the lines that note these
 abbrev pub notes_of : List ℕ → List (WorkLine Note)

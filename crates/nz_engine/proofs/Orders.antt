@@ -1,6 +1,6 @@
 -- What terms without numbers are made of, in an order of them, holds no number.
 use Rattle.std.proofs.Common.{◌≡◌, ℕ, Bool, true, false, true≢false, refl, not, List, [], ◌∷◌, map, inl, inr, sym, subst}
-use Rattle.std.specs.Prelude.{All, flat_map}
+use Rattle.std.specs.Prelude.{flat_map}
 use Rattle.std.specs.List.{AllByRecursion}
 use Rattle.std.proofs.lemmas.Bool.{or_parts}
 use Rattle.std.proofs.lemmas.List.Elements.{All-from_recursion, All-map, recursion_from_All}
@@ -9,6 +9,7 @@ use Rattle.nz_spec.specs.Term.{Head, head_sort, is_bool, is_int, is_numeric, Ter
 use Rattle.nz_spec.specs.Gates.{is_boolean_term}
 use Rattle.nz_spec.specs.Table.{Node, term_in}
 use Rattle.nz_spec.specs.Order.{post_order, post_orders, AreFirst}
+use Rattle.nz_engine.specs.Posed.{ArePlain}
 
 abbrev pub HasNoNumber : Term → Type 0
 HasNoNumber t = holds_number t ≡ false
@@ -32,10 +33,6 @@ first_numberless : (seen all list : List Term) → AreFirst seen all list → Al
 first_numberless seen [] list h f = subst (AllByRecursion HasNoNumber) (sym h) tt
 first_numberless seen (t ∷ ts) list (inl h) f = first_numberless seen ts list h.1 f.1
 first_numberless seen (t ∷ ts) list (inr h) f = subst (AllByRecursion HasNoNumber) (sym h.2) (f.0, first_numberless (t ∷ seen) ts h.1 h.3 f.1)
-
--- the terms of these numbers hold none
-abbrev pub ArePlain : List Node → List ℕ → Type 0
-ArePlain ns ts = All (λ t. holds_number (term_in ns t) ≡ false) ts
 
 pub order_numberless : (ns : List Node) (roots ids : List ℕ) → AreFirst [] (flat_map post_order (map (term_in ns) roots)) (map (term_in ns) ids)
     → ArePlain ns roots → ArePlain ns ids

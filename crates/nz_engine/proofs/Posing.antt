@@ -1,6 +1,7 @@
 -- What a problem is made of.
-use Rattle.std.proofs.Common.{◌≡◌, ℕ, suc, ◌<◌, false, List, [], ◌++◌, length, take, drop, map, get_or, Some, None, sym, ap, subst, arith}
+use Rattle.std.proofs.Common.{◌≡◌, ℕ, suc, ◌<◌, false, List, [], ◌∷◌, ◌++◌, length, take, drop, map, get_or, Some, None, sym, ap, subst, arith}
 use Rattle.std.specs.Prelude.{All, Contains, flat_map, slice_get}
+use Rattle.std.specs.List.{AllByRecursion}
 use Rattle.std.proofs.lemmas.List.{take-append-drop, take_all}
 use Rattle.std.proofs.lemmas.List.Elements.{All-append, All-contains, All-contains_itself, All-from_recursion, All-map, All-weaker, Contains-append_left, Contains-append_right, Contains-get_or, recursion_from_All}
 use Rattle.std.proofs.lemmas.Option.{slice_get-get_or}
@@ -13,8 +14,8 @@ use Rattle.nz_spec.specs.Gates.{IsGated, GatedTermsArePlain}
 use Rattle.nz_log.specs.declared.lits.Lit.{Lit}
 use Rattle.nz_log.specs.Sound.{live_at}
 use Rattle.nz_engine.specs.Clausal.{IsAtomic}
-use Rattle.nz_engine.specs.Posed.{AreAtomsOf, terms_named}
-use Rattle.nz_engine.proofs.Orders.{ArePlain, order_numberless}
+use Rattle.nz_engine.specs.Posed.{AreAtomsOf, ArePlain, terms_named}
+use Rattle.nz_engine.proofs.Orders.{order_numberless}
 
 contains_in_front : (n : ℕ) (xs : List ℕ) (x : ℕ) → Contains (take n xs) x → Contains xs x
 contains_in_front n xs x c = subst (λ l. Contains l x) (take-append-drop n xs) (Contains-append_left (take n xs) (drop n xs) x c)
@@ -44,6 +45,11 @@ all_of_first P xs ys h = All-weaker (Contains xs) P (λ x c. All-contains P (xs 
 -- and of the others
 pub all_of_others : {X : Type 0} (P : X → Type 0) (xs ys : List X) → All P (xs ++ ys) → All P ys
 all_of_others P xs ys h = All-weaker (Contains ys) P (λ x c. All-contains P (xs ++ ys) x h (Contains-append_right xs ys x c)) ys (All-contains_itself ys)
+
+-- both, where what holds is told by recursion
+pub each_of : {X : Type 0} (P : X → Type 0) (xs ys : List X) → AllByRecursion P (xs ++ ys) → AllByRecursion P xs × AllByRecursion P ys
+each_of P [] ys h = (tt, h)
+each_of P (x ∷ xs) ys h = let rest = each_of P xs ys h.1 in ((h.0, rest.0), rest.1)
 
 -- what holds of the terms that literals name holds of those of the literals
 pub all_named : (P : ℕ → Type 0) (ls : List Lit) → All P (terms_named ls) → All (λ (l : Lit). P l.term) ls

@@ -12,9 +12,8 @@ use Rattle.nz_log.specs.Verdicts.{task_in}
 use Rattle.nz_sat.specs.Numbers.{noted_atoms}
 use Rattle.nz_sat.specs.Sats.{IsAsked, IsLegalWork}
 use Rattle.nz_engine.specs.Clausal.{ClausesState, AreIn}
-use Rattle.nz_engine.specs.Posed.{AreAtomsOf, NotesFirst, Works, terms_named, with_atoms}
+use Rattle.nz_engine.specs.Posed.{AreAtomsOf, ArePlain, NotesFirst, Works, terms_named, with_atoms}
 use Rattle.nz_engine.proofs.Naming.{atoms_noted, lines_noted, nameable, no_units, noted_once, notes_of, works_first, works_solved}
-use Rattle.nz_engine.proofs.Orders.{ArePlain}
 use Rattle.nz_engine.proofs.Posing.{all_named, all_of_others}
 
 module _ (ns : List Node) (levels : List (List ℕ)) (assumed : List Lit) where

@@ -24,6 +24,7 @@ use Rattle.nz_log.specs.Verdicts.{OnUnsat, task_in}
 use Rattle.nz_sat.specs.Conflicts.{Refutes}
 use Rattle.nz_engine.specs.Engines.{IsInOrder, literals_in}
 use Rattle.nz_engine.specs.Posed.{IsAnswer}
+use Rattle.nz_engine.proofs.Posing.{each_of}
 
 -- ---- Assertions of a level
 
@@ -35,15 +36,11 @@ live_front ns levels level =
     sym (map-append (term_in ns) (asserted_numbers front) (asserted_numbers back))
     ∙ ap (map (term_in ns)) (sym (flat_map-append (λ (l : List ℕ). l) front back) ∙ ap asserted_numbers (take-append-drop (suc level) levels))
 
-each_of_front : {X : Type 0} (P : X → Type 0) (xs ys : List X) → AllByRecursion P (xs ++ ys) → AllByRecursion P xs
-each_of_front P [] ys h = tt
-each_of_front P (x ∷ xs) ys h = (h.0, each_of_front P xs ys h.1)
-
 live_true : (ns : List Node) (levels : List (List ℕ)) (level : ℕ) (a : Assignment) → AllByRecursion (IsTrueUnder a) (asserted_terms ns levels)
     → AllByRecursion (IsTrueUnder a) (live_terms ns levels level)
 live_true ns levels level a h =
-    each_of_front (IsTrueUnder a) (live_terms ns levels level) (map (term_in ns) (asserted_numbers (drop (suc level) levels)))
-    (subst (AllByRecursion (IsTrueUnder a)) (sym (live_front ns levels level)) h)
+    (each_of (IsTrueUnder a) (live_terms ns levels level) (map (term_in ns) (asserted_numbers (drop (suc level) levels)))
+    (subst (AllByRecursion (IsTrueUnder a)) (sym (live_front ns levels level)) h)).0
 
 -- what is derived at a level is derived from all that is asserted
 derived_from_all : DerivationsGrow → (ns : List Node) (levels : List (List ℕ)) (level : ℕ) (steps : List Step) (c : Clause)

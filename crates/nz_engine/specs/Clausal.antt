@@ -1,5 +1,5 @@
 -- Clauses in a log, each held by a search.
-use Rattle.std.specs.Prelude.{◌≡◌, ℕ, List, [], ◌∷◌, All, Contains, Some, None, slice_get}
+use Rattle.std.specs.Prelude.{◌≡◌, ℕ, List, [], ◌∷◌, All, Contains, Some, None, IsSome, slice_get}
 use Rattle.nz_spec.specs.Table.{Node}
 use Rattle.nz_spec.specs.Literal.{once}
 use Rattle.nz_log.specs.declared.lits.Lit.{Lit}
@@ -7,7 +7,7 @@ use Rattle.nz_log.specs.Lits.{yes, are_same_lit}
 use Rattle.nz_log.specs.Logs.{LogState, IsLive, empty_log, literals_at}
 use Rattle.nz_log.specs.Sound.{IsLog}
 use Rattle.nz_sat.specs.declared.clauses.Held.{Held}
-use Rattle.nz_sat.specs.Sats.{SatState, AreHeld, IsTrueClause, IsTrueLit}
+use Rattle.nz_sat.specs.Sats.{SatState, AreHeld, IsTrueClause, IsTrueLit, truth_of}
 
 pub record ClausesState : Type 0 where
   pub log : LogState
@@ -53,7 +53,8 @@ pub record HoldsAlso (old new : ClausesState) (more : List (List Lit)) : Type 0 
 abbrev pub unit_of : ℕ → List Lit
 unit_of t = yes t ∷ []
 
--- Each clause that was held has a true literal, and each assumed literal is true.
-pub record Satisfies (s : SatState) (c : ClausesState) (assumed : List Lit) : Type 0 where
+-- Each clause that was held has a true literal, each assumed literal is true, and each of the atoms has a truth.
+pub record Satisfies (s : SatState) (c : ClausesState) (assumed : List Lit) (atoms : List ℕ) : Type 0 where
   pub clauses : (ls : List Lit) → HasClause c ls → IsTrueClause s ls
   pub assumed_hold : All (IsTrueLit s) assumed
+  pub atoms_decided : All (λ (t : ℕ). IsSome (truth_of s t)) atoms

@@ -1,6 +1,6 @@
 -- A problem: what is asserted and assumed, and what it is made of.
-use Rattle.std.specs.Prelude.{◌≡◌, ℕ, ◌<◌, ◌++◌, Bool, List, [], ◌∷◌, length, All, Contains, Option, Some, flat_map, if◌then◌else◌, map, option_map, slice_get, take}
-use Rattle.nz_spec.specs.Term.{Head, constant, Value, is_bool, truth}
+use Rattle.std.specs.Prelude.{◌≡◌, ℕ, ◌<◌, ◌++◌, Bool, false, List, [], ◌∷◌, length, All, Contains, Option, Some, flat_map, if◌then◌else◌, map, option_map, slice_get, take}
+use Rattle.nz_spec.specs.Term.{Head, constant, Value, is_bool, truth, holds_number}
 use Rattle.nz_spec.specs.Table.{Node, term_in, assignment_by}
 use Rattle.nz_spec.specs.Order.{post_order, AreFirst}
 use Rattle.nz_spec.specs.Decide.{asserted_terms, AreModelValues}
@@ -32,6 +32,10 @@ pub record AreAtomsOf (ns : List Node) (roots atoms : List ℕ) : Type 0 where
   pub atomic : All (IsAtomic ns atoms) atoms
   pub roots_in : All (Contains atoms) roots
 
+-- the terms hold no number
+abbrev pub ArePlain : List Node → List ℕ → Type 0
+ArePlain ns ts = All (λ t. holds_number (term_in ns t) ≡ false) ts
+
 -- ---- Truths
 
 -- the clauses of the atoms, and that each assertion is true
@@ -41,6 +45,7 @@ clauses_of ns asserted atoms = flat_map (gates_at ns) atoms ++ map unit_of asser
 -- What is asserted and assumed is of the gate table, and under the truths of its atoms each clause and each assumed literal is true.
 pub record IsFound (ns : List Node) (asserted : List ℕ) (assumed : List Lit) (atoms : List ℕ) (s : SatState) : Type 0 where
   pub are : AreAtomsOf ns (asserted ++ terms_named assumed) atoms
+  pub plain : ArePlain ns atoms
   pub gated : All (λ t. IsGated (term_in ns t)) (asserted ++ terms_named assumed)
   pub clauses : All (IsTrueClause s) (clauses_of ns asserted atoms)
   pub assumed_hold : All (IsTrueLit s) assumed

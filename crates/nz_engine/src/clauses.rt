@@ -142,7 +142,7 @@ impl Clauses {
         requires once { StandOnce (noted_atoms work.old.lines) }
         requires consistent { AreConsistent assumed.now }
         requires notes { unit_count work.old.lines ≡ 0 }
-        ensures satisfied { IfOk result (λ r. r ≡ None → Satisfies self.new.sat self.old assumed.now) }
+        ensures satisfied { IfOk result (λ r. r ≡ None → Satisfies self.new.sat self.old assumed.now (noted_atoms work.old.lines)) }
         ensures refuted { IfOk result (λ r. IfSome r (λ id. AreNegations assumed.now (literals_in self.new.log id))) }
         ensures order { (ns : List Node) (levels : List (List ℕ)) → All (λ t. t < length ns) (noted_atoms work.old.lines) → IsLog ns levels self.old.log → IsLog ns levels self.new.log }
         ensures legal { (ns : List Node) (levels : List (List ℕ)) (q : Task) → IsAsked ns levels self.old.log (noted_atoms work.old.lines) assumed.now q → IsLegalWork ns q work.old → IsLegalWork ns q work.new }

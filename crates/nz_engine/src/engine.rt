@@ -86,9 +86,8 @@ impl Decide for Engine {
 
     fn steps(&self, id: ClauseId) -> Result<Vec<Step>, Memory> {
         derivations_grow();
-        match &self.log {
-            Some(log) => log.steps(id),
-            None => unreachable!(),
-        }
+        // A clause that can be asked for is of a log.
+        let Some(log) = &self.log else { unreachable!() };
+        log.steps(id)
     }
 }

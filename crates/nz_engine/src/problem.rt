@@ -11,7 +11,7 @@ ghost use Rattle.nz_log.specs.Sound.{AreWithin};
 ghost use Rattle.nz_log.specs.Verdicts.{OnSpent, task_in};
 ghost use Rattle.nz_engine.specs.Clausal.{AreIn, HasClause};
 ghost use Rattle.nz_engine.specs.Engines.{IsInOrder};
-ghost use Rattle.nz_engine.specs.Posed.{AreAtomsOf, IsAnswer, IsFound, NotesFirst, Works, clauses_of, terms_named, value_at, with_atoms};
+ghost use Rattle.nz_engine.specs.Posed.{AreAtomsOf, ArePlain, IsAnswer, IsFound, NotesFirst, Works, clauses_of, terms_named, value_at, with_atoms};
 
 use crate::clauses::Clauses;
 use crate::levels::Levels;
@@ -72,6 +72,7 @@ fn pose(alloc: Global, levels: &Levels, terms: &Terms, assumed: &[Lit]) -> Resul
     requires assumed_gated { All (λ l. IsGated (term_in terms.now l.term)) assumed.now }
     ensures asserted { IfOk result (λ p. p.asserted.items ≡ asserted_numbers levels.now) }
     ensures atoms { IfOk result (λ p. AreAtomsOf terms.now (asserted_numbers levels.now ++ terms_named assumed.now) p.atoms.items) }
+    ensures plain { IfOk result (λ p. ArePlain terms.now p.atoms.items) }
     ensures clauses { IfOk result (λ p. AreIn terms.now levels.now p.atoms.items p.clauses) }
     ensures held { IfOk result (λ p. All (HasClause p.clauses) (clauses_of terms.now p.asserted.items p.atoms.items)) }
 {

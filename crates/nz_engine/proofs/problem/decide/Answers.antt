@@ -7,11 +7,11 @@ use Rattle.nz_log.specs.Logs.{LogState}
 use Rattle.nz_log.specs.Sound.{IsLog}
 use Rattle.nz_log.specs.Verdicts.{task_in}
 use Rattle.nz_engine.specs.Engines.{IsInOrder, literals_in}
+use Rattle.nz_sat.specs.Numbers.{noted_atoms}
 use Rattle.nz_sat.specs.Sats.{IsTrueClause}
 use Rattle.nz_engine.specs.Clausal.{HasClause, Satisfies}
-use Rattle.nz_engine.specs.Posed.{AreAtomsOf, IsFound, clauses_of, terms_named}
+use Rattle.nz_engine.specs.Posed.{AreAtomsOf, ArePlain, IsFound, clauses_of, terms_named}
 use Rattle.nz_engine.proofs.Naming.{works_none}
-use Rattle.nz_engine.proofs.Orders.{ArePlain}
 use Rattle.nz_engine.proofs.Posing.{AreGatedAt, gated_roots, plain_roots}
 use Rattle.nz_engine.proofs.Ready.{noting, ready, ready_asked, ready_assumed, ready_clauses, ready_once, ready_units, ready_within, solved}
 use Rattle.nz_engine.proofs.Refuting.{dead_end}
@@ -217,9 +217,10 @@ returns-in_ok-values-in-None-clause-answer c =
     let problem = c.in_ok-problem.problem in
     let asserted : List ℕ = problem.asserted.items in
     let same : asserted ≡ asserted_numbers c.args.levels.now = c.in_ok-problem.ensures.asserted in
-    let satisfied : Satisfies c.solve.new.self.sat problem.clauses assumed = search rules in
+    let satisfied : Satisfies c.solve.new.self.sat problem.clauses assumed (noted_atoms c.note_atoms.new.work.lines) = search rules in
     let found : IsFound ns asserted assumed problem.atoms.items c.solve.new.self.sat = record {
       are = subst (λ ids. AreAtomsOf ns (ids ++ terms_named assumed) problem.atoms.items) (sym same) c.in_ok-problem.ensures.atoms;
+      plain = c.in_ok-problem.ensures.plain;
       gated = gated_roots ns asserted assumed (subst (AreGatedAt ns) (sym same) c.requires.gated) c.requires.assumed_gated;
       clauses = All-weaker (HasClause problem.clauses) (IsTrueClause c.solve.new.self.sat) satisfied.clauses (clauses_of ns asserted problem.atoms.items) c.in_ok-problem.ensures.held;
       assumed_hold = satisfied.assumed_hold;

@@ -21,7 +21,7 @@ returns c =
       model = IfOk-weaker c.values_of.result (λ ps. ps ≡ flat_map (value_at ns s) c.deref.result.now)
           (λ ps. (assumed : List Lit) → IsFound ns ids assumed atoms s → AreModelValues ns (map (term_in ns) ids) [] ps × AreTrueLiterals (assignment_by ns ps) (map (literal_of ns) assumed))
           (λ ps listed assumed found.
-          made_true c.gates_decide.ensures.numbers c.gates_decide.ensures.plain c.gates_are_named.ensures.named c.one_number.ensures.one c.term_of_node.ensures.node
+          made_true c.gates_decide.ensures.numbers c.gates_are_named.ensures.named c.one_number.ensures.one c.term_of_node.ensures.node
           c.assigns_by_number.ensures.listed ns c.known_table.ensures.table ids assumed atoms s found ps (listed ∙ ap (flat_map (value_at ns s)) c.deref.ensures.value))
           c.values_of.ensures.values;
     }

@@ -4,15 +4,22 @@ use Rattle.nz_spec.specs.Decide.{asserted_numbers}
 use Rattle.nz_log.specs.Lits.{gates_at}
 use Rattle.nz_log.specs.Sound.{live_at}
 use Rattle.nz_engine.specs.Clausal.{AreIn, HoldsAlso, unit_of}
-use Rattle.nz_engine.specs.Posed.{AreAtomsOf, terms_named}
+use Rattle.nz_engine.specs.Posed.{AreAtomsOf, ArePlain, terms_named}
 use Rattle.nz_engine.proofs.Adding.{and_more, none_in}
-use Rattle.nz_engine.proofs.Orders.{ArePlain}
 use Rattle.nz_engine.proofs.Posing.{all_live, all_of_first, gated_roots, plain_atoms}
 use Rattle.nz_engine.proofs.problem.pose.Goals as goal
 
 pub returns-clause-atoms : goal.returns-clause-atoms
 returns-clause-atoms c =
     subst (λ ids. AreAtomsOf c.args.terms.now (ids ++ terms_named c.args.assumed.now) c.in_ok-atoms.atoms.items) (c.deref.ensures.value ∙ c.in_ok-asserted.ensures.all) c.in_ok-atoms.ensures.atoms
+
+pub returns-clause-plain : goal.returns-clause-plain
+returns-clause-plain c =
+    let ns = c.args.terms.now in
+    let roots = asserted_numbers c.args.levels.now ++ terms_named c.args.assumed.now in
+    let are : AreAtomsOf ns roots c.in_ok-atoms.atoms.items =
+    subst (λ ids. AreAtomsOf ns (ids ++ terms_named c.args.assumed.now) c.in_ok-atoms.atoms.items) (c.deref.ensures.value ∙ c.in_ok-asserted.ensures.all) c.in_ok-atoms.ensures.atoms in
+    plain_atoms c.gates_decide.ensures.plain ns roots c.in_ok-atoms.atoms.items (gated_roots ns (asserted_numbers c.args.levels.now) c.args.assumed.now c.requires.gated c.requires.assumed_gated) are
 
 pub returns-clause-clauses : goal.returns-clause-clauses
 returns-clause-clauses c =

@@ -27,5 +27,5 @@ returns-clause-legal c = λ ns levels q asked legal.
 pub returns-clause-satisfied : goal.returns-clause-satisfied
 returns-clause-satisfied c =
     let old : ClausesState = record { log = c.self.inside.log; sat = c.self.inside.sat } in
-    subst (λ (s : ClausesState). IfOk c.solve.result (λ o. o ≡ None → Satisfies c.solve.new.self s c.args.assumed.now)) c.self.view_is
+    subst (λ (s : ClausesState). IfOk c.solve.result (λ o. o ≡ None → Satisfies c.solve.new.self s c.args.assumed.now (noted_atoms c.args.work.now.lines))) c.self.view_is
     (satisfied_by old c.solve.new.log c.solve.new.self c.args.assumed.now (noted_atoms c.args.work.now.lines) c.solve.result c.solve.ensures.grows c.solve.ensures.held c.solve.ensures.satisfied)

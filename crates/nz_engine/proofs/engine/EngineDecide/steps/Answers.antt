@@ -8,8 +8,8 @@ use Rattle.nz_engine.specs.Engines.{EngineState, IsInOrder, IsKept, clause_at, l
 use Rattle.nz_engine.proofs.Refuting.{derived}
 use Rattle.nz_engine.proofs.engine.EngineDecide.steps.Goals as goal
 
-pub returns-in-Some : goal.returns-in-Some
-returns-in-Some c =
+pub returns : goal.returns
+returns c =
     let levels = c.self.inside.levels in
     let table = table_of c.self.inside.seen in
     let log = c.in-Some.log in
