@@ -1,4 +1,4 @@
-use Rattle.std.proofs.Common.{ℕ, false, List, [], ◌≡◌, ◌∙◌, map, Err, refl, rules, sym, ap, subst}
+use Rattle.std.proofs.Common.{ℕ, List, [], ◌≡◌, ◌∙◌, map, Err, refl, rules, sym, ap, subst}
 use Rattle.std.specs.Prelude.{All}
 use Rattle.nz_spec.specs.Live.{units_spent}
 use Rattle.nz_spec.specs.Legal.{IsSpentLegally}
