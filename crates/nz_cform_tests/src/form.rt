@@ -1,7 +1,5 @@
 //! The gates of terms that share arguments, each once.
-ghost use Rattle.std.specs.Prelude.{ℕ, ◌<◌, ◌≤◌, ◌++◌, [], ◌∷◌, length, IfOk, OnOk};
-ghost use Rattle.nz_log.specs.Logs.{told_level};
-ghost use Rattle.nz_cform.specs.Covering.{Covers};
+ghost use Rattle.std.specs.Prelude.{◌<◌, ◌≤◌, length, IfOk};
 
 use nz_base::{Memory, Text};
 use nz_cform::ClauseForm;

@@ -1,5 +1,5 @@
 //! A problem: what is asserted and assumed, its clauses, and the search over them.
-ghost use Rattle.std.specs.Prelude.{◌≡◌, ℕ, ◌<◌, ◌++◌, [], All, length, map, false, IfOk, IfErr, OnOk};
+ghost use Rattle.std.specs.Prelude.{◌≡◌, ◌<◌, ◌++◌, [], All, length, map, false, IfOk, IfErr, OnOk};
 ghost use Rattle.nz_spec.specs.Term.{holds_number};
 ghost use Rattle.nz_spec.specs.Table.{assignment_by, term_in};
 ghost use Rattle.nz_spec.specs.Literal.{AreTrueLiterals};

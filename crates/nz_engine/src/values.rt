@@ -1,8 +1,7 @@
 //! Whether literals are true, where constants have values.
-ghost use Rattle.std.specs.Prelude.{◌≡◌, ℕ, ◌<◌, length, map, All, IfOk};
+ghost use Rattle.std.specs.Prelude.{◌≡◌, length, IfOk};
 ghost use Rattle.std.specs.Bool.{OnTrue};
 ghost use Rattle.nz_spec.specs.Term as spec;
-ghost use Rattle.nz_spec.specs.Table.{assignment_by, term_in};
 ghost use Rattle.nz_log.specs.Sound.{AreWithin};
 ghost use Rattle.nz_truth.specs.declared.walk.Outcome.TheVariants as outcome;
 ghost use Rattle.nz_term.specs.declared.assign.Value.TheVariants as value;

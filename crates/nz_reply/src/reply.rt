@@ -10,7 +10,7 @@ use nz_frac::Wide;
 use nz_log::Note;
 use nz_sexpr::Heard;
 use nz_spec::table::term_stays;
-use nz_term::{Constant, Sort, TermId, Value};
+use nz_term::{Constant, Sort, Value};
 use std::alloc::Global;
 use std::marker::Model;
 

@@ -1,5 +1,5 @@
 //! The desk: what a command acts on, and the answer to it.
-ghost use Rattle.std.specs.Prelude.{◌≡◌, ◌<◌, [], ◌∷◌, ◌++◌, length, map, slice_get, All, Some, IfOk, IfErr, IfSome, IfNone, OnOk, false};
+ghost use Rattle.std.specs.Prelude.{◌≡◌, ◌<◌, [], ◌∷◌, ◌++◌, length, map, slice_get, All, Some, IfOk, IfErr, OnOk, false};
 ghost use Rattle.nz_sexpr.specs.View.{view, what_view};
 ghost use Rattle.nz_spec.specs.Text as text;
 ghost use Rattle.nz_spec.specs.Text.{intact};
