@@ -32,6 +32,7 @@ pub struct Problem {
     log: Log,
     sat: Sat,
     limit: u64,
+    left: u64,
 }
 
 impl Model for Problem {
@@ -47,15 +48,6 @@ impl Model for Problem {
     ghost invariant = { λ p. IsPosed p.terms p.asserted.items p.log p.sat };
 }
 
-/// What a search found.
-#[derive(Debug, Drop)]
-pub struct Found {
-    /// The literals of the clause that refutes the assumed ones, where there is one.
-    pub refuted: Option<Vec<Lit>>,
-    /// How many units weren't used.
-    pub left: u64,
-}
-
 impl Problem {
     /// A problem without clauses, each of whose searches may take so many units.
     pub fn new(alloc: Global, limit: u64) -> Result<Problem, Memory> {
@@ -67,6 +59,7 @@ impl Problem {
             log: Log::new(alloc)?,
             sat: Sat::new(alloc),
             limit,
+            left: limit,
         })
     }
 
@@ -135,8 +128,8 @@ impl Problem {
         self.assert(term)
     }
 
-    /// Searches under these assumed literals, where each term is an atom.
-    pub fn solve(&mut self, assumed: &[Lit]) -> Result<Found, Stop> {
+    /// Searches under these assumed literals, where each term is an atom. Answers the literals of the clause that refutes them, where there is one.
+    pub fn solve(&mut self, assumed: &[Lit]) -> Result<Option<Vec<Lit>>, Stop> {
         let count = self.terms.len();
         if !name_below(assumed, count) || !are_consistent(assumed) {
             return Err(Stop::Memory);
@@ -145,10 +138,18 @@ impl Problem {
         work.reserve(self.limit)?;
         note_atoms(count, &mut work)?;
         let refuted = self.sat.solve(&mut self.log, assumed, &mut work)?;
-        Ok(Found {
-            refuted: literals_of(self.alloc, &self.log, refuted)?,
-            left: work.left(),
-        })
+        self.left = work.left();
+        Ok(literals_of(self.alloc, &self.log, refuted)?)
+    }
+
+    /// Whether what is asserted and these literals can all be true.
+    pub fn holds(&mut self, assumed: &[Lit]) -> Result<bool, Stop> {
+        Ok(self.solve(assumed)?.is_none())
+    }
+
+    /// How many units the last search didn't use.
+    pub fn left(&self) -> u64 {
+        self.left
     }
 
     /// Whether a literal is true after the last search, where its term has a truth.
