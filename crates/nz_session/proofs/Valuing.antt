@@ -14,7 +14,7 @@ use Rattle.nz_spec.specs.Command.{Asked, Command, get_value, accepted}
 use Rattle.nz_spec.specs.Script.{asked_of, outcome_of}
 use Rattle.nz_spec.specs.Reply.{Shown, shown_value, shown_wide, term_shown, values as values_reply}
 use Rattle.nz_spec.specs.Right.{Context, shown_under, AreRightValues}
-use Rattle.nz_spec.specs.Tree.{Tree, literal, leaf, node, Trees, no_trees, trees}
+use Rattle.nz_spec.specs.Tree.{Tree}
 use Rattle.nz_spec.specs.Text.{intact}
 use Rattle.nz_elaborate.specs.declared.typed.Typed.{Typed}
 use Rattle.nz_elaborate.specs.Typed.{IsTyped, AreTyped}
