@@ -1,0 +1,3 @@
+mod Assuming
+mod Noting
+mod Posing

@@ -1,0 +1,9 @@
+-- None so far is the negation of another.
+use Rattle.std.proofs.Common.{ℕ, ◌<◌, get_or}
+use Rattle.std.specs.Prelude.{Contains}
+use Rattle.nz_log.specs.declared.lits.Lit.{Lit}
+use Rattle.nz_log.specs.Lits.{negated_lit}
+use Rattle.nz_sat_tests.proofs.problem.are_consistent.Given as goal
+
+abbrev pub invariant-loop-i : goal.invariant-loop-i
+invariant-loop-i l = (k : ℕ) (d : Lit) → k < l.i → Contains l.literals (negated_lit (get_or l.literals k d)) → ⊥
