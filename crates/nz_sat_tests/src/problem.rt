@@ -7,11 +7,10 @@ ghost use Rattle.nz_spec.specs.Table.{HasItsArguments, Node, term_in};
 ghost use Rattle.nz_spec.specs.Term.{head_fits};
 ghost use Rattle.nz_spec.specs.Work.{unit_count};
 ghost use Rattle.nz_term.specs.Heads.{head_of};
-ghost use Rattle.nz_log.specs.Lits.{gates_at};
+ghost use Rattle.nz_log.specs.Lits.{AreConsistent, gates_at};
 ghost use Rattle.nz_log.specs.Logs.{IsLive};
 ghost use Rattle.nz_log.specs.Sound.{live_at};
 ghost use Rattle.nz_sat.specs.Numbers.{noted_atoms};
-ghost use Rattle.nz_sat.specs.Sats.{AreConsistent};
 ghost use Rattle.nz_sat_tests.specs.Problems.{AreBelow, IsPosed};
 
 use nz_base::{Memory, Text, Work};

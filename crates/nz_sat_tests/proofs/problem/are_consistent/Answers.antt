@@ -1,8 +1,4 @@
 use Rattle.std.proofs.Common.{rules}
-use Rattle.std.specs.Prelude.{Contains}
-use Rattle.std.proofs.lemmas.List.Elements.{All-contains}
-use Rattle.nz_log.specs.declared.lits.Lit.{Lit}
-use Rattle.nz_log.specs.Lits.{negated_lit}
 use Rattle.nz_sat_tests.proofs.Assuming.{one_consistent}
 use Rattle.nz_sat_tests.proofs.problem.are_consistent.Goals as goal
 
@@ -10,7 +6,4 @@ pub loop-i-preserved : goal.loop-i-preserved
 loop-i-preserved c = one_consistent c.args.literals.now c.loop-i.i c.not.result _ c.loop-i-test.true c.not.ensures.negation c.if-contains.ensures.cases c.loop-i.invariant
 
 pub returns : goal.returns
-returns c = record {
-  consistent = λ l has.
-      All-contains (λ (m : Lit). Contains c.args.literals.now (negated_lit m) → ⊥) c.args.literals.now l (λ k d below. c.loop-i.invariant k d (search rules)) has;
-}
+returns c = record { consistent = λ k d below. c.loop-i.invariant k d (search rules) }
