@@ -11,7 +11,7 @@ use Rattle.nz_log.specs.Lits.{yes, are_same_lit}
 use Rattle.nz_log.specs.Logs.{LogState, Entry, empty_log, entry_at, IsLive, literals_at, level_at, Puts, gate_entry, given_entry}
 use Rattle.nz_log.specs.Sound.{IsLog}
 use Rattle.nz_sat.specs.declared.clauses.Held.{Held}
-use Rattle.nz_sat.specs.Conflicts.{Grows}
+use Rattle.nz_log.specs.Theories.{Grows}
 use Rattle.nz_sat.specs.Sats.{AreHeld, HoldsMore, IsSatisfied, IsTrueClause, SatState, held_of}
 use Rattle.nz_engine.specs.Clausal.{ClausesState, no_clauses, HasClause, HoldsAlso, IsAtomic, NamesAtoms, AreIn, Satisfies, kids_at, unit_of}
 use Rattle.nz_engine.proofs.GateNames.{gate_named, once_from}

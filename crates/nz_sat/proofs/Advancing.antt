@@ -9,7 +9,7 @@ use Rattle.nz_log.specs.Logs.{Entry, LogState}
 use Rattle.nz_sat.specs.declared.clauses.Held.{Held}
 use Rattle.nz_sat.specs.declared.trail.Assigned.{Assigned}
 use Rattle.nz_sat.specs.Clauses.{IsAssumed}
-use Rattle.nz_sat.specs.Conflicts.{Grows}
+use Rattle.nz_log.specs.Theories.{Grows}
 use Rattle.nz_sat.specs.Sats.{AreHeld}
 use Rattle.nz_sat.specs.Searching.{Advances, StaysInOrder}
 

@@ -17,7 +17,8 @@ use Rattle.nz_sat.specs.declared.clauses.Held.{Held}
 use Rattle.nz_sat.specs.declared.search.Search as state
 use Rattle.nz_sat.specs.declared.trail.Assigned.{Assigned}
 use Rattle.nz_sat.specs.Clauses.{Adds, HasReasonOf, IsAssumed, IsImplied, IsListed, IsOpen, IsReasonOf, IsReasonOneOf, IsWithin, Waits, by_true, by_two}
-use Rattle.nz_sat.specs.Conflicts.{AreUnmarked, Grows}
+use Rattle.nz_log.specs.Theories.{Grows}
+use Rattle.nz_sat.specs.Conflicts.{AreUnmarked}
 use Rattle.nz_sat.specs.Numbers.{numbered}
 use Rattle.nz_sat.specs.Sats.{AreHeld, held_of}
 use Rattle.nz_sat.specs.Searching.{AreOpen, AreWaiting, Carries, IsNoted, IsSearch, KeepsFirst, Learned, WereOpen, after_lesson, ids, learned_line}

@@ -23,7 +23,8 @@ use Rattle.nz_sat.specs.declared.clauses.Held.{Held}
 use Rattle.nz_sat.specs.declared.search.Search as state
 use Rattle.nz_sat.specs.declared.trail.Assigned.{Assigned}
 use Rattle.nz_sat.specs.Clauses.{IsAssumed, IsDead, IsOpen, by_true, by_two}
-use Rattle.nz_sat.specs.Conflicts.{Grows, HasTwoLast, IsLesson, StaysSound}
+use Rattle.nz_log.specs.Theories.{Grows}
+use Rattle.nz_sat.specs.Conflicts.{HasTwoLast, IsLesson, StaysSound}
 use Rattle.nz_sat.specs.Numbers.{numbered}
 use Rattle.nz_sat.specs.Sats.{HoldsMore, IsAsked}
 use Rattle.nz_sat.specs.Searching.{Advances, IsNoted, IsSearch, StaysInOrder, StaysLegal, WereOpen, ids, learned_line}

@@ -7,7 +7,8 @@ ghost use Rattle.nz_log.specs.declared.stop.Stop.TheVariants as stop;
 ghost use Rattle.nz_log.specs.Lits.{AreConsistent};
 ghost use Rattle.nz_log.specs.Logs.{IsLive, literals_at};
 ghost use Rattle.nz_log.specs.Sound.{IsLog};
-ghost use Rattle.nz_sat.specs.Conflicts.{Grows, Refutes};
+ghost use Rattle.nz_log.specs.Theories.{Grows};
+ghost use Rattle.nz_sat.specs.Conflicts.{Refutes};
 ghost use Rattle.nz_sat.specs.Numbers.{noted_atoms};
 ghost use Rattle.nz_sat.specs.Sats.{AreAtoms, AreHeld, HoldsMore, IsAsked, IsLegalWork, IsSatisfied, held_of, held_up_to, literal_truth};
 

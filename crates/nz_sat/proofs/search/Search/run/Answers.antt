@@ -9,7 +9,8 @@ use Rattle.nz_log.specs.Logs.{LogState, IsLive, literals_at}
 use Rattle.nz_sat.specs.declared.clauses.Held.{Held}
 use Rattle.nz_sat.specs.declared.search.Search.{Search}
 use Rattle.nz_sat.specs.Clauses.{IsAssumed}
-use Rattle.nz_sat.specs.Conflicts.{Grows, StaysSound, Refutes}
+use Rattle.nz_log.specs.Theories.{Grows}
+use Rattle.nz_sat.specs.Conflicts.{StaysSound, Refutes}
 use Rattle.nz_sat.specs.Searching.{Advances, AreWaiting, AssumesAll, IsSearch, StaysInOrder, assumed_entries}
 use Rattle.nz_sat.proofs.Advancing.{log_advances}
 use Rattle.nz_sat.proofs.Following.{stays_in_order}

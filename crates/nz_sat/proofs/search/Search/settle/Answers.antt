@@ -5,7 +5,8 @@ use Rattle.nz_spec.specs.Work.{WorkList}
 use Rattle.nz_log.specs.declared.note.Note.{Note}
 use Rattle.nz_log.specs.Logs.{LogState, literals_at}
 use Rattle.nz_sat.specs.declared.clauses.Held.{Held}
-use Rattle.nz_sat.specs.Conflicts.{Grows, StaysSound}
+use Rattle.nz_log.specs.Theories.{Grows}
+use Rattle.nz_sat.specs.Conflicts.{StaysSound}
 use Rattle.nz_sat.specs.declared.search.Search.{Search}
 use Rattle.nz_sat.specs.Clauses.{IsDead}
 use Rattle.nz_sat.specs.Searching.{Advances, Carries, IsNoted, IsSearch, OpenOrDead, StaysInOrder, ids}
