@@ -19,8 +19,10 @@ pub mod Numbering
 pub mod Refuting
 pub mod Resolving
 pub mod Retaining
+pub mod Returning
 pub mod Running
 pub mod Solving
 pub mod Standing
+pub mod Telling
 pub mod Trailing
 pub mod Visiting

@@ -59,11 +59,11 @@ assumed_only assumed =
     All-map (IsAssumed assumed) (λ (l : Lit). record { literal = l; level = 0; reason = None }) assumed (λ k d inside none level. Contains-get_or assumed k d inside)
 
 -- where the old lines are legal, so are the new ones
-pub stays_legal : (atoms noted : List ℕ) → atoms ≡ noted → (log : LogState) (assumed : List Lit) (old new : WorkList Note)
-    → StaysLegal atoms log (assumed_entries assumed) old new → (ns : List Node) (levels : List (List ℕ)) (q : Task) → IsAsked ns levels log noted assumed q
+pub stays_legal : (over : List Node → Type 0) (atoms noted : List ℕ) → atoms ≡ noted → (log : LogState) (assumed : List Lit) (old new : WorkList Note)
+    → StaysLegal over atoms log (assumed_entries assumed) old new → (ns : List Node) (levels : List (List ℕ)) (q : Task) → over ns → IsAsked ns levels log noted assumed q
     → IsLegalWork ns q old → IsLegalWork ns q new
-stays_legal atoms noted same log assumed old new legal ns levels q asked =
-    legal ns levels assumed q (assumed_only assumed) (subst (λ (us : List ℕ). IsAsked ns levels log us assumed q) (sym same) asked)
+stays_legal over atoms noted same log assumed old new legal ns levels q known asked =
+    legal ns levels assumed q known (assumed_only assumed) (subst (λ (us : List ℕ). IsAsked ns levels log us assumed q) (sym same) asked)
 
 -- ---- At the end
 
@@ -84,7 +84,7 @@ some_truth None some = some
 some_truth (Some e) some = some
 
 -- what holds on the trail is what the truths say
-pub satisfied : (log : LogState) (held : List Held) (assumed : List Lit) (atoms : List ℕ) (s : Search) (t : SatState) → t.clauses ≡ held
+pub satisfied : {T : Type 0} → (log : LogState) (held : List Held) (assumed : List Lit) (atoms : List ℕ) (s : Search) (t : SatState T) → t.clauses ≡ held
     → AreTruthsOn s.trail.entries t.truths → Satisfies log held assumed atoms s → IsSatisfied log t assumed atoms
 satisfied log held assumed atoms s t same truths h =
     let es = s.trail.entries in
