@@ -1,9 +1,10 @@
 -- What a conflict teaches: the clause that is put into the log, and its levels.
-use Rattle.std.proofs.Common.{◌≡◌, ◌≢◌, ℕ, ◌<◌, max, Bool, true, false, inl, inr, List, [], ◌∷◌, ◌++◌, length, Some, None, refl, sym, ap, subst, ◌∙◌, true≢false, arith}
+use Rattle.std.proofs.Common.{◌≡◌, ◌≢◌, ℕ, ◌<◌, max, Bool, true, false, inl, inr, List, [], ◌∷◌, ◌++◌, length, take, drop, Some, None, refl, sym, ap, subst, ◌∙◌, true≢false, arith}
 use Rattle.std.specs.Prelude.{All, Contains, MatchOption, Option, ◌≤◌}
 use Rattle.std.specs.Ordering.{nat_cmp, ord_max}
 use Rattle.std.proofs.lemmas.Bool.{cases_lt}
 use Rattle.std.proofs.lemmas.Bool.Decides.{nat_tests}
+use Rattle.std.proofs.lemmas.List.{take-append-drop}
 use Rattle.std.proofs.lemmas.List.Elements.{All-contains, All-contains_itself, All-weaker, Contains-append_left, Contains-push, Contains-push_cases}
 use Rattle.nz_spec.specs.Literal.{StandOnce}
 use Rattle.nz_log.specs.declared.lits.Lit.{Lit}
@@ -107,6 +108,20 @@ lone_again es c l lone same h =
       last = h.last;
       others = λ m has differ.
           elim (Contains-push_cases c l m has) [ inl before ↦ h.others m before differ | inr is ↦ absurd (differ (sym is ∙ sym same)) ];
+    }
+
+-- another one of the last level
+pub lone_other : (es : List Assigned) (c : List Lit) (i : ℕ) (other l : Lit) → IsLone es (take i c) (Some other) → Contains c l → level_on es l.term ≡ depth es → other ≢ l
+    → HasTwoLast es c
+lone_other es c i other l lone has last differ =
+    record {
+      first = other;
+      second = l;
+      has_first = subst (λ (d : List Lit). Contains d other) (take-append-drop i c) (Contains-append_left (take i c) (drop i c) other lone.has);
+      has_second = has;
+      differ = differ;
+      first_last = lone.last;
+      second_last = last;
     }
 
 -- what was found is the only one, or there are two

@@ -1,6 +1,6 @@
 -- What a search knows of a lesson, and that its line may follow.
-use Rattle.std.proofs.Common.{◌≡◌, ℕ, ◌-◌, ◌<◌, ◌≤◌, ◌++◌, ⊤, tt, Bool, not, List, [], ◌∷◌, length, map, refl, sym, ap, subst, ◌∙◌, arith}
-use Rattle.std.specs.Prelude.{All, Contains, IsTrue, filter}
+use Rattle.std.proofs.Common.{◌≡◌, ℕ, ◌-◌, ◌<◌, ◌≤◌, ◌++◌, Bool, not, List, [], ◌∷◌, length, map, refl, sym, ap, subst, ◌∙◌, arith, inl, inr}
+use Rattle.std.specs.Prelude.{⊤, All, Contains, IsTrue, filter}
 use Rattle.std.specs.List.{AllByRecursion}
 use Rattle.std.proofs.lemmas.List.{length-append, length-map, map-append}
 use Rattle.std.proofs.lemmas.List.Elements.{All-contains, All-weaker, filter-append}
@@ -24,7 +24,7 @@ use Rattle.nz_sat.specs.declared.search.Search as state
 use Rattle.nz_sat.specs.declared.trail.Assigned.{Assigned}
 use Rattle.nz_sat.specs.Clauses.{IsAssumed, IsDead, IsOpen, by_true, by_two}
 use Rattle.nz_log.specs.Theories.{Grows}
-use Rattle.nz_sat.specs.Conflicts.{HasTwoLast, IsLesson, StaysSound}
+use Rattle.nz_sat.specs.Conflicts.{HasTwoLast, IsLesson, IsLessonLike, StaysSound}
 use Rattle.nz_sat.specs.Numbers.{numbered}
 use Rattle.nz_sat.specs.Sats.{HoldsMore, IsAsked}
 use Rattle.nz_sat.specs.Searching.{Advances, IsConflict, IsSearch, StaysInOrder, StaysLegal, WasNoted, WereOpen, ids, learned_line}
@@ -60,12 +60,18 @@ two_last size es order c dead (by_two l m has_l has_m differ free_l free_m) =
           let level = level_found es x.term e.0 e.1 in
           omega (arith, high, most, level)
 
-pub held_two : (size : ℕ) (es : List Assigned) → EachBehind (IsNext size) es → (log : LogState) (held : List Held) → WereOpen log held es → 0 < depth es
+held_two : (size : ℕ) (es : List Assigned) → EachBehind (IsNext size) es → (log : LogState) (held : List Held) → WereOpen log held es → 0 < depth es
     → (i : ℕ) → Contains (ids held) i → IsDead es (literals_at log i) → HasTwoLast es (literals_at log i)
 held_two size es order log held were_open decided i has dead =
     let k = depth es - 1 in
     two_last size es order (literals_at log i) dead
     (All-contains (λ (j : ℕ). IsOpen (below k es) (literals_at log j)) (ids held) i (were_open k (omega arith)) has)
+
+-- a conflict may be a lesson itself, or has two literals of the last level
+pub conflict_like : (size : ℕ) (es : List Assigned) → EachBehind (IsNext size) es → (log : LogState) (held : List Held) → WereOpen log held es → 0 < depth es
+    → (i : ℕ) → IsConflict log held es i → IsLessonLike es (literals_at log i)
+conflict_like size es order log held were_open decided i c =
+    elim c.kind [ inl has ↦ inl (held_two size es order log held were_open decided i has c.dead) | inr once ↦ inr once ]
 
 -- What is known where a search has a lesson from a clause that is dead.
 pub record IsTaught (log log' : LogState) (held : List Held) (s : state.Search) (work : WorkList Note) (dead : ℕ) (l : Lesson) : Type 0 where

@@ -1,6 +1,6 @@
 -- What a theory was told of a trail, and its answers there.
-use Rattle.std.proofs.Common.{◌≡◌, ℕ, ◌+◌, ◌<◌, ◌≤◌, List, [], ◌∷◌, ◌++◌, length, take, drop, map, get_or, not, inl, inr, None, Some, refl, sym, ap, subst, ◌∙◌, arith}
-use Rattle.std.specs.Prelude.{All, Contains, option_map, slice_get}
+use Rattle.std.proofs.Common.{◌≡◌, ℕ, ◌+◌, ◌<◌, ◌≤◌, List, [], ◌∷◌, ◌++◌, length, take, drop, map, get_or, not, inl, inr, Option, None, Some, refl, sym, ap, subst, ◌∙◌, arith}
+use Rattle.std.specs.Prelude.{All, Contains, IfSome, option_map, slice_get}
 use Rattle.std.proofs.lemmas.List.{get_or-map, length-append, length-map, length-take-le, map_push, take-append-drop, take-append-le, take-map, take-take, take_all, take_more}
 use Rattle.std.proofs.lemmas.List.Elements.{All-contains, Contains-append_left, recursion_from_All}
 use Rattle.std.proofs.lemmas.Bool.Decides.{leb_tells}
@@ -57,6 +57,10 @@ front_within ns n es within =
     subst (λ (x : Lit). x.term < length ns) e.3
     (All-contains (λ (x : Assigned). x.literal.term < length ns) es e.1 within (has_found es e.0 e.1 e.2))))
 
+pub all_within : (ns : List Node) (es : List Assigned) → All (λ (e : Assigned). e.literal.term < length ns) es → AreWithin ns (literals_on es)
+all_within ns es within =
+    subst (λ (xs : List Assigned). AreWithin ns (literals_on xs)) (take_all (length es) es (omega arith)) (front_within ns (length es) es within)
+
 -- ---- Telling
 
 -- The theory was told the entries up to a place.
@@ -74,45 +78,43 @@ tells_first has_told over es log i t is =
     subst (Tells has_told over over es log log) (sym same)
     (record { told = t.told; inside = t.within; grows = grows_none log; sound = λ ns levels known within order. order; keeps = λ ns known. known })
 
-module _ {has_told has_told' : List Lit → Type 0} {over over' over'' : List Node → Type 0} {es : List Assigned} {log mid log' : LogState} {i : ℕ}
-    (h : Tells has_told over over' es log mid i) (e : Assigned) (at : slice_get es i ≡ Some e) where
-  abbrev before : List Lit
-  before = literals_on (take i es)
+-- one literal more
+pub tells_sound : (has_told : List Lit → Type 0) (over over' : List Node → Type 0) (es : List Assigned) (log mid log' : LogState) (i : ℕ) → Tells has_told over over' es log mid i → (e : Assigned)
+    → slice_get es i ≡ Some e
+    → ((ns : List Node) (levels : List (List ℕ)) → over' ns → AreWithin ns (literals_on (take i es) ++ e.literal ∷ []) → IsLog ns levels mid → IsLog ns levels log')
+    → StaysSoundOver over es log log'
+tells_sound has_told over over' es log mid log' i h e at sound ns levels known within order =
+    sound ns levels (h.keeps ns known) (subst (AreWithin ns) (front_step es i e at) (front_within ns (i + 1) es within)) (h.sound ns levels known within order)
 
-  -- one literal more
-  pub tells_grown : Grows mid log' → Grows log log'
-  tells_grown g = grows_far log mid log' h.grows g
+pub tells_on : (has_told has_told' : List Lit → Type 0) (over over' over'' : List Node → Type 0) (es : List Assigned) (log mid log' : LogState) (i : ℕ)
+    → Tells has_told over over' es log mid i → (e : Assigned) → slice_get es i ≡ Some e → has_told' (literals_on (take i es) ++ e.literal ∷ []) → Grows mid log'
+    → StaysSoundOver over es log log' → ((ns : List Node) → over' ns → over'' ns) → Tells has_told' over over'' es log log' (i + 1)
+tells_on has_told has_told' over over' over'' es log mid log' i h e at told g sound keeps =
+    let inside = slice_get_within es i e at in
+    record {
+      told = subst has_told' (sym (front_step es i e at)) told;
+      inside = omega (arith, inside);
+      grows = grows_far log mid log' h.grows g;
+      sound = sound;
+      keeps = λ ns known. keeps ns (h.keeps ns known);
+    }
 
-  pub tells_sound : ((ns : List Node) (levels : List (List ℕ)) → over' ns → AreWithin ns (before ++ e.literal ∷ []) → IsLog ns levels mid → IsLog ns levels log')
-      → StaysSoundOver over es log log'
-  tells_sound sound ns levels known within order =
-      sound ns levels (h.keeps ns known) (subst (AreWithin ns) (front_step es i e at) (front_within ns (i + 1) es within)) (h.sound ns levels known within order)
+pub tells_told : (has_told : List Lit → Type 0) (es : List Assigned) (i : ℕ) (e : Assigned) → slice_get es i ≡ Some e
+    → has_told (literals_on (take i es) ++ e.literal ∷ []) → IsTold has_told es
+tells_told has_told es i e at told =
+    let inside = slice_get_within es i e at in
+    record { count = i + 1; within = omega (arith, inside); told = subst has_told (sym (front_step es i e at)) told }
 
-  pub tells_on : has_told' (before ++ e.literal ∷ []) → Grows mid log' → StaysSoundOver over es log log' → ((ns : List Node) → over' ns → over'' ns)
-      → Tells has_told' over over'' es log log' (i + 1)
-  tells_on told g sound keeps =
-      let inside = slice_get_within es i e at in
-      record {
-        told = subst has_told' (sym (front_step es i e at)) told;
-        inside = omega (arith, inside);
-        grows = tells_grown g;
-        sound = sound;
-        keeps = λ ns known. keeps ns (h.keeps ns known);
-      }
-
-  pub tells_told : has_told' (before ++ e.literal ∷ []) → IsTold has_told' es
-  tells_told told =
-      let inside = slice_get_within es i e at in
-      record { count = i + 1; within = omega (arith, inside); told = subst has_told' (sym (front_step es i e at)) told }
-
-  pub tells_clash : (id : ℕ) → IsClash log' (before ++ e.literal ∷ []) id → IsClash log' (literals_on es) id
-  tells_clash id c =
-      record {
-        live = c.live;
-        once = c.once;
-        negations = λ l has.
-            front_among (i + 1) es (negated_lit l) (subst (λ (ls : List Lit). Contains ls (negated_lit l)) (sym (front_step es i e at)) (c.negations l has));
-      }
+pub tells_clash : (log : LogState) (es : List Assigned) (i : ℕ) (e : Assigned) → slice_get es i ≡ Some e → (o : Option ℕ)
+    → IfSome o (IsClash log (literals_on (take i es) ++ e.literal ∷ [])) → IfSome o (IsClash log (literals_on es))
+tells_clash log es i e at None c = tt
+tells_clash log es i e at (Some id) c =
+    record {
+      live = c.live;
+      once = c.once;
+      negations = λ l has.
+          front_among (i + 1) es (negated_lit l) (subst (λ (ls : List Lit). Contains ls (negated_lit l)) (sym (front_step es i e at)) (c.negations l has));
+    }
 
 -- ---- A clause of negations
 
