@@ -148,7 +148,7 @@ links_within s es n ks within links =
 -- ---- The clause that is a lesson itself
 
 -- the level of a false literal is one of the trail's
-false_level : (size : ℕ) (es : List Assigned) → EachBehind (IsNext size) es → (l : Lit) → IsFalseOn es l → level_on es l.term ≤ depth es
+pub false_level : (size : ℕ) (es : List Assigned) → EachBehind (IsNext size) es → (l : Lit) → IsFalseOn es l → level_on es l.term ≤ depth es
 false_level size es order l dead =
     let e = false_entry es l dead in
     let place = (assigned_place es l.term e.0 e.1).1 in

@@ -3,6 +3,7 @@ pub mod Assuming
 pub mod Backward
 pub mod Chains
 pub mod Clausal
+pub mod Consulting
 pub mod Cutting
 pub mod DeadEnds
 pub mod Deciding

@@ -15,7 +15,7 @@ ghost use Rattle.nz_sat.specs.Numbers.{noted_atoms, number_of, numbered};
 ghost use Rattle.nz_sat.specs.Sats.{AreAtoms, AreHeld, HoldsMore, held_of};
 ghost use Rattle.nz_sat.specs.Searching.{Advances, AreOpen, AreWaiting, Assumes, AssumesAll, ComesTo, Follows, MayAssume, MayFollow, Starts, Decides, IsConflict, IsNoted, IsSearch, Learned, Satisfies, Settles, WasNoted, WereOpen, after_lesson, assumed_entries, ids, learned_line};
 ghost use Rattle.nz_sat.specs.Theories.{IsMet, IsTold};
-ghost use Rattle.nz_sat.specs.Trails.{EachBehind, IsFrontOf, IsTrail, IsTrueOn, assigned, below, depth};
+ghost use Rattle.nz_sat.specs.Trails.{EachBehind, GoesOn, IsFrontOf, IsTrail, IsTrueOn, assigned, below, depth};
 
 use crate::analyze::{Lesson, greatest_level, lesson_of, refutation};
 use crate::atoms::Atoms;
@@ -189,6 +189,7 @@ impl Search {
         requires usable { AreUsable log.now self.old.trail.size self.old.index }
         requires from { from ≤ length self.old.trail.entries }
         ensures rest { self.new ≡ record self.old { trail = self.new.trail } }
+        ensures goes_on { GoesOn self.old.trail.entries self.new.trail.entries }
         ensures comes { (held : List Held) → MayFollow log.now held self.old from → Follows log.now held self.old self.new result }
     {
         propagate(log, &self.index, &mut self.trail, from)
