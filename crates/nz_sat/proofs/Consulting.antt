@@ -155,6 +155,23 @@ module _ (over over' over'' : List Node → Type 0) (start mid : Search) (log lo
 
 -- ---- A conflict
 
+-- the theory changed, over the same tables
+pub turns_kept : (over over' over'' : List Node → Type 0) (has_told : List Lit → Type 0) (is_feasible : Type 0) (start s : Search) (log log' : LogState) (held held' : List Held)
+    (work work' : WorkList Note) (conflict : Option ℕ) → Turns over over' has_told is_feasible start s log log' held held' work work' conflict
+    → ((ns : List Node) → over' ns → over'' ns) → Turns over over'' has_told is_feasible start s log log' held held' work work' conflict
+turns_kept over over' over'' has_told is_feasible start s log log' held held' work work' conflict t more =
+    record {
+      advances = t.advances;
+      search = t.search;
+      were_open = t.were_open;
+      noted = t.noted;
+      carries = t.carries;
+      told_so = t.told_so;
+      told = t.told;
+      met = t.met;
+      keeps = λ ns known. more ns (t.keeps ns known);
+    }
+
 module _ (over over' : List Node → Type 0) (has_told : List Lit → Type 0) (is_feasible : Type 0) (start old : Search) (log log' : LogState) (held held' : List Held)
     (work work' : WorkList Note) (dead : ℕ) (t : Turns over over' has_told is_feasible start old log log' held held' work work' (Some dead)) (cut : Search)
     (rest : cut ≡ record old { trail = cut.trail; order = cut.order }) (size : cut.trail.size ≡ old.trail.size)
@@ -208,9 +225,9 @@ module _ (over over' : List Node → Type 0) (has_told : List Lit → Type 0) (i
       back_on new held' work'
       (log_advances over' cut.atoms cut.trail.entries log' new held' work' t.search.are_held grows (stays_in_order over' log' new held' cut back_search sound))
 
-  pub back_refutes : (to : List Lit) → RefutesFrom cut.trail.entries (literals_at log' dead) to → (assumed : List Lit) → All (IsAssumed assumed) start.trail.entries
+  pub back_refutes : {to : List Lit} → RefutesFrom cut.trail.entries (literals_at log' dead) to → (assumed : List Lit) → All (IsAssumed assumed) start.trail.entries
       → Refutes assumed to
-  back_refutes to refutes assumed only = refutes assumed (back_assumed assumed only) (λ l has. inl (back_conflict.dead l has))
+  back_refutes refutes assumed only = refutes assumed (back_assumed assumed only) (λ l has. inl (back_conflict.dead l has))
 
   -- or is learned from
   pub arrives_learned : (over'' : List Node → Type 0) (mid : Search) (log₁ : LogState) (held₁ : List Held) (work₁ : WorkList Note) (place : ℕ)

@@ -26,7 +26,7 @@ abbrev literal_of : Assigned → Lit
 literal_of e = e.literal
 
 -- a literal of the trail is that of an entry
-entry_from : (es : List Assigned) (l : Lit) → Contains (literals_on es) l → (i : ℕ) × (e : Assigned) × (slice_get es i ≡ Some e) × (e.literal ≡ l)
+pub entry_from : (es : List Assigned) (l : Lit) → Contains (literals_on es) l → (i : ℕ) × (e : Assigned) × (slice_get es i ≡ Some e) × (e.literal ≡ l)
 entry_from es l has =
     let d : Assigned = record { literal = l; level = 0; reason = None } in
     let inside : has.0 < length es = omega (arith, has.1, length-map es literal_of) in
