@@ -15,11 +15,7 @@ use nz_base::Work;
 use nz_log::{ClauseId, Log, Note, Stop, Theory};
 
 /// Tells a theory the literals of a trail that it wasn't told. Answers a clause that says that they can't be true, if the theory sees that.
-fn tell<T: Theory>(
-    log: &mut Log,
-    trail: &Trail,
-    theory: &mut T,
-) -> Result<Option<ClauseId>, Stop>
+fn tell<T: Theory>(log: &mut Log, trail: &Trail, theory: &mut T) -> Result<Option<ClauseId>, Stop>
     requires told { IsTold (T.has_told theory.old) trail.now.entries }
     ensures over { (ns : List Node) → T.is_over theory.old ns → T.is_over theory.new ns }
     ensures told { OnOk result (IsTold (T.has_told theory.new) trail.now.entries) }

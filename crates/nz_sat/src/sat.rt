@@ -110,13 +110,7 @@ impl<T: Theory> Sat<T> {
         take_back(&mut self.theory, 0);
         let alloc = *self.clauses.allocator();
         let mut search = Search::new(alloc, log, &self.clauses, work)?;
-        let refuted = search.run(
-            log,
-            &mut self.clauses,
-            &mut self.theory,
-            assumed,
-            work,
-        )?;
+        let refuted = search.run(log, &mut self.clauses, &mut self.theory, assumed, work)?;
         if refuted.is_none() {
             self.truths = search.trail.truths(alloc)?;
         }
