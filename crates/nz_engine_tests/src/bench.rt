@@ -1,12 +1,17 @@
-//! An engine with its table, which is asked over formulas.
+//! An engine with its table, which is asked over formulas: it can be asked anything that these calls take.
+ghost use Rattle.std.specs.Prelude.{◌≡◌, ◌<◌, length};
+ghost use Rattle.nz_spec.specs.Decide.{IsFrontOfTable};
+ghost use Rattle.nz_engine_tests.specs.Benches.{AreGatedLits, IsInOrder, IsReady, are_consistent};
 
-use crate::build::{constant, term_of};
+use crate::build::{constant, literals_of, term_of};
 use crate::formula::Part;
+use crate::reading::has;
 use nz_base::{Memory, Work};
 use nz_engine::Engine;
-use nz_log::{ClauseId, Decide, Lit, Note, Step, Stop, Verdict};
+use nz_log::{Decide, Lit, Step, Stop, Verdict};
 use nz_term::{Assign, TermId, Terms, Value};
 use std::alloc::Global;
+use std::marker::Model;
 
 /// An engine with its table.
 #[derive(Drop)]
@@ -18,6 +23,16 @@ pub struct Bench {
     depth: usize,
 }
 
+impl Model for Bench {
+    ghost use Rattle.nz_engine_tests.specs.Benches.{BenchState, IsInOrder};
+
+    ghost Value = { BenchState };
+
+    ghost view = { λ b. record { terms = b.terms; engine = b.engine } };
+
+    ghost invariant = { λ b. IsInOrder b.terms b.engine b.depth };
+}
+
 /// What a check came to.
 #[derive(Debug, Drop)]
 pub enum Answer {
@@ -25,8 +40,15 @@ pub enum Answer {
     /// The steps of a clause whose literals are negations of assumed ones.
     Unsat(Vec<Step>),
     Spent,
-    /// The engine can't be asked: one assumed literal is the negation of another.
-    Contrary,
+    /// The engine can't be asked: what is assumed is no formula, or one literal of it is the negation of another.
+    Unasked,
+}
+
+/// An answer, and the literals that were assumed.
+#[derive(Debug, Drop)]
+pub struct Checked {
+    pub assumed: Vec<Lit>,
+    pub answer: Answer,
 }
 
 impl Bench {
@@ -50,7 +72,7 @@ impl Bench {
     /// Begins a level.
     pub fn push(&mut self) -> Result<(), Memory> {
         self.engine.push()?;
-        self.depth += 1;
+        self.depth = self.depth.saturating_add(1);
         Ok(())
     }
 
@@ -71,33 +93,18 @@ impl Bench {
         Ok(term)
     }
 
-    /// The literal that a formula is true: of one that ends with `Not`, that the rest is false.
-    pub fn literal(&mut self, formula: &[Part]) -> Result<Option<Lit>, Memory> {
-        match formula {
-            [front @ .., Part::Not] => {
-                let term = term_of(self.alloc, &mut self.terms, front)?;
-                Ok(term.map(Lit::fails))
+    /// Asks whether what is asserted and these formulas can all be true, with so many units.
+    pub fn check(&mut self, assumed: &[&'static [Part]], units: u64) -> Result<Checked, Memory> {
+        let literals = literals_of(self.alloc, &mut self.terms, assumed)?;
+        match literals {
+            Some(assumed) => {
+                let answer = ask(self.alloc, &self.terms, &mut self.engine, &assumed, units)?;
+                Ok(Checked { assumed, answer })
             }
-            _ => {
-                let term = term_of(self.alloc, &mut self.terms, formula)?;
-                Ok(term.map(Lit::holds))
-            }
-        }
-    }
-
-    /// Asks whether what is asserted and these literals can all be true, with so many units.
-    pub fn check(&mut self, assumed: &[Lit], units: u64) -> Result<Answer, Memory> {
-        if !are_consistent(assumed) {
-            return Ok(Answer::Contrary);
-        }
-        let mut work = Work::new(self.alloc)?;
-        work.reserve(units)?;
-        let checked = self.engine.check(&self.terms, assumed, &mut work);
-        match checked {
-            Ok(Verdict::Sat(values)) => Ok(Answer::Sat(values)),
-            Ok(Verdict::Unsat(clause)) => Ok(Answer::Unsat(self.engine.steps(clause)?)),
-            Err(Stop::Spent) => Ok(Answer::Spent),
-            Err(Stop::Memory) => Err(Memory),
+            None => Ok(Checked {
+                assumed: Vec::new(self.alloc),
+                answer: Answer::Unasked,
+            }),
         }
     }
 
@@ -106,15 +113,49 @@ impl Bench {
         let mut truths = Vec::new(self.alloc);
         for number in 0..count {
             let term = constant(self.alloc, &mut self.terms, number)?;
-            truths.push(matches!(values.value(term), Some(Value::Truth(true))))?;
+            truths.push(is_true(values, term))?;
         }
         Ok(truths)
     }
 }
 
+/// Whether values make a constant true.
+fn is_true(values: &Assign, term: TermId) -> bool {
+    match values.value(term) {
+        Some(Value::Truth(truth)) => truth,
+        _ => false,
+    }
+}
+
 /// Whether no literal of these is the negation of one of them.
-fn are_consistent(literals: &[Lit]) -> bool {
-    literals
-        .iter()
-        .all(|one| !literals.iter().any(|other| other.is(one.not())))
+fn is_consistent(literals: &[Lit]) -> bool
+    ensures consistent { result ≡ are_consistent literals.now }
+{
+    literals.iter().all(|one| !has(literals, one.not()))
+}
+
+/// What an engine answers under these literals, with so many units.
+fn ask(
+    alloc: Global,
+    terms: &Terms,
+    engine: &mut Engine,
+    assumed: &[Lit],
+    units: u64,
+) -> Result<Answer, Memory>
+    requires ready { IsReady terms.now engine.old }
+    requires gated { AreGatedLits terms.now assumed.now }
+    ensures levels { engine.new.levels ≡ engine.old.levels }
+    ensures front { IsFrontOfTable engine.new.table terms.now }
+{
+    if !is_consistent(assumed) {
+        return Ok(Answer::Unasked);
+    }
+    let mut work = Work::new(alloc)?;
+    work.reserve(units)?;
+    match engine.check(terms, assumed, &mut work) {
+        Ok(Verdict::Sat(values)) => Ok(Answer::Sat(values)),
+        Ok(Verdict::Unsat(clause)) => Ok(Answer::Unsat(engine.steps(clause)?)),
+        Err(Stop::Spent) => Ok(Answer::Spent),
+        Err(Stop::Memory) => Err(Memory),
+    }
 }

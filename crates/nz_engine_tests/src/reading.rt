@@ -1,5 +1,9 @@
 //! A second reading of derivations, which takes nothing of the engine but its steps.
 
+ghost use Rattle.std.specs.Prelude.{◌≡◌};
+ghost use Rattle.std.specs.List.{list_any};
+ghost use Rattle.nz_log.specs.Lits.{are_same_lit};
+
 use nz_base::Memory;
 use nz_log::{Lit, Step};
 use nz_term::{Head, Sort, TermId, Terms};
@@ -44,8 +48,10 @@ fn clause_of(
 }
 
 /// Whether a literal is one of these.
-pub fn has(literals: &[Lit], literal: Lit) -> bool {
-    literals.iter().any(|one| one.is(literal))
+pub fn has(literals: &[Lit], literal: Lit) -> bool
+    ensures has { result ≡ list_any (are_same_lit literal) literals.now }
+{
+    literals.iter().any(|one| literal.is(*one))
 }
 
 /// The resolvent on a literal of the first clause, whose negation is in the second.

@@ -1,6 +1,6 @@
 //! A problem under way, whose answers are tried by the tests' own code.
 
-use crate::bench::{Answer, Bench};
+use crate::bench::{Answer, Bench, Checked};
 use crate::formula::{Part, value};
 use crate::reading::{has, last_clause};
 use nz_base::Memory;
@@ -72,11 +72,10 @@ impl Trial {
 
     /// Asks whether what is asserted and assumed can all be true, with so many units, and tries the answer.
     pub fn ask(&mut self, assumed: &[&'static [Part]], units: u64) -> Result<Tried, Fail> {
-        let mut literals = Vec::new(self.alloc);
-        for formula in assumed {
-            literals.push(self.bench.literal(formula)?.ok_or("no formula")?)?;
-        }
-        let answer = self.bench.check(&literals, units)?;
+        let Checked {
+            assumed: literals,
+            answer,
+        } = self.bench.check(assumed, units)?;
         match answer {
             Answer::Sat(values) => {
                 if !self.is_model(assumed, &values)? {
@@ -91,7 +90,7 @@ impl Trial {
                 Ok(Tried::Unsat)
             }
             Answer::Spent => Ok(Tried::Spent),
-            Answer::Contrary => Err(Fail::new("assumed literals contradict one another")),
+            Answer::Unasked => Err(Fail::new("the engine can't be asked")),
         }
     }
 
