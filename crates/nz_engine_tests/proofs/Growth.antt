@@ -1,59 +1,36 @@
 -- Terms of the gate table stay so while the table grows.
-use Rattle.std.proofs.Common.{◌≡◌, ◌⊎◌, inl, inr, ℕ, ◌<◌, ◌≤◌, ◌+◌, List, [], ◌∷◌, ◌++◌, length, take, Some, refl, sym, ap, ◌∙◌, subst, rules, arith, append_assoc, length-append}
+use Rattle.std.proofs.Common.{◌≡◌, ℕ, ◌<◌, ◌≤◌, ◌+◌, List, [], ◌∷◌, length, take, Some, sym, ap, ◌∙◌, subst, arith, length-append}
 use Rattle.std.specs.Prelude.{All, slice_get}
 use Rattle.std.specs.List.{AllByRecursion}
-use Rattle.std.proofs.lemmas.List.{append-nil}
 use Rattle.std.proofs.lemmas.List.Elements.{recursion_from_All}
 use Rattle.std.proofs.lemmas.Option.{slice_get_within}
 use Rattle.std.proofs.Math.Seq.{take-append_seam}
 use Rattle.nz_lists.proofs.Fronts.{front_of_more}
-use Rattle.nz_spec.specs.Gates.{IsGated, AreGated, IsRow}
+use Rattle.nz_spec.specs.Gates.{IsGated, AreGated}
 use Rattle.nz_spec.specs.Term.{Head, apply}
 use Rattle.nz_spec.specs.Table.{Node, term_in, terms_at}
 use Rattle.nz_spec.specs.Decide.{IsFrontOfTable}
 use Rattle.nz_engine.specs.Engines.{EngineState}
-use Rattle.nz_log.specs.declared.lits.Lit.{Lit}
-use Rattle.nz_engine_tests.specs.Benches.{IsGatedAt, IsRowAt, Extends, IsReady, AreGatedLits}
+use Rattle.nz_engine_tests.specs.Benches.{IsGatedAt, IsRowAt, Extends, IsReady}
 
 -- ---- Tables
-
-pub extends_itself : (ns : List Node) → Extends ns ns
-extends_itself ns = record { more = []; all = sym (append-nil ns); stays = λ i l. refl }
-
-pub extends_same : (old new : List Node) → new ≡ old → Extends old new
-extends_same old new e = subst (λ ns. Extends old ns) (sym e) (extends_itself old)
-
-pub extends_one : (old new : List Node) (n : Node) → (new ≡ old) ⊎ (new ≡ old ++ n ∷ []) → ((i : ℕ) → i < length old → term_in new i ≡ term_in old i) → Extends old new
-extends_one old new n (inl e) h = extends_same old new e
-extends_one old new n (inr e) h = record { more = n ∷ []; all = e; stays = h }
 
 longer : (old new : List Node) → Extends old new → length old ≤ length new
 longer old new e = let l : length new ≡ length old + length e.more = ap length e.all ∙ length-append old e.more in omega arith
 
-pub extends_more : (old next new : List Node) → Extends old next → Extends next new → Extends old new
-extends_more old next new e f =
-    record {
-      more = e.more ++ f.more;
-      all = f.all ∙ ap (λ ns. ns ++ f.more) e.all ∙ append_assoc old e.more f.more;
-      stays = λ i l. let m : i < length next = (let k = longer old next e in omega arith) in f.stays i m ∙ e.stays i l;
-    }
-
-pub front_of_extended : (old new : List Node) → Extends old new → IsFrontOfTable old new
+front_of_extended : (old new : List Node) → Extends old new → IsFrontOfTable old new
 front_of_extended old new e = ap (take (length old)) e.all ∙ take-append_seam old e.more
 
 -- ---- Terms
 
-pub gated_stays : (old new : List Node) → Extends old new → (i : ℕ) → IsGatedAt old i → IsGatedAt new i
+gated_stays : (old new : List Node) → Extends old new → (i : ℕ) → IsGatedAt old i → IsGatedAt new i
 gated_stays old new e i h =
     let k : length old ≤ length new = longer old new e in
     let w : i < length old = h.within in
     record { within = omega arith; gated = subst IsGated (sym (e.stays i w)) h.gated }
 
-pub all_stay : (old new : List Node) → Extends old new → (is : List ℕ) → All (IsGatedAt old) is → All (IsGatedAt new) is
+all_stay : (old new : List Node) → Extends old new → (is : List ℕ) → All (IsGatedAt old) is → All (IsGatedAt new) is
 all_stay old new e is h = λ k d l. gated_stays old new e _ (h k d l)
-
-pub literals_stay : (old new : List Node) → Extends old new → (ls : List Lit) → AreGatedLits old ls → AreGatedLits new ls
-literals_stay old new e ls h = λ k d l. gated_stays old new e _ (h k d l)
 
 gated_list : (ns : List Node) (kids : List ℕ) → AllByRecursion (IsGatedAt ns) kids → AreGated (terms_at (term_in ns) kids)
 gated_list ns [] h = tt

@@ -1,5 +1,5 @@
 -- What an engine may be asked about, over a table that grows.
-use Rattle.std.specs.Prelude.{◌≡◌, ℕ, ◌<◌, ◌++◌, List, length, All, Bool, not, IfSome}
+use Rattle.std.specs.Prelude.{◌≡◌, ℕ, ◌<◌, ◌++◌, List, length, All, Bool, not}
 use Rattle.std.specs.List.{list_any, list_all}
 use Rattle.nz_spec.specs.Gates.{IsGated, IsRow}
 use Rattle.nz_spec.specs.Term.{Head}
@@ -37,7 +37,7 @@ AreGatedLits ns ls = All (λ (l : Lit). IsGatedAt ns l.term) ls
 abbrev pub are_consistent : List Lit → Bool
 are_consistent ls = list_all (λ (l : Lit). not (list_any (are_same_lit (negated_lit l)) ls)) ls
 
--- what a bench holds: a table, an engine, and how many levels it has beside the first
+-- what a bench holds
 pub record BenchState : Type 0 where
   pub terms : List Node
   pub engine : EngineState

@@ -1,7 +1,7 @@
 //! An engine with its table, which is asked over formulas: it can be asked anything that these calls take.
-ghost use Rattle.std.specs.Prelude.{◌≡◌, ◌<◌, length};
+ghost use Rattle.std.specs.Prelude.{◌≡◌};
 ghost use Rattle.nz_spec.specs.Decide.{IsFrontOfTable};
-ghost use Rattle.nz_engine_tests.specs.Benches.{AreGatedLits, IsInOrder, IsReady, are_consistent};
+ghost use Rattle.nz_engine_tests.specs.Benches.{AreGatedLits, IsReady, are_consistent};
 
 use crate::build::{constant, literals_of, term_of};
 use crate::formula::Part;

@@ -1,5 +1,5 @@
 //! The terms of formulas, which are of the gate table.
-ghost use Rattle.std.specs.Prelude.{◌≡◌, [], All, IfOk, IfSome, IsTrue};
+ghost use Rattle.std.specs.Prelude.{All, IfOk, IfSome, IsTrue};
 ghost use Rattle.nz_spec.specs.Table.{HasItsArguments};
 ghost use Rattle.nz_spec.specs.Term.{head_fits};
 ghost use Rattle.nz_term.specs.Heads.{head_of};

@@ -2,45 +2,76 @@
 
 use crate::formula::Part::{self, And, Atom, Not, Or, Xor};
 use crate::trial::{Trial, Tried};
+use std::alloc::Global;
 use std::test::Fail;
+
+/// What an engine is told or asked.
+enum Act {
+    Push,
+    Pop,
+    Assert(&'static [Part]),
+    /// With enough units: what is assumed, and the answer that is wanted.
+    Ask(&'static [&'static [Part]], Tried),
+    /// With no unit at all.
+    AskAtOnce(&'static [&'static [Part]], Tried),
+}
 
 const NOT_P: &[Part] = &[Atom(0), Not];
 
 const NOT_Q: &[Part] = &[Atom(1), Not];
 
-#[test]
-fn what_is_popped_is_no_longer_asserted(rt: HostRuntime) -> Result<(), Fail> {
-    let mut trial = Trial::new(rt.alloc(), 2)?;
-    assert_eq!(rt; trial.ask(&[], 100)?, Tried::Sat);
-    trial.assert(&[Atom(0), Atom(1), Or(2)])?;
-    trial.push()?;
-    trial.assert(&[Atom(0), Not])?;
-    assert_eq!(rt; trial.ask(&[], 100)?, Tried::Sat);
-    trial.push()?;
-    trial.assert(&[Atom(1), Not])?;
-    assert_eq!(rt; trial.ask(&[], 100)?, Tried::Unsat);
-    trial.pop();
-    assert_eq!(rt; trial.ask(&[], 100)?, Tried::Sat);
-    assert_eq!(rt; trial.ask(&[NOT_Q], 100)?, Tried::Unsat);
-    trial.pop();
-    assert_eq!(rt; trial.ask(&[NOT_Q], 100)?, Tried::Sat);
-    assert_eq!(rt; trial.ask(&[NOT_P, NOT_Q], 100)?, Tried::Unsat);
-    assert_eq!(rt; trial.ask(&[], 100)?, Tried::Sat);
+/// Does these one after another, over three constants.
+fn run(alloc: Global, acts: &'static [Act]) -> Result<(), Fail> {
+    let mut trial = Trial::new(alloc, 3)?;
+    for (place, act) in acts.iter().enumerate() {
+        match act {
+            Act::Push => trial.push()?,
+            Act::Pop => trial.pop(),
+            Act::Assert(formula) => trial.assert(formula)?,
+            Act::Ask(assumed, wanted) => trial.expect(place, assumed, 100, *wanted)?,
+            Act::AskAtOnce(assumed, wanted) => trial.expect(place, assumed, 0, *wanted)?,
+        }
+    }
     Ok(())
 }
 
-// Only two of the eight rows are left, and neither follows: a decision is wanted.
+const LEVELS: &[Act] = &[
+    Act::Ask(&[], Tried::Sat),
+    Act::Assert(&[Atom(0), Atom(1), Or(2)]),
+    Act::Push,
+    Act::Assert(&[Atom(0), Not]),
+    Act::Ask(&[], Tried::Sat),
+    Act::Push,
+    Act::Assert(&[Atom(1), Not]),
+    Act::Ask(&[], Tried::Unsat),
+    Act::Pop,
+    Act::Ask(&[], Tried::Sat),
+    Act::Ask(&[NOT_Q], Tried::Unsat),
+    Act::Pop,
+    Act::Ask(&[NOT_Q], Tried::Sat),
+    Act::Ask(&[NOT_P, NOT_Q], Tried::Unsat),
+    Act::Ask(&[], Tried::Sat),
+];
+
+#[test]
+fn what_is_popped_is_no_longer_asserted(rt: HostRuntime) -> Result<(), Fail> {
+    run(rt.alloc(), LEVELS)
+}
+
+// No constant follows, so that a decision is wanted; under an assumed one all others follow.
+const SPENT: &[Act] = &[
+    Act::Assert(&[Atom(0), Atom(1), Xor]),
+    Act::Assert(&[Atom(1), Atom(2), Xor]),
+    Act::AskAtOnce(&[], Tried::Spent),
+    Act::Ask(&[], Tried::Sat),
+    Act::AskAtOnce(&[], Tried::Spent),
+    Act::Assert(&[Atom(0), Atom(2), Xor]),
+    Act::AskAtOnce(&[], Tried::Spent),
+    Act::Ask(&[], Tried::Unsat),
+    Act::AskAtOnce(&[NOT_P], Tried::Unsat),
+];
+
 #[test]
 fn a_spent_check_leaves_the_engine_as_it_was(rt: HostRuntime) -> Result<(), Fail> {
-    let mut trial = Trial::new(rt.alloc(), 3)?;
-    trial.assert(&[Atom(0), Atom(1), Xor])?;
-    trial.assert(&[Atom(1), Atom(2), Xor])?;
-    assert_eq!(rt; trial.ask(&[], 0)?, Tried::Spent);
-    assert_eq!(rt; trial.ask(&[], 100)?, Tried::Sat);
-    assert_eq!(rt; trial.ask(&[], 0)?, Tried::Spent);
-    trial.assert(&[Atom(0), Atom(2), Xor])?;
-    assert_eq!(rt; trial.ask(&[], 0)?, Tried::Spent);
-    assert_eq!(rt; trial.ask(&[], 100)?, Tried::Unsat);
-    assert_eq!(rt; trial.ask(&[NOT_P], 0)?, Tried::Unsat);
-    Ok(())
+    run(rt.alloc(), SPENT)
 }

@@ -112,7 +112,7 @@ fn each_row_is_answered(rt: HostRuntime) -> Result<(), Fail> {
     for (number, row) in ROWS.iter().enumerate() {
         let mut trial = Trial::new(rt.alloc(), 3)?;
         trial.assert(row.formula)?;
-        assert_eq!(rt; trial.ask(row.assumed, 100)?, row.wanted, "row {number}");
+        trial.expect(number, row.assumed, 100, row.wanted)?;
     }
     Ok(())
 }

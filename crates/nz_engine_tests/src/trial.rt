@@ -35,6 +35,14 @@ pub enum Tried {
     Spent,
 }
 
+/// Another answer than was wanted, and where.
+#[derive(Clone, Copy, Debug)]
+struct Wrong {
+    place: usize,
+    answer: Tried,
+    wanted: Tried,
+}
+
 impl Trial {
     /// Nothing is asserted, in one level.
     pub fn new(alloc: Global, constants: usize) -> Result<Trial, Memory> {
@@ -71,7 +79,7 @@ impl Trial {
     }
 
     /// Asks whether what is asserted and assumed can all be true, with so many units, and tries the answer.
-    pub fn ask(&mut self, assumed: &[&'static [Part]], units: u64) -> Result<Tried, Fail> {
+    fn ask(&mut self, assumed: &[&'static [Part]], units: u64) -> Result<Tried, Fail> {
         let Checked {
             assumed: literals,
             answer,
@@ -92,6 +100,25 @@ impl Trial {
             Answer::Spent => Ok(Tried::Spent),
             Answer::Unasked => Err(Fail::new("the engine can't be asked")),
         }
+    }
+
+    /// Asks so, and fails where another answer comes than is wanted at this place of a test.
+    pub fn expect(
+        &mut self,
+        place: usize,
+        assumed: &[&'static [Part]],
+        units: u64,
+        wanted: Tried,
+    ) -> Result<(), Fail> {
+        let answer = self.ask(assumed, units)?;
+        if answer != wanted {
+            return Err(Fail::from(Wrong {
+                place,
+                answer,
+                wanted,
+            }));
+        }
+        Ok(())
     }
 
     /// Whether these values make each asserted and each assumed formula true.
