@@ -1,0 +1,48 @@
+-- What an engine may be asked about, over a table that grows.
+use Rattle.std.specs.Prelude.{◌≡◌, ℕ, ◌<◌, ◌++◌, List, length, All, Bool, not}
+use Rattle.std.specs.List.{list_any, list_all}
+use Rattle.nz_spec.specs.Gates.{IsGated, IsRow}
+use Rattle.nz_spec.specs.Term.{Head}
+use Rattle.nz_spec.specs.Table.{Node, term_in, terms_at}
+use Rattle.nz_spec.specs.Decide.{asserted_numbers, IsFrontOfTable}
+use Rattle.nz_log.specs.declared.lits.Lit.{Lit}
+use Rattle.nz_log.specs.Lits.{are_same_lit, negated_lit}
+use Rattle.nz_engine.specs.Engines.{EngineState}
+
+-- The number is one of the table, and its term is of the gate table.
+pub record IsGatedAt (ns : List Node) (i : ℕ) : Type 0 where
+  pub within : i < length ns
+  pub gated : IsGated (term_in ns i)
+
+-- a head of the gate table, over as many arguments as it has there
+abbrev pub IsRowAt : List Node → Head → List ℕ → Type 0
+IsRowAt ns h kids = IsRow h (terms_at (term_in ns) kids)
+
+-- The table goes on, and each number stands for the term that it stood for.
+pub record Extends (old new : List Node) : Type 0 where
+  pub more : List Node
+  pub all : new ≡ old ++ more
+  pub stays : (i : ℕ) → i < length old → term_in new i ≡ term_in old i
+
+-- The terms that an engine was told are of the gate table, and the table of its last check is a front of this one.
+pub record IsReady (ns : List Node) (engine : EngineState) : Type 0 where
+  pub asserted : All (IsGatedAt ns) (asserted_numbers engine.levels)
+  pub front : IsFrontOfTable engine.table ns
+
+-- the literals name terms of the gate table
+abbrev pub AreGatedLits : List Node → List Lit → Type 0
+AreGatedLits ns ls = All (λ (l : Lit). IsGatedAt ns l.term) ls
+
+-- a test that no literal of these is the negation of one of them
+abbrev pub are_consistent : List Lit → Bool
+are_consistent ls = list_all (λ (l : Lit). not (list_any (are_same_lit (negated_lit l)) ls)) ls
+
+-- what a bench holds
+pub record BenchState : Type 0 where
+  pub terms : List Node
+  pub engine : EngineState
+
+-- The engine is ready, and has more levels than are counted.
+pub record IsInOrder (ns : List Node) (engine : EngineState) (depth : ℕ) : Type 0 where
+  pub ready : IsReady ns engine
+  pub deep : depth < length engine.levels

@@ -1,0 +1,21 @@
+//! Tests of the engine, by public calls alone: a crate that has its tests inside is proved twice.
+#![tactic(auto)]
+
+#[cfg(test)]
+mod bench;
+#[cfg(test)]
+mod birds;
+#[cfg(test)]
+mod build;
+#[cfg(test)]
+mod formula;
+#[cfg(test)]
+mod functions;
+#[cfg(test)]
+mod levels;
+#[cfg(test)]
+mod reading;
+#[cfg(test)]
+mod rows;
+#[cfg(test)]
+mod trial;

@@ -1,0 +1,184 @@
+//! A second reading of derivations, which takes nothing of the engine but its steps.
+
+ghost use Rattle.std.specs.Prelude.{◌≡◌};
+ghost use Rattle.std.specs.List.{list_any};
+ghost use Rattle.nz_log.specs.Lits.{are_same_lit};
+
+use nz_base::Memory;
+use nz_log::{Lit, Step};
+use nz_term::{Head, Sort, TermId, Terms};
+use std::alloc::Global;
+
+/// The clause that the last of these steps gives over these assertions. There is none where some step isn't in order.
+pub fn last_clause(
+    alloc: Global,
+    terms: &Terms,
+    asserted: &[TermId],
+    steps: &[Step],
+) -> Result<Option<Vec<Lit>>, Memory> {
+    let mut clauses = Vec::new(alloc);
+    for step in steps {
+        match clause_of(alloc, terms, asserted, &clauses, step)? {
+            Some(clause) => clauses.push(clause)?,
+            None => return Ok(None),
+        }
+    }
+    Ok(clauses.pop())
+}
+
+/// The clause of a step behind steps of these clauses.
+fn clause_of(
+    alloc: Global,
+    terms: &Terms,
+    asserted: &[TermId],
+    clauses: &[Vec<Lit>],
+    step: &Step,
+) -> Result<Option<Vec<Lit>>, Memory> {
+    match step {
+        Step::Given(place) => match asserted.get(*place) {
+            Some(term) => Ok(Some([Lit::holds(*term)].to_vec(alloc)?)),
+            None => Ok(None),
+        },
+        Step::Gate(term, j) => gate(alloc, terms, *term, *j),
+        Step::Resolve(i, j, literal) => match (clauses.get(*i), clauses.get(*j)) {
+            (Some(left), Some(right)) => resolvent(alloc, left, right, *literal),
+            _ => Ok(None),
+        },
+    }
+}
+
+/// Whether a literal is one of these.
+pub fn has(literals: &[Lit], literal: Lit) -> bool
+    ensures has { result ≡ list_any (are_same_lit literal) literals.now }
+{
+    literals.iter().any(|one| literal.is(*one))
+}
+
+/// The resolvent on a literal of the first clause, whose negation is in the second.
+fn resolvent(
+    alloc: Global,
+    left: &[Lit],
+    right: &[Lit],
+    literal: Lit,
+) -> Result<Option<Vec<Lit>>, Memory> {
+    if !has(left, literal) || !has(right, literal.not()) {
+        return Ok(None);
+    }
+    let mut clause = Vec::new(alloc);
+    add_others(&mut clause, left, literal)?;
+    add_others(&mut clause, right, literal.not())?;
+    Ok(Some(clause))
+}
+
+/// Adds the literals of a clause but for one, each once.
+fn add_others(clause: &mut Vec<Lit>, literals: &[Lit], left_out: Lit) -> Result<(), Memory> {
+    for literal in literals {
+        if !literal.is(left_out) && !has(clause, *literal) {
+            clause.push(*literal)?;
+        }
+    }
+    Ok(())
+}
+
+/// The clause of this number of a term in the gate table.
+fn gate(alloc: Global, terms: &Terms, term: TermId, j: usize) -> Result<Option<Vec<Lit>>, Memory> {
+    if term >= terms.len() {
+        return Ok(None);
+    }
+    let node = terms.node(term);
+    let kids = node.kids.as_slice();
+    match &node.head {
+        Head::And => group_clause(alloc, term, kids, true, j),
+        Head::Or => group_clause(alloc, term, kids, false, j),
+        head => match table_of(head, kids.len()).get(j) {
+            Some(row) => row_clause(alloc, term, kids, row),
+            None => Ok(None),
+        },
+    }
+}
+
+/// The clause of this number of a conjunction, whose sign is true, or of a disjunction.
+fn group_clause(
+    alloc: Global,
+    term: TermId,
+    kids: &[TermId],
+    sign: bool,
+    j: usize,
+) -> Result<Option<Vec<Lit>>, Memory> {
+    let mut clause = Vec::new(alloc);
+    if let Some(kid) = kids.get(j) {
+        clause.push(Lit { term, sign: !sign })?;
+        clause.push(Lit { term: *kid, sign })?;
+        return Ok(Some(clause));
+    }
+    if j > kids.len() {
+        return Ok(None);
+    }
+    clause.push(Lit { term, sign })?;
+    for kid in kids {
+        let literal = Lit {
+            term: *kid,
+            sign: !sign,
+        };
+        if !has(&clause, literal) {
+            clause.push(literal)?;
+        }
+    }
+    Ok(Some(clause))
+}
+
+/// A row of a table: a clause, in which 1 is the term itself, 2, 3 and 4 are its arguments, and a negative number is a negation.
+type Row = &'static [i8];
+
+const TRUE: &[Row] = &[&[1]];
+
+const FALSE: &[Row] = &[&[-1]];
+
+const NOT: &[Row] = &[&[-1, -2], &[1, 2]];
+
+const XOR: &[Row] = &[&[-1, 2, 3], &[-1, -2, -3], &[1, -2, 3], &[1, 2, -3]];
+
+const EQUAL: &[Row] = &[&[-1, -2, 3], &[-1, 2, -3], &[1, 2, 3], &[1, -2, -3]];
+
+const ITE: &[Row] = &[&[-1, -2, 3], &[-1, 2, 4], &[1, -2, -3], &[1, 2, -4]];
+
+/// The clauses of a term of this head over so many arguments, but for conjunctions and disjunctions.
+fn table_of(head: &Head, kids: usize) -> &'static [Row] {
+    match (head, kids) {
+        (Head::True, 0) => TRUE,
+        (Head::False, 0) => FALSE,
+        (Head::Not, 1) => NOT,
+        (Head::Xor, 2) => XOR,
+        (Head::Equal, 2) => EQUAL,
+        (Head::Ite(Sort::Bool), 3) => ITE,
+        _ => &[],
+    }
+}
+
+/// The clause of a row of a term over these arguments, each literal once.
+fn row_clause(
+    alloc: Global,
+    term: TermId,
+    kids: &[TermId],
+    row: &[i8],
+) -> Result<Option<Vec<Lit>>, Memory> {
+    let mut clause = Vec::new(alloc);
+    for number in row {
+        let place = number.unsigned_abs() as usize;
+        let named = match place.checked_sub(2) {
+            Some(kid) => kids.get(kid).copied(),
+            None => Some(term),
+        };
+        let Some(term) = named else {
+            return Ok(None);
+        };
+        let literal = Lit {
+            term,
+            sign: *number > 0,
+        };
+        if !has(&clause, literal) {
+            clause.push(literal)?;
+        }
+    }
+    Ok(Some(clause))
+}

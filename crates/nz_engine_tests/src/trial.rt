@@ -1,0 +1,152 @@
+//! A problem under way, whose answers are tried by the tests' own code.
+
+use crate::bench::{Answer, Bench, Checked};
+use crate::formula::{Part, value};
+use crate::reading::{has, last_clause};
+use nz_base::Memory;
+use nz_log::{Lit, Step};
+use nz_term::{Assign, TermId};
+use std::alloc::Global;
+use std::test::Fail;
+
+/// A formula that is asserted, and its term.
+#[derive(Debug, Drop)]
+struct Asserted {
+    formula: Vec<Part>,
+    term: TermId,
+}
+
+/// A problem over so many constants.
+#[derive(Drop)]
+pub struct Trial {
+    alloc: Global,
+    bench: Bench,
+    constants: usize,
+    asserted: Vec<Asserted>,
+    // How many formulas were asserted when each pushed level began.
+    marks: Vec<usize>,
+}
+
+/// What a check came to. Its model, or its derivation, was tried.
+#[derive(Clone, Copy, Debug, PartialEq, Eq)]
+pub enum Tried {
+    Sat,
+    Unsat,
+    Spent,
+}
+
+/// Another answer than was wanted, and where.
+#[derive(Clone, Copy, Debug)]
+struct Wrong {
+    place: usize,
+    answer: Tried,
+    wanted: Tried,
+}
+
+impl Trial {
+    /// Nothing is asserted, in one level.
+    pub fn new(alloc: Global, constants: usize) -> Result<Trial, Memory> {
+        Ok(Trial {
+            alloc,
+            bench: Bench::new(alloc)?,
+            constants,
+            asserted: Vec::new(alloc),
+            marks: Vec::new(alloc),
+        })
+    }
+
+    /// Begins a level.
+    pub fn push(&mut self) -> Result<(), Memory> {
+        self.bench.push()?;
+        self.marks.push(self.asserted.len())?;
+        Ok(())
+    }
+
+    /// Takes the last level off, unless it is the first.
+    pub fn pop(&mut self) {
+        if let Some(mark) = self.marks.pop() {
+            self.bench.pop();
+            self.asserted.truncate(mark);
+        }
+    }
+
+    /// Asserts a formula.
+    pub fn assert(&mut self, formula: &[Part]) -> Result<(), Fail> {
+        let term = self.bench.assert(formula)?.ok_or("no formula")?;
+        let formula = Vec::from_slice(self.alloc, formula)?;
+        self.asserted.push(Asserted { formula, term })?;
+        Ok(())
+    }
+
+    /// Asks whether what is asserted and assumed can all be true, with so many units, and tries the answer.
+    fn ask(&mut self, assumed: &[&'static [Part]], units: u64) -> Result<Tried, Fail> {
+        let Checked {
+            assumed: literals,
+            answer,
+        } = self.bench.check(assumed, units)?;
+        match answer {
+            Answer::Sat(values) => {
+                if !self.is_model(assumed, &values)? {
+                    return Err(Fail::new("a model doesn't make a formula true"));
+                }
+                Ok(Tried::Sat)
+            }
+            Answer::Unsat(steps) => {
+                if !self.is_refutation(&literals, &steps)? {
+                    return Err(Fail::new("steps don't derive negations of assumed literals"));
+                }
+                Ok(Tried::Unsat)
+            }
+            Answer::Spent => Ok(Tried::Spent),
+            Answer::Unasked => Err(Fail::new("the engine can't be asked")),
+        }
+    }
+
+    /// Asks so, and fails where another answer comes than is wanted at this place of a test.
+    pub fn expect(
+        &mut self,
+        place: usize,
+        assumed: &[&'static [Part]],
+        units: u64,
+        wanted: Tried,
+    ) -> Result<(), Fail> {
+        let answer = self.ask(assumed, units)?;
+        if answer != wanted {
+            return Err(Fail::from(Wrong {
+                place,
+                answer,
+                wanted,
+            }));
+        }
+        Ok(())
+    }
+
+    /// Whether these values make each asserted and each assumed formula true.
+    fn is_model(&mut self, assumed: &[&'static [Part]], values: &Assign) -> Result<bool, Memory> {
+        let truths = self.bench.truths(values, self.constants)?;
+        for asserted in &self.asserted {
+            if value(self.alloc, &asserted.formula, &truths)? != Some(true) {
+                return Ok(false);
+            }
+        }
+        for formula in assumed {
+            if value(self.alloc, formula, &truths)? != Some(true) {
+                return Ok(false);
+            }
+        }
+        Ok(true)
+    }
+
+    /// Whether these are steps of a clause whose literals are negations of these.
+    fn is_refutation(&self, literals: &[Lit], steps: &[Step]) -> Result<bool, Memory> {
+        let mut asserted = Vec::new(self.alloc);
+        for one in &self.asserted {
+            asserted.push(one.term)?;
+        }
+        let derived = last_clause(self.alloc, self.bench.terms(), &asserted, steps)?;
+        Ok(match derived {
+            Some(clause) => clause.iter().all(|literal| has(literals, literal.not())),
+            None => false,
+        })
+    }
+}
