@@ -1,0 +1,10 @@
+use Rattle.std.proofs.Common.{rules, ◌≡◌, List, [], fold, IfOk, OnOk, ℕ, ◌+◌, ◌-◌, ◌*◌, ◌<◌, ◌≤◌, length, ◌/◌, ◌%◌, Bool, true, false, nat_eq, nat_lt, ◌∷◌, ◌++◌, slice_index_or, slice_set, bit_and, bit_or, Fits, w8, w32, w64, Bor, MutBor}
+use Rattle.std.specs.List.{list_any}
+use Rattle.nz_spec.specs.Literal.{once, with_one, without}
+use Rattle.nz_log.specs.Lits.{are_same_lit, lit_resolvent}
+use Rattle.nz_log.specs.Marked.{AreMarksOf, AreNone}
+use Rattle.nz_log.proofs.sets.resolve_with.Goals as goal
+
+-- src/sets.rt:104:1
+pub returns-clause-resolvent : goal.returns-clause-resolvent
+returns-clause-resolvent c = ?
