@@ -1,3 +1,4 @@
+pub mod Chaining
 pub mod Dropping
 pub mod Entries
 pub mod Gathering

@@ -1,6 +1,10 @@
 -- Just the literals of a set are marked.
-use Rattle.std.proofs.Common.{◌≡◌, Bool, true, false, not, ◌&&◌, ◌||◌, List, [], ◌∷◌, ◌++◌, if◌then◌else◌, refl, sym, ap, ◌∙◌, true≢false}
+use Rattle.std.proofs.Common.{◌≡◌, ℕ, ◌+◌, ◌<◌, ◌≤◌, Bool, true, false, not, ◌&&◌, ◌||◌, List, [], ◌∷◌, ◌++◌, length, drop, get_or, cond, if◌then◌else◌, refl, sym, ap, subst, ◌∙◌, true≢false, add-one}
+use Rattle.std.specs.Prelude.{filter}
 use Rattle.std.specs.List.{list_any}
+use Rattle.std.specs.List.Retain.{RetainsInTurn}
+use Rattle.std.proofs.Math.Seq.{drop-cons}
+use Rattle.std.proofs.lemmas.List.{drop_all}
 use Rattle.std.proofs.lemmas.List.Folds.{list_any-append}
 use Rattle.std.proofs.lemmas.Map.Views.{any-filter_same}
 use Rattle.nz_lists.proofs.Tests.{same_tests}
@@ -51,18 +55,36 @@ without_other x (y ∷ ys) h = any_differs (are_same_lit x y) x y ys refl h (wit
 
 -- ---- None
 
--- what is marked is among what is left, the first of which is taken off
-pub marks_left : (m n : Marks) (x : Lit) (c : List Lit) → ((l : Lit) → has_mark m l ≡ true → list_any (are_same_lit l) (x ∷ c) ≡ true)
-    → ((l : Lit) → has_mark n l ≡ (not (are_same_lit l x) && has_mark m l)) → (l : Lit) → has_mark n l ≡ true → list_any (are_same_lit l) c ≡ true
-marks_left m n x c old h l e = left (are_same_lit l x) (has_mark m l) (sym (h l) ∙ e) (old l)
-  where
-    left : (b d : Bool) → (not b && d) ≡ true → (d ≡ true → (b || list_any (are_same_lit l) c) ≡ true) → list_any (are_same_lit l) c ≡ true
-    left true d e f = absurd (true≢false (sym e))
-    left false d e f = f e
+left_one : (b d : Bool) (l : Lit) (c : List Lit) → (not b && d) ≡ true → (d ≡ true → (b || list_any (are_same_lit l) c) ≡ true) → list_any (are_same_lit l) c ≡ true
+left_one true d l c e f = absurd (true≢false (sym e))
+left_one false d l c e f = f e
+
+-- what is marked is among those that are left, the first of which loses its mark
+pub marks_left : (m n : Marks) (c : List Lit) (i : ℕ) (d : Lit) → i < length c
+    → ((l : Lit) → has_mark m l ≡ true → list_any (are_same_lit l) (drop i c) ≡ true)
+    → ((l : Lit) → has_mark n l ≡ (not (are_same_lit l (get_or c i d)) && has_mark m l))
+    → (l : Lit) → has_mark n l ≡ true → list_any (are_same_lit l) (drop (i + 1) c) ≡ true
+marks_left m n c i d within old h l e =
+    left_one (are_same_lit l (get_or c i d)) (has_mark m l) l (drop (i + 1) c) (sym (h l) ∙ e)
+    (λ f. subst (λ (ls : List Lit). list_any (are_same_lit l) ls ≡ true) (drop-cons c i d within ∙ ap (λ n. get_or c i d ∷ drop n c) (sym (add-one i))) (old l f))
 
 not_true : (b : Bool) → (b ≡ true → ⊥) → b ≡ false
 not_true true f = absurd (f refl)
 not_true false f = refl
 
-pub marks_none : (m : Marks) → ((l : Lit) → has_mark m l ≡ true → list_any (are_same_lit l) [] ≡ true) → AreNone m
-marks_none m h l = not_true (has_mark m l) (λ e. true≢false (sym (h l e)))
+pub marks_none : (m : Marks) (c : List Lit) (i : ℕ) → length c ≤ i → ((l : Lit) → has_mark m l ≡ true → list_any (are_same_lit l) (drop i c) ≡ true) → AreNone m
+marks_none m c i past h l =
+    not_true (has_mark m l)
+    (λ e. true≢false (sym (subst (λ (ls : List Lit). list_any (are_same_lit l) ls ≡ true) (drop_all i c past) (h l e))))
+
+-- ---- A closure that only tests
+
+module _ {X F : Type 0} (R : F → X → Bool → F → X → Type 0) (test : X → Bool) (f : F)
+    (h : (x : X) (b : Bool) (g : F) (y : X) → R f x b g y → (b ≡ test x) × (g ≡ f) × (y ≡ x)) where
+  pub kept_in_turn : (xs ys : List X) → RetainsInTurn R f xs ys → ys ≡ filter test xs
+  kept_in_turn [] ys e = e
+  kept_in_turn (x ∷ xs) ys k =
+      let one = h x k.0 k.1 k.2 k.3 in
+      let rest : k.4 ≡ filter test xs = kept_in_turn xs k.4 (subst (λ (g : F). RetainsInTurn R g xs k.4) one.1 k.5) in
+      k.6 ∙ ap (λ (b : Bool). cond b (k.2 ∷ k.4) k.4) one.0 ∙ ap (λ (y : X). cond (test x) (y ∷ k.4) k.4) one.2
+      ∙ ap (λ (zs : List X). cond (test x) (x ∷ zs) zs) rest

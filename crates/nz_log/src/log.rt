@@ -207,7 +207,7 @@ impl Log {
         greatest
     }
 
-    /// The literals of the last clause of a chain. The marks are none, and stay so where there is memory.
+    /// The literals of the last clause of a chain. No literal has a mark before, nor after where there is memory.
     fn chained(
         &self,
         marks: &mut Marks,
@@ -235,6 +235,20 @@ impl Log {
         Ok(literals)
     }
 
+    /// The literals of the last clause of a chain, by the marks of the log. Where there is no memory it has new ones.
+    fn last_of_chain(&mut self, first: ClauseId, links: &[Link]) -> Result<Literals, Memory>
+        requires first { IsLive self.old first }
+        requires live { All (λ k. IsLive self.old k.clause) links.now }
+        requires some { 0 < length links.now }
+        ensures literals { IfOk result (λ c. c.items ≡ chained self.old (literals_at self.old first) links.now) }
+        ensures unchanged { self.new ≡ self.old }
+    {
+        let mut marks = replace(&mut self.marks, Marks::new(*self.clauses.allocator()));
+        let literals = self.chained(&mut marks, first, links)?;
+        self.marks = marks;
+        Ok(literals)
+    }
+
     /// The last of a chain of resolvents: that of the first clause with the clause of the first link on its literal, then that of
     /// this resolvent with the clause of the next link, and so on. The clauses between aren't kept.
     ///
@@ -250,9 +264,7 @@ impl Log {
         // Where each literal is of the table, the log stays in order.
         ensures sound { (ns : List Node) (levels : List (List ℕ)) → All (λ k. k.literal.term < length ns) links.now → IsLog ns levels self.old → IsLog ns levels self.new }
     {
-        let mut marks = replace(&mut self.marks, Marks::new(*self.clauses.allocator()));
-        let literals = self.chained(&mut marks, first, links)?;
-        self.marks = marks;
+        let literals = self.last_of_chain(first, links)?;
         let level = self.level_of_links(self.level(first), links);
         let level = self.level_with(level, literals.as_slice());
         let links = Vec::from_slice(*self.clauses.allocator(), links)?;

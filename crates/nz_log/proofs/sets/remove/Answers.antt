@@ -1,18 +1,22 @@
-use Rattle.std.proofs.Common.{rules, ◌≡◌, List, [], fold, IfOk, OnOk, ℕ, ◌+◌, ◌-◌, ◌*◌, ◌<◌, ◌≤◌, length, ◌/◌, ◌%◌, Bool, true, false, nat_eq, nat_lt, ◌∷◌, ◌++◌, slice_index_or, slice_set, bit_and, bit_or, Fits, w8, w32, w64, Bor, MutBor}
-use Rattle.std.specs.List.{list_any}
-use Rattle.nz_spec.specs.Literal.{once, with_one, without}
-use Rattle.nz_log.specs.Lits.{are_same_lit, lit_resolvent}
-use Rattle.nz_log.specs.Marked.{AreMarksOf, AreNone}
+-- What the closure tests, and the mark that goes.
+use Rattle.std.proofs.Common.{List, not, sym, subst, ◌∙◌, rules}
+use Rattle.nz_spec.specs.Literal.{without}
+use Rattle.nz_log.specs.declared.lits.Lit.{Lit}
+use Rattle.nz_log.specs.Lits.{are_same_lit}
+use Rattle.nz_log.specs.Marked.{AreMarksOf}
+use Rattle.nz_log.proofs.MarkedSets.{kept_in_turn, marks_without, without_other}
 use Rattle.nz_log.proofs.sets.remove.Goals as goal
 
--- src/sets.rt:92:1
 pub returns-then-has-clause-removed : goal.returns-then-has-clause-removed
-returns-then-has-clause-removed c = ?
+returns-then-has-clause-removed c =
+    kept_in_turn _ (λ (k : Lit). not (are_same_lit c.args.literal k)) _ (λ x b g y k. (search rules, search rules, search rules))
+    c.args.set.now.items c.retain.new.self.items c.retain.ensures.filtered
 
--- src/sets.rt:92:1
 pub returns-then-has-clause-marks : goal.returns-then-has-clause-marks
-returns-then-has-clause-marks c = ?
+returns-then-has-clause-marks c =
+    subst (λ (ls : List Lit). AreMarksOf c.unmark.new.self ls) (sym (returns-then-has-clause-removed c))
+    (marks_without c.args.marks.now c.unmark.new.self c.args.set.now.items c.args.literal c.requires.marks c.unmark.ensures.unmarked)
 
--- src/sets.rt:92:1
 pub returns-else-has-clause-removed : goal.returns-else-has-clause-removed
-returns-else-has-clause-removed c = ?
+returns-else-has-clause-removed c =
+    sym (without_other c.args.literal c.args.set.now.items (sym (c.requires.marks c.args.literal) ∙ sym c.has.ensures.has ∙ c.if-has.false))

@@ -1,10 +1,18 @@
-use Rattle.std.proofs.Common.{rules, ◌≡◌, List, [], fold, IfOk, OnOk, ℕ, ◌+◌, ◌-◌, ◌*◌, ◌<◌, ◌≤◌, length, ◌/◌, ◌%◌, Bool, true, false, nat_eq, nat_lt, ◌∷◌, ◌++◌, slice_index_or, slice_set, bit_and, bit_or, Fits, w8, w32, w64, Bor, MutBor}
-use Rattle.std.specs.List.{list_any}
-use Rattle.nz_spec.specs.Literal.{once, with_one, without}
-use Rattle.nz_log.specs.Lits.{are_same_lit, lit_resolvent}
-use Rattle.nz_log.specs.Marked.{AreMarksOf, AreNone}
+-- The resolvent is made of the set of the first clause.
+use Rattle.std.proofs.Common.{ap, fold, ◌∙◌}
+use Rattle.std.proofs.lemmas.Result.{on_ok_weaker}
+use Rattle.nz_spec.specs.Literal.{with_one, without}
+use Rattle.nz_log.specs.declared.lits.Lit.{Lit}
+use Rattle.nz_log.specs.Lits.{are_same_lit}
+use Rattle.nz_log.proofs.Gathering.{resolvent_of_set}
 use Rattle.nz_log.proofs.sets.resolve_with.Goals as goal
 
--- src/sets.rt:104:1
 pub returns-clause-resolvent : goal.returns-clause-resolvent
-returns-clause-resolvent c = ?
+returns-clause-resolvent c =
+    on_ok_weaker c.add_others.result
+    (λ added d is.
+      added
+      ∙ ap (λ s. fold (with_one are_same_lit) s (without are_same_lit c.not.result c.args.clause.now)) c.remove.ensures.removed
+      ∙ ap (λ (l : Lit). fold (with_one are_same_lit) (without are_same_lit c.args.on c.args.set.now.items) (without are_same_lit l c.args.clause.now)) c.not.ensures.negation
+      ∙ resolvent_of_set c.args.on d c.args.clause.now c.args.set.now.items is)
+    c.add_others.ensures.added

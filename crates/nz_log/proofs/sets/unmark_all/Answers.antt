@@ -1,18 +1,15 @@
-use Rattle.std.proofs.Common.{rules, ◌≡◌, List, [], fold, IfOk, OnOk, ℕ, ◌+◌, ◌-◌, ◌*◌, ◌<◌, ◌≤◌, length, ◌/◌, ◌%◌, Bool, true, false, nat_eq, nat_lt, ◌∷◌, ◌++◌, slice_index_or, slice_set, bit_and, bit_or, Fits, w8, w32, w64, Bor, MutBor}
-use Rattle.std.specs.List.{list_any}
-use Rattle.nz_spec.specs.Literal.{once, with_one, without}
-use Rattle.nz_log.specs.Lits.{are_same_lit, lit_resolvent}
-use Rattle.nz_log.specs.Marked.{AreMarksOf, AreNone}
+-- One mark less at each literal.
+use Rattle.std.proofs.Common.{sym, ◌∙◌}
+use Rattle.nz_log.proofs.MarkedSets.{marks_none, marks_left}
 use Rattle.nz_log.proofs.sets.unmark_all.Goals as goal
 
--- src/sets.rt:123:5
 pub loop-literal-init : goal.loop-literal-init
-loop-literal-init c = ?
+loop-literal-init c k e = sym (c.requires.marks k) ∙ e
 
--- src/sets.rt:123:5
 pub loop-literal-preserved : goal.loop-literal-preserved
-loop-literal-preserved c = ?
+loop-literal-preserved c =
+    marks_left c.loop-literal.marks c.unmark.new.self c.args.literals.now c.loop-literal.literal-index _ c.loop-literal-test.true c.loop-literal.invariant
+    c.unmark.ensures.unmarked
 
--- src/sets.rt:119:1
 pub returns : goal.returns
-returns c = ?
+returns c = record { none = marks_none c.loop-literal.marks c.args.literals.now c.loop-literal.literal-index c.loop-literal-test.false c.loop-literal.invariant }
