@@ -11,8 +11,8 @@ ghost use Rattle.nz_log.specs.Stored.{entry_of, origin_of};
 
 use crate::gates::gate_literals;
 use crate::lits::Lit;
-use crate::origins::{ClauseId, Link, Origin, Stored};
 use crate::marks::Marks;
+use crate::origins::{ClauseId, Link, Origin, Stored};
 use crate::sets::{Literals, add_all, resolve_with, set_of, unmark_all};
 use crate::steps::{Step, spelled};
 use nz_base::Memory;
@@ -224,12 +224,7 @@ impl Log {
         let mut literals = SmallVec::new(*self.clauses.allocator());
         add_all(&mut literals, marks, self.clause(first))?;
         for link in links {
-            resolve_with(
-                &mut literals,
-                marks,
-                link.literal,
-                self.clause(link.clause),
-            )?;
+            resolve_with(&mut literals, marks, link.literal, self.clause(link.clause))?;
         }
         unmark_all(marks, literals.as_slice());
         Ok(literals)

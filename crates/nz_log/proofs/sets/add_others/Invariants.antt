@@ -10,7 +10,7 @@ abbrev pub invariant-loop-literal : goal.invariant-loop-literal
 invariant-loop-literal l =
     record {
       added :
-        fold (with_one are_same_lit) l.set.items (without are_same_lit l.but (drop l.literal-index l.literals))
-        ≡ fold (with_one are_same_lit) l.fn.set.items (without are_same_lit l.but l.literals);
+          fold (with_one are_same_lit) l.set.items (without are_same_lit l.but (drop l.literal-index l.literals))
+          ≡ fold (with_one are_same_lit) l.fn.set.items (without are_same_lit l.but l.literals);
       marks : AreMarksOf l.marks l.set.items;
     }

@@ -11,8 +11,8 @@ pub returns-clause-resolvent : goal.returns-clause-resolvent
 returns-clause-resolvent c =
     on_ok_weaker c.add_others.result
     (λ added d is.
-      added
-      ∙ ap (λ s. fold (with_one are_same_lit) s (without are_same_lit c.not.result c.args.clause.now)) c.remove.ensures.removed
-      ∙ ap (λ (l : Lit). fold (with_one are_same_lit) (without are_same_lit c.args.on c.args.set.now.items) (without are_same_lit l c.args.clause.now)) c.not.ensures.negation
-      ∙ resolvent_of_set c.args.on d c.args.clause.now c.args.set.now.items is)
+    added
+    ∙ ap (λ s. fold (with_one are_same_lit) s (without are_same_lit c.not.result c.args.clause.now)) c.remove.ensures.removed
+    ∙ ap (λ (l : Lit). fold (with_one are_same_lit) (without are_same_lit c.args.on c.args.set.now.items) (without are_same_lit l c.args.clause.now)) c.not.ensures.negation
+    ∙ resolvent_of_set c.args.on d c.args.clause.now c.args.set.now.items is)
     c.add_others.ensures.added
