@@ -7,7 +7,7 @@ ghost use Rattle.nz_log.specs.Lits.{gates_at, gates_over, is_boolean_at, negated
 
 use crate::lits::Lit;
 use nz_base::Memory;
-use nz_term::{Head, Sort, TermId, Terms};
+use nz_term::{Head, Operator, Sort, TermId, Terms};
 use std::alloc::Global;
 
 /// The literals of a clause, where the gate table has one.
@@ -20,25 +20,28 @@ pub fn gate_count(terms: &Terms, term: TermId) -> usize
 {
     let node = terms.node(term);
     let kids = node.kids.as_slice();
-    match &node.head {
-        Head::True | Head::False => match kids {
+    let Head::Operator(operator) = &node.head else {
+        return 0;
+    };
+    match operator {
+        Operator::True | Operator::False => match kids {
             [] => 1,
             _ => 0,
         },
-        Head::Not => match kids {
+        Operator::Not => match kids {
             [_] => 2,
             _ => 0,
         },
-        Head::And | Head::Or => kids.len() + 1,
-        Head::Xor => match kids {
+        Operator::And | Operator::Or => kids.len() + 1,
+        Operator::Xor => match kids {
             [_, _] => 4,
             _ => 0,
         },
-        Head::Equal => match kids {
+        Operator::Equal => match kids {
             [left, _] => equality_count(terms, *left),
             _ => 0,
         },
-        Head::Ite(Sort::Bool) => match kids {
+        Operator::Ite(Sort::Bool) => match kids {
             [_, _, _] => 4,
             _ => 0,
         },
@@ -76,15 +79,18 @@ fn clause_over(
 ) -> Result<Gate, Memory>
     ensures clause { IfOk result (λ c. option_map (λ v. v.items) c ≡ slice_get (gates_over term (head_of head.now) kids.now) j) }
 {
-    match head {
-        Head::True => only_clause(alloc, Lit::holds(term), kids, j),
-        Head::False => only_clause(alloc, Lit::fails(term), kids, j),
-        Head::Not => negation_clause(alloc, term, kids, j),
-        Head::And => conjunction_clause(alloc, term, kids, j),
-        Head::Or => disjunction_clause(alloc, term, kids, j),
-        Head::Xor => exclusion_clause(alloc, term, kids, j),
-        Head::Equal => equality_clause(alloc, term, kids, j),
-        Head::Ite(sort) => choice_clause(alloc, *sort, term, kids, j),
+    let Head::Operator(operator) = head else {
+        return Ok(None);
+    };
+    match operator {
+        Operator::True => only_clause(alloc, Lit::holds(term), kids, j),
+        Operator::False => only_clause(alloc, Lit::fails(term), kids, j),
+        Operator::Not => negation_clause(alloc, term, kids, j),
+        Operator::And => conjunction_clause(alloc, term, kids, j),
+        Operator::Or => disjunction_clause(alloc, term, kids, j),
+        Operator::Xor => exclusion_clause(alloc, term, kids, j),
+        Operator::Equal => equality_clause(alloc, term, kids, j),
+        Operator::Ite(sort) => choice_clause(alloc, *sort, term, kids, j),
         _ => Ok(None),
     }
 }

@@ -7,11 +7,13 @@ mod gates;
 pub mod laws;
 mod lits;
 mod log;
+mod marks;
 mod note;
 mod origins;
 mod sets;
 mod steps;
 mod stop;
+mod theory;
 
 pub use decide::{Decide, Verdict};
 pub use gates::gate_count;
@@ -21,3 +23,4 @@ pub use note::Note;
 pub use origins::{ClauseId, Link};
 pub use steps::Step;
 pub use stop::Stop;
+pub use theory::{NoNumbers, Theory};

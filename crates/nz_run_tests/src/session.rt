@@ -101,6 +101,11 @@ fn run_script<E: Decide>(
     })
 }
 
+/// The same of the engine, with the units that a check may use.
+fn run_engine(alloc: Global, script: &[u8], sink: &mut PlainSink) -> Result<Outcome, Memory> {
+    run_script(alloc, Engine::new(alloc)?, UNITS, script, sink)
+}
+
 #[test]
 fn a_session_answers_what_is_no_command(rt: HostRuntime) -> Result<(), Fail> {
     let mut sink = PlainSink::new(rt.alloc(), ROOM)?;
@@ -108,13 +113,7 @@ fn a_session_answers_what_is_no_command(rt: HostRuntime) -> Result<(), Fail> {
     let mut script = vec![in rt.alloc(); b'('; TOO_DEEP]?;
     script.resize(2 * TOO_DEEP, b')')?;
     script.extend_from_slice(b"(check-sat")?;
-    let ended = run_script(
-        rt.alloc(),
-        Engine::new(rt.alloc())?,
-        UNITS,
-        &script,
-        &mut sink,
-    )?;
+    let ended = run_engine(rt.alloc(), &script, &mut sink)?;
     let [deep, unclosed] = ended.journal.as_slice() else {
         return Err(Fail::from("two replies"));
     };
@@ -128,13 +127,7 @@ fn a_session_answers_what_is_no_command(rt: HostRuntime) -> Result<(), Fail> {
 fn a_session_answers_to_its_exit(rt: HostRuntime) -> Result<(), Fail> {
     let mut sink = PlainSink::new(rt.alloc(), ROOM)?;
     let script = b"(declare-const p Bool)(assert p)(check-sat)(get-model)(exit)(check-sat)";
-    let ended = run_script(
-        rt.alloc(),
-        Engine::new(rt.alloc())?,
-        UNITS,
-        script,
-        &mut sink,
-    )?;
+    let ended = run_engine(rt.alloc(), script, &mut sink)?;
     assert_eq!(rt; ended.fed, Fed::Exited);
     assert_eq!(rt; ended.journal.as_slice().len(), 5);
     assert_eq!(rt;
@@ -147,13 +140,7 @@ fn a_session_answers_to_its_exit(rt: HostRuntime) -> Result<(), Fail> {
 #[test]
 fn a_session_ends_with_its_script(rt: HostRuntime) -> Result<(), Fail> {
     let mut sink = PlainSink::new(rt.alloc(), ROOM)?;
-    let ended = run_script(
-        rt.alloc(),
-        Engine::new(rt.alloc())?,
-        UNITS,
-        b"(check-sat",
-        &mut sink,
-    )?;
+    let ended = run_engine(rt.alloc(), b"(check-sat", &mut sink)?;
     assert_eq!(rt; ended.fed, Fed::Going);
     assert_eq!(rt; ended.ended, Fed::Going);
     assert_eq!(rt; ended.journal.as_slice().len(), 1);
@@ -198,13 +185,7 @@ fn only_what_was_answered_last_is_shown(rt: HostRuntime) -> Result<(), Fail> {
     let mut sink = PlainSink::new(rt.alloc(), ROOM)?;
     let script = b"(get-model)(get-info :reason-unknown)(check-sat)(get-info :reason-unknown)
         (assert false)(check-sat)(get-model)";
-    let ended = run_script(
-        rt.alloc(),
-        Engine::new(rt.alloc())?,
-        UNITS,
-        script,
-        &mut sink,
-    )?;
+    let ended = run_engine(rt.alloc(), script, &mut sink)?;
     assert_eq!(rt; ended.ended, Fed::Going);
     let wanted = b"(error \"7 no answer to show\")\n(error \"7 no answer to show\")\nsat\n\
         (error \"7 no answer to show\")\nunsat\n(error \"7 no answer to show\")\n";
@@ -217,13 +198,7 @@ fn a_refusal_is_told_by_its_number(rt: HostRuntime) -> Result<(), Fail> {
     let mut sink = PlainSink::new(rt.alloc(), ROOM)?;
     let script = b"(declare-const p Bool)(assert q)(assert (not p p))
         (set-info :size 170141183460469231731687303715884105728)(get-model)(declare-const p Bool)";
-    let ended = run_script(
-        rt.alloc(),
-        Engine::new(rt.alloc())?,
-        UNITS,
-        script,
-        &mut sink,
-    )?;
+    let ended = run_engine(rt.alloc(), script, &mut sink)?;
     assert_eq!(rt; ended.ended, Fed::Going);
     let wanted = b"(error \"2 unknown symbol\")\n(error \"3 sort\")\n\
         (error \"5 number too wide\")\n(error \"7 no answer to show\")\n\
@@ -237,13 +212,7 @@ fn values_are_told_of_terms_over_numbers(rt: HostRuntime) -> Result<(), Fail> {
     let mut sink = PlainSink::new(rt.alloc(), ROOM)?;
     let script = b"(get-value (true))(declare-const p Bool)(assert p)(check-sat)
         (get-value (p (ite p 1 2) (/ 1 2)))";
-    let ended = run_script(
-        rt.alloc(),
-        Engine::new(rt.alloc())?,
-        UNITS,
-        script,
-        &mut sink,
-    )?;
+    let ended = run_engine(rt.alloc(), script, &mut sink)?;
     assert_eq!(rt; ended.ended, Fed::Going);
     let wanted = b"(error \"7 no answer to show\")\nsat\n\
         ((p true) ((ite p 1 2) 1) ((/ 1 2) (/ 1.0 2.0)))\n";
@@ -255,13 +224,7 @@ fn values_are_told_of_terms_over_numbers(rt: HostRuntime) -> Result<(), Fail> {
 fn an_operation_that_leaves_the_numbers_is_told(rt: HostRuntime) -> Result<(), Fail> {
     let mut sink = PlainSink::new(rt.alloc(), ROOM)?;
     let script = b"(check-sat)(get-value ((+ 170141183460469231731687303715884105727 1)))";
-    let ended = run_script(
-        rt.alloc(),
-        Engine::new(rt.alloc())?,
-        UNITS,
-        script,
-        &mut sink,
-    )?;
+    let ended = run_engine(rt.alloc(), script, &mut sink)?;
     assert_eq!(rt; ended.ended, Fed::Going);
     let wanted = b"sat\n(((+ 170141183460469231731687303715884105727 1) \
         (wide add 170141183460469231731687303715884105727 1)))\n";
@@ -274,13 +237,7 @@ fn success_is_told_from_the_option_on(rt: HostRuntime) -> Result<(), Fail> {
     let mut sink = PlainSink::new(rt.alloc(), ROOM)?;
     let script = b"(declare-const p Bool)(set-option :print-success true)(assert p)
         (set-info :status sat)(set-option :print-success false)(assert p)(exit)";
-    let ended = run_script(
-        rt.alloc(),
-        Engine::new(rt.alloc())?,
-        UNITS,
-        script,
-        &mut sink,
-    )?;
+    let ended = run_engine(rt.alloc(), script, &mut sink)?;
     assert_eq!(rt; ended.ended, Fed::Exited);
     assert_eq!(rt; sink.bytes(), b"success\nsuccess\nsuccess\n".as_slice());
     Ok(())
@@ -290,13 +247,7 @@ fn success_is_told_from_the_option_on(rt: HostRuntime) -> Result<(), Fail> {
 fn texts_and_infos_are_told(rt: HostRuntime) -> Result<(), Fail> {
     let mut sink = PlainSink::new(rt.alloc(), ROOM)?;
     let script = b"(echo \"say \"\"no\"\"\")(get-info :name)(get-info :assertion-stack-levels)";
-    let ended = run_script(
-        rt.alloc(),
-        Engine::new(rt.alloc())?,
-        UNITS,
-        script,
-        &mut sink,
-    )?;
+    let ended = run_engine(rt.alloc(), script, &mut sink)?;
     assert_eq!(rt; ended.ended, Fed::Going);
     let wanted = b"\"say \"\"no\"\"\"\n(:name \"nuz\")\n(:assertion-stack-levels 0)\n";
     assert_eq!(rt; sink.bytes(), wanted.as_slice());
@@ -308,13 +259,7 @@ fn numbers_are_defined_and_not_checked(rt: HostRuntime) -> Result<(), Fail> {
     let mut sink = PlainSink::new(rt.alloc(), ROOM)?;
     let script = b"(define-fun two () Int 2)(check-sat)(get-value ((+ two two)))
         (declare-const x Int)(assert (= (* x x) two))(check-sat)";
-    let ended = run_script(
-        rt.alloc(),
-        Engine::new(rt.alloc())?,
-        UNITS,
-        script,
-        &mut sink,
-    )?;
+    let ended = run_engine(rt.alloc(), script, &mut sink)?;
     assert_eq!(rt; ended.ended, Fed::Going);
     let wanted = b"sat\n(((+ two two) 4))\n(error \"4 not linear\")\nunsupported\n";
     assert_eq!(rt; sink.bytes(), wanted.as_slice());

@@ -15,10 +15,10 @@ ghost use Rattle.nz_sat_tests.specs.Problems.{AreBelow, IsPosed};
 
 use nz_base::{Memory, Text, Work};
 use nz_log::laws::logs_stay;
-use nz_log::{ClauseId, Lit, Log, Note, Stop, gate_count};
+use nz_log::{ClauseId, Lit, Log, NoNumbers, Note, Stop, gate_count};
 use nz_sat::Sat;
 use nz_spec::derivation::gates_are_true;
-use nz_term::{Constant, Head, Sort, TermId, Terms};
+use nz_term::{Constant, Head, Operator, Sort, TermId, Terms, operators_are_no_leaves};
 use std::alloc::Global;
 use std::marker::Model;
 
@@ -29,7 +29,7 @@ pub struct Problem {
     terms: Terms,
     asserted: Vec<TermId>,
     log: Log,
-    sat: Sat,
+    sat: Sat<NoNumbers>,
     limit: u64,
     left: u64,
 }
@@ -56,7 +56,7 @@ impl Problem {
             terms: Terms::new(alloc)?,
             asserted: Vec::new(alloc),
             log: Log::new(alloc)?,
-            sat: Sat::new(alloc),
+            sat: Sat::new(alloc, NoNumbers::new()),
             limit,
             left: limit,
         })
@@ -85,13 +85,11 @@ impl Problem {
         self.make(Head::Constant(constant), &[])
     }
 
-    /// The term of this head over these, with its clauses of the gate table.
-    pub fn gates(&mut self, head: Head, kids: &[TermId]) -> Result<TermId, Memory>
-        requires fits { IsTrue (head_fits (head_of head)) }
-        requires leaves { HasItsArguments (head_of head) kids.now }
-    {
+    /// The term of this operator over these, with its clauses of the gate table.
+    pub fn gates(&mut self, operator: Operator, kids: &[TermId]) -> Result<TermId, Memory> {
+        operators_are_no_leaves();
         let known = self.terms.len();
-        let term = self.make(head, kids)?;
+        let term = self.make(Head::Operator(operator), kids)?;
         if known <= term {
             add_gates(&mut self.log, &mut self.sat, &self.terms, term)?;
         }
@@ -114,7 +112,7 @@ impl Problem {
         if literal.sign {
             return Ok(literal.term);
         }
-        self.gates(Head::Not, &[literal.term])
+        self.gates(Operator::Not, &[literal.term])
     }
 
     /// Asserts that one of these literals is true.
@@ -123,7 +121,7 @@ impl Problem {
         for literal in literals {
             kids.push(self.term(*literal)?)?;
         }
-        let term = self.gates(Head::Or, &kids)?;
+        let term = self.gates(Operator::Or, &kids)?;
         self.assert(term)
     }
 
@@ -160,7 +158,7 @@ impl Problem {
 /// Adds the clause of this number of a term of the gate table.
 fn add_gate(
     log: &mut Log,
-    sat: &mut Sat,
+    sat: &mut Sat<NoNumbers>,
     terms: &Terms,
     term: TermId,
     j: usize,
@@ -174,7 +172,12 @@ fn add_gate(
 }
 
 /// Adds the clauses of a term of the gate table that holds no number.
-fn add_gates(log: &mut Log, sat: &mut Sat, terms: &Terms, term: TermId) -> Result<(), Memory>
+fn add_gates(
+    log: &mut Log,
+    sat: &mut Sat<NoNumbers>,
+    terms: &Terms,
+    term: TermId,
+) -> Result<(), Memory>
     requires within { term < length terms.now }
     ensures posed { (asserted : List ℕ) → IsPosed terms.now asserted log.old sat.old → IsPosed terms.now asserted log.new sat.new }
 {
@@ -189,7 +192,12 @@ fn add_gates(log: &mut Log, sat: &mut Sat, terms: &Terms, term: TermId) -> Resul
 }
 
 /// Adds that the term of a live assertion is true.
-fn add_assertion(log: &mut Log, sat: &mut Sat, place: usize, term: TermId) -> Result<(), Memory>
+fn add_assertion(
+    log: &mut Log,
+    sat: &mut Sat<NoNumbers>,
+    place: usize,
+    term: TermId,
+) -> Result<(), Memory>
     ensures posed { (ns : List Node) (asserted : List ℕ) → term < length ns → slice_get (live_at (asserted ∷ []) 0) place ≡ Some term → IsPosed ns asserted log.old sat.old → IsPosed ns asserted log.new sat.new }
 {
     let clause = log.given(place, term, 0)?;

@@ -1,0 +1,42 @@
+-- Logs that grow by a chain, or by nothing.
+use Rattle.std.proofs.Common.{◌≡◌, inl, inr, ℕ, ◌<◌, List, Some, Result, Ok, Err, refl, sym, ap, subst, ◌∙◌, arith}
+use Rattle.std.specs.Prelude.{All, IfOk, IsSome, OnErr}
+use Rattle.nz_base.specs.declared.errors.Memory.{Memory}
+use Rattle.std.proofs.lemmas.Bool.Decides.{eqb_tells}
+use Rattle.nz_log.specs.declared.origins.Link.{Link}
+use Rattle.nz_log.specs.Logs.{chain_of, gate_of, Entry, LogState, entry_at, IsLive, Puts, chain_entry}
+use Rattle.nz_log.specs.Theories.{Grows}
+use Rattle.nz_log.proofs.Leveled.{logs_stay_leveled}
+
+-- by the last of a chain of resolvents
+grows_by_chain : (old new : LogState) (id first : ℕ) (ks : List Link) → Puts old id (chain_entry old first ks) new → IsLive old first
+    → All (λ (k : Link). IsLive old k.clause) ks → Grows old new
+grows_by_chain old new id first ks puts live lives =
+    record {
+      live = puts.stay;
+      kept = λ i h. puts.kept i (λ same. let below : i < id = puts.above i h in absurd (omega (arith, below, same)));
+      told = puts.told;
+      gates = λ i e t j at origin. elim (eqb_tells i id) [
+        | inl here ↦
+            let both : Some (chain_entry old first ks) ≡ Some e = sym puts.made ∙ ap (entry_at new) (sym here.1) ∙ at in
+            let one : chain_entry old first ks ≡ e = cc in
+            let made : chain_of first ks ≡ gate_of t j = ap (λ (x : Entry). x.origin) one ∙ origin in
+            absurd cc
+        | inr other ↦ subst (λ o. IsSome o) (sym (sym (puts.kept i other.1) ∙ at)) refl
+      ];
+      leveled = logs_stay_leveled.chain old new id first ks puts live lives;
+    }
+
+-- by the answer of a call that puts it, or finds no memory
+pub chain_grows : (old new : LogState) (first : ℕ) (ks : List Link) (r : Result ℕ Memory) → IfOk r (λ id. Puts old id (chain_entry old first ks) new)
+    → OnErr r (new ≡ old) → IsLive old first → All (λ (k : Link). IsLive old k.clause) ks → Grows old new
+chain_grows old new first ks (Ok id) puts same live lives = grows_by_chain old new id first ks puts live lives
+chain_grows old new first ks (Err e) puts same live lives =
+    subst (Grows old) (sym same)
+    (record {
+      live = λ i h. h;
+      kept = λ i h. refl;
+      told = refl;
+      gates = λ i e t j at origin. subst (λ o. IsSome o) (sym at) refl;
+      leveled = λ h. h;
+    })
