@@ -13,7 +13,7 @@ use crate::normal::{make, normal_term};
 use crate::operators::{Operands, Operator, operands_of, takes};
 use crate::typed::{ApplyError, Typed};
 use nz_base::Memory;
-use nz_term::{Head, NumberSort, Sort, TermId, Terms};
+use nz_term::{NumberSort, Operator as NormalOperator, Sort, TermId, Terms};
 use std::alloc::Global;
 
 /// The operator over its arguments, where it takes them.
@@ -148,7 +148,7 @@ pub(crate) fn as_real(terms: &mut Terms, argument: Typed) -> Result<TermId, Memo
     ensures real { IfOk result (λ id. (t : spec.Term) → IsTyped terms.old argument t → StandsFor terms.new id (normal_of (spec_as_real t))) }
 {
     if argument.sort == Sort::Int {
-        make(terms, Head::ToReal, &[argument.id])
+        make(terms, NormalOperator::ToReal, &[argument.id])
     } else {
         Ok(argument.id)
     }

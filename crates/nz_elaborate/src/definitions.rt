@@ -20,7 +20,7 @@ use crate::faults::{ElaborateError, Fault, Found};
 use crate::frames::Bound;
 use crate::meanings::place;
 use crate::names::{Definition, Names};
-use crate::normal::make;
+use crate::normal::make_leaf;
 use crate::sorts::{is_unknown_sort, written_sort};
 use crate::typed::{ApplyError, Typed};
 use nz_base::{Memory, Text};
@@ -158,7 +158,7 @@ fn parameter_term(terms: &mut Terms, place: usize, sort: &WrittenSort<'_>) -> Re
 {
     match sort_found(sort) {
         Ok(sort) => {
-            let id = make(terms, Head::Parameter(place, sort), &[])?;
+            let id = make_leaf(terms, Head::Parameter(place, sort))?;
             Ok(Found::Term(Typed { id, sort }))
         }
         Err(fault) => Ok(Found::Fault(fault)),

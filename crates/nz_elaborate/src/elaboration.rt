@@ -20,7 +20,7 @@ use crate::faults::{ElaborateError, Fault, Found, FoundAll};
 use crate::frames::{Bound, Frame};
 use crate::meanings::{apply_name, name_term};
 use crate::names::Names;
-use crate::normal::make;
+use crate::normal::make_leaf;
 use crate::typed::Typed;
 use nz_base::{Memory, Text};
 use nz_command::{Expression, Local, Number, Question};
@@ -244,6 +244,6 @@ fn fitting_term(terms: &mut Terms, head: Head) -> Result<Found, Memory>
         return Ok(Found::Fault(Fault::Sort));
     }
     let sort = head.sort();
-    let id = make(terms, head, &[])?;
+    let id = make_leaf(terms, head)?;
     Ok(Found::Term(Typed { id, sort }))
 }

@@ -1,3 +1,4 @@
+pub mod Carrying
 pub mod OrderLemmas
 pub mod PartLemmas
 pub mod ProductLemmas
@@ -5,3 +6,4 @@ pub mod Room
 pub mod RoundLemmas
 pub mod SumLemmas
 pub mod WideLemmas
+pub mod Zero

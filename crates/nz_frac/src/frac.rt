@@ -1,7 +1,8 @@
 //! The fraction itself: its constructor, its operations and its order.
-ghost use Rattle.std.specs.Prelude.{◌≡◌, ◌≢◌, ◌*◌, ◌<◌, ◌≤◌, ◌↔◌, IsTrue, IsFalse, IsSome, IfSome, IfOk, IsErr, IfErr, pos, ◌+ℤ◌, ◌*ℤ◌, unsigned_abs, int_div};
+ghost use Rattle.std.specs.Prelude.{◌≡◌, ◌≢◌, ◌*◌, ◌<◌, ◌≤◌, ◌↔◌, IsTrue, IsFalse, IsSome, IfSome, IfOk, false, IsErr, IfErr, pos, ◌+ℤ◌, ◌*ℤ◌, unsigned_abs, int_div};
 ghost use Rattle.std.specs.Option.{SomeIff};
 ghost use Rattle.nz_spec.specs.Fraction.{floor_div, largest, denominator, whole, neg_ℚ, floor, ceiling, ratio, reciprocal, IsNumber, fraction_cmp, Sum, Difference, Product, Quotient, outcome, is_wide, is_wide_sum, is_wide_product};
+ghost use Rattle.nz_spec.specs.Term.{is_zero};
 ghost use Rattle.nz_frac.specs.Parts.{with_sign, differ};
 
 use crate::magnitude::{LARGEST, cmp_products, greatest_divisor, product_within, quotient};
@@ -222,6 +223,15 @@ impl Frac {
             Some(quotient) => Ok(quotient),
             None => Err(Wide::new(Op::Div, self, other)),
         }
+    }
+
+    /// Whether it is 0.
+    #[tactic(auto, using(crate::proofs::Zero::is_not_zero))]
+    pub fn is_zero(self) -> bool
+        ensures zero { result ≡ is_zero self }
+        ensures nonzero { result ≡ false → self.numerator ≢ pos 0 }
+    {
+        self == Frac::whole(0)
     }
 
     /// The number with the other sign.

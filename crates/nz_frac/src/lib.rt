@@ -7,5 +7,6 @@
 
 mod frac;
 mod magnitude;
+mod operation;
 
 pub use frac::{Frac, Op, Wide};

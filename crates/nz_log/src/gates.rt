@@ -7,7 +7,7 @@ ghost use Rattle.nz_log.specs.Lits.{gates_at, gates_over, is_boolean_at, negated
 
 use crate::lits::Lit;
 use nz_base::Memory;
-use nz_term::{Head, Sort, TermId, Terms};
+use nz_term::{Head, Operator, Sort, TermId, Terms};
 use std::alloc::Global;
 
 /// The literals of a clause, where the gate table has one.
@@ -76,15 +76,18 @@ fn clause_over(
 ) -> Result<Gate, Memory>
     ensures clause { IfOk result (λ c. option_map (λ v. v.items) c ≡ slice_get (gates_over term (head_of head.now) kids.now) j) }
 {
-    match head {
-        Head::True => only_clause(alloc, Lit::holds(term), kids, j),
-        Head::False => only_clause(alloc, Lit::fails(term), kids, j),
-        Head::Not => negation_clause(alloc, term, kids, j),
-        Head::And => conjunction_clause(alloc, term, kids, j),
-        Head::Or => disjunction_clause(alloc, term, kids, j),
-        Head::Xor => exclusion_clause(alloc, term, kids, j),
-        Head::Equal => equality_clause(alloc, term, kids, j),
-        Head::Ite(sort) => choice_clause(alloc, *sort, term, kids, j),
+    let Head::Operator(operator) = head else {
+        return Ok(None);
+    };
+    match operator {
+        Operator::True => only_clause(alloc, Lit::holds(term), kids, j),
+        Operator::False => only_clause(alloc, Lit::fails(term), kids, j),
+        Operator::Not => negation_clause(alloc, term, kids, j),
+        Operator::And => conjunction_clause(alloc, term, kids, j),
+        Operator::Or => disjunction_clause(alloc, term, kids, j),
+        Operator::Xor => exclusion_clause(alloc, term, kids, j),
+        Operator::Equal => equality_clause(alloc, term, kids, j),
+        Operator::Ite(sort) => choice_clause(alloc, *sort, term, kids, j),
         _ => Ok(None),
     }
 }

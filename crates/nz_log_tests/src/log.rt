@@ -5,7 +5,7 @@ ghost use Rattle.nz_log.specs.Logs.{IsLive};
 
 use nz_base::{Memory, Text};
 use nz_log::{ClauseId, Lit, Log, Step};
-use nz_term::{Constant, Head, Sort, TermId, Terms};
+use nz_term::{Constant, Head, Operator, Sort, TermId, Terms};
 use std::alloc::Global;
 use std::test::Fail;
 
@@ -26,7 +26,7 @@ fn negation(terms: &mut Terms, kid: TermId) -> Result<TermId, Memory>
     ensures within { IfOk result (λ id. id < length terms.new) }
     ensures table { IfOk result (λ id. 0 < length (gates_at terms.new id)) }
 {
-    terms.make(Head::Not, &[kid])
+    terms.make(Head::Operator(Operator::Not), &[kid])
 }
 
 // The empty clause from two assertions, a term and its negation, and the clause of the gate table that ties them.

@@ -7,7 +7,7 @@ use Rattle.std.proofs.Math.Bool.{or_assoc, or-false}
 use Rattle.std.proofs.lemmas.List.Folds.{list_any-append}
 use Rattle.nz_spec.specs.Elaboration.{numbers_at}
 use Rattle.nz_spec.specs.Term.{Sort, bool_sort, int_sort, real_sort, NumberSort, over_int, over_real, sort_over, Head, constant, parameter, integer, decimal_number, verum, falsum, negation, conjunction, disjunction, implication, exclusion, equality, distinction, choice, less, at_most, greater, at_least, sum, difference, product, quotient, integer_quotient, modulus, magnitude, to_real, to_int, is_int, Term, apply, Terms, no_terms, terms, Assignment, is_true, value_of}
-use Rattle.nz_spec.specs.Literal.{sort_number, head_numbers, are_same_head, are_same_term, are_same_terms, Literal, term_literal, negation_of, are_same_sign, are_same_literal, is_literal_true, with_one, once, without, Clause, is_clause_true, ResolventIsTrue, ClauseIsTrueTogether, TellsLiterals}
+use Rattle.nz_spec.specs.Literal.{sort_number, TellsHeads, head_numbers, are_same_head, are_same_term, are_same_terms, Literal, term_literal, negation_of, are_same_sign, are_same_literal, is_literal_true, with_one, once, without, Clause, is_clause_true, ResolventIsTrue, ClauseIsTrueTogether, TellsLiterals}
 use Rattle.std.proofs.lemmas.Bool.{and_from, and_parts}
 
 -- ---- A head from its numbers
@@ -26,56 +26,28 @@ numbers_back : (s : NumberSort) → numbers_at (sort_numbered (sort_number (sort
 numbers_back over_int = refl
 numbers_back over_real = refl
 
-abbrev first_of : List ℕ → ℕ
-first_of [] = 0
-first_of (n ∷ ns) = n
-
 -- the heads by their kinds
-abbrev picked : ℕ → ℕ → List ℕ → Head
-picked k s ns =
+abbrev picked : ℕ → Sort → ℕ → ℕ → List ℕ → Head
+picked k s n p name =
     slice_index_or
-    (constant (record { name = ns; sort = sort_numbered s }) ∷ parameter (first_of ns) (sort_numbered s) ∷ integer (first_of ns)
-    ∷ decimal_number (first_of ns) s ∷ verum ∷ falsum ∷ negation ∷ conjunction ∷ disjunction ∷ implication ∷ exclusion ∷ equality ∷ distinction
-    ∷ choice (sort_numbered s) ∷ less ∷ at_most ∷ greater ∷ at_least ∷ sum (numbers_at (sort_numbered s)) ∷ difference (numbers_at (sort_numbered s))
-    ∷ product (numbers_at (sort_numbered s)) ∷ quotient ∷ integer_quotient ∷ modulus ∷ magnitude ∷ to_real ∷ to_int ∷ is_int ∷ [])
+    (constant (record { name = name; sort = s }) ∷ parameter p s ∷ integer n ∷ decimal_number n p ∷ verum ∷ falsum ∷ negation ∷ conjunction ∷ disjunction ∷ exclusion ∷ equality ∷ choice s
+    ∷ less ∷ at_most ∷ sum (numbers_at s) ∷ difference (numbers_at s) ∷ product (numbers_at s) ∷ quotient ∷ integer_quotient ∷ modulus ∷ magnitude ∷ to_real ∷ to_int ∷ is_int ∷ implication ∷ distinction ∷ greater ∷ at_least ∷ [])
     k falsum
 
 abbrev built : List ℕ → Head
-built [] = falsum
-built (k ∷ []) = picked k 0 []
-built (k ∷ s ∷ ns) = picked k s ns
+built (k ∷ s ∷ n ∷ p ∷ name) = picked k (sort_numbered s) n p name
+built ns = falsum
 
 head_back : (h : Head) → built (head_numbers h) ≡ h
 head_back (constant c) = ap (λ s. constant (record { name = c.name; sort = s })) (sort_back c.sort)
 head_back (parameter i s) = ap (parameter i) (sort_back s)
-head_back (integer n) = refl
-head_back (decimal_number n places) = refl
-head_back verum = refl
-head_back falsum = refl
-head_back negation = refl
-head_back conjunction = refl
-head_back disjunction = refl
-head_back implication = refl
-head_back exclusion = refl
-head_back equality = refl
-head_back distinction = refl
 head_back (choice s) = ap choice (sort_back s)
-head_back less = refl
-head_back at_most = refl
-head_back greater = refl
-head_back at_least = refl
 head_back (sum s) = ap sum (numbers_back s)
 head_back (difference s) = ap difference (numbers_back s)
 head_back (product s) = ap product (numbers_back s)
-head_back quotient = refl
-head_back integer_quotient = refl
-head_back modulus = refl
-head_back magnitude = refl
-head_back to_real = refl
-head_back to_int = refl
-head_back is_int = refl
+head_back h = refl
 
-same_head : (g h : Head) → are_same_head g h ≡ true → g ≡ h
+pub same_head : TellsHeads
 same_head g h e = sym (head_back g) ∙ ap built ((bytes_eq-Decides (head_numbers g) (head_numbers h)).0 e) ∙ head_back h
 
 one_head : (h : Head) → are_same_head h h ≡ true

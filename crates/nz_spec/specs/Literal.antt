@@ -1,7 +1,7 @@
 -- Literals and clauses. A clause is a set of literals, written as a list that has each of them once.
 use Rattle.std.specs.Prelude.{◌≡◌, ℕ, bytes_eq, Bool, true, false, not, ◌&&◌, IsTrue, List, [], ◌∷◌, ◌++◌, Contains, ◌↔◌, filter, fold, if◌then◌else◌, Some, slice_get}
 use Rattle.std.specs.List.{list_any, AllByRecursion}
-use Rattle.nz_spec.specs.Term.{Sort, bool_sort, int_sort, real_sort, sort_over, Head, constant, parameter, integer, decimal_number, verum, falsum, negation, conjunction, disjunction, implication, exclusion, equality, distinction, choice, less, at_most, greater, at_least, sum, difference, product, quotient, integer_quotient, modulus, magnitude, to_real, to_int, is_int, Term, apply, Terms, no_terms, terms, Assignment, is_true, value_of}
+use Rattle.nz_spec.specs.Term.{Sort, bool_sort, int_sort, real_sort, head_sort, Head, constant, parameter, integer, decimal_number, verum, falsum, negation, conjunction, disjunction, implication, exclusion, equality, distinction, choice, less, at_most, greater, at_least, sum, difference, product, quotient, integer_quotient, modulus, magnitude, to_real, to_int, is_int, Term, apply, Terms, no_terms, terms, Assignment, is_true, value_of}
 
 -- ---- Which terms are one
 
@@ -10,36 +10,57 @@ sort_number bool_sort = 0
 sort_number int_sort = 1
 sort_number real_sort = 2
 
--- A head as numbers: which it is, and what it holds. Two heads are one where these are.
+-- which head it is, whatever it holds
+abbrev pub head_kind : Head → ℕ
+head_kind (constant c) = 0
+head_kind (parameter i s) = 1
+head_kind (integer n) = 2
+head_kind (decimal_number n places) = 3
+head_kind verum = 4
+head_kind falsum = 5
+head_kind negation = 6
+head_kind conjunction = 7
+head_kind disjunction = 8
+head_kind exclusion = 9
+head_kind equality = 10
+head_kind (choice s) = 11
+head_kind less = 12
+head_kind at_most = 13
+head_kind (sum s) = 14
+head_kind (difference s) = 15
+head_kind (product s) = 16
+head_kind quotient = 17
+head_kind integer_quotient = 18
+head_kind modulus = 19
+head_kind magnitude = 20
+head_kind to_real = 21
+head_kind to_int = 22
+head_kind is_int = 23
+head_kind implication = 24
+head_kind distinction = 25
+head_kind greater = 26
+head_kind at_least = 27
+
+-- the digits of a number; 0 of another head
+abbrev pub head_digits : Head → ℕ
+head_digits (integer n) = n
+head_digits (decimal_number n places) = n
+head_digits h = 0
+
+-- the place of a parameter, or how many digits of a decimal stand after the point; 0 of another head
+abbrev pub head_place : Head → ℕ
+head_place (parameter i s) = i
+head_place (decimal_number n places) = places
+head_place h = 0
+
+-- the name of a constant; none of another head
+abbrev pub head_name : Head → List ℕ
+head_name (constant c) = c.name
+head_name h = []
+
+-- Two heads are one where they are of one kind and of one sort, and hold the same (`TellsHeads`).
 abbrev pub head_numbers : Head → List ℕ
-head_numbers (constant c) = 0 ∷ sort_number c.sort ∷ c.name
-head_numbers (parameter i s) = 1 ∷ sort_number s ∷ i ∷ []
-head_numbers (integer n) = 2 ∷ 0 ∷ n ∷ []
-head_numbers (decimal_number n places) = 3 ∷ places ∷ n ∷ []
-head_numbers verum = 4 ∷ []
-head_numbers falsum = 5 ∷ []
-head_numbers negation = 6 ∷ []
-head_numbers conjunction = 7 ∷ []
-head_numbers disjunction = 8 ∷ []
-head_numbers implication = 9 ∷ []
-head_numbers exclusion = 10 ∷ []
-head_numbers equality = 11 ∷ []
-head_numbers distinction = 12 ∷ []
-head_numbers (choice s) = 13 ∷ sort_number s ∷ []
-head_numbers less = 14 ∷ []
-head_numbers at_most = 15 ∷ []
-head_numbers greater = 16 ∷ []
-head_numbers at_least = 17 ∷ []
-head_numbers (sum s) = 18 ∷ sort_number (sort_over s) ∷ []
-head_numbers (difference s) = 19 ∷ sort_number (sort_over s) ∷ []
-head_numbers (product s) = 20 ∷ sort_number (sort_over s) ∷ []
-head_numbers quotient = 21 ∷ []
-head_numbers integer_quotient = 22 ∷ []
-head_numbers modulus = 23 ∷ []
-head_numbers magnitude = 24 ∷ []
-head_numbers to_real = 25 ∷ []
-head_numbers to_int = 26 ∷ []
-head_numbers is_int = 27 ∷ []
+head_numbers h = head_kind h ∷ sort_number (head_sort h) ∷ head_digits h ∷ head_place h ∷ head_name h
 
 abbrev pub are_same_head : Head → Head → Bool
 are_same_head g h = bytes_eq (head_numbers g) (head_numbers h)
@@ -121,6 +142,10 @@ abbrev pub resolvent : Literal → Clause → Clause → Clause
 resolvent l c d = clause_of (without are_same_literal l c ++ without are_same_literal (negation_of l) d)
 
 -- ---- Laws
+
+-- The test says which heads are one.
+abbrev pub TellsHeads : Type 0
+TellsHeads = (g h : Head) → IsTrue (are_same_head g h) → g ≡ h
 
 -- The test says which literals are one.
 pub record TellsLiterals : Type 0 where

@@ -1,5 +1,6 @@
 //! Laws of terms.
 ghost use Rattle.nz_spec.specs.Term.{DecimalsAreNumbers, Divides, DividesOnce};
+ghost use Rattle.nz_spec.specs.Literal.{TellsHeads};
 ghost use Rattle.nz_spec.specs.Numerals.{NumeralsAreWhole};
 ghost use Rattle.nz_spec.specs.Normal.{NormalKeepsValue};
 ghost use Rattle.nz_spec.specs.Elaboration.{InstanceKeepsNormal};
@@ -29,6 +30,11 @@ pub fn normal_terms_are_gated()
 pub fn divides()
     ensures divides { Divides }
     ensures once { DividesOnce }
+{}
+
+/// Two heads are one where the test says so.
+pub fn tells_heads()
+    ensures tells { TellsHeads }
 {}
 
 /// A decimal that fits is a number.

@@ -7,6 +7,7 @@ pub mod Knowledge
 pub mod Listed
 pub mod ListedTerms
 pub mod Numbers
+pub mod Operators
 pub mod Places
 pub mod Tables
 pub mod Traversal

@@ -10,6 +10,7 @@ use Rattle.indexmap.specs.IndexSet.{insert_key}
 use Rattle.std.proofs.lemmas.Bool.{or_parts}
 use Rattle.nz_lists.proofs.Places.{slice_get-push_cases, slice_get_kept}
 use Rattle.nz_spec.specs.Term.{apply, head_fits}
+use Rattle.nz_spec.specs.Literal.{TellsHeads}
 use Rattle.nz_spec.specs.Table as table
 use Rattle.nz_spec.specs.Table.{HasItsArguments, HasOneNumberEach, IsTable, OneNumber, TermOfNode, TermStays, TermsStay, term_in, terms_at}
 use Rattle.nz_term.specs.declared.nodes.Node.{Node}
@@ -106,10 +107,10 @@ made_table ks k new e distinct t within fits leaf =
     }
 
 -- the node at the place where a key equal to it stands
-pub made_node : (new : List Node) (k : Node) (id : ℕ) → (stored : Node) × (slice_get new id ≡ Some stored) × (node_eq k stored ≡ true)
+pub made_node : TellsHeads → (new : List Node) (k : Node) (id : ℕ) → (stored : Node) × (slice_get new id ≡ Some stored) × (node_eq k stored ≡ true)
     → slice_get (map node_of new) id ≡ Some (node_of k)
-made_node new k id found =
-    slice_get-map node_of new id ∙ ap (option_map node_of) found.1 ∙ ap Some (sym (same_node k found.0 found.2))
+made_node tells new k id found =
+    slice_get-map node_of new id ∙ ap (option_map node_of) found.1 ∙ ap Some (sym (same_node tells k found.0 found.2))
 
 -- numbers of the same terms are the same
 same_numbers : (ns : List table.Node) → HasOneNumberEach ns → (is js : List ℕ) → All (λ i. i < length ns) is → All (λ j. j < length ns) js
@@ -133,15 +134,15 @@ missing (y ∷ ys) k gone zero at =
 missing (y ∷ ys) k gone (suc i) at = missing ys k (or_parts (node_eq k y) (list_any (node_eq k) ys) gone).1 i at
 
 -- where a key is looked up, its term is found
-pub found : OneNumber → TermOfNode → (ks : List Node) (k : Node) (o : Option ℕ) → o ≡ position (node_eq k) ks → is_some o ≡ list_any (node_eq k) ks
+pub found : TellsHeads → OneNumber → TermOfNode → (ks : List Node) (k : Node) (o : Option ℕ) → o ≡ position (node_eq k) ks → is_some o ≡ list_any (node_eq k) ks
     → IsTable (map node_of ks) → All (λ i. i < length (map node_of ks)) k.kids
     → IsFound (map node_of ks) (apply (node_of k).head (terms_at (term_in (map node_of ks)) k.kids)) o
-found one_number of_node ks k (Some i) at any t within =
+found tells one_number of_node ks k (Some i) at any t within =
     let ns = map node_of ks in
     let place = position-Some (node_eq k) ks i k (sym at) in
-    let there : slice_get ns i ≡ Some (node_of k) = made_node ks k i (get_or ks i k, slice_get-get_or ks i k place.0, place.1) in
+    let there : slice_get ns i ≡ Some (node_of k) = made_node tells ks k i (get_or ks i k, slice_get-get_or ks i k place.0, place.1) in
     (slice_get_within ns i (node_of k) there, of_node ns t i (node_of k) there)
-found one_number of_node ks k None at any t within =
+found tells one_number of_node ks k None at any t within =
     λ there.
     let ns = map node_of ks in
     let i = there.0 in

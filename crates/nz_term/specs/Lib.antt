@@ -6,6 +6,6 @@ pub mod Heads
 pub mod Instances
 pub mod Listings
 pub mod Nodes
-pub mod Parts
+pub mod Numbers
 pub mod Steps
 pub mod Values

@@ -8,7 +8,7 @@ ghost use Rattle.nz_term.specs.Growth.{Grows};
 ghost use Rattle.nz_term.specs.Heads.{head_of};
 ghost use Rattle.nz_term.specs.Listings.{companion_head};
 
-use crate::heads::Head;
+use crate::heads::{Head, Operator};
 use crate::nodes::TermId;
 use crate::terms::Terms;
 use nz_base::Memory;
@@ -49,8 +49,8 @@ pub fn companion_head(head: &Head) -> Option<Head>
     ensures companion { option_map head_of result ≡ companion_head (head_of head.now) }
 {
     match head {
-        Head::Mod => Some(Head::Div),
-        Head::IsInt => Some(Head::ToInt),
+        Head::Operator(Operator::Mod) => Some(Head::Operator(Operator::Div)),
+        Head::Operator(Operator::IsInt) => Some(Head::Operator(Operator::ToInt)),
         _ => None,
     }
 }

@@ -4,12 +4,12 @@ ghost use Rattle.nz_spec.specs.Bounds.{place_limit};
 ghost use Rattle.nz_spec.specs.Fraction.{exceeds, whole};
 ghost use Rattle.nz_spec.specs.Linear.{are_divisors, divides_by_constants, folded, folded_step, head_constant, is_linear_node, variable_count};
 ghost use Rattle.nz_spec.specs.Table.{listed_term, terms_at};
-ghost use Rattle.nz_spec.specs.Term.{Term, apply, decimal_number, difference, head_fits, is_numeric, is_zero, over_int, decimal_value};
+ghost use Rattle.nz_spec.specs.Term.{Term, apply, decimal_number, difference, head_fits, is_numeric, over_int, decimal_value};
 ghost use Rattle.nz_term.specs.Facts.{are_linear_at, constant_in, constants_at, fact_at, fact_of, fact_with, folded_all, hold_number_at, is_divisor};
-ghost use Rattle.nz_frac.specs.Operations.{operator_of};
-ghost use Rattle.nz_term.specs.Heads.{head_of};
+ghost use Rattle.nz_frac.specs.Operations.{operator_of as arithmetic_of};
+ghost use Rattle.nz_term.specs.Heads.{head_of, operator_of};
 
-use crate::heads::{Head, Sort};
+use crate::heads::{Head, Operator};
 use crate::nodes::TermId;
 use nz_frac::{Frac, Op};
 use nz_spec::term::{decimals_are_numbers, numerals_are_whole};
@@ -93,14 +93,25 @@ fn constant_over(facts: &[Fact], head: &Head, kids: &[TermId]) -> Option<Frac>
     match head {
         Head::Integer(n) => integer(*n),
         Head::Decimal(digits, places) => decimal(*digits, *places),
-        Head::ToReal => match kids {
+        Head::Constant(_) | Head::Parameter(_, _) => None,
+        Head::Operator(operator) => operated(facts, *operator, kids),
+    }
+}
+
+/// The value of an operator over these terms, where it is a constant term.
+fn operated(facts: &[Fact], operator: Operator, kids: &[TermId]) -> Option<Frac>
+    requires within { All (λ k. k < length facts.now) kids.now }
+    ensures constant { result ≡ head_constant (operator_of operator) (constants_at facts.now kids.now) }
+{
+    match operator {
+        Operator::ToReal => match kids {
             [kid] => known(facts, *kid).constant(),
             _ => None,
         },
-        Head::Sum(_) => folded(Op::Add, facts, kids),
-        Head::Difference(_) => difference(facts, kids),
-        Head::Product(_) => folded(Op::Mul, facts, kids),
-        Head::Quotient => folded(Op::Div, facts, kids),
+        Operator::Sum(_) => folded(Op::Add, facts, kids),
+        Operator::Difference(_) => difference(facts, kids),
+        Operator::Product(_) => folded(Op::Mul, facts, kids),
+        Operator::Quotient => folded(Op::Div, facts, kids),
         _ => None,
     }
 }
@@ -154,7 +165,7 @@ fn difference(facts: &[Fact], kids: &[TermId]) -> Option<Frac>
 /// An operation over the constants of these terms, from the left; none where there are no terms, or one is no constant.
 fn folded(op: Op, facts: &[Fact], kids: &[TermId]) -> Option<Frac>
     requires within { All (λ k. k < length facts.now) kids.now }
-    ensures folded { result ≡ folded_all (operator_of op) (constants_at facts.now kids.now) }
+    ensures folded { result ≡ folded_all (arithmetic_of op) (constants_at facts.now kids.now) }
 {
     match kids.split_first() {
         Some((first, others)) => folded_on(op, known(facts, *first).constant(), facts, others),
@@ -165,7 +176,7 @@ fn folded(op: Op, facts: &[Fact], kids: &[TermId]) -> Option<Frac>
 /// An operation over a constant and those of these terms, from the left; none where one is no constant.
 fn folded_on(op: Op, first: Option<Frac>, facts: &[Fact], kids: &[TermId]) -> Option<Frac>
     requires within { All (λ k. k < length facts.now) kids.now }
-    ensures folded { result ≡ folded (operator_of op) first (constants_at facts.now kids.now) }
+    ensures folded { result ≡ folded (arithmetic_of op) first (constants_at facts.now kids.now) }
 {
     let mut value = first;
     for kid in kids {
@@ -176,7 +187,7 @@ fn folded_on(op: Op, first: Option<Frac>, facts: &[Fact], kids: &[TermId]) -> Op
 
 /// An operation on two terms that are constants where they have a value.
 fn step(op: Op, left: Option<Frac>, right: Option<Frac>) -> Option<Frac>
-    ensures step { result ≡ folded_step (operator_of op) left right }
+    ensures step { result ≡ folded_step (arithmetic_of op) left right }
 {
     match left {
         Some(left) => match right {
@@ -189,28 +200,12 @@ fn step(op: Op, left: Option<Frac>, right: Option<Frac>) -> Option<Frac>
 
 /// An operation on two constants, where its value is a number; none where it would divide by zero.
 fn operation(op: Op, left: Frac, right: Frac) -> Option<Frac>
-    ensures operation { result ≡ folded_step (operator_of op) (Some left) (Some right) }
+    ensures operation { result ≡ folded_step (arithmetic_of op) (Some left) (Some right) }
 {
-    match op {
-        Op::Add => left.add(right).ok(),
-        Op::Sub => left.sub(right).ok(),
-        Op::Mul => left.mul(right).ok(),
-        Op::Div => {
-            if is_zero(right) {
-                return None;
-            }
-            left.div(right).ok()
-        }
+    if op.is_undefined(right) {
+        return None;
     }
-}
-
-/// Whether a number is zero.
-#[tactic(auto, using(crate::proofs::Numbers::is_not_zero))]
-fn is_zero(number: Frac) -> bool
-    ensures zero { result ≡ is_zero number }
-    ensures nonzero { result ≡ false → number.numerator ≢ pos 0 }
-{
-    number == Frac::whole(0)
+    op.carry_out(left, right).ok()
 }
 
 /// Whether the term of this head over these terms is linear.
@@ -227,8 +222,19 @@ fn is_linear_head(facts: &[Fact], head: &Head, kids: &[TermId]) -> bool
     ensures linear { result ≡ is_linear_node (head_of head.now) (constants_at facts.now kids.now) }
 {
     match head {
-        Head::Product(_) => variables(facts, kids) < 2,
-        Head::Quotient | Head::Div | Head::Mod => divides_by_constants(facts, kids),
+        Head::Operator(operator) => is_linear_operator(facts, *operator, kids),
+        _ => true,
+    }
+}
+
+/// Whether an operator is linear over these terms, apart from what they are made of.
+fn is_linear_operator(facts: &[Fact], operator: Operator, kids: &[TermId]) -> bool
+    requires within { All (λ k. k < length facts.now) kids.now }
+    ensures linear { result ≡ is_linear_node (operator_of operator) (constants_at facts.now kids.now) }
+{
+    match operator {
+        Operator::Product(_) => variables(facts, kids) < 2,
+        Operator::Quotient | Operator::Div | Operator::Mod => divides_by_constants(facts, kids),
         _ => true,
     }
 }
@@ -276,7 +282,7 @@ fn is_divisor(fact: Fact) -> bool
     ensures divisor { result ≡ is_divisor (constant_in fact) }
 {
     match fact.constant() {
-        Some(value) => !is_zero(value),
+        Some(value) => !value.is_zero(),
         None => false,
     }
 }
@@ -299,14 +305,7 @@ fn holds_number_over(facts: &[Fact], head: &Head, kids: &[TermId]) -> bool
     requires within { All (λ k. k < length facts.now) kids.now }
     ensures holds { result ≡ (is_numeric (head_of head.now) || hold_number_at facts.now kids.now) }
 {
-    is_numeric(head) || hold_number(facts, kids)
-}
-
-/// Whether a term of this head is of sort `Int` or `Real`, or asks something of one that is.
-fn is_numeric(head: &Head) -> bool
-    ensures numeric { result ≡ is_numeric (head_of head.now) }
-{
-    matches!(head, Head::IsInt) || head.sort() != Sort::Bool
+    head.is_numeric() || hold_number(facts, kids)
 }
 
 /// Whether one of these terms is numeric, or made of one that is.

@@ -1,13 +1,16 @@
 //! What a term is of: an operator of the theories Core and Reals_Ints (SMT-LIB 2.6), a declared constant, or a number.
-ghost use Rattle.std.specs.Prelude.{◌≡◌, bytes_eq};
+ghost use Rattle.std.specs.Prelude.{◌≡◌, ℕ, List, IsTrue};
 ghost use Rattle.std.specs.Cmp.{on_equiv, on_per, partial_equiv_from_equiv};
 ghost use Rattle.std.specs.Cmp.Lexicographic.{bytes_decides, nat_list_eq_equiv};
 ghost use Rattle.std.specs.Hash.{on_Alike, same_Alike};
 ghost use Rattle.nz_spec.specs.Elaboration.{numbers_at};
-ghost use Rattle.nz_spec.specs.Term.{head_fits, head_sort, sort_over};
+ghost use Rattle.nz_spec.specs.Literal.{are_same_head, head_digits, head_kind, head_name, head_place, sort_number};
+ghost use Rattle.nz_spec.specs.Table.{HasItsArguments};
+ghost use Rattle.nz_spec.specs.Term.{head_fits, head_sort, is_numeric, sort_over};
 ghost use Rattle.nz_term.specs.Constants.{number_sort_of, sort_of};
-ghost use Rattle.nz_term.specs.Heads.{head_of};
-ghost use Rattle.nz_term.specs.Parts.{digits_in, fed_of, kind_of, name_in, parts_of, place_in, sort_number};
+ghost use Rattle.nz_term.specs.Growth.{IsOperator};
+ghost use Rattle.nz_term.specs.Heads.{head_of, operator_of};
+ghost use Rattle.nz_term.specs.Numbers.{fed_of, numbers_of};
 
 use nz_base::Text;
 use std::alloc::AllocError;
@@ -87,17 +90,9 @@ impl Clone for Constant {
     }
 }
 
-/// The head of a normal term. Where an operator is over Int or over Real, its head says which.
-#[derive(Debug, Drop)]
-pub enum Head {
-    /// A constant, which has no arguments.
-    Constant(Constant),
-    /// A parameter of a definition, by its place. It stands in the definition's body alone.
-    Parameter(usize, Sort),
-    /// A numeral.
-    Integer(u128),
-    /// A decimal: its digits as one number, and how many of them stand after the point.
-    Decimal(u128, usize),
+/// An operator of the theories. Where it is over numbers of either sort, or over branches of any, it says which.
+#[derive(Clone, Copy, Debug)]
+pub enum Operator {
     True,
     False,
     Not,
@@ -130,6 +125,82 @@ pub enum Head {
     IsInt,
 }
 
+impl Operator {
+    /// The sort of a term of this operator.
+    pub fn sort(self) -> Sort
+        ensures sort { sort_of result ≡ head_sort (operator_of self) }
+    {
+        match self {
+            Operator::Ite(sort) => sort,
+            Operator::Sum(sort) | Operator::Difference(sort) | Operator::Product(sort) => {
+                sort.sort()
+            }
+            Operator::Div | Operator::Mod | Operator::Abs | Operator::ToInt => Sort::Int,
+            Operator::Quotient | Operator::ToReal => Sort::Real,
+            _ => Sort::Bool,
+        }
+    }
+
+    /// Whether a term of this operator is of sort `Int` or `Real`, or asks something of one that is.
+    fn is_numeric(self) -> bool
+        ensures numeric { result ≡ is_numeric (operator_of self) }
+    {
+        match self {
+            Operator::IsInt => true,
+            _ => self.sort() != Sort::Bool,
+        }
+    }
+
+    /// A number that tells operators apart, whatever they are over, and from the leaves.
+    fn kind(self) -> u8
+        ensures kind { result ≡ head_kind (operator_of self) }
+    {
+        match self {
+            Operator::True => 4,
+            Operator::False => 5,
+            Operator::Not => 6,
+            Operator::And => 7,
+            Operator::Or => 8,
+            Operator::Xor => 9,
+            Operator::Equal => 10,
+            Operator::Ite(_) => 11,
+            Operator::Less => 12,
+            Operator::AtMost => 13,
+            Operator::Sum(_) => 14,
+            Operator::Difference(_) => 15,
+            Operator::Product(_) => 16,
+            Operator::Quotient => 17,
+            Operator::Div => 18,
+            Operator::Mod => 19,
+            Operator::Abs => 20,
+            Operator::ToReal => 21,
+            Operator::ToInt => 22,
+            Operator::IsInt => 23,
+        }
+    }
+}
+
+/// An operator is no constant and no number.
+pub fn operators_are_no_leaves()
+    ensures fits { (o : Operator) → IsTrue (head_fits (operator_of o)) }
+    ensures operators { (o : Operator) → IsOperator (operator_of o) }
+    ensures takes { (o : Operator) (kids : List ℕ) → HasItsArguments (operator_of o) kids }
+{}
+
+/// The head of a normal term: a leaf, which has no arguments, or an operator.
+#[derive(Debug, Drop)]
+pub enum Head {
+    /// A constant.
+    Constant(Constant),
+    /// A parameter of a definition, by its place. It stands in the definition's body alone.
+    Parameter(usize, Sort),
+    /// A numeral.
+    Integer(u128),
+    /// A decimal: its digits as one number, and how many of them stand after the point.
+    Decimal(u128, usize),
+    Operator(Operator),
+}
+
 impl Head {
     /// The sort of a term of this head.
     pub fn sort(&self) -> Sort
@@ -137,11 +208,10 @@ impl Head {
     {
         match self {
             Head::Constant(constant) => constant.sort,
-            Head::Parameter(_, sort) | Head::Ite(sort) => *sort,
-            Head::Sum(sort) | Head::Difference(sort) | Head::Product(sort) => sort.sort(),
-            Head::Integer(_) | Head::Div | Head::Mod | Head::Abs | Head::ToInt => Sort::Int,
-            Head::Decimal(_, _) | Head::Quotient | Head::ToReal => Sort::Real,
-            _ => Sort::Bool,
+            Head::Parameter(_, sort) => *sort,
+            Head::Integer(_) => Sort::Int,
+            Head::Decimal(_, _) => Sort::Real,
+            Head::Operator(operator) => operator.sort(),
         }
     }
 
@@ -153,45 +223,36 @@ impl Head {
         match self {
             Head::Integer(number) => *number <= LARGEST,
             Head::Decimal(digits, places) => *digits <= LARGEST && *places <= PLACE_LIMIT,
-            _ => true,
+            Head::Constant(_) | Head::Parameter(_, _) | Head::Operator(_) => true,
+        }
+    }
+
+    /// Whether a term of this head is of sort `Int` or `Real`, or asks something of one that is.
+    pub(crate) fn is_numeric(&self) -> bool
+        ensures numeric { result ≡ is_numeric (head_of self.now) }
+    {
+        match self {
+            Head::Operator(operator) => operator.is_numeric(),
+            _ => self.sort() != Sort::Bool,
         }
     }
 
     /// A number that tells heads apart, whatever they hold.
     fn kind(&self) -> u8
-        ensures kind { result ≡ kind_of self.now }
+        ensures kind { result ≡ head_kind (head_of self.now) }
     {
         match self {
             Head::Constant(_) => 0,
             Head::Parameter(_, _) => 1,
             Head::Integer(_) => 2,
             Head::Decimal(_, _) => 3,
-            Head::True => 4,
-            Head::False => 5,
-            Head::Not => 6,
-            Head::And => 7,
-            Head::Or => 8,
-            Head::Xor => 9,
-            Head::Equal => 10,
-            Head::Ite(_) => 11,
-            Head::Less => 12,
-            Head::AtMost => 13,
-            Head::Sum(_) => 14,
-            Head::Difference(_) => 15,
-            Head::Product(_) => 16,
-            Head::Quotient => 17,
-            Head::Div => 18,
-            Head::Mod => 19,
-            Head::Abs => 20,
-            Head::ToReal => 21,
-            Head::ToInt => 22,
-            Head::IsInt => 23,
+            Head::Operator(operator) => operator.kind(),
         }
     }
 
     /// The digits of a number; 0 for another head.
     fn digits(&self) -> u128
-        ensures digits { result ≡ digits_in self.now }
+        ensures digits { result ≡ head_digits (head_of self.now) }
     {
         match self {
             Head::Integer(digits) | Head::Decimal(digits, _) => *digits,
@@ -201,7 +262,7 @@ impl Head {
 
     /// The place of a parameter, or how many digits of a decimal stand after the point; 0 for another head.
     fn place(&self) -> usize
-        ensures place { result ≡ place_in self.now }
+        ensures place { result ≡ head_place (head_of self.now) }
     {
         match self {
             Head::Parameter(place, _) | Head::Decimal(_, place) => *place,
@@ -211,7 +272,7 @@ impl Head {
 
     /// The name of a constant; nothing for another head.
     fn name(&self) -> &[u8]
-        ensures name { result.now ≡ name_in self.now }
+        ensures name { result.now ≡ head_name (head_of self.now) }
     {
         match self {
             Head::Constant(constant) => constant.name.as_bytes(),
@@ -230,35 +291,16 @@ impl Clone for Head {
             Head::Parameter(place, sort) => Head::Parameter(*place, *sort),
             Head::Integer(digits) => Head::Integer(*digits),
             Head::Decimal(digits, places) => Head::Decimal(*digits, *places),
-            Head::True => Head::True,
-            Head::False => Head::False,
-            Head::Not => Head::Not,
-            Head::And => Head::And,
-            Head::Or => Head::Or,
-            Head::Xor => Head::Xor,
-            Head::Equal => Head::Equal,
-            Head::Ite(sort) => Head::Ite(*sort),
-            Head::Less => Head::Less,
-            Head::AtMost => Head::AtMost,
-            Head::Sum(sort) => Head::Sum(*sort),
-            Head::Difference(sort) => Head::Difference(*sort),
-            Head::Product(sort) => Head::Product(*sort),
-            Head::Quotient => Head::Quotient,
-            Head::Div => Head::Div,
-            Head::Mod => Head::Mod,
-            Head::Abs => Head::Abs,
-            Head::ToReal => Head::ToReal,
-            Head::ToInt => Head::ToInt,
-            Head::IsInt => Head::IsInt,
+            Head::Operator(operator) => Head::Operator(*operator),
         })
     }
 }
 
-// By hand, since a derived equality of so many variants is a case for each two of them in a proof.
+// By hand, since that of operators is told by their numbers: a derived one is a case for each two of them in a proof.
 impl PartialEq for Head {
-    ghost eq = { λ a b. bytes_eq (parts_of a) (parts_of b) };
+    ghost eq = { λ a b. are_same_head (head_of a) (head_of b) };
 
-    ghost laws = { on_per parts_of (partial_equiv_from_equiv nat_list_eq_equiv) };
+    ghost laws = { on_per numbers_of (partial_equiv_from_equiv nat_list_eq_equiv) };
 
     fn eq(&self, other: &Head) -> bool {
         self.kind() == other.kind()
@@ -270,13 +312,13 @@ impl PartialEq for Head {
 }
 
 impl Eq for Head {
-    ghost laws = { on_equiv parts_of nat_list_eq_equiv };
+    ghost laws = { on_equiv numbers_of nat_list_eq_equiv };
 }
 
 impl Hash for Head {
-    ghost hash_input = { λ h. fed_of (parts_of h) };
+    ghost hash_input = { λ h. fed_of (numbers_of h) };
 
-    ghost respects_eq = { (on_Alike parts_of (same_Alike fed_of bytes_decides)).fed };
+    ghost respects_eq = { (on_Alike numbers_of (same_Alike fed_of bytes_decides)).fed };
 
     fn hash<H: Hasher>(&self, state: &mut H) {
         state.write_u8(self.kind());

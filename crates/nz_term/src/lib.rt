@@ -16,7 +16,7 @@ mod terms;
 
 pub use assign::{Assign, Value};
 pub use companions::add_companions;
-pub use heads::{Constant, Head, NumberSort, Sort};
+pub use heads::{Constant, Head, NumberSort, Operator, Sort, operators_are_no_leaves};
 pub use instances::instance;
 pub use listings::listing_order;
 pub use nodes::{Ids, Node, TermId};

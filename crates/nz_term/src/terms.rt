@@ -16,6 +16,7 @@ use indexmap::IndexSet;
 use nz_base::Memory;
 use nz_frac::Frac;
 use nz_spec::table::{one_number, term_of_node, term_stays, terms_stay};
+use nz_spec::term::tells_heads;
 use std::alloc::Global;
 use std::marker::Model;
 
@@ -97,6 +98,7 @@ impl Terms {
         requires within { All (λ k. k < length self.now) kids.now }
         ensures found { IfOk result (IsFound self.now (apply (head_of head) (terms_at (term_in self.now) kids.now))) }
     {
+        tells_heads();
         one_number();
         term_of_node();
         let key = Node {
@@ -203,6 +205,7 @@ fn put(nodes: &mut IndexSet<Node>, node: Node) -> Result<TermId, Memory>
     ensures node { IfOk result (λ id. slice_get (map node_of nodes.new.keys) id ≡ Some (node_of node)) }
     ensures unchanged { OnErr result (nodes.new.keys ≡ nodes.old.keys) }
 {
+    tells_heads();
     let (id, _) = nodes.insert_full(node)?;
     Ok(id)
 }

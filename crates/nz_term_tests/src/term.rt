@@ -5,8 +5,8 @@ ghost use Rattle.nz_spec.specs.Order.{HasCompanions};
 use nz_base::Text;
 use nz_frac::Frac;
 use nz_term::{
-    Assign, Constant, Head, Ids, NumberSort, Sort, TermId, Terms, Value, add_companions, instance,
-    listing_order, post_order,
+    Assign, Constant, Head, Ids, NumberSort, Operator, Sort, TermId, Terms, Value, add_companions,
+    instance, listing_order, post_order,
 };
 use std::alloc::Global;
 use std::test::Fail;
@@ -23,8 +23,8 @@ fn clause(alloc: Global) -> Result<(Terms, TermId), Fail> {
     let mut terms = Terms::new(alloc)?;
     let p = terms.make(Head::Constant(bool_constant(alloc, b"p")?), &[])?;
     let q = terms.make(Head::Constant(bool_constant(alloc, b"q")?), &[])?;
-    let not_q = terms.make(Head::Not, &[q])?;
-    let root = terms.make(Head::Or, &[p, not_q])?;
+    let not_q = terms.make(Head::Operator(Operator::Not), &[q])?;
+    let root = terms.make(Head::Operator(Operator::Or), &[p, not_q])?;
     Ok((terms, root))
 }
 
@@ -35,7 +35,7 @@ fn equal_terms_have_one_number(rt: HostRuntime) -> Result<(), Fail> {
     let p = terms.make(Head::Constant(bool_constant(rt.alloc(), b"p")?), &[])?;
     assert_eq!(rt; p, 0);
     assert_eq!(rt; terms.len(), 4);
-    let again = terms.make(Head::Or, &[0, 2])?;
+    let again = terms.make(Head::Operator(Operator::Or), &[0, 2])?;
     assert_eq!(rt; again, 3);
     Ok(())
 }
@@ -44,7 +44,7 @@ fn equal_terms_have_one_number(rt: HostRuntime) -> Result<(), Fail> {
 fn the_order_of_arguments_matters(rt: HostRuntime) -> Result<(), Fail> {
     let (mut terms, _) = clause(rt.alloc())?;
     assert_eq!(rt; terms.len(), 4);
-    let swapped = terms.make(Head::Or, &[2, 0])?;
+    let swapped = terms.make(Head::Operator(Operator::Or), &[2, 0])?;
     assert_eq!(rt; swapped, 4);
     assert_eq!(rt; terms.len(), 5);
     Ok(())
@@ -54,13 +54,13 @@ fn the_order_of_arguments_matters(rt: HostRuntime) -> Result<(), Fail> {
 fn terms_of_different_operators_are_different(rt: HostRuntime) -> Result<(), Fail> {
     let (mut terms, _) = clause(rt.alloc())?;
     assert_eq!(rt; terms.len(), 4);
-    let excluded = terms.make(Head::Xor, &[0, 1])?;
+    let excluded = terms.make(Head::Operator(Operator::Xor), &[0, 1])?;
     assert_eq!(rt; excluded, 4);
-    let equal = terms.make(Head::Equal, &[0, 1])?;
+    let equal = terms.make(Head::Operator(Operator::Equal), &[0, 1])?;
     assert_eq!(rt; equal, 5);
-    let chosen = terms.make(Head::Ite(Sort::Bool), &[0, 1, 2])?;
+    let chosen = terms.make(Head::Operator(Operator::Ite(Sort::Bool)), &[0, 1, 2])?;
     assert_eq!(rt; chosen, 6);
-    assert!(rt; Head::Xor != Head::Equal);
+    assert!(rt; Head::Operator(Operator::Xor) != Head::Operator(Operator::Equal));
     Ok(())
 }
 
@@ -68,7 +68,7 @@ fn terms_of_different_operators_are_different(rt: HostRuntime) -> Result<(), Fai
 fn nodes_are_lent(rt: HostRuntime) -> Result<(), Fail> {
     let (terms, root) = clause(rt.alloc())?;
     assert!(rt; root < terms.len());
-    assert_eq!(rt; *terms.head(root), Head::Or);
+    assert_eq!(rt; *terms.head(root), Head::Operator(Operator::Or));
     assert_eq!(rt; terms.kids(root), [0, 2].as_slice());
     let first = terms.node(0);
     assert!(rt; first.head == Head::Constant(bool_constant(rt.alloc(), b"p")?));
@@ -83,13 +83,13 @@ fn cut_goes_back_to_the_mark(rt: HostRuntime) -> Result<(), Fail> {
     let (mut terms, root) = clause(rt.alloc())?;
     assert!(rt; !terms.is_empty());
     let mark = terms.mark();
-    let new = terms.make(Head::True, &[])?;
+    let new = terms.make(Head::Operator(Operator::True), &[])?;
     assert_eq!(rt; new, 4);
     terms.cut(mark);
     assert_eq!(rt; terms.len(), 4);
     assert!(rt; root < terms.len());
-    assert_eq!(rt; *terms.head(root), Head::Or);
-    let other = terms.make(Head::False, &[])?;
+    assert_eq!(rt; *terms.head(root), Head::Operator(Operator::Or));
+    let other = terms.make(Head::Operator(Operator::False), &[])?;
     assert_eq!(rt; other, 4);
     Ok(())
 }
@@ -114,7 +114,7 @@ fn negations(alloc: Global, count: usize) -> Result<(Terms, TermId), Fail>
     let mut terms = Terms::new(alloc)?;
     let mut last = terms.make(Head::Constant(bool_constant(alloc, b"p")?), &[])?;
     for _ in 0..count {
-        last = terms.make(Head::Not, &[last])?;
+        last = terms.make(Head::Operator(Operator::Not), &[last])?;
     }
     Ok((terms, last))
 }
@@ -123,7 +123,7 @@ fn negations(alloc: Global, count: usize) -> Result<(Terms, TermId), Fail>
 fn arguments_come_before_from_the_left(rt: HostRuntime) -> Result<(), Fail> {
     let (mut terms, _) = clause(rt.alloc())?;
     assert_eq!(rt; terms.len(), 4);
-    let root = terms.make(Head::And, &[3, 1, 2, 1])?;
+    let root = terms.make(Head::Operator(Operator::And), &[3, 1, 2, 1])?;
     assert_eq!(rt; root, 4);
     assert_eq!(rt; terms.len(), 5);
     let order = post_order(rt.alloc(), &terms, &[4])?;
@@ -166,7 +166,7 @@ fn remainder(alloc: Global) -> Result<(Terms, TermId), Fail>
     let mut terms = Terms::new(alloc)?;
     let parameter = terms.make(Head::Parameter(0, Sort::Int), &[])?;
     let two = terms.make(Head::Integer(2), &[])?;
-    let rest = terms.make(Head::Mod, &[parameter, two])?;
+    let rest = terms.make(Head::Operator(Operator::Mod), &[parameter, two])?;
     add_companions(alloc, &mut terms, 0)?;
     Ok((terms, rest))
 }
@@ -185,8 +185,8 @@ fn a_quotient_comes_just_before_its_remainder(rt: HostRuntime) -> Result<(), Fai
 fn a_term_is_found_by_its_head_and_arguments(rt: HostRuntime) -> Result<(), Fail> {
     let (terms, _) = remainder(rt.alloc())?;
     assert_eq!(rt; terms.len(), 4);
-    assert_eq!(rt; terms.find(Head::Div, &[0, 1])?, Some(3));
-    assert_eq!(rt; terms.find(Head::Div, &[1, 0])?, None);
+    assert_eq!(rt; terms.find(Head::Operator(Operator::Div), &[0, 1])?, Some(3));
+    assert_eq!(rt; terms.find(Head::Operator(Operator::Div), &[1, 0])?, None);
     assert_eq!(rt; terms.find(Head::Integer(3), &[])?, None);
     Ok(())
 }
@@ -199,8 +199,8 @@ fn rounded(alloc: Global) -> Result<(Terms, TermId, TermId), Fail>
 {
     let mut terms = Terms::new(alloc)?;
     let parameter = terms.make(Head::Parameter(0, Sort::Real), &[])?;
-    let test = terms.make(Head::IsInt, &[parameter])?;
-    let number = terms.make(Head::ToInt, &[parameter])?;
+    let test = terms.make(Head::Operator(Operator::IsInt), &[parameter])?;
+    let number = terms.make(Head::Operator(Operator::ToInt), &[parameter])?;
     add_companions(alloc, &mut terms, 0)?;
     Ok((terms, test, number))
 }
@@ -221,8 +221,8 @@ fn tripled(alloc: Global) -> Result<(Terms, TermId), Fail>
     let mut terms = Terms::new(alloc)?;
     let parameter = terms.make(Head::Parameter(0, Sort::Int), &[])?;
     let two = terms.make(Head::Integer(2), &[])?;
-    let double = terms.make(Head::Product(NumberSort::Int), &[two, parameter])?;
-    let sum = terms.make(Head::Sum(NumberSort::Int), &[parameter, double])?;
+    let double = terms.make(Head::Operator(Operator::Product(NumberSort::Int)), &[two, parameter])?;
+    let sum = terms.make(Head::Operator(Operator::Sum(NumberSort::Int)), &[parameter, double])?;
     Ok((terms, sum))
 }
 
@@ -254,8 +254,8 @@ fn three_and_a_half(alloc: Global) -> Result<(Terms, TermId), Fail>
     let mut terms = Terms::new(alloc)?;
     let decimal = terms.make(Head::Decimal(150, 2), &[])?;
     let two = terms.make(Head::Integer(2), &[])?;
-    let whole = terms.make(Head::ToReal, &[two])?;
-    let sum = terms.make(Head::Sum(NumberSort::Real), &[decimal, whole])?;
+    let whole = terms.make(Head::Operator(Operator::ToReal), &[two])?;
+    let sum = terms.make(Head::Operator(Operator::Sum(NumberSort::Real)), &[decimal, whole])?;
     Ok((terms, sum))
 }
 
@@ -285,9 +285,9 @@ fn not_linear(alloc: Global, divides: bool) -> Result<(Terms, TermId), Fail>
     let parameter = terms.make(Head::Parameter(0, Sort::Real), &[])?;
     let zero = terms.make(Head::Decimal(0, 1), &[])?;
     let made = if divides {
-        terms.make(Head::Quotient, &[parameter, zero])?
+        terms.make(Head::Operator(Operator::Quotient), &[parameter, zero])?
     } else {
-        terms.make(Head::Product(NumberSort::Real), &[parameter, parameter])?
+        terms.make(Head::Operator(Operator::Product(NumberSort::Real)), &[parameter, parameter])?
     };
     Ok((terms, made))
 }
@@ -309,7 +309,7 @@ fn numbers_are_read_at_a_sort(rt: HostRuntime) -> Result<(), Fail> {
         (Sort::Real, Sort::Real),
     ] {
         assert_eq!(rt; NumberSort::of(sort).sort(), read);
-        assert_eq!(rt; Head::Sum(NumberSort::of(sort)).sort(), read);
+        assert_eq!(rt; Head::Operator(Operator::Sum(NumberSort::of(sort))).sort(), read);
     }
     Ok(())
 }

@@ -2,8 +2,8 @@
 use Rattle.std.specs.Prelude.{◌≡◌, ℕ, nat_eq, ⊤, List, [], ◌∷◌, Option, Some, None, unwrap_or, Contains, false, pos, slice_get}
 use Rattle.std.specs.HashMap.{HashMap, get}
 use Rattle.std.specs.List.{AllByRecursion}
-use Rattle.nz_spec.specs.Fraction.{Fraction, Arithmetic, Operation, first_wide}
-use Rattle.nz_spec.specs.Operations.{operation_on, operations_by, operations_of}
+use Rattle.nz_spec.specs.Fraction.{Arithmetic, Operation, first_wide}
+use Rattle.nz_spec.specs.Operations.{operations_by, operations_of}
 use Rattle.nz_spec.specs.Term as spec
 use Rattle.nz_spec.specs.Term.{Assignment, Constant, Head, constant, integer, decimal_number, Term, value_of, carried_out, combined, default_value, number, whole_number, decimal_value}
 use Rattle.nz_spec.specs.Table.{Node, listed_value, term_in}
@@ -32,14 +32,6 @@ AreOutcomes ns a [] (o ∷ os) = ⊥
 AreOutcomes ns a (i ∷ is) [] = ⊥
 
 -- ---- Operations
-
--- one operation stays among the numbers, and comes to this one
-abbrev pub IsCarriedOut : Arithmetic → Fraction → Fraction → Fraction → Type 0
-IsCarriedOut op p q r = (first_wide (operation_on op p q) ≡ None) × (number r ≡ carried_out op (number p) (number q))
-
--- one operation leaves the numbers
-abbrev pub IsStopped : Arithmetic → Fraction → Fraction → wide.Wide → Type 0
-IsStopped op p q w = first_wide (operation_on op p q) ≡ Some (operation_of w)
 
 -- what comes of an operation over values, from the left; of none this value
 abbrev pub IsOperated : Arithmetic → spec.Value → List spec.Value → Outcome → Type 0

@@ -1,14 +1,14 @@
 //! The operations that can leave the numbers, on values. A truth counts as 0 where a number is meant.
-ghost use Rattle.std.specs.Prelude.{◌≡◌, ◌≢◌, false, map, pos, IfOk, IfErr};
+ghost use Rattle.std.specs.Prelude.{◌≡◌, map};
 ghost use Rattle.nz_spec.specs.Fraction.{whole};
 ghost use Rattle.nz_spec.specs.Operations.{head_operations, operations_by};
-ghost use Rattle.nz_spec.specs.Term.{Assignment, NumberSort, difference as minus_head, carried_out, combined, head_value, is_zero, number, number_of};
+ghost use Rattle.nz_spec.specs.Term.{Assignment, NumberSort, difference as minus_head, carried_out, combined, head_value, number, number_of};
 ghost use Rattle.nz_frac.specs.Operations.{operator_of};
 ghost use Rattle.nz_term.specs.Values.{value_of};
-ghost use Rattle.nz_truth.specs.Outcomes.{IsCarriedOut, IsOperated, IsOutcomeOf, IsStopped};
+ghost use Rattle.nz_truth.specs.Outcomes.{IsOperated, IsOutcomeOf};
 
 use crate::walk::Outcome;
-use nz_frac::{Frac, Op, Wide};
+use nz_frac::{Frac, Op};
 use nz_term::Value;
 
 /// The number that a value is.
@@ -57,37 +57,10 @@ fn operated_on(op: Op, first: &Value, others: &[Value]) -> Outcome
 {
     let mut value = *first;
     for other in others {
-        match carried_out(op, number_of(&value), number_of(other)) {
+        match op.carry_out(number_of(&value), number_of(other)) {
             Ok(number) => value = Value::Number(number),
             Err(wide) => return Outcome::Wide(wide),
         }
     }
     Outcome::Value(value)
-}
-
-/// An operation on two numbers; a quotient by 0 is none, and comes to 0.
-fn carried_out(op: Op, left: Frac, right: Frac) -> Result<Frac, Wide>
-    ensures carried { IfOk result (λ q. IsCarriedOut (operator_of op) left right q) }
-    ensures stopped { IfErr result (λ w. IsStopped (operator_of op) left right w) }
-{
-    match op {
-        Op::Add => left.add(right),
-        Op::Sub => left.sub(right),
-        Op::Mul => left.mul(right),
-        Op::Div => {
-            if is_zero(right) {
-                return Ok(Frac::whole(0));
-            }
-            left.div(right)
-        }
-    }
-}
-
-/// Whether a number is zero.
-#[tactic(auto, using(nz_term::proofs::Numbers::is_not_zero))]
-fn is_zero(number: Frac) -> bool
-    ensures zero { result ≡ is_zero number }
-    ensures nonzero { result ≡ false → number.numerator ≢ pos 0 }
-{
-    number == Frac::whole(0)
 }

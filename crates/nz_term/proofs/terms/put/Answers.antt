@@ -20,4 +20,4 @@ returns-clause-table c =
     c.requires.fits c.requires.leaves
 
 pub returns-clause-node : goal.returns-clause-node
-returns-clause-node c = made_node c.insert_full.new.self.keys c.args.node c.in_ok-id.id c.in_ok-id.ensures.stored
+returns-clause-node c = made_node c.tells_heads.ensures.tells c.insert_full.new.self.keys c.args.node c.in_ok-id.id c.in_ok-id.ensures.stored

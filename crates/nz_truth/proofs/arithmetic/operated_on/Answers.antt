@@ -4,10 +4,9 @@ use Rattle.nz_lists.proofs.Places.{drop_read}
 use Rattle.nz_spec.specs.Fraction.{Fraction, first_wide}
 use Rattle.nz_spec.specs.Operations.{operations_by}
 use Rattle.nz_spec.specs.Term.{carried_out, combined, number_of}
-use Rattle.nz_frac.specs.Operations.{operator_of}
+use Rattle.nz_frac.specs.Operations.{IsCarriedOut, IsStopped, operator_of}
 use Rattle.nz_term.specs.declared.assign.Value.{Value}
 use Rattle.nz_term.specs.Values.{value_of}
-use Rattle.nz_truth.specs.Outcomes.{IsCarriedOut, IsStopped}
 use Rattle.nz_truth.proofs.Carrying.{same_stop, same_value, stop_here}
 use Rattle.nz_truth.proofs.arithmetic.operated_on.Goals as goal
 

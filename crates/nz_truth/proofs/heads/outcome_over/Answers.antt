@@ -1,49 +1,9 @@
--- Each operator that takes no operation by the clause of its function.
-use Rattle.std.proofs.Common.{map, refl, ap}
-use Rattle.nz_spec.specs.Term.{conjunction, choice, difference, disjunction, exclusion, integer_quotient, is_int, magnitude, modulus, negation, to_int, to_real}
-use Rattle.nz_term.specs.Constants.{number_sort_of, sort_of}
+-- An operator comes to what the operator alone does.
+use Rattle.std.proofs.Common.{map, ap}
 use Rattle.nz_term.specs.Heads.{head_of}
 use Rattle.nz_term.specs.Values.{value_of}
-use Rattle.nz_truth.proofs.Carrying.{of_head, plain}
+use Rattle.nz_truth.proofs.Carrying.{of_head}
 use Rattle.nz_truth.proofs.heads.outcome_over.Goals as goal
 
-pub returns-in-Difference : goal.returns-in-Difference
-returns-in-Difference c = record {
-  outcome = λ a given.
-      of_head (head_of c.args.head.now) (difference (number_sort_of c.in-Difference.field-0)) a (map value_of c.args.args.now) c.difference.result (ap head_of c.in-Difference.is) (c.difference.ensures.outcome a (number_sort_of c.in-Difference.field-0));
-}
-
-pub returns-in-Ite : goal.returns-in-Ite
-returns-in-Ite c = record {
-  outcome = λ a given. plain (head_of c.args.head.now) (choice (sort_of c.in-Ite.field-0)) a (map value_of c.args.args.now) c.choice.result (ap head_of c.in-Ite.is) refl (c.choice.ensures.value a (sort_of c.in-Ite.field-0));
-}
-
-pub returns-in-Not : goal.returns-in-Not
-returns-in-Not c = record { outcome = λ a given. plain (head_of c.args.head.now) negation a (map value_of c.args.args.now) c.negation.result (ap head_of c.in-Not.is) refl (c.negation.ensures.value a) }
-
-pub returns-in-And : goal.returns-in-And
-returns-in-And c = record { outcome = λ a given. plain (head_of c.args.head.now) conjunction a (map value_of c.args.args.now) c.conjunction.result (ap head_of c.in-And.is) refl (c.conjunction.ensures.value a) }
-
-pub returns-in-Or : goal.returns-in-Or
-returns-in-Or c = record { outcome = λ a given. plain (head_of c.args.head.now) disjunction a (map value_of c.args.args.now) c.disjunction.result (ap head_of c.in-Or.is) refl (c.disjunction.ensures.value a) }
-
-pub returns-in-Xor : goal.returns-in-Xor
-returns-in-Xor c = record { outcome = λ a given. plain (head_of c.args.head.now) exclusion a (map value_of c.args.args.now) c.exclusion.result (ap head_of c.in-Xor.is) refl (c.exclusion.ensures.value a) }
-
-pub returns-in-Div : goal.returns-in-Div
-returns-in-Div c = record { outcome = λ a given. plain (head_of c.args.head.now) integer_quotient a (map value_of c.args.args.now) c.quotient.result (ap head_of c.in-Div.is) refl (c.quotient.ensures.value a) }
-
-pub returns-in-Mod : goal.returns-in-Mod
-returns-in-Mod c = record { outcome = λ a given. plain (head_of c.args.head.now) modulus a (map value_of c.args.args.now) c.remainder.result (ap head_of c.in-Mod.is) refl (c.remainder.ensures.value a) }
-
-pub returns-in-Abs : goal.returns-in-Abs
-returns-in-Abs c = record { outcome = λ a given. plain (head_of c.args.head.now) magnitude a (map value_of c.args.args.now) c.magnitude.result (ap head_of c.in-Abs.is) refl (c.magnitude.ensures.value a) }
-
-pub returns-in-ToReal : goal.returns-in-ToReal
-returns-in-ToReal c = record { outcome = λ a given. plain (head_of c.args.head.now) to_real a (map value_of c.args.args.now) c.to_real.result (ap head_of c.in-ToReal.is) refl (c.to_real.ensures.value a) }
-
-pub returns-in-ToInt : goal.returns-in-ToInt
-returns-in-ToInt c = record { outcome = λ a given. plain (head_of c.args.head.now) to_int a (map value_of c.args.args.now) c.to_int.result (ap head_of c.in-ToInt.is) refl (c.to_int.ensures.value a) }
-
-pub returns-in-IsInt : goal.returns-in-IsInt
-returns-in-IsInt c = record { outcome = λ a given. plain (head_of c.args.head.now) is_int a (map value_of c.args.args.now) c.is_int.result (ap head_of c.in-IsInt.is) refl (c.is_int.ensures.value a) }
+pub returns-in-Operator : goal.returns-in-Operator
+returns-in-Operator c = record { outcome = λ a given. of_head (head_of c.args.head.now) _ a (map value_of c.args.args.now) c.outcome_of.result (ap head_of c.in-Operator.is) (c.outcome_of.ensures.outcome a) }

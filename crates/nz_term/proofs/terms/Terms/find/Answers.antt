@@ -20,5 +20,5 @@ returns c =
     record {
       found = subst (λ ks. IsFound ns (apply (head_of head) (terms_at (term_in ns) ks)) c.get_index_of.result) c.in_ok-from_slice.ensures.ids
           (subst (λ l. IsFound l (apply (head_of head) (terms_at (term_in l) own)) c.get_index_of.result) c.self.view_is
-          (found c.one_number.ensures.one c.term_of_node.ensures.node keys key c.get_index_of.result c.get_index_of.ensures.index c.get_index_of.ensures.found c.self.invariant.table within));
+          (found c.tells_heads.ensures.tells c.one_number.ensures.one c.term_of_node.ensures.node keys key c.get_index_of.result c.get_index_of.ensures.index c.get_index_of.ensures.found c.self.invariant.table within));
     }
