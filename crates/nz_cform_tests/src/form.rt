@@ -5,7 +5,7 @@ use nz_base::{Memory, Text};
 use nz_cform::ClauseForm;
 use nz_cform::laws::covers_stay;
 use nz_log::Log;
-use nz_term::{Constant, Head, Sort, TermId, Terms};
+use nz_term::{Constant, Head, Operator, Sort, TermId, Terms};
 use std::alloc::Global;
 use std::test::Fail;
 
@@ -27,9 +27,9 @@ fn shared(terms: &mut Terms, alloc: Global) -> Result<TermId, Memory>
 {
     let left = constant(terms, alloc, b"p")?;
     let right = constant(terms, alloc, b"q")?;
-    let differ = terms.make(Head::Xor, &[left, right])?;
-    let agree = terms.make(Head::Equal, &[left, right])?;
-    terms.make(Head::And, &[differ, agree])
+    let differ = terms.make(Head::Operator(Operator::Xor), &[left, right])?;
+    let agree = terms.make(Head::Operator(Operator::Equal), &[left, right])?;
+    terms.make(Head::Operator(Operator::And), &[differ, agree])
 }
 
 #[test]

@@ -8,7 +8,7 @@ ghost use Rattle.nz_engine_tests.specs.Benches.{AreGatedLits, Extends, IsGatedAt
 use crate::formula::Part;
 use nz_base::{Memory, Text};
 use nz_log::Lit;
-use nz_term::{Constant, Head, Sort, TermId, Terms};
+use nz_term::{Constant, Head, Operator, Sort, TermId, Terms};
 use std::alloc::Global;
 
 /// The term of a head of the gate table over these terms.
@@ -60,24 +60,28 @@ fn term_over(
 {
     match part {
         Part::Atom(number) => Ok(Some(constant(alloc, terms, number)?)),
-        Part::True => Ok(Some(make(terms, Head::True, &[])?)),
-        Part::False => Ok(Some(make(terms, Head::False, &[])?)),
-        Part::And(_) => Ok(Some(make(terms, Head::And, kids)?)),
-        Part::Or(_) => Ok(Some(make(terms, Head::Or, kids)?)),
+        Part::True => Ok(Some(make(terms, Head::Operator(Operator::True), &[])?)),
+        Part::False => Ok(Some(make(terms, Head::Operator(Operator::False), &[])?)),
+        Part::And(_) => Ok(Some(make(terms, Head::Operator(Operator::And), kids)?)),
+        Part::Or(_) => Ok(Some(make(terms, Head::Operator(Operator::Or), kids)?)),
         Part::Not => match kids {
-            [a] => Ok(Some(make(terms, Head::Not, &[*a])?)),
+            [a] => Ok(Some(make(terms, Head::Operator(Operator::Not), &[*a])?)),
             _ => Ok(None),
         },
         Part::Xor => match kids {
-            [a, b] => Ok(Some(make(terms, Head::Xor, &[*a, *b])?)),
+            [a, b] => Ok(Some(make(terms, Head::Operator(Operator::Xor), &[*a, *b])?)),
             _ => Ok(None),
         },
         Part::Equal => match kids {
-            [a, b] => Ok(Some(make(terms, Head::Equal, &[*a, *b])?)),
+            [a, b] => Ok(Some(make(terms, Head::Operator(Operator::Equal), &[*a, *b])?)),
             _ => Ok(None),
         },
         Part::Ite => match kids {
-            [c, a, b] => Ok(Some(make(terms, Head::Ite(Sort::Bool), &[*c, *a, *b])?)),
+            [c, a, b] => Ok(Some(make(
+                terms,
+                Head::Operator(Operator::Ite(Sort::Bool)),
+                &[*c, *a, *b],
+            )?)),
             _ => Ok(None),
         },
     }

@@ -6,7 +6,7 @@ ghost use Rattle.nz_log.specs.Lits.{are_same_lit};
 
 use nz_base::Memory;
 use nz_log::{Lit, Step};
-use nz_term::{Head, Sort, TermId, Terms};
+use nz_term::{Head, Operator, Sort, TermId, Terms};
 use std::alloc::Global;
 
 /// The clause that the last of these steps gives over these assertions. There is none where some step isn't in order.
@@ -88,8 +88,8 @@ fn gate(alloc: Global, terms: &Terms, term: TermId, j: usize) -> Result<Option<V
     let node = terms.node(term);
     let kids = node.kids.as_slice();
     match &node.head {
-        Head::And => group_clause(alloc, term, kids, true, j),
-        Head::Or => group_clause(alloc, term, kids, false, j),
+        Head::Operator(Operator::And) => group_clause(alloc, term, kids, true, j),
+        Head::Operator(Operator::Or) => group_clause(alloc, term, kids, false, j),
         head => match table_of(head, kids.len()).get(j) {
             Some(row) => row_clause(alloc, term, kids, row),
             None => Ok(None),
@@ -145,12 +145,12 @@ const ITE: &[Row] = &[&[-1, -2, 3], &[-1, 2, 4], &[1, -2, -3], &[1, 2, -4]];
 /// The clauses of a term of this head over so many arguments, but for conjunctions and disjunctions.
 fn table_of(head: &Head, kids: usize) -> &'static [Row] {
     match (head, kids) {
-        (Head::True, 0) => TRUE,
-        (Head::False, 0) => FALSE,
-        (Head::Not, 1) => NOT,
-        (Head::Xor, 2) => XOR,
-        (Head::Equal, 2) => EQUAL,
-        (Head::Ite(Sort::Bool), 3) => ITE,
+        (Head::Operator(Operator::True), 0) => TRUE,
+        (Head::Operator(Operator::False), 0) => FALSE,
+        (Head::Operator(Operator::Not), 1) => NOT,
+        (Head::Operator(Operator::Xor), 2) => XOR,
+        (Head::Operator(Operator::Equal), 2) => EQUAL,
+        (Head::Operator(Operator::Ite(Sort::Bool)), 3) => ITE,
         _ => &[],
     }
 }

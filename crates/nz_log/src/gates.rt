@@ -20,25 +20,28 @@ pub fn gate_count(terms: &Terms, term: TermId) -> usize
 {
     let node = terms.node(term);
     let kids = node.kids.as_slice();
-    match &node.head {
-        Head::True | Head::False => match kids {
+    let Head::Operator(operator) = &node.head else {
+        return 0;
+    };
+    match operator {
+        Operator::True | Operator::False => match kids {
             [] => 1,
             _ => 0,
         },
-        Head::Not => match kids {
+        Operator::Not => match kids {
             [_] => 2,
             _ => 0,
         },
-        Head::And | Head::Or => kids.len() + 1,
-        Head::Xor => match kids {
+        Operator::And | Operator::Or => kids.len() + 1,
+        Operator::Xor => match kids {
             [_, _] => 4,
             _ => 0,
         },
-        Head::Equal => match kids {
+        Operator::Equal => match kids {
             [left, _] => equality_count(terms, *left),
             _ => 0,
         },
-        Head::Ite(Sort::Bool) => match kids {
+        Operator::Ite(Sort::Bool) => match kids {
             [_, _, _] => 4,
             _ => 0,
         },

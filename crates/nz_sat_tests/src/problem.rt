@@ -18,7 +18,7 @@ use nz_log::laws::logs_stay;
 use nz_log::{ClauseId, Lit, Log, Note, Stop, gate_count};
 use nz_sat::Sat;
 use nz_spec::derivation::gates_are_true;
-use nz_term::{Constant, Head, Sort, TermId, Terms};
+use nz_term::{Constant, Head, Operator, Sort, TermId, Terms};
 use std::alloc::Global;
 use std::marker::Model;
 
@@ -114,7 +114,7 @@ impl Problem {
         if literal.sign {
             return Ok(literal.term);
         }
-        self.gates(Head::Not, &[literal.term])
+        self.gates(Head::Operator(Operator::Not), &[literal.term])
     }
 
     /// Asserts that one of these literals is true.
@@ -123,7 +123,7 @@ impl Problem {
         for literal in literals {
             kids.push(self.term(*literal)?)?;
         }
-        let term = self.gates(Head::Or, &kids)?;
+        let term = self.gates(Head::Operator(Operator::Or), &kids)?;
         self.assert(term)
     }
 

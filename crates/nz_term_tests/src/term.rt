@@ -185,7 +185,10 @@ fn a_quotient_comes_just_before_its_remainder(rt: HostRuntime) -> Result<(), Fai
 fn a_term_is_found_by_its_head_and_arguments(rt: HostRuntime) -> Result<(), Fail> {
     let (terms, _) = remainder(rt.alloc())?;
     assert_eq!(rt; terms.len(), 4);
-    assert_eq!(rt; terms.find(Head::Operator(Operator::Div), &[0, 1])?, Some(3));
+    assert_eq!(rt;
+        terms.find(Head::Operator(Operator::Div), &[0, 1])?,
+        Some(3)
+    );
     assert_eq!(rt; terms.find(Head::Operator(Operator::Div), &[1, 0])?, None);
     assert_eq!(rt; terms.find(Head::Integer(3), &[])?, None);
     Ok(())
@@ -221,8 +224,14 @@ fn tripled(alloc: Global) -> Result<(Terms, TermId), Fail>
     let mut terms = Terms::new(alloc)?;
     let parameter = terms.make(Head::Parameter(0, Sort::Int), &[])?;
     let two = terms.make(Head::Integer(2), &[])?;
-    let double = terms.make(Head::Operator(Operator::Product(NumberSort::Int)), &[two, parameter])?;
-    let sum = terms.make(Head::Operator(Operator::Sum(NumberSort::Int)), &[parameter, double])?;
+    let double = terms.make(
+        Head::Operator(Operator::Product(NumberSort::Int)),
+        &[two, parameter],
+    )?;
+    let sum = terms.make(
+        Head::Operator(Operator::Sum(NumberSort::Int)),
+        &[parameter, double],
+    )?;
     Ok((terms, sum))
 }
 
@@ -255,7 +264,10 @@ fn three_and_a_half(alloc: Global) -> Result<(Terms, TermId), Fail>
     let decimal = terms.make(Head::Decimal(150, 2), &[])?;
     let two = terms.make(Head::Integer(2), &[])?;
     let whole = terms.make(Head::Operator(Operator::ToReal), &[two])?;
-    let sum = terms.make(Head::Operator(Operator::Sum(NumberSort::Real)), &[decimal, whole])?;
+    let sum = terms.make(
+        Head::Operator(Operator::Sum(NumberSort::Real)),
+        &[decimal, whole],
+    )?;
     Ok((terms, sum))
 }
 
@@ -287,7 +299,10 @@ fn not_linear(alloc: Global, divides: bool) -> Result<(Terms, TermId), Fail>
     let made = if divides {
         terms.make(Head::Operator(Operator::Quotient), &[parameter, zero])?
     } else {
-        terms.make(Head::Operator(Operator::Product(NumberSort::Real)), &[parameter, parameter])?
+        terms.make(
+            Head::Operator(Operator::Product(NumberSort::Real)),
+            &[parameter, parameter],
+        )?
     };
     Ok((terms, made))
 }
@@ -309,7 +324,10 @@ fn numbers_are_read_at_a_sort(rt: HostRuntime) -> Result<(), Fail> {
         (Sort::Real, Sort::Real),
     ] {
         assert_eq!(rt; NumberSort::of(sort).sort(), read);
-        assert_eq!(rt; Head::Operator(Operator::Sum(NumberSort::of(sort))).sort(), read);
+        assert_eq!(rt;
+            Head::Operator(Operator::Sum(NumberSort::of(sort))).sort(),
+            read
+        );
     }
     Ok(())
 }

@@ -7,7 +7,7 @@ ghost use Rattle.nz_term.specs.Heads.{head_of};
 
 use nz_base::{Memory, Text};
 use nz_frac::{Op, Wide};
-use nz_term::{Assign, Constant, Head, NumberSort, Sort, TermId, Terms, Value};
+use nz_term::{Assign, Constant, Head, NumberSort, Operator, Sort, TermId, Terms, Value};
 use nz_truth::{EvalStop, Outcome, Values, eval, outcomes};
 use std::alloc::Global;
 use std::test::Fail;
@@ -51,11 +51,15 @@ fn operation(terms: &mut Terms, head: Head, kids: &[TermId]) -> Result<TermId, M
 // The table of p, `(not p)`, `(or p (not p))`, `(and p (not p))`, `(ite p (not p) p)` and `(= p (not p))`, in this order.
 fn operations(alloc: Global) -> Result<Terms, Memory> {
     let (mut terms, p) = one_constant(alloc)?;
-    let not_p = operation(&mut terms, Head::Not, &[p])?;
-    operation(&mut terms, Head::Or, &[p, not_p])?;
-    operation(&mut terms, Head::And, &[p, not_p])?;
-    operation(&mut terms, Head::Ite(Sort::Bool), &[p, not_p, p])?;
-    operation(&mut terms, Head::Equal, &[p, not_p])?;
+    let not_p = operation(&mut terms, Head::Operator(Operator::Not), &[p])?;
+    operation(&mut terms, Head::Operator(Operator::Or), &[p, not_p])?;
+    operation(&mut terms, Head::Operator(Operator::And), &[p, not_p])?;
+    operation(
+        &mut terms,
+        Head::Operator(Operator::Ite(Sort::Bool)),
+        &[p, not_p, p],
+    )?;
+    operation(&mut terms, Head::Operator(Operator::Equal), &[p, not_p])?;
     Ok(terms)
 }
 
@@ -65,7 +69,7 @@ fn negations(alloc: Global, count: usize) -> Result<(Terms, TermId), Memory>
 {
     let (mut terms, mut last) = one_constant(alloc)?;
     for _ in 0..count {
-        last = operation(&mut terms, Head::Not, &[last])?;
+        last = operation(&mut terms, Head::Operator(Operator::Not), &[last])?;
     }
     Ok((terms, last))
 }
@@ -77,7 +81,11 @@ fn doublings(alloc: Global, count: usize) -> Result<(Terms, TermId), Memory>
     let mut terms = Terms::new(alloc)?;
     let mut last = operation(&mut terms, Head::Integer(1), &[])?;
     for _ in 0..count {
-        last = operation(&mut terms, Head::Sum(NumberSort::Int), &[last, last])?;
+        last = operation(
+            &mut terms,
+            Head::Operator(Operator::Sum(NumberSort::Int)),
+            &[last, last],
+        )?;
     }
     Ok((terms, last))
 }
@@ -89,7 +97,11 @@ fn integer(terms: &mut Terms, n: i64) -> Result<TermId, Memory>
 {
     let size = operation(terms, Head::Integer(n.unsigned_abs() as u128), &[])?;
     if n < 0 {
-        operation(terms, Head::Difference(NumberSort::Int), &[size])
+        operation(
+            terms,
+            Head::Operator(Operator::Difference(NumberSort::Int)),
+            &[size],
+        )
     } else {
         Ok(size)
     }
@@ -116,20 +128,24 @@ fn of_quotient(alloc: Global, head: Head, m: i64, n: i64) -> Result<(Terms, Term
     let mut terms = Terms::new(alloc)?;
     let left = integer(&mut terms, m)?;
     let right = integer(&mut terms, n)?;
-    let quotient = operation(&mut terms, Head::Quotient, &[left, right])?;
+    let quotient = operation(
+        &mut terms,
+        Head::Operator(Operator::Quotient),
+        &[left, right],
+    )?;
     let id = operation(&mut terms, head, &[quotient])?;
     Ok((terms, id))
 }
 
 // Whether `to_int` of the quotient of two integers comes to the integer that is expected.
 fn rounds_to(alloc: Global, m: i64, n: i64, expected: i128) -> Result<bool, Memory> {
-    let (terms, id) = of_quotient(alloc, Head::ToInt, m, n)?;
+    let (terms, id) = of_quotient(alloc, Head::Operator(Operator::ToInt), m, n)?;
     comes_to(alloc, &terms, id, expected)
 }
 
 // Whether `is_int` of the quotient of two integers comes to the truth that is expected.
 fn is_whole(alloc: Global, m: i64, n: i64, expected: bool) -> Result<bool, Memory> {
-    let (terms, id) = of_quotient(alloc, Head::IsInt, m, n)?;
+    let (terms, id) = of_quotient(alloc, Head::Operator(Operator::IsInt), m, n)?;
     let values = evaluated(alloc, &terms, &[id], &[])?;
     Ok(are(&values, &[expected]))
 }
@@ -139,10 +155,22 @@ fn wide_operations(alloc: Global) -> Result<Terms, Memory> {
     let mut terms = Terms::new(alloc)?;
     let most = operation(&mut terms, Head::Integer(GREATEST), &[])?;
     let one = operation(&mut terms, Head::Integer(1), &[])?;
-    let sum = operation(&mut terms, Head::Sum(NumberSort::Int), &[most, one])?;
-    operation(&mut terms, Head::Product(NumberSort::Int), &[most, most])?;
-    let same = operation(&mut terms, Head::Equal, &[one, one])?;
-    operation(&mut terms, Head::Ite(Sort::Int), &[same, one, sum])?;
+    let sum = operation(
+        &mut terms,
+        Head::Operator(Operator::Sum(NumberSort::Int)),
+        &[most, one],
+    )?;
+    operation(
+        &mut terms,
+        Head::Operator(Operator::Product(NumberSort::Int)),
+        &[most, most],
+    )?;
+    let same = operation(&mut terms, Head::Operator(Operator::Equal), &[one, one])?;
+    operation(
+        &mut terms,
+        Head::Operator(Operator::Ite(Sort::Int)),
+        &[same, one, sum],
+    )?;
     Ok(terms)
 }
 
@@ -301,35 +329,35 @@ fn shared_sums_are_evaluated_once(rt: HostRuntime) -> Result<(), Fail> {
 
 #[test]
 fn div_leaves_no_remainder_below_zero(rt: HostRuntime) -> Result<(), Fail> {
-    let above = is_of_integers(rt.alloc(), Head::Div, 7, 2, 3)?;
+    let above = is_of_integers(rt.alloc(), Head::Operator(Operator::Div), 7, 2, 3)?;
     assert!(rt; above);
-    let left = is_of_integers(rt.alloc(), Head::Div, -7, 2, -4)?;
+    let left = is_of_integers(rt.alloc(), Head::Operator(Operator::Div), -7, 2, -4)?;
     assert!(rt; left);
-    let right = is_of_integers(rt.alloc(), Head::Div, 7, -2, -3)?;
+    let right = is_of_integers(rt.alloc(), Head::Operator(Operator::Div), 7, -2, -3)?;
     assert!(rt; right);
-    let both = is_of_integers(rt.alloc(), Head::Div, -7, -2, 4)?;
+    let both = is_of_integers(rt.alloc(), Head::Operator(Operator::Div), -7, -2, 4)?;
     assert!(rt; both);
     Ok(())
 }
 
 #[test]
 fn mod_is_never_below_zero(rt: HostRuntime) -> Result<(), Fail> {
-    let left = is_of_integers(rt.alloc(), Head::Mod, -7, 3, 2)?;
+    let left = is_of_integers(rt.alloc(), Head::Operator(Operator::Mod), -7, 3, 2)?;
     assert!(rt; left);
-    let right = is_of_integers(rt.alloc(), Head::Mod, 7, -3, 1)?;
+    let right = is_of_integers(rt.alloc(), Head::Operator(Operator::Mod), 7, -3, 1)?;
     assert!(rt; right);
-    let both = is_of_integers(rt.alloc(), Head::Mod, -7, -3, 2)?;
+    let both = is_of_integers(rt.alloc(), Head::Operator(Operator::Mod), -7, -3, 2)?;
     assert!(rt; both);
     Ok(())
 }
 
 #[test]
 fn by_zero_the_definition_is_computed(rt: HostRuntime) -> Result<(), Fail> {
-    let div = is_of_integers(rt.alloc(), Head::Div, -7, 0, -1)?;
+    let div = is_of_integers(rt.alloc(), Head::Operator(Operator::Div), -7, 0, -1)?;
     assert!(rt; div);
-    let rest = is_of_integers(rt.alloc(), Head::Mod, -7, 0, -7)?;
+    let rest = is_of_integers(rt.alloc(), Head::Operator(Operator::Mod), -7, 0, -7)?;
     assert!(rt; rest);
-    let quotient = is_of_integers(rt.alloc(), Head::Quotient, -7, 0, 0)?;
+    let quotient = is_of_integers(rt.alloc(), Head::Operator(Operator::Quotient), -7, 0, 0)?;
     assert!(rt; quotient);
     Ok(())
 }
