@@ -7,15 +7,19 @@ ghost use Rattle.std.specs.Cmp.Rules.{hashing};
 ghost use Rattle.std.specs.Hash as fed;
 
 use crate::Memory;
+use smallvec::SmallVec;
 use std::alloc::{AllocError, Global};
 use std::fmt;
 use std::hash::{Hash, Hasher};
 use std::marker::Model;
 
+/// How many bytes a text holds without memory of its own: the names, numerals and symbols of most scripts are no longer.
+const SHORT: usize = 16;
+
 /// A text of bytes, in any encoding. A contract sees it as the list of its bytes.
 #[derive(Drop)]
 pub struct Text {
-    bytes: Vec<u8>,
+    bytes: SmallVec<u8, SHORT>,
 }
 
 impl Model for Text {
@@ -32,30 +36,15 @@ impl Text {
         ensures empty { result ≡ [] }
     {
         Text {
-            bytes: Vec::new(alloc),
+            bytes: SmallVec::new(alloc),
         }
-    }
-
-    /// The text of these bytes. Takes no memory.
-    pub fn from_vec(bytes: Vec<u8>) -> Text
-        ensures bytes { result ≡ bytes.items }
-    {
-        Text { bytes }
-    }
-
-    /// The bytes of the text, in a vector. Takes no memory.
-    pub fn into_vec(self) -> Vec<u8>
-        ensures bytes { result.items ≡ self }
-    {
-        let Text { bytes } = self;
-        bytes
     }
 
     /// A text of its own with these bytes.
     pub fn from_slice(alloc: Global, bytes: &[u8]) -> Result<Text, Memory>
         ensures bytes { IfOk result (λ text. text ≡ bytes.now) }
     {
-        let bytes = Vec::from_slice(alloc, bytes)?;
+        let bytes = SmallVec::from_slice(alloc, bytes)?;
         Ok(Text { bytes })
     }
 
@@ -101,7 +90,7 @@ impl Clone for Text {
     ghost is_clone = { λ text copy. copy ≡ text };
 
     fn clone(&self) -> Result<Text, AllocError> {
-        let bytes = Vec::from_slice(*self.bytes.allocator(), self.bytes.as_slice())?;
+        let bytes = SmallVec::from_slice(*self.bytes.allocator(), self.bytes.as_slice())?;
         Ok(Text { bytes })
     }
 }

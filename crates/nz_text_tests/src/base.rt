@@ -247,13 +247,23 @@ fn grows_and_gives_its_bytes(rt: HostRuntime) -> Result<(), Fail> {
     text.clear();
     assert!(rt; text.is_empty());
     assert!(rt; text == Text::new(rt.alloc()));
-    assert_eq!(rt; copy.into_vec().as_slice(), b"check-sat".as_slice());
+    assert_eq!(rt; copy.as_bytes(), b"check-sat".as_slice());
+    Ok(())
+}
+
+#[test]
+fn holds_what_is_longer_than_a_short_text(rt: HostRuntime) -> Result<(), Fail> {
+    let mut text = Text::from_slice(rt.alloc(), b"sixteen bytes is")?;
+    assert_eq!(rt; text.len(), 16);
+    text.push_slice(b", and more")?;
+    assert_eq!(rt; text.as_bytes(), b"sixteen bytes is, and more".as_slice());
+    assert_eq!(rt; text.clone()?.len(), 26);
     Ok(())
 }
 
 #[test]
 fn is_told_apart_by_its_bytes(rt: HostRuntime) -> Result<(), Fail> {
-    let text = Text::from_vec(b"p".to_vec(rt.alloc())?);
+    let text = Text::from_slice(rt.alloc(), b"p")?;
     assert!(rt; text != Text::from_slice(rt.alloc(), b"q")?);
     assert_eq!(rt; text.as_bytes(), b"p".as_slice());
     Ok(())
