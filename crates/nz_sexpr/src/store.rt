@@ -1,7 +1,7 @@
 //! What is kept of an open command while it is read: its trees so far, and the text of the token that is being read.
-ghost use Rattle.std.specs.Prelude.{◌≡◌, List, [], ◌∷◌, ◌++◌, Some, None, IfSome, IsSomeAnd};
+ghost use Rattle.std.specs.Prelude.{◌≡◌, List, [], ◌∷◌, ◌++◌, Some, None, IfSome, IsSomeAnd, OnOk};
 ghost use Rattle.nz_spec.specs.Tree as text;
-ghost use Rattle.nz_spec.specs.Reading.{with_trees, with_closed};
+ghost use Rattle.nz_spec.specs.Reading.{trees_from, with_trees, with_closed};
 ghost use Rattle.nz_sexpr.specs.Words.{token_by};
 ghost use Rattle.nz_sexpr.specs.View.{token_view};
 
@@ -21,6 +21,8 @@ pub(crate) struct Store {
     inner: TreeList,
     /// Those of the lists around it, the outermost first.
     outer: Vec<TreeList>,
+    /// A list that closed, for the next one that opens: so a list takes memory once, of its exact size, when it closes.
+    spare: TreeList,
     /// Whether anything is kept.
     keeps: bool,
 }
@@ -44,6 +46,7 @@ impl Store {
             text: Text::new(alloc),
             inner: TreeList::new(alloc),
             outer: Vec::new(alloc),
+            spare: TreeList::new(alloc),
             keeps,
         }
     }
@@ -52,8 +55,10 @@ impl Store {
     pub(crate) fn begin(&mut self)
         ensures { kept_of self.new ≡ Some (record { text = []; levels = [] ∷ [] }) }
     {
-        let alloc = self.alloc;
-        *self = Store::empty(alloc, true);
+        self.text.clear();
+        self.inner.clear();
+        self.outer.clear();
+        self.keeps = true;
     }
 
     /// Keeps nothing more.
@@ -90,28 +95,39 @@ impl Store {
         ensures { Keeps (kept_of self.old) (kept_of self.new) (λ (k : Kept). record k { levels = [] ∷ k.levels }) }
     {
         if self.keeps {
-            let outer = mem::replace(&mut self.inner, TreeList::new(self.alloc));
+            let mut opened = mem::replace(&mut self.spare, TreeList::new(self.alloc));
+            opened.clear();
+            let outer = mem::replace(&mut self.inner, opened);
             if self.outer.push(outer).is_err() {
                 self.stop();
             }
         }
     }
 
-    /// The innermost list closes, within another.
+    /// A list closes, within another.
     pub(crate) fn close(&mut self)
         ensures { Keeps (kept_of self.old) (kept_of self.new) (λ (k : Kept). record k { levels = with_closed k.levels }) }
     {
         if self.keeps {
             match self.outer.pop() {
                 Some(outer) => {
-                    let list = mem::replace(&mut self.inner, outer);
-                    if self.inner.push(Tree::List(list)).is_err() {
+                    if self.close_in(outer).is_err() {
                         self.stop();
                     }
                 }
                 None => self.stop(),
             }
         }
+    }
+
+    /// Puts the innermost list at the end of this one, which is then the innermost.
+    fn close_in(&mut self, outer: TreeList) -> Result<(), Memory>
+        ensures kept { OnOk result (self.new ≡ record self.old { inner = self.new.inner; spare = self.new.spare }) }
+        ensures closed { OnOk result (list_view self.new.inner ≡ list_view outer ++ text.node (trees_from (list_view self.old.inner)) ∷ []) }
+    {
+        let list = self.inner.take()?;
+        self.spare = mem::replace(&mut self.inner, outer);
+        self.inner.push(Tree::List(list))
     }
 
     /// The command closes: its own list, where it was kept.
@@ -121,7 +137,7 @@ impl Store {
     {
         if self.keeps {
             self.keeps = false;
-            Some(mem::replace(&mut self.inner, TreeList::new(self.alloc)))
+            self.inner.take().ok()
         } else {
             None
         }

@@ -1,5 +1,5 @@
 //! Tokens and trees of a script (SMT-LIB 2.6, sections 3.1 and 3.2).
-ghost use Rattle.std.specs.Prelude.{◌≡◌, [], ◌∷◌, ◌++◌, None, OnOk, OnErr, IfSome, IfNone};
+ghost use Rattle.std.specs.Prelude.{◌≡◌, [], ◌∷◌, ◌++◌, None, IfOk, OnOk, OnErr, IfSome, IfNone};
 ghost use Rattle.nz_spec.specs.Tree.{symbol, symbol_name};
 
 use nz_base::{Memory, Text};
@@ -72,6 +72,25 @@ impl TreeList {
     {
         self.trees.push(tree)?;
         Ok(())
+    }
+
+    /// Takes all trees out, into a list of their exact size. Keeps the memory, for trees to come.
+    ///
+    /// # Errors
+    ///
+    /// `Memory` where there is none.
+    pub(crate) fn take(&mut self) -> Result<TreeList, Memory>
+        ensures taken { IfOk result (λ l. list_view l ≡ list_view self.old) }
+    {
+        let trees = self.trees.split_off(0)?;
+        Ok(TreeList { trees })
+    }
+
+    /// Leaves no tree. Keeps the memory, for trees to come.
+    pub(crate) fn clear(&mut self)
+        ensures empty { list_view self.new ≡ [] }
+    {
+        self.trees.clear();
     }
 
     /// The trees.
