@@ -29,17 +29,10 @@ pub(crate) struct Store {
 
 impl Store {
     ghost use Rattle.nz_sexpr.specs.View.{list_view};
-    ghost use Rattle.nz_sexpr.specs.Store.{Kept, kept_if, kept_of, Keeps};
+    ghost use Rattle.nz_sexpr.specs.Store.{Kept, kept_of, Keeps};
 
     pub(crate) fn new(alloc: Global) -> Self
         ensures { kept_of result ≡ None }
-    {
-        Store::empty(alloc, false)
-    }
-
-    /// No trees and no text yet, which are kept or aren't.
-    fn empty(alloc: Global, keeps: bool) -> Self
-        ensures { kept_of result ≡ kept_if keeps (record { text = []; levels = [] ∷ [] }) }
     {
         Store {
             alloc,
@@ -47,7 +40,7 @@ impl Store {
             inner: TreeList::new(alloc),
             outer: Vec::new(alloc),
             spare: TreeList::new(alloc),
-            keeps,
+            keeps: false,
         }
     }
 
