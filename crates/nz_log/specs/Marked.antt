@@ -1,5 +1,5 @@
 -- Literals that are marked by their numbers.
-use Rattle.std.specs.Prelude.{◌≡◌, ℕ, Bool, true, false, List, slice_index_or, if◌then◌else◌}
+use Rattle.std.specs.Prelude.{◌≡◌, Bool, false, List, if◌then◌else◌}
 use Rattle.std.specs.List.{list_any}
 use Rattle.nz_log.specs.declared.lits.Lit.{Lit}
 use Rattle.nz_log.specs.declared.marks.Marks.{Marks}

@@ -1,5 +1,5 @@
 //! Clauses as sets: lists that have each literal once.
-ghost use Rattle.std.specs.Prelude.{◌≡◌, List, [], fold, IfOk, OnOk};
+ghost use Rattle.std.specs.Prelude.{◌≡◌, List, fold, IfOk, OnOk};
 ghost use Rattle.std.specs.List.{list_any};
 ghost use Rattle.nz_spec.specs.Literal.{once, with_one, without};
 ghost use Rattle.nz_log.specs.Lits.{are_same_lit, lit_resolvent};

@@ -1,6 +1,5 @@
 -- What the closure tests, and the mark that goes.
 use Rattle.std.proofs.Common.{List, not, sym, subst, ◌∙◌, rules}
-use Rattle.nz_spec.specs.Literal.{without}
 use Rattle.nz_log.specs.declared.lits.Lit.{Lit}
 use Rattle.nz_log.specs.Lits.{are_same_lit}
 use Rattle.nz_log.specs.Marked.{AreMarksOf}
