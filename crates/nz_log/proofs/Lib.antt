@@ -1,6 +1,9 @@
+pub mod Chaining
 pub mod Dropping
 pub mod Entries
+pub mod Gathering
 pub mod GatesInOrder
+pub mod MarkedSets
 pub mod Marking
 pub mod Members
 pub mod Naming

@@ -1,5 +1,6 @@
 pub mod Lits
 pub mod Logs
+pub mod Marked
 pub mod Notes
 pub mod Sound
 pub mod Spelling

@@ -7,6 +7,7 @@ mod gates;
 pub mod laws;
 mod lits;
 mod log;
+mod marks;
 mod note;
 mod origins;
 mod sets;

@@ -4,14 +4,16 @@ ghost use Rattle.nz_spec.specs.Table.{Node, term_in};
 ghost use Rattle.nz_spec.specs.Gates.{HasBooleanArguments};
 ghost use Rattle.nz_log.specs.Lits.{gates_at};
 ghost use Rattle.nz_log.specs.Logs.{Drops, IsLive, Puts, RestsOn, chain_entry, chained, empty_log, entry_at, gate_entry, given_entry, kept_below, level_at, level_of_links, level_with, literals_at, lowest, resolvent_entry, told_below, told_level, told_of};
+ghost use Rattle.nz_log.specs.Marked.{AreNone};
 ghost use Rattle.nz_log.specs.Sound.{IsLog, live_at};
 ghost use Rattle.nz_log.specs.Spelling.{AreStepsOf};
 ghost use Rattle.nz_log.specs.Stored.{entry_of, origin_of};
 
 use crate::gates::gate_literals;
 use crate::lits::Lit;
+use crate::marks::Marks;
 use crate::origins::{ClauseId, Link, Origin, Stored};
-use crate::sets::{Literals, resolvent, set_of};
+use crate::sets::{Literals, add_all, resolve_with, set_of, unmark_all};
 use crate::steps::{Step, spelled};
 use nz_base::Memory;
 use nz_spec::derivation::tells_literals;
@@ -20,6 +22,7 @@ use nz_term::{TermId, Terms};
 use smallvec::SmallVec;
 use std::alloc::Global;
 use std::marker::Model;
+use std::mem::replace;
 
 /// A log of clauses. A contract sees the clauses by number, and the levels told of terms.
 #[derive(Debug, Drop)]
@@ -28,6 +31,8 @@ pub struct Log {
     clauses: Vec<Option<Stored>>,
     // By the numbers of terms.
     told: Vec<Option<usize>>,
+    // For the literals of a chain while it is made. Between calls none is marked.
+    marks: Marks,
 }
 
 impl Model for Log {
@@ -35,11 +40,12 @@ impl Model for Log {
 
     ghost Value = { LogState };
 
+    ghost use Rattle.nz_log.specs.Marked.{AreNone};
     ghost use Rattle.nz_log.specs.Stored.{log_of};
 
     ghost view = { λ l. log_of l.clauses.items l.told.items };
 
-    ghost invariant = { λ l. IsOrdered (log_of l.clauses.items l.told.items) };
+    ghost invariant = { λ l. IsOrdered (log_of l.clauses.items l.told.items) × AreNone l.marks };
 }
 
 impl Log {
@@ -50,6 +56,7 @@ impl Log {
         Ok(Log {
             clauses: Vec::new(alloc),
             told: Vec::new(alloc),
+            marks: Marks::new(alloc),
         })
     }
 
@@ -200,22 +207,40 @@ impl Log {
         greatest
     }
 
-    /// The literals of the last clause of a chain.
-    fn chained(&self, first: ClauseId, links: &[Link]) -> Result<Literals, Memory>
+    /// The literals of the last clause of a chain. No literal has a mark before, nor after where there is memory.
+    fn chained(
+        &self,
+        marks: &mut Marks,
+        first: ClauseId,
+        links: &[Link],
+    ) -> Result<Literals, Memory>
+        requires none { AreNone marks.old }
         requires first { IsLive self.now first }
         requires live { All (λ k. IsLive self.now k.clause) links.now }
+        requires some { 0 < length links.now }
         ensures literals { IfOk result (λ c. c.items ≡ chained self.now (literals_at self.now first) links.now) }
+        ensures none { OnOk result (AreNone marks.new) }
     {
-        let alloc = *self.clauses.allocator();
-        let mut literals = SmallVec::from_slice(alloc, self.clause(first))?;
+        let mut literals = SmallVec::new(*self.clauses.allocator());
+        add_all(&mut literals, marks, self.clause(first))?;
         for link in links {
-            literals = resolvent(
-                alloc,
-                link.literal,
-                literals.as_slice(),
-                self.clause(link.clause),
-            )?;
+            resolve_with(&mut literals, marks, link.literal, self.clause(link.clause))?;
         }
+        unmark_all(marks, literals.as_slice());
+        Ok(literals)
+    }
+
+    /// The literals of the last clause of a chain, by the marks of the log. Where there is no memory it has new ones.
+    fn last_of_chain(&mut self, first: ClauseId, links: &[Link]) -> Result<Literals, Memory>
+        requires first { IsLive self.old first }
+        requires live { All (λ k. IsLive self.old k.clause) links.now }
+        requires some { 0 < length links.now }
+        ensures literals { IfOk result (λ c. c.items ≡ chained self.old (literals_at self.old first) links.now) }
+        ensures unchanged { self.new ≡ self.old }
+    {
+        let mut marks = replace(&mut self.marks, Marks::new(*self.clauses.allocator()));
+        let literals = self.chained(&mut marks, first, links)?;
+        self.marks = marks;
         Ok(literals)
     }
 
@@ -234,7 +259,7 @@ impl Log {
         // Where each literal is of the table, the log stays in order.
         ensures sound { (ns : List Node) (levels : List (List ℕ)) → All (λ k. k.literal.term < length ns) links.now → IsLog ns levels self.old → IsLog ns levels self.new }
     {
-        let literals = self.chained(first, links)?;
+        let literals = self.last_of_chain(first, links)?;
         let level = self.level_of_links(self.level(first), links);
         let level = self.level_with(level, literals.as_slice());
         let links = Vec::from_slice(*self.clauses.allocator(), links)?;

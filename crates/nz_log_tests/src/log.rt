@@ -1,10 +1,10 @@
 //! Each public call of `nz_log` once on its happy path.
-ghost use Rattle.std.specs.Prelude.{◌<◌, length, IfOk};
+ghost use Rattle.std.specs.Prelude.{ℕ, ◌<◌, ◌≤◌, length, IfOk, OnOk};
 ghost use Rattle.nz_log.specs.Lits.{gates_at};
 ghost use Rattle.nz_log.specs.Logs.{IsLive};
 
 use nz_base::{Memory, Text};
-use nz_log::{ClauseId, Lit, Log, Step};
+use nz_log::{ClauseId, Link, Lit, Log, Step, gate_count};
 use nz_term::{Constant, Head, Operator, Sort, TermId, Terms};
 use std::alloc::Global;
 use std::test::Fail;
@@ -12,6 +12,7 @@ use std::test::Fail;
 // A constant of sort `Bool`.
 fn constant(terms: &mut Terms, alloc: Global, name: &[u8]) -> Result<TermId, Memory>
     ensures within { IfOk result (λ id. id < length terms.new) }
+    ensures more { length terms.old ≤ length terms.new }
 {
     let constant = Constant {
         name: Text::from_slice(alloc, name)?,
@@ -63,6 +64,69 @@ fn opposites_are_refuted(rt: HostRuntime) -> Result<(), Fail> {
         Step::Resolve(0, 3, Lit::holds(0)),
     ];
     assert_eq!(rt; steps.as_slice(), wanted.as_slice());
+    Ok(())
+}
+
+// Three constants, their disjunction (3), and that the first two are equal (4).
+fn fill(terms: &mut Terms, alloc: Global) -> Result<(), Memory> {
+    let p = constant(terms, alloc, b"p")?;
+    let q = constant(terms, alloc, b"q")?;
+    let r = constant(terms, alloc, b"r")?;
+    terms.make(Head::Operator(Operator::Or), &[p, q, r])?;
+    terms.make(Head::Operator(Operator::Equal), &[p, q])?;
+    Ok(())
+}
+
+// The clause of this number of a term, where it has one.
+fn gate(log: &mut Log, terms: &Terms, term: TermId, j: usize) -> Result<ClauseId, Memory>
+    ensures live { IfOk result (IsLive log.new) }
+    ensures stay { OnOk result ((i : ℕ) → IsLive log.old i → IsLive log.new i) }
+{
+    if term >= terms.len() || j >= gate_count(terms, term) {
+        return Err(Memory);
+    }
+    log.gate(terms, term, j)
+}
+
+// A chain of two links, and that of the same two and a third.
+fn chains(log: &mut Log, terms: &Terms) -> Result<(ClauseId, ClauseId), Memory>
+    ensures short { IfOk result (λ ids. IsLive log.new ids.0) }
+    ensures long { IfOk result (λ ids. IsLive log.new ids.1) }
+{
+    let some = gate(log, terms, 3, 3)?;
+    let holds = log.given(0, 3, 1)?;
+    let equal = gate(log, terms, 4, 0)?;
+    let are_equal = log.given(1, 4, 2)?;
+    let first = Link {
+        clause: holds,
+        literal: Lit::fails(3),
+    };
+    let second = Link {
+        clause: equal,
+        literal: Lit::holds(0),
+    };
+    let third = Link {
+        clause: are_equal,
+        literal: Lit::fails(4),
+    };
+    let short = log.chain(some, &[first, second])?;
+    let long = log.chain(some, &[first, second, third])?;
+    Ok((short, long))
+}
+
+#[test]
+fn a_chain_is_resolved_link_by_link(rt: HostRuntime) -> Result<(), Fail> {
+    let mut terms = Terms::new(rt.alloc())?;
+    fill(&mut terms, rt.alloc())?;
+    let mut log = Log::new(rt.alloc())?;
+    let (short, long) = chains(&mut log, &terms)?;
+
+    // Of the clauses `not 3, p, q, r`, `3`, `not 4, not p, q` and `4`. What both have stands where it was, and once.
+    let wanted = [Lit::holds(1), Lit::holds(2), Lit::fails(4)];
+    assert_eq!(rt; log.clause(short), wanted.as_slice());
+    assert_eq!(rt; log.level(short), 1);
+    assert_eq!(rt; log.clause(long), &wanted[..2]);
+    assert_eq!(rt; log.level(long), 2);
     Ok(())
 }
 

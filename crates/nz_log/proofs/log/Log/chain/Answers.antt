@@ -1,8 +1,8 @@
 -- The clause is in order over the old log, and the old clauses stay so.
-use Rattle.std.proofs.Common.{◌≡◌, ◌<◌, ◌≤◌, List, length, ap, sym, subst, ◌∙◌, arith, rules}
-use Rattle.std.specs.Prelude.{IfOk}
+use Rattle.std.proofs.Common.{◌≡◌, ℕ, ◌<◌, ◌≤◌, List, length, sym, subst, arith, rules}
+use Rattle.std.specs.Prelude.{IfOk, OnErr}
 use Rattle.nz_log.specs.declared.origins.Link.{Link}
-use Rattle.nz_log.specs.Logs.{chain_entry, chain_of, level_at, level_of_links, IsLive, Puts, RestsOn}
+use Rattle.nz_log.specs.Logs.{LogState, chain_entry, chain_of, level_at, level_of_links, level_with, IsLive, Puts, RestsOn}
 use Rattle.nz_log.proofs.Members.{each_of}
 use Rattle.nz_log.proofs.Ordering.{chain_rests}
 use Rattle.nz_log.proofs.Soundness.{chain_in_order, level_grows, rule_in_order}
@@ -14,7 +14,8 @@ returns-clause-sound c ns levels within order =
     let ks = c.args.links.now in
     let e = chain_entry s c.args.first ks in
     let made : IfOk c.put.result (λ id. Puts s id e c.put.new.self) = search rules in
-    rule_in_order s c.put.new.self e c.put.result made c.put.ensures.unchanged ns levels
+    let unchanged : OnErr c.put.result (c.put.new.self ≡ s) = search rules in
+    rule_in_order s c.put.new.self e c.put.result made unchanged ns levels
     (λ id above. chain_in_order ns levels s order id c.args.first ks above c.requires.first
     (each_of (λ (k : Link). IsLive s k.clause) ks c.requires.live) (each_of (λ (k : Link). k.literal.term < length ns) ks within))
     order
@@ -24,12 +25,14 @@ put-requires c =
     let s = c.args.self.now in
     let ks = c.args.links.now in
     let from = c.level_of_links-level.result in
-    let start : from ≡ level_of_links s (level_at s c.args.first) ks =
-    c.level_of_links-level.ensures.level ∙ ap (λ n. level_of_links s n ks) c.level.ensures.level in
-    let grows = level_grows s from c.as_slice.result.now in
+    let start : from ≡ level_of_links s (level_at s c.args.first) ks = search rules in
     let n = c.level_with-level.result in
-    let below : level_of_links s (level_at s c.args.first) ks ≤ n = omega (arith, start, grows, c.level_with-level.ensures.level) in
+    let ends : n ≡ level_with s from c.as_slice.result.now = search rules in
+    let grows = level_grows s from c.as_slice.result.now in
+    let below : level_of_links s (level_at s c.args.first) ks ≤ n = omega (arith, start, grows, ends) in
+    let P : LogState → Type 0 = λ r. (id : ℕ) → ((i : ℕ) → IsLive r i → i < id) → RestsOn r id n (chain_of c.args.first c.in_ok-links.links.items) in
     record {
-      rests = λ id above. subst (λ (l : List Link). RestsOn s id n (chain_of c.args.first l)) (sym c.in_ok-links.ensures.items)
-          (chain_rests s id c.args.first ks above c.requires.first c.requires.live c.requires.some n below);
+      rests = subst P (sym c.last_of_chain.ensures.unchanged)
+          (λ id above. subst (λ (l : List Link). RestsOn s id n (chain_of c.args.first l)) (sym c.in_ok-links.ensures.items)
+          (chain_rests s id c.args.first ks above c.requires.first c.requires.live c.requires.some n below));
     }

@@ -22,7 +22,7 @@ dropped c =
     subst P c.self.view_is (inside_dropped c)
 
 pub invariant_of-self : goal.invariant_of-self
-invariant_of-self c = drops_ordered _ _ c.args.level (inside_dropped c) c.self.invariant
+invariant_of-self c = (drops_ordered _ _ c.args.level (inside_dropped c) c.self.invariant.0, c.self.invariant.1)
 
 pub returns-clause-drops : goal.returns-clause-drops
 returns-clause-drops c = dropped c

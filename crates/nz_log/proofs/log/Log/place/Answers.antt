@@ -7,7 +7,7 @@ use Rattle.nz_log.proofs.Ordering.{told_ordered}
 use Rattle.nz_log.proofs.log.Log.place.Goals as goal
 
 pub invariant_of-self : goal.invariant_of-self
-invariant_of-self c = told_ordered _ _ _ c.self.invariant
+invariant_of-self c = (told_ordered _ _ _ c.self.invariant.0, c.self.invariant.1)
 
 pub returns-clause-sound : goal.returns-clause-sound
 returns-clause-sound c ns levels order =

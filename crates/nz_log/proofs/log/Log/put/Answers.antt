@@ -14,7 +14,7 @@ invariant_of-self-2 c =
     let P : LogState → Type 0 = λ r. (id : ℕ) → ((i : ℕ) → IsLive r i → i < id) → RestsOn r id c.args.stored.level (origin_of c.args.stored.origin) in
     let rests = subst P (sym c.self.view_is) c.requires.rests in
     rw c.in_ok-push.ensures.items
-    (puts_ordered (log_of c.self.inside.clauses.items c.self.inside.told.items) _ n (entry_of c.args.stored) puts c.self.invariant (rests n puts.above))
+    (puts_ordered (log_of c.self.inside.clauses.items c.self.inside.told.items) _ n (entry_of c.args.stored) puts c.self.invariant.0 (rests n puts.above), c.self.invariant.1)
 
 pub returns-clause-made : goal.returns-clause-made
 returns-clause-made c =

@@ -1,0 +1,96 @@
+//! Marks of literals, by the numbers of their terms.
+ghost use Rattle.std.specs.Prelude.{◌≡◌, ℕ, ◌==◌, not, ◌&&◌, ◌||◌, OnOk};
+ghost use Rattle.nz_log.specs.Lits.{are_same_lit};
+ghost use Rattle.nz_log.specs.Marked.{AreNone, has_mark};
+ghost use Rattle.nz_log.specs.Spelling.{is_marked};
+
+use crate::lits::Lit;
+use nz_base::Memory;
+use std::alloc::Global;
+
+/// Which literals are marked. They grow to the greatest number that was marked.
+#[derive(Debug, Drop)]
+pub struct Marks {
+    // By the numbers of terms, of the literals that they are true.
+    holds: Vec<bool>,
+    // And that they are false.
+    fails: Vec<bool>,
+}
+
+impl Marks {
+    /// None. Takes no memory.
+    pub fn new(alloc: Global) -> Marks
+        ensures none { AreNone result }
+    {
+        Marks {
+            holds: Vec::new(alloc),
+            fails: Vec::new(alloc),
+        }
+    }
+
+    /// Whether a literal is marked.
+    pub fn has(&self, literal: Lit) -> bool
+        ensures has { result ≡ has_mark self.now literal }
+    {
+        if literal.sign {
+            has_at(&self.holds, literal.term)
+        } else {
+            has_at(&self.fails, literal.term)
+        }
+    }
+
+    /// Marks a literal.
+    pub fn mark(&mut self, literal: Lit) -> Result<(), Memory>
+        ensures marked { OnOk result ((l : Lit) → has_mark self.new l ≡ (are_same_lit l literal || has_mark self.old l)) }
+    {
+        if literal.sign {
+            mark_at(&mut self.holds, literal.term)
+        } else {
+            mark_at(&mut self.fails, literal.term)
+        }
+    }
+
+    /// Takes the mark of a literal off.
+    pub fn unmark(&mut self, literal: Lit)
+        ensures unmarked { (l : Lit) → has_mark self.new l ≡ (not (are_same_lit l literal) && has_mark self.old l) }
+    {
+        if literal.sign {
+            unmark_at(&mut self.holds, literal.term);
+        } else {
+            unmark_at(&mut self.fails, literal.term);
+        }
+    }
+}
+
+/// Whether a number is marked.
+fn has_at(marks: &[bool], i: usize) -> bool
+    ensures has { result ≡ is_marked marks.now i }
+{
+    match marks.get(i) {
+        Some(mark) => *mark,
+        None => false,
+    }
+}
+
+/// Marks a number.
+fn mark_at(marks: &mut Vec<bool>, i: usize) -> Result<(), Memory>
+    ensures marked { OnOk result ((k : ℕ) → is_marked marks.new.items k ≡ ((k == i) || is_marked marks.old.items k)) }
+{
+    let Some(count) = i.checked_add(1) else {
+        return Err(Memory);
+    };
+    if marks.len() < count {
+        marks.resize(count, false)?;
+    }
+    marks[i] = true;
+    Ok(())
+}
+
+/// Takes the mark of a number off.
+fn unmark_at(marks: &mut Vec<bool>, i: usize)
+    ensures unmarked { (k : ℕ) → is_marked marks.new.items k ≡ (not (k == i) && is_marked marks.old.items k) }
+{
+    if i < marks.len() {
+        marks[i] = false;
+    }
+}
