@@ -1,11 +1,13 @@
 -- Operations one after another, up to the first that leaves the numbers.
-use Rattle.std.proofs.Common.{◌≡◌, Bool, true, false, IsTrue, pos, List, [], ◌∷◌, Some, None, refl, sym, ap, subst, ◌∙◌, if◌then◌else◌, Result, Ok, Err, ◌++◌}
+use Rattle.std.proofs.Common.{◌≡◌, Bool, true, false, List, [], ◌∷◌, ◌++◌, Some, None, refl, sym, ap, subst, ◌∙◌, if◌then◌else◌}
 use Rattle.nz_frac.specs.Operations.{IsCarriedOut, IsStopped, operation_of}
 use Rattle.nz_frac.specs.declared.frac.Wide.{Wide}
-use Rattle.nz_spec.specs.Fraction.{Fraction, Arithmetic, Quotient, Operation, first_wide, is_wide, outcome, whole}
+use Rattle.nz_spec.specs.Fraction.{Fraction, Arithmetic, Operation, first_wide, is_wide}
 use Rattle.nz_spec.specs.Operations.{head_operations, operation_on, operations_by}
-use Rattle.nz_spec.specs.Term.{Assignment, Head, Value, carried_out, combined, head_value, number, number_of, is_undefined, is_zero, whole_number}
+use Rattle.nz_spec.specs.Term.{Assignment, Head, Value, carried_out, combined, head_value, number, number_of}
 use Rattle.nz_term.specs.declared.assign.Value as own
+use Rattle.nz_term.specs.declared.heads.Operator.{Operator}
+use Rattle.nz_term.specs.Heads.{operator_of}
 use Rattle.nz_term.specs.Values.{value_of}
 use Rattle.nz_truth.specs.Outcomes.{IsOutcomeOf}
 use Rattle.nz_truth.specs.declared.walk.Outcome.{Outcome}
@@ -60,8 +62,8 @@ pub of_head : (h k : Head) (a : Assignment) (vs : List Value) (o : Outcome) → 
     → IsOutcomeOf (head_operations h vs) (head_value a h vs) o
 of_head h k a vs o e is = subst (λ x. IsOutcomeOf (head_operations x vs) (head_value a x vs) o) (sym e) is
 
--- a head that takes no operation comes to its value
-pub plain : (h k : Head) (a : Assignment) (vs : List Value) (v : own.Value) → h ≡ k → head_operations k vs ≡ [] → value_of v ≡ head_value a k vs
-    → IsOutcomeOf (head_operations h vs) (head_value a h vs) (outcome.Value v)
+-- an operator that takes no operation comes to its value
+pub plain : {o k : Operator} (vs : List Value) (v : own.Value) → o ≡ k → head_operations (operator_of k) vs ≡ [] → ((a : Assignment) → value_of v ≡ head_value a (operator_of k) vs)
+    → (a : Assignment) → IsOutcomeOf (head_operations (operator_of o) vs) (head_value a (operator_of o) vs) (outcome.Value v)
 unfolding first_wide
-plain h k a vs v e none is = of_head h k a vs (outcome.Value v) e (ap first_wide none, is)
+plain {o} {k} vs v e none is a = of_head (operator_of o) (operator_of k) a vs (outcome.Value v) (ap operator_of e) (ap first_wide none, is a)
