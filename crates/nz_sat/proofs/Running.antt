@@ -6,6 +6,7 @@ use Rattle.std.proofs.lemmas.List.Elements.{All-contains}
 use Rattle.std.proofs.lemmas.List.Sums.{length-filter, sum_by_push}
 use Rattle.std.proofs.lemmas.Option.{slice_get-get_or}
 use Rattle.nz_spec.specs.Legal.{LegalWorkGoesOn}
+use Rattle.nz_spec.specs.Table.{Node}
 use Rattle.nz_spec.specs.Work.{DecisionEntry, UnitLine, WorkLine, WorkList, is_unit, unit_count}
 use Rattle.nz_log.specs.declared.lits.Lit.{Lit}
 use Rattle.nz_log.specs.declared.note.Note.{Note}
@@ -63,7 +64,7 @@ below_first size es order none =
 -- ---- One decision
 
 -- An atom is decided: the clauses wait for it.
-pub record HasDecided (log : LogState) (held : List Held) (s mid : Search) (work work' : WorkList Note) : Type 0 where
+pub record HasDecided (over : List Node → Type 0) (log : LogState) (held : List Held) (s mid : Search) (work work' : WorkList Note) : Type 0 where
   pub search : IsSearch log held mid
   pub were_open : WereOpen log held mid.trail.entries
   pub waits : AreWaiting log held mid.trail.entries (length s.trail.entries)
@@ -71,14 +72,14 @@ pub record HasDecided (log : LogState) (held : List Held) (s mid : Search) (work
   pub atoms : mid.atoms ≡ s.atoms
   pub assumed_only : (assumed : List Lit) → All (IsAssumed assumed) s.trail.entries → All (IsAssumed assumed) mid.trail.entries
   pub first : KeepsFirst s.trail.entries mid.trail.entries
-  pub advances : Advances s.atoms s.trail.entries log log held held work work'
+  pub advances : Advances over s.atoms s.trail.entries log log held held work work'
   pub units : unit_count work'.lines ≡ unit_count work.lines + 1
 
 -- ---- The run
 
 -- What has come of a search since it began: all that steps keep, each clause is open, and each assumed literal is true.
-pub record Runs (assumed : List Lit) (start s : Search) (log log' : LogState) (held held' : List Held) (work work' : WorkList Note) : Type 0 where
-  pub advances : Advances start.atoms (assumed_entries assumed) log log' held held' work work'
+pub record Runs (over : List Node → Type 0) (assumed : List Lit) (start s : Search) (log log' : LogState) (held held' : List Held) (work work' : WorkList Note) : Type 0 where
+  pub advances : Advances over start.atoms (assumed_entries assumed) log log' held held' work work'
   pub search : IsSearch log' held' s
   pub all_open : AreOpen log' held' s.trail.entries
   pub were_open : WereOpen log' held' s.trail.entries
@@ -88,14 +89,14 @@ pub record Runs (assumed : List Lit) (start s : Search) (log log' : LogState) (h
   pub hold : All (IsTrueOn (below 0 s.trail.entries)) assumed
 
 -- nothing is decided yet
-pub runs_first : (assumed : List Lit) (start s : Search) (log : LogState) (held : List Held) (work : WorkList Note) → IsSearch log held start
-    → IsNoted log held start.atoms [] work → s ≡ record start { trail = s.trail } → AssumesAll log held assumed s None → Runs assumed start s log log held held work work
-runs_first assumed start s log held work h noted rest a =
+pub runs_first : (over : List Node → Type 0) (assumed : List Lit) (start s : Search) (log : LogState) (held : List Held) (work : WorkList Note) → IsSearch log held start
+    → IsNoted log held start.atoms [] work → s ≡ record start { trail = s.trail } → AssumesAll log held assumed s None → Runs over assumed start s log log held held work work
+runs_first over assumed start s log held work h noted rest a =
     let es = s.trail.entries in
     let same : s.atoms ≡ start.atoms = ap (λ (r : Search). r.atoms) rest in
     let none = a.undecided in
     record {
-      advances = none_advances start.atoms (assumed_entries assumed) log held work h.are_held;
+      advances = none_advances over start.atoms (assumed_entries assumed) log held work h.are_held;
       search = a.search;
       all_open = a.all_open refl;
       were_open = λ k less. absurd (omega (arith, less, none));
@@ -105,17 +106,17 @@ runs_first assumed start s log held work h noted rest a =
       hold = subst (λ (xs : List Assigned). All (IsTrueOn xs) assumed) (sym (below_first s.trail.size es a.search.order none)) (a.hold refl);
     }
 
-pub has_decided : LegalWorkGoesOn → {assumed : List Lit} → {start s mid : Search} → {log log' : LogState} → {held held' : List Held} → {work work' : WorkList Note} → (work'' : WorkList Note) → (t : ℕ)
-    → Runs assumed start s log log' held held' work work' → Contains s.atoms t × (assigned s.trail.entries t ≡ None) → mid ≡ record s { trail = mid.trail }
-    → Decides s mid t work' work'' → HasDecided log' held' s mid work' work''
-has_decided goes_on {s = s} {log' = log} {held' = held} {work' = work} work'' t h undecided rest d =
+pub has_decided : LegalWorkGoesOn → {over : List Node → Type 0} → (over' : List Node → Type 0) → {assumed : List Lit} → {start s mid : Search} → {log log' : LogState} → {held held' : List Held} → {work work' : WorkList Note} → (work'' : WorkList Note) → (t : ℕ)
+    → Runs over assumed start s log log' held held' work work' → Contains s.atoms t × (assigned s.trail.entries t ≡ None) → mid ≡ record s { trail = mid.trail }
+    → Decides s mid t work' work'' → HasDecided over' log' held' s mid work' work''
+has_decided goes_on over' {s = s} {log' = log} {held' = held} {work' = work} work'' t h undecided rest d =
     let free = undecided.1 in
     let atom = undecided.0 in
     let trail : TrailState = with_entry s.trail (decided s.trail.entries (record { term = t; sign = d.sign })) in
     let made : Search = record s { trail = trail } in
     let line : WorkLine Note = UnitLine (DecisionEntry (unwrap_or (number_of s.atoms t) 0) d.sign) in
-    subst (λ (r : Search). HasDecided log held s r work work'') (sym (rest ∙ ap (λ (e : TrailState). record s { trail = e }) d.trail))
-    (subst (HasDecided log held s made work) (sym d.noted)
+    subst (λ (r : Search). HasDecided over' log held s r work work'') (sym (rest ∙ ap (λ (e : TrailState). record s { trail = e }) d.trail))
+    (subst (HasDecided over' log held s made work) (sym d.noted)
     (record {
       search = decided_search log held s h.search t d.sign free atom;
       were_open = decided_were log held s h.search t d.sign free atom h.all_open h.were_open;
@@ -124,16 +125,16 @@ has_decided goes_on {s = s} {log' = log} {held' = held} {work' = work} work'' t 
       atoms = refl;
       assumed_only = decided_assumed log held s h.search t d.sign free atom;
       first = decided_first log held s h.search t d.sign free atom;
-      advances = decided_advances log held s h.search t d.sign free atom goes_on work h.noted;
+      advances = decided_advances log held s h.search t d.sign free atom goes_on over' work h.noted;
       units = sum_by_push (λ (x : WorkLine Note). if is_unit x then 1 else 0) work.lines line;
     }))
 
 -- the order of what is decided next has no part in it
-pub runs_ordered : {assumed : List Lit} → {start s new : Search} → {log log' : LogState} → {held held' : List Held} → {work work' : WorkList Note}
-    → Runs assumed start s log log' held held' work work' → new ≡ record s { order = new.order } → Runs assumed start new log log' held held' work work'
-runs_ordered {assumed} {start} {s} {new} {log} {log'} {held} {held'} {work} {work'} h rest =
+pub runs_ordered : {over : List Node → Type 0} → {assumed : List Lit} → {start s new : Search} → {log log' : LogState} → {held held' : List Held} → {work work' : WorkList Note}
+    → Runs over assumed start s log log' held held' work work' → new ≡ record s { order = new.order } → Runs over assumed start new log log' held held' work work'
+runs_ordered {over} {assumed} {start} {s} {new} {log} {log'} {held} {held'} {work} {work'} h rest =
     let q = h.search in
-    subst (λ (r : Search). Runs assumed start r log log' held held' work work') (sym rest)
+    subst (λ (r : Search). Runs over assumed start r log log' held held' work work') (sym rest)
     (record {
       advances = h.advances;
       search = record {
@@ -158,30 +159,47 @@ runs_ordered {assumed} {start} {s} {new} {log} {log'} {held} {held'} {work} {wor
       hold = h.hold;
     })
 
-module _ (assumed : List Lit) (start s : Search) (log log' : LogState) (held held' : List Held) (work work' : WorkList Note) (h : Runs assumed start s log log' held held' work work') where
+module _ (over over' : List Node → Type 0) (keeps : (ns : List Node) → over ns → over' ns) (assumed : List Lit) (start s : Search) (log log' : LogState) (held held' : List Held)
+    (work work' : WorkList Note) (h : Runs over assumed start s log log' held held' work work') where
   -- one step more
-  pub runs_on : (log'' : LogState) (held'' : List Held) (work'' : WorkList Note) → Advances s.atoms s.trail.entries log' log'' held' held'' work' work''
-      → Advances start.atoms (assumed_entries assumed) log log'' held held'' work work''
+  pub runs_on : (log'' : LogState) (held'' : List Held) (work'' : WorkList Note) → Advances over' s.atoms s.trail.entries log' log'' held' held'' work' work''
+      → Advances over start.atoms (assumed_entries assumed) log log'' held held'' work work''
   runs_on log'' held'' work'' step =
-      far_advances start.atoms (assumed_entries assumed) s.trail.entries log log' log'' held held' held'' work work' work''
+      far_advances over over' keeps start.atoms (assumed_entries assumed) s.trail.entries log log' log'' held held' held'' work work' work''
       (λ all only. assumed_wider assumed all only s.trail.entries h.assumed_only) h.advances
-      (subst (λ (us : List ℕ). Advances us s.trail.entries log' log'' held' held'' work' work'') h.same step)
+      (subst (λ (us : List ℕ). Advances over' us s.trail.entries log' log'' held' held'' work' work'') h.same step)
 
-  module _ (mid : Search) (work₁ : WorkList Note) (d : HasDecided log' held' s mid work' work₁) where
+  -- what comes of all that is true so far
+  pub runs_settled : (log'' : LogState) (held'' : List Held) (work'' : WorkList Note) (new : Search)
+      → Advances over' s.atoms s.trail.entries log' log'' held' held'' work' work'' → Settles log'' held'' s new work' work''
+      → Runs over assumed start new log log'' held held'' work work''
+  runs_settled log'' held'' work'' new step st =
+      record {
+        advances = runs_on log'' held'' work'' step;
+        search = st.search;
+        all_open = st.all_open;
+        were_open = st.were_open;
+        noted = st.noted;
+        same = st.carries.atoms ∙ h.same;
+        assumed_only = st.carries.assumed_only assumed h.assumed_only;
+        hold = λ k e inside. st.carries.first (get_or assumed k e) (h.hold k e inside);
+      }
+
+  module _ (mid : Search) (work₁ : WorkList Note) (d : HasDecided over' log' held' s mid work' work₁) where
     -- a decision, and what comes of it
-    pub turn_advances : (log'' : LogState) (held'' : List Held) (work'' : WorkList Note) → Advances mid.atoms mid.trail.entries log' log'' held' held'' work₁ work''
-        → Advances start.atoms (assumed_entries assumed) log log'' held held'' work work''
+    pub turn_advances : (log'' : LogState) (held'' : List Held) (work'' : WorkList Note) → Advances over' mid.atoms mid.trail.entries log' log'' held' held'' work₁ work''
+        → Advances over start.atoms (assumed_entries assumed) log log'' held held'' work work''
     turn_advances log'' held'' work'' step =
-        far_advances start.atoms (assumed_entries assumed) mid.trail.entries log log' log'' held held' held'' work work₁ work''
+        far_advances over over' keeps start.atoms (assumed_entries assumed) mid.trail.entries log log' log'' held held' held'' work work₁ work''
         (λ all only. d.assumed_only all (assumed_wider assumed all only s.trail.entries h.assumed_only)) (runs_on log' held' work₁ d.advances)
-        (subst (λ (us : List ℕ). Advances us mid.trail.entries log' log'' held' held'' work₁ work'') (d.atoms ∙ h.same) step)
+        (subst (λ (us : List ℕ). Advances over' us mid.trail.entries log' log'' held' held'' work₁ work'') (d.atoms ∙ h.same) step)
 
     pub mid_assumed : All (IsAssumed assumed) mid.trail.entries
     mid_assumed = d.assumed_only assumed h.assumed_only
 
     pub runs_turn : (log'' : LogState) (held'' : List Held) (work'' : WorkList Note) (new : Search)
-        → Advances mid.atoms mid.trail.entries log' log'' held' held'' work₁ work'' → Settles log'' held'' mid new work₁ work''
-        → Runs assumed start new log log'' held held'' work work''
+        → Advances over' mid.atoms mid.trail.entries log' log'' held' held'' work₁ work'' → Settles log'' held'' mid new work₁ work''
+        → Runs over assumed start new log log'' held held'' work work''
     runs_turn log'' held'' work'' new step st =
         record {
           advances = turn_advances log'' held'' work'' step;

@@ -5,6 +5,7 @@
 mod analyze;
 mod atoms;
 mod clauses;
+mod consult;
 mod heap;
 mod order;
 mod propagate;
