@@ -194,6 +194,20 @@ pub record Learned (log : LogState) (held : List Held) (s s' : Search) (work wor
   pub unit : unit_count work'.lines ≡ suc (unit_count work.lines)
   pub within : unit_count work'.lines ≤ work'.limit
 
+-- Each clause is open, or there is a conflict, and each was open when a decision was taken, with the work noted.
+pub record Turns (log : LogState) (held : List Held) (s s' : Search) (work work' : WorkList Note) (told : Option ℕ) : Type 0 where
+  pub search : IsSearch log held s'
+  pub were_open : WereOpen log held s'.trail.entries
+  pub told_so : OpenOrConflict log held s'.trail.entries told
+  pub noted : IsNoted log held s'.atoms s'.trail.entries work'
+  pub carries : Carries s s' work work'
+
+-- The same after a clause was learned.
+pub record TurnsOn (log : LogState) (held : List Held) (s s' : Search) (work work' : WorkList Note) (told : Option ℕ) : Type 0 where
+  pub turns : Turns log held s s' work work' told
+  pub more : unit_count work.lines < unit_count work'.lines
+  pub free : unit_count work.lines < work.limit
+
 -- Each clause is open, and was when a decision was taken, with the work noted.
 pub record Settles (log : LogState) (held : List Held) (s s' : Search) (work work' : WorkList Note) : Type 0 where
   pub search : IsSearch log held s'
@@ -201,6 +215,22 @@ pub record Settles (log : LogState) (held : List Held) (s s' : Search) (work wor
   pub were_open : WereOpen log held s'.trail.entries
   pub noted : IsNoted log held s'.atoms s'.trail.entries work'
   pub carries : Carries s s' work work'
+
+-- The same after an atom was decided.
+pub record SettlesOn (log : LogState) (held : List Held) (s s' : Search) (work work' : WorkList Note) : Type 0 where
+  pub settles : Settles log held s s' work work'
+  pub more : unit_count work.lines < unit_count work'.lines
+  pub free : unit_count work.lines < work.limit
+
+-- Each clause is open, and was when a decision was taken, each assumed literal is true, and no other entry is assumed.
+pub record Runs (log : LogState) (held : List Held) (assumed : List Lit) (start s : Search) (work : WorkList Note) : Type 0 where
+  pub search : IsSearch log held s
+  pub all_open : AreOpen log held s.trail.entries
+  pub were_open : WereOpen log held s.trail.entries
+  pub noted : IsNoted log held s.atoms s.trail.entries work
+  pub same : s.atoms ≡ start.atoms
+  pub assumed_only : All (IsAssumed assumed) s.trail.entries
+  pub hold : All (IsTrueOn (below 0 s.trail.entries)) assumed
 
 -- Each clause is open, each assumed literal is true, and each atom is decided.
 pub record Satisfies (log : LogState) (held : List Held) (assumed : List Lit) (atoms : List ℕ) (s : Search) : Type 0 where

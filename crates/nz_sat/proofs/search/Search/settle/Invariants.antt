@@ -1,12 +1,12 @@
 use Rattle.std.proofs.Common.{◌-◌}
 use Rattle.nz_spec.specs.Work.{unit_count}
-use Rattle.nz_sat.proofs.Consulting.{Turns}
+use Rattle.nz_sat.proofs.Consulting.{IsSettling}
 use Rattle.nz_sat.proofs.search.Search.settle.Given as goal
 
 -- the clauses are open and the theory meets the trail, or there is a conflict that is to be learned from
 abbrev pub invariant-loop-conflict : goal.invariant-loop-conflict
 invariant-loop-conflict g l =
-    Turns (g.T.Theory.is_over l.fn.theory) (g.T.Theory.is_over l.theory) (g.T.Theory.has_told l.theory) (g.T.Theory.is_feasible l.theory) l.fn.self l.self l.fn.log l.log
+    IsSettling (g.T.Theory.is_over l.fn.theory) (g.T.Theory.is_over l.theory) (g.T.Theory.has_told l.theory) (g.T.Theory.is_feasible l.theory) l.fn.self l.self l.fn.log l.log
     l.fn.held.items l.held.items l.fn.work l.work l.conflict
 
 abbrev pub decreases-loop-conflict : goal.decreases-loop-conflict
