@@ -120,10 +120,10 @@ pub learned_follows : {log : LogState} → {held : List Held} → {s mid : Searc
     → MayFollow log held mid place
 learned_follows l = record { search = l.search; were_open = l.were_open; waits = l.waits }
 
-pub turns_learned : {log log' : LogState} → {held : List Held} → {s mid new : Search} → {work work₁ work₂ : WorkList Note} → {place : ℕ}
+pub turns_learned : {log log' : LogState} → {held : List Held} → {s mid : Search} → (new : Search) → {work work₁ work₂ : WorkList Note} → {place : ℕ}
     → Learned log held s mid work work₁ place → work₁.limit ≡ work.limit → Grows log log' → AddsUnits work₁ work₂ → new.atoms ≡ mid.atoms
     → {E : Type 0} → (r : Result (Option ℕ) E) → IfOk r (ComesTo log' held mid new) → IfOk r (TurnsOn log' held s new work work₂)
-turns_learned {log} {log'} {held} {s} {mid} {new} {work} {work₁} {work₂} l limit grows units same r c =
+turns_learned {log} {log'} {held} {s} {mid} new {work} {work₁} {work₂} l limit grows units same r c =
     let more = units_more work₁ work₂ units in
     let unit = l.unit in
     let within = l.within in

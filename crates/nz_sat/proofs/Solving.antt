@@ -1,5 +1,5 @@
 -- What a search knows where it begins, and what its end tells its callers.
-use Rattle.std.proofs.Common.{◌≡◌, ℕ, Bool, List, [], ◌∷◌, ◌++◌, map, get_or, Option, Some, None, refl, sym, ap, subst, ◌∙◌, arith, append_assoc, if◌then◌else◌}
+use Rattle.std.proofs.Common.{◌≡◌, ℕ, ◌<◌, Bool, List, [], ◌∷◌, ◌++◌, length, map, get_or, Option, Some, None, refl, sym, ap, subst, ◌∙◌, arith, append_assoc, if◌then◌else◌}
 use Rattle.std.specs.Prelude.{All, Contains, IsSome, option_map, slice_get}
 use Rattle.std.proofs.lemmas.List.{append-nil}
 use Rattle.std.proofs.lemmas.List.Elements.{All-contains, All-map, All-nil, All-same, Contains-get_or}
@@ -21,7 +21,7 @@ use Rattle.nz_sat.specs.declared.trail.Assigned.{Assigned}
 use Rattle.nz_sat.specs.Clauses.{IsAssumed, IsOpen, by_true, by_two}
 use Rattle.nz_sat.specs.Numbers.{noted_atoms, numbered}
 use Rattle.nz_sat.specs.Sats.{IsAsked, IsLegalWork, IsSatisfied, IsTheoryMet, IsTrueClause, IsTrueLit, SatState, truth_of}
-use Rattle.nz_sat.specs.Searching.{IsNoted, Satisfies, StaysLegal, assumed_entries, ids}
+use Rattle.nz_sat.specs.Searching.{IsNoted, Satisfies, StaysInOrder, StaysLegal, assumed_entries, ids}
 use Rattle.nz_sat.specs.Theories.{IsMet}
 use Rattle.nz_sat.specs.Trails.{AreTruthsOn, EachBehind, IsNext, IsTrueOn, assigned, literals_on}
 use Rattle.nz_sat.proofs.Chains.{has_found, lit_is}
@@ -64,12 +64,17 @@ assumed_only : (assumed : List Lit) → All (IsAssumed assumed) (assumed_entries
 assumed_only assumed =
     All-map (IsAssumed assumed) (λ (l : Lit). record { literal = l; level = 0; reason = None }) assumed (λ k d inside none level. Contains-get_or assumed k d inside)
 
--- where the old lines are legal, so are the new ones
-pub stays_legal : (over : List Node → Type 0) (atoms noted : List ℕ) → atoms ≡ noted → (log : LogState) (assumed : List Lit) (old new : WorkList Note)
-    → StaysLegal over atoms log (assumed_entries assumed) old new → (ns : List Node) (levels : List (List ℕ)) (q : Task) → over ns → IsAsked ns levels log noted assumed q
-    → IsLegalWork ns q old → IsLegalWork ns q new
-stays_legal over atoms noted same log assumed old new legal ns levels q known asked =
-    legal ns levels assumed q known (assumed_only assumed) (subst (λ (us : List ℕ). IsAsked ns levels log us assumed q) (sym same) asked)
+-- a theory that was told less knows no more of terms
+module _ (over over' : List Node → Type 0) (keeps : (ns : List Node) → over ns → over' ns) (atoms noted : List ℕ) (same : atoms ≡ noted) (log : LogState) where
+  pub stays_sound : (log' : LogState) → StaysInOrder over' atoms log log' → StaysInOrder over noted log log'
+  stays_sound log' sound ns levels known within order =
+      sound ns levels (keeps ns known) (subst (All (λ (t : ℕ). t < length ns)) (sym same) within) order
+
+  -- where the old lines are legal, so are the new ones
+  pub stays_legal : (assumed : List Lit) (old new : WorkList Note) → StaysLegal over' atoms log (assumed_entries assumed) old new → (ns : List Node) (levels : List (List ℕ))
+      (q : Task) → over ns → IsAsked ns levels log noted assumed q → IsLegalWork ns q old → IsLegalWork ns q new
+  stays_legal assumed old new legal ns levels q known asked =
+      legal ns levels assumed q (keeps ns known) (assumed_only assumed) (subst (λ (us : List ℕ). IsAsked ns levels log us assumed q) (sym same) asked)
 
 -- ---- At the end
 

@@ -131,6 +131,7 @@ impl Search {
         requires undecided { depth self.old.trail.entries ≡ 0 }
         requires size { length self.old.seen.items ≡ self.old.trail.size }
         requires unmarked { AreUnmarked self.old.seen.items }
+        ensures rest { self.new ≡ record self.old { order = self.new.order; seen = self.new.seen } }
         ensures grows { Grows log.old log.new }
         ensures sound { StaysSound self.old.trail.entries log.old log.new }
         ensures live { IfOk result (IsLive log.new) }

@@ -1,14 +1,14 @@
 -- What the run of the search told, over the atoms that are noted.
-use Rattle.std.proofs.Common.{◌≡◌, ℕ, true, false, [], List, ap, sym, subst, ◌∙◌, rules}
+use Rattle.std.proofs.Common.{◌≡◌, ℕ, true, false, [], List, take, ap, sym, subst, ◌∙◌, rules}
 use Rattle.std.specs.Prelude.{All, Contains, is_none}
 use Rattle.nz_log.specs.declared.lits.Lit.{Lit}
 use Rattle.nz_log.specs.Logs.{literals_at}
 use Rattle.nz_sat.specs.declared.clauses.Held.{Held}
 use Rattle.nz_sat.specs.Numbers.{noted_atoms}
-use Rattle.nz_sat.specs.Sats.{SatState}
-use Rattle.nz_sat.specs.Searching.{IsNoted, Satisfies, StaysInOrder}
-use Rattle.nz_sat.specs.Trails.{AreTruthsOn}
-use Rattle.nz_sat.proofs.Solving.{first_noted, satisfied, stays_legal}
+use Rattle.nz_sat.specs.Sats.{IsTheoryMet, SatState}
+use Rattle.nz_sat.specs.Searching.{IsNoted, Satisfies}
+use Rattle.nz_sat.specs.Trails.{AreTruthsOn, literals_on}
+use Rattle.nz_sat.proofs.Solving.{first_noted, satisfied, stays_legal, stays_sound, theory_met}
 use Rattle.nz_sat.proofs.sat.Sat.solve.Goals.{then-is_none+in_ok-self-inside, else-is_none}
 use Rattle.nz_sat.proofs.sat.Sat.solve.Goals as goal
 
@@ -27,22 +27,35 @@ run-requires-clause-noted g c =
     subst (λ (us : List ℕ). IsNoted c.args.log.now held us [] c.args.work.now) (sym c.in_ok-search.ensures.atoms)
     (first_noted c.args.log.now held c.args.work.now c.requires.notes)
 
+pub run-requires-clause-told : goal.run-requires-clause-told
+run-requires-clause-told g c =
+    let told = subst (λ (s : SatState g.row.T.Denot). (ls : List Lit) × g.T.Theory.has_told s.theory ls) (sym c.self.view_is) c.requires.told in
+    c.take_back.ensures.told told.0 told.1
+
 pub returns-in_err-refuted-clause-sound : goal.returns-in_err-refuted-clause-sound
 returns-in_err-refuted-clause-sound g c =
-    subst (λ (us : List ℕ). StaysInOrder (g.T.Theory.is_over c.args.self.now.theory) us c.args.log.now c.run.new.log) c.in_ok-search.ensures.atoms c.run.ensures.advances.sound
+    stays_sound (g.T.Theory.is_over c.args.self.now.theory) (g.T.Theory.is_over c.take_back.new.theory)
+    (λ ns known. c.take_back.ensures.over ns (subst (λ (s : SatState g.row.T.Denot). g.T.Theory.is_over s.theory ns) (sym c.self.view_is) known))
+    c.in_ok-search.search.atoms (noted_atoms c.args.work.now.lines) c.in_ok-search.ensures.atoms c.args.log.now c.run.new.log c.run.ensures.advances.sound
 
 pub returns-in_err-refuted-clause-legal : goal.returns-in_err-refuted-clause-legal
 returns-in_err-refuted-clause-legal g c =
-    stays_legal (g.T.Theory.is_over c.args.self.now.theory) c.in_ok-search.search.atoms (noted_atoms c.args.work.now.lines) c.in_ok-search.ensures.atoms c.args.log.now c.args.assumed.now c.args.work.now c.run.new.work
+    stays_legal (g.T.Theory.is_over c.args.self.now.theory) (g.T.Theory.is_over c.take_back.new.theory)
+    (λ ns known. c.take_back.ensures.over ns (subst (λ (s : SatState g.row.T.Denot). g.T.Theory.is_over s.theory ns) (sym c.self.view_is) known))
+    c.in_ok-search.search.atoms (noted_atoms c.args.work.now.lines) c.in_ok-search.ensures.atoms c.args.log.now c.args.assumed.now c.args.work.now c.run.new.work
     c.run.ensures.advances.legal
 
 pub returns-in_err-self-inside-clause-sound : goal.returns-in_err-self-inside-clause-sound
 returns-in_err-self-inside-clause-sound g c =
-    subst (λ (us : List ℕ). StaysInOrder (g.T.Theory.is_over c.args.self.now.theory) us c.args.log.now c.run.new.log) c.in_ok-search.ensures.atoms c.run.ensures.advances.sound
+    stays_sound (g.T.Theory.is_over c.args.self.now.theory) (g.T.Theory.is_over c.take_back.new.theory)
+    (λ ns known. c.take_back.ensures.over ns (subst (λ (s : SatState g.row.T.Denot). g.T.Theory.is_over s.theory ns) (sym c.self.view_is) known))
+    c.in_ok-search.search.atoms (noted_atoms c.args.work.now.lines) c.in_ok-search.ensures.atoms c.args.log.now c.run.new.log c.run.ensures.advances.sound
 
 pub returns-in_err-self-inside-clause-legal : goal.returns-in_err-self-inside-clause-legal
 returns-in_err-self-inside-clause-legal g c =
-    stays_legal (g.T.Theory.is_over c.args.self.now.theory) c.in_ok-search.search.atoms (noted_atoms c.args.work.now.lines) c.in_ok-search.ensures.atoms c.args.log.now c.args.assumed.now c.args.work.now c.run.new.work
+    stays_legal (g.T.Theory.is_over c.args.self.now.theory) (g.T.Theory.is_over c.take_back.new.theory)
+    (λ ns known. c.take_back.ensures.over ns (subst (λ (s : SatState g.row.T.Denot). g.T.Theory.is_over s.theory ns) (sym c.self.view_is) known))
+    c.in_ok-search.search.atoms (noted_atoms c.args.work.now.lines) c.in_ok-search.ensures.atoms c.args.log.now c.args.assumed.now c.args.work.now c.run.new.work
     c.run.ensures.advances.legal
 
 pub returns-clause-satisfied : goal.returns-clause-satisfied
@@ -64,11 +77,43 @@ returns-clause-satisfied g c none =
           cc
     ]
 
+pub returns-clause-feasible : goal.returns-clause-feasible
+returns-clause-feasible g c none =
+    let s = c.run.new.self in
+    let es = s.trail.entries in
+    let atoms = noted_atoms c.args.work.now.lines in
+    let order = (c.in_ok-refuted.ensures.satisfied none).search.order in
+    let met = c.in_ok-refuted.ensures.met none in
+    let P : SatState g.row.T.Denot → Type 0 = λ t. IsTheoryMet (g.T.Theory.has_told t.theory) (g.T.Theory.is_feasible t.theory) t atoms in
+    elim c.if-is_none.branch [
+      | then-is_none+in_ok-self-inside w ↦
+          subst P (sym w.self-is)
+          (theory_met (g.T.Theory.has_told c.run.new.theory) (g.T.Theory.is_feasible c.run.new.theory) s.trail.size es _ atoms order w.in_ok-self-inside.ensures.truths met)
+      | else-is_none w ↦
+          let told : is_none c.in_ok-refuted.refuted ≡ false = search rules in
+          let clash : true ≡ false = ap is_none (sym none) ∙ told in
+          cc
+    ]
+
+pub returns-clause-told : goal.returns-clause-told
+returns-clause-told g c =
+    let told = c.in_ok-refuted.ensures.told in
+    let P : SatState g.row.T.Denot → Type 0 = λ t. (ls : List Lit) × g.T.Theory.has_told t.theory ls in
+    let there = (literals_on (take told.count c.run.new.self.trail.entries), told.told) in
+    elim c.if-is_none.branch [
+      | then-is_none+in_ok-self-inside w ↦ subst P (sym w.self-is) there
+      | else-is_none w ↦ subst P (sym w.self-is) there
+    ]
+
 pub returns-clause-sound : goal.returns-clause-sound
 returns-clause-sound g c =
-    subst (λ (us : List ℕ). StaysInOrder (g.T.Theory.is_over c.args.self.now.theory) us c.args.log.now c.run.new.log) c.in_ok-search.ensures.atoms c.run.ensures.advances.sound
+    stays_sound (g.T.Theory.is_over c.args.self.now.theory) (g.T.Theory.is_over c.take_back.new.theory)
+    (λ ns known. c.take_back.ensures.over ns (subst (λ (s : SatState g.row.T.Denot). g.T.Theory.is_over s.theory ns) (sym c.self.view_is) known))
+    c.in_ok-search.search.atoms (noted_atoms c.args.work.now.lines) c.in_ok-search.ensures.atoms c.args.log.now c.run.new.log c.run.ensures.advances.sound
 
 pub returns-clause-legal : goal.returns-clause-legal
 returns-clause-legal g c =
-    stays_legal (g.T.Theory.is_over c.args.self.now.theory) c.in_ok-search.search.atoms (noted_atoms c.args.work.now.lines) c.in_ok-search.ensures.atoms c.args.log.now c.args.assumed.now c.args.work.now c.run.new.work
+    stays_legal (g.T.Theory.is_over c.args.self.now.theory) (g.T.Theory.is_over c.take_back.new.theory)
+    (λ ns known. c.take_back.ensures.over ns (subst (λ (s : SatState g.row.T.Denot). g.T.Theory.is_over s.theory ns) (sym c.self.view_is) known))
+    c.in_ok-search.search.atoms (noted_atoms c.args.work.now.lines) c.in_ok-search.ensures.atoms c.args.log.now c.args.assumed.now c.args.work.now c.run.new.work
     c.run.ensures.advances.legal

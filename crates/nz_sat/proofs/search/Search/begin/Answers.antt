@@ -17,7 +17,7 @@ returns-in-Some-clause-advances g c =
     first_refuted (g.T.Theory.is_over c.args.theory.now) c.args.work.now c.assume_all.ensures.rest a c.refute.ensures.grows c.refute.ensures.sound
 
 pub returns-in-Some-clause-told : goal.returns-in-Some-clause-told
-returns-in-Some-clause-told g c = none_told c.assume_all.new.self.trail.entries c.requires.told
+returns-in-Some-clause-told g c = none_told c.refute.new.self.trail.entries c.requires.told
 
 pub settle-requires-clause-search : goal.settle-requires-clause-search
 settle-requires-clause-search g c =

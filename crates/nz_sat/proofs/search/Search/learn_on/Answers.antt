@@ -17,5 +17,5 @@ pub returns-clause-turns : goal.returns-clause-turns
 returns-clause-turns g c =
     let l = c.in_ok-from.ensures.learned in
     let may = learned_follows l in
-    turns_learned l c.learn.ensures.advances.limit (c.conflict.ensures.advances c.learn.new.held.items may).grows c.conflict.ensures.units
+    turns_learned c.conflict.new.self l c.learn.ensures.advances.limit (c.conflict.ensures.advances c.learn.new.held.items may).grows c.conflict.ensures.units
     (ap (λ (r : Search). r.atoms) c.conflict.ensures.rest) c.conflict.result (c.conflict.ensures.comes c.learn.new.held.items may)

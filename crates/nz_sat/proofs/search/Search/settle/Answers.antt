@@ -1,7 +1,8 @@
 -- One conflict more is learned from.
-use Rattle.std.proofs.Common.{◌≡◌, ℕ, ◌<◌, None, ap, arith, rules}
+use Rattle.std.proofs.Common.{◌≡◌, None, ap, sym, subst, arith, rules}
 use Rattle.nz_sat.specs.declared.search.Search.{Search}
 use Rattle.nz_sat.specs.Searching.{MayFollow}
+use Rattle.nz_sat.specs.Theories.{IsTold}
 use Rattle.nz_sat.proofs.Consulting.{advances_on, back_dead, back_refuted, conflict_of, goes_back, settles_first, settles_on, settles_open}
 use Rattle.nz_sat.proofs.Keeping.{search_usable}
 use Rattle.nz_sat.proofs.search.Search.settle.Goals as goal
@@ -50,7 +51,8 @@ returns-then-level-eq0-clause-advances g c =
     c.refute.ensures.grows c.refute.ensures.sound
 
 pub returns-then-level-eq0-clause-told : goal.returns-then-level-eq0-clause-told
-returns-then-level-eq0-clause-told g c = c.back_to.ensures.told c.loop-conflict.invariant.told
+returns-then-level-eq0-clause-told g c =
+    subst (λ (s : Search). IsTold (g.T.Theory.has_told c.back_to.new.theory) s.trail.entries) (sym c.refute.ensures.rest) (c.back_to.ensures.told c.loop-conflict.invariant.told)
 
 pub returns-then-level-eq0-clause-refuted : goal.returns-then-level-eq0-clause-refuted
 returns-then-level-eq0-clause-refuted g c =
