@@ -234,7 +234,6 @@ fn chain_to_assumed(
     requires implied { EachBehind (IsImplied log.now) trail.now.entries }
     requires undecided { depth trail.now.entries ≡ 0 }
     requires size { length seen.old ≡ trail.now.size }
-    requires unmarked { AreUnmarked seen.old }
     ensures links { IfOk result (λ v. AreLinks log.now trail.now.entries v.items) }
     ensures refutes { IfOk result (λ v. RefutesFrom trail.now.entries (literals_at log.now dead) (chained log.now (literals_at log.now dead) v.items)) }
 {
@@ -270,7 +269,6 @@ pub fn refutation(
     requires implied { EachBehind (IsImplied log.old) trail.now.entries }
     requires undecided { depth trail.now.entries ≡ 0 }
     requires size { length seen.old ≡ trail.now.size }
-    requires unmarked { AreUnmarked seen.old }
     ensures grows { Grows log.old log.new }
     ensures sound { StaysSound trail.now.entries log.old log.new }
     ensures live { IfOk result (IsLive log.new) }

@@ -12,6 +12,7 @@ mod propagate;
 mod sat;
 mod search;
 mod trail;
+mod turns;
 
 pub use clauses::Held;
 pub use sat::Sat;

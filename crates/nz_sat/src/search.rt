@@ -1,5 +1,5 @@
 //! The search: decisions, what follows from them, and what each conflict teaches.
-ghost use Rattle.std.specs.Prelude.{◌≡◌, ℕ, suc, ◌<◌, ◌≤◌, ◌++◌, ◌∷◌, [], All, Contains, List, None, Some, length, map, IfErr, IfOk, IfSome, IsSome, OnErr, OnOk, MatchOption};
+ghost use Rattle.std.specs.Prelude.{◌≡◌, ℕ, ◌<◌, ◌≤◌, ◌++◌, ◌∷◌, [], All, Contains, List, None, Some, length, map, IfErr, IfOk, IfSome, IsSome, OnErr, OnOk};
 ghost use Rattle.nz_spec.specs.Table.{Node};
 ghost use Rattle.nz_spec.specs.Work.{IsSpent, UnitLine, unit_count, with_line};
 ghost use Rattle.nz_base.specs.Entries.{entry_of};
@@ -8,14 +8,14 @@ ghost use Rattle.nz_log.specs.declared.stop.Stop.TheVariants as stop;
 ghost use Rattle.nz_log.specs.Lits.{AreConsistent};
 ghost use Rattle.nz_log.specs.Logs.{IsLive, literals_at};
 ghost use Rattle.nz_sat.specs.declared.clauses.Held.{Held};
-ghost use Rattle.nz_sat.specs.Clauses.{Adds, AreUsable, IsAssumed, IsDead, IsImplied, IsWithin};
+ghost use Rattle.nz_sat.specs.Clauses.{Adds, AreUsable, IsImplied, IsWithin};
 ghost use Rattle.nz_log.specs.Theories.{AddsUnits, Grows};
-ghost use Rattle.nz_sat.specs.Conflicts.{AreUnmarked, GoesBackTo, HasLast, RefutesFrom, Refutes, StaysSound};
-ghost use Rattle.nz_sat.specs.Numbers.{noted_atoms, number_of, numbered};
-ghost use Rattle.nz_sat.specs.Sats.{AreAtoms, AreHeld, HoldsMore, held_of};
-ghost use Rattle.nz_sat.specs.Searching.{Advances, AreOpen, AreWaiting, Assumes, AssumesAll, ComesTo, Follows, MayAssume, MayFollow, Starts, Decides, IsConflict, IsNoted, IsSearch, Learned, Runs, Satisfies, Settles, SettlesOn, TurnsOn, WasNoted, WereOpen, after_lesson, assumed_entries, ids, learned_line};
+ghost use Rattle.nz_sat.specs.Conflicts.{GoesBackTo, HasLast, RefutesFrom, StaysSound};
+ghost use Rattle.nz_sat.specs.Numbers.{noted_atoms, numbered};
+ghost use Rattle.nz_sat.specs.Sats.{AreHeld, HoldsMore, held_of};
+ghost use Rattle.nz_sat.specs.Searching.{Advances, Assumes, AssumesAll, ComesTo, Follows, MayAssume, MayFollow, Starts, Decides, IsConflict, IsSearch, Learned, WasNoted, WereOpen, after_lesson, learned_line};
 ghost use Rattle.nz_sat.specs.Theories.{IsMet, IsTold};
-ghost use Rattle.nz_sat.specs.Trails.{EachBehind, GoesOn, IsFrontOf, IsTrail, IsTrueOn, assigned, below, depth};
+ghost use Rattle.nz_sat.specs.Trails.{EachBehind, GoesOn, IsFrontOf, IsTrail, assigned, below, depth};
 
 use crate::analyze::{Lesson, greatest_level, lesson_of, refutation};
 use crate::atoms::Atoms;
@@ -103,7 +103,7 @@ impl Search {
 
     /// Puts what the clauses alone make true on the trail, and then each assumed literal with what the clauses make true. Answers a
     /// clause in which each literal is false or the negation of an assumed one.
-    fn assume_all(&mut self, log: &Log, held: &[Held], assumed: &[Lit]) -> Option<ClauseId>
+    pub(crate) fn assume_all(&mut self, log: &Log, held: &[Held], assumed: &[Lit]) -> Option<ClauseId>
         requires search { IsSearch log.now held.now self.old }
         requires none { self.old.trail.entries ≡ [] }
         requires named { All (λ l. Contains self.old.atoms l.term) assumed.now }
@@ -125,12 +125,11 @@ impl Search {
     }
 
     /// The clause of the log that refutes the assumed literals, from a dead one under no decision.
-    fn refute(&mut self, alloc: Global, log: &mut Log, dead: ClauseId) -> Result<ClauseId, Memory>
+    pub(crate) fn refute(&mut self, alloc: Global, log: &mut Log, dead: ClauseId) -> Result<ClauseId, Memory>
         requires live { IsLive log.old dead }
         requires implied { EachBehind (IsImplied log.old) self.old.trail.entries }
         requires undecided { depth self.old.trail.entries ≡ 0 }
         requires size { length self.old.seen.items ≡ self.old.trail.size }
-        requires unmarked { AreUnmarked self.old.seen.items }
         ensures rest { self.new ≡ record self.old { order = self.new.order; seen = self.new.seen } }
         ensures grows { Grows log.old log.new }
         ensures sound { StaysSound self.old.trail.entries log.old log.new }
@@ -173,7 +172,7 @@ impl Search {
     }
 
     /// Goes back to the last level of which a clause has a literal.
-    fn back_to<T: Theory>(&mut self, log: &Log, theory: &mut T, clause: ClauseId)
+    pub(crate) fn back_to<T: Theory>(&mut self, log: &Log, theory: &mut T, clause: ClauseId)
         requires live { IsLive log.now clause }
         ensures rest { self.new ≡ record self.old { trail = self.new.trail; order = self.new.order } }
         ensures size { self.new.trail.size ≡ self.old.trail.size }
@@ -198,7 +197,7 @@ impl Search {
 
     /// Makes true what the clauses make true by the literals from a place of the trail on, and has the theory check that. Answers a clause in
     /// which each literal is false.
-    fn conflict<T: Theory>(
+    pub(crate) fn conflict<T: Theory>(
         &mut self,
         log: &mut Log,
         theory: &mut T,
@@ -287,7 +286,7 @@ impl Search {
 
     /// Learns from a clause in which each literal is false, one of them of the last level: notes the clause learned, adds it, and goes back to
     /// where it makes a literal true. Answers the place of that literal.
-    fn learn<T: Theory>(
+    pub(crate) fn learn<T: Theory>(
         &mut self,
         log: &mut Log,
         held: &mut Vec<Held>,
@@ -324,71 +323,8 @@ impl Search {
         Ok(self.go_back(theory, lesson))
     }
 
-    /// Learns from a clause in which each literal is false, one of them of the last level, makes true what the clauses make true with that, and
-    /// has the theory check it. Answers a clause in which each literal is false.
-    fn learn_on<T: Theory>(
-        &mut self,
-        log: &mut Log,
-        held: &mut Vec<Held>,
-        theory: &mut T,
-        work: &mut Work<Note>,
-        dead: ClauseId,
-    ) -> Result<Option<ClauseId>, Stop>
-        requires search { IsSearch log.old held.old.items self.old }
-        requires all_open { WereOpen log.old held.old.items self.old.trail.entries }
-        requires conflict { IsConflict log.old held.old.items self.old.trail.entries dead }
-        requires last { HasLast self.old.trail.entries (literals_at log.old dead) }
-        requires decided { 0 < depth self.old.trail.entries }
-        requires noted { WasNoted log.old held.old.items self.old.atoms self.old.trail.entries work.old }
-        requires told { IsTold (T.has_told theory.old) self.old.trail.entries }
-        ensures advances { Advances (T.is_over theory.old) self.old.atoms self.old.trail.entries log.old log.new held.old.items held.new.items work.old work.new }
-        ensures turns { IfOk result (TurnsOn log.new held.new.items self.old self.new work.old work.new) }
-        ensures told { OnOk result (IsTold (T.has_told theory.new) self.new.trail.entries) }
-        ensures met { IfOk result (λ r. r ≡ None → IsMet (T.has_told theory.new) (T.is_feasible theory.new) self.new.trail.entries) }
-        ensures over { (ns : List Node) → T.is_over theory.old ns → T.is_over theory.new ns }
-        ensures spent { IfErr result (λ e. e ≡ stop.Spent → IsSpent work.new) }
-    {
-        let from = self.learn(log, held, theory, work, dead)?;
-        self.conflict(log, theory, work, from)
-    }
-
-    /// Makes true what the clauses make true by the literals from a place of the trail on, has the theory check that, and learns from each
-    /// conflict. Answers the clause that refutes the assumed literals, if one does.
-    fn settle<T: Theory>(
-        &mut self,
-        log: &mut Log,
-        held: &mut Vec<Held>,
-        theory: &mut T,
-        work: &mut Work<Note>,
-        from: usize,
-    ) -> Result<Option<ClauseId>, Stop>
-        requires search { IsSearch log.old held.old.items self.old }
-        requires all_open { WereOpen log.old held.old.items self.old.trail.entries }
-        requires from { from ≤ length self.old.trail.entries }
-        requires waits { AreWaiting log.old held.old.items self.old.trail.entries from }
-        requires noted { IsNoted log.old held.old.items self.old.atoms self.old.trail.entries work.old }
-        requires told { IsTold (T.has_told theory.old) self.old.trail.entries }
-        ensures advances { Advances (T.is_over theory.old) self.old.atoms self.old.trail.entries log.old log.new held.old.items held.new.items work.old work.new }
-        ensures settled { IfOk result (λ r. r ≡ None → Settles log.new held.new.items self.old self.new work.old work.new) }
-        ensures met { IfOk result (λ r. r ≡ None → IsMet (T.has_told theory.new) (T.is_feasible theory.new) self.new.trail.entries) }
-        ensures told { OnOk result (IsTold (T.has_told theory.new) self.new.trail.entries) }
-        ensures over { (ns : List Node) → T.is_over theory.old ns → T.is_over theory.new ns }
-        ensures refuted { IfOk result (λ r. IfSome r (λ id. IsLive log.new id × ((assumed : List Lit) → All (IsAssumed assumed) self.old.trail.entries → Refutes assumed (literals_at log.new id)))) }
-        ensures spent { IfErr result (λ e. e ≡ stop.Spent → IsSpent work.new) }
-    {
-        let mut conflict = self.conflict(log, theory, work, from)?;
-        while let Some(dead) = conflict {
-            self.back_to(log, theory, dead);
-            if self.trail.level() == 0 {
-                return Ok(Some(self.refute(*held.allocator(), log, dead)?));
-            }
-            conflict = self.learn_on(log, held, theory, work, dead)?;
-        }
-        Ok(None)
-    }
-
     /// The undecided atom that took most part in conflicts.
-    fn next(&mut self) -> Option<TermId>
+    pub(crate) fn next(&mut self) -> Option<TermId>
         ensures rest { self.new ≡ record self.old { order = self.new.order } }
         ensures undecided { IfSome result (λ t. Contains self.new.atoms t × (assigned self.new.trail.entries t ≡ None)) }
         ensures none { result ≡ None → All (λ t. IsSome (assigned self.new.trail.entries t)) self.new.atoms }
@@ -397,7 +333,7 @@ impl Search {
     }
 
     /// Decides an atom, with the sign that it had last. Answers the place of its literal on the trail.
-    fn decide(&mut self, work: &mut Work<Note>, term: TermId) -> Result<usize, Stop>
+    pub(crate) fn decide(&mut self, work: &mut Work<Note>, term: TermId) -> Result<usize, Stop>
         requires free { assigned self.old.trail.entries term ≡ None }
         requires named { Contains self.old.atoms term }
         requires within { term < self.old.trail.size }
@@ -416,100 +352,6 @@ impl Search {
         let place = self.trail.len();
         self.trail.decide(Lit { term, sign });
         Ok(place)
-    }
-
-    /// Decides an atom, and learns from the conflicts of that. Answers the clause that refutes the assumed literals, if one does.
-    fn turn<T: Theory>(
-        &mut self,
-        log: &mut Log,
-        held: &mut Vec<Held>,
-        theory: &mut T,
-        work: &mut Work<Note>,
-        term: TermId,
-    ) -> Result<Option<ClauseId>, Stop>
-        requires search { IsSearch log.old held.old.items self.old }
-        requires all_open { AreOpen log.old held.old.items self.old.trail.entries }
-        requires were_open { WereOpen log.old held.old.items self.old.trail.entries }
-        requires noted { IsNoted log.old held.old.items self.old.atoms self.old.trail.entries work.old }
-        requires told { IsTold (T.has_told theory.old) self.old.trail.entries }
-        requires free { assigned self.old.trail.entries term ≡ None }
-        requires named { Contains self.old.atoms term }
-        ensures advances { Advances (T.is_over theory.old) self.old.atoms self.old.trail.entries log.old log.new held.old.items held.new.items work.old work.new }
-        ensures settled { IfOk result (λ r. r ≡ None → SettlesOn log.new held.new.items self.old self.new work.old work.new) }
-        ensures met { IfOk result (λ r. r ≡ None → IsMet (T.has_told theory.new) (T.is_feasible theory.new) self.new.trail.entries) }
-        ensures told { OnOk result (IsTold (T.has_told theory.new) self.new.trail.entries) }
-        ensures over { (ns : List Node) → T.is_over theory.old ns → T.is_over theory.new ns }
-        ensures refuted { IfOk result (λ r. IfSome r (λ id. IsLive log.new id × ((assumed : List Lit) → All (IsAssumed assumed) self.old.trail.entries → Refutes assumed (literals_at log.new id)))) }
-        ensures spent { IfErr result (λ e. e ≡ stop.Spent → IsSpent work.new) }
-    {
-        legal_work_goes_on();
-        let from = self.decide(work, term)?;
-        self.settle(log, held, theory, work, from)
-    }
-
-    /// Puts the assumed literals on the trail, and learns from the conflicts of that. Answers the clause that refutes them, if one does.
-    fn begin<T: Theory>(
-        &mut self,
-        log: &mut Log,
-        held: &mut Vec<Held>,
-        theory: &mut T,
-        assumed: &[Lit],
-        work: &mut Work<Note>,
-    ) -> Result<Option<ClauseId>, Stop>
-        requires search { IsSearch log.old held.old.items self.old }
-        requires none { self.old.trail.entries ≡ [] }
-        requires named { All (λ l. Contains self.old.atoms l.term) assumed.now }
-        requires consistent { AreConsistent assumed.now }
-        requires noted { IsNoted log.old held.old.items self.old.atoms [] work.old }
-        requires told { T.has_told theory.old [] }
-        ensures advances { Advances (T.is_over theory.old) self.old.atoms (assumed_entries assumed.now) log.old log.new held.old.items held.new.items work.old work.new }
-        ensures runs { IfOk result (λ r. r ≡ None → Runs log.new held.new.items assumed.now self.old self.new work.new) }
-        ensures met { IfOk result (λ r. r ≡ None → IsMet (T.has_told theory.new) (T.is_feasible theory.new) self.new.trail.entries) }
-        ensures told { OnOk result (IsTold (T.has_told theory.new) self.new.trail.entries) }
-        ensures over { (ns : List Node) → T.is_over theory.old ns → T.is_over theory.new ns }
-        ensures refuted { IfOk result (λ r. IfSome r (λ id. IsLive log.new id × Refutes assumed.now (literals_at log.new id))) }
-        ensures spent { IfErr result (λ e. e ≡ stop.Spent → IsSpent work.new) }
-    {
-        if let Some(dead) = self.assume_all(log, held, assumed) {
-            return Ok(Some(self.refute(*held.allocator(), log, dead)?));
-        }
-        let from = self.trail.len();
-        self.settle(log, held, theory, work, from)
-    }
-
-    /// Searches for truths of the atoms under which each clause has a true literal, and each assumed one is true. Answers the clause
-    /// that refutes the assumed literals, if one does.
-    pub fn run<T: Theory>(
-        &mut self,
-        log: &mut Log,
-        held: &mut Vec<Held>,
-        theory: &mut T,
-        assumed: &[Lit],
-        work: &mut Work<Note>,
-    ) -> Result<Option<ClauseId>, Stop>
-        requires search { IsSearch log.old held.old.items self.old }
-        requires none { self.old.trail.entries ≡ [] }
-        requires named { All (λ l. Contains self.old.atoms l.term) assumed.now }
-        requires consistent { AreConsistent assumed.now }
-        requires noted { IsNoted log.old held.old.items self.old.atoms [] work.old }
-        requires told { T.has_told theory.old [] }
-        ensures advances { Advances (T.is_over theory.old) self.old.atoms (assumed_entries assumed.now) log.old log.new held.old.items held.new.items work.old work.new }
-        ensures satisfied { IfOk result (λ r. r ≡ None → Satisfies log.new held.new.items assumed.now self.old.atoms self.new) }
-        ensures met { IfOk result (λ r. r ≡ None → IsMet (T.has_told theory.new) (T.is_feasible theory.new) self.new.trail.entries) }
-        ensures told { OnOk result (IsTold (T.has_told theory.new) self.new.trail.entries) }
-        ensures over { (ns : List Node) → T.is_over theory.old ns → T.is_over theory.new ns }
-        ensures refuted { IfOk result (λ r. IfSome r (λ id. IsLive log.new id × Refutes assumed.now (literals_at log.new id))) }
-        ensures spent { IfErr result (λ e. e ≡ stop.Spent → IsSpent work.new) }
-    {
-        if let Some(refuted) = self.begin(log, held, theory, assumed, work)? {
-            return Ok(Some(refuted));
-        }
-        while let Some(term) = self.next() {
-            if let Some(found) = self.turn(log, held, theory, work, term)? {
-                return Ok(Some(found));
-            }
-        }
-        Ok(None)
     }
 }
 

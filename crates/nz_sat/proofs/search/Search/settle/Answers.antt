@@ -36,10 +36,6 @@ pub refute-requires-clause-size : goal.refute-requires-clause-size
 refute-requires-clause-size g c =
     (goes_back c.loop-conflict.invariant c.in-Some.is c.back_to.ensures.rest c.back_to.ensures.size c.back_to.ensures.back c.back_to.ensures.over).search.marks
 
-pub refute-requires-clause-unmarked : goal.refute-requires-clause-unmarked
-refute-requires-clause-unmarked g c =
-    (goes_back c.loop-conflict.invariant c.in-Some.is c.back_to.ensures.rest c.back_to.ensures.size c.back_to.ensures.back c.back_to.ensures.over).search.unmarked
-
 pub returns-in_err-refute-clause-advances : goal.returns-in_err-refute-clause-advances
 returns-in_err-refute-clause-advances g c =
     back_refuted (goes_back c.loop-conflict.invariant c.in-Some.is c.back_to.ensures.rest c.back_to.ensures.size c.back_to.ensures.back c.back_to.ensures.over)
