@@ -11,7 +11,8 @@ use Rattle.nz_log.specs.Lits.{yes, are_same_lit}
 use Rattle.nz_log.specs.Logs.{LogState, Entry, empty_log, entry_at, IsLive, literals_at, level_at, Puts, gate_entry, given_entry}
 use Rattle.nz_log.specs.Sound.{IsLog}
 use Rattle.nz_sat.specs.declared.clauses.Held.{Held}
-use Rattle.nz_sat.specs.Conflicts.{Grows}
+use Rattle.nz_log.specs.Theories.{Grows}
+use Rattle.nz_log.specs.declared.theory.NoNumbers.{NoNumbers}
 use Rattle.nz_sat.specs.Sats.{AreHeld, HoldsMore, IsSatisfied, IsTrueClause, SatState, held_of}
 use Rattle.nz_engine.specs.Clausal.{ClausesState, no_clauses, HasClause, HoldsAlso, IsAtomic, NamesAtoms, AreIn, Satisfies, kids_at, unit_of}
 use Rattle.nz_engine.proofs.GateNames.{gate_named, once_from}
@@ -138,7 +139,7 @@ one_unit a b c ts k below h next =
 
 -- ---- What a search satisfies
 
-pub satisfied_before : (old : ClausesState) (log : LogState) (s : SatState) (assumed : List Lit) (atoms : List ℕ) → Grows old.log log → HoldsMore log old.sat.clauses s.clauses
+pub satisfied_before : (old : ClausesState) (log : LogState) (s : SatState NoNumbers) (assumed : List Lit) (atoms : List ℕ) → Grows old.log log → HoldsMore log old.sat.clauses s.clauses
     → IsSatisfied log s assumed atoms → Satisfies s old assumed atoms
 satisfied_before old log s assumed atoms grows holds found =
     record {
@@ -153,7 +154,7 @@ satisfied_before old log s assumed atoms grows holds found =
       atoms_decided = found.atoms_decided;
     }
 
-pub satisfied_by : {E : Type 0} (old : ClausesState) (log : LogState) (s : SatState) (assumed : List Lit) (atoms : List ℕ) (r : Result (Option ℕ) E) → Grows old.log log
+pub satisfied_by : {E : Type 0} (old : ClausesState) (log : LogState) (s : SatState NoNumbers) (assumed : List Lit) (atoms : List ℕ) (r : Result (Option ℕ) E) → Grows old.log log
     → HoldsMore log old.sat.clauses s.clauses → IfOk r (λ o. o ≡ None → IsSatisfied log s assumed atoms) → IfOk r (λ o. o ≡ None → Satisfies s old assumed atoms)
 satisfied_by old log s assumed atoms (Ok o) grows holds h = λ none. satisfied_before old log s assumed atoms grows holds (h none)
 satisfied_by old log s assumed atoms (Err e) grows holds h = tt

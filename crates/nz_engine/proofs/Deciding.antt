@@ -15,6 +15,7 @@ use Rattle.nz_spec.specs.Literal.{are_same_sign, AreTrueLiterals}
 use Rattle.nz_log.specs.declared.lits.Lit.{Lit}
 use Rattle.nz_log.specs.Lits.{literal_of, clause_in, gates_at}
 use Rattle.nz_log.specs.Sound.{AreWithin, GatesAreNamed}
+use Rattle.nz_log.specs.declared.theory.NoNumbers.{NoNumbers}
 use Rattle.nz_sat.specs.Sats.{SatState, IsTrueClause, IsTrueLit, truth_of}
 use Rattle.nz_engine.specs.Clausal.{IsAtomic, kids_at, unit_of}
 use Rattle.nz_engine.specs.Posed.{IsFound, terms_named, value_at}
@@ -84,18 +85,18 @@ module _ (ns : List Node) (truths : ℕ → Option Bool) (a : Assignment) where
 -- ---- Clauses and constants of an atom
 
 -- a clause that is true by numbers is so by terms
-row_true : (ns : List Node) (s : SatState) (row : List Lit) → AreWithin ns row → IsTrueClause s row → HasTrueLiteral (IsTruthAt ns (truth_of s)) (clause_in ns row)
+row_true : (ns : List Node) (s : SatState NoNumbers) (row : List Lit) → AreWithin ns row → IsTrueClause s row → HasTrueLiteral (IsTruthAt ns (truth_of s)) (clause_in ns row)
 row_true ns s row within true_one =
     let l : Lit = true_one.0 in
     let below : l.term < length ns = All-contains (λ (m : Lit). m.term < length ns) row l (All-from_recursion (λ (m : Lit). m.term < length ns) row within) true_one.1 in
     (term_in ns l.term, l.sign, contains_map (literal_of ns) row l true_one.1, (l.term, below, refl, true_one.2))
 
-rows_true : (ns : List Node) (s : SatState) (rows : List (List Lit)) → AllByRecursion (AreWithin ns) rows → AllByRecursion (IsTrueClause s) rows
+rows_true : (ns : List Node) (s : SatState NoNumbers) (rows : List (List Lit)) → AllByRecursion (AreWithin ns) rows → AllByRecursion (IsTrueClause s) rows
     → AllByRecursion (HasTrueLiteral (IsTruthAt ns (truth_of s))) (map (clause_in ns) rows)
 rows_true ns s [] within h = tt
 rows_true ns s (row ∷ rows) within h = (row_true ns s row within.0 h.0, rows_true ns s rows within.1 h.1)
 
-unit_true : (s : SatState) (t : ℕ) → IsTrueClause s (unit_of t) → truth_of s t ≡ Some true
+unit_true : (s : SatState NoNumbers) (t : ℕ) → IsTrueClause s (unit_of t) → truth_of s t ≡ Some true
 unit_true s t h =
     let P = λ (l : Lit). IsTrueLit s l → truth_of s t ≡ Some true in
     All-contains P (unit_of t) h.0 (All-from_recursion P (unit_of t) ((λ e. e), tt)) h.1 h.2
@@ -115,7 +116,7 @@ signs_true ns a [] h = tt
 signs_true ns a (l ∷ ls) h = (ap (λ v. are_same_sign l.sign (is_true v)) h.0 ∙ itself l.sign, signs_true ns a ls h.1)
 
 module _ (law : NumberedGatesDecide) (named : GatesAreNamed) (one_number : OneNumber) (of_node : TermOfNode) (assigns : AssignsByNumber)
-    (ns : List Node) (table : IsTable ns) (asserted : List ℕ) (assumed : List Lit) (atoms : List ℕ) (s : SatState) (found : IsFound ns asserted assumed atoms s)
+    (ns : List Node) (table : IsTable ns) (asserted : List ℕ) (assumed : List Lit) (atoms : List ℕ) (s : SatState NoNumbers) (found : IsFound ns asserted assumed atoms s)
     (ps : List (ℕ × Value)) (listed : ps ≡ flat_map (value_at ns s) atoms) where
   abbrev values : Assignment
   values = assignment_by ns ps

@@ -10,6 +10,7 @@ use Rattle.nz_spec.specs.Term.{Sort, bool_sort, int_sort, real_sort, is_bool, ar
 use Rattle.nz_spec.specs.Table.{Node, is_node_of, listed_value, assignment_by}
 use Rattle.nz_spec.specs.Decide.{IsValueOf}
 use Rattle.nz_spec.specs.Model.{IsAssignment}
+use Rattle.nz_log.specs.declared.theory.NoNumbers.{NoNumbers}
 use Rattle.nz_sat.specs.Sats.{SatState, truth_of}
 use Rattle.nz_engine.specs.Posed.{value_as, value_at}
 
@@ -63,7 +64,7 @@ module _ (ns : List Node) (t : ℕ) where
   by_node None o at = tt
   by_node (Some n) o at = by_head n.head n.kids o at
 
-pub constant_values : (ns : List Node) (s : SatState) (ts : List ℕ) → AreConstantValues ns (flat_map (value_at ns s) ts)
+pub constant_values : (ns : List Node) (s : SatState NoNumbers) (ts : List ℕ) → AreConstantValues ns (flat_map (value_at ns s) ts)
 constant_values ns s [] = tt
 constant_values ns s (t ∷ ts) =
     AllByRecursion-append (IsValueOf ns) (value_at ns s t) (flat_map (value_at ns s) ts) (by_node ns t (slice_get ns t) (truth_of s t) refl) (constant_values ns s ts)
@@ -78,7 +79,7 @@ skipped : (t u : ℕ) (h : Option Head) (o : Option Bool) (ps : List (ℕ × Val
 skipped t u (Some (constant c)) (Some b) ps e = skip_test t u (truth b) ps (is_bool c.sort) e
 skipped t u h o ps e = refl
 
-listed_at : (ns : List Node) (s : SatState) (t : ℕ) (b : Bool) → value_at ns s t ≡ (t, truth b) ∷ [] → (ts : List ℕ) → Contains ts t
+listed_at : (ns : List Node) (s : SatState NoNumbers) (t : ℕ) (b : Bool) → value_at ns s t ≡ (t, truth b) ∷ [] → (ts : List ℕ) → Contains ts t
     → listed_value (flat_map (value_at ns s) ts) t ≡ Some (truth b)
 listed_at ns s t b own [] has = let below : has.0 < 0 = has.1 in absurd (omega (arith, below))
 listed_at ns s t b own (u ∷ us) has =
@@ -91,7 +92,7 @@ listed_at ns s t b own (u ∷ us) has =
     ]
 
 -- a constant of sort Bool with a truth is listed with it
-pub listed_truth : (ns : List Node) (s : SatState) (ts : List ℕ) (t : ℕ) (c : Constant) (b : Bool) → Contains ts t → option_map (λ (n : Node). n.head) (slice_get ns t) ≡ Some (constant c)
+pub listed_truth : (ns : List Node) (s : SatState NoNumbers) (ts : List ℕ) (t : ℕ) (c : Constant) (b : Bool) → Contains ts t → option_map (λ (n : Node). n.head) (slice_get ns t) ≡ Some (constant c)
     → is_bool c.sort ≡ true → truth_of s t ≡ Some b → listed_value (flat_map (value_at ns s) ts) t ≡ Some (truth b)
 listed_truth ns s ts t c b has head bool found =
     let own : value_at ns s t ≡ (t, truth b) ∷ [] =

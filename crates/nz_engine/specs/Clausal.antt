@@ -7,14 +7,15 @@ use Rattle.nz_log.specs.Lits.{yes, are_same_lit}
 use Rattle.nz_log.specs.Logs.{LogState, IsLive, empty_log, literals_at}
 use Rattle.nz_log.specs.Sound.{IsLog}
 use Rattle.nz_sat.specs.declared.clauses.Held.{Held}
+use Rattle.nz_log.specs.declared.theory.NoNumbers.{NoNumbers}
 use Rattle.nz_sat.specs.Sats.{SatState, AreHeld, IsTrueClause, IsTrueLit, truth_of}
 
 pub record ClausesState : Type 0 where
   pub log : LogState
-  pub sat : SatState
+  pub sat : SatState NoNumbers
 
 abbrev pub no_clauses : ClausesState
-no_clauses = record { log = empty_log; sat = record { clauses = []; truths = [] } }
+no_clauses = record { log = empty_log; sat = record { clauses = []; truths = []; theory = record { told = 0 } } }
 
 -- the arguments of the term of a number
 abbrev pub kids_at : List Node → ℕ → List ℕ
@@ -54,7 +55,7 @@ abbrev pub unit_of : ℕ → List Lit
 unit_of t = yes t ∷ []
 
 -- Each clause that was held has a true literal, each assumed literal is true, and each of the atoms has a truth.
-pub record Satisfies (s : SatState) (c : ClausesState) (assumed : List Lit) (atoms : List ℕ) : Type 0 where
+pub record Satisfies (s : SatState NoNumbers) (c : ClausesState) (assumed : List Lit) (atoms : List ℕ) : Type 0 where
   pub clauses : (ls : List Lit) → HasClause c ls → IsTrueClause s ls
   pub assumed_hold : All (IsTrueLit s) assumed
   pub atoms_decided : All (λ (t : ℕ). IsSome (truth_of s t)) atoms

@@ -17,6 +17,7 @@ use Rattle.nz_log.specs.Verdicts.{task_in}
 use Rattle.nz_log.specs.declared.note.Note.{Note}
 use Rattle.nz_log.specs.declared.note.Note.TheVariants.{Atom}
 use Rattle.nz_log.specs.Notes.{noted_list, AreNotedWithin}
+use Rattle.nz_log.specs.declared.theory.NoNumbers.{NoNumbers}
 use Rattle.nz_sat.specs.Sats.{SatState, IsTrueClause, IsTrueLit, truth_of}
 use Rattle.nz_engine.specs.Clausal.{IsAtomic, unit_of}
 use Rattle.nz_engine.specs.Engines.{literals_in}
@@ -43,7 +44,7 @@ abbrev pub clauses_of : List Node → List ℕ → List ℕ → List (List Lit)
 clauses_of ns asserted atoms = flat_map (gates_at ns) atoms ++ map unit_of asserted
 
 -- What is asserted and assumed is of the gate table, and under the truths of its atoms each clause and each assumed literal is true.
-pub record IsFound (ns : List Node) (asserted : List ℕ) (assumed : List Lit) (atoms : List ℕ) (s : SatState) : Type 0 where
+pub record IsFound (ns : List Node) (asserted : List ℕ) (assumed : List Lit) (atoms : List ℕ) (s : SatState NoNumbers) : Type 0 where
   pub are : AreAtomsOf ns (asserted ++ terms_named assumed) atoms
   pub plain : ArePlain ns atoms
   pub gated : All (λ t. IsGated (term_in ns t)) (asserted ++ terms_named assumed)
@@ -55,7 +56,7 @@ abbrev pub value_as : ℕ → Option Head → Option Bool → List (ℕ × Value
 value_as t (Some (constant c)) (Some b) = if is_bool c.sort then (t, truth b) ∷ [] else []
 value_as t h o = []
 
-abbrev pub value_at : List Node → SatState → ℕ → List (ℕ × Value)
+abbrev pub value_at : List Node → SatState NoNumbers → ℕ → List (ℕ × Value)
 value_at ns s t = value_as t (option_map (λ (n : Node). n.head) (slice_get ns t)) (truth_of s t)
 
 -- ---- Work

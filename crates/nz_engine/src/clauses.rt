@@ -15,7 +15,7 @@ ghost use Rattle.nz_engine.specs.Clausal.{AreIn, HoldsAlso, IsAtomic, Satisfies,
 ghost use Rattle.nz_engine.specs.Engines.{literals_in};
 
 use nz_base::{Memory, Work};
-use nz_log::{ClauseId, Lit, Log, Note, Stop, gate_count};
+use nz_log::{ClauseId, Lit, Log, NoNumbers, Note, Stop, gate_count};
 use nz_sat::Sat;
 use nz_spec::derivation::gates_are_true;
 use nz_term::{TermId, Terms};
@@ -26,7 +26,7 @@ use std::marker::Model;
 #[derive(Debug, Drop)]
 pub struct Clauses {
     log: Log,
-    sat: Sat,
+    sat: Sat<NoNumbers>,
 }
 
 impl Model for Clauses {
@@ -44,7 +44,7 @@ impl Clauses {
     {
         Ok(Clauses {
             log: Log::new(alloc)?,
-            sat: Sat::new(alloc),
+            sat: Sat::new(alloc, NoNumbers::new()),
         })
     }
 

@@ -5,4 +5,5 @@ pub mod Notes
 pub mod Sound
 pub mod Spelling
 pub mod Stored
+pub mod Theories
 pub mod Verdicts

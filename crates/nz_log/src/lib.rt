@@ -13,6 +13,7 @@ mod origins;
 mod sets;
 mod steps;
 mod stop;
+mod theory;
 
 pub use decide::{Decide, Verdict};
 pub use gates::gate_count;
@@ -22,3 +23,4 @@ pub use note::Note;
 pub use origins::{ClauseId, Link};
 pub use steps::Step;
 pub use stop::Stop;
+pub use theory::{NoNumbers, Theory};

@@ -2,6 +2,7 @@
 use Rattle.std.proofs.Common.{ℕ, List, [], ◌++◌, get_or, Option, Some, None, refl, sym, ap, ◌∙◌, append_assoc}
 use Rattle.std.specs.Prelude.{All}
 use Rattle.std.proofs.lemmas.List.{append-nil}
+use Rattle.nz_spec.specs.Table.{Node}
 use Rattle.nz_spec.specs.Work.{WorkList}
 use Rattle.nz_log.specs.declared.lits.Lit.{Lit}
 use Rattle.nz_log.specs.declared.note.Note.{Note}
@@ -9,7 +10,7 @@ use Rattle.nz_log.specs.Logs.{Entry, LogState}
 use Rattle.nz_sat.specs.declared.clauses.Held.{Held}
 use Rattle.nz_sat.specs.declared.trail.Assigned.{Assigned}
 use Rattle.nz_sat.specs.Clauses.{IsAssumed}
-use Rattle.nz_sat.specs.Conflicts.{Grows}
+use Rattle.nz_log.specs.Theories.{Grows}
 use Rattle.nz_sat.specs.Sats.{AreHeld}
 use Rattle.nz_sat.specs.Searching.{Advances, StaysInOrder}
 
@@ -35,45 +36,48 @@ held_on a b held g h k d inside =
 
 -- ---- Steps
 
--- the log alone grows
-pub log_advances : (atoms : List ℕ) (es : List Assigned) (a b : LogState) (held : List Held) (work : WorkList Note) → AreHeld a held → Grows a b
-    → StaysInOrder atoms a b → Advances atoms es a b held held work work
-log_advances atoms es a b held work h g sound =
-    record {
-      grows = g;
-      sound = sound;
-      holds_more = record { learned = []; joined = sym (append-nil held); held = held_on a b held g h };
-      legal = λ ns levels assumed q only asked legal. legal;
-      notes = refl;
-      limit = refl;
-    }
+module _ (over : List Node → Type 0) where
+  -- the log alone grows
+  pub log_advances : (atoms : List ℕ) (es : List Assigned) (a b : LogState) (held : List Held) (work : WorkList Note) → AreHeld a held → Grows a b
+      → StaysInOrder over atoms a b → Advances over atoms es a b held held work work
+  log_advances atoms es a b held work h g sound =
+      record {
+        grows = g;
+        sound = sound;
+        holds_more = record { learned = []; joined = sym (append-nil held); held = held_on a b held g h };
+        legal = λ ns levels assumed q known only asked legal. legal;
+        notes = refl;
+        limit = refl;
+      }
 
--- nothing happens
-pub none_advances : (atoms : List ℕ) (es : List Assigned) (a : LogState) (held : List Held) (work : WorkList Note) → AreHeld a held → Advances atoms es a a held held work work
-none_advances atoms es a held work h = log_advances atoms es a a held work h (grows_none a) (λ ns levels within order. order)
+  -- nothing happens
+  pub none_advances : (atoms : List ℕ) (es : List Assigned) (a : LogState) (held : List Held) (work : WorkList Note) → AreHeld a held
+      → Advances over atoms es a a held held work work
+  none_advances atoms es a held work h = log_advances atoms es a a held work h (grows_none a) (λ ns levels known within order. order)
 
-pub far_advances : (atoms : List ℕ) (es es' : List Assigned) (a b c : LogState) (h h' h'' : List Held) (w w' w'' : WorkList Note)
-    → ((assumed : List Lit) → All (IsAssumed assumed) es → All (IsAssumed assumed) es') → Advances atoms es a b h h' w w' → Advances atoms es' b c h' h'' w' w''
-    → Advances atoms es a c h h'' w w''
-far_advances atoms es es' a b c h h' h'' w w' w'' only p q =
+-- one step after another
+pub far_advances : (over over' : List Node → Type 0) → ((ns : List Node) → over ns → over' ns) → (atoms : List ℕ) (es es' : List Assigned) (a b c : LogState)
+    (h h' h'' : List Held) (w w' w'' : WorkList Note) → ((assumed : List Lit) → All (IsAssumed assumed) es → All (IsAssumed assumed) es')
+    → Advances over atoms es a b h h' w w' → Advances over' atoms es' b c h' h'' w' w'' → Advances over atoms es a c h h'' w w''
+far_advances over over' keeps atoms es es' a b c h h' h'' w w' w'' only p q =
     record {
       grows = grows_far a b c p.grows q.grows;
-      sound = λ ns levels within order. q.sound ns levels within (p.sound ns levels within order);
+      sound = λ ns levels known within order. q.sound ns levels (keeps ns known) within (p.sound ns levels known within order);
       holds_more = record {
         learned = p.holds_more.learned ++ q.holds_more.learned;
         joined = q.holds_more.joined ∙ ap (λ (xs : List Held). xs ++ q.holds_more.learned) p.holds_more.joined ∙ append_assoc h p.holds_more.learned q.holds_more.learned;
         held = q.holds_more.held;
       };
-      legal = λ ns levels assumed task assumed_only asked legal.
-          q.legal ns levels assumed task (only assumed assumed_only)
+      legal = λ ns levels assumed task known assumed_only asked legal.
+          q.legal ns levels assumed task (keeps ns known) (only assumed assumed_only)
           (record {
             table = asked.table;
             within = asked.within;
-            order = p.sound ns levels asked.within asked.order;
+            order = p.sound ns levels known asked.within asked.order;
             asserted = asked.asserted;
             assumed_literals = asked.assumed_literals;
           })
-          (p.legal ns levels assumed task assumed_only asked legal);
+          (p.legal ns levels assumed task known assumed_only asked legal);
       notes = q.notes ∙ p.notes;
       limit = q.limit ∙ p.limit;
     }

@@ -59,7 +59,7 @@ literals_numbered ns atoms (l ∷ c) named =
 
 -- ---- Lists
 
-recursion_left : {X : Type 0} (P : X → Type 0) (xs ys : List X) → AllByRecursion P (xs ++ ys) → AllByRecursion P xs
+pub recursion_left : {X : Type 0} (P : X → Type 0) (xs ys : List X) → AllByRecursion P (xs ++ ys) → AllByRecursion P xs
 recursion_left P [] ys h = tt
 recursion_left P (x ∷ xs) ys h = (h.0, recursion_left P xs ys h.1)
 

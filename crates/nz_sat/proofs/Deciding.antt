@@ -167,14 +167,14 @@ module _ (log : LogState) (held : List Held) (s : Search) (h : IsSearch log held
 
   -- ---- The step
 
-  pub decided_advances : LegalWorkGoesOn → (work : WorkList Note) → IsNoted log held s.atoms s.trail.entries work
-      → Advances s.atoms s.trail.entries log log held held work (with_line work line)
-  decided_advances goes_on work n =
+  pub decided_advances : LegalWorkGoesOn → (over : List Node → Type 0) (work : WorkList Note) → IsNoted log held s.atoms s.trail.entries work
+      → Advances over s.atoms s.trail.entries log log held held work (with_line work line)
+  decided_advances goes_on over work n =
       record {
         grows = grows_none log;
-        sound = λ ns levels within order. order;
+        sound = λ ns levels known within order. order;
         holds_more = record { learned = []; joined = sym (append-nil held); held = h.are_held };
-        legal = λ ns levels assumed q only asked legal. decided_legal goes_on ns q work n legal;
+        legal = λ ns levels assumed q known only asked legal. decided_legal goes_on ns q work n legal;
         notes = unit_noted work.lines (DecisionEntry number sign);
         limit = refl;
       }

@@ -3,6 +3,7 @@ use Rattle.std.proofs.Common.{◌≡◌, ℕ, ◌<◌, Bool, if◌then◌else◌
 use Rattle.std.specs.Prelude.{All, IsSome, filter}
 use Rattle.std.proofs.lemmas.List.{append-nil}
 use Rattle.std.proofs.lemmas.List.Elements.{All-contains, All-head, All-tail, filter-append}
+use Rattle.nz_spec.specs.Table.{Node}
 use Rattle.nz_spec.specs.Work.{WorkList}
 use Rattle.nz_log.specs.declared.note.Note.{Note}
 use Rattle.nz_log.specs.Logs.{LogState}
@@ -65,6 +66,7 @@ carries_far r s t u v w c d =
     }
 
 -- the terms of the trail are atoms
-pub stays_in_order : (log log' : LogState) (held : List Held) (s : Search) → IsSearch log held s → StaysSound s.trail.entries log log' → StaysInOrder s.atoms log log'
-stays_in_order log log' held s h sound ns levels within order =
+pub stays_in_order : (over : List Node → Type 0) (log log' : LogState) (held : List Held) (s : Search) → IsSearch log held s → StaysSound s.trail.entries log log'
+    → StaysInOrder over s.atoms log log'
+stays_in_order over log log' held s h sound ns levels known within order =
     sound ns levels (λ k d inside. All-contains (λ (t : ℕ). t < length ns) s.atoms (get_or s.trail.entries k d).literal.term within (h.on_trail k d inside)) order

@@ -1,9 +1,9 @@
 -- What a search is after a lesson: back where the lesson makes a literal true.
 use Rattle.std.proofs.Common.{◌≡◌, if◌then◌else◌, ℕ, suc, ◌+◌, ◌<◌, Bool, false, List, [], ◌∷◌, ◌++◌, length, take, map, Option, Some, None, inl, inr, refl, sym, ap, subst, ◌∙◌, arith}
 use Rattle.std.specs.Prelude.{All, Contains, filter, nat_le, option_map}
-use Rattle.std.proofs.lemmas.List.{append-nil, length_push, map-append, take-map}
+use Rattle.std.proofs.lemmas.List.{append-nil, length_push, map-append, take-append-le, take-map}
 use Rattle.std.proofs.lemmas.List.Elements.{All-contains, All-filter, All-push, All-weaker, Contains-append_left, Contains-push, filter-append}
-use Rattle.std.proofs.lemmas.List.Sums.{fold-append, sum_by_push}
+use Rattle.std.proofs.lemmas.List.Sums.{fold-append, length-filter, sum_by_push}
 use Rattle.nz_spec.specs.Legal.{Search, after_line, after_lines, at_first}
 use Rattle.nz_spec.specs.Reply as reply
 use Rattle.nz_spec.specs.Table.{Node}
@@ -17,7 +17,8 @@ use Rattle.nz_sat.specs.declared.clauses.Held.{Held}
 use Rattle.nz_sat.specs.declared.search.Search as state
 use Rattle.nz_sat.specs.declared.trail.Assigned.{Assigned}
 use Rattle.nz_sat.specs.Clauses.{Adds, HasReasonOf, IsAssumed, IsImplied, IsListed, IsOpen, IsReasonOf, IsReasonOneOf, IsWithin, Waits, by_true, by_two}
-use Rattle.nz_sat.specs.Conflicts.{AreUnmarked, Grows}
+use Rattle.nz_log.specs.Theories.{Grows}
+use Rattle.nz_sat.specs.Conflicts.{AreUnmarked}
 use Rattle.nz_sat.specs.Numbers.{numbered}
 use Rattle.nz_sat.specs.Sats.{AreHeld, held_of}
 use Rattle.nz_sat.specs.Searching.{AreOpen, AreWaiting, Carries, IsNoted, IsSearch, KeepsFirst, Learned, WereOpen, after_lesson, ids, learned_line}
@@ -27,17 +28,17 @@ use Rattle.nz_sat.proofs.Cutting.{above_level, below_join}
 use Rattle.nz_sat.proofs.Keeping.{held_live}
 use Rattle.nz_sat.proofs.Lessons.{all_from}
 use Rattle.nz_sat.proofs.Levels.{below_decided, below_depth, below_false, below_free, below_front, below_twice}
-use Rattle.nz_sat.proofs.Noting.{IsTaught, lesson_named}
+use Rattle.nz_sat.proofs.Noting.{IsTaught, decisions_on, lesson_named}
 use Rattle.nz_sat.proofs.Trailing.{assigned_one, each_front, each_push, each_weaker}
 
 -- ---- Logs that grow
 
 -- a clause keeps its literals
-literals_kept : (log log' : LogState) → Grows log log' → (i : ℕ) → IsLive log i → literals_at log' i ≡ literals_at log i
+pub literals_kept : (log log' : LogState) → Grows log log' → (i : ℕ) → IsLive log i → literals_at log' i ≡ literals_at log i
 literals_kept log log' g i live = ap (λ (o : Option Entry). elim o [ None ↦ [] | Some e ↦ e.literals ]) (g.kept i live)
 
 -- a reason stays one
-reason_kept : (log log' : LogState) → Grows log log' → (before : List Assigned) (m : Lit) (o : Option ℕ) → IsReasonOf log before m o → IsReasonOf log' before m o
+pub reason_kept : (log log' : LogState) → Grows log log' → (before : List Assigned) (m : Lit) (o : Option ℕ) → IsReasonOf log before m o → IsReasonOf log' before m o
 reason_kept log log' g before m None r = tt
 reason_kept log log' g before m (Some c) r =
     let same = literals_kept log log' g c r.live in
@@ -181,15 +182,23 @@ module _ (log log' : LogState) (held : List Held) (s : state.Search) (work : Wor
   after_decided : filter is_decision (after_lesson es l) ≡ take l.level (filter is_decision es)
   after_decided = filter-append is_decision front (mine ∷ []) ∙ append-nil (filter is_decision front) ∙ below_decided s.trail.size es h.search.order l.level
 
+  -- the first decisions of what is noted are those of the trail
+  kept_decided : take l.level (filter is_decision h.noted.all) ≡ take l.level (filter is_decision es)
+  kept_decided =
+      let long = length-filter is_decision es in
+      let earlier = h.lesson.earlier in
+      ap (take l.level) (decisions_on es h.noted.all h.noted.front)
+      ∙ take-append-le l.level (filter is_decision es) (filter is_decision h.noted.front.more) (omega (arith, long, earlier))
+
   after_noted : IsNoted log' held' s.atoms (after_lesson es l) work'
   after_noted =
       let f : Assigned → ℕ × Bool = λ (e : Assigned). numbered s.atoms e.literal in
       let c = map (numbered s.atoms) lits in
       record {
-        named = λ ns. ap (λ (x : Search). x.atoms) (goes ns) ∙ h.noted.named ns;
+        named = λ ns. ap (λ (x : Search). x.atoms) (goes ns) ∙ h.noted.noted.named ns;
         decided = λ ns.
-            ap (λ (x : Search). x.decided) (goes ns) ∙ ap (take l.level) (h.noted.decided ns) ∙ take-map f l.level (filter is_decision es)
-            ∙ ap (map f) (sym after_decided);
+            ap (λ (x : Search). x.decided) (goes ns) ∙ ap (take l.level) (h.noted.noted.decided ns) ∙ take-map f l.level (filter is_decision h.noted.all)
+            ∙ ap (map f) (kept_decided ∙ sym after_decided);
         learned = λ ns.
             let Old : List (ℕ × Bool) → Type 0 = λ d. (i : ℕ) × Contains (ids held) i × (map (numbered s.atoms) (literals_at log i) ≡ d) in
             let New : List (ℕ × Bool) → Type 0 = λ d. (i : ℕ) × Contains (ids held') i × (map (numbered s.atoms) (literals_at log' i) ≡ d) in
@@ -198,7 +207,7 @@ module _ (log log' : LogState) (held : List Held) (s : state.Search) (work : Wor
             (All-push New (at ns).learned c
             (All-weaker Old New
             (λ d w. (w.0, more w.0 (Contains-append_left (ids held) (l.clause ∷ []) w.0 w.1), ap (map (numbered s.atoms)) (old_literals w.0 w.1) ∙ w.2)) (at ns).learned
-            (h.noted.learned ns)) (l.clause, more l.clause (Contains-push (ids held) l.clause), refl));
+            (h.noted.noted.learned ns)) (l.clause, more l.clause (Contains-push (ids held) l.clause), refl));
       }
 
   one_unit : unit_count work'.lines ≡ suc (unit_count work.lines)

@@ -3,6 +3,7 @@ pub mod Assuming
 pub mod Backward
 pub mod Chains
 pub mod Clausal
+pub mod Consulting
 pub mod Cutting
 pub mod DeadEnds
 pub mod Deciding
@@ -19,8 +20,10 @@ pub mod Numbering
 pub mod Refuting
 pub mod Resolving
 pub mod Retaining
+pub mod Returning
 pub mod Running
 pub mod Solving
 pub mod Standing
+pub mod Telling
 pub mod Trailing
 pub mod Visiting

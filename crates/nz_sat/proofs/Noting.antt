@@ -1,13 +1,13 @@
 -- What a search knows of a lesson, and that its line may follow.
-use Rattle.std.proofs.Common.{◌≡◌, ℕ, ◌-◌, ◌<◌, Bool, not, List, [], ◌∷◌, length, map, refl, sym, ap, subst, ◌∙◌, arith}
-use Rattle.std.specs.Prelude.{All, Contains, filter}
+use Rattle.std.proofs.Common.{◌≡◌, ℕ, ◌-◌, ◌<◌, ◌≤◌, ◌++◌, Bool, not, List, [], ◌∷◌, length, map, refl, sym, ap, subst, ◌∙◌, arith, inl, inr}
+use Rattle.std.specs.Prelude.{⊤, All, Contains, IsTrue, filter}
 use Rattle.std.specs.List.{AllByRecursion}
-use Rattle.std.proofs.lemmas.List.{length-map, map-append}
-use Rattle.std.proofs.lemmas.List.Elements.{All-contains, All-weaker}
+use Rattle.std.proofs.lemmas.List.{length-append, length-map, map-append}
+use Rattle.std.proofs.lemmas.List.Elements.{All-contains, All-weaker, filter-append}
 use Rattle.std.proofs.lemmas.List.Sums.{length-filter}
 use Rattle.std.proofs.lemmas.Option.{same_Some}
-use Rattle.nz_spec.specs.Legal.{AreLegal, LegalWorkGoesOn, MayLearn, Task, Search, IsDeadEnd, after_lines, at_first, literals_by}
-use Rattle.nz_spec.specs.Literal.{AreSameSet, AreTrueLiterals, IsClauseTrue}
+use Rattle.nz_spec.specs.Legal.{AreLegal, LegalWorkGoesOn, MayLearn, Task, Search, IsDeadEnd, after_lines, at_first, literal_by, literals_by}
+use Rattle.nz_spec.specs.Literal.{AreSameSet, AreTrueLiterals, IsClauseTrue, Literal, is_literal_true}
 use Rattle.nz_spec.specs.Model.{IsModel}
 use Rattle.nz_spec.specs.Table.{Node, term_in}
 use Rattle.nz_spec.specs.Term.{Term, Assignment, IsTrueUnder}
@@ -23,14 +23,14 @@ use Rattle.nz_sat.specs.declared.clauses.Held.{Held}
 use Rattle.nz_sat.specs.declared.search.Search as state
 use Rattle.nz_sat.specs.declared.trail.Assigned.{Assigned}
 use Rattle.nz_sat.specs.Clauses.{IsAssumed, IsDead, IsOpen, by_true, by_two}
-use Rattle.nz_sat.specs.Conflicts.{Grows, HasTwoLast, IsLesson, StaysSound}
+use Rattle.nz_log.specs.Theories.{Grows}
+use Rattle.nz_sat.specs.Conflicts.{HasTwoLast, IsLesson, IsLessonLike, StaysSound}
 use Rattle.nz_sat.specs.Numbers.{numbered}
 use Rattle.nz_sat.specs.Sats.{HoldsMore, IsAsked}
-use Rattle.nz_sat.specs.Searching.{Advances, IsNoted, IsSearch, StaysInOrder, StaysLegal, WereOpen, ids, learned_line}
-use Rattle.nz_sat.specs.Trails.{EachBehind, IsFreeOn, IsNext, below, depth, is_decision, level_on}
+use Rattle.nz_sat.specs.Searching.{Advances, IsConflict, IsSearch, StaysInOrder, StaysLegal, WasNoted, WereOpen, ids, learned_line}
+use Rattle.nz_sat.specs.Trails.{EachBehind, IsFreeOn, IsFrontOf, IsNext, below, depth, is_decision, level_on}
 use Rattle.nz_sat.proofs.Chains.{has_found}
-use Rattle.nz_sat.proofs.DeadEnds.{clause_true, literals_numbered, none_dead}
-use Rattle.nz_sat.proofs.Keeping.{held_live}
+use Rattle.nz_sat.proofs.DeadEnds.{clause_true, literals_numbered, none_dead, recursion_left}
 use Rattle.nz_sat.proofs.Levels.{below_true, free_high}
 use Rattle.nz_sat.proofs.Marks.{false_entry, level_found, not_itself}
 use Rattle.nz_sat.proofs.Numbering.{unit_noted}
@@ -60,35 +60,39 @@ two_last size es order c dead (by_two l m has_l has_m differ free_l free_m) =
           let level = level_found es x.term e.0 e.1 in
           omega (arith, high, most, level)
 
-pub held_two : (size : ℕ) (es : List Assigned) → EachBehind (IsNext size) es → (log : LogState) (held : List Held) → WereOpen log held es → 0 < depth es
+held_two : (size : ℕ) (es : List Assigned) → EachBehind (IsNext size) es → (log : LogState) (held : List Held) → WereOpen log held es → 0 < depth es
     → (i : ℕ) → Contains (ids held) i → IsDead es (literals_at log i) → HasTwoLast es (literals_at log i)
 held_two size es order log held were_open decided i has dead =
     let k = depth es - 1 in
     two_last size es order (literals_at log i) dead
     (All-contains (λ (j : ℕ). IsOpen (below k es) (literals_at log j)) (ids held) i (were_open k (omega arith)) has)
 
+-- a conflict may be a lesson itself, or has two literals of the last level
+pub conflict_like : (size : ℕ) (es : List Assigned) → EachBehind (IsNext size) es → (log : LogState) (held : List Held) → WereOpen log held es → 0 < depth es
+    → (i : ℕ) → IsConflict log held es i → IsLessonLike es (literals_at log i)
+conflict_like size es order log held were_open decided i c =
+    elim c.kind [ inl has ↦ inl (held_two size es order log held were_open decided i has c.dead) | inr once ↦ inr once ]
+
 -- What is known where a search has a lesson from a clause that is dead.
 pub record IsTaught (log log' : LogState) (held : List Held) (s : state.Search) (work : WorkList Note) (dead : ℕ) (l : Lesson) : Type 0 where
   pub search : IsSearch log held s
   pub were_open : WereOpen log held s.trail.entries
-  pub held_dead : Contains (ids held) dead
-  pub dies : IsDead s.trail.entries (literals_at log dead)
+  pub conflict : IsConflict log held s.trail.entries dead
   pub decided : 0 < depth s.trail.entries
-  pub noted : IsNoted log held s.atoms s.trail.entries work
+  pub noted : WasNoted log held s.atoms s.trail.entries work
   pub grows : Grows log log'
   pub sound : StaysSound s.trail.entries log log'
   pub lesson : IsLesson log' s.trail.entries l
 
 pub taught : {log log' : LogState} {held : List Held} {s : state.Search} {work : WorkList Note} {l : Lesson} (dead : ℕ) → IsSearch log held s
-    → WereOpen log held s.trail.entries → Contains (ids held) dead → IsDead s.trail.entries (literals_at log dead) → 0 < depth s.trail.entries
-    → IsNoted log held s.atoms s.trail.entries work → Grows log log' → StaysSound s.trail.entries log log' → IsLesson log' s.trail.entries l
+    → WereOpen log held s.trail.entries → IsConflict log held s.trail.entries dead → 0 < depth s.trail.entries
+    → WasNoted log held s.atoms s.trail.entries work → Grows log log' → StaysSound s.trail.entries log log' → IsLesson log' s.trail.entries l
     → IsTaught log log' held s work dead l
-taught dead search were_open held_dead dies decided noted grows sound lesson =
+taught dead search were_open conflict decided noted grows sound lesson =
     record {
       search = search;
       were_open = were_open;
-      held_dead = held_dead;
-      dies = dies;
+      conflict = conflict;
       decided = decided;
       noted = noted;
       grows = grows;
@@ -112,12 +116,37 @@ held_named atoms log us named i has l there =
     (All-contains (λ (j : ℕ). All (λ (m : Lit). Contains atoms m.term) (literals_at log j)) us i named has) there
 
 -- the log stays in order
-pub stays_in_order : (atoms : List ℕ) (es : List Assigned) → All (λ (e : Assigned). Contains atoms e.literal.term) es → (log log' : LogState) → StaysSound es log log'
-    → StaysInOrder atoms log log'
-stays_in_order atoms es on_trail log log' sound ns levels within =
+pub stays_in_order : (over : List Node → Type 0) (atoms : List ℕ) (es : List Assigned) → All (λ (e : Assigned). Contains atoms e.literal.term) es → (log log' : LogState) → StaysSound es log log'
+    → StaysInOrder over atoms log log'
+stays_in_order over atoms es on_trail log log' sound ns levels known within =
     sound ns levels
     (All-weaker (λ (e : Assigned). Contains atoms e.literal.term) (λ (e : Assigned). e.literal.term < length ns)
     (λ e has. All-contains (λ (t : ℕ). t < length ns) atoms e.literal.term within has) es on_trail)
+
+-- ---- Decisions of a trail that goes on
+
+pub decisions_on : (es all : List Assigned) → (f : IsFrontOf es all) → filter is_decision all ≡ filter is_decision es ++ filter is_decision f.more
+decisions_on es all f = ap (filter is_decision) f.joined ∙ filter-append is_decision es f.more
+
+pub front_depth : (es all : List Assigned) → IsFrontOf es all → depth es ≤ depth all
+front_depth es all f =
+    let parts = ap length (decisions_on es all f) ∙ length-append (filter is_decision es) (filter is_decision f.more) in
+    let mine = length-filter is_decision es in
+    let whole = length-filter is_decision all in
+    omega (arith, parts, mine, whole)
+
+-- the first decisions are true where all are
+front_decided : (a : Assignment) (ts : List Term) (f : Assigned → ℕ × Bool) (es all : List Assigned) → IsFrontOf es all
+    → AreTrueLiterals a (literals_by ts (map f (filter is_decision all))) → AreTrueLiterals a (literals_by ts (map f (filter is_decision es)))
+front_decided a ts f es all front hold =
+    let P : Literal → Type 0 = λ l. IsTrue (is_literal_true a l) in
+    let mine = literals_by ts (map f (filter is_decision es)) in
+    let more = literals_by ts (map f (filter is_decision front.more)) in
+    let parts : literals_by ts (map f (filter is_decision all)) ≡ mine ++ more =
+    ap (λ (xs : List Assigned). literals_by ts (map f xs)) (decisions_on es all front)
+    ∙ ap (literals_by ts) (map-append f (filter is_decision es) (filter is_decision front.more))
+    ∙ map-append (literal_by ts) (map f (filter is_decision es)) (map f (filter is_decision front.more)) in
+    recursion_left P mine more (subst (AllByRecursion P) parts hold)
 
 module _ (log log' : LogState) (held : List Held) (s : state.Search) (work : WorkList Note) (dead : ℕ) (l : Lesson) (h : IsTaught log log' held s work dead l) where
   abbrev es : List Assigned
@@ -129,8 +158,8 @@ module _ (log log' : LogState) (held : List Held) (s : state.Search) (work : Wor
   pub lesson_named : (m : Lit) → Contains lits m → Contains s.atoms m.term
   lesson_named = false_named s.atoms es h.search.on_trail lits h.lesson.dead
 
-  pub stays : StaysInOrder s.atoms log log'
-  stays = stays_in_order s.atoms es h.search.on_trail log log' h.sound
+  pub stays : (over : List Node → Type 0) → StaysInOrder over s.atoms log log'
+  stays over = stays_in_order over s.atoms es h.search.on_trail log log' h.sound
 
   -- it isn't the same as a clause that is held
   lesson_new : (i : ℕ) → Contains (ids held) i → AreSameSet (map (numbered s.atoms) (literals_at log i)) (map (numbered s.atoms) lits) → ⊥
@@ -148,60 +177,64 @@ module _ (log log' : LogState) (held : List Held) (s : state.Search) (work : Wor
     at = after_lines at_first (noted_list ns work).lines
 
     order' : IsLog ns levels log'
-    order' = stays ns levels asked.within asked.order
+    order' = stays (λ ns. ⊤) ns levels tt asked.within asked.order
 
     dead_end : IsDeadEnd q at
     dead_end a model assumed_hold decided_hold =
         let hold = subst (AllByRecursion (IsTrueUnder a)) asked.asserted model.asserted_hold in
         let assumed' = subst (AreTrueLiterals a) asked.assumed_literals assumed_hold in
-        let ds = map (λ (e : Assigned). numbered s.atoms e.literal) (filter is_decision es) in
-        let named' = subst (λ (ts : List Term). AreTrueLiterals a (literals_by ts at.decided)) (h.noted.named ns) decided_hold in
-        let decided' = subst (λ (ps : List (ℕ × Bool)). AreTrueLiterals a (literals_by (map (term_in ns) s.atoms) ps)) (h.noted.decided ns) named' in
-        none_dead clauses ns asked.table levels log asked.order a model.sorts hold s.atoms assumed es h.search.implied h.search.on_trail only assumed' decided'
-        dead (held_live log held h.search.are_held dead h.held_dead) h.dies
+        let noted = h.noted.noted in
+        let named' = subst (λ (ts : List Term). AreTrueLiterals a (literals_by ts at.decided)) (noted.named ns) decided_hold in
+        let decided' = subst (λ (ps : List (ℕ × Bool)). AreTrueLiterals a (literals_by (map (term_in ns) s.atoms) ps)) (noted.decided ns) named' in
+        none_dead clauses ns asked.table levels log asked.order a model.sorts hold s.atoms assumed es h.search.implied h.search.on_trail only assumed'
+        (front_decided a (map (term_in ns) s.atoms) (λ (e : Assigned). numbered s.atoms e.literal) es h.noted.all h.noted.front decided')
+        dead h.conflict.live h.conflict.dead
 
     follows : (a : Assignment) → IsModel q.asserted [] a → IsClauseTrue a (literals_by at.atoms (map (numbered s.atoms) lits))
     follows a model =
         let hold = subst (AllByRecursion (IsTrueUnder a)) asked.asserted model.asserted_hold in
         let holds = clause_true clauses ns asked.table levels log' order' a model.sorts hold l.clause h.lesson.live in
-        subst (λ (ts : List Term). IsClauseTrue a (literals_by ts (map (numbered s.atoms) lits))) (sym (h.noted.named ns))
+        subst (λ (ts : List Term). IsClauseTrue a (literals_by ts (map (numbered s.atoms) lits))) (sym (h.noted.noted.named ns))
         (subst (IsClauseTrue a) (sym (literals_numbered ns s.atoms lits lesson_named)) holds)
 
     may_learn : MayLearn q at l.level (map (numbered s.atoms) lits)
     may_learn =
-        let long : length at.decided ≡ depth es =
-        ap length (h.noted.decided ns) ∙ length-map (filter is_decision es) (λ (e : Assigned). numbered s.atoms e.literal) ∙ length-filter is_decision es in
+        let all = h.noted.all in
+        let noted = h.noted.noted in
+        let long : length at.decided ≡ depth all =
+        ap length (noted.decided ns) ∙ length-map (filter is_decision all) (λ (e : Assigned). numbered s.atoms e.literal) ∙ length-filter is_decision all in
+        let deeper = front_depth es all h.noted.front in
         let earlier = h.lesson.earlier in
         record {
-          fewer = omega (arith, long, earlier);
+          fewer = omega (arith, long, deeper, earlier);
           dead_end = dead_end;
           follows = follows;
-          named = subst (λ (ts : List Term). All (λ (p : ℕ × Bool). p.0 < length ts) (map (numbered s.atoms) lits)) (sym (h.noted.named ns))
+          named = subst (λ (ts : List Term). All (λ (p : ℕ × Bool). p.0 < length ts) (map (numbered s.atoms) lits)) (sym (h.noted.noted.named ns))
               (numbers_within s.atoms ns lits lesson_named);
           once = numbers_once s.atoms es lits lesson_named h.lesson.dead h.lesson.once;
           new = All-weaker (λ (c : List (ℕ × Bool)). (i : ℕ) × Contains (ids held) i × (map (numbered s.atoms) (literals_at log i) ≡ c))
               (λ (c : List (ℕ × Bool)). AreSameSet c (map (numbered s.atoms) lits) → ⊥)
               (λ c w same. lesson_new w.0 w.1 (subst (λ (d : List (ℕ × Bool)). AreSameSet d (map (numbered s.atoms) lits)) (sym w.2) same))
-              at.learned (h.noted.learned ns);
+              at.learned (noted.learned ns);
         }
 
   -- the list stays legal with its line
-  pub line_legal : ClausesAreTrue → LegalWorkGoesOn → StaysLegal s.atoms log es work (with_line work (learned_line s.atoms log' l))
-  line_legal clauses goes_on ns levels assumed q only asked legal =
+  pub line_legal : ClausesAreTrue → LegalWorkGoesOn → (over : List Node → Type 0) → StaysLegal over s.atoms log es work (with_line work (learned_line s.atoms log' l))
+  line_legal clauses goes_on over ns levels assumed q known only asked legal =
       let line : WorkLine reply.Note = UnitLine (LearnedEntry l.level (map (numbered s.atoms) lits)) in
       subst (λ (lines : List (WorkLine reply.Note)). AreLegal q at_first lines) (sym (map-append (noted_line ns) work.lines (learned_line s.atoms log' l ∷ [])))
       (goes_on q at_first (noted_list ns work).lines line legal (may_learn clauses ns levels assumed q only asked))
 
   -- a step that adds it
-  pub line_advances : ClausesAreTrue → LegalWorkGoesOn → (held' : List Held) → HoldsMore log' held held' → (work' : WorkList Note)
-      → work' ≡ with_line work (learned_line s.atoms log' l) → Advances s.atoms es log log' held held' work work'
-  line_advances clauses goes_on held' more work' is =
-      subst (Advances s.atoms es log log' held held' work) (sym is)
+  pub line_advances : ClausesAreTrue → LegalWorkGoesOn → (over : List Node → Type 0) (held' : List Held) → HoldsMore log' held held' → (work' : WorkList Note)
+      → work' ≡ with_line work (learned_line s.atoms log' l) → Advances over s.atoms es log log' held held' work work'
+  line_advances clauses goes_on over held' more work' is =
+      subst (Advances over s.atoms es log log' held held' work) (sym is)
       (record {
         grows = h.grows;
-        sound = stays;
+        sound = stays over;
         holds_more = more;
-        legal = line_legal clauses goes_on;
+        legal = line_legal clauses goes_on over;
         notes = unit_noted work.lines (LearnedEntry l.level (map (numbered s.atoms) (literals_at log' l.clause)));
         limit = refl;
       })

@@ -1,9 +1,10 @@
 -- What a search knows where it begins, and what its end tells its callers.
-use Rattle.std.proofs.Common.{◌≡◌, ℕ, Bool, List, [], ◌∷◌, ◌++◌, map, get_or, Option, Some, None, sym, ap, subst, ◌∙◌, arith, append_assoc, if◌then◌else◌}
-use Rattle.std.specs.Prelude.{All, Contains, IsSome, option_map}
+use Rattle.std.proofs.Common.{◌≡◌, ℕ, ◌<◌, Bool, List, [], ◌∷◌, ◌++◌, length, map, get_or, Option, Some, None, refl, sym, ap, subst, ◌∙◌, arith, append_assoc, if◌then◌else◌}
+use Rattle.std.specs.Prelude.{All, Contains, IsSome, option_map, slice_get}
 use Rattle.std.proofs.lemmas.List.{append-nil}
 use Rattle.std.proofs.lemmas.List.Elements.{All-contains, All-map, All-nil, All-same, Contains-get_or}
 use Rattle.std.proofs.lemmas.List.Sums.{sum_by-cons}
+use Rattle.std.proofs.lemmas.Option.{same_Some, slice_get-map}
 use Rattle.nz_spec.specs.Legal as legal
 use Rattle.nz_spec.specs.Legal.{Task, after_lines, at_first}
 use Rattle.nz_spec.specs.Table.{Node, term_in}
@@ -19,13 +20,18 @@ use Rattle.nz_sat.specs.declared.search.Search.{Search}
 use Rattle.nz_sat.specs.declared.trail.Assigned.{Assigned}
 use Rattle.nz_sat.specs.Clauses.{IsAssumed, IsOpen, by_true, by_two}
 use Rattle.nz_sat.specs.Numbers.{noted_atoms, numbered}
-use Rattle.nz_sat.specs.Sats.{IsAsked, IsLegalWork, IsSatisfied, IsTrueClause, IsTrueLit, SatState, truth_of}
-use Rattle.nz_sat.specs.Searching.{IsNoted, Satisfies, StaysLegal, assumed_entries, ids}
-use Rattle.nz_sat.specs.Trails.{AreTruthsOn, IsTrueOn, assigned}
+use Rattle.nz_sat.specs.Sats.{IsAsked, IsLegalWork, IsSatisfied, IsTheoryMet, IsTrueClause, IsTrueLit, SatState, truth_of}
+use Rattle.nz_sat.specs.Searching.{IsNoted, Satisfies, StaysInOrder, StaysLegal, assumed_entries, ids}
+use Rattle.nz_sat.specs.Theories.{IsMet}
+use Rattle.nz_sat.specs.Trails.{AreTruthsOn, EachBehind, IsNext, IsTrueOn, assigned, literals_on}
+use Rattle.nz_sat.proofs.Chains.{has_found, lit_is}
 use Rattle.nz_sat.proofs.Clausal.{free_missing}
 use Rattle.nz_sat.proofs.Keeping.{held_has}
+use Rattle.nz_sat.proofs.Lessons.{all_from}
 use Rattle.nz_sat.proofs.Levels.{below_true}
 use Rattle.nz_sat.proofs.Noting.{held_named}
+use Rattle.nz_sat.proofs.Telling.{entry_from}
+use Rattle.nz_sat.proofs.Trailing.{assigned_at, assigned_place}
 
 -- ---- At the start
 
@@ -58,12 +64,17 @@ assumed_only : (assumed : List Lit) → All (IsAssumed assumed) (assumed_entries
 assumed_only assumed =
     All-map (IsAssumed assumed) (λ (l : Lit). record { literal = l; level = 0; reason = None }) assumed (λ k d inside none level. Contains-get_or assumed k d inside)
 
--- where the old lines are legal, so are the new ones
-pub stays_legal : (atoms noted : List ℕ) → atoms ≡ noted → (log : LogState) (assumed : List Lit) (old new : WorkList Note)
-    → StaysLegal atoms log (assumed_entries assumed) old new → (ns : List Node) (levels : List (List ℕ)) (q : Task) → IsAsked ns levels log noted assumed q
-    → IsLegalWork ns q old → IsLegalWork ns q new
-stays_legal atoms noted same log assumed old new legal ns levels q asked =
-    legal ns levels assumed q (assumed_only assumed) (subst (λ (us : List ℕ). IsAsked ns levels log us assumed q) (sym same) asked)
+-- a theory that was told less knows no more of terms
+module _ (over over' : List Node → Type 0) (keeps : (ns : List Node) → over ns → over' ns) (atoms noted : List ℕ) (same : atoms ≡ noted) (log : LogState) where
+  pub stays_sound : (log' : LogState) → StaysInOrder over' atoms log log' → StaysInOrder over noted log log'
+  stays_sound log' sound ns levels known within order =
+      sound ns levels (keeps ns known) (subst (All (λ (t : ℕ). t < length ns)) (sym same) within) order
+
+  -- where the old lines are legal, so are the new ones
+  pub stays_legal : (assumed : List Lit) (old new : WorkList Note) → StaysLegal over' atoms log (assumed_entries assumed) old new → (ns : List Node) (levels : List (List ℕ))
+      (q : Task) → over ns → IsAsked ns levels log noted assumed q → IsLegalWork ns q old → IsLegalWork ns q new
+  stays_legal assumed old new legal ns levels q known asked =
+      legal ns levels assumed q (keeps ns known) (assumed_only assumed) (subst (λ (us : List ℕ). IsAsked ns levels log us assumed q) (sym same) asked)
 
 -- ---- At the end
 
@@ -84,7 +95,7 @@ some_truth None some = some
 some_truth (Some e) some = some
 
 -- what holds on the trail is what the truths say
-pub satisfied : (log : LogState) (held : List Held) (assumed : List Lit) (atoms : List ℕ) (s : Search) (t : SatState) → t.clauses ≡ held
+pub satisfied : {T : Type 0} → (log : LogState) (held : List Held) (assumed : List Lit) (atoms : List ℕ) (s : Search) (t : SatState T) → t.clauses ≡ held
     → AreTruthsOn s.trail.entries t.truths → Satisfies log held assumed atoms s → IsSatisfied log t assumed atoms
 satisfied log held assumed atoms s t same truths h =
     let es = s.trail.entries in
@@ -103,4 +114,38 @@ satisfied log held assumed atoms s t same truths h =
           (λ k d inside.
           let u = get_or s.atoms k d in
           subst IsSome (sym (truths u)) (some_truth (assigned es u) (h.all_decided k d inside)));
+    }
+
+-- ---- The theory
+
+-- the literal of an entry is true
+entry_true : (size : ℕ) (es : List Assigned) → EachBehind (IsNext size) es → (i : ℕ) (e : Assigned) → slice_get es i ≡ Some e → IsTrueOn es e.literal
+entry_true size es order i e at = ap (option_map (λ (x : Assigned). x.literal.sign)) (assigned_at es i e at (order i e at).fresh)
+
+-- a true literal is that of an entry
+true_among : (es : List Assigned) (l : Lit) → IsTrueOn es l → Contains (literals_on es) l
+true_among es l on =
+    elim (assigned es l.term) as (λ o. assigned es l.term ≡ o → option_map (λ (x : Assigned). x.literal.sign) o ≡ Some l.sign → Contains (literals_on es) l) [
+      | None ↦ λ none there. let clash : None ≡ Some l.sign = there in cc
+      | Some x ↦ λ at there.
+          let place = assigned_place es l.term x at in
+          let is : x.literal ≡ l = lit_is x.literal l place.0 (same_Some x.literal.sign l.sign there) in
+          has_found (literals_on es) place.1.0 l
+          (slice_get-map (λ (e : Assigned). e.literal) es place.1.0 ∙ ap (option_map (λ (e : Assigned). e.literal)) place.1.1 ∙ ap Some is)
+    ] refl on
+
+-- what it was told are the literals that are true
+pub theory_met : {T : Type 0} → (has_told : List Lit → Type 0) (is_feasible : Type 0) (size : ℕ) (es : List Assigned) (t : SatState T) (atoms : List ℕ) → EachBehind (IsNext size) es
+    → AreTruthsOn es t.truths → IsMet has_told is_feasible es → IsTheoryMet has_told is_feasible t atoms
+theory_met has_told is_feasible size es t atoms order truths met =
+    record {
+      literals = literals_on es;
+      told = met.told;
+      feasible = met.feasible;
+      hold = all_from (IsTrueLit t) (literals_on es)
+          (λ l has.
+          let e = entry_from es l has in
+          let on : IsTrueOn es l = subst (IsTrueOn es) e.3 (entry_true size es order e.0 e.1 e.2) in
+          truths l.term ∙ on);
+      all = λ l atom holds. true_among es l (sym (truths l.term) ∙ holds);
     }

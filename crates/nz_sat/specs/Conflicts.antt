@@ -5,19 +5,13 @@ use Rattle.nz_spec.specs.Table.{Node}
 use Rattle.nz_log.specs.declared.lits.Lit.{Lit}
 use Rattle.nz_log.specs.Lits.{negated_lit}
 use Rattle.nz_log.specs.declared.origins.Link.{Link}
-use Rattle.nz_log.specs.Logs.{LogState, IsLive, chained, entry_at, literals_at}
+use Rattle.nz_log.specs.Logs.{LogState, IsLive, chained, literals_at}
 use Rattle.nz_log.specs.Sound.{IsLog}
 use Rattle.nz_sat.specs.declared.analyze.Chain.{Chain}
 use Rattle.nz_sat.specs.declared.analyze.Lesson.{Lesson}
 use Rattle.nz_sat.specs.declared.trail.Assigned.{Assigned}
-use Rattle.nz_sat.specs.Trails.{IsFalseOn, depth, level_on}
+use Rattle.nz_sat.specs.Trails.{IsFalseOn, below, depth, level_on}
 use Rattle.nz_sat.specs.Clauses.{IsDead, IsAssumed}
-
--- The log keeps each of its clauses, and what was told.
-pub record Grows (old new : LogState) : Type 0 where
-  pub live : (i : ℕ) → IsLive old i → IsLive new i
-  pub kept : (i : ℕ) → IsLive old i → entry_at new i ≡ entry_at old i
-  pub told : new.told ≡ old.told
 
 -- where the trail is over a table, the log stays in order
 abbrev pub StaysSound : List Assigned → LogState → LogState → Type 0
@@ -61,6 +55,22 @@ pub record HasTwoLast (es : List Assigned) (c : List Lit) : Type 0 where
   pub first_last : level_on es first.term ≡ depth es
   pub second_last : level_on es second.term ≡ depth es
 
+-- A clause has a literal of the last level.
+pub record HasLast (es : List Assigned) (c : List Lit) : Type 0 where
+  pub literal : Lit
+  pub has : Contains c literal
+  pub last : level_on es literal.term ≡ depth es
+
+-- A clause has this literal of the last level, and no other.
+pub record IsLoneLast (es : List Assigned) (c : List Lit) (l : Lit) : Type 0 where
+  pub has : Contains c l
+  pub last : level_on es l.term ≡ depth es
+  pub others : (m : Lit) → Contains c m → m ≢ l → level_on es m.term ≢ depth es
+
+-- a clause has two literals of the last level, or has each once, so that it may be a lesson itself
+abbrev pub IsLessonLike : List Assigned → List Lit → Type 0
+IsLessonLike es c = HasTwoLast es c ⊎ StandOnce c
+
 -- the links rest on live clauses, and resolve on terms of the trail
 abbrev pub AreLinks : LogState → List Assigned → List Link → Type 0
 AreLinks s es ks = All (λ (k : Link). IsLive s k.clause × ((e : Assigned) × Contains es e × (e.literal.term ≡ k.literal.term))) ks
@@ -94,6 +104,17 @@ pub record IsChain (s : LogState) (es : List Assigned) (dead : ℕ) (marks : Lis
 pub record IsGreatestBut (es : List Assigned) (but : Lit) (c : List Lit) (level : ℕ) : Type 0 where
   pub most : (m : Lit) → Contains c m → m ≢ but → level_on es m.term ≤ level
   pub reached : 0 < level → (m : Lit) × Contains c m × (m ≢ but) × (level_on es m.term ≡ level)
+
+-- A level is the greatest of those of the literals, and 0 where there are none.
+pub record IsGreatest (es : List Assigned) (c : List Lit) (level : ℕ) : Type 0 where
+  pub most : (m : Lit) → Contains c m → level_on es m.term ≤ level
+  pub reached : 0 < level → (m : Lit) × Contains c m × (level_on es m.term ≡ level)
+
+-- The trail is cut at the greatest level of the literals of a clause.
+pub record GoesBackTo (c : List Lit) (es es' : List Assigned) : Type 0 where
+  pub level : ℕ
+  pub greatest : IsGreatest es c level
+  pub cut : es' ≡ below level es
 
 -- A clause in which each literal is false, of which one literal is of the last level; the greatest level of the others is told.
 pub record IsLesson (s : LogState) (es : List Assigned) (l : Lesson) : Type 0 where

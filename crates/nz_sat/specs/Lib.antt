@@ -4,4 +4,5 @@ pub mod Numbers
 pub mod Sats
 pub mod Searching
 pub mod Stored
+pub mod Theories
 pub mod Trails

@@ -13,32 +13,42 @@ use Rattle.nz_log.specs.Notes.{noted_list}
 use Rattle.nz_log.specs.Sound.{IsLog}
 use Rattle.nz_sat.specs.declared.clauses.Held.{Held}
 
--- The clauses, and by the numbers of terms the truths that the last search left.
-pub record SatState : Type 0 where
+-- The clauses, by the numbers of terms the truths that the last search left, and the theory.
+pub record SatState (T : Type 0) : Type 0 where
   pub clauses : List Held
   pub truths : List (Option Bool)
+  pub theory : T
 
 -- ---- Truths
 
-abbrev pub truth_of : SatState → ℕ → Option Bool
-truth_of s t = slice_index_or s.truths t None
+module _ {T : Type 0} where
+  abbrev pub truth_of : SatState T → ℕ → Option Bool
+  truth_of s t = slice_index_or s.truths t None
 
--- whether a literal is true, where its term has a truth
-abbrev pub literal_truth : SatState → Lit → Option Bool
-literal_truth s l = option_map (are_same_sign l.sign) (truth_of s l.term)
+  -- whether a literal is true, where its term has a truth
+  abbrev pub literal_truth : SatState T → Lit → Option Bool
+  literal_truth s l = option_map (are_same_sign l.sign) (truth_of s l.term)
 
-abbrev pub IsTrueLit : SatState → Lit → Type 0
-IsTrueLit s l = truth_of s l.term ≡ Some l.sign
+  abbrev pub IsTrueLit : SatState T → Lit → Type 0
+  IsTrueLit s l = truth_of s l.term ≡ Some l.sign
 
--- One of the literals is true.
-abbrev pub IsTrueClause : SatState → List Lit → Type 0
-IsTrueClause s c = (l : Lit) × Contains c l × IsTrueLit s l
+  -- One of the literals is true.
+  abbrev pub IsTrueClause : SatState T → List Lit → Type 0
+  IsTrueClause s c = (l : Lit) × Contains c l × IsTrueLit s l
 
--- Each clause has a true literal, each assumed literal is true, and each of the atoms has a truth.
-pub record IsSatisfied (log : LogState) (s : SatState) (assumed : List Lit) (atoms : List ℕ) : Type 0 where
-  pub clauses : All (λ (h : Held). IsTrueClause s (literals_at log h.id)) s.clauses
-  pub assumed_hold : All (IsTrueLit s) assumed
-  pub atoms_decided : All (λ (t : ℕ). IsSome (truth_of s t)) atoms
+  -- Each clause has a true literal, each assumed literal is true, and each of the atoms has a truth.
+  pub record IsSatisfied (log : LogState) (s : SatState T) (assumed : List Lit) (atoms : List ℕ) : Type 0 where
+    pub clauses : All (λ (h : Held). IsTrueClause s (literals_at log h.id)) s.clauses
+    pub assumed_hold : All (IsTrueLit s) assumed
+    pub atoms_decided : All (λ (t : ℕ). IsSome (truth_of s t)) atoms
+
+  -- The theory was told just the literals of the atoms that are true, and some values meet them.
+  pub record IsTheoryMet (has_told : List Lit → Type 0) (is_feasible : Type 0) (s : SatState T) (atoms : List ℕ) : Type 0 where
+    pub literals : List Lit
+    pub told : has_told literals
+    pub feasible : is_feasible
+    pub hold : All (IsTrueLit s) literals
+    pub all : (l : Lit) → Contains atoms l.term → IsTrueLit s l → Contains literals l
 
 -- ---- Clauses
 

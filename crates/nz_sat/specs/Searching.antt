@@ -1,6 +1,7 @@
 -- A search under way.
-use Rattle.std.specs.Prelude.{◌≡◌, ℕ, suc, ◌<◌, ◌≤◌, ◌++◌, Bool, All, Contains, List, [], ◌∷◌, length, map, filter, Option, Some, None, IfSome, IsSome, unwrap_or}
+use Rattle.std.specs.Prelude.{◌≡◌, ℕ, suc, ◌<◌, ◌≤◌, ◌++◌, ◌⊎◌, Bool, All, Contains, List, [], ◌∷◌, length, map, filter, Option, Some, None, IfSome, IsSome, unwrap_or}
 use Rattle.nz_spec.specs.Table.{Node, term_in}
+use Rattle.nz_spec.specs.Literal.{StandOnce}
 use Rattle.nz_spec.specs.Legal.{after_lines, at_first, Task}
 use Rattle.nz_spec.specs.Work.{DecisionEntry, LearnedEntry, UnitLine, WorkLine, WorkList, unit_count, with_line}
 use Rattle.nz_log.specs.declared.lits.Lit.{Lit}
@@ -13,9 +14,10 @@ use Rattle.nz_sat.specs.declared.analyze.Lesson.{Lesson}
 use Rattle.nz_sat.specs.declared.search.Search.{Search}
 use Rattle.nz_sat.specs.declared.trail.Assigned.{Assigned}
 use Rattle.nz_log.specs.Sound.{IsLog}
-use Rattle.nz_sat.specs.Trails.{EachBehind, GoesOn, IsTrail, IsTrueOn, assigned, below, decided, depth, implied, is_decision, with_entry}
+use Rattle.nz_sat.specs.Trails.{EachBehind, GoesOn, IsFrontOf, IsTrail, IsTrueOn, assigned, below, decided, depth, implied, is_decision, with_entry}
 use Rattle.nz_sat.specs.Clauses.{HasReasonOf, IsAssumed, IsDead, IsImplied, IsListed, IsOfSize, IsOpen, Waits, ids_of}
-use Rattle.nz_sat.specs.Conflicts.{AreUnmarked, Grows, IsDeadUnder}
+use Rattle.nz_log.specs.Theories.{Grows}
+use Rattle.nz_sat.specs.Conflicts.{AreUnmarked, IsDeadUnder}
 use Rattle.nz_sat.specs.Numbers.{noted_atoms, number_of, numbered}
 use Rattle.nz_sat.specs.Sats.{AreHeld, HoldsMore, IsAsked, IsLegalWork}
 
@@ -55,6 +57,12 @@ pub record IsNoted (log : LogState) (held : List Held) (atoms : List ℕ) (es : 
   pub named : (ns : List Node) → (after_lines at_first (noted_list ns work).lines).atoms ≡ map (term_in ns) atoms
   pub decided : (ns : List Node) → (after_lines at_first (noted_list ns work).lines).decided ≡ map (λ (e : Assigned). numbered atoms e.literal) (filter is_decision es)
   pub learned : (ns : List Node) → All (λ (c : List (ℕ × Bool)). (i : ℕ) × Contains (ids held) i × (map (numbered atoms) (literals_at log i) ≡ c)) (after_lines at_first (noted_list ns work).lines).learned
+
+-- The work list tells the decisions of a trail of which this one is a front.
+pub record WasNoted (log : LogState) (held : List Held) (atoms : List ℕ) (es : List Assigned) (work : WorkList Note) : Type 0 where
+  pub all : List Assigned
+  pub front : IsFrontOf es all
+  pub noted : IsNoted log held atoms all work
 
 -- ---- Before the first decision
 
@@ -96,25 +104,26 @@ pub record AssumesAll (log : LogState) (held : List Held) (assumed : List Lit) (
 
 -- ---- Steps
 
--- where the atoms are of a table, the log stays in order
-abbrev pub StaysInOrder : List ℕ → LogState → LogState → Type 0
-StaysInOrder atoms old new = (ns : List Node) (levels : List (List ℕ)) → All (λ (t : ℕ). t < length ns) atoms → IsLog ns levels old → IsLog ns levels new
+-- where the atoms are of a table of these, the log stays in order
+abbrev pub StaysInOrder : (List Node → Type 0) → List ℕ → LogState → LogState → Type 0
+StaysInOrder over atoms old new =
+    (ns : List Node) (levels : List (List ℕ)) → over ns → All (λ (t : ℕ). t < length ns) atoms → IsLog ns levels old → IsLog ns levels new
 
 -- where the old lines are legal, so are the new ones
-abbrev pub StaysLegal : List ℕ → LogState → List Assigned → (old new : WorkList Note) → Type 0
-StaysLegal atoms log es old new = (ns : List Node) (levels : List (List ℕ)) (assumed : List Lit) (q : Task) → All (IsAssumed assumed) es
+abbrev pub StaysLegal : (List Node → Type 0) → List ℕ → LogState → List Assigned → (old new : WorkList Note) → Type 0
+StaysLegal over atoms log es old new = (ns : List Node) (levels : List (List ℕ)) (assumed : List Lit) (q : Task) → over ns → All (IsAssumed assumed) es
     → IsAsked ns levels log atoms assumed q → IsLegalWork ns q old → IsLegalWork ns q new
 
 -- the entries that these assumed literals are
 abbrev pub assumed_entries : List Lit → List Assigned
 assumed_entries assumed = map (λ (l : Lit). record { literal = l; level = 0; reason = None }) assumed
 
--- What each step of a search keeps, also one that ends with no answer.
-pub record Advances (atoms : List ℕ) (es : List Assigned) (log log' : LogState) (held held' : List Held) (work work' : WorkList Note) : Type 0 where
+-- What each step of a search keeps, also one that ends with no answer, over tables in which what the theory knows of terms is so.
+pub record Advances (over : List Node → Type 0) (atoms : List ℕ) (es : List Assigned) (log log' : LogState) (held held' : List Held) (work work' : WorkList Note) : Type 0 where
   pub grows : Grows log log'
-  pub sound : StaysInOrder atoms log log'
+  pub sound : StaysInOrder over atoms log log'
   pub holds_more : HoldsMore log' held held'
-  pub legal : StaysLegal atoms log es work work'
+  pub legal : StaysLegal over atoms log es work work'
   pub notes : noted_atoms work'.lines ≡ noted_atoms work.lines
   pub limit : work'.limit ≡ work.limit
 
@@ -139,6 +148,24 @@ pub record Follows (log : LogState) (held : List Held) (s s' : Search) (told : O
   pub were_open : WereOpen log held s'.trail.entries
   pub goes_on : GoesOn s.trail.entries s'.trail.entries
   pub told_so : OpenOrDead log held s'.trail.entries told
+
+-- A clause of the log in which each literal is false: it is held, or has each literal once.
+pub record IsConflict (log : LogState) (held : List Held) (es : List Assigned) (id : ℕ) : Type 0 where
+  pub live : IsLive log id
+  pub dead : IsDead es (literals_at log id)
+  pub kind : Contains (ids held) id ⊎ StandOnce (literals_at log id)
+
+-- the clauses are open, or this one is a conflict
+abbrev pub OpenOrConflict : LogState → List Held → List Assigned → Option ℕ → Type 0
+OpenOrConflict log held es None = AreOpen log held es
+OpenOrConflict log held es (Some id) = IsConflict log held es id
+
+-- The trail goes on, up to a conflict, if one is told.
+pub record ComesTo (log : LogState) (held : List Held) (s s' : Search) (told : Option ℕ) : Type 0 where
+  pub search : IsSearch log held s'
+  pub were_open : WereOpen log held s'.trail.entries
+  pub goes_on : GoesOn s.trail.entries s'.trail.entries
+  pub told_so : OpenOrConflict log held s'.trail.entries told
 
 -- What a search that goes on keeps of its trail: what is true under no decision, and that no other entry is assumed. Its atoms stay, and no unit
 -- is given back.
@@ -167,6 +194,20 @@ pub record Learned (log : LogState) (held : List Held) (s s' : Search) (work wor
   pub unit : unit_count work'.lines ≡ suc (unit_count work.lines)
   pub within : unit_count work'.lines ≤ work'.limit
 
+-- Each clause is open, or there is a conflict, and each was open when a decision was taken, with the work noted.
+pub record Turns (log : LogState) (held : List Held) (s s' : Search) (work work' : WorkList Note) (told : Option ℕ) : Type 0 where
+  pub search : IsSearch log held s'
+  pub were_open : WereOpen log held s'.trail.entries
+  pub told_so : OpenOrConflict log held s'.trail.entries told
+  pub noted : IsNoted log held s'.atoms s'.trail.entries work'
+  pub carries : Carries s s' work work'
+
+-- The same after a clause was learned.
+pub record TurnsOn (log : LogState) (held : List Held) (s s' : Search) (work work' : WorkList Note) (told : Option ℕ) : Type 0 where
+  pub turns : Turns log held s s' work work' told
+  pub more : unit_count work.lines < unit_count work'.lines
+  pub free : unit_count work.lines < work.limit
+
 -- Each clause is open, and was when a decision was taken, with the work noted.
 pub record Settles (log : LogState) (held : List Held) (s s' : Search) (work work' : WorkList Note) : Type 0 where
   pub search : IsSearch log held s'
@@ -174,6 +215,22 @@ pub record Settles (log : LogState) (held : List Held) (s s' : Search) (work wor
   pub were_open : WereOpen log held s'.trail.entries
   pub noted : IsNoted log held s'.atoms s'.trail.entries work'
   pub carries : Carries s s' work work'
+
+-- The same after an atom was decided.
+pub record SettlesOn (log : LogState) (held : List Held) (s s' : Search) (work work' : WorkList Note) : Type 0 where
+  pub settles : Settles log held s s' work work'
+  pub more : unit_count work.lines < unit_count work'.lines
+  pub free : unit_count work.lines < work.limit
+
+-- Each clause is open, and was when a decision was taken, each assumed literal is true, and no other entry is assumed.
+pub record Runs (log : LogState) (held : List Held) (assumed : List Lit) (start s : Search) (work : WorkList Note) : Type 0 where
+  pub search : IsSearch log held s
+  pub all_open : AreOpen log held s.trail.entries
+  pub were_open : WereOpen log held s.trail.entries
+  pub noted : IsNoted log held s.atoms s.trail.entries work
+  pub same : s.atoms ≡ start.atoms
+  pub assumed_only : All (IsAssumed assumed) s.trail.entries
+  pub hold : All (IsTrueOn (below 0 s.trail.entries)) assumed
 
 -- Each clause is open, each assumed literal is true, and each atom is decided.
 pub record Satisfies (log : LogState) (held : List Held) (assumed : List Lit) (atoms : List ℕ) (s : Search) : Type 0 where

@@ -1,5 +1,5 @@
 -- Trails: the literals that are true, in the order in which they became so, each with its level and its reason.
-use Rattle.std.specs.Prelude.{◌≡◌, ℕ, ◌+◌, ◌<◌, ◌≤◌, ◌==◌, Bool, true, false, not, List, [], ◌∷◌, ◌++◌, take, filter, All, Option, Some, None, IsSome, option_map, slice_get, slice_index_or, count_by, nat_lt, nat_le, if◌then◌else◌}
+use Rattle.std.specs.Prelude.{◌≡◌, ℕ, ◌+◌, ◌<◌, ◌≤◌, ◌==◌, Bool, true, false, not, List, [], ◌∷◌, ◌++◌, take, filter, All, Option, Some, None, IsSome, option_map, slice_get, slice_index_or, count_by, map, nat_lt, nat_le, if◌then◌else◌}
 use Rattle.nz_log.specs.declared.lits.Lit.{Lit}
 use Rattle.nz_sat.specs.declared.trail.Assigned.{Assigned}
 
@@ -14,6 +14,10 @@ empty_trail n = record { entries = []; size = n }
 -- one entry more
 abbrev pub with_entry : TrailState → Assigned → TrailState
 with_entry s e = record s { entries = s.entries ++ e ∷ [] }
+
+-- the literals of these entries
+abbrev pub literals_on : List Assigned → List Lit
+literals_on es = map (λ (e : Assigned). e.literal) es
 
 -- ---- What is true
 

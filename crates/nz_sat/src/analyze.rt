@@ -1,9 +1,10 @@
 //! Conflict analysis: the clause that a conflict teaches, and the one that refutes the assumed literals.
-ghost use Rattle.std.specs.Prelude.{◌≡◌, ◌≢◌, ℕ, ◌<◌, ◌≤◌, true, false, All, Contains, length, IfOk, OnOk};
+ghost use Rattle.std.specs.Prelude.{◌≡◌, ◌≢◌, ℕ, ◌<◌, ◌≤◌, true, false, All, Contains, length, IfOk, MatchOption, OnOk};
 ghost use Rattle.nz_log.specs.declared.lits.Lit.{Lit};
 ghost use Rattle.nz_log.specs.Logs.{IsLive, chained, literals_at};
 ghost use Rattle.nz_sat.specs.Clauses.{IsDead, IsImplied};
-ghost use Rattle.nz_sat.specs.Conflicts.{AreLinks, AreUnmarked, Grows, HasTwoLast, IsChain, IsGreatestBut, IsLesson, MarksCounted, RefutesFrom, StaysSound, is_marked};
+ghost use Rattle.nz_log.specs.Theories.{Grows};
+ghost use Rattle.nz_sat.specs.Conflicts.{AreLinks, AreUnmarked, HasLast, HasTwoLast, IsChain, IsGreatest, IsGreatestBut, IsLesson, IsLessonLike, IsLoneLast, MarksCounted, RefutesFrom, StaysSound, is_marked};
 ghost use Rattle.nz_sat.specs.Trails.{EachBehind, IsTrail, depth, level_on};
 
 use crate::order::Order;
@@ -119,8 +120,41 @@ fn level_but(trail: &Trail, literals: &[Lit], but: Lit) -> usize
     level
 }
 
+/// The greatest level of these literals, 0 where there are none.
+pub fn greatest_level(trail: &Trail, literals: &[Lit]) -> usize
+    ensures greatest { IsGreatest trail.now.entries literals.now result }
+{
+    let mut level = 0;
+    for literal in literals {
+        level = level.max(trail.level_of(literal.term));
+    }
+    level
+}
+
+/// The literal of the last level, where just one of these is of it.
+fn lone_last(trail: &Trail, literals: &[Lit]) -> Option<Lit>
+    requires last { HasLast trail.now.entries literals.now }
+    ensures lone { MatchOption result (HasTwoLast trail.now.entries literals.now) (IsLoneLast trail.now.entries literals.now) }
+{
+    let last = trail.level();
+    let mut lone: Option<Lit> = None;
+    for literal in literals {
+        if trail.level_of(literal.term) == last {
+            match lone {
+                Some(other) => {
+                    if !other.is(*literal) {
+                        return None;
+                    }
+                }
+                None => lone = Some(*literal),
+            }
+        }
+    }
+    lone
+}
+
 /// Learns from a clause in which each literal is false, two of them of the last level, and puts the clause learned into the log.
-pub fn learn_from(
+fn learn_from(
     alloc: Global,
     log: &mut Log,
     trail: &Trail,
@@ -153,6 +187,40 @@ pub fn learn_from(
     })
 }
 
+/// What a clause teaches in which each literal is false, one of them of the last level: where just one is, the clause itself.
+pub fn lesson_of(
+    alloc: Global,
+    log: &mut Log,
+    trail: &Trail,
+    order: &mut Order,
+    seen: &mut [bool],
+    dead: ClauseId,
+) -> Result<Lesson, Memory>
+    requires live { IsLive log.old dead }
+    requires dead { IsDead trail.now.entries (literals_at log.old dead) }
+    requires once { IsLessonLike trail.now.entries (literals_at log.old dead) }
+    requires last { HasLast trail.now.entries (literals_at log.old dead) }
+    requires order { IsTrail trail.now }
+    requires implied { EachBehind (IsImplied log.old) trail.now.entries }
+    requires decided { 0 < depth trail.now.entries }
+    requires size { length seen.old ≡ trail.now.size }
+    requires unmarked { AreUnmarked seen.old }
+    ensures grows { Grows log.old log.new }
+    ensures sound { StaysSound trail.now.entries log.old log.new }
+    ensures lesson { IfOk result (λ l. IsLesson log.new trail.now.entries l) }
+    ensures unmarked { OnOk result (AreUnmarked seen.new) }
+{
+    let literals = log.clause(dead);
+    match lone_last(trail, literals) {
+        Some(literal) => Ok(Lesson {
+            clause: dead,
+            literal,
+            level: level_but(trail, literals, literal),
+        }),
+        None => learn_from(alloc, log, trail, order, seen, dead),
+    }
+}
+
 /// Goes back over the trail and resolves a clause with the reasons of its literals, until only negations of assumed ones are left.
 fn chain_to_assumed(
     alloc: Global,
@@ -166,7 +234,6 @@ fn chain_to_assumed(
     requires implied { EachBehind (IsImplied log.now) trail.now.entries }
     requires undecided { depth trail.now.entries ≡ 0 }
     requires size { length seen.old ≡ trail.now.size }
-    requires unmarked { AreUnmarked seen.old }
     ensures links { IfOk result (λ v. AreLinks log.now trail.now.entries v.items) }
     ensures refutes { IfOk result (λ v. RefutesFrom trail.now.entries (literals_at log.now dead) (chained log.now (literals_at log.now dead) v.items)) }
 {
@@ -202,7 +269,6 @@ pub fn refutation(
     requires implied { EachBehind (IsImplied log.old) trail.now.entries }
     requires undecided { depth trail.now.entries ≡ 0 }
     requires size { length seen.old ≡ trail.now.size }
-    requires unmarked { AreUnmarked seen.old }
     ensures grows { Grows log.old log.new }
     ensures sound { StaysSound trail.now.entries log.old log.new }
     ensures live { IfOk result (IsLive log.new) }

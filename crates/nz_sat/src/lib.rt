@@ -5,12 +5,14 @@
 mod analyze;
 mod atoms;
 mod clauses;
+mod consult;
 mod heap;
 mod order;
 mod propagate;
 mod sat;
 mod search;
 mod trail;
+mod turns;
 
 pub use clauses::Held;
 pub use sat::Sat;

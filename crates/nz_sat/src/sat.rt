@@ -3,45 +3,52 @@ ghost use Rattle.std.specs.Prelude.{◌≡◌, ℕ, ◌<◌, ◌∷◌, ◌++◌
 ghost use Rattle.nz_spec.specs.Legal.{Task};
 ghost use Rattle.nz_spec.specs.Table.{Node};
 ghost use Rattle.nz_spec.specs.Work.{IsSpent, unit_count};
+ghost use Rattle.nz_log.specs.declared.lits.Lit.{Lit};
 ghost use Rattle.nz_log.specs.declared.stop.Stop.TheVariants as stop;
 ghost use Rattle.nz_log.specs.Lits.{AreConsistent};
 ghost use Rattle.nz_log.specs.Logs.{IsLive, literals_at};
 ghost use Rattle.nz_log.specs.Sound.{IsLog};
-ghost use Rattle.nz_sat.specs.Conflicts.{Grows, Refutes};
+ghost use Rattle.nz_log.specs.Theories.{Grows};
+ghost use Rattle.nz_sat.specs.Conflicts.{Refutes};
 ghost use Rattle.nz_sat.specs.Numbers.{noted_atoms};
-ghost use Rattle.nz_sat.specs.Sats.{AreAtoms, AreHeld, HoldsMore, IsAsked, IsLegalWork, IsSatisfied, held_of, held_up_to, literal_truth};
+ghost use Rattle.nz_sat.specs.Sats.{AreAtoms, AreHeld, HoldsMore, IsAsked, IsLegalWork, IsSatisfied, IsTheoryMet, held_of, held_up_to, literal_truth};
 
 use crate::clauses::Held;
+use crate::consult::take_back;
 use crate::search::Search;
 use nz_base::{Memory, Work};
-use nz_log::{ClauseId, Lit, Log, Note, Stop};
+use nz_log::{ClauseId, Lit, Log, Note, Stop, Theory};
 use std::alloc::Global;
 use std::marker::Model;
 
-/// A search over clauses of a log. A contract sees its clauses, each with its level, and the truths that the last search left.
+/// A search over clauses of a log, and a theory. A contract sees its clauses, each with its level, the truths that the last search left, and the
+/// theory.
 #[derive(Debug, Drop)]
-pub struct Sat {
+pub struct Sat<T> {
     clauses: Vec<Held>,
     // By the numbers of terms.
     truths: Vec<Option<bool>>,
+    /// What it was told last are the literals that are true.
+    pub theory: T,
 }
 
-impl Model for Sat {
+impl<T> Model for Sat<T> {
     ghost use Rattle.nz_sat.specs.Sats.{SatState};
 
-    ghost Value = { SatState };
+    ghost Value = { SatState T };
 
-    ghost view = { λ s. record { clauses = s.clauses.items; truths = s.truths.items } };
+    ghost view = { λ s. record { clauses = s.clauses.items; truths = s.truths.items; theory = s.theory } };
 }
 
-impl Sat {
+impl<T: Theory> Sat<T> {
     /// A search over no clause, with no truth. Takes no memory.
-    pub fn new(alloc: Global) -> Sat
-        ensures empty { result ≡ record { clauses = []; truths = [] } }
+    pub fn new(alloc: Global, theory: T) -> Sat<T>
+        ensures empty { result ≡ record { clauses = []; truths = []; theory = theory } }
     {
         Sat {
             clauses: Vec::new(alloc),
             truths: Vec::new(alloc),
+            theory,
         }
     }
 
@@ -54,6 +61,7 @@ impl Sat {
         requires live { IsLive log.now id }
         ensures added { OnOk result (self.new.clauses ≡ self.old.clauses ++ held_of log.now id ∷ []) }
         ensures truths { self.new.truths ≡ self.old.truths }
+        ensures theory { self.new.theory ≡ self.old.theory }
         ensures unchanged { OnErr result (self.new ≡ self.old) }
     {
         self.clauses.push(Held {
@@ -63,13 +71,13 @@ impl Sat {
         Ok(())
     }
 
-    /// Searches for truths of the noted atoms under which each clause has a true literal, and each assumed literal is true. Answers
-    /// `None` where it found them, and otherwise a clause of the log whose literals are negations of assumed ones.
+    /// Searches for truths of the noted atoms under which each clause has a true literal, each assumed literal is true, and the theory is
+    /// feasible. Answers `None` where it found them, and otherwise a clause of the log whose literals are negations of assumed ones.
     ///
     /// # Errors
     ///
-    /// `Spent` where one more unit was wanted than the work list has, and `Memory`. Then the clauses that were learned are kept, and
-    /// the search has no truths.
+    /// `Spent` where one more unit was wanted than the work list has, and `Memory`. Then the clauses that were learned are kept, the search has
+    /// no truths, and nothing is known of what the theory was told.
     pub fn solve(
         &mut self,
         log: &mut Log,
@@ -80,23 +88,29 @@ impl Sat {
         requires atoms { AreAtoms log.old self.old.clauses assumed.now (noted_atoms work.old.lines) }
         requires consistent { AreConsistent assumed.now }
         requires notes { unit_count work.old.lines ≡ 0 }
+        requires told { (ls : List Lit) × T.has_told self.old.theory ls }
         ensures satisfied { IfOk result (λ r. r ≡ None → IsSatisfied log.new self.new assumed.now (noted_atoms work.old.lines)) }
+        // The theory was told just the literals of atoms that are true, and some values meet them.
+        ensures feasible { IfOk result (λ r. r ≡ None → IsTheoryMet (T.has_told self.new.theory) (T.is_feasible self.new.theory) self.new (noted_atoms work.old.lines)) }
+        ensures told { OnOk result ((ls : List Lit) × T.has_told self.new.theory ls) }
         ensures refuted { IfOk result (λ r. IfSome r (λ id. IsLive log.new id × Refutes assumed.now (literals_at log.new id))) }
         ensures grows { Grows log.old log.new }
         ensures held { HoldsMore log.new self.old.clauses self.new.clauses }
-        // Where the atoms are of a table, the log stays in order.
-        ensures sound { (ns : List Node) (levels : List (List ℕ)) → All (λ t. t < length ns) (noted_atoms work.old.lines) → IsLog ns levels log.old → IsLog ns levels log.new }
+        ensures over { (ns : List Node) → T.is_over self.old.theory ns → T.is_over self.new.theory ns }
+        // Where the atoms are of a table in which what the theory knows of terms is so, the log stays in order.
+        ensures sound { (ns : List Node) (levels : List (List ℕ)) → T.is_over self.old.theory ns → All (λ t. t < length ns) (noted_atoms work.old.lines) → IsLog ns levels log.old → IsLog ns levels log.new }
         // Where the notes are legal, so is the whole list.
-        ensures legal { (ns : List Node) (levels : List (List ℕ)) (q : Task) → IsAsked ns levels log.old (noted_atoms work.old.lines) assumed.now q → IsLegalWork ns q work.old → IsLegalWork ns q work.new }
+        ensures legal { (ns : List Node) (levels : List (List ℕ)) (q : Task) → T.is_over self.old.theory ns → IsAsked ns levels log.old (noted_atoms work.old.lines) assumed.now q → IsLegalWork ns q work.old → IsLegalWork ns q work.new }
         // No atom is named that wasn't.
         ensures notes { noted_atoms work.new.lines ≡ noted_atoms work.old.lines }
         ensures limit { work.new.limit ≡ work.old.limit }
         ensures spent { IfErr result (λ e. e ≡ stop.Spent → IsSpent work.new) }
     {
         self.truths.clear();
+        take_back(&mut self.theory, 0);
         let alloc = *self.clauses.allocator();
         let mut search = Search::new(alloc, log, &self.clauses, work)?;
-        let refuted = search.run(log, &mut self.clauses, assumed, work)?;
+        let refuted = search.run(log, &mut self.clauses, &mut self.theory, assumed, work)?;
         if refuted.is_none() {
             self.truths = search.trail.truths(alloc)?;
         }
@@ -117,6 +131,7 @@ impl Sat {
     pub fn cut(&mut self, level: usize)
         ensures clauses { self.new.clauses ≡ held_up_to level self.old.clauses }
         ensures truths { self.new.truths ≡ self.old.truths }
+        ensures theory { self.new.theory ≡ self.old.theory }
     {
         self.clauses.retain(
             |held: &Held| -> bool

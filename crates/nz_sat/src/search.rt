@@ -1,5 +1,6 @@
 //! The search: decisions, what follows from them, and what each conflict teaches.
-ghost use Rattle.std.specs.Prelude.{◌≡◌, ℕ, suc, ◌<◌, ◌≤◌, ◌++◌, ◌∷◌, [], All, Contains, List, None, Some, length, map, IfErr, IfOk, IfSome, IsSome, OnErr, OnOk, MatchOption};
+ghost use Rattle.std.specs.Prelude.{◌≡◌, ℕ, ◌<◌, ◌≤◌, ◌++◌, ◌∷◌, [], All, Contains, List, None, Some, length, map, IfErr, IfOk, IfSome, IsSome, OnErr, OnOk};
+ghost use Rattle.nz_spec.specs.Table.{Node};
 ghost use Rattle.nz_spec.specs.Work.{IsSpent, UnitLine, unit_count, with_line};
 ghost use Rattle.nz_base.specs.Entries.{entry_of};
 ghost use Rattle.nz_log.specs.declared.lits.Lit.{Lit};
@@ -7,22 +8,25 @@ ghost use Rattle.nz_log.specs.declared.stop.Stop.TheVariants as stop;
 ghost use Rattle.nz_log.specs.Lits.{AreConsistent};
 ghost use Rattle.nz_log.specs.Logs.{IsLive, literals_at};
 ghost use Rattle.nz_sat.specs.declared.clauses.Held.{Held};
-ghost use Rattle.nz_sat.specs.Clauses.{Adds, AreUsable, IsAssumed, IsDead, IsImplied, IsWithin};
-ghost use Rattle.nz_sat.specs.Conflicts.{AreUnmarked, Grows, IsDeadUnder, Refutes, RefutesFrom, StaysSound};
-ghost use Rattle.nz_sat.specs.Numbers.{noted_atoms, number_of, numbered};
-ghost use Rattle.nz_sat.specs.Sats.{AreAtoms, AreHeld, HoldsMore, held_of};
-ghost use Rattle.nz_sat.specs.Searching.{Advances, AreOpen, AreWaiting, Assumes, AssumesAll, Follows, MayAssume, MayFollow, Starts, Decides, IsNoted, IsSearch, Learned, Satisfies, Settles, WereOpen, after_lesson, assumed_entries, ids, learned_line};
-ghost use Rattle.nz_sat.specs.Trails.{EachBehind, IsFrontOf, IsTrail, IsTrueOn, assigned, below, depth};
+ghost use Rattle.nz_sat.specs.Clauses.{Adds, AreUsable, IsImplied, IsWithin};
+ghost use Rattle.nz_log.specs.Theories.{AddsUnits, Grows};
+ghost use Rattle.nz_sat.specs.Conflicts.{GoesBackTo, HasLast, RefutesFrom, StaysSound};
+ghost use Rattle.nz_sat.specs.Numbers.{noted_atoms, numbered};
+ghost use Rattle.nz_sat.specs.Sats.{AreHeld, HoldsMore, held_of};
+ghost use Rattle.nz_sat.specs.Searching.{Advances, Assumes, AssumesAll, ComesTo, Follows, MayAssume, MayFollow, Starts, Decides, IsConflict, IsSearch, Learned, WasNoted, WereOpen, after_lesson, learned_line};
+ghost use Rattle.nz_sat.specs.Theories.{IsMet, IsTold};
+ghost use Rattle.nz_sat.specs.Trails.{EachBehind, GoesOn, IsFrontOf, IsTrail, assigned, below, depth};
 
-use crate::analyze::{Lesson, learn_from, refutation};
+use crate::analyze::{Lesson, greatest_level, lesson_of, refutation};
 use crate::atoms::Atoms;
 use crate::clauses::{Held, Index};
+use crate::consult::{consult, take_back};
 use crate::order::Order;
 use crate::propagate::{propagate, visit_held};
 use crate::trail::Trail;
 use nz_base::{Entry, Literals, Memory, Work};
 use nz_log::laws::clauses_are_true;
-use nz_log::{ClauseId, Lit, Log, Note, Stop};
+use nz_log::{ClauseId, Lit, Log, Note, Stop, Theory};
 use nz_spec::work::legal_work_goes_on;
 use nz_term::TermId;
 use std::alloc::Global;
@@ -99,7 +103,7 @@ impl Search {
 
     /// Puts what the clauses alone make true on the trail, and then each assumed literal with what the clauses make true. Answers a
     /// clause in which each literal is false or the negation of an assumed one.
-    fn assume_all(&mut self, log: &Log, held: &[Held], assumed: &[Lit]) -> Option<ClauseId>
+    pub(crate) fn assume_all(&mut self, log: &Log, held: &[Held], assumed: &[Lit]) -> Option<ClauseId>
         requires search { IsSearch log.now held.now self.old }
         requires none { self.old.trail.entries ≡ [] }
         requires named { All (λ l. Contains self.old.atoms l.term) assumed.now }
@@ -121,12 +125,12 @@ impl Search {
     }
 
     /// The clause of the log that refutes the assumed literals, from a dead one under no decision.
-    fn refute(&mut self, alloc: Global, log: &mut Log, dead: ClauseId) -> Result<ClauseId, Memory>
+    pub(crate) fn refute(&mut self, alloc: Global, log: &mut Log, dead: ClauseId) -> Result<ClauseId, Memory>
         requires live { IsLive log.old dead }
         requires implied { EachBehind (IsImplied log.old) self.old.trail.entries }
         requires undecided { depth self.old.trail.entries ≡ 0 }
         requires size { length self.old.seen.items ≡ self.old.trail.size }
-        requires unmarked { AreUnmarked self.old.seen.items }
+        ensures rest { self.new ≡ record self.old { order = self.new.order; seen = self.new.seen } }
         ensures grows { Grows log.old log.new }
         ensures sound { StaysSound self.old.trail.entries log.old log.new }
         ensures live { IfOk result (IsLive log.new) }
@@ -154,14 +158,69 @@ impl Search {
         }
     }
 
+    /// Takes the literals above a level off the trail, and back from the theory.
+    fn cut<T: Theory>(&mut self, theory: &mut T, level: usize)
+        ensures rest { self.new ≡ record self.old { trail = self.new.trail; order = self.new.order } }
+        ensures size { self.new.trail.size ≡ self.old.trail.size }
+        ensures below { self.new.trail.entries ≡ below level self.old.trail.entries }
+        ensures front { IsFrontOf self.new.trail.entries self.old.trail.entries }
+        ensures told { IsTold (T.has_told theory.old) self.old.trail.entries → IsTold (T.has_told theory.new) self.new.trail.entries }
+        ensures over { (ns : List Node) → T.is_over theory.old ns → T.is_over theory.new ns }
+    {
+        self.jump(level);
+        take_back(theory, self.trail.len());
+    }
+
+    /// Goes back to the last level of which a clause has a literal.
+    pub(crate) fn back_to<T: Theory>(&mut self, log: &Log, theory: &mut T, clause: ClauseId)
+        requires live { IsLive log.now clause }
+        ensures rest { self.new ≡ record self.old { trail = self.new.trail; order = self.new.order } }
+        ensures size { self.new.trail.size ≡ self.old.trail.size }
+        ensures back { GoesBackTo (literals_at log.now clause) self.old.trail.entries self.new.trail.entries }
+        ensures told { IsTold (T.has_told theory.old) self.old.trail.entries → IsTold (T.has_told theory.new) self.new.trail.entries }
+        ensures over { (ns : List Node) → T.is_over theory.old ns → T.is_over theory.new ns }
+    {
+        let level = greatest_level(&self.trail, log.clause(clause));
+        self.cut(theory, level);
+    }
+
     /// Makes true what the clauses make true by the literals from a place of the trail on, up to the first dead clause.
     fn follow(&mut self, log: &Log, from: usize) -> Option<ClauseId>
         requires usable { AreUsable log.now self.old.trail.size self.old.index }
         requires from { from ≤ length self.old.trail.entries }
         ensures rest { self.new ≡ record self.old { trail = self.new.trail } }
+        ensures goes_on { GoesOn self.old.trail.entries self.new.trail.entries }
         ensures comes { (held : List Held) → MayFollow log.now held self.old from → Follows log.now held self.old self.new result }
     {
         propagate(log, &self.index, &mut self.trail, from)
+    }
+
+    /// Makes true what the clauses make true by the literals from a place of the trail on, and has the theory check that. Answers a clause in
+    /// which each literal is false.
+    pub(crate) fn conflict<T: Theory>(
+        &mut self,
+        log: &mut Log,
+        theory: &mut T,
+        work: &mut Work<Note>,
+        from: usize,
+    ) -> Result<Option<ClauseId>, Stop>
+        requires usable { AreUsable log.old self.old.trail.size self.old.index }
+        requires from { from ≤ length self.old.trail.entries }
+        requires told { IsTold (T.has_told theory.old) self.old.trail.entries }
+        ensures rest { self.new ≡ record self.old { trail = self.new.trail } }
+        ensures advances { (held : List Held) → MayFollow log.old held self.old from → Advances (T.is_over theory.old) self.old.atoms self.old.trail.entries log.old log.new held held work.old work.new }
+        ensures comes { (held : List Held) → MayFollow log.old held self.old from → IfOk result (ComesTo log.new held self.old self.new) }
+        ensures units { AddsUnits work.old work.new }
+        ensures told { OnOk result (IsTold (T.has_told theory.new) self.new.trail.entries) }
+        ensures met { IfOk result (λ r. r ≡ None → IsMet (T.has_told theory.new) (T.is_feasible theory.new) self.new.trail.entries) }
+        ensures over { (ns : List Node) → T.is_over theory.old ns → T.is_over theory.new ns }
+        ensures spent { IfErr result (λ e. e ≡ stop.Spent → IsSpent work.new) }
+    {
+        let dead = self.follow(log, from);
+        if dead.is_some() {
+            return Ok(dead);
+        }
+        consult(log, &self.trail, theory, work)
     }
 
     /// Notes the clause of a lesson.
@@ -207,44 +266,51 @@ impl Search {
     }
 
     /// Goes back to where a lesson makes a literal true, and puts that on the trail. Answers its place.
-    fn go_back(&mut self, lesson: Lesson) -> usize
+    fn go_back<T: Theory>(&mut self, theory: &mut T, lesson: Lesson) -> usize
         requires free { assigned (below lesson.level self.old.trail.entries) lesson.literal.term ≡ None }
         requires within { lesson.literal.term < self.old.trail.size }
+        requires told { IsTold (T.has_told theory.old) self.old.trail.entries }
         ensures rest { self.new ≡ record self.old { trail = self.new.trail; order = self.new.order } }
         ensures size { self.new.trail.size ≡ self.old.trail.size }
         ensures order { IsTrail self.new.trail }
         ensures place { result ≡ length (below lesson.level self.old.trail.entries) }
         ensures entries { self.new.trail.entries ≡ after_lesson self.old.trail.entries lesson }
+        ensures told { IsTold (T.has_told theory.new) self.new.trail.entries }
+        ensures over { (ns : List Node) → T.is_over theory.old ns → T.is_over theory.new ns }
     {
-        self.jump(lesson.level);
+        self.cut(theory, lesson.level);
         let place = self.trail.len();
         self.trail.imply(lesson.literal, lesson.clause);
         place
     }
 
-    /// Learns from a dead clause: notes the clause learned, adds it, and goes back to where it makes a literal true. Answers the place
-    /// of that literal.
-    fn learn(
+    /// Learns from a clause in which each literal is false, one of them of the last level: notes the clause learned, adds it, and goes back to
+    /// where it makes a literal true. Answers the place of that literal.
+    pub(crate) fn learn<T: Theory>(
         &mut self,
         log: &mut Log,
         held: &mut Vec<Held>,
+        theory: &mut T,
         work: &mut Work<Note>,
         dead: ClauseId,
     ) -> Result<usize, Stop>
         requires search { IsSearch log.old held.old.items self.old }
         requires all_open { WereOpen log.old held.old.items self.old.trail.entries }
-        requires held { Contains (ids held.old.items) dead }
-        requires dead { IsDead self.old.trail.entries (literals_at log.old dead) }
+        requires conflict { IsConflict log.old held.old.items self.old.trail.entries dead }
+        requires last { HasLast self.old.trail.entries (literals_at log.old dead) }
         requires decided { 0 < depth self.old.trail.entries }
-        requires noted { IsNoted log.old held.old.items self.old.atoms self.old.trail.entries work.old }
-        ensures advances { Advances self.old.atoms self.old.trail.entries log.old log.new held.old.items held.new.items work.old work.new }
+        requires noted { WasNoted log.old held.old.items self.old.atoms self.old.trail.entries work.old }
+        requires told { IsTold (T.has_told theory.old) self.old.trail.entries }
+        ensures advances { Advances (T.is_over theory.old) self.old.atoms self.old.trail.entries log.old log.new held.old.items held.new.items work.old work.new }
         ensures learned { IfOk result (λ from. Learned log.new held.new.items self.old self.new work.old work.new from) }
+        ensures told { OnOk result (IsTold (T.has_told theory.new) self.new.trail.entries) }
+        ensures over { (ns : List Node) → T.is_over theory.old ns → T.is_over theory.new ns }
         ensures spent { IfErr result (λ e. e ≡ stop.Spent → IsSpent work.new) }
     {
         clauses_are_true();
         legal_work_goes_on();
         let alloc = *held.allocator();
-        let lesson = learn_from(
+        let lesson = lesson_of(
             alloc,
             log,
             &self.trail,
@@ -254,41 +320,11 @@ impl Search {
         )?;
         self.note_lesson(alloc, log, work, lesson)?;
         self.hold(log, held, lesson.clause)?;
-        Ok(self.go_back(lesson))
-    }
-
-    /// Makes true what the clauses make true by the literals from a place of the trail on, and learns from each conflict. Answers the
-    /// clause that refutes the assumed literals, if one does.
-    fn settle(
-        &mut self,
-        log: &mut Log,
-        held: &mut Vec<Held>,
-        work: &mut Work<Note>,
-        from: usize,
-    ) -> Result<Option<ClauseId>, Stop>
-        requires search { IsSearch log.old held.old.items self.old }
-        requires all_open { WereOpen log.old held.old.items self.old.trail.entries }
-        requires from { from ≤ length self.old.trail.entries }
-        requires waits { AreWaiting log.old held.old.items self.old.trail.entries from }
-        requires noted { IsNoted log.old held.old.items self.old.atoms self.old.trail.entries work.old }
-        ensures advances { Advances self.old.atoms self.old.trail.entries log.old log.new held.old.items held.new.items work.old work.new }
-        ensures settled { IfOk result (λ r. r ≡ None → Settles log.new held.new.items self.old self.new work.old work.new) }
-        ensures refuted { IfOk result (λ r. IfSome r (λ id. IsLive log.new id × ((assumed : List Lit) → All (IsAssumed assumed) self.old.trail.entries → Refutes assumed (literals_at log.new id)))) }
-        ensures spent { IfErr result (λ e. e ≡ stop.Spent → IsSpent work.new) }
-    {
-        let mut dead = self.follow(log, from);
-        while let Some(clause) = dead {
-            if self.trail.level() == 0 {
-                return Ok(Some(self.refute(*held.allocator(), log, clause)?));
-            }
-            let from = self.learn(log, held, work, clause)?;
-            dead = self.follow(log, from);
-        }
-        Ok(None)
+        Ok(self.go_back(theory, lesson))
     }
 
     /// The undecided atom that took most part in conflicts.
-    fn next(&mut self) -> Option<TermId>
+    pub(crate) fn next(&mut self) -> Option<TermId>
         ensures rest { self.new ≡ record self.old { order = self.new.order } }
         ensures undecided { IfSome result (λ t. Contains self.new.atoms t × (assigned self.new.trail.entries t ≡ None)) }
         ensures none { result ≡ None → All (λ t. IsSome (assigned self.new.trail.entries t)) self.new.atoms }
@@ -297,7 +333,7 @@ impl Search {
     }
 
     /// Decides an atom, with the sign that it had last. Answers the place of its literal on the trail.
-    fn decide(&mut self, work: &mut Work<Note>, term: TermId) -> Result<usize, Stop>
+    pub(crate) fn decide(&mut self, work: &mut Work<Note>, term: TermId) -> Result<usize, Stop>
         requires free { assigned self.old.trail.entries term ≡ None }
         requires named { Contains self.old.atoms term }
         requires within { term < self.old.trail.size }
@@ -316,38 +352,6 @@ impl Search {
         let place = self.trail.len();
         self.trail.decide(Lit { term, sign });
         Ok(place)
-    }
-
-    /// Searches for truths of the atoms under which each clause has a true literal, and each assumed one is true. Answers the clause
-    /// that refutes the assumed literals, if one does.
-    pub fn run(
-        &mut self,
-        log: &mut Log,
-        held: &mut Vec<Held>,
-        assumed: &[Lit],
-        work: &mut Work<Note>,
-    ) -> Result<Option<ClauseId>, Stop>
-        requires search { IsSearch log.old held.old.items self.old }
-        requires none { self.old.trail.entries ≡ [] }
-        requires named { All (λ l. Contains self.old.atoms l.term) assumed.now }
-        requires consistent { AreConsistent assumed.now }
-        requires noted { IsNoted log.old held.old.items self.old.atoms [] work.old }
-        ensures advances { Advances self.old.atoms (assumed_entries assumed.now) log.old log.new held.old.items held.new.items work.old work.new }
-        ensures satisfied { IfOk result (λ r. r ≡ None → Satisfies log.new held.new.items assumed.now self.old.atoms self.new) }
-        ensures refuted { IfOk result (λ r. IfSome r (λ id. IsLive log.new id × Refutes assumed.now (literals_at log.new id))) }
-        ensures spent { IfErr result (λ e. e ≡ stop.Spent → IsSpent work.new) }
-    {
-        legal_work_goes_on();
-        if let Some(dead) = self.assume_all(log, held, assumed) {
-            return Ok(Some(self.refute(*held.allocator(), log, dead)?));
-        }
-        while let Some(term) = self.next() {
-            let from = self.decide(work, term)?;
-            if let Some(refuted) = self.settle(log, held, work, from)? {
-                return Ok(Some(refuted));
-            }
-        }
-        Ok(None)
     }
 }
 

@@ -9,6 +9,7 @@ use Rattle.nz_log.specs.declared.lits.Lit.{Lit}
 use Rattle.nz_log.specs.Logs.{LogState, Entry, entry_at, IsLive, literals_at, level_at, Puts}
 use Rattle.nz_log.specs.Sound.{IsLog, AreWithin, LogsStay, live_at}
 use Rattle.nz_sat.specs.declared.clauses.Held.{Held}
+use Rattle.nz_log.specs.declared.theory.NoNumbers.{NoNumbers}
 use Rattle.nz_sat.specs.Sats.{SatState, AreAtoms, AreHeld, HoldsMore, held_of}
 use Rattle.nz_sat_tests.specs.Problems.{AreBelow, IsPosed}
 use Rattle.nz_sat_tests.proofs.Noting.{below_has, below_once, below_within}
@@ -16,7 +17,7 @@ use Rattle.nz_sat_tests.proofs.Noting.{below_has, below_once, below_within}
 -- ---- A clause more
 
 -- in the log
-pub put_posed : (ns : List Node) (asserted : List ℕ) (old new : LogState) (sat : SatState) (id : ℕ) (e : Entry) → Puts old id e new
+pub put_posed : (ns : List Node) (asserted : List ℕ) (old new : LogState) (sat : SatState NoNumbers) (id : ℕ) (e : Entry) → Puts old id e new
     → (IsLog ns (asserted ∷ []) old → IsLog ns (asserted ∷ []) new) → IsPosed ns asserted old sat → IsPosed ns asserted new sat
 put_posed ns asserted old new sat id e puts sound h =
     let level_stays : (i : ℕ) → IsLive old i → level_at new i ≡ level_at old i =
@@ -33,7 +34,7 @@ one_held log held id live h =
     (All-from_recursion (λ (x : Held). IsLive log x.id × (level_at log x.id ≡ x.level)) (held_of log id ∷ []) ((live, refl), tt))
 
 -- held by the search, where there was memory for it
-pub add_posed : {A E : Type 0} (ns : List Node) (asserted : List ℕ) (log : LogState) (old new : SatState) (id : ℕ) (r : Result A E) → IsPosed ns asserted log old → IsLive log id
+pub add_posed : {A E : Type 0} (ns : List Node) (asserted : List ℕ) (log : LogState) (old new : SatState NoNumbers) (id : ℕ) (r : Result A E) → IsPosed ns asserted log old → IsLive log id
     → OnOk r (new.clauses ≡ old.clauses ++ held_of log id ∷ []) → OnErr r (new ≡ old) → IsPosed ns asserted log new
 add_posed ns asserted log old new id (Ok x) h live more same =
     record { order = h.order; held = subst (AreHeld log) (sym more) (one_held log old.clauses id live h.held) }
@@ -41,7 +42,7 @@ add_posed ns asserted log old new id (Err x) h live more same = subst (IsPosed n
 
 -- ---- More terms, and more that is asserted
 
-pub made_posed : {E : Type 0} → LogsStay → (old new : List Node) (n : Node) (asserted : List ℕ) (log : LogState) (sat : SatState) (r : Result ℕ E)
+pub made_posed : {E : Type 0} → LogsStay → (old new : List Node) (n : Node) (asserted : List ℕ) (log : LogState) (sat : SatState NoNumbers) (r : Result ℕ E)
     → OnOk r ((new ≡ old) ⊎ (new ≡ old ++ n ∷ [])) → OnErr r (new ≡ old) → IsPosed old asserted log sat → IsPosed new asserted log sat
 made_posed stay old new n asserted log sat (Ok id) (inl same) err h = subst (λ ns. IsPosed ns asserted log sat) (sym same) h
 made_posed stay old new n asserted log sat (Ok id) (inr more) err h =
@@ -52,7 +53,7 @@ pub made_within : {E : Type 0} (ns : List Node) (n : Node) (r : Result ℕ E) �
 made_within ns n (Ok id) h = slice_get_within ns id n h
 made_within ns n (Err x) h = tt
 
-pub pushed_posed : LogsStay → (ns : List Node) (asserted : List ℕ) (t : ℕ) (log : LogState) (sat : SatState) → IsPosed ns asserted log sat → IsPosed ns (asserted ++ t ∷ []) log sat
+pub pushed_posed : LogsStay → (ns : List Node) (asserted : List ℕ) (t : ℕ) (log : LogState) (sat : SatState NoNumbers) → IsPosed ns asserted log sat → IsPosed ns (asserted ++ t ∷ []) log sat
 pushed_posed stay ns asserted t log sat h =
     record { order = stay.asserted ns (asserted ∷ []) ((asserted ++ t ∷ []) ∷ []) log (stay.number (asserted ∷ []) t) h.order; held = h.held }
 
@@ -72,7 +73,7 @@ literals_within ns None live h = absurd (true≢false (sym live))
 literals_within ns (Some e) live h = All-from_recursion (λ (l : Lit). l.term < length ns) e.literals (h e refl)
 
 -- what a search asks of its clauses and of what is assumed
-pub posed_atoms : (ns : List Node) (asserted : List ℕ) (log : LogState) (sat : SatState) (assumed : List Lit) (atoms : List ℕ) → IsPosed ns asserted log sat
+pub posed_atoms : (ns : List Node) (asserted : List ℕ) (log : LogState) (sat : SatState NoNumbers) (assumed : List Lit) (atoms : List ℕ) → IsPosed ns asserted log sat
     → All (λ (l : Lit). l.term < length ns) assumed → AreBelow (length ns) atoms → AreAtoms log sat.clauses assumed atoms
 posed_atoms ns asserted log sat assumed atoms h within below =
     let named : (ls : List Lit) → All (λ (l : Lit). l.term < length ns) ls → All (λ (l : Lit). Contains atoms l.term) ls =
@@ -85,7 +86,7 @@ posed_atoms ns asserted log sat assumed atoms h within below =
     }
 
 -- what a search leaves
-pub searched_posed : (ns : List Node) (asserted : List ℕ) (old new : LogState) (sat sat' : SatState) (atoms : List ℕ) → IsPosed ns asserted old sat → AreBelow (length ns) atoms
+pub searched_posed : (ns : List Node) (asserted : List ℕ) (old new : LogState) (sat sat' : SatState NoNumbers) (atoms : List ℕ) → IsPosed ns asserted old sat → AreBelow (length ns) atoms
     → ((ms : List Node) (levels : List (List ℕ)) → All (λ t. t < length ms) atoms → IsLog ms levels old → IsLog ms levels new) → HoldsMore new sat.clauses sat'.clauses
     → IsPosed ns asserted new sat'
 searched_posed ns asserted old new sat sat' atoms h below sound more =

@@ -15,7 +15,7 @@ ghost use Rattle.nz_sat_tests.specs.Problems.{AreBelow, IsPosed};
 
 use nz_base::{Memory, Text, Work};
 use nz_log::laws::logs_stay;
-use nz_log::{ClauseId, Lit, Log, Note, Stop, gate_count};
+use nz_log::{ClauseId, Lit, Log, NoNumbers, Note, Stop, gate_count};
 use nz_sat::Sat;
 use nz_spec::derivation::gates_are_true;
 use nz_term::{Constant, Head, Operator, Sort, TermId, Terms};
@@ -29,7 +29,7 @@ pub struct Problem {
     terms: Terms,
     asserted: Vec<TermId>,
     log: Log,
-    sat: Sat,
+    sat: Sat<NoNumbers>,
     limit: u64,
     left: u64,
 }
@@ -56,7 +56,7 @@ impl Problem {
             terms: Terms::new(alloc)?,
             asserted: Vec::new(alloc),
             log: Log::new(alloc)?,
-            sat: Sat::new(alloc),
+            sat: Sat::new(alloc, NoNumbers::new()),
             limit,
             left: limit,
         })
@@ -160,7 +160,7 @@ impl Problem {
 /// Adds the clause of this number of a term of the gate table.
 fn add_gate(
     log: &mut Log,
-    sat: &mut Sat,
+    sat: &mut Sat<NoNumbers>,
     terms: &Terms,
     term: TermId,
     j: usize,
@@ -174,7 +174,7 @@ fn add_gate(
 }
 
 /// Adds the clauses of a term of the gate table that holds no number.
-fn add_gates(log: &mut Log, sat: &mut Sat, terms: &Terms, term: TermId) -> Result<(), Memory>
+fn add_gates(log: &mut Log, sat: &mut Sat<NoNumbers>, terms: &Terms, term: TermId) -> Result<(), Memory>
     requires within { term < length terms.now }
     ensures posed { (asserted : List ℕ) → IsPosed terms.now asserted log.old sat.old → IsPosed terms.now asserted log.new sat.new }
 {
@@ -189,7 +189,7 @@ fn add_gates(log: &mut Log, sat: &mut Sat, terms: &Terms, term: TermId) -> Resul
 }
 
 /// Adds that the term of a live assertion is true.
-fn add_assertion(log: &mut Log, sat: &mut Sat, place: usize, term: TermId) -> Result<(), Memory>
+fn add_assertion(log: &mut Log, sat: &mut Sat<NoNumbers>, place: usize, term: TermId) -> Result<(), Memory>
     ensures posed { (ns : List Node) (asserted : List ℕ) → term < length ns → slice_get (live_at (asserted ∷ []) 0) place ≡ Some term → IsPosed ns asserted log.old sat.old → IsPosed ns asserted log.new sat.new }
 {
     let clause = log.given(place, term, 0)?;

@@ -1,52 +1,65 @@
 -- What the run of the search told, over the atoms that are noted.
-use Rattle.std.proofs.Common.{◌≡◌, ℕ, true, false, [], List, ap, sym, subst, ◌∙◌, rules}
+use Rattle.std.proofs.Common.{◌≡◌, ℕ, true, false, [], List, take, ap, sym, subst, ◌∙◌, rules}
 use Rattle.std.specs.Prelude.{All, Contains, is_none}
 use Rattle.nz_log.specs.declared.lits.Lit.{Lit}
 use Rattle.nz_log.specs.Logs.{literals_at}
 use Rattle.nz_sat.specs.declared.clauses.Held.{Held}
 use Rattle.nz_sat.specs.Numbers.{noted_atoms}
-use Rattle.nz_sat.specs.Sats.{SatState}
-use Rattle.nz_sat.specs.Searching.{IsNoted, Satisfies, StaysInOrder}
-use Rattle.nz_sat.specs.Trails.{AreTruthsOn}
-use Rattle.nz_sat.proofs.Solving.{first_noted, satisfied, stays_legal}
+use Rattle.nz_sat.specs.Sats.{IsTheoryMet, SatState}
+use Rattle.nz_sat.specs.Searching.{IsNoted, Satisfies}
+use Rattle.nz_sat.specs.Trails.{AreTruthsOn, literals_on}
+use Rattle.nz_sat.proofs.Solving.{first_noted, satisfied, stays_legal, stays_sound, theory_met}
 use Rattle.nz_sat.proofs.sat.Sat.solve.Goals.{then-is_none+in_ok-self-inside, else-is_none}
 use Rattle.nz_sat.proofs.sat.Sat.solve.Goals as goal
 
 pub new-requires-clause-named : goal.new-requires-clause-named
-new-requires-clause-named c =
-    let same : c.args.self.now.clauses ≡ c.deref.result.now = sym (ap (λ (s : SatState). s.clauses) c.self.view_is) ∙ search rules in
+new-requires-clause-named g c =
+    let same : c.args.self.now.clauses ≡ c.deref.result.now = sym (ap (λ (s : SatState g.row.T.Denot). s.clauses) c.self.view_is) ∙ search rules in
     subst (All (λ (h : Held). All (λ (l : Lit). Contains (noted_atoms c.args.work.now.lines) l.term) (literals_at c.args.log.now h.id))) same c.requires.atoms.clauses
 
 pub run-requires-clause-named : goal.run-requires-clause-named
-run-requires-clause-named c =
+run-requires-clause-named g c =
     subst (λ (us : List ℕ). All (λ (l : Lit). Contains us l.term) c.args.assumed.now) (sym c.in_ok-search.ensures.atoms) c.requires.atoms.assumed_named
 
 pub run-requires-clause-noted : goal.run-requires-clause-noted
-run-requires-clause-noted c =
+run-requires-clause-noted g c =
     let held = c.self.inside.clauses.items in
     subst (λ (us : List ℕ). IsNoted c.args.log.now held us [] c.args.work.now) (sym c.in_ok-search.ensures.atoms)
     (first_noted c.args.log.now held c.args.work.now c.requires.notes)
 
+pub run-requires-clause-told : goal.run-requires-clause-told
+run-requires-clause-told g c =
+    let told = subst (λ (s : SatState g.row.T.Denot). (ls : List Lit) × g.T.Theory.has_told s.theory ls) (sym c.self.view_is) c.requires.told in
+    c.take_back.ensures.told told.0 told.1
+
 pub returns-in_err-refuted-clause-sound : goal.returns-in_err-refuted-clause-sound
-returns-in_err-refuted-clause-sound c =
-    subst (λ (us : List ℕ). StaysInOrder us c.args.log.now c.run.new.log) c.in_ok-search.ensures.atoms c.run.ensures.advances.sound
+returns-in_err-refuted-clause-sound g c =
+    stays_sound (g.T.Theory.is_over c.args.self.now.theory) (g.T.Theory.is_over c.take_back.new.theory)
+    (λ ns known. c.take_back.ensures.over ns (subst (λ (s : SatState g.row.T.Denot). g.T.Theory.is_over s.theory ns) (sym c.self.view_is) known))
+    c.in_ok-search.search.atoms (noted_atoms c.args.work.now.lines) c.in_ok-search.ensures.atoms c.args.log.now c.run.new.log c.run.ensures.advances.sound
 
 pub returns-in_err-refuted-clause-legal : goal.returns-in_err-refuted-clause-legal
-returns-in_err-refuted-clause-legal c =
-    stays_legal c.in_ok-search.search.atoms (noted_atoms c.args.work.now.lines) c.in_ok-search.ensures.atoms c.args.log.now c.args.assumed.now c.args.work.now c.run.new.work
+returns-in_err-refuted-clause-legal g c =
+    stays_legal (g.T.Theory.is_over c.args.self.now.theory) (g.T.Theory.is_over c.take_back.new.theory)
+    (λ ns known. c.take_back.ensures.over ns (subst (λ (s : SatState g.row.T.Denot). g.T.Theory.is_over s.theory ns) (sym c.self.view_is) known))
+    c.in_ok-search.search.atoms (noted_atoms c.args.work.now.lines) c.in_ok-search.ensures.atoms c.args.log.now c.args.assumed.now c.args.work.now c.run.new.work
     c.run.ensures.advances.legal
 
 pub returns-in_err-self-inside-clause-sound : goal.returns-in_err-self-inside-clause-sound
-returns-in_err-self-inside-clause-sound c =
-    subst (λ (us : List ℕ). StaysInOrder us c.args.log.now c.run.new.log) c.in_ok-search.ensures.atoms c.run.ensures.advances.sound
+returns-in_err-self-inside-clause-sound g c =
+    stays_sound (g.T.Theory.is_over c.args.self.now.theory) (g.T.Theory.is_over c.take_back.new.theory)
+    (λ ns known. c.take_back.ensures.over ns (subst (λ (s : SatState g.row.T.Denot). g.T.Theory.is_over s.theory ns) (sym c.self.view_is) known))
+    c.in_ok-search.search.atoms (noted_atoms c.args.work.now.lines) c.in_ok-search.ensures.atoms c.args.log.now c.run.new.log c.run.ensures.advances.sound
 
 pub returns-in_err-self-inside-clause-legal : goal.returns-in_err-self-inside-clause-legal
-returns-in_err-self-inside-clause-legal c =
-    stays_legal c.in_ok-search.search.atoms (noted_atoms c.args.work.now.lines) c.in_ok-search.ensures.atoms c.args.log.now c.args.assumed.now c.args.work.now c.run.new.work
+returns-in_err-self-inside-clause-legal g c =
+    stays_legal (g.T.Theory.is_over c.args.self.now.theory) (g.T.Theory.is_over c.take_back.new.theory)
+    (λ ns known. c.take_back.ensures.over ns (subst (λ (s : SatState g.row.T.Denot). g.T.Theory.is_over s.theory ns) (sym c.self.view_is) known))
+    c.in_ok-search.search.atoms (noted_atoms c.args.work.now.lines) c.in_ok-search.ensures.atoms c.args.log.now c.args.assumed.now c.args.work.now c.run.new.work
     c.run.ensures.advances.legal
 
 pub returns-clause-satisfied : goal.returns-clause-satisfied
-returns-clause-satisfied c none =
+returns-clause-satisfied g c none =
     let s = c.run.new.self in
     let log = c.run.new.log in
     let held = c.run.new.held.items in
@@ -56,19 +69,51 @@ returns-clause-satisfied c none =
     subst (λ (us : List ℕ). Satisfies log held assumed us s) c.in_ok-search.ensures.atoms (c.in_ok-refuted.ensures.satisfied none) in
     elim c.if-is_none.branch [
       | then-is_none+in_ok-self-inside w ↦
-          satisfied log held assumed atoms s c.if-is_none.self (ap (λ (t : SatState). t.clauses) w.self-is)
-          (subst (λ (t : SatState). AreTruthsOn s.trail.entries t.truths) (sym w.self-is) w.in_ok-self-inside.ensures.truths) holds
+          satisfied log held assumed atoms s c.if-is_none.self (ap (λ (t : SatState g.row.T.Denot). t.clauses) w.self-is)
+          (subst (λ (t : SatState g.row.T.Denot). AreTruthsOn s.trail.entries t.truths) (sym w.self-is) w.in_ok-self-inside.ensures.truths) holds
       | else-is_none w ↦
           let told : is_none c.in_ok-refuted.refuted ≡ false = search rules in
           let clash : true ≡ false = ap is_none (sym none) ∙ told in
           cc
     ]
 
+pub returns-clause-feasible : goal.returns-clause-feasible
+returns-clause-feasible g c none =
+    let s = c.run.new.self in
+    let es = s.trail.entries in
+    let atoms = noted_atoms c.args.work.now.lines in
+    let order = (c.in_ok-refuted.ensures.satisfied none).search.order in
+    let met = c.in_ok-refuted.ensures.met none in
+    let P : SatState g.row.T.Denot → Type 0 = λ t. IsTheoryMet (g.T.Theory.has_told t.theory) (g.T.Theory.is_feasible t.theory) t atoms in
+    elim c.if-is_none.branch [
+      | then-is_none+in_ok-self-inside w ↦
+          subst P (sym w.self-is)
+          (theory_met (g.T.Theory.has_told c.run.new.theory) (g.T.Theory.is_feasible c.run.new.theory) s.trail.size es _ atoms order w.in_ok-self-inside.ensures.truths met)
+      | else-is_none w ↦
+          let told : is_none c.in_ok-refuted.refuted ≡ false = search rules in
+          let clash : true ≡ false = ap is_none (sym none) ∙ told in
+          cc
+    ]
+
+pub returns-clause-told : goal.returns-clause-told
+returns-clause-told g c =
+    let told = c.in_ok-refuted.ensures.told in
+    let P : SatState g.row.T.Denot → Type 0 = λ t. (ls : List Lit) × g.T.Theory.has_told t.theory ls in
+    let there = (literals_on (take told.count c.run.new.self.trail.entries), told.told) in
+    elim c.if-is_none.branch [
+      | then-is_none+in_ok-self-inside w ↦ subst P (sym w.self-is) there
+      | else-is_none w ↦ subst P (sym w.self-is) there
+    ]
+
 pub returns-clause-sound : goal.returns-clause-sound
-returns-clause-sound c =
-    subst (λ (us : List ℕ). StaysInOrder us c.args.log.now c.run.new.log) c.in_ok-search.ensures.atoms c.run.ensures.advances.sound
+returns-clause-sound g c =
+    stays_sound (g.T.Theory.is_over c.args.self.now.theory) (g.T.Theory.is_over c.take_back.new.theory)
+    (λ ns known. c.take_back.ensures.over ns (subst (λ (s : SatState g.row.T.Denot). g.T.Theory.is_over s.theory ns) (sym c.self.view_is) known))
+    c.in_ok-search.search.atoms (noted_atoms c.args.work.now.lines) c.in_ok-search.ensures.atoms c.args.log.now c.run.new.log c.run.ensures.advances.sound
 
 pub returns-clause-legal : goal.returns-clause-legal
-returns-clause-legal c =
-    stays_legal c.in_ok-search.search.atoms (noted_atoms c.args.work.now.lines) c.in_ok-search.ensures.atoms c.args.log.now c.args.assumed.now c.args.work.now c.run.new.work
+returns-clause-legal g c =
+    stays_legal (g.T.Theory.is_over c.args.self.now.theory) (g.T.Theory.is_over c.take_back.new.theory)
+    (λ ns known. c.take_back.ensures.over ns (subst (λ (s : SatState g.row.T.Denot). g.T.Theory.is_over s.theory ns) (sym c.self.view_is) known))
+    c.in_ok-search.search.atoms (noted_atoms c.args.work.now.lines) c.in_ok-search.ensures.atoms c.args.log.now c.args.assumed.now c.args.work.now c.run.new.work
     c.run.ensures.advances.legal

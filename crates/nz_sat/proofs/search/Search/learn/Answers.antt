@@ -14,97 +14,99 @@ use Rattle.nz_sat.specs.Sats.{AreHeld, held_of}
 use Rattle.nz_sat.specs.Searching.{Advances, Learned, after_lesson}
 use Rattle.nz_sat.specs.Trails.{assigned, below}
 use Rattle.nz_sat.proofs.Advancing.{log_advances}
-use Rattle.nz_sat.proofs.Keeping.{held_live}
 use Rattle.nz_sat.proofs.Learning.{learned, literal_missing, literal_within, literals_within}
 use Rattle.nz_sat.proofs.Lessons.{all_from}
-use Rattle.nz_sat.proofs.Noting.{held_two, lesson_named, line_advances, stays_in_order, taught}
+use Rattle.nz_sat.proofs.Noting.{conflict_like, lesson_named, line_advances, stays_in_order, taught}
 use Rattle.nz_sat.proofs.search.Search.learn.Goals as goal
 
-pub learn_from-requires-clause-live : goal.learn_from-requires-clause-live
-learn_from-requires-clause-live c = held_live c.args.log.now c.args.held.now.items c.requires.search.are_held c.args.dead c.requires.held
+pub lesson_of-requires-clause-live : goal.lesson_of-requires-clause-live
+lesson_of-requires-clause-live g c = c.requires.conflict.live
 
-pub learn_from-requires-clause-two : goal.learn_from-requires-clause-two
-learn_from-requires-clause-two c =
-    held_two c.args.self.now.trail.size c.args.self.now.trail.entries c.requires.search.order c.args.log.now c.args.held.now.items c.requires.all_open c.requires.decided c.args.dead
-    c.requires.held c.requires.dead
+pub lesson_of-requires-clause-dead : goal.lesson_of-requires-clause-dead
+lesson_of-requires-clause-dead g c = c.requires.conflict.dead
+
+pub lesson_of-requires-clause-once : goal.lesson_of-requires-clause-once
+lesson_of-requires-clause-once g c =
+    conflict_like c.args.self.now.trail.size c.args.self.now.trail.entries c.requires.search.order c.args.log.now c.args.held.now.items c.requires.all_open c.requires.decided c.args.dead
+    c.requires.conflict
 
 pub returns-in_err-lesson-clause-advances : goal.returns-in_err-lesson-clause-advances
-returns-in_err-lesson-clause-advances c =
+returns-in_err-lesson-clause-advances g c =
     let atoms = c.args.self.now.atoms in
     let es = c.args.self.now.trail.entries in
-    log_advances atoms es c.args.log.now c.learn_from.new.log c.args.held.now.items c.args.work.now c.requires.search.are_held c.learn_from.ensures.grows
-    (stays_in_order atoms es c.requires.search.on_trail c.args.log.now c.learn_from.new.log c.learn_from.ensures.sound)
+    log_advances (g.T.Theory.is_over c.args.theory.now) atoms es c.args.log.now c.lesson_of.new.log c.args.held.now.items c.args.work.now c.requires.search.are_held c.lesson_of.ensures.grows
+    (stays_in_order (g.T.Theory.is_over c.args.theory.now) atoms es c.requires.search.on_trail c.args.log.now c.lesson_of.new.log c.lesson_of.ensures.sound)
 
 pub note_lesson-requires-clause-named : goal.note_lesson-requires-clause-named
-note_lesson-requires-clause-named c =
-    all_from (λ (m : Lit). Contains c.args.self.now.atoms m.term) (literals_at c.learn_from.new.log c.in_ok-lesson.lesson.clause)
-    (lesson_named c.args.log.now c.learn_from.new.log c.args.held.now.items c.args.self.now c.args.work.now c.args.dead c.in_ok-lesson.lesson
-    (taught c.args.dead c.requires.search c.requires.all_open c.requires.held c.requires.dead c.requires.decided c.requires.noted c.learn_from.ensures.grows
-    c.learn_from.ensures.sound c.in_ok-lesson.ensures.lesson))
+note_lesson-requires-clause-named g c =
+    all_from (λ (m : Lit). Contains c.args.self.now.atoms m.term) (literals_at c.lesson_of.new.log c.in_ok-lesson.lesson.clause)
+    (lesson_named c.args.log.now c.lesson_of.new.log c.args.held.now.items c.args.self.now c.args.work.now c.args.dead c.in_ok-lesson.lesson
+    (taught c.args.dead c.requires.search c.requires.all_open c.requires.conflict c.requires.decided c.requires.noted c.lesson_of.ensures.grows
+    c.lesson_of.ensures.sound c.in_ok-lesson.ensures.lesson))
 
 pub returns-in_err-note_lesson-clause-advances : goal.returns-in_err-note_lesson-clause-advances
-returns-in_err-note_lesson-clause-advances c =
+returns-in_err-note_lesson-clause-advances g c =
     let atoms = c.args.self.now.atoms in
     let es = c.args.self.now.trail.entries in
     let held = c.args.held.now.items in
-    subst (Advances atoms es c.args.log.now c.learn_from.new.log held held c.args.work.now) (sym c.in_err-note_lesson.ensures.err)
-    (log_advances atoms es c.args.log.now c.learn_from.new.log held c.args.work.now c.requires.search.are_held c.learn_from.ensures.grows
-    (stays_in_order atoms es c.requires.search.on_trail c.args.log.now c.learn_from.new.log c.learn_from.ensures.sound))
+    subst (Advances (g.T.Theory.is_over c.args.theory.now) atoms es c.args.log.now c.lesson_of.new.log held held c.args.work.now) (sym c.in_err-note_lesson.ensures.err)
+    (log_advances (g.T.Theory.is_over c.args.theory.now) atoms es c.args.log.now c.lesson_of.new.log held c.args.work.now c.requires.search.are_held c.lesson_of.ensures.grows
+    (stays_in_order (g.T.Theory.is_over c.args.theory.now) atoms es c.requires.search.on_trail c.args.log.now c.lesson_of.new.log c.lesson_of.ensures.sound))
 
 pub hold-requires-clause-within : goal.hold-requires-clause-within
-hold-requires-clause-within c =
-    literals_within c.args.log.now c.learn_from.new.log c.args.held.now.items c.args.self.now c.args.work.now c.args.dead c.in_ok-lesson.lesson
-    (taught c.args.dead c.requires.search c.requires.all_open c.requires.held c.requires.dead c.requires.decided c.requires.noted c.learn_from.ensures.grows
-    c.learn_from.ensures.sound c.in_ok-lesson.ensures.lesson)
+hold-requires-clause-within g c =
+    literals_within c.args.log.now c.lesson_of.new.log c.args.held.now.items c.args.self.now c.args.work.now c.args.dead c.in_ok-lesson.lesson
+    (taught c.args.dead c.requires.search c.requires.all_open c.requires.conflict c.requires.decided c.requires.noted c.lesson_of.ensures.grows
+    c.lesson_of.ensures.sound c.in_ok-lesson.ensures.lesson)
 
 pub returns-in_err-hold-clause-advances : goal.returns-in_err-hold-clause-advances
-returns-in_err-hold-clause-advances c =
-    line_advances c.args.log.now c.learn_from.new.log c.args.held.now.items c.args.self.now c.args.work.now c.args.dead c.in_ok-lesson.lesson
-    (taught c.args.dead c.requires.search c.requires.all_open c.requires.held c.requires.dead c.requires.decided c.requires.noted c.learn_from.ensures.grows
-    c.learn_from.ensures.sound c.in_ok-lesson.ensures.lesson)
-    c.clauses_are_true.ensures.clauses c.legal_work_goes_on.ensures.goes_on c.hold.new.held.items c.hold.ensures.more c.note_lesson.new.work c.in_ok-note_lesson.ensures.noted
+returns-in_err-hold-clause-advances g c =
+    line_advances c.args.log.now c.lesson_of.new.log c.args.held.now.items c.args.self.now c.args.work.now c.args.dead c.in_ok-lesson.lesson
+    (taught c.args.dead c.requires.search c.requires.all_open c.requires.conflict c.requires.decided c.requires.noted c.lesson_of.ensures.grows
+    c.lesson_of.ensures.sound c.in_ok-lesson.ensures.lesson)
+    c.clauses_are_true.ensures.clauses c.legal_work_goes_on.ensures.goes_on (g.T.Theory.is_over c.args.theory.now) c.hold.new.held.items c.hold.ensures.more c.note_lesson.new.work c.in_ok-note_lesson.ensures.noted
 
 pub go_back-requires-clause-free : goal.go_back-requires-clause-free
-go_back-requires-clause-free c =
+go_back-requires-clause-free g c =
     let l = c.in_ok-lesson.lesson in
     subst (λ (x : Search). assigned (below l.level x.trail.entries) l.literal.term ≡ None) (sym c.hold.ensures.rest)
-    (literal_missing c.args.log.now c.learn_from.new.log c.args.held.now.items c.args.self.now c.args.work.now c.args.dead c.in_ok-lesson.lesson
-    (taught c.args.dead c.requires.search c.requires.all_open c.requires.held c.requires.dead c.requires.decided c.requires.noted c.learn_from.ensures.grows
-    c.learn_from.ensures.sound c.in_ok-lesson.ensures.lesson))
+    (literal_missing c.args.log.now c.lesson_of.new.log c.args.held.now.items c.args.self.now c.args.work.now c.args.dead c.in_ok-lesson.lesson
+    (taught c.args.dead c.requires.search c.requires.all_open c.requires.conflict c.requires.decided c.requires.noted c.lesson_of.ensures.grows
+    c.lesson_of.ensures.sound c.in_ok-lesson.ensures.lesson))
 
 pub go_back-requires-clause-within : goal.go_back-requires-clause-within
-go_back-requires-clause-within c =
+go_back-requires-clause-within g c =
     subst (λ (x : Search). c.in_ok-lesson.lesson.literal.term < x.trail.size) (sym c.hold.ensures.rest)
-    (literal_within c.args.log.now c.learn_from.new.log c.args.held.now.items c.args.self.now c.args.work.now c.args.dead c.in_ok-lesson.lesson
-    (taught c.args.dead c.requires.search c.requires.all_open c.requires.held c.requires.dead c.requires.decided c.requires.noted c.learn_from.ensures.grows
-    c.learn_from.ensures.sound c.in_ok-lesson.ensures.lesson))
+    (literal_within c.args.log.now c.lesson_of.new.log c.args.held.now.items c.args.self.now c.args.work.now c.args.dead c.in_ok-lesson.lesson
+    (taught c.args.dead c.requires.search c.requires.all_open c.requires.conflict c.requires.decided c.requires.noted c.lesson_of.ensures.grows
+    c.lesson_of.ensures.sound c.in_ok-lesson.ensures.lesson))
 
 pub returns-clause-advances : goal.returns-clause-advances
-returns-clause-advances c =
-    line_advances c.args.log.now c.learn_from.new.log c.args.held.now.items c.args.self.now c.args.work.now c.args.dead c.in_ok-lesson.lesson
-    (taught c.args.dead c.requires.search c.requires.all_open c.requires.held c.requires.dead c.requires.decided c.requires.noted c.learn_from.ensures.grows
-    c.learn_from.ensures.sound c.in_ok-lesson.ensures.lesson)
-    c.clauses_are_true.ensures.clauses c.legal_work_goes_on.ensures.goes_on c.hold.new.held.items c.hold.ensures.more c.note_lesson.new.work c.in_ok-note_lesson.ensures.noted
+returns-clause-advances g c =
+    line_advances c.args.log.now c.lesson_of.new.log c.args.held.now.items c.args.self.now c.args.work.now c.args.dead c.in_ok-lesson.lesson
+    (taught c.args.dead c.requires.search c.requires.all_open c.requires.conflict c.requires.decided c.requires.noted c.lesson_of.ensures.grows
+    c.lesson_of.ensures.sound c.in_ok-lesson.ensures.lesson)
+    c.clauses_are_true.ensures.clauses c.legal_work_goes_on.ensures.goes_on (g.T.Theory.is_over c.args.theory.now) c.hold.new.held.items c.hold.ensures.more c.note_lesson.new.work c.in_ok-note_lesson.ensures.noted
 
 pub returns-clause-learned : goal.returns-clause-learned
-returns-clause-learned c =
+returns-clause-learned g c =
     let s = c.args.self.now in
     let l = c.in_ok-lesson.lesson in
-    let log = c.learn_from.new.log in
+    let log = c.lesson_of.new.log in
     let held = c.args.held.now.items ++ held_of log l.clause ∷ [] in
     let after = c.hold.ensures.rest in
     let back = c.go_back.ensures.rest in
     let place = c.go_back.result in
     let lengths : length c.hold.new.self.seen.items ≡ length s.seen.items = ap (λ (x : Search). length x.seen.items) after ∙ search rules in
-    let marks = c.learn_from.new.seen in
+    let marks = c.lesson_of.new.seen in
     let rest = drop (length marks) s.seen.items in
     let long : vec_len s.seen ≡ length marks = search rules in
     let same : take (vec_len s.seen) (marks ++ rest) ≡ marks = take-append-le (vec_len s.seen) marks rest (omega arith) ∙ take_all (vec_len s.seen) marks (omega arith) in
     let unmarked : AreUnmarked c.hold.new.self.seen.items =
     subst (λ (x : Search). AreUnmarked x.seen.items) (sym after) (subst AreUnmarked (sym same) c.in_ok-lesson.ensures.unmarked) in
-    let there = learned c.args.log.now c.learn_from.new.log c.args.held.now.items c.args.self.now c.args.work.now c.args.dead c.in_ok-lesson.lesson
-    (taught c.args.dead c.requires.search c.requires.all_open c.requires.held c.requires.dead c.requires.decided c.requires.noted c.learn_from.ensures.grows
-    c.learn_from.ensures.sound c.in_ok-lesson.ensures.lesson)
+    let there = learned c.args.log.now c.lesson_of.new.log c.args.held.now.items c.args.self.now c.args.work.now c.args.dead c.in_ok-lesson.lesson
+    (taught c.args.dead c.requires.search c.requires.all_open c.requires.conflict c.requires.decided c.requires.noted c.lesson_of.ensures.grows
+    c.lesson_of.ensures.sound c.in_ok-lesson.ensures.lesson)
     c.go_back.new.self (ap (λ (x : Search). x.atoms) back ∙ ap (λ (x : Search). x.atoms) after) (c.go_back.ensures.size ∙ ap (λ (x : Search). x.trail.size) after)
     (c.go_back.ensures.entries ∙ ap (λ (x : Search). after_lesson x.trail.entries l) after)
     (subst (λ (x : Search). Adds log l.clause s.index x.index) (sym back) c.in_ok-hold.ensures.added)

@@ -1,114 +1,108 @@
 -- One conflict more is learned from.
-use Rattle.std.proofs.Common.{◌≡◌, ℕ, List, ap, sym, subst, arith}
-use Rattle.std.specs.Prelude.{Contains}
-use Rattle.nz_spec.specs.Work.{WorkList}
-use Rattle.nz_log.specs.declared.note.Note.{Note}
-use Rattle.nz_log.specs.Logs.{LogState, literals_at}
-use Rattle.nz_sat.specs.declared.clauses.Held.{Held}
-use Rattle.nz_sat.specs.Conflicts.{Grows, StaysSound}
+use Rattle.std.proofs.Common.{◌≡◌, None, ap, sym, subst, arith, rules}
 use Rattle.nz_sat.specs.declared.search.Search.{Search}
-use Rattle.nz_sat.specs.Clauses.{IsDead}
-use Rattle.nz_sat.specs.Searching.{Advances, Carries, IsNoted, IsSearch, OpenOrDead, StaysInOrder, ids}
-use Rattle.nz_sat.proofs.Advancing.{far_advances, log_advances, none_advances}
-use Rattle.nz_sat.proofs.Following.{carries_far, goes_carries, goes_noted, stays_in_order}
-use Rattle.nz_sat.proofs.Keeping.{held_live, search_usable}
+use Rattle.nz_sat.specs.Searching.{MayFollow}
+use Rattle.nz_sat.specs.Theories.{IsTold}
+use Rattle.nz_sat.proofs.Consulting.{advances_on, back_dead, back_refuted, conflict_of, goes_back, settles_first, settles_on, settles_open}
+use Rattle.nz_sat.proofs.Keeping.{search_usable}
 use Rattle.nz_sat.proofs.search.Search.settle.Goals as goal
 
-pub loop-dead-init : goal.loop-dead-init
-loop-dead-init c =
-    let s = c.args.self.now in
-    let log = c.args.log.now in
+pub conflict-requires-clause-usable : goal.conflict-requires-clause-usable
+conflict-requires-clause-usable g c = search_usable c.args.log.now c.args.held.now.items c.args.self.now c.requires.search
+
+pub returns-in_err-conflict-clause-advances : goal.returns-in_err-conflict-clause-advances
+returns-in_err-conflict-clause-advances g c =
+    c.conflict.ensures.advances c.args.held.now.items (record { search = c.requires.search; were_open = c.requires.all_open; waits = c.requires.waits })
+
+pub loop-conflict-init : goal.loop-conflict-init
+loop-conflict-init g c =
     let held = c.args.held.now.items in
-    let work = c.args.work.now in
-    let new = c.follow-dead.new.self in
-    let f = c.follow-dead.ensures.comes held (record { search = c.requires.search; were_open = c.requires.all_open; waits = c.requires.waits }) in
-    let same : new.atoms ≡ s.atoms = ap (λ (r : Search). r.atoms) c.follow-dead.ensures.rest in
-    record {
-      advances = none_advances s.atoms s.trail.entries log held work c.requires.search.are_held;
-      search = f.search;
-      were_open = f.were_open;
-      noted = subst (λ (us : List ℕ). IsNoted log held us new.trail.entries work) (sym same)
-          (goes_noted log held s.atoms s.trail.entries new.trail.entries work f.goes_on c.requires.noted);
-      carries = goes_carries s new work same f.goes_on;
-      told_so = f.told_so;
-    }
+    let may : MayFollow c.args.log.now held c.args.self.now c.args.from = record { search = c.requires.search; were_open = c.requires.all_open; waits = c.requires.waits } in
+    settles_first c.requires.search c.requires.noted (c.conflict.ensures.advances held may) c.conflict.ensures.units (ap (λ (r : Search). r.atoms) c.conflict.ensures.rest)
+    (c.in_ok-conflict.ensures.comes held may) c.in_ok-conflict.ensures.told c.in_ok-conflict.ensures.met c.conflict.ensures.over
 
-pub loop-dead-preserved : goal.loop-dead-preserved
-loop-dead-preserved c =
-    let start = c.args.self.now in
-    let old = c.loop-dead.self in
-    let log = c.learn.new.log in
-    let held = c.learn.new.held.items in
-    let work = c.learn.new.work in
-    let mid = c.learn.new.self in
-    let new = c.follow-dead-in-Some.new.self in
-    let before = c.loop-dead.invariant in
-    let learned = c.in_ok-from.ensures.learned in
-    let f = c.follow-dead-in-Some.ensures.comes held (record { search = learned.search; were_open = learned.were_open; waits = learned.waits }) in
-    let same : new.atoms ≡ mid.atoms = ap (λ (r : Search). r.atoms) c.follow-dead-in-Some.ensures.rest in
-    let step : Advances start.atoms old.trail.entries c.loop-dead.log log c.loop-dead.held.items held c.loop-dead.work work =
-    subst (λ (us : List ℕ). Advances us old.trail.entries c.loop-dead.log log c.loop-dead.held.items held c.loop-dead.work work) before.carries.atoms c.in_ok-from.ensures.advances in
-    record {
-      advances = far_advances start.atoms start.trail.entries old.trail.entries c.args.log.now c.loop-dead.log log c.args.held.now.items c.loop-dead.held.items held
-          c.args.work.now c.loop-dead.work work before.carries.assumed_only before.advances step;
-      search = f.search;
-      were_open = f.were_open;
-      noted = subst (λ (us : List ℕ). IsNoted log held us new.trail.entries work) (sym same)
-          (goes_noted log held mid.atoms mid.trail.entries new.trail.entries work f.goes_on learned.noted);
-      carries = carries_far start mid new c.args.work.now work work (carries_far start old mid c.args.work.now c.loop-dead.work work before.carries learned.carries)
-          (goes_carries mid new work same f.goes_on);
-      told_so = f.told_so;
-    }
-
-pub loop-dead-smaller : goal.loop-dead-smaller
-loop-dead-smaller c =
-    let learned = c.in_ok-from.ensures.learned in
-    let unit = learned.unit in
-    let within = learned.within in
-    let limit = c.in_ok-from.ensures.advances.limit in
-    omega arith
-
--- the log grows once more, by a refutation
-refuted_advances : (start old : Search) (log mid new : LogState) (held now : List Held) (work done : WorkList Note) → IsSearch mid now old → Carries start old work done
-    → Advances start.atoms start.trail.entries log mid held now work done → Grows mid new → StaysSound old.trail.entries mid new
-    → Advances start.atoms start.trail.entries log new held now work done
-refuted_advances start old log mid new held now work done search carries before grows sound =
-    far_advances start.atoms start.trail.entries old.trail.entries log mid new held now now work done done carries.assumed_only before
-    (log_advances start.atoms old.trail.entries mid new now done search.are_held grows
-    (subst (λ (us : List ℕ). StaysInOrder us mid new) carries.atoms (stays_in_order mid new now old search sound)))
-
-pub follow-dead-requires-clause-usable : goal.follow-dead-requires-clause-usable
-follow-dead-requires-clause-usable c = search_usable c.args.log.now c.args.held.now.items c.args.self.now c.requires.search
-
-pub follow-dead-requires-in-Some-clause-usable : goal.follow-dead-requires-in-Some-clause-usable
-follow-dead-requires-in-Some-clause-usable c = search_usable c.learn.new.log c.learn.new.held.items c.learn.new.self c.in_ok-from.ensures.learned.search
+pub back_to-requires : goal.back_to-requires
+back_to-requires g c = record { live = (conflict_of c.loop-conflict.invariant c.in-Some.is).live }
 
 pub refute-requires-clause-live : goal.refute-requires-clause-live
-refute-requires-clause-live c =
-    let before = c.loop-dead.invariant in
-    let dead : Contains (ids c.loop-dead.held.items) c.in-Some.clause × IsDead c.loop-dead.self.trail.entries (literals_at c.loop-dead.log c.in-Some.clause) =
-    subst (OpenOrDead c.loop-dead.log c.loop-dead.held.items c.loop-dead.self.trail.entries) c.in-Some.is before.told_so in
-    held_live c.loop-dead.log c.loop-dead.held.items before.search.are_held c.in-Some.clause dead.0
+refute-requires-clause-live g c =
+    (goes_back c.loop-conflict.invariant c.in-Some.is c.back_to.ensures.rest c.back_to.ensures.size c.back_to.ensures.back c.back_to.ensures.over).conflict.live
+
+pub refute-requires-clause-implied : goal.refute-requires-clause-implied
+refute-requires-clause-implied g c =
+    (goes_back c.loop-conflict.invariant c.in-Some.is c.back_to.ensures.rest c.back_to.ensures.size c.back_to.ensures.back c.back_to.ensures.over).search.implied
+
+pub refute-requires-clause-size : goal.refute-requires-clause-size
+refute-requires-clause-size g c =
+    (goes_back c.loop-conflict.invariant c.in-Some.is c.back_to.ensures.rest c.back_to.ensures.size c.back_to.ensures.back c.back_to.ensures.over).search.marks
 
 pub returns-in_err-refute-clause-advances : goal.returns-in_err-refute-clause-advances
-returns-in_err-refute-clause-advances c =
-    let before = c.loop-dead.invariant in
-    refuted_advances c.args.self.now c.loop-dead.self c.args.log.now c.loop-dead.log c.refute.new.log c.args.held.now.items c.loop-dead.held.items c.args.work.now c.loop-dead.work
-    before.search before.carries before.advances c.refute.ensures.grows c.refute.ensures.sound
+returns-in_err-refute-clause-advances g c =
+    back_refuted (goes_back c.loop-conflict.invariant c.in-Some.is c.back_to.ensures.rest c.back_to.ensures.size c.back_to.ensures.back c.back_to.ensures.over)
+    c.refute.ensures.grows c.refute.ensures.sound
 
 pub returns-then-level-eq0-clause-advances : goal.returns-then-level-eq0-clause-advances
-returns-then-level-eq0-clause-advances c =
-    let before = c.loop-dead.invariant in
-    refuted_advances c.args.self.now c.loop-dead.self c.args.log.now c.loop-dead.log c.refute.new.log c.args.held.now.items c.loop-dead.held.items c.args.work.now c.loop-dead.work
-    before.search before.carries before.advances c.refute.ensures.grows c.refute.ensures.sound
+returns-then-level-eq0-clause-advances g c =
+    back_refuted (goes_back c.loop-conflict.invariant c.in-Some.is c.back_to.ensures.rest c.back_to.ensures.size c.back_to.ensures.back c.back_to.ensures.over)
+    c.refute.ensures.grows c.refute.ensures.sound
 
-pub returns-in_err-from-clause-advances : goal.returns-in_err-from-clause-advances
-returns-in_err-from-clause-advances c =
-    let start = c.args.self.now in
-    let old = c.loop-dead.self in
-    let before = c.loop-dead.invariant in
-    let step : Advances start.atoms old.trail.entries c.loop-dead.log c.learn.new.log c.loop-dead.held.items c.learn.new.held.items c.loop-dead.work c.learn.new.work =
-    subst (λ (us : List ℕ). Advances us old.trail.entries c.loop-dead.log c.learn.new.log c.loop-dead.held.items c.learn.new.held.items c.loop-dead.work c.learn.new.work)
-    before.carries.atoms c.learn.ensures.advances in
-    far_advances start.atoms start.trail.entries old.trail.entries c.args.log.now c.loop-dead.log c.learn.new.log c.args.held.now.items c.loop-dead.held.items c.learn.new.held.items
-    c.args.work.now c.loop-dead.work c.learn.new.work before.carries.assumed_only before.advances step
+pub returns-then-level-eq0-clause-told : goal.returns-then-level-eq0-clause-told
+returns-then-level-eq0-clause-told g c =
+    subst (λ (s : Search). IsTold (g.T.Theory.has_told c.back_to.new.theory) s.trail.entries) (sym c.refute.ensures.rest) (c.back_to.ensures.told c.loop-conflict.invariant.told)
+
+pub returns-then-level-eq0-clause-refuted : goal.returns-then-level-eq0-clause-refuted
+returns-then-level-eq0-clause-refuted g c =
+    let b = goes_back c.loop-conflict.invariant c.in-Some.is c.back_to.ensures.rest c.back_to.ensures.size c.back_to.ensures.back c.back_to.ensures.over in (
+      c.in_ok-refute.ensures.live,
+      λ assumed only. c.in_ok-refute.ensures.refutes assumed (b.carries.assumed_only assumed only) (back_dead b assumed),
+    )
+
+pub learn_on-requires-clause-search : goal.learn_on-requires-clause-search
+learn_on-requires-clause-search g c =
+    (goes_back c.loop-conflict.invariant c.in-Some.is c.back_to.ensures.rest c.back_to.ensures.size c.back_to.ensures.back c.back_to.ensures.over).search
+
+pub learn_on-requires-clause-all_open : goal.learn_on-requires-clause-all_open
+learn_on-requires-clause-all_open g c =
+    (goes_back c.loop-conflict.invariant c.in-Some.is c.back_to.ensures.rest c.back_to.ensures.size c.back_to.ensures.back c.back_to.ensures.over).were_open
+
+pub learn_on-requires-clause-conflict : goal.learn_on-requires-clause-conflict
+learn_on-requires-clause-conflict g c =
+    (goes_back c.loop-conflict.invariant c.in-Some.is c.back_to.ensures.rest c.back_to.ensures.size c.back_to.ensures.back c.back_to.ensures.over).conflict
+
+pub learn_on-requires-clause-last : goal.learn_on-requires-clause-last
+learn_on-requires-clause-last g c =
+    let level = c.level.ensures.level in
+    let some = c.if-level-eq0.false in
+    (goes_back c.loop-conflict.invariant c.in-Some.is c.back_to.ensures.rest c.back_to.ensures.size c.back_to.ensures.back c.back_to.ensures.over).last (omega arith)
+
+pub learn_on-requires-clause-noted : goal.learn_on-requires-clause-noted
+learn_on-requires-clause-noted g c =
+    (goes_back c.loop-conflict.invariant c.in-Some.is c.back_to.ensures.rest c.back_to.ensures.size c.back_to.ensures.back c.back_to.ensures.over).noted
+
+pub learn_on-requires-clause-told : goal.learn_on-requires-clause-told
+learn_on-requires-clause-told g c = c.back_to.ensures.told c.loop-conflict.invariant.told
+
+pub returns-in_err-conflict-2-clause-advances : goal.returns-in_err-conflict-2-clause-advances
+returns-in_err-conflict-2-clause-advances g c =
+    let b = goes_back c.loop-conflict.invariant c.in-Some.is c.back_to.ensures.rest c.back_to.ensures.size c.back_to.ensures.back c.back_to.ensures.over in
+    advances_on b.carries b.advances b.keeps c.learn_on.ensures.advances
+
+pub loop-conflict-preserved : goal.loop-conflict-preserved
+loop-conflict-preserved g c =
+    settles_on (goes_back c.loop-conflict.invariant c.in-Some.is c.back_to.ensures.rest c.back_to.ensures.size c.back_to.ensures.back c.back_to.ensures.over)
+    c.learn_on.ensures.advances c.in_ok-conflict-2.ensures.turns c.in_ok-conflict-2.ensures.told c.in_ok-conflict-2.ensures.met c.learn_on.ensures.over
+
+pub loop-conflict-smaller : goal.loop-conflict-smaller
+loop-conflict-smaller g c =
+    let more = c.in_ok-conflict-2.ensures.turns.more in
+    let free = c.in_ok-conflict-2.ensures.turns.free in
+    let limit = c.learn_on.ensures.advances.limit in
+    omega arith
+
+pub returns-clause-advances : goal.returns-clause-advances
+returns-clause-advances g c = c.loop-conflict.invariant.advances
+
+pub returns-clause-settled : goal.returns-clause-settled
+returns-clause-settled g c none =
+    let open_all : c.loop-conflict.conflict ≡ None = search rules in
+    settles_open c.loop-conflict.invariant open_all

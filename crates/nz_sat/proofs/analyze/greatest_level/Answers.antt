@@ -1,0 +1,19 @@
+-- One literal more may be of a greater level.
+use Rattle.std.proofs.Common.{◌≡◌, ◌+◌, false, max, List, [], ◌∷◌, ◌++◌, get_or, take, subst, sym, ap, ◌∙◌, arith}
+use Rattle.std.proofs.lemmas.List.{take_more}
+use Rattle.nz_log.specs.declared.lits.Lit.{Lit}
+use Rattle.nz_sat.specs.Conflicts.{IsGreatest}
+use Rattle.nz_sat.specs.Trails.{level_on}
+use Rattle.nz_sat.proofs.Lessons.{greater_of, greatest_grown}
+use Rattle.nz_sat.proofs.analyze.greatest_level.Goals as goal
+
+pub loop-literal-preserved : goal.loop-literal-preserved
+loop-literal-preserved c =
+    let es = c.args.trail.now.entries in
+    let i = c.loop-literal.literal-index in
+    let n = c.loop-literal.level in
+    let l = get_or c.args.literals.now i (record { term = 0; sign = false }) in
+    let before = take i c.args.literals.now in
+    let more : take (i + 1) c.args.literals.now ≡ before ++ l ∷ [] = take_more c.args.literals.now i (record { term = 0; sign = false }) (omega arith) in
+    let most : c.max-level.result ≡ max n (level_on es l.term) = c.max-level.ensures ∙ greater_of n c.level_of.result ∙ ap (max n) c.level_of.ensures.level in
+    subst (λ (d : List Lit). IsGreatest es d c.max-level.result) (sym more) (greatest_grown es before n l c.loop-literal.invariant c.max-level.result most)

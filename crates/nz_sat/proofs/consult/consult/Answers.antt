@@ -1,0 +1,15 @@
+-- What was told is the whole trail.
+use Rattle.std.proofs.Common.{◌≡◌, None, rules}
+use Rattle.nz_sat.specs.Trails.{literals_on}
+use Rattle.nz_sat.proofs.Telling.{all_within}
+use Rattle.nz_sat.proofs.consult.consult.Goals as goal
+
+pub returns-clause-sound : goal.returns-clause-sound
+returns-clause-sound g c ns levels known within order =
+    let none : c.in_ok-clash.clash ≡ None = search rules in
+    let es = c.args.trail.now.entries in
+    c.check.ensures.sound (literals_on es) ns levels (c.in_ok-clash.ensures.all none) (c.tell.ensures.over ns known) (all_within ns es within)
+    (c.tell.ensures.sound ns levels known within order)
+
+pub returns-clause-legal : goal.returns-clause-legal
+returns-clause-legal g c ns q known legal = c.check.ensures.legal ns q (c.tell.ensures.over ns known) legal

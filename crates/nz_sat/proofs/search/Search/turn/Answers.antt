@@ -1,0 +1,80 @@
+-- What comes of a decision.
+use Rattle.std.proofs.Common.{◌≡◌, ℕ, ◌<◌, ◌∙◌, length, Option, None, ap, sym, subst, arith}
+use Rattle.std.proofs.lemmas.List.{length-append}
+use Rattle.std.proofs.lemmas.List.Elements.{All-contains}
+use Rattle.std.proofs.lemmas.Result.{IfOk-weaker}
+use Rattle.nz_sat.specs.Searching.{Advances, AreWaiting, Settles, SettlesOn}
+use Rattle.nz_sat.proofs.Advancing.{none_advances}
+use Rattle.nz_sat.proofs.Consulting.{advances_on}
+use Rattle.nz_sat.proofs.Running.{has_decided, refutes_far, settles_far}
+use Rattle.nz_sat.proofs.Telling.{told_on}
+use Rattle.nz_sat.proofs.search.Search.turn.Goals as goal
+
+pub decide-requires-clause-within : goal.decide-requires-clause-within
+decide-requires-clause-within g c =
+    All-contains (λ (t : ℕ). t < c.args.self.now.trail.size) c.args.self.now.atoms c.args.term c.requires.search.within c.requires.named
+
+pub returns-in_err-from-clause-advances : goal.returns-in_err-from-clause-advances
+returns-in_err-from-clause-advances g c =
+    let s = c.args.self.now in
+    let log = c.args.log.now in
+    let held = c.args.held.now.items in
+    let over = g.T.Theory.is_over c.args.theory.now in
+    subst (Advances over s.atoms s.trail.entries log log held held c.args.work.now) (sym c.in_err-from.ensures.err)
+    (none_advances over s.atoms s.trail.entries log held c.args.work.now c.requires.search.are_held)
+
+pub settle-requires-clause-search : goal.settle-requires-clause-search
+settle-requires-clause-search g c =
+    (has_decided c.legal_work_goes_on.ensures.goes_on (g.T.Theory.is_over c.args.theory.now) c.args.term c.requires.search c.requires.all_open c.requires.were_open c.requires.noted
+    c.requires.free c.requires.named c.in_ok-from.ensures.rest c.in_ok-from.ensures.decides).search
+
+pub settle-requires-clause-all_open : goal.settle-requires-clause-all_open
+settle-requires-clause-all_open g c =
+    (has_decided c.legal_work_goes_on.ensures.goes_on (g.T.Theory.is_over c.args.theory.now) c.args.term c.requires.search c.requires.all_open c.requires.were_open c.requires.noted
+    c.requires.free c.requires.named c.in_ok-from.ensures.rest c.in_ok-from.ensures.decides).were_open
+
+pub settle-requires-clause-from : goal.settle-requires-clause-from
+settle-requires-clause-from g c =
+    let d = has_decided c.legal_work_goes_on.ensures.goes_on (g.T.Theory.is_over c.args.theory.now) c.args.term c.requires.search c.requires.all_open c.requires.were_open c.requires.noted
+    c.requires.free c.requires.named c.in_ok-from.ensures.rest c.in_ok-from.ensures.decides in
+    let long = ap length d.front.joined ∙ length-append c.args.self.now.trail.entries d.front.more in
+    let place = c.in_ok-from.ensures.place in
+    omega (arith, long, place)
+
+pub settle-requires-clause-waits : goal.settle-requires-clause-waits
+settle-requires-clause-waits g c =
+    subst (AreWaiting c.args.log.now c.args.held.now.items c.decide.new.self.trail.entries) (sym c.in_ok-from.ensures.place)
+    (has_decided c.legal_work_goes_on.ensures.goes_on (g.T.Theory.is_over c.args.theory.now) c.args.term c.requires.search c.requires.all_open c.requires.were_open c.requires.noted
+    c.requires.free c.requires.named c.in_ok-from.ensures.rest c.in_ok-from.ensures.decides).waits
+
+pub settle-requires-clause-noted : goal.settle-requires-clause-noted
+settle-requires-clause-noted g c =
+    (has_decided c.legal_work_goes_on.ensures.goes_on (g.T.Theory.is_over c.args.theory.now) c.args.term c.requires.search c.requires.all_open c.requires.were_open c.requires.noted
+    c.requires.free c.requires.named c.in_ok-from.ensures.rest c.in_ok-from.ensures.decides).noted
+
+pub settle-requires-clause-told : goal.settle-requires-clause-told
+settle-requires-clause-told g c =
+    let d = has_decided c.legal_work_goes_on.ensures.goes_on (g.T.Theory.is_over c.args.theory.now) c.args.term c.requires.search c.requires.all_open c.requires.were_open c.requires.noted
+    c.requires.free c.requires.named c.in_ok-from.ensures.rest c.in_ok-from.ensures.decides in
+    told_on (g.T.Theory.has_told c.args.theory.now) c.args.self.now.trail.entries c.decide.new.self.trail.entries d.front c.requires.told
+
+pub returns-clause-advances : goal.returns-clause-advances
+returns-clause-advances g c =
+    let d = has_decided c.legal_work_goes_on.ensures.goes_on (g.T.Theory.is_over c.args.theory.now) c.args.term c.requires.search c.requires.all_open c.requires.were_open c.requires.noted
+    c.requires.free c.requires.named c.in_ok-from.ensures.rest c.in_ok-from.ensures.decides in
+    advances_on d.carries d.advances (λ ns known. known) c.settle.ensures.advances
+
+pub returns-clause-settled : goal.returns-clause-settled
+returns-clause-settled g c =
+    let d = has_decided c.legal_work_goes_on.ensures.goes_on (g.T.Theory.is_over c.args.theory.now) c.args.term c.requires.search c.requires.all_open c.requires.were_open c.requires.noted
+    c.requires.free c.requires.named c.in_ok-from.ensures.rest c.in_ok-from.ensures.decides in
+    IfOk-weaker c.settle.result
+    (λ (o : Option ℕ). o ≡ None → Settles c.settle.new.log c.settle.new.held.items c.decide.new.self c.settle.new.self c.decide.new.work c.settle.new.work)
+    (λ (o : Option ℕ). o ≡ None → SettlesOn c.settle.new.log c.settle.new.held.items c.args.self.now c.settle.new.self c.args.work.now c.settle.new.work)
+    (λ o settles none. settles_far d c.in_ok-from.ensures.free (settles none)) c.settle.ensures.settled
+
+pub returns-clause-refuted : goal.returns-clause-refuted
+returns-clause-refuted g c =
+    let d = has_decided c.legal_work_goes_on.ensures.goes_on (g.T.Theory.is_over c.args.theory.now) c.args.term c.requires.search c.requires.all_open c.requires.were_open c.requires.noted
+    c.requires.free c.requires.named c.in_ok-from.ensures.rest c.in_ok-from.ensures.decides in
+    refutes_far c.settle.new.log d.carries.assumed_only c.settle.result c.settle.ensures.refuted

@@ -1,0 +1,179 @@
+//! The search from its start to its end.
+ghost use Rattle.std.specs.Prelude.{◌≡◌, ℕ, ◌<◌, ◌≤◌, ◌∷◌, [], All, Contains, List, None, length, IfErr, IfOk, IfSome, OnOk};
+ghost use Rattle.nz_spec.specs.Table.{Node};
+ghost use Rattle.nz_spec.specs.Work.{IsSpent};
+ghost use Rattle.nz_log.specs.declared.lits.Lit.{Lit};
+ghost use Rattle.nz_log.specs.declared.stop.Stop.TheVariants as stop;
+ghost use Rattle.nz_log.specs.Lits.{AreConsistent};
+ghost use Rattle.nz_log.specs.Logs.{IsLive, literals_at};
+ghost use Rattle.nz_sat.specs.Clauses.{IsAssumed};
+ghost use Rattle.nz_sat.specs.Conflicts.{HasLast, Refutes};
+ghost use Rattle.nz_sat.specs.Searching.{Advances, AreOpen, AreWaiting, IsConflict, IsNoted, IsSearch, Runs, Satisfies, Settles, SettlesOn, TurnsOn, WasNoted, WereOpen, assumed_entries};
+ghost use Rattle.nz_sat.specs.Theories.{IsMet, IsTold};
+ghost use Rattle.nz_sat.specs.Trails.{assigned, depth};
+
+use crate::clauses::Held;
+use crate::search::Search;
+use nz_base::Work;
+use nz_log::{ClauseId, Lit, Log, Note, Stop, Theory};
+use nz_spec::work::legal_work_goes_on;
+use nz_term::TermId;
+
+impl Search {
+    /// Learns from a clause in which each literal is false, one of them of the last level, makes true what the clauses make true with that, and
+    /// has the theory check it. Answers a clause in which each literal is false.
+    fn learn_on<T: Theory>(
+        &mut self,
+        log: &mut Log,
+        held: &mut Vec<Held>,
+        theory: &mut T,
+        work: &mut Work<Note>,
+        dead: ClauseId,
+    ) -> Result<Option<ClauseId>, Stop>
+        requires search { IsSearch log.old held.old.items self.old }
+        requires all_open { WereOpen log.old held.old.items self.old.trail.entries }
+        requires conflict { IsConflict log.old held.old.items self.old.trail.entries dead }
+        requires last { HasLast self.old.trail.entries (literals_at log.old dead) }
+        requires decided { 0 < depth self.old.trail.entries }
+        requires noted { WasNoted log.old held.old.items self.old.atoms self.old.trail.entries work.old }
+        requires told { IsTold (T.has_told theory.old) self.old.trail.entries }
+        ensures advances { Advances (T.is_over theory.old) self.old.atoms self.old.trail.entries log.old log.new held.old.items held.new.items work.old work.new }
+        ensures turns { IfOk result (TurnsOn log.new held.new.items self.old self.new work.old work.new) }
+        ensures told { OnOk result (IsTold (T.has_told theory.new) self.new.trail.entries) }
+        ensures met { IfOk result (λ r. r ≡ None → IsMet (T.has_told theory.new) (T.is_feasible theory.new) self.new.trail.entries) }
+        ensures over { (ns : List Node) → T.is_over theory.old ns → T.is_over theory.new ns }
+        ensures spent { IfErr result (λ e. e ≡ stop.Spent → IsSpent work.new) }
+    {
+        let from = self.learn(log, held, theory, work, dead)?;
+        self.conflict(log, theory, work, from)
+    }
+
+    /// Makes true what the clauses make true by the literals from a place of the trail on, has the theory check that, and learns from each
+    /// conflict. Answers the clause that refutes the assumed literals, if one does.
+    fn settle<T: Theory>(
+        &mut self,
+        log: &mut Log,
+        held: &mut Vec<Held>,
+        theory: &mut T,
+        work: &mut Work<Note>,
+        from: usize,
+    ) -> Result<Option<ClauseId>, Stop>
+        requires search { IsSearch log.old held.old.items self.old }
+        requires all_open { WereOpen log.old held.old.items self.old.trail.entries }
+        requires from { from ≤ length self.old.trail.entries }
+        requires waits { AreWaiting log.old held.old.items self.old.trail.entries from }
+        requires noted { IsNoted log.old held.old.items self.old.atoms self.old.trail.entries work.old }
+        requires told { IsTold (T.has_told theory.old) self.old.trail.entries }
+        ensures advances { Advances (T.is_over theory.old) self.old.atoms self.old.trail.entries log.old log.new held.old.items held.new.items work.old work.new }
+        ensures settled { IfOk result (λ r. r ≡ None → Settles log.new held.new.items self.old self.new work.old work.new) }
+        ensures met { IfOk result (λ r. r ≡ None → IsMet (T.has_told theory.new) (T.is_feasible theory.new) self.new.trail.entries) }
+        ensures told { OnOk result (IsTold (T.has_told theory.new) self.new.trail.entries) }
+        ensures over { (ns : List Node) → T.is_over theory.old ns → T.is_over theory.new ns }
+        ensures refuted { IfOk result (λ r. IfSome r (λ id. IsLive log.new id × ((assumed : List Lit) → All (IsAssumed assumed) self.old.trail.entries → Refutes assumed (literals_at log.new id)))) }
+        ensures spent { IfErr result (λ e. e ≡ stop.Spent → IsSpent work.new) }
+    {
+        let mut conflict = self.conflict(log, theory, work, from)?;
+        while let Some(dead) = conflict {
+            self.back_to(log, theory, dead);
+            if self.trail.level() == 0 {
+                return Ok(Some(self.refute(*held.allocator(), log, dead)?));
+            }
+            conflict = self.learn_on(log, held, theory, work, dead)?;
+        }
+        Ok(None)
+    }
+
+    /// Decides an atom, and learns from the conflicts of that. Answers the clause that refutes the assumed literals, if one does.
+    fn turn<T: Theory>(
+        &mut self,
+        log: &mut Log,
+        held: &mut Vec<Held>,
+        theory: &mut T,
+        work: &mut Work<Note>,
+        term: TermId,
+    ) -> Result<Option<ClauseId>, Stop>
+        requires search { IsSearch log.old held.old.items self.old }
+        requires all_open { AreOpen log.old held.old.items self.old.trail.entries }
+        requires were_open { WereOpen log.old held.old.items self.old.trail.entries }
+        requires noted { IsNoted log.old held.old.items self.old.atoms self.old.trail.entries work.old }
+        requires told { IsTold (T.has_told theory.old) self.old.trail.entries }
+        requires free { assigned self.old.trail.entries term ≡ None }
+        requires named { Contains self.old.atoms term }
+        ensures advances { Advances (T.is_over theory.old) self.old.atoms self.old.trail.entries log.old log.new held.old.items held.new.items work.old work.new }
+        ensures settled { IfOk result (λ r. r ≡ None → SettlesOn log.new held.new.items self.old self.new work.old work.new) }
+        ensures met { IfOk result (λ r. r ≡ None → IsMet (T.has_told theory.new) (T.is_feasible theory.new) self.new.trail.entries) }
+        ensures told { OnOk result (IsTold (T.has_told theory.new) self.new.trail.entries) }
+        ensures over { (ns : List Node) → T.is_over theory.old ns → T.is_over theory.new ns }
+        ensures refuted { IfOk result (λ r. IfSome r (λ id. IsLive log.new id × ((assumed : List Lit) → All (IsAssumed assumed) self.old.trail.entries → Refutes assumed (literals_at log.new id)))) }
+        ensures spent { IfErr result (λ e. e ≡ stop.Spent → IsSpent work.new) }
+    {
+        legal_work_goes_on();
+        let from = self.decide(work, term)?;
+        self.settle(log, held, theory, work, from)
+    }
+
+    /// Puts the assumed literals on the trail, and learns from the conflicts of that. Answers the clause that refutes them, if one does.
+    fn begin<T: Theory>(
+        &mut self,
+        log: &mut Log,
+        held: &mut Vec<Held>,
+        theory: &mut T,
+        assumed: &[Lit],
+        work: &mut Work<Note>,
+    ) -> Result<Option<ClauseId>, Stop>
+        requires search { IsSearch log.old held.old.items self.old }
+        requires none { self.old.trail.entries ≡ [] }
+        requires named { All (λ l. Contains self.old.atoms l.term) assumed.now }
+        requires consistent { AreConsistent assumed.now }
+        requires noted { IsNoted log.old held.old.items self.old.atoms [] work.old }
+        requires told { T.has_told theory.old [] }
+        ensures advances { Advances (T.is_over theory.old) self.old.atoms (assumed_entries assumed.now) log.old log.new held.old.items held.new.items work.old work.new }
+        ensures runs { IfOk result (λ r. r ≡ None → Runs log.new held.new.items assumed.now self.old self.new work.new) }
+        ensures met { IfOk result (λ r. r ≡ None → IsMet (T.has_told theory.new) (T.is_feasible theory.new) self.new.trail.entries) }
+        ensures told { OnOk result (IsTold (T.has_told theory.new) self.new.trail.entries) }
+        ensures over { (ns : List Node) → T.is_over theory.old ns → T.is_over theory.new ns }
+        ensures refuted { IfOk result (λ r. IfSome r (λ id. IsLive log.new id × Refutes assumed.now (literals_at log.new id))) }
+        ensures spent { IfErr result (λ e. e ≡ stop.Spent → IsSpent work.new) }
+    {
+        if let Some(dead) = self.assume_all(log, held, assumed) {
+            return Ok(Some(self.refute(*held.allocator(), log, dead)?));
+        }
+        let from = self.trail.len();
+        self.settle(log, held, theory, work, from)
+    }
+
+    /// Searches for truths of the atoms under which each clause has a true literal, and each assumed one is true. Answers the clause
+    /// that refutes the assumed literals, if one does.
+    pub fn run<T: Theory>(
+        &mut self,
+        log: &mut Log,
+        held: &mut Vec<Held>,
+        theory: &mut T,
+        assumed: &[Lit],
+        work: &mut Work<Note>,
+    ) -> Result<Option<ClauseId>, Stop>
+        requires search { IsSearch log.old held.old.items self.old }
+        requires none { self.old.trail.entries ≡ [] }
+        requires named { All (λ l. Contains self.old.atoms l.term) assumed.now }
+        requires consistent { AreConsistent assumed.now }
+        requires noted { IsNoted log.old held.old.items self.old.atoms [] work.old }
+        requires told { T.has_told theory.old [] }
+        ensures advances { Advances (T.is_over theory.old) self.old.atoms (assumed_entries assumed.now) log.old log.new held.old.items held.new.items work.old work.new }
+        ensures satisfied { IfOk result (λ r. r ≡ None → Satisfies log.new held.new.items assumed.now self.old.atoms self.new) }
+        ensures met { IfOk result (λ r. r ≡ None → IsMet (T.has_told theory.new) (T.is_feasible theory.new) self.new.trail.entries) }
+        ensures told { OnOk result (IsTold (T.has_told theory.new) self.new.trail.entries) }
+        ensures over { (ns : List Node) → T.is_over theory.old ns → T.is_over theory.new ns }
+        ensures refuted { IfOk result (λ r. IfSome r (λ id. IsLive log.new id × Refutes assumed.now (literals_at log.new id))) }
+        ensures spent { IfErr result (λ e. e ≡ stop.Spent → IsSpent work.new) }
+    {
+        if let Some(refuted) = self.begin(log, held, theory, assumed, work)? {
+            return Ok(Some(refuted));
+        }
+        while let Some(term) = self.next() {
+            if let Some(found) = self.turn(log, held, theory, work, term)? {
+                return Ok(Some(found));
+            }
+        }
+        Ok(None)
+    }
+}
