@@ -3,6 +3,7 @@ pub mod Dropping
 pub mod Entries
 pub mod Gathering
 pub mod GatesInOrder
+pub mod Leveled
 pub mod MarkedSets
 pub mod Marking
 pub mod Members
