@@ -46,7 +46,11 @@ pub(crate) fn normal_term(
         Operator::AtLeast => chained(alloc, terms, Link::AtLeast, kids),
         Operator::Plus => joined(terms, NormalOperator::Sum(NumberSort::of(sort)), kids),
         Operator::Times => joined(terms, NormalOperator::Product(NumberSort::of(sort)), kids),
-        Operator::Minus => make(terms, NormalOperator::Difference(NumberSort::of(sort)), kids),
+        Operator::Minus => make(
+            terms,
+            NormalOperator::Difference(NumberSort::of(sort)),
+            kids,
+        ),
         Operator::Over => grouped(terms, NormalOperator::Quotient, kids),
         Operator::Div => grouped(terms, NormalOperator::Div, kids),
         Operator::Mod => make(terms, NormalOperator::Mod, kids),
@@ -82,11 +86,7 @@ pub(crate) fn make_leaf(terms: &mut Terms, head: Head) -> Result<TermId, Memory>
 }
 
 // An operator over one term stands for that term.
-fn joined(
-    terms: &mut Terms,
-    operator: NormalOperator,
-    kids: &[TermId],
-) -> Result<TermId, Memory>
+fn joined(terms: &mut Terms, operator: NormalOperator, kids: &[TermId]) -> Result<TermId, Memory>
     requires within { All (λ k. k < length terms.old) kids.now }
     ensures grows { Grows terms.old terms.new }
     ensures made { IfOk result (λ id. StandsFor terms.new id (joined_by (operator_of operator) (terms_at (term_in terms.old) kids.now))) }
@@ -115,11 +115,7 @@ fn implication(terms: &mut Terms, kids: &[TermId]) -> Result<TermId, Memory>
 }
 
 // An operator that is written in pairs, from the left.
-fn grouped(
-    terms: &mut Terms,
-    operator: NormalOperator,
-    kids: &[TermId],
-) -> Result<TermId, Memory>
+fn grouped(terms: &mut Terms, operator: NormalOperator, kids: &[TermId]) -> Result<TermId, Memory>
     requires within { All (λ k. k < length terms.old) kids.now }
     ensures grows { Grows terms.old terms.new }
     ensures made { IfOk result (λ id. StandsFor terms.new id (grouped_by (operator_of operator) (terms_at (term_in terms.old) kids.now))) }

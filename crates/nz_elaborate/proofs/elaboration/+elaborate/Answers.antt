@@ -1,4 +1,4 @@
-use Rattle.std.proofs.Common.{◌≡◌, ◌<◌, ◌+◌, ◌||◌, ◌++◌, None, drop, refl, ap, sym, ◌∙◌, subst, arith, rules}
+use Rattle.std.proofs.Common.{◌≡◌, ℕ, ◌<◌, ◌+◌, ◌||◌, List, [], ◌∷◌, ◌++◌, None, is_some, drop, refl, ap, sym, ◌∙◌, subst, arith, rules}
 use Rattle.std.proofs.lemmas.List.{drop_all}
 use Rattle.nz_command.specs.declared.expression.Expression.TheViews.{the_lemmas}
 use Rattle.nz_command.specs.declared.expression.Expression.TheFolds.{fold-roll-Expression, fold_out-Expression, fold-roll-Local, fold_out-Local}
@@ -6,9 +6,9 @@ use Rattle.nz_command.specs.View.{view, seen, local_view, seen_locals}
 use Rattle.nz_spec.specs.Expression.{written_use, written_let, expressions, locals, local_names}
 use Rattle.nz_spec.specs.Scoping.{have_unknown, have_clash, has_unknown, has_clash, locals_have_unknown, locals_have_clash, clash, is_unknown}
 use Rattle.nz_spec.specs.Elaboration.{term_of, terms_of, bindings_of}
-use Rattle.nz_elaborate.specs.Names.{named_by, is_operator_entry}
+use Rattle.nz_elaborate.specs.Names.{named_by, bound_in, first_of, is_operator_entry}
 use Rattle.nz_elaborate.specs.Elaborate.{application_of, StandAs}
-use Rattle.nz_elaborate.specs.Faults.{fault_in, term_in_found, TellsNames, Settles}
+use Rattle.nz_elaborate.specs.Faults.{joined, clash_fault, fault_in, term_in_found, TellsNames, Settles}
 use Rattle.nz_elaborate.proofs.Growing.{grows_none, grows_more}
 use Rattle.nz_elaborate.proofs.Sizes.{expression_size, expressions_size, locals_size, item_smaller, local_smaller}
 use Rattle.nz_elaborate.proofs.Telling.{Leads, leads_next, leads_none, settles_none, tells_both, tells_use}
@@ -176,7 +176,10 @@ bind_all-loop-local-preserved t c =
     let found = c.in_ok-found.found in
     let frame = c.loop-local.bound.frame in
     let later = c.bind.new.self.frame in
-    let bound_more = c.in_ok-bind.ensures.bound in
+    -- the name is bound to what is found of its term, which is read in the scope outside
+    let told : c.bind.new.self.fault ≡ joined (joined c.loop-local.bound.fault (clash_fault (is_operator_entry (named_by c.args.names.now local.name.now) || is_some (bound_in frame local.name.now)))) (fault_in found) =
+    search (c.in_ok-bind.ensures.fault) in
+    let bound_more : (other : List ℕ) → bound_in later other ≡ first_of (bound_in frame other) (bound_in ((local.name.now, term_in_found found) ∷ []) other) = λ other. search (c.in_ok-bind.ensures.bound) in
     let rest = seen_locals (drop (i + 1) ls) in
     let shape : local_view local ≡ (local.name.now, view local.term) = search (rules, the_lemmas, fold-roll-Expression, fold_out-Expression, fold-roll-Local, fold_out-Local) in
     let turn : seen_locals (drop i ls) ≡ locals local.name.now (view local.term) rest = locals_turn ls i local local.name.now (view local.term) c.loop-local-test.true c.local-item.is shape in
@@ -190,12 +193,12 @@ bind_all-loop-local-preserved t c =
           bind_next c.loop-local.bound.fault (fault_in found) c.bind.new.self.fault frame later local.name.now (term_in_found found) (local_names rest)
           (is_operator_entry (named_by c.args.names.now local.name.now)) (has_unknown is_live bound (view local.term)) (has_clash (view local.term)) (locals_have_unknown is_live bound rest)
           (locals_have_clash rest) (locals_have_unknown is_live bound (seen_locals ls)) (clash (local_names (seen_locals ls)) || locals_have_clash (seen_locals ls)) (k.operators local.name.now)
-          (here.names is_live bound (names_here c.args.names.now c.args.frames.now.items c.loop-local.frames.items is_live bound before.frames k)) c.in_ok-bind.ensures.fault bound_more
+          (here.names is_live bound (names_here c.args.names.now c.args.frames.now.items c.loop-local.frames.items is_live bound before.frames k)) told bound_more
           (subst (λ r. BindLeads c.loop-local.bound.fault frame (local_names r) (locals_have_unknown is_live bound r) (locals_have_clash r) (locals_have_unknown is_live bound (seen_locals ls))
           (clash (local_names (seen_locals ls)) || locals_have_clash (seen_locals ls))) turn (before.names is_live bound k));
       found = λ sc s.
           bindings_next c.loop-local.terms c.expression_term.new.terms c.loop-local.bound.fault _ found c.bind.new.self.fault frame later local.name.now (bindings_of sc (seen_locals ls))
-          (bindings_of sc (seen_locals (drop i ls))) (bindings_of sc rest) (term_of sc (view local.term)) here.grows c.in_ok-bind.ensures.fault bound_more (ap (bindings_of sc) turn)
+          (bindings_of sc (seen_locals (drop i ls))) (bindings_of sc rest) (term_of sc (view local.term)) here.grows told bound_more (ap (bindings_of sc) turn)
           (here.found sc (scope_here c.args.terms.now c.loop-local.terms c.args.names.now c.args.frames.now.items c.loop-local.frames.items sc before.grown before.frames s)) (before.found sc s);
     }
 
