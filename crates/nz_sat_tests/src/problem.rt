@@ -18,7 +18,7 @@ use nz_log::laws::logs_stay;
 use nz_log::{ClauseId, Lit, Log, NoNumbers, Note, Stop, gate_count};
 use nz_sat::Sat;
 use nz_spec::derivation::gates_are_true;
-use nz_term::{Constant, Head, Operator, Sort, TermId, Terms};
+use nz_term::{Constant, Head, Operator, Sort, TermId, Terms, operators_are_no_leaves};
 use std::alloc::Global;
 use std::marker::Model;
 
@@ -85,13 +85,11 @@ impl Problem {
         self.make(Head::Constant(constant), &[])
     }
 
-    /// The term of this head over these, with its clauses of the gate table.
-    pub fn gates(&mut self, head: Head, kids: &[TermId]) -> Result<TermId, Memory>
-        requires fits { IsTrue (head_fits (head_of head)) }
-        requires leaves { HasItsArguments (head_of head) kids.now }
-    {
+    /// The term of this operator over these, with its clauses of the gate table.
+    pub fn gates(&mut self, operator: Operator, kids: &[TermId]) -> Result<TermId, Memory> {
+        operators_are_no_leaves();
         let known = self.terms.len();
-        let term = self.make(head, kids)?;
+        let term = self.make(Head::Operator(operator), kids)?;
         if known <= term {
             add_gates(&mut self.log, &mut self.sat, &self.terms, term)?;
         }
@@ -114,7 +112,7 @@ impl Problem {
         if literal.sign {
             return Ok(literal.term);
         }
-        self.gates(Head::Operator(Operator::Not), &[literal.term])
+        self.gates(Operator::Not, &[literal.term])
     }
 
     /// Asserts that one of these literals is true.
@@ -123,7 +121,7 @@ impl Problem {
         for literal in literals {
             kids.push(self.term(*literal)?)?;
         }
-        let term = self.gates(Head::Operator(Operator::Or), &kids)?;
+        let term = self.gates(Operator::Or, &kids)?;
         self.assert(term)
     }
 
