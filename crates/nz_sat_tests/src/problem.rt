@@ -195,7 +195,7 @@ fn add_assertion(log: &mut Log, sat: &mut Sat<NoNumbers>, place: usize, term: Te
 }
 
 /// The literals of this clause, if it is one.
-fn literals_of(
+pub fn literals_of(
     alloc: Global,
     log: &Log,
     clause: Option<ClauseId>,
@@ -209,7 +209,7 @@ fn literals_of(
 }
 
 /// Notes the terms below this number as atoms.
-fn note_atoms(count: usize, work: &mut Work<Note>) -> Result<(), Memory>
+pub fn note_atoms(count: usize, work: &mut Work<Note>) -> Result<(), Memory>
     requires empty { work.old.lines ≡ [] }
     ensures atoms { OnOk result (AreBelow count (noted_atoms work.new.lines)) }
     ensures units { OnOk result (unit_count work.new.lines ≡ 0) }
@@ -233,7 +233,7 @@ fn are_below(terms: &[TermId], count: usize) -> bool
 }
 
 /// Whether these literals name terms below this number.
-fn name_below(literals: &[Lit], count: usize) -> bool
+pub fn name_below(literals: &[Lit], count: usize) -> bool
     ensures below { OnTrue result (All (λ l. l.term < count) literals.now) }
 {
     for i in 0..literals.len() {
@@ -245,7 +245,7 @@ fn name_below(literals: &[Lit], count: usize) -> bool
 }
 
 /// Whether none of these literals is the negation of another.
-fn are_consistent(literals: &[Lit]) -> bool
+pub fn are_consistent(literals: &[Lit]) -> bool
     ensures consistent { OnTrue result (AreConsistent literals.now) }
 {
     for i in 0..literals.len() {
