@@ -107,7 +107,7 @@ fn solve(alloc: Global, assumed: &[Lit]) -> Result<Option<Vec<Lit>>, Stop> {
 #[test]
 fn a_theory_refutes(rt: HostRuntime) -> Result<(), Fail> {
     let literals = solve(rt.alloc(), &[Lit::fails(0)])?.ok_or("not refuted")?;
-    assert_eq!(rt; literals.as_slice(), &[Lit::holds(0)]);
+    assert_eq!(rt; literals.as_slice(), [Lit::holds(0)].as_slice());
     Ok(())
 }
 
