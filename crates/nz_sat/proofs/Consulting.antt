@@ -1,13 +1,13 @@
 -- What a search knows after the theory was asked.
-use Rattle.std.proofs.Common.{◌≡◌, ℕ, ◌<◌, ◌≤◌, List, [], ◌∷◌, length, get_or, inl, inr, Option, None, Some, refl, sym, ap, subst, ◌∙◌, arith}
-use Rattle.std.specs.Prelude.{All, Contains, IfOk, IfSome}
+use Rattle.std.proofs.Common.{◌≡◌, ℕ, ◌<◌, List, [], length, get_or, inl, inr, Option, None, Some, refl, sym, ap, subst, ◌∙◌, arith}
+use Rattle.std.specs.Prelude.{IfOk, IfSome}
 use Rattle.std.specs.declared.result.Result.{Result}
 use Rattle.std.proofs.lemmas.List.{append-nil}
 use Rattle.std.proofs.lemmas.List.Elements.{All-contains}
 use Rattle.std.proofs.lemmas.Result.{IfOk-weaker}
 use Rattle.nz_spec.specs.Legal.{Task}
 use Rattle.nz_spec.specs.Table.{Node}
-use Rattle.nz_spec.specs.Work.{WorkList, unit_count}
+use Rattle.nz_spec.specs.Work.{WorkList}
 use Rattle.nz_log.specs.declared.lits.Lit.{Lit}
 use Rattle.nz_log.specs.declared.note.Note.{Note}
 use Rattle.nz_log.specs.Logs.{LogState, literals_at}
@@ -15,13 +15,12 @@ use Rattle.nz_log.specs.Theories.{AddsUnits, Grows, IsClash}
 use Rattle.nz_sat.specs.declared.clauses.Held.{Held}
 use Rattle.nz_sat.specs.declared.search.Search.{Search}
 use Rattle.nz_sat.specs.declared.trail.Assigned.{Assigned}
-use Rattle.nz_sat.specs.Clauses.{IsAssumed}
 use Rattle.nz_sat.specs.Conflicts.{GoesBackTo, HasLast, IsDeadUnder, StaysSound}
 use Rattle.nz_sat.specs.Sats.{IsLegalWork}
-use Rattle.nz_sat.specs.Searching.{Advances, Carries, ComesTo, Follows, IsConflict, IsNoted, IsSearch, Learned, MayFollow, OpenOrConflict, OpenOrDead, Settles, StaysInOrder, Turns, TurnsOn, WasNoted, WereOpen, ids}
+use Rattle.nz_sat.specs.Searching.{Advances, Carries, ComesTo, Follows, IsConflict, IsNoted, IsSearch, Learned, MayFollow, OpenOrConflict, OpenOrDead, Settles, StaysInOrder, Turns, TurnsOn, WasNoted, WereOpen}
 use Rattle.nz_sat.specs.Theories.{IsMet, IsTold, StaysSoundOver}
 use Rattle.nz_sat.specs.Trails.{GoesOn, IsTrueOn, below, depth, literals_on}
-use Rattle.nz_sat.proofs.Advancing.{far_advances, held_on, log_advances, none_advances}
+use Rattle.nz_sat.proofs.Advancing.{far_advances, held_on, log_advances}
 use Rattle.nz_sat.proofs.Following.{carries_far, goes_first, goes_noted, stays_in_order}
 use Rattle.nz_sat.proofs.Keeping.{goes_assumed, held_live}
 use Rattle.nz_sat.proofs.Levels.{below_twice}

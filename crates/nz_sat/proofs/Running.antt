@@ -142,9 +142,9 @@ runs_first {assumed} {start} {mid} {s} rest a st =
     }
 
 -- what a search that begins is asked
-pub first_noted : {start mid : Search} → {log : LogState} → {held : List Held} → {assumed : List Lit} → {work : WorkList Note} → mid ≡ record start { trail = mid.trail }
+pub first_noted : (start : Search) → {mid : Search} → {log : LogState} → {held : List Held} → {assumed : List Lit} → {work : WorkList Note} → mid ≡ record start { trail = mid.trail }
     → AssumesAll log held assumed mid None → IsNoted log held start.atoms [] work → IsNoted log held mid.atoms mid.trail.entries work
-first_noted {start} {mid} {log} {held} {assumed} {work} rest a noted =
+first_noted start {mid} {log} {held} {assumed} {work} rest a noted =
     noted_first log held mid.atoms mid.trail.entries work a.undecided
     (subst (λ (us : List ℕ). IsNoted log held us [] work) (sym (ap (λ (r : Search). r.atoms) rest)) noted)
 
@@ -155,10 +155,10 @@ pub first_waits : {mid : Search} → {log : LogState} → {held : List Held} →
 first_waits n a k d inside = inl (a.all_open refl k d inside)
 
 -- the entries of what is assumed are assumed
-pub first_advances : {over : List Node → Type 0} → {assumed : List Lit} → {start mid : Search} → {log log' : LogState} → {held held' : List Held} → {work work' : WorkList Note}
+pub first_advances : {over : List Node → Type 0} → {assumed : List Lit} → (start : Search) → {mid : Search} → {log log' : LogState} → {held held' : List Held} → {work work' : WorkList Note}
     → {o : Option ℕ} → mid ≡ record start { trail = mid.trail } → AssumesAll log held assumed mid o
     → Advances over mid.atoms mid.trail.entries log log' held held' work work' → Advances over start.atoms (assumed_entries assumed) log log' held held' work work'
-first_advances {over} {assumed} {start} {mid} {log} {log'} {held} {held'} {work} {work'} rest a step =
+first_advances {over} {assumed} start {mid} {log} {log'} {held} {held'} {work} {work'} rest a step =
     let step' = subst (λ (us : List ℕ). Advances over us mid.trail.entries log log' held held' work work') (ap (λ (r : Search). r.atoms) rest) step in
     record {
       grows = step'.grows;
@@ -170,11 +170,11 @@ first_advances {over} {assumed} {start} {mid} {log} {log'} {held} {held'} {work}
     }
 
 -- the log grows by a refutation before anything is decided
-pub first_refuted : (over : List Node → Type 0) → {assumed : List Lit} → {start mid : Search} → {log log' : LogState} → {held : List Held} → (work : WorkList Note)
+pub first_refuted : (over : List Node → Type 0) → {assumed : List Lit} → (start : Search) → {mid : Search} → {log log' : LogState} → {held : List Held} → (work : WorkList Note)
     → {o : Option ℕ} → mid ≡ record start { trail = mid.trail } → AssumesAll log held assumed mid o → Grows log log' → StaysSound mid.trail.entries log log'
     → Advances over start.atoms (assumed_entries assumed) log log' held held work work
-first_refuted over {mid = mid} {log = log} {log' = log'} {held = held} work rest a grows sound =
-    first_advances rest a
+first_refuted over start {mid = mid} {log = log} {log' = log'} {held = held} work rest a grows sound =
+    first_advances start rest a
     (log_advances over mid.atoms mid.trail.entries log log' held work a.search.are_held grows (stays_in_order over log log' held mid a.search sound))
 
 -- the order of what is decided next has no part in it
@@ -243,14 +243,14 @@ none_told es told = record { count = 0; within = omega arith; told = told }
 abbrev pub RefutesOver : LogState → List Assigned → ℕ → Type 0
 RefutesOver log es id = IsLive log id × ((assumed : List Lit) → All (IsAssumed assumed) es → Refutes assumed (literals_at log id))
 
-pub refutes_far : {es es' : List Assigned} → (log : LogState) → ((assumed : List Lit) → All (IsAssumed assumed) es → All (IsAssumed assumed) es') → {E : Type 0}
+pub refutes_far : (es es' : List Assigned) → (log : LogState) → ((assumed : List Lit) → All (IsAssumed assumed) es → All (IsAssumed assumed) es') → {E : Type 0}
     → (r : Result (Option ℕ) E) → IfOk r (λ o. IfSome o (RefutesOver log es')) → IfOk r (λ o. IfSome o (RefutesOver log es))
-refutes_far {es} {es'} log only r h =
+refutes_far es es' log only r h =
     IfOk-weaker r (λ (o : Option ℕ). IfSome o (RefutesOver log es')) (λ (o : Option ℕ). IfSome o (RefutesOver log es))
     (λ o s. IfSome_then o s (λ id x. (x.0, λ assumed each. x.1 assumed (only assumed each)))) h
 
-pub refutes_assumed : {es : List Assigned} → (log : LogState) → (assumed : List Lit) → All (IsAssumed assumed) es → {E : Type 0} → (r : Result (Option ℕ) E)
+pub refutes_assumed : (es : List Assigned) → (log : LogState) → (assumed : List Lit) → All (IsAssumed assumed) es → {E : Type 0} → (r : Result (Option ℕ) E)
     → IfOk r (λ o. IfSome o (RefutesOver log es)) → IfOk r (λ o. IfSome o (λ id. IsLive log id × Refutes assumed (literals_at log id)))
-refutes_assumed {es} log assumed only r h =
+refutes_assumed es log assumed only r h =
     IfOk-weaker r (λ (o : Option ℕ). IfSome o (RefutesOver log es)) (λ (o : Option ℕ). IfSome o (λ id. IsLive log id × Refutes assumed (literals_at log id)))
     (λ o s. IfSome_then o s (λ id x. (x.0, x.1 assumed only))) h

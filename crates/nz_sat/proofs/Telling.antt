@@ -1,5 +1,5 @@
 -- What a theory was told of a trail, and its answers there.
-use Rattle.std.proofs.Common.{◌≡◌, ℕ, ◌+◌, ◌<◌, ◌≤◌, List, [], ◌∷◌, ◌++◌, length, take, drop, map, get_or, not, inl, inr, Option, None, Some, refl, sym, ap, subst, ◌∙◌, arith}
+use Rattle.std.proofs.Common.{◌≡◌, ℕ, ◌+◌, ◌<◌, ◌≤◌, List, [], ◌∷◌, ◌++◌, length, take, drop, get_or, not, inl, inr, Option, None, Some, sym, ap, subst, ◌∙◌, arith}
 use Rattle.std.specs.Prelude.{All, Contains, IfSome, option_map, slice_get}
 use Rattle.std.proofs.lemmas.List.{get_or-map, length-append, length-map, length-take-le, map_push, take-append-drop, take-append-le, take-map, take-take, take_all, take_more}
 use Rattle.std.proofs.lemmas.List.Elements.{All-contains, Contains-append_left, recursion_from_All}

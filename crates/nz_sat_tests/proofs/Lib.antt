@@ -1,3 +1,4 @@
 mod Assuming
+mod Clashing
 mod Noting
 mod Posing

@@ -1,7 +1,7 @@
 -- Problems whose clauses grow, and searches over them.
-use Rattle.std.proofs.Common.{◌≡◌, ℕ, ◌+◌, ◌<◌, true≢false, List, [], ◌∷◌, ◌++◌, length, Option, Some, None, Result, Ok, Err, IfOk, OnOk, OnErr, refl, sym, ap, subst, ◌∙◌, ◌⊎◌, inl, inr, arith}
-use Rattle.std.specs.Prelude.{All, Contains, IsSome, slice_get}
-use Rattle.std.proofs.lemmas.List.{append-nil, get_or_push, length_push}
+use Rattle.std.proofs.Common.{◌≡◌, ℕ, ◌+◌, ◌<◌, true≢false, List, [], ◌∷◌, ◌++◌, length, replicate, Option, Some, None, Result, Ok, Err, IfOk, OnOk, OnErr, refl, sym, ap, subst, ◌∙◌, ◌⊎◌, inl, inr, arith}
+use Rattle.std.specs.Prelude.{All, Contains, IsSome, slice_get, ⊤}
+use Rattle.std.proofs.lemmas.List.{append-nil, get_or_push, length-replicate, length_push}
 use Rattle.std.proofs.lemmas.List.Elements.{All-append, All-from_recursion, All-weaker}
 use Rattle.std.proofs.lemmas.Option.{slice_get-get_or, slice_get_within}
 use Rattle.nz_spec.specs.Table.{Node}
@@ -87,7 +87,11 @@ posed_atoms ns asserted log sat assumed atoms h within below =
 
 -- what a search leaves
 pub searched_posed : (ns : List Node) (asserted : List ℕ) (old new : LogState) (sat sat' : SatState NoNumbers) (atoms : List ℕ) → IsPosed ns asserted old sat → AreBelow (length ns) atoms
-    → ((ms : List Node) (levels : List (List ℕ)) → All (λ t. t < length ms) atoms → IsLog ms levels old → IsLog ms levels new) → HoldsMore new sat.clauses sat'.clauses
+    → ((ms : List Node) (levels : List (List ℕ)) → ⊤ → All (λ t. t < length ms) atoms → IsLog ms levels old → IsLog ms levels new) → HoldsMore new sat.clauses sat'.clauses
     → IsPosed ns asserted new sat'
 searched_posed ns asserted old new sat sat' atoms h below sound more =
-    record { order = sound ns (asserted ∷ []) (below_within (length ns) atoms below) h.order; held = more.held }
+    record { order = sound ns (asserted ∷ []) tt (below_within (length ns) atoms below) h.order; held = more.held }
+
+-- some literals were told, as many as there were
+pub any_told : (n : ℕ) → (ls : List Lit) × (n ≡ length ls)
+any_told n = let l : Lit = record { term = 0; sign = true } in (replicate n l, sym (length-replicate n l))

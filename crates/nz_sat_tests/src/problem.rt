@@ -18,7 +18,7 @@ use nz_log::laws::logs_stay;
 use nz_log::{ClauseId, Lit, Log, NoNumbers, Note, Stop, gate_count};
 use nz_sat::Sat;
 use nz_spec::derivation::gates_are_true;
-use nz_term::{Constant, Head, Operator, Sort, TermId, Terms};
+use nz_term::{Constant, Head, Operator, Sort, TermId, Terms, operators_are_no_leaves};
 use std::alloc::Global;
 use std::marker::Model;
 
@@ -85,13 +85,11 @@ impl Problem {
         self.make(Head::Constant(constant), &[])
     }
 
-    /// The term of this head over these, with its clauses of the gate table.
-    pub fn gates(&mut self, head: Head, kids: &[TermId]) -> Result<TermId, Memory>
-        requires fits { IsTrue (head_fits (head_of head)) }
-        requires leaves { HasItsArguments (head_of head) kids.now }
-    {
+    /// The term of this operator over these, with its clauses of the gate table.
+    pub fn gates(&mut self, operator: Operator, kids: &[TermId]) -> Result<TermId, Memory> {
+        operators_are_no_leaves();
         let known = self.terms.len();
-        let term = self.make(head, kids)?;
+        let term = self.make(Head::Operator(operator), kids)?;
         if known <= term {
             add_gates(&mut self.log, &mut self.sat, &self.terms, term)?;
         }
@@ -114,7 +112,7 @@ impl Problem {
         if literal.sign {
             return Ok(literal.term);
         }
-        self.gates(Head::Operator(Operator::Not), &[literal.term])
+        self.gates(Operator::Not, &[literal.term])
     }
 
     /// Asserts that one of these literals is true.
@@ -123,7 +121,7 @@ impl Problem {
         for literal in literals {
             kids.push(self.term(*literal)?)?;
         }
-        let term = self.gates(Head::Operator(Operator::Or), &kids)?;
+        let term = self.gates(Operator::Or, &kids)?;
         self.assert(term)
     }
 
@@ -197,7 +195,7 @@ fn add_assertion(log: &mut Log, sat: &mut Sat<NoNumbers>, place: usize, term: Te
 }
 
 /// The literals of this clause, if it is one.
-fn literals_of(
+pub fn literals_of(
     alloc: Global,
     log: &Log,
     clause: Option<ClauseId>,
@@ -211,7 +209,7 @@ fn literals_of(
 }
 
 /// Notes the terms below this number as atoms.
-fn note_atoms(count: usize, work: &mut Work<Note>) -> Result<(), Memory>
+pub fn note_atoms(count: usize, work: &mut Work<Note>) -> Result<(), Memory>
     requires empty { work.old.lines ≡ [] }
     ensures atoms { OnOk result (AreBelow count (noted_atoms work.new.lines)) }
     ensures units { OnOk result (unit_count work.new.lines ≡ 0) }
@@ -235,7 +233,7 @@ fn are_below(terms: &[TermId], count: usize) -> bool
 }
 
 /// Whether these literals name terms below this number.
-fn name_below(literals: &[Lit], count: usize) -> bool
+pub fn name_below(literals: &[Lit], count: usize) -> bool
     ensures below { OnTrue result (All (λ l. l.term < count) literals.now) }
 {
     for i in 0..literals.len() {
@@ -247,7 +245,7 @@ fn name_below(literals: &[Lit], count: usize) -> bool
 }
 
 /// Whether none of these literals is the negation of another.
-fn are_consistent(literals: &[Lit]) -> bool
+pub fn are_consistent(literals: &[Lit]) -> bool
     ensures consistent { OnTrue result (AreConsistent literals.now) }
 {
     for i in 0..literals.len() {

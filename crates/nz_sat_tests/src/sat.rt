@@ -4,7 +4,7 @@
 use crate::problem::Problem;
 use nz_base::Memory;
 use nz_log::{Lit, Stop};
-use nz_term::{Head, Operator, TermId};
+use nz_term::{Operator, TermId};
 use std::alloc::Global;
 use std::test::Fail;
 
@@ -104,8 +104,8 @@ fn odd(problem: &mut Problem) -> Result<[TermId; 3], Memory> {
     let p = problem.atom(0)?;
     let q = problem.atom(1)?;
     let r = problem.atom(2)?;
-    let odd = problem.gates(Head::Operator(Operator::Xor), &[p, q])?;
-    let same = problem.gates(Head::Operator(Operator::Equal), &[odd, r])?;
+    let odd = problem.gates(Operator::Xor, &[p, q])?;
+    let same = problem.gates(Operator::Equal, &[odd, r])?;
     problem.assert(same)?;
     Ok([p, q, r])
 }

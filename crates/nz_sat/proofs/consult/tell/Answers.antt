@@ -1,5 +1,5 @@
 -- One literal more is told.
-use Rattle.std.proofs.Common.{length, take}
+use Rattle.std.proofs.Common.{take}
 use Rattle.nz_sat.specs.Trails.{literals_on}
 use Rattle.nz_sat.proofs.Telling.{tells_clash, tells_first, tells_on, tells_sound, tells_told}
 use Rattle.nz_sat.proofs.consult.tell.Goals as goal

@@ -7,7 +7,7 @@ use Rattle.nz_sat.proofs.Retaining.{retained}
 use Rattle.nz_sat.proofs.sat.Sat.cut.Goals as goal
 
 pub returns-clause-clauses : goal.returns-clause-clauses
-returns-clause-clauses c =
-    retained _ (λ (h : Held). nat_le h.level c.args.level) _ (λ x b g k. (search rules, search rules)) c.self.inside.clauses.items c.retain.new.self.items
+returns-clause-clauses g c =
+    retained _ (λ (h : Held). nat_le h.level c.args.level) _ (λ x b f k. (search rules, search rules)) c.self.inside.clauses.items c.retain.new.self.items
     c.retain.ensures.filtered
-    ∙ ap (λ (s : SatState). held_up_to c.args.level s.clauses) c.self.view_is
+    ∙ ap (λ (s : SatState g.row.T.Denot). held_up_to c.args.level s.clauses) c.self.view_is

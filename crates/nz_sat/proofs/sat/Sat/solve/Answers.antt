@@ -99,7 +99,7 @@ pub returns-clause-told : goal.returns-clause-told
 returns-clause-told g c =
     let told = c.in_ok-refuted.ensures.told in
     let P : SatState g.row.T.Denot → Type 0 = λ t. (ls : List Lit) × g.T.Theory.has_told t.theory ls in
-    let there = (literals_on (take told.count c.run.new.self.trail.entries), told.told) in
+    let there : (ls : List Lit) × g.T.Theory.has_told c.run.new.theory ls = (literals_on (take told.count c.run.new.self.trail.entries), told.told) in
     elim c.if-is_none.branch [
       | then-is_none+in_ok-self-inside w ↦ subst P (sym w.self-is) there
       | else-is_none w ↦ subst P (sym w.self-is) there

@@ -9,12 +9,12 @@ use Rattle.nz_sat.proofs.search.Search.begin.Goals as goal
 pub returns-in_err-refute-clause-advances : goal.returns-in_err-refute-clause-advances
 returns-in_err-refute-clause-advances g c =
     let a = subst (λ (held : List Held). AssumesAll c.args.log.now held c.args.assumed.now c.assume_all.new.self c.assume_all.result) c.deref.ensures.value c.assume_all.ensures.comes in
-    first_refuted (g.T.Theory.is_over c.args.theory.now) c.args.work.now c.assume_all.ensures.rest a c.refute.ensures.grows c.refute.ensures.sound
+    first_refuted (g.T.Theory.is_over c.args.theory.now) c.args.self.now c.args.work.now c.assume_all.ensures.rest a c.refute.ensures.grows c.refute.ensures.sound
 
 pub returns-in-Some-clause-advances : goal.returns-in-Some-clause-advances
 returns-in-Some-clause-advances g c =
     let a = subst (λ (held : List Held). AssumesAll c.args.log.now held c.args.assumed.now c.assume_all.new.self c.assume_all.result) c.deref.ensures.value c.assume_all.ensures.comes in
-    first_refuted (g.T.Theory.is_over c.args.theory.now) c.args.work.now c.assume_all.ensures.rest a c.refute.ensures.grows c.refute.ensures.sound
+    first_refuted (g.T.Theory.is_over c.args.theory.now) c.args.self.now c.args.work.now c.assume_all.ensures.rest a c.refute.ensures.grows c.refute.ensures.sound
 
 pub returns-in-Some-clause-told : goal.returns-in-Some-clause-told
 returns-in-Some-clause-told g c = none_told c.refute.new.self.trail.entries c.requires.told
@@ -32,13 +32,13 @@ pub settle-requires-clause-waits : goal.settle-requires-clause-waits
 settle-requires-clause-waits g c =
     let none : c.assume_all.result ≡ None = search rules in
     let a = subst (λ (held : List Held). AssumesAll c.args.log.now held c.args.assumed.now c.assume_all.new.self c.assume_all.result) c.deref.ensures.value c.assume_all.ensures.comes in
-    first_waits c.len.result (subst (AssumesAll c.args.log.now c.args.held.now.items c.args.assumed.now c.assume_all.new.self) none a)
+    first_waits c.len-from.result (subst (AssumesAll c.args.log.now c.args.held.now.items c.args.assumed.now c.assume_all.new.self) none a)
 
 pub settle-requires-clause-noted : goal.settle-requires-clause-noted
 settle-requires-clause-noted g c =
     let none : c.assume_all.result ≡ None = search rules in
     let a = subst (λ (held : List Held). AssumesAll c.args.log.now held c.args.assumed.now c.assume_all.new.self c.assume_all.result) c.deref.ensures.value c.assume_all.ensures.comes in
-    first_noted c.assume_all.ensures.rest (subst (AssumesAll c.args.log.now c.args.held.now.items c.args.assumed.now c.assume_all.new.self) none a) c.requires.noted
+    first_noted c.args.self.now c.assume_all.ensures.rest (subst (AssumesAll c.args.log.now c.args.held.now.items c.args.assumed.now c.assume_all.new.self) none a) c.requires.noted
 
 pub settle-requires-clause-told : goal.settle-requires-clause-told
 settle-requires-clause-told g c = none_told c.assume_all.new.self.trail.entries c.requires.told
@@ -46,7 +46,7 @@ settle-requires-clause-told g c = none_told c.assume_all.new.self.trail.entries 
 pub returns-clause-advances : goal.returns-clause-advances
 returns-clause-advances g c =
     let a = subst (λ (held : List Held). AssumesAll c.args.log.now held c.args.assumed.now c.assume_all.new.self c.assume_all.result) c.deref.ensures.value c.assume_all.ensures.comes in
-    first_advances c.assume_all.ensures.rest a c.settle.ensures.advances
+    first_advances c.args.self.now c.assume_all.ensures.rest a c.settle.ensures.advances
 
 pub returns-clause-runs : goal.returns-clause-runs
 returns-clause-runs g c =
@@ -61,4 +61,4 @@ returns-clause-runs g c =
 pub returns-clause-refuted : goal.returns-clause-refuted
 returns-clause-refuted g c =
     let a = subst (λ (held : List Held). AssumesAll c.args.log.now held c.args.assumed.now c.assume_all.new.self c.assume_all.result) c.deref.ensures.value c.assume_all.ensures.comes in
-    refutes_assumed c.settle.new.log c.args.assumed.now a.assumed_only c.settle.result c.settle.ensures.refuted
+    refutes_assumed c.assume_all.new.self.trail.entries c.settle.new.log c.args.assumed.now a.assumed_only c.settle.result c.settle.ensures.refuted

@@ -1,6 +1,5 @@
 -- What propagation and the theory tell of the clauses that are held.
 use Rattle.std.proofs.Common.{◌≡◌, None, ap, rules, subst}
-use Rattle.std.specs.Prelude.{Option}
 use Rattle.nz_sat.specs.declared.search.Search.{Search}
 use Rattle.nz_sat.specs.Searching.{Follows}
 use Rattle.nz_sat.proofs.Consulting.{comes_dead, comes_told, consult_advances, goes_told}

@@ -1,5 +1,5 @@
 -- One decision more, with what is learned from its conflicts.
-use Rattle.std.proofs.Common.{◌≡◌, ℕ, ◌<◌, List, Option, None, sym, subst, arith, rules}
+use Rattle.std.proofs.Common.{◌≡◌, ℕ, List, Option, None, sym, subst, arith, rules}
 use Rattle.std.specs.Prelude.{All, IfSome}
 use Rattle.nz_log.specs.declared.lits.Lit.{Lit}
 use Rattle.nz_log.specs.Logs.{IsLive, literals_at}

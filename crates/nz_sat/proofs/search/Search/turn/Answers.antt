@@ -77,4 +77,4 @@ pub returns-clause-refuted : goal.returns-clause-refuted
 returns-clause-refuted g c =
     let d = has_decided c.legal_work_goes_on.ensures.goes_on (g.T.Theory.is_over c.args.theory.now) c.args.term c.requires.search c.requires.all_open c.requires.were_open c.requires.noted
     c.requires.free c.requires.named c.in_ok-from.ensures.rest c.in_ok-from.ensures.decides in
-    refutes_far c.settle.new.log d.carries.assumed_only c.settle.result c.settle.ensures.refuted
+    refutes_far c.args.self.now.trail.entries c.decide.new.self.trail.entries c.settle.new.log d.carries.assumed_only c.settle.result c.settle.ensures.refuted

@@ -3,7 +3,7 @@ use Rattle.std.specs.Prelude.{All}
 use Rattle.nz_log.specs.declared.lits.Lit.{Lit}
 use Rattle.nz_sat.specs.Numbers.{noted_atoms}
 use Rattle.nz_sat_tests.specs.Problems.{AreBelow}
-use Rattle.nz_sat_tests.proofs.Posing.{posed_atoms, searched_posed}
+use Rattle.nz_sat_tests.proofs.Posing.{any_told, posed_atoms, searched_posed}
 use Rattle.nz_sat_tests.proofs.problem.Problem.solve.Goals as goal
 
 pub solve-requires-clause-atoms : goal.solve-requires-clause-atoms
@@ -15,6 +15,9 @@ solve-requires-clause-atoms c =
     let named : All (λ (l : Lit). l.term < c.len-count.result) c.args.assumed.now = search rules in
     posed_atoms ns c.self.inside.asserted.items c.self.inside.log c.self.inside.sat c.args.assumed.now atoms c.self.invariant
     (subst (λ (n : ℕ). All (λ (l : Lit). l.term < n) c.args.assumed.now) count named) below
+
+pub solve-requires-clause-told : goal.solve-requires-clause-told
+solve-requires-clause-told c = any_told c.self.inside.sat.theory.told
 
 pub invariant_of-self : goal.invariant_of-self
 invariant_of-self c =

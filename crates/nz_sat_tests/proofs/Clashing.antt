@@ -1,0 +1,78 @@
+-- A theory that knows a clause of one literal.
+use Rattle.std.proofs.Common.{◌≡◌, ℕ, ◌<◌, ◌==◌, Bool, true, false, List, [], ◌∷◌, length, get_or, refl, sym, subst, ◌∙◌, arith, eqb-true}
+use Rattle.std.specs.Prelude.{All, Contains, slice_index_or}
+use Rattle.std.proofs.lemmas.Bool.{and_parts}
+use Rattle.std.proofs.lemmas.List.{get_or_default}
+use Rattle.std.proofs.lemmas.List.Elements.{All-nil, All-weaker}
+use Rattle.std.proofs.lemmas.Option.{slice_get_within}
+use Rattle.nz_spec.specs.Literal.{StandOnce, are_same_sign}
+use Rattle.nz_log.specs.declared.lits.Lit.{Lit}
+use Rattle.nz_log.specs.Lits.{are_same_lit, negated_lit}
+use Rattle.nz_log.specs.Logs.{LogState, Entry, IsLive, Puts, literals_at}
+use Rattle.nz_log.specs.Theories.{Grows, IsClash}
+use Rattle.nz_sat.specs.declared.clauses.Held.{Held}
+use Rattle.nz_sat.specs.Sats.{AreAtoms}
+use Rattle.nz_sat_tests.specs.Clashes.{Negates}
+use Rattle.nz_sat_tests.specs.Problems.{AreBelow}
+use Rattle.nz_sat_tests.proofs.Noting.{below_has, below_once}
+
+-- ---- Literals
+
+same_sign : (p q : Bool) → are_same_sign p q ≡ true → p ≡ q
+same_sign true q e = sym e
+same_sign false true e = cc
+same_sign false false e = refl
+
+same_lit : (l m : Lit) → are_same_lit l m ≡ true → l ≡ m
+same_lit l m e =
+    let parts = and_parts (l.term == m.term) (are_same_sign l.sign m.sign) e in
+    let term : l.term ≡ m.term = eqb-true l.term m.term parts.0 in
+    let sign : l.sign ≡ m.sign = same_sign l.sign m.sign parts.1 in
+    λ i. record { term = term i; sign = sign i }
+
+-- one of what was told is the negation
+pub negation_among : (told : List Lit) (i : ℕ) (l n e : Lit) → i < length told → n ≡ negated_lit l → are_same_lit (get_or told i e) n ≡ true → Negates (l ∷ []) told
+negation_among told i l n e inside is same =
+    record { literal = l; only = refl; among = (i, inside, get_or_default told i (negated_lit l) e inside ∙ same_lit (get_or told i e) n same ∙ is) }
+
+-- ---- A clause of one literal
+
+one_once : (l : Lit) → StandOnce (l ∷ [])
+one_once l i j x p q =
+    let a = slice_get_within (l ∷ []) i x p in
+    let b = slice_get_within (l ∷ []) j x q in
+    omega (arith, a, b)
+
+only_is : (l m : Lit) → Contains (l ∷ []) m → l ≡ m
+only_is l m has =
+    let inside = has.1 in
+    let first : has.0 ≡ 0 = omega (arith, inside) in
+    subst (λ (i : ℕ). slice_index_or (l ∷ []) i m ≡ m) first has.2
+
+pub one_clash : (log : LogState) (told ls : List Lit) (id : ℕ) → told ≡ ls → IsLive log id → Negates (literals_at log id) told → IsClash log ls id
+one_clash log told ls id same live n =
+    subst (λ (xs : List Lit). IsClash log xs id) same
+    (record {
+      live = live;
+      once = subst StandOnce (sym n.only) (one_once n.literal);
+      negations = λ m has.
+          subst (λ (x : Lit). Contains told (negated_lit x)) (only_is n.literal m (subst (λ (c : List Lit). Contains c m) n.only has)) n.among;
+    })
+
+pub puts_grows : (old new : LogState) (id : ℕ) (e : Entry) → Puts old id e new → Grows old new
+puts_grows old new id e p =
+    record {
+      live = p.stay;
+      kept = λ i live. p.kept i (λ same. let less = p.above i live in absurd (omega (arith, less, same)));
+      told = p.told;
+    }
+
+-- ---- A search over no clause
+
+pub first_atoms : (log : LogState) (n : ℕ) (assumed : List Lit) (atoms : List ℕ) → All (λ (l : Lit). l.term < n) assumed → AreBelow n atoms → AreAtoms log [] assumed atoms
+first_atoms log n assumed atoms small below =
+    record {
+      clauses = All-nil (λ (h : Held). All (λ (l : Lit). Contains atoms l.term) (literals_at log h.id));
+      assumed_named = All-weaker (λ (l : Lit). l.term < n) (λ (l : Lit). Contains atoms l.term) (λ l less. below_has n atoms below l.term less) assumed small;
+      once = below_once n atoms below;
+    }
