@@ -5,10 +5,13 @@ use Rattle.std.proofs.lemmas.Bool.{and_parts}
 use Rattle.std.proofs.lemmas.List.{get_or_default}
 use Rattle.std.proofs.lemmas.List.Elements.{All-nil, All-weaker}
 use Rattle.std.proofs.lemmas.Option.{slice_get_within}
+use Rattle.nz_spec.specs.Gates.{HasBooleanArguments}
 use Rattle.nz_spec.specs.Literal.{StandOnce, are_same_sign}
+use Rattle.nz_spec.specs.Table.{Node, term_in}
 use Rattle.nz_log.specs.declared.lits.Lit.{Lit}
 use Rattle.nz_log.specs.Lits.{are_same_lit, negated_lit}
 use Rattle.nz_log.specs.Logs.{LogState, Entry, IsLive, Puts, literals_at}
+use Rattle.nz_log.specs.Sound.{IsLog}
 use Rattle.nz_log.specs.Theories.{Grows, IsClash}
 use Rattle.nz_sat.specs.declared.clauses.Held.{Held}
 use Rattle.nz_sat.specs.Sats.{AreAtoms}
@@ -66,6 +69,17 @@ puts_grows old new id e p =
       kept = λ i live. p.kept i (λ same. let less = p.above i live in absurd (omega (arith, less, same)));
       told = p.told;
     }
+
+pub same_grows : (old new : LogState) → new ≡ old → Grows old new
+same_grows old new same = subst (Grows old) (sym same) (record { live = λ i live. live; kept = λ i live. refl; told = refl })
+
+-- the clause is of the table that the theory knows
+pub gate_sound : (terms ns : List Node) (t : ℕ) (levels : List (List ℕ)) (old new : LogState)
+    → ((ls : List (List ℕ)) → HasBooleanArguments (term_in terms t) → IsLog terms ls old → IsLog terms ls new) → (terms ≡ ns) × HasBooleanArguments (term_in ns t)
+    → IsLog ns levels old → IsLog ns levels new
+gate_sound terms ns t levels old new sound over order =
+    subst (λ (ms : List Node). IsLog ms levels new) over.0
+    (sound levels (subst (λ (ms : List Node). HasBooleanArguments (term_in ms t)) (sym over.0) over.1) (subst (λ (ms : List Node). IsLog ms levels old) (sym over.0) order))
 
 -- ---- A search over no clause
 
