@@ -58,7 +58,7 @@ impl ClauseForm {
     }
 
     /// Whether a term is covered.
-    fn is_covered(&self, term: TermId) -> bool
+    pub fn is_covered(&self, term: TermId) -> bool
         ensures covered { result ≡ is_some (covered_at self.now term) }
     {
         has_level(self.levels.as_slice(), term)

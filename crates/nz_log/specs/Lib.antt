@@ -1,3 +1,4 @@
+pub mod Leveled
 pub mod Lits
 pub mod Logs
 pub mod Notes

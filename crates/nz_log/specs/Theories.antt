@@ -6,15 +6,17 @@ use Rattle.nz_spec.specs.Table.{Node}
 use Rattle.nz_spec.specs.Work.{WorkEntry, WorkLine, WorkList, UnitLine}
 use Rattle.nz_log.specs.declared.lits.Lit.{Lit}
 use Rattle.nz_log.specs.declared.note.Note.{Note}
+use Rattle.nz_log.specs.Leveled.{IsLeveled}
 use Rattle.nz_log.specs.Lits.{negated_lit}
 use Rattle.nz_log.specs.Logs.{LogState, IsLive, entry_at, literals_at}
 use Rattle.nz_log.specs.Notes.{noted_list}
 
--- The log keeps each of its clauses, and what was told.
+-- The log keeps each of its clauses, and what was told; and each clause stays at or above the levels told of what it names.
 pub record Grows (old new : LogState) : Type 0 where
   pub live : (i : ℕ) → IsLive old i → IsLive new i
   pub kept : (i : ℕ) → IsLive old i → entry_at new i ≡ entry_at old i
   pub told : new.told ≡ old.told
+  pub leveled : IsLeveled old → IsLeveled new
 
 -- A clause of the log says that literals that were told aren't true together: it has negations of them, each once.
 pub record IsClash (log : LogState) (told : List Lit) (id : ℕ) : Type 0 where

@@ -1,4 +1,5 @@
 //! Laws of logs in order, and of clauses by the numbers of terms.
+ghost use Rattle.nz_log.specs.Leveled.{LogsStayLeveled};
 ghost use Rattle.nz_log.specs.Sound.{ClausesAreTrue, GatesAreNamed, LogsStay};
 
 use nz_spec::derivation::{gates_are_true, resolvent_is_true, tells_literals};
@@ -19,6 +20,12 @@ pub fn logs_stay()
     ensures stay { LogsStay }
 {
     term_stays();
+}
+
+/// Each clause of a log stays at or above the levels told of the terms that it names, whatever rule puts the next one.
+pub fn logs_stay_leveled()
+    ensures stay { LogsStayLeveled }
+{
 }
 
 /// The clauses of the gate table by the number of a term say those of the term.

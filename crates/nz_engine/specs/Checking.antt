@@ -1,9 +1,9 @@
--- A problem: what is asserted and assumed, and what it is made of.
-use Rattle.std.specs.Prelude.{◌≡◌, ℕ, ◌<◌, ◌++◌, Bool, false, List, [], ◌∷◌, length, All, Contains, Option, Some, flat_map, if◌then◌else◌, map, option_map, slice_get, take}
-use Rattle.nz_spec.specs.Term.{Head, constant, Value, is_bool, truth, holds_number}
-use Rattle.nz_spec.specs.Table.{Node, term_in, assignment_by}
-use Rattle.nz_spec.specs.Order.{post_order, AreFirst}
-use Rattle.nz_spec.specs.Decide.{asserted_terms, AreModelValues}
+-- A check: its atoms, its answer and its work.
+use Rattle.std.specs.Prelude.{◌≡◌, ◌≢◌, ℕ, ◌<◌, ◌++◌, Bool, false, true, List, [], ◌∷◌, length, All, Contains, Option, Some, None, IsSome, if◌then◌else◌, map, option_map, slice_get, take}
+use Rattle.std.specs.List.{AllPairs}
+use Rattle.nz_spec.specs.Term.{Head, constant, Value, is_bool, truth}
+use Rattle.nz_spec.specs.Table.{Node, IsTable, term_in, assignment_by}
+use Rattle.nz_spec.specs.Decide.{asserted_numbers, asserted_terms, AreModelValues}
 use Rattle.nz_spec.specs.Gates.{IsGated}
 use Rattle.nz_spec.specs.Literal.{AreTrueLiterals}
 use Rattle.nz_spec.specs.Legal.{Task, at_first, IsDeadEnd, AreLegal}
@@ -11,45 +11,42 @@ use Rattle.nz_spec.specs.Work.{NoteLine, WorkList}
 use Rattle.nz_log.specs.declared.decide.Verdict.{Verdict}
 use Rattle.nz_log.specs.declared.decide.Verdict.TheVariants.{Sat, Unsat}
 use Rattle.nz_log.specs.declared.lits.Lit.{Lit}
-use Rattle.nz_log.specs.Lits.{literal_of, gates_at, AreNegations}
+use Rattle.nz_log.specs.Lits.{literal_of, AreNegations}
 use Rattle.nz_log.specs.Logs.{LogState}
 use Rattle.nz_log.specs.Verdicts.{task_in}
 use Rattle.nz_log.specs.declared.note.Note.{Note}
 use Rattle.nz_log.specs.declared.note.Note.TheVariants.{Atom}
 use Rattle.nz_log.specs.Notes.{noted_list, AreNotedWithin}
 use Rattle.nz_log.specs.declared.theory.NoNumbers.{NoNumbers}
-use Rattle.nz_sat.specs.Sats.{SatState, IsTrueClause, IsTrueLit, truth_of}
-use Rattle.nz_engine.specs.Clausal.{IsAtomic, unit_of}
+use Rattle.nz_cform.specs.Forms.{covered_at}
+use Rattle.nz_sat.specs.Sats.{SatState, IsSatisfied, truth_of}
 use Rattle.nz_engine.specs.Engines.{literals_in}
+use Rattle.nz_engine.specs.Levels.{count_of}
+use Rattle.nz_engine.specs.Preparing.{PreparedState, IsStanding}
 
 -- the terms that the literals name
 abbrev pub terms_named : List Lit → List ℕ
 terms_named ls = map (λ (l : Lit). l.term) ls
 
--- The atoms are what these terms are made of, each once.
-pub record AreAtomsOf (ns : List Node) (roots atoms : List ℕ) : Type 0 where
-  pub first : AreFirst [] (flat_map post_order (map (term_in ns) roots)) (map (term_in ns) atoms)
-  pub within : All (λ t. t < length ns) atoms
-  pub atomic : All (IsAtomic ns atoms) atoms
-  pub roots_in : All (Contains atoms) roots
+-- the terms of these numbers are of the gate table
+abbrev pub AreGatedAt : List Node → List ℕ → Type 0
+AreGatedAt ns ts = All (λ t. IsGated (term_in ns t)) ts
 
--- the terms hold no number
-abbrev pub ArePlain : List Node → List ℕ → Type 0
-ArePlain ns ts = All (λ t. holds_number (term_in ns t) ≡ false) ts
+-- the terms that the literals name are covered
+abbrev pub AreCovered : PreparedState → List Lit → Type 0
+AreCovered p ls = All (λ (l : Lit). IsSome (covered_at p.form l.term)) ls
+
+-- A search may begin: each assertion has its clause, and the terms of the assumed literals are covered.
+pub record IsPosed (ns : List Node) (levels : List (List ℕ)) (assumed : List Lit) (p : PreparedState) : Type 0 where
+  pub table : IsTable ns
+  pub standing : IsStanding ns levels (terms_named assumed) p
+  pub all_given : count_of levels ≡ p.given
+  pub assumed_covered : AreCovered p assumed
+  pub gated : AreGatedAt ns (asserted_numbers levels)
+  pub assumed_gated : AreGatedAt ns (terms_named assumed)
+  pub assumed_within : All (λ t. t < length ns) (terms_named assumed)
 
 -- ---- Truths
-
--- the clauses of the atoms, and that each assertion is true
-abbrev pub clauses_of : List Node → List ℕ → List ℕ → List (List Lit)
-clauses_of ns asserted atoms = flat_map (gates_at ns) atoms ++ map unit_of asserted
-
--- What is asserted and assumed is of the gate table, and under the truths of its atoms each clause and each assumed literal is true.
-pub record IsFound (ns : List Node) (asserted : List ℕ) (assumed : List Lit) (atoms : List ℕ) (s : SatState NoNumbers) : Type 0 where
-  pub are : AreAtomsOf ns (asserted ++ terms_named assumed) atoms
-  pub plain : ArePlain ns atoms
-  pub gated : All (λ t. IsGated (term_in ns t)) (asserted ++ terms_named assumed)
-  pub clauses : All (IsTrueClause s) (clauses_of ns asserted atoms)
-  pub assumed_hold : All (IsTrueLit s) assumed
 
 -- a term with its truth, where it is a constant of sort Bool that has one
 abbrev pub value_as : ℕ → Option Head → Option Bool → List (ℕ × Value)
