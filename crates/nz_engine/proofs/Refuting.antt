@@ -23,7 +23,7 @@ use Rattle.nz_log.specs.Sound.{IsLog, live_terms, ClausesAreTrue}
 use Rattle.nz_log.specs.Verdicts.{OnUnsat, task_in}
 use Rattle.nz_sat.specs.Conflicts.{Refutes}
 use Rattle.nz_engine.specs.Engines.{IsInOrder, literals_in}
-use Rattle.nz_engine.specs.Posed.{IsAnswer}
+use Rattle.nz_engine.specs.Checking.{IsAnswer}
 use Rattle.nz_engine.proofs.Posing.{each_of}
 
 -- ---- Assertions of a level
