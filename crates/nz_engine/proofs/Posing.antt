@@ -1,18 +1,13 @@
 -- What is asserted and what is assumed, in one list.
-use Rattle.std.proofs.Common.{◌≡◌, ℕ, suc, ◌<◌, false, List, [], ◌∷◌, ◌++◌, length, take, drop, map, get_or, Some, None, sym, ap, subst, arith}
-use Rattle.std.specs.Prelude.{All, Contains, flat_map, slice_get}
+use Rattle.std.proofs.Common.{◌≡◌, ℕ, false, List, [], ◌∷◌, ◌++◌}
+use Rattle.std.specs.Prelude.{All, Contains}
 use Rattle.std.specs.List.{AllByRecursion}
-use Rattle.std.proofs.lemmas.List.{take-append-drop, take_all}
-use Rattle.std.proofs.lemmas.List.Elements.{All-append, All-contains, All-contains_itself, All-from_recursion, All-map, All-weaker, Contains-append_left, Contains-append_right, Contains-get_or, recursion_from_All}
-use Rattle.std.proofs.lemmas.Option.{slice_get-get_or}
+use Rattle.std.proofs.lemmas.List.Elements.{All-append, All-contains, All-contains_itself, All-from_recursion, All-weaker, Contains-append_left, Contains-append_right, recursion_from_All}
 use Rattle.nz_lists.proofs.Elements.{AllByRecursion-map}
-use Rattle.nz_spec.specs.Term.{falsum, holds_number}
+use Rattle.nz_spec.specs.Term.{holds_number}
 use Rattle.nz_spec.specs.Table.{Node, term_in}
-use Rattle.nz_spec.specs.Order.{post_order, AreFirst, ComeBehindArguments}
-use Rattle.nz_spec.specs.Decide.{asserted_numbers}
 use Rattle.nz_spec.specs.Gates.{IsGated, GatedTermsArePlain}
 use Rattle.nz_log.specs.declared.lits.Lit.{Lit}
-use Rattle.nz_log.specs.Sound.{live_at}
 use Rattle.nz_engine.specs.Checking.{AreGatedAt, terms_named}
 use Rattle.nz_engine.proofs.Orders.{ArePlain}
 
@@ -37,11 +32,10 @@ all_named P ls h = All-from_recursion (λ (l : Lit). P l.term) ls (AllByRecursio
 
 -- ---- Roots
 
-pub gated_roots : (ns : List Node) (asserted : List ℕ) (assumed : List Lit) → AreGatedAt ns asserted → All (λ (l : Lit). IsGated (term_in ns l.term)) assumed
+pub gated_roots : (ns : List Node) (asserted : List ℕ) (assumed : List Lit) → AreGatedAt ns asserted → AreGatedAt ns (terms_named assumed)
     → AreGatedAt ns (asserted ++ terms_named assumed)
-gated_roots ns asserted assumed h k =
-    All-append (λ t. IsGated (term_in ns t)) asserted (terms_named assumed) h (All-map (λ t. IsGated (term_in ns t)) (λ (l : Lit). l.term) assumed k)
+gated_roots ns asserted assumed h k = All-append (λ t. IsGated (term_in ns t)) asserted (terms_named assumed) h k
 
--- so they hold no number
+-- terms of the gate table hold no number
 pub plain_roots : GatedTermsArePlain → (ns : List Node) (roots : List ℕ) → AreGatedAt ns roots → ArePlain ns roots
 plain_roots plain ns roots h = All-weaker (λ t. IsGated (term_in ns t)) (λ t. holds_number (term_in ns t) ≡ false) (λ t. plain (term_in ns t)) roots h

@@ -5,7 +5,7 @@ use Rattle.nz_spec.specs.Table.{Node, IsTable}
 use Rattle.nz_log.specs.declared.lits.Lit.{Lit}
 use Rattle.nz_log.specs.Logs.{LogState, empty_log, entry_at}
 use Rattle.nz_log.specs.Sound.{IsLog}
-use Rattle.nz_engine.specs.Preparing.{PreparedState, IsStanding}
+use Rattle.nz_engine.specs.Preparing.{PreparedState, IsPrepared, IsStanding}
 
 pub record EngineState : Type 0 where
   pub levels : List (List ℕ)  -- the numbers of the asserted terms, the oldest level first
@@ -46,3 +46,12 @@ pub record IsReadied (ns : List Node) (levels : List (List ℕ)) (p : PreparedSt
 abbrev pub IsKept : List Node → List (List ℕ) → Option PreparedState → Type 0
 IsKept ns levels None = ⊤
 IsKept ns levels (Some p) = IsReadied ns levels p
+
+-- What is prepared is so over the table and the levels, with nothing above them.
+pub record IsSettled (ns : List Node) (levels : List (List ℕ)) (p : PreparedState) : Type 0 where
+  pub table : IsTable ns
+  pub prepared : IsPrepared ns levels levels p
+
+abbrev pub IsLow : List Node → List (List ℕ) → Option PreparedState → Type 0
+IsLow ns levels None = ⊤
+IsLow ns levels (Some p) = IsSettled ns levels p

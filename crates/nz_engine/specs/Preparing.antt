@@ -72,6 +72,14 @@ pub record IsStanding (ns : List Node) (levels : List (List ℕ)) (more : List �
   pub raised : IsPrepared ns levels (levels ++ more ∷ []) p
   pub plain : p.above ≡ false → IsPrepared ns levels levels p
 
+-- A term may be covered in a level above all others.
+pub record IsAssumable (ns : List Node) (levels : List (List ℕ)) (more : List ℕ) (t level : ℕ) (p : PreparedState) : Type 0 where
+  pub last : length levels ≡ level
+  pub named : Contains more t
+  pub plain : holds_number (term_in ns t) ≡ false
+  pub all_given : count_of levels ≡ p.given
+  pub standing : IsStanding ns levels more p
+
 -- ---- Changes
 
 -- A term is covered, with what it is made of, at a level that no level told is above; the search holds the clauses that were put.

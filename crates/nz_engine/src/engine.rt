@@ -6,6 +6,7 @@ use crate::check::{Found, cut_to, decide, lowered};
 use crate::levels::Levels;
 use crate::prepared::Prepared;
 use nz_base::{Memory, Work};
+use nz_log::laws::logs_stay;
 use nz_log::{ClauseId, Decide, Lit, Note, Step, Stop, Verdict};
 use nz_spec::derivation::derivations_grow;
 use nz_term::{TermId, Terms};
@@ -58,6 +59,7 @@ impl Decide for Engine {
     ghost clause = { clause_at };
 
     fn push(&mut self) -> Result<(), Memory> {
+        logs_stay();
         self.prepared = lowered(self.prepared.take(), &self.levels);
         self.levels.push()
     }
@@ -71,6 +73,7 @@ impl Decide for Engine {
     }
 
     fn add(&mut self, term: TermId) -> Result<(), Memory> {
+        logs_stay();
         self.prepared = lowered(self.prepared.take(), &self.levels);
         self.levels.add(term)
     }

@@ -1,7 +1,7 @@
 //! What an engine keeps from check to check.
-ghost use Rattle.std.specs.Prelude.{◌≡◌, ◌<◌, ℕ, ◌≤◌, suc, ◌∷◌, ◌++◌, [], All, List, false, length, map, None, IfErr, IfOk, IfSome, IsSome, OnOk};
+ghost use Rattle.std.specs.Prelude.{◌≡◌, ◌<◌, ℕ, ◌≤◌, suc, ◌∷◌, ◌++◌, [], All, List, flat_map, length, map, None, IfErr, IfOk, IfSome, IsSome, OnOk};
 ghost use Rattle.nz_spec.specs.Decide.{asserted_numbers};
-ghost use Rattle.nz_spec.specs.Table.{Node, IsTable, term_in};
+ghost use Rattle.nz_spec.specs.Table.{Node, term_in};
 ghost use Rattle.nz_spec.specs.Term.{holds_number};
 ghost use Rattle.nz_spec.specs.Work.{IsSpent};
 ghost use Rattle.nz_log.specs.Lits.{AreConsistent, AreNegations};
@@ -9,22 +9,23 @@ ghost use Rattle.nz_log.specs.Logs.{IsLive, told_level};
 ghost use Rattle.nz_log.specs.Spelling.{AreStepsOf};
 ghost use Rattle.nz_log.specs.Verdicts.{OnSpent, task_in};
 ghost use Rattle.nz_cform.specs.Covering.{Covers};
-ghost use Rattle.nz_cform.specs.Forms.{covered_at};
+ghost use Rattle.nz_cform.specs.Forms.{IsListed, covered_at};
 ghost use Rattle.nz_sat.specs.Sats.{IsSatisfied, held_of, truth_of};
 ghost use Rattle.nz_engine.specs.Checking.{AreCovered, AreGatedAt, IsPosed, NotesFirst, Works, terms_named, value_at, with_atoms};
 ghost use Rattle.nz_engine.specs.Engines.{literals_in};
 ghost use Rattle.nz_engine.specs.Levels.{IsPlaced, count_of};
-ghost use Rattle.nz_engine.specs.Preparing.{CoversAlso, CutsTo, IsPrepared, IsStanding, nothing_prepared};
+ghost use Rattle.nz_engine.specs.Preparing.{CoversAlso, CutsTo, IsAssumable, IsPrepared, IsStanding, nothing_prepared};
 
 use crate::levels::Levels;
 use nz_base::{Memory, Work};
 use nz_cform::ClauseForm;
+use nz_cform::laws::covers_stay;
 use nz_log::laws::{gates_are_named, logs_stay_leveled};
 use nz_log::{ClauseId, Lit, Log, NoNumbers, Note, Step, Stop};
 use nz_sat::Sat;
 use nz_spec::derivation::gates_decide;
 use nz_spec::table::one_number;
-use nz_term::{Assign, Head, Sort, TermId, Terms, Value};
+use nz_term::{Assign, Head, Sort, TermId, Terms, Value, known_table};
 use std::alloc::Global;
 use std::marker::Model;
 
@@ -90,6 +91,8 @@ impl Prepared {
         ensures given { OnOk result (self.new.given ≡ suc self.old.given) }
         ensures above { OnOk result (self.new.above ≡ self.old.above) }
     {
+        known_table(terms);
+        covers_stay();
         logs_stay_leveled();
         gates_are_named();
         let Some(given) = self.given.checked_add(1) else {
@@ -122,16 +125,17 @@ impl Prepared {
         Ok(())
     }
 
-    /// Covers the term of an assumed literal above all levels, unless it is covered.
+    /// Covers the term of an assumed literal above all levels, of which there are so many, unless it is covered.
     fn assume_term(&mut self, terms: &Terms, term: TermId, level: usize) -> Result<(), Memory>
         requires within { term < length terms.now }
-        requires stands { (levels : List (List ℕ)) × (more : List ℕ) × (length levels ≡ level) × IsStanding terms.now levels more self.old }
+        requires told { (t : ℕ) → told_level self.old.log t ≤ level }
+        requires covers { Covers terms.now self.old.log self.old.form }
         ensures stands { OnOk result ((levels : List (List ℕ)) (more : List ℕ) → IsAssumable terms.now levels more term level self.old → IsStanding terms.now levels more self.new) }
         ensures covered { OnOk result (IsSome (covered_at self.new.form term)) }
         ensures stays { OnOk result ((t : ℕ) → IsSome (covered_at self.old.form t) → IsSome (covered_at self.new.form t)) }
         ensures given { OnOk result (self.new.given ≡ self.old.given) }
     {
-        logs_stay_leveled();
+        known_table(terms);
         gates_are_named();
         if self.form.is_covered(term) {
             return Ok(());
@@ -140,19 +144,27 @@ impl Prepared {
         self.cover(terms, term, level)
     }
 
-    /// Covers the terms of assumed literals, of which those that aren't covered yet are so above all levels, of which there are so many.
+    /// Covers the terms of assumed literals, of which those that aren't covered yet are so above all levels.
     ///
     /// # Errors
     ///
     /// `Memory`.
-    pub fn assume(&mut self, terms: &Terms, assumed: &[Lit], level: usize) -> Result<(), Memory>
+    pub fn assume(
+        &mut self,
+        terms: &Terms,
+        levels: &Levels,
+        assumed: &[Lit],
+    ) -> Result<(), Memory>
         requires within { All (λ t. t < length terms.now) (terms_named assumed.now) }
         requires gated { AreGatedAt terms.now (terms_named assumed.now) }
-        ensures stands { OnOk result ((levels : List (List ℕ)) → length levels ≡ level → count_of levels ≡ self.old.given → IsPrepared terms.now levels levels self.old → IsStanding terms.now levels (terms_named assumed.now) self.new) }
+        requires stands { IsPrepared terms.now levels.now levels.now self.old }
+        requires all_given { count_of levels.now ≡ self.old.given }
+        ensures stands { OnOk result (IsStanding terms.now levels.now (terms_named assumed.now) self.new) }
         ensures covered { OnOk result (AreCovered self.new assumed.now) }
         ensures given { OnOk result (self.new.given ≡ self.old.given) }
     {
         gates_decide();
+        let level = levels.len();
         for literal in assumed {
             self.assume_term(terms, literal.term, level)?;
         }
@@ -198,11 +210,17 @@ impl Prepared {
     }
 
     /// The truths of the constants that the last search found.
+    ///
+    /// # Errors
+    ///
+    /// `Memory`.
     pub fn values(&self, alloc: Global, terms: &Terms) -> Result<Assign, Memory>
-        requires within { All (λ t. t < length terms.now) self.now.form.terms }
+        requires covers { Covers terms.now self.now.log self.now.form }
         ensures values { IfOk result (λ ps. ps ≡ flat_map (value_at terms.now self.now.sat) self.now.form.terms) }
+        ensures listed { IsListed self.now.form }
     {
-        values_of(alloc, &self.sat, terms, self.form.terms())
+        let atoms = self.form.terms();
+        values_of(alloc, &self.sat, terms, atoms)
     }
 
     /// The derivation of a clause.
