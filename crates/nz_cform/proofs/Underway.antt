@@ -11,7 +11,7 @@ use Rattle.nz_log.specs.Sound.{IsLog}
 use Rattle.nz_cform.specs.Forms.{FormState, covered_at, IsCoveredWithin, Takes, Grows}
 use Rattle.nz_cform.specs.Covering.{AreAdded, Covers, HasGates, Keeps, kids_at}
 use Rattle.nz_cform.proofs.Levels.{covered_within, level_of}
-use Rattle.nz_cform.proofs.Listing.{grows_itself, grows_more, none_or_some, same_or_other}
+use Rattle.nz_cform.proofs.Listing.{grows_itself, grows_more, has_some, none_or_some, same_or_other}
 use Rattle.nz_cform.proofs.Parts.{arguments_are_parts, itself, part_of_part}
 use Rattle.nz_cform.proofs.Sizes.{plain_arguments}
 
@@ -25,7 +25,10 @@ AreParts ns id first s = (t : ℕ) → covered_at first t ≡ None → IsSome (c
 
 -- no term is covered more
 pub no_parts : (ns : List Node) (id : ℕ) (s : FormState) → AreParts ns id s s
-no_parts ns id s t none some = absurd (let both : IsSome {A = ℕ} None = subst (λ o. IsSome o) none some in cc)
+no_parts ns id s t none some =
+    let n = has_some (covered_at s t) some in
+    let both : None ≡ Some n.0 = sym none ∙ n.1 in
+    cc
 
 -- what is covered stays so, at its level
 abbrev pub Stays : FormState → FormState → Type 0

@@ -232,8 +232,8 @@ module _ (ns : List Node) (levels roots : List (List ℕ)) (p q : PreparedState)
   cut_gates : (i t j : ℕ) → origin_at q.log i ≡ Some (gate_of t j) → Contains q.sat.clauses (held_of q.log i)
   cut_gates i t j at =
       let was = origin_kept m (gate_of t j) (entry_at p.log i) (ap (option_map (λ (e : Entry). e.origin)) (sym (c.log.entries i)) ∙ at) in
-      subst (λ x. Contains q.sat.clauses x) (sym (held_of_same i was.0 was.1.0))
-      (subst (λ hs. Contains hs (held_of p.log i)) (sym c.clauses) (kept_up_to m p.sat.clauses (held_of p.log i) (h.gates i t j was.1.1) was.1.0))
+      subst (λ x. Contains q.sat.clauses x) (sym (held_of_same i was.0 was.1))
+      (subst (λ hs. Contains hs (held_of p.log i)) (sym c.clauses) (kept_up_to m p.sat.clauses (held_of p.log i) (h.gates i t j was.2) was.1))
 
   cut_units : (k t : ℕ) → k < q.given → slice_get (asserted_numbers (take (suc m) levels)) k ≡ Some t → HoldsUnit (take (suc m) levels) q k t
   cut_units k t below at =

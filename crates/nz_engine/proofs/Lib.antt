@@ -1,3 +1,5 @@
+pub mod Answering
+pub mod Assuming
 pub mod Deciding
 pub mod GateNames
 pub mod Going

@@ -51,8 +51,8 @@ legal_names q ns one seen (i ∷ ids) s same once before within each =
     let fresh : Contains s.atoms (term_in ns i) → ⊥ = λ c.
     let was = from_map (term_in ns) seen (term_in ns i) (subst (λ ts. Contains ts (term_in ns i)) same c) in
     let inside = All-contains (λ t. t < length ns) seen was.0 (All-from_recursion (λ t. t < length ns) seen before) was.1.0 in
-    let number : was.0 ≡ i = one was.0 i inside within.0 was.1.1 in
-    let place = place_of seen was.0 was.1.0 in
+    let number : was.0 ≡ i = one was.0 i inside within.0 was.2 in
+    let place = place_of seen was.0 was.1 in
     let first : slice_get (seen ++ i ∷ ids) place.0 ≡ Some i = slice_get_kept seen (i ∷ ids) place.0 was.0 place.1 ∙ ap Some number in
     let second : slice_get (seen ++ i ∷ ids) (length seen) ≡ Some i = in_second seen (i ∷ ids) (length seen) 0 (omega arith) in
     let meet : place.0 ≡ length seen = once place.0 (length seen) i first second in
@@ -206,5 +206,5 @@ each_root f (r ∷ rs) =
 
 pub part_of_roots : (f : ℕ → Term) (rs : List ℕ) (r : ℕ) → Contains rs r → (u : Term) → Contains (post_order (f r)) u → Contains (flat_map post_order (map f rs)) u
 part_of_roots f rs r has =
-    let P = λ s. (u : Term) → Contains (post_order (f s)) u → Contains (flat_map post_order (map f rs)) u in
+    let P : ℕ → Type 0 = λ s. (u : Term) → Contains (post_order (f s)) u → Contains (flat_map post_order (map f rs)) u in
     All-contains P rs r (All-from_recursion P rs (each_root f rs)) has

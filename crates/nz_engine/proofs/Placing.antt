@@ -29,8 +29,8 @@ in_first [] ys k inside = absurd (omega arith)
 in_first (x ∷ xs) ys zero inside = refl
 in_first (x ∷ xs) ys (suc k) inside = in_first xs ys k (omega arith)
 
-in_second : {X : Type 0} (xs ys : List X) (j k : ℕ) → j ≡ length xs + k → slice_get (xs ++ ys) j ≡ slice_get ys k
-in_second [] ys j k e = ap (slice_get ys) e
+pub in_second : {X : Type 0} (xs ys : List X) (j k : ℕ) → j ≡ length xs + k → slice_get (xs ++ ys) j ≡ slice_get ys k
+in_second [] ys j k e = let same : j ≡ k = omega (arith, e) in ap (slice_get ys) same
 in_second (x ∷ xs) ys zero k e = absurd (omega arith)
 in_second (x ∷ xs) ys (suc j) k e = in_second xs ys j k (omega arith)
 
@@ -186,6 +186,16 @@ number_goes_on stay levels t some =
           omega (arith, same, long);
       front = λ k u inside at. sym (in_first (asserted_numbers levels) (t ∷ []) k inside) ∙ ap (λ xs. slice_get xs k) (sym all) ∙ at;
     }
+
+-- ---- A level above all
+
+pub all_roots : (levels : List (List ℕ)) (more : List ℕ) → asserted_numbers (levels ++ more ∷ []) ≡ asserted_numbers levels ++ more
+all_roots levels more = flat_map-append (λ (l : List ℕ). l) levels (more ∷ []) ∙ ap (λ xs. asserted_numbers levels ++ xs) (append-nil more)
+
+pub live_above : (levels : List (List ℕ)) (more : List ℕ) (n : ℕ) → length levels ≡ n → live_at (levels ++ more ∷ []) n ≡ asserted_numbers levels ++ more
+live_above levels more n last =
+    let long = length-append levels (more ∷ []) in
+    ap asserted_numbers (take_all (suc n) (levels ++ more ∷ []) (omega (arith, long, last))) ∙ all_roots levels more
 
 -- ---- Levels that are cut
 

@@ -10,7 +10,7 @@ use Rattle.nz_lists.proofs.Elements.{AllByRecursion-map}
 use Rattle.nz_spec.specs.Table.{Node, IsTable, term_in}
 use Rattle.nz_spec.specs.Term.{holds_number}
 use Rattle.nz_spec.specs.Decide.{asserted_numbers}
-use Rattle.nz_spec.specs.Literal.{once}
+use Rattle.nz_spec.specs.Literal.{clause_of, once}
 use Rattle.nz_spec.specs.Gates.{gate_clauses}
 use Rattle.nz_log.specs.declared.lits.Lit.{Lit}
 use Rattle.nz_log.specs.Leveled.{IsToldWithin, IsLeveled, LogsStayLeveled}
@@ -85,16 +85,16 @@ gate_inside named ns table levels s i e t j (chain_of first ks) same made = absu
 gate_inside named ns table levels s i e t j (gate_of u k) same made =
     let term : u ≡ t = cc in
     let number : k ≡ j = cc in
-    let some = is_there (slice_get (gate_clauses (term_in ns u)) k) made.1.1 in
+    let some = is_there clause_of (slice_get (gate_clauses (term_in ns u)) k) (Some (clause_in ns e.literals)) made.2 refl in
     let inside = slice_get_within (gate_clauses (term_in ns u)) k some.0 some.1 in
     let long = ap length (named ns table u made.0) in
     let also = length-map (gates_at ns u) (clause_in ns) in
     let below : k < length (gates_at ns u) = omega (arith, inside, long, also) in
     subst (λ n. n < length (gates_at ns t)) number (subst (λ v. k < length (gates_at ns v)) term below)
   where
-    is_there : {X Y : Type 0} {f : X → Y} {y : Y} (x : Option X) → option_map f x ≡ Some y → (z : X) × (x ≡ Some z)
-    is_there None e = cc
-    is_there (Some z) e = (z, refl)
+    is_there : {X Y : Type 0} (f : X → Y) (x : Option X) (o : Option Y) → option_map f x ≡ o → IsSome o → (z : X) × (x ≡ Some z)
+    is_there f None o e some = absurd (let none : IsSome (option_map f None) = subst (λ y. IsSome y) (sym e) some in cc)
+    is_there f (Some z) o e some = (z, refl)
 
 -- each gate names what is covered up to its level
 gate_covered : GatesAreNamed → (ns : List Node) → IsTable ns → (levels : List (List ℕ)) (s : LogState) (f : FormState) → IsLog ns levels s → Covers ns s f
@@ -129,10 +129,10 @@ module _ (ns : List Node) (levels roots : List (List ℕ)) (p q : PreparedState)
         | inl live ↦ told_stays e.level l.term (h.leveled i e (sym (c.kept i live) ∙ at) l has)
         | inr new ↦
             let gate = All-contains (λ k. (u : ℕ) × (j : ℕ) × (origin_at q.log k ≡ Some (gate_of u j))) c.ids i c.added.gates new in
-            let both : Some e.origin ≡ Some (gate_of gate.0 gate.1.0) = ap (option_map (λ (x : Entry). x.origin)) (sym at) ∙ gate.1.1 in
-            let origin : e.origin ≡ gate_of gate.0 gate.1.0 = cc in
+            let both : Some e.origin ≡ Some (gate_of gate.0 gate.1) = ap (option_map (λ (x : Entry). x.origin)) (sym at) ∙ gate.2 in
+            let origin : e.origin ≡ gate_of gate.0 gate.1 = cc in
             subst (λ o. IsSomeAnd o (λ n. n ≤ e.level)) (sym (c.covers.gates.told l.term))
-            (gate_covered named ns table levels q.log q.form order c.covers i e gate.0 gate.1.0 at origin l has)
+            (gate_covered named ns table levels q.log q.form order c.covers i e gate.0 gate.1 at origin l has)
       ]
 
   cover_held : AreHeld q.log q.sat.clauses

@@ -1,8 +1,7 @@
 -- A search over what is prepared: its atoms, its work, and what it found.
-use Rattle.std.proofs.Common.{◌≡◌, ◌≢◌, ℕ, suc, ◌<◌, ◌≤◌, inl, inr, false, List, [], ◌∷◌, ◌++◌, append-nil, length, get_or, map, Option, Some, None, Result, Ok, Err, IfOk, OnOk, refl, sym, ap, subst, ◌∙◌, arith}
+use Rattle.std.proofs.Common.{◌≡◌, ◌≢◌, ℕ, suc, ◌<◌, ◌≤◌, inl, inr, false, List, [], ◌∷◌, ◌++◌, length, get_or, map, Option, Some, None, Result, Ok, Err, IfOk, OnOk, refl, sym, ap, subst, ◌∙◌, arith}
 use Rattle.std.specs.Prelude.{◌↔◌, All, Contains, IsSome, IsSomeAnd, flat_map, slice_get, unwrap_or, option_map}
 use Rattle.std.specs.List.{AllByRecursion, AllPairs}
-use Rattle.std.proofs.lemmas.Grind.{flat_map-append}
 use Rattle.std.proofs.lemmas.Option.{slice_get-get_or, slice_get_within}
 use Rattle.std.proofs.lemmas.List.Elements.{All-append, All-contains, All-contains_itself, All-from_recursion, All-map, All-nil, All-weaker, recursion_from_All}
 use Rattle.nz_lists.proofs.Elements.{AllByRecursion-map}
@@ -16,7 +15,7 @@ use Rattle.nz_spec.specs.Work.{WorkList, unit_count}
 use Rattle.nz_log.specs.declared.lits.Lit.{Lit}
 use Rattle.nz_log.specs.declared.note.Note.{Note}
 use Rattle.nz_log.specs.Leveled.{IsToldWithin}
-use Rattle.nz_log.specs.Lits.{gates_at}
+use Rattle.nz_log.specs.Lits.{yes, gates_at}
 use Rattle.nz_log.specs.Logs.{gate_of, Entry, LogState, entry_at, IsLive, literals_at, level_at, told_of}
 use Rattle.nz_log.specs.Notes.{noted_list}
 use Rattle.nz_log.specs.Sound.{IsLog, live_at}
@@ -36,13 +35,9 @@ use Rattle.nz_engine.proofs.GateNames.{once_from}
 use Rattle.nz_engine.proofs.Going.{made_of_more, none_or_some}
 use Rattle.nz_engine.proofs.Naming.{IsNameable, atoms_noted, lines_noted, nameable, no_units, notes_of, once_from_pairs, part_of_roots, works_first, works_solved}
 use Rattle.nz_engine.proofs.Orders.{ArePlain, HasNoNumber, roots_numberless}
-use Rattle.nz_engine.proofs.Placing.{in_all, place_of, stands_there}
+use Rattle.nz_engine.proofs.Placing.{all_roots, in_all, place_of, stands_there}
 use Rattle.nz_engine.proofs.Posing.{all_named, gated_roots, plain_roots}
 use Rattle.nz_engine.proofs.Putting.{learned}
-
--- all roots, in one list
-all_roots : (levels : List (List ℕ)) (more : List ℕ) → asserted_numbers (levels ++ more ∷ []) ≡ asserted_numbers levels ++ more
-all_roots levels more = flat_map-append (λ (l : List ℕ). l) levels (more ∷ []) ∙ ap (λ xs. asserted_numbers levels ++ xs) (append-nil more)
 
 is_some_of : (o : Option ℕ) (m : ℕ) → IsSomeAnd o (λ n. n ≤ m) → IsSome o
 is_some_of None m h = absurd h
@@ -178,7 +173,7 @@ module _ (law : GatedTermsArePlain) (ns : List Node) (levels : List (List ℕ)) 
         let u = ready.units k t (omega (arith, below, all)) (slice_get-get_or (asserted_numbers levels) k d below) in
         let names : All (λ (l : Lit). IsSome (covered_at p.form l.term)) (unit_of t) =
         subst (All (λ (l : Lit). IsSome (covered_at p.form l.term))) u.literals (names_covered u.held.id (entry_at p.log u.held.id) refl) in
-        (listed.covered t).1 (names 0 _ (omega arith))
+        (listed.covered t).1 (names 0 (yes t) (omega arith))
 
     assumed_in : All (Contains atoms) (terms_named assumed)
     assumed_in =

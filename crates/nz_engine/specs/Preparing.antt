@@ -95,7 +95,6 @@ pub record CoversAlso (ns : List Node) (old : PreparedState) (t level : ℕ) (ne
   pub told : (u : ℕ) → told_level new.log u ≤ level
   pub sound : (levels : List (List ℕ)) → holds_number (term_in ns t) ≡ false → IsLog ns levels old.log → IsLog ns levels new.log
   pub given : new.given ≡ old.given
-  pub above : new.above ≡ old.above
 
 -- What is above a level is taken back, and the count is no more than what stands up to it.
 pub record CutsTo (old : PreparedState) (level count : ℕ) (new : PreparedState) : Type 0 where

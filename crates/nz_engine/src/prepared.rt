@@ -77,6 +77,7 @@ impl Prepared {
         requires told { (t : ℕ) → told_level self.old.log t ≤ level }
         requires covers { Covers terms.now self.old.log self.old.form }
         ensures covered { OnOk result (CoversAlso terms.now self.old term level self.new) }
+        ensures above { self.new.above ≡ self.old.above }
     {
         let clauses = self.form.add_term(&mut self.log, terms, term, level)?;
         hold(&mut self.sat, &self.log, &clauses)
@@ -89,7 +90,6 @@ impl Prepared {
         requires covers { Covers terms.now self.old.log self.old.form }
         ensures stands { OnOk result ((levels : List (List ℕ)) → IsPlaced levels self.old.given term level → holds_number (term_in terms.now term) ≡ false → IsPrepared terms.now levels levels self.old → IsPrepared terms.now levels levels self.new) }
         ensures given { OnOk result (self.new.given ≡ suc self.old.given) }
-        ensures above { OnOk result (self.new.above ≡ self.old.above) }
     {
         known_table(terms);
         covers_stay();
@@ -116,7 +116,6 @@ impl Prepared {
         requires stands { IsPrepared terms.now levels.now levels.now self.old }
         ensures stands { OnOk result (IsPrepared terms.now levels.now levels.now self.new) }
         ensures all_given { OnOk result (count_of levels.now ≡ self.new.given) }
-        ensures above { OnOk result (self.new.above ≡ self.old.above) }
     {
         gates_decide();
         while let Some(next) = levels.at(self.given) {
