@@ -108,7 +108,7 @@ gate_covered named ns table levels s f order covers i e t j at origin l has =
     let same : gate.0 ≡ i = covers.gates.once gate.0 i t j (ap (option_map (λ (x : Entry). x.origin)) gate.1) is in
     let both : Some (gate_clause ns t j e.level) ≡ Some e = sym gate.1 ∙ ap (entry_at s) same ∙ at in
     let one : gate_clause ns t j e.level ≡ e = cc in
-    let Q = λ u. IsCoveredWithin f e.level u in
+    let Q : ℕ → Type 0 = λ u. IsCoveredWithin f e.level u in
     let own : Q t = subst (λ o. IsSomeAnd o (λ n. n ≤ e.level)) (sym covered) (let fine : e.level ≤ e.level = omega arith in fine) in
     let names = gate_named Q ns t j own (recursion_from_All Q (kids_at ns t) (covers.arguments t e.level covered)) in
     All-contains (λ (m : Lit). Q m.term) e.literals l
