@@ -1,6 +1,6 @@
 -- What the engine keeps, as levels change, and what a check answers.
-use Rattle.std.proofs.Common.{◌≡◌, ℕ, suc, ◌-◌, ◌<◌, ◌≤◌, List, [], ◌∷◌, ◌++◌, length, take, drop, Option, Some, None, sym, ap, subst, ◌∙◌, arith}
-use Rattle.std.proofs.lemmas.List.{length-take, take-append-drop, take-append-le}
+use Rattle.std.proofs.Common.{◌≡◌, ℕ, suc, ◌-◌, ◌<◌, ◌≤◌, List, [], ◌∷◌, ◌++◌, length, take, drop, inl, inr, Option, Some, None, Result, Ok, Err, OnOk, OnErr, sym, ap, subst, ◌∙◌, arith}
+use Rattle.std.proofs.lemmas.List.{length-take, take-append-drop, take-append-le, take_all}
 use Rattle.nz_spec.specs.Table.{Node, IsTable, TermStays}
 use Rattle.nz_spec.specs.Decide.{IsFrontOfTable}
 use Rattle.nz_log.specs.Leveled.{LogsStayLeveled}
@@ -10,7 +10,7 @@ use Rattle.nz_engine.specs.Engines.{IsKept, IsLow, IsReadied, IsSettled}
 use Rattle.nz_engine.specs.Levels.{count_of}
 use Rattle.nz_engine.specs.Preparing.{PreparedState, CutsTo, IsPrepared}
 use Rattle.nz_engine.proofs.Going.{cut_prepared, goes_on, grown, standing}
-use Rattle.nz_engine.proofs.Placing.{GoOn}
+use Rattle.nz_engine.proofs.Placing.{GoOn, lower_or_not}
 
 -- the levels below one, of those with one above them
 front_of : (levels : List (List ℕ)) (more : List ℕ) (n : ℕ) → n ≤ length levels → take n (levels ++ more ∷ []) ≡ take n levels
@@ -49,3 +49,18 @@ pub prepared_over : TermStays → LogsStay → CoversStay → (front ns : List N
 prepared_over terms stay covers front ns levels p is h =
     let joined : front ++ drop (length front) ns ≡ ns = ap (λ xs. xs ++ drop (length front) ns) (sym is) ∙ take-append-drop (length front) ns in
     subst (λ xs. IsPrepared xs levels levels p) joined (grown terms stay covers front (drop (length front) ns) levels levels p h.table h.prepared)
+
+-- and after a call that makes the levels go on, or leaves them
+pub kept_either : {X E : Type 0} (r : Result X E) → LogsStay → (ns : List Node) (old on new : List (List ℕ)) (o : Option PreparedState) → GoOn old on → OnOk r (new ≡ on)
+    → OnErr r (new ≡ old) → IsLow ns old o → IsKept ns new o
+kept_either (Ok x) stay ns old on new o goes ok err h = subst (λ ls. IsKept ns ls o) (sym ok) (kept_on stay ns old on o goes h)
+kept_either (Err e) stay ns old on new o goes ok err h = subst (λ ls. IsKept ns ls o) (sym err) (kept_low ns old o h)
+
+-- the first levels are as many as they are
+pub take_again : (n : ℕ) (levels new : List (List ℕ)) → new ≡ take n levels → take (length new) levels ≡ new
+take_again n levels new is =
+    let long = ap length is ∙ length-take n levels in
+    elim (lower_or_not n (length levels)) [
+      | inl below ↦ ap (λ k. take k levels) (omega (arith, long, below)) ∙ sym is
+      | inr past ↦ take_all (length new) levels (omega (arith, long, past)) ∙ sym (take_all n levels past) ∙ sym is
+    ]

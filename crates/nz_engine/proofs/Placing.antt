@@ -76,7 +76,7 @@ count_within levels n =
     ]
 
 -- the next level adds its own
-next_level : (levels : List (List ℕ)) (n : ℕ) → n < length levels
+pub next_level : (levels : List (List ℕ)) (n : ℕ) → n < length levels
     → asserted_numbers (take (suc n) levels) ≡ asserted_numbers (take n levels) ++ get_or levels n []
 next_level [] n below = absurd (omega arith)
 next_level (l ∷ ls) zero below = append-nil l

@@ -1,5 +1,5 @@
 -- A search over what is prepared: its atoms, its work, and what it found.
-use Rattle.std.proofs.Common.{◌≡◌, ◌≢◌, ℕ, suc, ◌<◌, ◌≤◌, inl, inr, false, List, [], ◌∷◌, ◌++◌, length, get_or, map, Option, Some, None, Result, Ok, Err, IfOk, OnOk, refl, sym, ap, subst, ◌∙◌, arith}
+use Rattle.std.proofs.Common.{◌≡◌, ◌≢◌, ℕ, zero, suc, ◌<◌, ◌≤◌, inl, inr, false, List, [], ◌∷◌, ◌++◌, length, get_or, map, Option, Some, None, Result, Ok, Err, IfOk, OnOk, refl, sym, ap, subst, ◌∙◌, arith}
 use Rattle.std.specs.Prelude.{◌↔◌, All, Contains, IsSome, IsSomeAnd, flat_map, slice_get, unwrap_or, option_map}
 use Rattle.std.specs.List.{AllByRecursion, AllPairs}
 use Rattle.std.proofs.lemmas.Option.{slice_get-get_or, slice_get_within}
@@ -43,9 +43,14 @@ is_some_of : (o : Option ℕ) (m : ℕ) → IsSomeAnd o (λ n. n ≤ m) → IsSo
 is_some_of None m h = absurd h
 is_some_of (Some n) m h = refl
 
-some_of : (o : Option ℕ) → IsSome o → (n : ℕ) × (o ≡ Some n)
+pub some_of : (o : Option ℕ) → IsSome o → (n : ℕ) × (o ≡ Some n)
 some_of None h = cc
 some_of (Some n) h = (n, refl)
+
+-- so many literals
+pub told_lits : (n : ℕ) → (ls : List Lit) × (n ≡ length ls)
+told_lits zero = ([], refl)
+told_lits (suc n) = let rest = told_lits n in (yes 0 ∷ rest.0, ap suc rest.1)
 
 -- ---- Atoms
 

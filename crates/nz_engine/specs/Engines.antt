@@ -4,7 +4,6 @@ use Rattle.std.specs.declared.snapshot.Snapshot.{Snapshot}
 use Rattle.nz_spec.specs.Table.{Node, IsTable}
 use Rattle.nz_log.specs.declared.lits.Lit.{Lit}
 use Rattle.nz_log.specs.Logs.{LogState, empty_log, entry_at}
-use Rattle.nz_log.specs.Sound.{IsLog}
 use Rattle.nz_engine.specs.Preparing.{PreparedState, IsPrepared, IsStanding}
 
 pub record EngineState : Type 0 where
@@ -31,11 +30,6 @@ table_of (Some seen) = seen.value
 abbrev pub log_of : Option PreparedState → LogState
 log_of None = empty_log
 log_of (Some p) = p.log
-
--- The clauses are in order over the table, and over what is asserted.
-pub record IsInOrder (ns : List Node) (levels : List (List ℕ)) (log : LogState) : Type 0 where
-  pub table : IsTable ns
-  pub order : IsLog ns levels log
 
 -- What is prepared is so over the table and the levels, beside what was assumed.
 pub record IsReadied (ns : List Node) (levels : List (List ℕ)) (p : PreparedState) : Type 0 where

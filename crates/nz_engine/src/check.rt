@@ -34,7 +34,7 @@ pub struct Found {
 }
 
 /// What is prepared up to the last of these levels. Takes no memory.
-pub fn cut_to(mut prepared: Prepared, levels: &Levels) -> Option<Prepared>
+fn cut_to(mut prepared: Prepared, levels: &Levels) -> Option<Prepared>
     ensures low { (ns : List Node) (old : List (List ℕ)) → take (length levels.now) old ≡ levels.now → IsReadied ns old prepared → IsLow ns levels.now result }
 {
     covers_stay();
@@ -44,6 +44,16 @@ pub fn cut_to(mut prepared: Prepared, levels: &Levels) -> Option<Prepared>
             prepared.cut(last, levels);
             Some(prepared)
         }
+        None => None,
+    }
+}
+
+/// What is prepared, if anything is, up to the last of these levels. Takes no memory.
+pub fn cut_kept(prepared: Option<Prepared>, levels: &Levels) -> Option<Prepared>
+    ensures low { (ns : List Node) (old : List (List ℕ)) → take (length levels.now) old ≡ levels.now → IsKept ns old prepared → IsLow ns levels.now result }
+{
+    match prepared {
+        Some(prepared) => cut_to(prepared, levels),
         None => None,
     }
 }

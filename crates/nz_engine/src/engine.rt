@@ -2,7 +2,7 @@
 ghost use Rattle.std.specs.Prelude.{◌≡◌, IfOk};
 ghost use Rattle.nz_engine.specs.Engines.{empty_engine};
 
-use crate::check::{Found, cut_to, decide, lowered};
+use crate::check::{Found, cut_kept, decide, lowered};
 use crate::levels::Levels;
 use crate::prepared::Prepared;
 use nz_base::{Memory, Work};
@@ -66,10 +66,7 @@ impl Decide for Engine {
 
     fn pop(&mut self, count: usize) {
         self.levels.pop(count);
-        self.prepared = match self.prepared.take() {
-            Some(prepared) => cut_to(prepared, &self.levels),
-            None => None,
-        };
+        self.prepared = cut_kept(self.prepared.take(), &self.levels);
     }
 
     fn add(&mut self, term: TermId) -> Result<(), Memory> {

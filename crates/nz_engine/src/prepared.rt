@@ -1,5 +1,5 @@
 //! What an engine keeps from check to check.
-ghost use Rattle.std.specs.Prelude.{◌≡◌, ◌<◌, ℕ, ◌≤◌, suc, ◌∷◌, ◌++◌, [], All, List, flat_map, length, map, None, IfErr, IfOk, IfSome, IsSome, OnOk};
+ghost use Rattle.std.specs.Prelude.{◌≡◌, ◌<◌, ℕ, ◌≤◌, suc, ◌∷◌, ◌++◌, [], All, List, false, flat_map, length, map, None, IfErr, IfOk, IfSome, IsSome, OnOk};
 ghost use Rattle.nz_spec.specs.Decide.{asserted_numbers};
 ghost use Rattle.nz_spec.specs.Table.{Node, term_in};
 ghost use Rattle.nz_spec.specs.Term.{holds_number};
