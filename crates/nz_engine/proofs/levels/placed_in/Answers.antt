@@ -1,6 +1,7 @@
-use Rattle.std.proofs.Common.{◌≡◌, ◌+◌, ◌-◌, ℕ, suc, ◌<◌, ◌≤◌, length, Some, sym, ap, ◌∙◌, arith, add-one, rules}
+use Rattle.std.proofs.Common.{◌≡◌, ◌+◌, ◌-◌, ℕ, suc, ◌<◌, ◌≤◌, get_or, length, Some, sym, ap, ◌∙◌, arith, add-one, rules}
 use Rattle.std.specs.Prelude.{slice_get}
 use Rattle.std.proofs.lemmas.List.{length-map}
+use Rattle.std.proofs.lemmas.Option.{slice_get-get_or}
 use Rattle.nz_engine.specs.Levels.{count_in, numbers_by_level}
 use Rattle.nz_engine.proofs.Leveling.{count_next, level_at}
 use Rattle.nz_engine.proofs.Placing.{placed_here}
@@ -13,7 +14,10 @@ returns-in-Some-clause-placed c =
     let size = length-map levels (λ level. level.items) in
     let below : k < length levels = c.loop-level-test.true in
     let own = level_at levels k c.index-levels-level.result below c.index-levels-level.is in
-    let found : slice_get c.deref.result.now c.loop-level.left ≡ Some c.in-Some.term.now = search rules in
+    let inside : c.loop-level.left < length c.deref.result.now = search rules in
+    let is : c.in-Some.term.now ≡ get_or c.deref.result.now c.loop-level.left c.in-Some.term.now = search rules in
+    let found : slice_get c.deref.result.now c.loop-level.left ≡ Some c.in-Some.term.now =
+    slice_get-get_or c.deref.result.now c.loop-level.left c.in-Some.term.now inside ∙ ap Some (sym is) in
     placed_here (numbers_by_level levels) c.args.place k c.loop-level.left (omega (arith, below, size)) c.loop-level.invariant c.in-Some.term.now
     (ap (λ xs. slice_get xs c.loop-level.left) (own ∙ sym c.deref.ensures.value) ∙ found)
 
