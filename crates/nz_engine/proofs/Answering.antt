@@ -1,7 +1,7 @@
 -- What the engine keeps, as levels change, and what a check answers.
-use Rattle.std.proofs.Common.{◌≡◌, ℕ, suc, ◌-◌, ◌<◌, ◌≤◌, List, [], ◌∷◌, ◌++◌, length, take, drop, inl, inr, Option, Some, None, Result, Ok, Err, OnOk, OnErr, sym, ap, subst, ◌∙◌, arith}
+use Rattle.std.proofs.Common.{◌≡◌, ℕ, suc, ◌≤◌, List, [], ◌∷◌, ◌++◌, length, take, drop, inl, inr, Option, Some, None, Result, Ok, Err, OnOk, OnErr, sym, ap, subst, ◌∙◌, arith}
 use Rattle.std.proofs.lemmas.List.{length-take, take-append-drop, take-append-le, take_all}
-use Rattle.nz_spec.specs.Table.{Node, IsTable, TermStays}
+use Rattle.nz_spec.specs.Table.{Node, TermStays}
 use Rattle.nz_spec.specs.Decide.{IsFrontOfTable}
 use Rattle.nz_log.specs.Leveled.{LogsStayLeveled}
 use Rattle.nz_log.specs.Sound.{LogsStay}

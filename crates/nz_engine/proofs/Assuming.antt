@@ -1,13 +1,13 @@
 -- Levels told before an assertion or an assumed literal is covered, and what is covered above all levels.
-use Rattle.std.proofs.Common.{◌≡◌, ℕ, ◌<◌, ◌≤◌, inl, inr, Bool, true, false, true≢false, List, [], ◌∷◌, ◌++◌, length, Some, refl, sym, ap, subst, ◌∙◌, arith}
+use Rattle.std.proofs.Common.{◌≡◌, ℕ, ◌<◌, ◌≤◌, inl, inr, Bool, true, true≢false, List, [], ◌∷◌, ◌++◌, length, sym, subst, ◌∙◌, arith}
 use Rattle.std.specs.Prelude.{Contains}
 use Rattle.std.proofs.lemmas.List.{length-append}
 use Rattle.std.proofs.lemmas.List.Elements.{Contains-append_right}
-use Rattle.nz_spec.specs.Table.{Node, IsTable, term_in}
+use Rattle.nz_spec.specs.Table.{Node, IsTable}
 use Rattle.nz_spec.specs.Decide.{asserted_numbers}
 use Rattle.nz_log.specs.Logs.{told_of, told_level}
 use Rattle.nz_log.specs.Sound.{GatesAreNamed, live_at}
-use Rattle.nz_engine.specs.Levels.{IsPlaced, count_in}
+use Rattle.nz_engine.specs.Levels.{IsPlaced}
 use Rattle.nz_engine.specs.Preparing.{PreparedState, CoversAlso, IsAssumable, IsPrepared, IsStanding}
 use Rattle.nz_engine.proofs.Going.{told_or}
 use Rattle.nz_engine.proofs.Placing.{count_within, live_above, placed_above}

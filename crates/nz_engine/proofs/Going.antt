@@ -1,6 +1,6 @@
 -- What is prepared stays so when levels go on, when a level is put above them, when the table grows, and when levels are cut.
-use Rattle.std.proofs.Common.{◌≡◌, ℕ, zero, suc, ◌<◌, ◌≤◌, ◌⊎◌, inl, inr, Bool, true, false, true≢false, min, List, [], ◌∷◌, ◌++◌, length, take, Option, Some, None, refl, sym, ap, subst, ◌∙◌, arith, cond}
-use Rattle.std.specs.Prelude.{All, Contains, IsSome, nat_le, unwrap_or, option_map, slice_get, if◌then◌else◌}
+use Rattle.std.proofs.Common.{◌≡◌, ℕ, suc, ◌<◌, ◌≤◌, ◌⊎◌, inl, inr, Bool, true, false, true≢false, List, [], ◌∷◌, ◌++◌, length, take, Option, Some, None, refl, sym, ap, subst, ◌∙◌, arith, cond}
+use Rattle.std.specs.Prelude.{Contains, IsSome, nat_le, unwrap_or, option_map, slice_get, if◌then◌else◌}
 use Rattle.std.specs.List.{AllByRecursion}
 use Rattle.std.proofs.lemmas.Bool.{leb-true, le-leb}
 use Rattle.std.proofs.lemmas.List.{length-append, take-append-le}
@@ -10,7 +10,7 @@ use Rattle.nz_spec.specs.Table.{Node, IsTable, TermStays, term_in}
 use Rattle.nz_spec.specs.Order.{post_order}
 use Rattle.nz_spec.specs.Decide.{asserted_numbers}
 use Rattle.nz_log.specs.Leveled.{LogsStayLeveled}
-use Rattle.nz_log.specs.Logs.{gate_of, Origin, Entry, LogState, entry_at, IsLive, literals_at, level_at, told_of, told_level, kept_below, told_below}
+use Rattle.nz_log.specs.Logs.{gate_of, Origin, Entry, entry_at, IsLive, level_at, told_of, told_level, kept_below, told_below}
 use Rattle.nz_log.specs.Sound.{live_at, LogsStay}
 use Rattle.nz_cform.specs.Covering.{origin_at}
 use Rattle.nz_cform.specs.Forms.{covered_at}
@@ -176,10 +176,11 @@ keep_other h x hs false c = c
 
 kept_at : (m : ℕ) (hs : List Held) → AllByRecursion (λ (x : Held). x.level ≤ m → Contains (held_up_to m hs) x) hs
 kept_at m [] = tt
-kept_at m (h ∷ hs) =
-    ((λ low. keep_first h (held_up_to m hs) (nat_le h.level m) (le-leb h.level m low)),
-    AllByRecursion-weaker (λ (x : Held). x.level ≤ m → Contains (held_up_to m hs) x) (λ (x : Held). x.level ≤ m → Contains (held_up_to m (h ∷ hs)) x)
-    (λ x f low. keep_other h x (held_up_to m hs) (nat_le h.level m) (f low)) hs (kept_at m hs))
+kept_at m (h ∷ hs) = (
+  (λ low. keep_first h (held_up_to m hs) (nat_le h.level m) (le-leb h.level m low)),
+  AllByRecursion-weaker (λ (x : Held). x.level ≤ m → Contains (held_up_to m hs) x) (λ (x : Held). x.level ≤ m → Contains (held_up_to m (h ∷ hs)) x)
+      (λ x f low. keep_other h x (held_up_to m hs) (nat_le h.level m) (f low)) hs (kept_at m hs),
+)
 
 pub kept_up_to : (m : ℕ) (hs : List Held) (x : Held) → Contains hs x → x.level ≤ m → Contains (held_up_to m hs) x
 kept_up_to m hs x has =
@@ -225,8 +226,8 @@ module _ (ns : List Node) (levels roots : List (List ℕ)) (p q : PreparedState)
       (All-from_recursion Q (held_up_to m p.sat.clauses)
       (up_to P Q m
       (λ x low k.
-          let same = same_entry x.id k.0 (subst (λ n. n ≤ m) (sym k.1) low) in
-          (subst (λ o. IsSome o) (sym same) k.0, ap (λ (o : Option Entry). elim o [ None ↦ 0 | Some e ↦ e.level ]) same ∙ k.1))
+      let same = same_entry x.id k.0 (subst (λ n. n ≤ m) (sym k.1) low) in
+      (subst (λ o. IsSome o) (sym same) k.0, ap (λ (o : Option Entry). elim o [ None ↦ 0 | Some e ↦ e.level ]) same ∙ k.1))
       p.sat.clauses (recursion_from_All P p.sat.clauses h.held)))
 
   cut_gates : (i t j : ℕ) → origin_at q.log i ≡ Some (gate_of t j) → Contains q.sat.clauses (held_of q.log i)

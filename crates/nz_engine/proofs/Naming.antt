@@ -6,7 +6,7 @@ use Rattle.std.proofs.lemmas.List.{take-map, map-append}
 use Rattle.std.proofs.lemmas.Option.{get_or_from_slice_get, slice_get_within}
 use Rattle.std.proofs.lemmas.List.Elements.{All-contains, All-contains_itself, All-from_recursion, All-head, All-map, All-tail, All-take, All-weaker, Contains-append_cases, Contains-append_left, Contains-append_right, recursion_from_All}
 use Rattle.nz_spec.specs.Term.{Term, apply, Terms, no_terms, terms}
-use Rattle.nz_lists.proofs.Elements.{AllByRecursion-append, AllByRecursion-map, AllByRecursion-weaker}
+use Rattle.nz_lists.proofs.Elements.{AllByRecursion-append, AllByRecursion-weaker}
 use Rattle.nz_lists.proofs.Places.{slice_get_kept}
 use Rattle.nz_spec.specs.Table.{Node, HasOneNumberEach, term_in}
 use Rattle.nz_spec.specs.Order.{post_order, post_orders, companions, listing_order, listing_orders}

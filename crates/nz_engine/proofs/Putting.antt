@@ -1,6 +1,6 @@
 -- What is prepared stays so when a term is covered, when an assertion is given, and when a search has learned.
-use Rattle.std.proofs.Common.{◌≡◌, ◌≢◌, ℕ, suc, ◌<◌, ◌≤◌, ◌⊎◌, inl, inr, false, max, List, [], ◌∷◌, ◌++◌, length, get_or, map, Option, Some, None, refl, sym, ap, subst, ◌∙◌, arith}
-use Rattle.std.specs.Prelude.{All, Contains, IsSome, IsSomeAnd, slice_get, slice_index_or, unwrap_or, option_map}
+use Rattle.std.proofs.Common.{◌≡◌, ℕ, suc, ◌<◌, ◌≤◌, inl, inr, false, max, List, [], ◌∷◌, ◌++◌, length, map, Option, Some, None, refl, sym, ap, subst, ◌∙◌, arith}
+use Rattle.std.specs.Prelude.{Contains, IsSome, IsSomeAnd, slice_get, slice_index_or, unwrap_or, option_map}
 use Rattle.std.specs.List.{AllByRecursion}
 use Rattle.std.proofs.lemmas.Bool.Decides.{eqb_tells}
 use Rattle.std.proofs.lemmas.List.{length-map}
@@ -14,7 +14,7 @@ use Rattle.nz_spec.specs.Literal.{clause_of, once}
 use Rattle.nz_spec.specs.Gates.{gate_clauses}
 use Rattle.nz_log.specs.declared.lits.Lit.{Lit}
 use Rattle.nz_log.specs.Leveled.{IsToldWithin, IsLeveled, LogsStayLeveled}
-use Rattle.nz_log.specs.Lits.{are_same_lit, clause_in, gates_at}
+use Rattle.nz_log.specs.Lits.{clause_in, gates_at}
 use Rattle.nz_log.specs.Logs.{Origin, assertion_of, gate_of, chain_of, Entry, LogState, entry_at, IsLive, literals_at, level_at, told_of, told_level, Puts, given_entry}
 use Rattle.nz_log.specs.Sound.{IsLog, IsMade, live_at, GatesAreNamed}
 use Rattle.nz_log.specs.Theories as theories
@@ -23,8 +23,8 @@ use Rattle.nz_cform.specs.Forms.{FormState, IsCoveredWithin, covered_at}
 use Rattle.nz_cform.specs.Laws.{CoversStay}
 use Rattle.nz_sat.specs.declared.clauses.Held.{Held}
 use Rattle.nz_sat.specs.Sats.{AreHeld, HoldsMore, held_of}
-use Rattle.nz_engine.specs.Levels.{IsPlaced, count_in, count_of}
-use Rattle.nz_engine.specs.Preparing.{PreparedState, CoversAlso, HoldsUnit, IsMadeOf, IsPrepared, unit_of}
+use Rattle.nz_engine.specs.Levels.{IsPlaced, count_in}
+use Rattle.nz_engine.specs.Preparing.{PreparedState, CoversAlso, HoldsUnit, IsMadeOf, IsPrepared}
 use Rattle.nz_engine.proofs.GateNames.{gate_named}
 use Rattle.nz_engine.proofs.Going.{none_or_some}
 use Rattle.nz_engine.proofs.Placing.{count_more, placed_in_all}

@@ -1,42 +1,38 @@
 -- A search over what is prepared: its atoms, its work, and what it found.
-use Rattle.std.proofs.Common.{◌≡◌, ◌≢◌, ℕ, zero, suc, ◌<◌, ◌≤◌, inl, inr, false, List, [], ◌∷◌, ◌++◌, length, get_or, map, Option, Some, None, Result, Ok, Err, IfOk, OnOk, refl, sym, ap, subst, ◌∙◌, arith}
+use Rattle.std.proofs.Common.{◌≡◌, ◌≢◌, ℕ, zero, suc, ◌<◌, ◌≤◌, false, List, [], ◌∷◌, ◌++◌, length, get_or, map, Option, Some, None, refl, sym, ap, subst, ◌∙◌, arith}
 use Rattle.std.specs.Prelude.{◌↔◌, All, Contains, IsSome, IsSomeAnd, flat_map, slice_get, unwrap_or, option_map}
 use Rattle.std.specs.List.{AllByRecursion, AllPairs}
-use Rattle.std.proofs.lemmas.Option.{slice_get-get_or, slice_get_within}
+use Rattle.std.proofs.lemmas.Option.{slice_get-get_or}
 use Rattle.std.proofs.lemmas.List.Elements.{All-append, All-contains, All-contains_itself, All-from_recursion, All-map, All-nil, All-weaker, recursion_from_All}
-use Rattle.nz_lists.proofs.Elements.{AllByRecursion-map}
 use Rattle.nz_spec.specs.Gates.{GatedTermsArePlain}
-use Rattle.nz_spec.specs.Table.{Node, IsTable, HasOneNumberEach, term_in}
+use Rattle.nz_spec.specs.Table.{Node, HasOneNumberEach, term_in}
 use Rattle.nz_spec.specs.Term.{holds_number}
 use Rattle.nz_spec.specs.Order.{post_order}
 use Rattle.nz_spec.specs.Decide.{asserted_numbers}
-use Rattle.nz_spec.specs.Legal.{Task, AreLegal, at_first}
-use Rattle.nz_spec.specs.Work.{WorkList, unit_count}
+use Rattle.nz_spec.specs.Legal.{Task}
+use Rattle.nz_spec.specs.Work.{WorkList}
 use Rattle.nz_log.specs.declared.lits.Lit.{Lit}
 use Rattle.nz_log.specs.declared.note.Note.{Note}
 use Rattle.nz_log.specs.Leveled.{IsToldWithin}
 use Rattle.nz_log.specs.Lits.{yes, gates_at}
-use Rattle.nz_log.specs.Logs.{gate_of, Entry, LogState, entry_at, IsLive, literals_at, level_at, told_of}
-use Rattle.nz_log.specs.Notes.{noted_list}
+use Rattle.nz_log.specs.Logs.{gate_of, Entry, entry_at, literals_at, told_of}
 use Rattle.nz_log.specs.Sound.{IsLog, live_at}
 use Rattle.nz_log.specs.Theories as theories
 use Rattle.nz_log.specs.Verdicts.{task_in}
-use Rattle.nz_log.specs.declared.theory.NoNumbers.{NoNumbers}
 use Rattle.nz_cform.specs.Covering.{HasGate, gate_clause, kids_at, origin_at}
-use Rattle.nz_cform.specs.Forms.{FormState, IsListed, IsCoveredWithin, covered_at}
+use Rattle.nz_cform.specs.Forms.{IsListed, IsCoveredWithin, covered_at}
 use Rattle.nz_sat.specs.declared.clauses.Held.{Held}
 use Rattle.nz_sat.specs.Numbers.{noted_atoms}
-use Rattle.nz_sat.specs.Sats.{SatState, AreAtoms, AreHeld, HoldsMore, IsAsked, IsLegalWork, IsSatisfied, IsTrueClause, held_of}
+use Rattle.nz_sat.specs.Sats.{AreAtoms, HoldsMore, IsAsked, IsLegalWork, IsSatisfied, IsTrueClause, held_of}
 use Rattle.nz_engine.specs.Checking.{AreGatedAt, IsPosed, NotesFirst, Works, terms_named, with_atoms}
-use Rattle.nz_engine.specs.Levels.{count_of}
-use Rattle.nz_engine.specs.Preparing.{PreparedState, IsMadeOf, IsPrepared, IsStanding, unit_of}
+use Rattle.nz_engine.specs.Preparing.{PreparedState, IsPrepared, unit_of}
 use Rattle.nz_engine.proofs.Deciding.{IsFound}
 use Rattle.nz_engine.proofs.GateNames.{once_from}
-use Rattle.nz_engine.proofs.Going.{made_of_more, none_or_some}
-use Rattle.nz_engine.proofs.Naming.{IsNameable, atoms_noted, lines_noted, nameable, no_units, notes_of, once_from_pairs, part_of_roots, works_first, works_solved}
+use Rattle.nz_engine.proofs.Going.{made_of_more}
+use Rattle.nz_engine.proofs.Naming.{IsNameable, atoms_noted, lines_noted, nameable, notes_of, once_from_pairs, part_of_roots, works_first, works_solved}
 use Rattle.nz_engine.proofs.Orders.{ArePlain, HasNoNumber, roots_numberless}
 use Rattle.nz_engine.proofs.Placing.{all_roots, in_all, place_of, stands_there}
-use Rattle.nz_engine.proofs.Posing.{all_named, gated_roots, plain_roots}
+use Rattle.nz_engine.proofs.Posing.{gated_roots, plain_roots}
 use Rattle.nz_engine.proofs.Putting.{learned}
 
 is_some_of : (o : Option ℕ) (m : ℕ) → IsSomeAnd o (λ n. n ≤ m) → IsSome o
@@ -157,12 +153,12 @@ module _ (law : GatedTermsArePlain) (ns : List Node) (levels : List (List ℕ)) 
         let all = gates_at ns t in
         recursion_from_All (IsTrueClause p.sat) all
         (λ j d below.
-            let gate : HasGate ns p.log t j n.0 = ready.covers.gates.gates t n.0 j n.1 below in
-            let origin : origin_at p.log gate.0 ≡ Some (gate_of t j) = ap (option_map (λ (e : Entry). e.origin)) gate.1 in
-            let row : unwrap_or (slice_get all j) [] ≡ get_or all j d = ap (λ o. unwrap_or o []) (slice_get-get_or all j d below) in
-            let literals : literals_at p.log gate.0 ≡ (gate_clause ns t j n.0).literals = ap (λ (o : Option Entry). elim o [ None ↦ [] | Some e ↦ e.literals ]) gate.1 in
-            let one : IsTrueClause p.sat (gate_clause ns t j n.0).literals = subst (IsTrueClause p.sat) literals (true_clause (held_of p.log gate.0) (ready.gates gate.0 t j origin)) in
-            subst (IsTrueClause p.sat) row (one.0, once_from (unwrap_or (slice_get all j) []) one.0 one.1, one.2))
+        let gate : HasGate ns p.log t j n.0 = ready.covers.gates.gates t n.0 j n.1 below in
+        let origin : origin_at p.log gate.0 ≡ Some (gate_of t j) = ap (option_map (λ (e : Entry). e.origin)) gate.1 in
+        let row : unwrap_or (slice_get all j) [] ≡ get_or all j d = ap (λ o. unwrap_or o []) (slice_get-get_or all j d below) in
+        let literals : literals_at p.log gate.0 ≡ (gate_clause ns t j n.0).literals = ap (λ (o : Option Entry). elim o [ None ↦ [] | Some e ↦ e.literals ]) gate.1 in
+        let one : IsTrueClause p.sat (gate_clause ns t j n.0).literals = subst (IsTrueClause p.sat) literals (true_clause (held_of p.log gate.0) (ready.gates gate.0 t j origin)) in
+        subst (IsTrueClause p.sat) row (one.0, once_from (unwrap_or (slice_get all j) []) one.0 one.1, one.2))
 
     units : All (λ t. IsTrueClause p.sat (unit_of t)) (asserted_numbers levels)
     units k d below =

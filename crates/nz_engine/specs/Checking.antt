@@ -1,6 +1,5 @@
 -- A check: its atoms, its answer and its work.
-use Rattle.std.specs.Prelude.{◌≡◌, ◌≢◌, ℕ, ◌<◌, ◌++◌, Bool, false, true, List, [], ◌∷◌, length, All, Contains, Option, Some, None, IsSome, if◌then◌else◌, map, option_map, slice_get, take}
-use Rattle.std.specs.List.{AllPairs}
+use Rattle.std.specs.Prelude.{◌≡◌, ℕ, ◌<◌, ◌++◌, Bool, List, [], ◌∷◌, length, All, Option, Some, IsSome, if◌then◌else◌, map, option_map, slice_get, take}
 use Rattle.nz_spec.specs.Term.{Head, constant, Value, is_bool, truth}
 use Rattle.nz_spec.specs.Table.{Node, IsTable, term_in, assignment_by}
 use Rattle.nz_spec.specs.Decide.{asserted_numbers, asserted_terms, AreModelValues}
@@ -19,7 +18,7 @@ use Rattle.nz_log.specs.declared.note.Note.TheVariants.{Atom}
 use Rattle.nz_log.specs.Notes.{noted_list, AreNotedWithin}
 use Rattle.nz_log.specs.declared.theory.NoNumbers.{NoNumbers}
 use Rattle.nz_cform.specs.Forms.{covered_at}
-use Rattle.nz_sat.specs.Sats.{SatState, IsSatisfied, truth_of}
+use Rattle.nz_sat.specs.Sats.{SatState, truth_of}
 use Rattle.nz_engine.specs.Engines.{literals_in}
 use Rattle.nz_engine.specs.Levels.{count_of}
 use Rattle.nz_engine.specs.Preparing.{PreparedState, IsStanding}

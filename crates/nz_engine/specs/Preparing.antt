@@ -1,6 +1,6 @@
 -- What an engine keeps from check to check: clauses in a log, each held by a search.
-use Rattle.std.specs.Prelude.{◌≡◌, ◌≢◌, ℕ, ◌<◌, ◌≤◌, ◌++◌, Bool, false, List, [], ◌∷◌, length, map, min, take, suc, All, Contains, Some, None, IsSome, slice_get}
-use Rattle.nz_spec.specs.Table.{Node, IsTable, term_in}
+use Rattle.std.specs.Prelude.{◌≡◌, ℕ, ◌<◌, ◌≤◌, ◌++◌, Bool, false, List, [], ◌∷◌, length, map, min, take, suc, Contains, Some, None, IsSome, slice_get}
+use Rattle.nz_spec.specs.Table.{Node, term_in}
 use Rattle.nz_spec.specs.Term.{holds_number}
 use Rattle.nz_spec.specs.Order.{post_order}
 use Rattle.nz_spec.specs.Decide.{asserted_numbers}

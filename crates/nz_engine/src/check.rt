@@ -64,7 +64,11 @@ pub fn lowered(prepared: Option<Prepared>, levels: &Levels) -> Option<Prepared>
 {
     match prepared {
         Some(prepared) => {
-            if prepared.is_above() { cut_to(prepared, levels) } else { Some(prepared) }
+            if prepared.is_above() {
+                cut_to(prepared, levels)
+            } else {
+                Some(prepared)
+            }
         }
         None => None,
     }

@@ -83,8 +83,14 @@ impl Decide for Engine {
     ) -> Result<Verdict, Stop> {
         let kept = self.prepared.take();
         self.seen = Some(Snapshot::of(terms));
-        let Found { verdict, prepared } =
-            decide(self.alloc, kept, &self.levels, terms, assumed, work)?;
+        let Found { verdict, prepared } = decide(
+            self.alloc,
+            kept,
+            &self.levels,
+            terms,
+            assumed,
+            work,
+        )?;
         self.prepared = Some(prepared);
         Ok(verdict)
     }

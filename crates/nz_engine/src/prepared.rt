@@ -148,12 +148,7 @@ impl Prepared {
     /// # Errors
     ///
     /// `Memory`.
-    pub fn assume(
-        &mut self,
-        terms: &Terms,
-        levels: &Levels,
-        assumed: &[Lit],
-    ) -> Result<(), Memory>
+    pub fn assume(&mut self, terms: &Terms, levels: &Levels, assumed: &[Lit]) -> Result<(), Memory>
         requires within { All (λ t. t < length terms.now) (terms_named assumed.now) }
         requires gated { AreGatedAt terms.now (terms_named assumed.now) }
         requires stands { IsPrepared terms.now levels.now levels.now self.old }

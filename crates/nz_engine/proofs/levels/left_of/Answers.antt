@@ -1,4 +1,4 @@
-use Rattle.std.proofs.Common.{◌≡◌, ◌<◌, length, arith, add-one}
+use Rattle.std.proofs.Common.{arith, add-one}
 use Rattle.nz_engine.proofs.Leveling.{count_next}
 use Rattle.nz_engine.proofs.levels.left_of.Goals as goal
 

@@ -1,4 +1,4 @@
-use Rattle.std.proofs.Common.{◌≡◌, ◌-◌, ℕ, List, length, take, sym, ap, ◌∙◌, subst}
+use Rattle.std.proofs.Common.{◌≡◌, ◌-◌, length, take, sym, subst}
 use Rattle.nz_engine.specs.Engines.{IsKept, table_of}
 use Rattle.nz_engine.proofs.Answering.{kept_low, take_again}
 use Rattle.nz_engine.proofs.engine.EngineDecide.pop.Goals as goal

@@ -44,16 +44,16 @@ pub returns-clause-posed : goal.returns-clause-posed
 returns-clause-posed c =
     on_ok c.solve.result
     (λ ns levels posed.
-        let assumed = c.args.assumed.now in
-        let atoms = c.terms-atoms.result.now in
-        let own : PreparedState = record { log = c.self.inside.log; form = c.self.inside.form; sat = c.self.inside.sat; given = c.self.inside.given; above = c.self.inside.above } in
-        let new : PreparedState = record { log = c.solve.new.log; form = c.self.inside.form; sat = c.solve.new.self; given = c.self.inside.given; above = c.self.inside.above } in
-        let begun : IsPosed ns levels assumed own = subst (IsPosed ns levels assumed) (sym c.self.view_is) posed in
-        let named : noted_atoms c.note_atoms.new.work.lines ≡ atoms =
-        ap noted_atoms (lines_noted atoms c.args.work.now c.note_atoms.new.work c.requires.no_steps c.in_ok-note_atoms.ensures.all) ∙ atoms_noted atoms in
-        let within : All (λ t. t < length ns) (noted_atoms c.note_atoms.new.work.lines) =
-        subst (All (λ t. t < length ns)) (sym named) (atoms_within c.gates_decide.ensures.plain ns levels assumed own begun atoms c.terms-atoms.ensures.once c.terms-atoms.ensures.covered) in
-        posed_on ns levels assumed own new c.solve.ensures.grows refl refl refl c.solve.ensures.held (c.solve.ensures.sound ns levels tt within) begun)
+    let assumed = c.args.assumed.now in
+    let atoms = c.terms-atoms.result.now in
+    let own : PreparedState = record { log = c.self.inside.log; form = c.self.inside.form; sat = c.self.inside.sat; given = c.self.inside.given; above = c.self.inside.above } in
+    let new : PreparedState = record { log = c.solve.new.log; form = c.self.inside.form; sat = c.solve.new.self; given = c.self.inside.given; above = c.self.inside.above } in
+    let begun : IsPosed ns levels assumed own = subst (IsPosed ns levels assumed) (sym c.self.view_is) posed in
+    let named : noted_atoms c.note_atoms.new.work.lines ≡ atoms =
+    ap noted_atoms (lines_noted atoms c.args.work.now c.note_atoms.new.work c.requires.no_steps c.in_ok-note_atoms.ensures.all) ∙ atoms_noted atoms in
+    let within : All (λ t. t < length ns) (noted_atoms c.note_atoms.new.work.lines) =
+    subst (All (λ t. t < length ns)) (sym named) (atoms_within c.gates_decide.ensures.plain ns levels assumed own begun atoms c.terms-atoms.ensures.once c.terms-atoms.ensures.covered) in
+    posed_on ns levels assumed own new c.solve.ensures.grows refl refl refl c.solve.ensures.held (c.solve.ensures.sound ns levels tt within) begun)
 
 pub returns-clause-satisfied : goal.returns-clause-satisfied
 returns-clause-satisfied c =

@@ -12,7 +12,7 @@ values_of-requires c =
     record {
       within = All-weaker (Contains atoms) (λ t. t < length c.args.terms.now)
           (λ t has.
-              let n = some_of (covered_at c.self.inside.form t) ((c.terms-atoms.ensures.covered t).0 has) in
-              c.requires.covers.within t n.0 (ap (λ (p : PreparedState). covered_at p.form t) (sym c.self.view_is) ∙ n.1))
+          let n = some_of (covered_at c.self.inside.form t) ((c.terms-atoms.ensures.covered t).0 has) in
+          c.requires.covers.within t n.0 (ap (λ (p : PreparedState). covered_at p.form t) (sym c.self.view_is) ∙ n.1))
           atoms (All-contains_itself atoms);
     }
