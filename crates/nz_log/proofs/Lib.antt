@@ -1,6 +1,7 @@
 pub mod Dropping
 pub mod Entries
 pub mod GatesInOrder
+pub mod Growing
 pub mod Leveled
 pub mod Marking
 pub mod Members
