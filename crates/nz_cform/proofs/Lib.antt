@@ -1,8 +1,9 @@
 mod Covering
 mod GateLevels
 mod GatesPut
-mod Levels
+pub mod Levels
 mod Listing
+mod Parts
 mod Sizes
 mod Staying
 mod Truths

@@ -1,17 +1,34 @@
 -- Terms that are covered one after another, from a stack of those that wait.
-use Rattle.std.proofs.Common.{◌≡◌, ℕ, ◌<◌, ◌≤◌, inl, inr, false, List, [], ◌∷◌, ◌++◌, length, Some, refl, sym, ap, subst, ◌∙◌, arith}
-use Rattle.std.specs.Prelude.{All, IsSome, unwrap_or}
+use Rattle.std.proofs.Common.{◌≡◌, ℕ, ◌<◌, ◌≤◌, inl, inr, false, List, [], ◌∷◌, ◌++◌, length, Some, None, refl, sym, ap, subst, ◌∙◌, arith}
+use Rattle.std.specs.Prelude.{All, Contains, IsSome, unwrap_or}
 use Rattle.std.proofs.lemmas.List.Elements.{All-append, All-cons, All-head, All-nil, All-pop, All-push, All-tail, All-weaker}
 use Rattle.nz_spec.specs.Term.{Head, apply, holds_number}
 use Rattle.nz_spec.specs.Table.{Node, term_in, terms_at}
+use Rattle.nz_spec.specs.Order.{post_order}
 use Rattle.nz_spec.specs.Gates.{HasBooleanArguments, PlainTermsAreBoolean}
 use Rattle.nz_log.specs.Logs.{LogState, told_level}
 use Rattle.nz_log.specs.Sound.{IsLog}
 use Rattle.nz_cform.specs.Forms.{FormState, covered_at, IsCoveredWithin, Takes, Grows}
 use Rattle.nz_cform.specs.Covering.{AreAdded, Covers, HasGates, Keeps, kids_at}
 use Rattle.nz_cform.proofs.Levels.{covered_within, level_of}
-use Rattle.nz_cform.proofs.Listing.{grows_itself, grows_more, same_or_other}
+use Rattle.nz_cform.proofs.Listing.{grows_itself, grows_more, has_some, none_or_some, same_or_other}
+use Rattle.nz_cform.proofs.Parts.{arguments_are_parts, itself, part_of_part}
 use Rattle.nz_cform.proofs.Sizes.{plain_arguments}
+
+-- what a term is made of has the term of a number
+abbrev pub IsPart : List Node → ℕ → ℕ → Type 0
+IsPart ns id t = Contains (post_order (term_in ns id)) (term_in ns t)
+
+-- what is covered and wasn't is of what a term is made of
+abbrev pub AreParts : List Node → ℕ → (first s : FormState) → Type 0
+AreParts ns id first s = (t : ℕ) → covered_at first t ≡ None → IsSome (covered_at s t) → IsPart ns id t
+
+-- no term is covered more
+pub no_parts : (ns : List Node) (id : ℕ) (s : FormState) → AreParts ns id s s
+no_parts ns id s t none some =
+    let n = has_some (covered_at s t) some in
+    let both : None ≡ Some n.0 = sym none ∙ n.1 in
+    cc
 
 -- what is covered stays so, at its level
 abbrev pub Stays : FormState → FormState → Type 0
@@ -39,6 +56,8 @@ pub record IsUnderway (ns : List Node) (id level : ℕ) (start : LogState) (firs
   pub told : (t : ℕ) → told_level log t ≤ level
   pub plain : holds_number (term_in ns id) ≡ false → All (λ t. holds_number (term_in ns t) ≡ false) waiting
   pub sound : (levels : List (List ℕ)) → holds_number (term_in ns id) ≡ false → IsLog ns levels start → IsLog ns levels log
+  pub waits : All (IsPart ns id) waiting
+  pub parts : AreParts ns id first s
 
 -- no clause is new where none was put
 none_added : (log : LogState) → AreAdded log [] log
@@ -69,6 +88,8 @@ start_underway ns id level log s inside covers told waiting one =
       plain = λ e. subst (All (λ t. holds_number (term_in ns t) ≡ false)) (sym one)
           (All-cons (λ t. holds_number (term_in ns t) ≡ false) id [] e (All-nil (λ t. holds_number (term_in ns t) ≡ false)));
       sound = λ levels plain order. order;
+      waits = subst (All (IsPart ns id)) (sym one) (All-cons (IsPart ns id) id [] (itself (term_in ns id)) (All-nil (IsPart ns id)));
+      parts = no_parts ns id s;
     }
 
 -- ---- The one that waits last
@@ -113,7 +134,17 @@ module _ (ns : List Node) (id level : ℕ) (start : LogState) (first : FormState
         told = u.told;
         plain = λ e. (front (λ v. holds_number (term_in ns v) ≡ false) waiting t (u.plain e)).0;
         sound = u.sound;
+        waits = (front (IsPart ns id) waiting t u.waits).0;
+        parts = u.parts;
       }
+
+  -- where it alone is covered more, or nothing is
+  pub parts_on : (s' : FormState) → ((v : ℕ) → covered_at s v ≡ None → IsSome (covered_at s' v) → v ≡ t) → AreParts ns id first s'
+  parts_on s' only v none some =
+      elim (none_or_some (covered_at s v)) [
+        | inl before ↦ subst (IsPart ns id) (sym (only v before some)) (front (IsPart ns id) waiting t u.waits).1
+        | inr was ↦ u.parts v none (subst (λ o. IsSome o) (sym was.1) refl)
+      ]
 
   -- what covering it did to the log and the list, in any case
   module _ (law : PlainTermsAreBoolean) (log' : LogState)
@@ -126,7 +157,7 @@ module _ (ns : List Node) (id level : ℕ) (start : LogState) (first : FormState
     module _ (s' : FormState) (ids' : List ℕ) (takes : Takes s t level s') (grown : Grows s level s') (kept : Keeps log log') (gates : HasGates ns log s → HasGates ns log' s')
         (added : (begun : LogState) → AreAdded begun ids log → AreAdded begun ids' log') (told : (v : ℕ) → told_level log' v ≤ level)
         (h : Head) (kids : List ℕ) (node : kids_at ns t ≡ kids) (term : term_in ns t ≡ apply h (terms_at (term_in ns) kids))
-        (before : All (λ k. k < t) kids) where
+        (before : All (λ k. k < t) kids) (only : (v : ℕ) → covered_at s v ≡ None → IsSome (covered_at s' v) → v ≡ t) where
       -- what stays from then on stays from now on, and with what waits then it is covered
       stays_on : (r : FormState) → Stays s' r → Stays s r
       stays_on r stays v n at = stays v n (grown.stays v n at)
@@ -172,4 +203,9 @@ module _ (ns : List Node) (id level : ℕ) (start : LogState) (first : FormState
                 (front (λ v. holds_number (term_in ns v) ≡ false) waiting t (u.plain e)).0
                 (plain_arguments (term_in ns) t h kids term (is_plain e));
             sound = sound_on;
+            waits = All-append (IsPart ns id) waiting kids (front (IsPart ns id) waiting t u.waits).0
+                (All-weaker (λ k. Contains (post_order (term_in ns t)) (term_in ns k)) (IsPart ns id)
+                (λ k has. part_of_part (term_in ns id) (term_in ns t) (term_in ns k) (front (IsPart ns id) waiting t u.waits).1 has) kids
+                (arguments_are_parts (term_in ns) (term_in ns t) h kids term));
+            parts = parts_on s' only;
           }

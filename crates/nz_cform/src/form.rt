@@ -2,6 +2,7 @@
 ghost use Rattle.std.specs.Prelude.{◌≡◌, ◌≢◌, ◌↔◌, ◌⊎◌, ℕ, ◌<◌, ◌≤◌, false, List, length, filter, None, Some, All, Contains, OnErr, OnOk, IfOk, IsSome, is_some, slice_index_or};
 ghost use Rattle.std.specs.List.{AllPairs};
 ghost use Rattle.nz_spec.specs.Gates.{HasBooleanArguments};
+ghost use Rattle.nz_spec.specs.Order.{post_order};
 ghost use Rattle.nz_spec.specs.Table.{term_in};
 ghost use Rattle.nz_spec.specs.Term.{holds_number};
 ghost use Rattle.nz_log.specs.Logs.{LogState, told_below, told_level};
@@ -58,7 +59,7 @@ impl ClauseForm {
     }
 
     /// Whether a term is covered.
-    fn is_covered(&self, term: TermId) -> bool
+    pub fn is_covered(&self, term: TermId) -> bool
         ensures covered { result ≡ is_some (covered_at self.now term) }
     {
         has_level(self.levels.as_slice(), term)
@@ -89,6 +90,7 @@ impl ClauseForm {
         ensures grown { Grows self.old level self.new }
         ensures kept { Keeps log.old log.new }
         ensures told { (t : ℕ) → told_level log.new t ≤ level }
+        ensures made_of { (t : ℕ) → covered_at self.old t ≡ None → IsSome (covered_at self.new t) → Contains (post_order (term_in terms.now id)) (term_in terms.now t) }
         ensures sound { (levels : List (List ℕ)) → holds_number (term_in terms.now id) ≡ false → IsLog terms.now levels log.old → IsLog terms.now levels log.new }
     {
         gates_are_true();
@@ -124,6 +126,7 @@ impl ClauseForm {
         ensures grown { Grows self.old level self.new }
         ensures kept { Keeps log.old log.new }
         ensures told { (t : ℕ) → told_level log.new t ≤ level }
+        ensures only { (t : ℕ) → covered_at self.old t ≡ None → IsSome (covered_at self.new t) → t ≡ term }
         ensures sound { (levels : List (List ℕ)) → HasBooleanArguments (term_in terms.now term) → IsLog terms.now levels log.old → IsLog terms.now levels log.new }
     {
         // The level is told before the clauses are put: each of them names the term, and so it is of this level.

@@ -1,14 +1,14 @@
 -- What a search found makes true what is asserted and assumed, by the law of the gate table.
-use Rattle.std.proofs.Common.{◌≡◌, ℕ, ◌<◌, Bool, true, false, List, [], ◌∷◌, ◌++◌, length, map, get_or, Option, Some, option_map, inl, inr, refl, sym, ap, subst, ◌∙◌}
+use Rattle.std.proofs.Common.{◌≡◌, ℕ, zero, suc, ◌<◌, Bool, true, false, List, [], ◌∷◌, ◌++◌, length, map, get_or, Option, Some, None, option_map, refl, sym, ap, subst, ◌∙◌, arith}
 use Rattle.std.specs.Prelude.{All, Contains, flat_map, slice_get, unwrap_or}
 use Rattle.std.specs.List.{AllByRecursion}
 use Rattle.std.proofs.lemmas.Bool.{or_parts}
 use Rattle.std.proofs.lemmas.Option.{slice_get-get_or}
-use Rattle.std.proofs.lemmas.List.Elements.{All-contains, All-contains_itself, All-from_recursion, All-map, All-weaker, recursion_from_All}
-use Rattle.nz_lists.proofs.Elements.{AllByRecursion-map}
+use Rattle.std.proofs.lemmas.List.Elements.{All-contains, All-from_recursion, All-weaker, recursion_from_All}
+use Rattle.nz_lists.proofs.Elements.{AllByRecursion-append}
 use Rattle.nz_spec.specs.Term.{Constant, constant, falsum, Term, apply, no_terms, Assignment, Value, truth, value_of, is_true, is_bool, is_numeric, holds_number, default_value, IsTrueUnder}
 use Rattle.nz_spec.specs.Table.{Node, IsTable, term_in, terms_at, listed_value, assignment_by, HasOneNumberEach, OneNumber, TermOfNode, AssignsByNumber}
-use Rattle.nz_spec.specs.Order.{post_order, AreFirst}
+use Rattle.nz_spec.specs.Order.{post_order, post_orders}
 use Rattle.nz_spec.specs.Decide.{IsValueOf, AreModelValues}
 use Rattle.nz_spec.specs.Gates.{gate_clauses, IsGated, HasTrueLiteral, IsTruthAt, NumberedGatesDecide}
 use Rattle.nz_spec.specs.Literal.{are_same_sign, AreTrueLiterals}
@@ -17,33 +17,41 @@ use Rattle.nz_log.specs.Lits.{literal_of, clause_in, gates_at}
 use Rattle.nz_log.specs.Sound.{AreWithin, GatesAreNamed}
 use Rattle.nz_log.specs.declared.theory.NoNumbers.{NoNumbers}
 use Rattle.nz_sat.specs.Sats.{SatState, IsTrueClause, IsTrueLit, truth_of}
-use Rattle.nz_engine.specs.Clausal.{IsAtomic, kids_at, unit_of}
-use Rattle.nz_engine.specs.Posed.{IsFound, terms_named, value_at}
+use Rattle.nz_cform.specs.Covering.{kids_at}
+use Rattle.nz_engine.specs.Checking.{AreGatedAt, terms_named, value_at}
+use Rattle.nz_engine.specs.Preparing.{unit_of}
 use Rattle.nz_engine.proofs.GateNames.{gates_named}
 use Rattle.nz_engine.proofs.Modeling.{constant_values, is_assignment, listed_truth}
-use Rattle.nz_engine.proofs.Orders.{plain_head}
-use Rattle.nz_engine.proofs.Posing.{all_named, all_of_first, all_of_others, each_of}
+use Rattle.nz_engine.proofs.Orders.{ArePlain, plain_head}
+use Rattle.nz_engine.proofs.Posing.{all_named, all_of_first, all_of_others}
+use Rattle.nz_engine.proofs.Putting.{contains_map}
 
 -- ---- Parts
 
--- what holds of the terms that are listed first holds of all
-spread : (P : Term → Type 0) (seen all list : List Term) → AreFirst seen all list → AllByRecursion P seen → AllByRecursion P list → AllByRecursion P all
-spread P seen [] list f s l = tt
-spread P seen (t ∷ ts) list (inl f) s l = (All-contains P seen t (All-from_recursion P seen s) f.0, spread P seen ts list f.1 s l)
-spread P seen (t ∷ ts) list (inr f) s l =
-    let both = subst (AllByRecursion P) f.2 l in
-    (both.0, spread P (t ∷ seen) ts f.1 f.3 (both.0, s) both.1)
+-- what holds of arguments and what they are made of holds of what all are made of
+each_argument : (P : Term → Type 0) (f : ℕ → Term) (ks : List ℕ) → AllByRecursion (λ k. AllByRecursion P (post_order (f k))) ks → AllByRecursion P (post_orders (terms_at f ks))
+each_argument P f [] h = tt
+each_argument P f (k ∷ ks) h = AllByRecursion-append P (post_order (f k)) (post_orders (terms_at f ks)) h.0 (each_argument P f ks h.1)
 
--- what holds of all of many lists holds of all of each
-each_part : {X Y : Type 0} (P : Y → Type 0) (f : X → List Y) (xs : List X) → AllByRecursion P (flat_map f xs) → AllByRecursion (λ x. AllByRecursion P (f x)) xs
-each_part P f [] h = tt
-each_part P f (x ∷ xs) h = let both = each_of P (f x) (flat_map f xs) h in (both.0, each_part P f xs both.1)
+-- what holds of each term of some numbers, of which arguments are among them, holds of all that these are made of
+module _ (of_node : TermOfNode) (ns : List Node) (table : IsTable ns) (Has : ℕ → Type 0) (P : Term → Type 0) (inside : (t : ℕ) → Has t → t < length ns)
+    (arguments : (t : ℕ) → Has t → All Has (kids_at ns t)) (own : (t : ℕ) → Has t → P (term_in ns t)) where
+  parts_up_to : (fuel t : ℕ) → t < fuel → Has t → AllByRecursion P (post_order (term_in ns t))
+  parts_up_to zero t below has = absurd (omega arith)
+  parts_up_to (suc fuel) t below has =
+      let n : Node = get_or ns t (record { head = falsum; kids = [] }) in
+      let at : slice_get ns t ≡ Some n = slice_get-get_or ns t (record { head = falsum; kids = [] }) (inside t has) in
+      let whole : term_in ns t ≡ apply n.head (terms_at (term_in ns) n.kids) = of_node ns table t n at in
+      let kids : All Has n.kids = subst (All Has) (ap (λ o. elim o [ None ↦ [] | Some m ↦ m.kids ]) at) (arguments t has) in
+      let each : All (λ k. AllByRecursion P (post_order (term_in ns k))) n.kids =
+      λ k d below_kids. parts_up_to fuel (get_or n.kids k d) (let lower : get_or n.kids k d < t = table.before t n at k d below_kids in omega (arith, lower, below)) (kids k d below_kids) in
+      let last : P (apply n.head (terms_at (term_in ns) n.kids)) = subst P whole (own t has) in
+      subst (λ u. AllByRecursion P (post_order u)) (sym whole)
+      (AllByRecursion-append P (post_orders (terms_at (term_in ns) n.kids)) (apply n.head (terms_at (term_in ns) n.kids) ∷ [])
+      (each_argument P (term_in ns) n.kids (recursion_from_All (λ k. AllByRecursion P (post_order (term_in ns k))) n.kids each)) (last, tt))
 
-contains_map : {X Y : Type 0} (f : X → Y) (xs : List X) (x : X) → Contains xs x → Contains (map f xs) (f x)
-contains_map f xs x c =
-    All-contains (λ y. Contains (map f xs) (f y)) xs x
-    (All-from_recursion (λ y. Contains (map f xs) (f y)) xs
-    (AllByRecursion-map (Contains (map f xs)) f xs (recursion_from_All (Contains (map f xs)) (map f xs) (All-contains_itself (map f xs))))) c
+  pub all_parts : (t : ℕ) → Has t → AllByRecursion P (post_order (term_in ns t))
+  all_parts t has = parts_up_to (suc t) t (omega arith) has
 
 -- ---- Terms of which each part is settled
 
@@ -66,21 +74,6 @@ module _ (ns : List Node) (truths : ℕ → Option Bool) (a : Assignment) where
         law ns one a truths (term_in ns t) sign gated
         (record { clauses = λ u at. (part u at).clauses; constants = λ c s at h. (part (apply (constant c) no_terms) at).value c s refl h })
         (t, below, refl, has)
-
-    decided_each : (ts : List ℕ) → AllByRecursion (λ t. t < length ns) ts → AllByRecursion (λ t. IsGated (term_in ns t)) ts
-        → AllByRecursion IsSettled (flat_map post_order (map (term_in ns) ts)) → AllByRecursion IsDecided ts
-    decided_each [] below gated settled = tt
-    decided_each (t ∷ ts) below gated settled =
-        let both = each_of IsSettled (post_order (term_in ns t)) (flat_map post_order (map (term_in ns) ts)) settled in
-        (decided t below.0 gated.0 both.0, decided_each ts below.1 gated.1 both.1)
-
-    decided_roots : (roots atoms : List ℕ) → AreFirst [] (flat_map post_order (map (term_in ns) roots)) (map (term_in ns) atoms) → All (λ t. t < length ns) roots
-        → All (λ t. IsGated (term_in ns t)) roots → All (λ t. IsSettled (term_in ns t)) atoms → All IsDecided roots
-    decided_roots roots atoms first below gated settled =
-        let listed = recursion_from_All IsSettled (map (term_in ns) atoms) (All-map IsSettled (term_in ns) atoms settled) in
-        All-from_recursion IsDecided roots
-        (decided_each roots (recursion_from_All (λ t. t < length ns) roots below) (recursion_from_All (λ t. IsGated (term_in ns t)) roots gated)
-        (spread IsSettled [] (flat_map post_order (map (term_in ns) roots)) (map (term_in ns) atoms) first tt listed))
 
 -- ---- Clauses and constants of an atom
 
@@ -115,6 +108,18 @@ signs_true : (ns : List Node) (a : Assignment) (ls : List Lit) → AllByRecursio
 signs_true ns a [] h = tt
 signs_true ns a (l ∷ ls) h = (ap (λ v. are_same_sign l.sign (is_true v)) h.0 ∙ itself l.sign, signs_true ns a ls h.1)
 
+-- What is asserted and assumed is of the gate table, and under the truths of its atoms, among which are arguments of each, each clause and each assumed
+-- literal is true.
+pub record IsFound (ns : List Node) (asserted : List ℕ) (assumed : List Lit) (atoms : List ℕ) (s : SatState NoNumbers) : Type 0 where
+  pub within : All (λ t. t < length ns) atoms
+  pub plain : ArePlain ns atoms
+  pub arguments : (t : ℕ) → Contains atoms t → All (Contains atoms) (kids_at ns t)
+  pub roots_in : All (Contains atoms) (asserted ++ terms_named assumed)
+  pub gated : AreGatedAt ns (asserted ++ terms_named assumed)
+  pub rows : (t : ℕ) → Contains atoms t → AllByRecursion (IsTrueClause s) (gates_at ns t)
+  pub units : All (λ t. IsTrueClause s (unit_of t)) asserted
+  pub assumed_hold : All (IsTrueLit s) assumed
+
 module _ (law : NumberedGatesDecide) (named : GatesAreNamed) (one_number : OneNumber) (of_node : TermOfNode) (assigns : AssignsByNumber)
     (ns : List Node) (table : IsTable ns) (asserted : List ℕ) (assumed : List Lit) (atoms : List ℕ) (s : SatState NoNumbers) (found : IsFound ns asserted assumed atoms s)
     (ps : List (ℕ × Value)) (listed : ps ≡ flat_map (value_at ns s) atoms) where
@@ -122,7 +127,7 @@ module _ (law : NumberedGatesDecide) (named : GatesAreNamed) (one_number : OneNu
   values = assignment_by ns ps
 
   within : (t : ℕ) → Contains atoms t → t < length ns
-  within t has = All-contains (λ i. i < length ns) atoms t found.are.within has
+  within t has = All-contains (λ i. i < length ns) atoms t found.within has
 
   numberless : (t : ℕ) → Contains atoms t → holds_number (term_in ns t) ≡ false
   numberless t has = All-contains (λ i. holds_number (term_in ns i) ≡ false) atoms t found.plain has
@@ -139,13 +144,13 @@ module _ (law : NumberedGatesDecide) (named : GatesAreNamed) (one_number : OneNu
       let own = listed_truth ns s atoms t c sign has (ap (option_map (λ (m : Node). m.head)) at ∙ ap Some head) bool found_truth in
       assigns ns table ps t n c at head ∙ ap (λ qs. unwrap_or (listed_value qs t) (default_value c.sort)) listed ∙ ap (λ o. unwrap_or o (default_value c.sort)) own
 
-  settled : (t : ℕ) → Contains atoms t → AllByRecursion (IsTrueClause s) (gates_at ns t) → IsAtomic ns atoms t → IsSettled ns (truth_of s) values (term_in ns t)
-  settled t has rows atomic =
+  settled : (t : ℕ) → Contains atoms t → IsSettled ns (truth_of s) values (term_in ns t)
+  settled t has =
       let kids : AllByRecursion (λ k. k < length ns) (kids_at ns t) =
-      recursion_from_All (λ k. k < length ns) (kids_at ns t) (All-weaker (Contains atoms) (λ k. k < length ns) within (kids_at ns t) atomic.arguments) in
+      recursion_from_All (λ k. k < length ns) (kids_at ns t) (All-weaker (Contains atoms) (λ k. k < length ns) within (kids_at ns t) (found.arguments t has)) in
       let names : AllByRecursion (AreWithin ns) (gates_at ns t) = gates_named (λ k. k < length ns) ns t (within t has) kids in
       record {
-        clauses = subst (AllByRecursion (HasTrueLiteral (IsTruthAt ns (truth_of s)))) (named ns table t (within t has)) (rows_true ns s (gates_at ns t) names rows);
+        clauses = subst (AllByRecursion (HasTrueLiteral (IsTruthAt ns (truth_of s)))) (named ns table t (within t has)) (rows_true ns s (gates_at ns t) names (found.rows t has));
         value = λ c sign is h.
             let same : h.0 ≡ t = one_number ns table h.0 t h.1 (within t has) h.2 in
             constant_value t has c sign is (ap (truth_of s) (sym same) ∙ h.3);
@@ -155,24 +160,17 @@ module _ (law : NumberedGatesDecide) (named : GatesAreNamed) (one_number : OneNu
   roots = asserted ++ terms_named assumed
 
   decided_all : All (IsDecided ns (truth_of s) values) roots
-  decided_all =
-      let gates = flat_map (gates_at ns) atoms in
-      let rows : All (λ t. AllByRecursion (IsTrueClause s) (gates_at ns t)) atoms =
-      All-from_recursion (λ t. AllByRecursion (IsTrueClause s) (gates_at ns t)) atoms
-      (each_part (IsTrueClause s) (gates_at ns) atoms (recursion_from_All (IsTrueClause s) gates (all_of_first (IsTrueClause s) gates (map unit_of asserted) found.clauses))) in
-      decided_roots ns (truth_of s) values law (one_number ns table) roots atoms found.are.first
-      (All-weaker (Contains atoms) (λ t. t < length ns) within roots found.are.roots_in) found.gated
-      (λ k d below. settled (get_or atoms k d) (All-contains_itself atoms k d below) (rows k d below) (found.are.atomic k d below))
+  decided_all k d below =
+      let t : ℕ = get_or roots k d in
+      let has : Contains atoms t = found.roots_in k d below in
+      decided ns (truth_of s) values law (one_number ns table) t (within t has) (found.gated k d below)
+      (all_parts of_node ns table (Contains atoms) (IsSettled ns (truth_of s) values) within found.arguments settled t has)
 
   model_of : AreModelValues ns (map (term_in ns) asserted) [] ps
   model_of =
       let constants = subst (AllByRecursion (IsValueOf ns)) (sym listed) (constant_values ns s atoms) in
-      let units : All (λ t. IsTrueClause s (unit_of t)) asserted =
-      All-from_recursion (λ t. IsTrueClause s (unit_of t)) asserted
-      (AllByRecursion-map (IsTrueClause s) unit_of asserted
-      (recursion_from_All (IsTrueClause s) (map unit_of asserted) (all_of_others (IsTrueClause s) (flat_map (gates_at ns) atoms) (map unit_of asserted) found.clauses))) in
       let own = all_of_first (IsDecided ns (truth_of s) values) asserted (terms_named assumed) decided_all in
-      let hold : All (λ t. value_of values (term_in ns t) ≡ truth true) asserted = λ k d below. own k d below true (unit_true s (get_or asserted k d) (units k d below)) in
+      let hold : All (λ t. value_of values (term_in ns t) ≡ truth true) asserted = λ k d below. own k d below true (unit_true s (get_or asserted k d) (found.units k d below)) in
       record {
         values = constants;
         makes = record {

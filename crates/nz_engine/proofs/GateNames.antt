@@ -10,7 +10,7 @@ use Rattle.nz_spec.specs.Literal.{with_one, once}
 use Rattle.nz_spec.specs.Gates.{clauses_over}
 use Rattle.nz_log.specs.declared.lits.Lit.{Lit}
 use Rattle.nz_log.specs.Lits.{yes, no, are_same_lit, is_boolean_at, gates_at}
-use Rattle.nz_engine.specs.Clausal.{kids_at}
+use Rattle.nz_cform.specs.Covering.{kids_at}
 
 -- ---- Each literal once
 

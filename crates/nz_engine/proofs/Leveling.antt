@@ -1,8 +1,9 @@
 -- Terms by level, where one more is asserted.
-use Rattle.std.proofs.Common.{◌≡◌, ℕ, zero, suc, ◌<◌, List, [], ◌∷◌, ◌++◌, length, set, get_or, refl, sym, ap, ◌∙◌, arith, Vec, Global}
-use Rattle.std.proofs.lemmas.List.{map-set, set-get_or, length-map, get_or-map}
-use Rattle.nz_spec.specs.Decide.{with_number}
-use Rattle.nz_engine.specs.Levels.{numbers_by_level}
+use Rattle.std.proofs.Common.{◌≡◌, ℕ, zero, suc, ◌+◌, ◌<◌, List, [], ◌∷◌, ◌++◌, length, set, take, get_or, refl, sym, ap, ◌∙◌, arith, Vec, Global}
+use Rattle.std.proofs.lemmas.List.{length-append, map-set, set-get_or, length-map, get_or-map}
+use Rattle.nz_spec.specs.Decide.{asserted_numbers, with_number}
+use Rattle.nz_engine.specs.Levels.{count_in, numbers_by_level}
+use Rattle.nz_engine.proofs.Placing.{next_level}
 
 -- ---- Levels
 
@@ -19,8 +20,19 @@ numbers_by_level-set : (levels : List (Vec ℕ Global)) (i : ℕ) (v : Vec ℕ G
 numbers_by_level-set levels i v = map-set (λ (level : Vec ℕ Global). level.items) levels i v
 
 -- the numbers of one level, by its place
-level_at : (levels : List (Vec ℕ Global)) (j : ℕ) (level : Vec ℕ Global) → j < length levels → level ≡ get_or levels j level → get_or (numbers_by_level levels) j [] ≡ level.items
+pub level_at : (levels : List (Vec ℕ Global)) (j : ℕ) (level : Vec ℕ Global) → j < length levels → level ≡ get_or levels j level → get_or (numbers_by_level levels) j [] ≡ level.items
 level_at levels j level l e = get_or-map (λ (x : Vec ℕ Global). x.items) levels j level [] l ∙ ap (λ (x : Vec ℕ Global). x.items) (sym e)
+
+-- how many there are up to the next level
+pub count_next : (levels : List (Vec ℕ Global)) (k : ℕ) (level : Vec ℕ Global) → k < length levels → level ≡ get_or levels k level
+    → count_in (numbers_by_level levels) (suc k) ≡ count_in (numbers_by_level levels) k + length level.items
+count_next levels k level l e =
+    let ls = numbers_by_level levels in
+    let size = length-map levels (λ (x : Vec ℕ Global). x.items) in
+    let next = ap length (next_level ls k (omega (arith, l, size))) in
+    let both = length-append (asserted_numbers (take k ls)) (get_or ls k []) in
+    let own = ap length (level_at levels k level l e) in
+    omega (arith, next, both, own)
 
 -- where the last level has one number more
 pub number_added : (levels : List (Vec ℕ Global)) (j i : ℕ) (level new : Vec ℕ Global) → length levels ≡ suc j → level ≡ get_or levels j level → new.items ≡ level.items ++ i ∷ []

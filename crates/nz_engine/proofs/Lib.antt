@@ -1,10 +1,14 @@
-pub mod Adding
+pub mod Answering
+pub mod Assuming
 pub mod Deciding
 pub mod GateNames
+pub mod Going
 pub mod Leveling
 pub mod Modeling
 pub mod Naming
 pub mod Orders
+pub mod Placing
 pub mod Posing
-pub mod Ready
+pub mod Putting
 pub mod Refuting
+pub mod Solving

@@ -12,7 +12,7 @@ use Rattle.nz_spec.specs.Decide.{IsValueOf}
 use Rattle.nz_spec.specs.Model.{IsAssignment}
 use Rattle.nz_log.specs.declared.theory.NoNumbers.{NoNumbers}
 use Rattle.nz_sat.specs.Sats.{SatState, truth_of}
-use Rattle.nz_engine.specs.Posed.{value_as, value_at}
+use Rattle.nz_engine.specs.Checking.{value_as, value_at}
 
 -- ---- Values of their sorts
 

@@ -1,27 +1,30 @@
 -- Notes of atoms are legal: each is of what is asked, and none is named twice.
-use Rattle.std.proofs.Common.{◌≡◌, inl, inr, ℕ, zero, suc, ◌<◌, true, List, [], ◌∷◌, ◌++◌, length, take, map, option_map, refl, sym, ap, ◌∙◌, subst, arith, append-nil, append_assoc}
-use Rattle.std.specs.Prelude.{All, Contains, flat_map}
-use Rattle.std.specs.List.{AllByRecursion}
+use Rattle.std.proofs.Common.{◌≡◌, ◌≢◌, inl, inr, ℕ, zero, suc, ◌<◌, true, List, [], ◌∷◌, ◌++◌, length, get_or, take, map, Some, refl, sym, ap, ◌∙◌, subst, arith, append_assoc}
+use Rattle.std.specs.Prelude.{All, Contains, flat_map, slice_get}
+use Rattle.std.specs.List.{AllByRecursion, AllPairs}
 use Rattle.std.proofs.lemmas.List.{take-map, map-append}
-use Rattle.std.proofs.lemmas.Option.{slice_get-map}
-use Rattle.std.proofs.lemmas.List.Elements.{All-contains_itself, All-head, All-map, All-tail, All-take, All-weaker, Contains-append_cases, Contains-append_left, Contains-append_right, Contains-push_cases, recursion_from_All}
+use Rattle.std.proofs.lemmas.Option.{get_or_from_slice_get, slice_get_within}
+use Rattle.std.proofs.lemmas.List.Elements.{All-contains, All-contains_itself, All-from_recursion, All-head, All-map, All-tail, All-take, All-weaker, Contains-append_cases, Contains-append_left, Contains-append_right, recursion_from_All}
 use Rattle.nz_spec.specs.Term.{Term, apply, Terms, no_terms, terms}
-use Rattle.nz_spec.specs.Table.{Node, term_in}
-use Rattle.nz_spec.specs.Order.{post_order, post_orders, companions, listing_order, listing_orders, AreFirst}
+use Rattle.nz_lists.proofs.Elements.{AllByRecursion-append, AllByRecursion-weaker}
+use Rattle.nz_lists.proofs.Places.{slice_get_kept}
+use Rattle.nz_spec.specs.Table.{Node, HasOneNumberEach, term_in}
+use Rattle.nz_spec.specs.Order.{post_order, post_orders, companions, listing_order, listing_orders}
 use Rattle.nz_spec.specs.Decide.{asserted_numbers, asserted_terms}
 use Rattle.nz_spec.specs.Literal.{StandOnce}
 use Rattle.nz_spec.specs.Gates.{is_boolean_term}
 use Rattle.nz_spec.specs.Work.{WorkLine, UnitLine, NoteLine, WorkList, unit_count}
 use Rattle.nz_spec.specs.Reply as reply
-use Rattle.nz_spec.specs.Legal.{Task, Search, at_first, after_line, after_lines, AreLegal, LegalWorkDoesNotRepeat}
+use Rattle.nz_spec.specs.Legal.{Task, Search, at_first, after_line, AreLegal}
 use Rattle.nz_log.specs.declared.lits.Lit.{Lit}
 use Rattle.nz_log.specs.declared.note.Note.{Note}
 use Rattle.nz_log.specs.declared.note.Note.TheVariants.{Atom}
 use Rattle.nz_log.specs.Notes.{noted_line, noted_list, AreNotedWithin}
 use Rattle.nz_log.specs.Verdicts.{task_in}
 use Rattle.nz_sat.specs.Numbers.{noted_atoms}
-use Rattle.nz_engine.specs.Posed.{ArePlain, NotesFirst, Works, terms_named, with_atoms}
-use Rattle.nz_engine.proofs.Orders.{HasNoNumber, parts_boolean}
+use Rattle.nz_engine.specs.Checking.{NotesFirst, Works, terms_named, with_atoms}
+use Rattle.nz_engine.proofs.Orders.{ArePlain, HasNoNumber, parts_boolean}
+use Rattle.nz_engine.proofs.Placing.{in_second, lower_or_not, place_of}
 
 -- the lines that note these
 abbrev pub notes_of : List ℕ → List (WorkLine Note)
@@ -31,33 +34,35 @@ notes_of ids = map (λ (t : ℕ). NoteLine (Atom t)) ids
 abbrev pub IsNameable : Task → Term → Type 0
 IsNameable q t = Contains q.listed t × (is_boolean_term t ≡ true)
 
-one_seen : (seen xs : List Term) (t u : Term) → ((v : Term) → Contains xs v → Contains seen v) → Contains (xs ++ t ∷ []) u → Contains (t ∷ seen) u
-one_seen seen xs t u h c =
-    let first : Contains (t ∷ []) t = (0, omega arith, refl) in
-    elim (Contains-push_cases xs t u c) [
-      | inl old ↦ Contains-append_right (t ∷ []) seen u (h u old)
-      | inr same ↦ subst (Contains (t ∷ seen)) same (Contains-append_left (t ∷ []) seen t first)
-    ]
+-- what is in a mapped list is of one of its elements
+from_map : (f : ℕ → Term) (xs : List ℕ) (y : Term) → Contains (map f xs) y → (x : ℕ) × Contains xs x × (f x ≡ y)
+from_map f xs y c =
+    let P = λ (z : Term). z ≡ y → (x : ℕ) × Contains xs x × (f x ≡ y) in
+    All-contains P (map f xs) y
+    (All-map P f xs (All-weaker (Contains xs) (λ x. P (f x)) (λ x has e. (x, has, e)) xs (All-contains_itself xs))) c refl
 
--- each of the first ones among terms that may be named may be named after those before it
-legal_names : (q : Task) (ns : List Node) (seen all : List Term) (ids : List ℕ) (s : Search) → ((u : Term) → Contains s.atoms u → Contains seen u)
-    → AllByRecursion (IsNameable q) all → AreFirst seen all (map (term_in ns) ids) → AreLegal q s (map (noted_line ns) (notes_of ids))
-legal_names q ns seen [] [] s h each first = tt
-legal_names q ns seen [] (i ∷ ids) s h each first = absurd cc
-legal_names q ns seen (t ∷ ts) ids s h each (inl old) = legal_names q ns seen ts ids s h each.1 old.1
-legal_names q ns seen (t ∷ ts) [] s h each (inr new) = let e : [] ≡ t ∷ new.1 = new.2 in absurd cc
-legal_names q ns seen (t ∷ ts) (i ∷ ids) s h each (inr new) =
-    let e : term_in ns i ∷ map (term_in ns) ids ≡ t ∷ new.1 = new.2 in
-    let first : term_in ns i ≡ t = cc in
-    let rest : map (term_in ns) ids ≡ new.1 = cc in
-    let may = each.0 in (
-      record {
-        listed = subst (Contains q.listed) (sym first) may.0;
-        boolean = subst (λ u. is_boolean_term u ≡ true) (sym first) may.1;
-        fresh = λ c. new.0 (h t (subst (Contains s.atoms) first c));
-      },
-      legal_names q ns (t ∷ seen) ts ids (record s { atoms = s.atoms ++ term_in ns i ∷ [] })
-          (λ u c. one_seen seen s.atoms t u h (subst (λ v. Contains (s.atoms ++ v ∷ []) u) first c)) each.1 (subst (AreFirst (t ∷ seen) ts) (sym rest) new.3),
+-- numbers of a table, each once, of terms that may be named: each may be named after those before it
+legal_names : (q : Task) (ns : List Node) → HasOneNumberEach ns → (seen ids : List ℕ) (s : Search) → s.atoms ≡ map (term_in ns) seen
+    → StandOnce (seen ++ ids) → AllByRecursion (λ t. t < length ns) seen → AllByRecursion (λ t. t < length ns) ids → AllByRecursion (λ t. IsNameable q (term_in ns t)) ids
+    → AreLegal q s (map (noted_line ns) (notes_of ids))
+legal_names q ns one seen [] s same once before within each = tt
+legal_names q ns one seen (i ∷ ids) s same once before within each =
+    let joined : (seen ++ i ∷ []) ++ ids ≡ seen ++ i ∷ ids = append_assoc seen (i ∷ []) ids in
+    let fresh : Contains s.atoms (term_in ns i) → ⊥ = λ c.
+    let was = from_map (term_in ns) seen (term_in ns i) (subst (λ ts. Contains ts (term_in ns i)) same c) in
+    let inside = All-contains (λ t. t < length ns) seen was.0 (All-from_recursion (λ t. t < length ns) seen before) was.1 in
+    let number : was.0 ≡ i = one was.0 i inside within.0 was.2 in
+    let place = place_of seen was.0 was.1 in
+    let first : slice_get (seen ++ i ∷ ids) place.0 ≡ Some i = slice_get_kept seen (i ∷ ids) place.0 was.0 place.1 ∙ ap Some number in
+    let second : slice_get (seen ++ i ∷ ids) (length seen) ≡ Some i = in_second seen (i ∷ ids) (length seen) 0 (omega arith) in
+    let meet : place.0 ≡ length seen = once place.0 (length seen) i first second in
+    let below = slice_get_within seen place.0 was.0 place.1 in
+    omega (arith, meet, below) in (
+      record { listed = each.0.0; boolean = each.0.1; fresh = fresh },
+      legal_names q ns one (seen ++ i ∷ []) ids (record s { atoms = s.atoms ++ term_in ns i ∷ [] })
+          (ap (λ ts. ts ++ term_in ns i ∷ []) same ∙ sym (map-append (term_in ns) seen (i ∷ [])))
+          (subst StandOnce (sym joined) once)
+          (AllByRecursion-append (λ t. t < length ns) seen (i ∷ []) before (within.0, tt)) within.1 each.1,
     )
 
 -- the front of a legal list is legal
@@ -87,12 +92,13 @@ pub lines_noted : (ids : List ℕ) (old new : WorkList Note) → old.lines ≡ [
 lines_noted ids old new none e = ap (λ w. w.lines) e ∙ ap (λ ls. ls ++ notes_of ids) none
 
 -- a front of the notes
-pub works_first : (q : Task) (ns : List Node) (all : List Term) (ids : List ℕ) (old new : WorkList Note) → old.lines ≡ [] → AllByRecursion (IsNameable q) all
-    → AreFirst [] all (map (term_in ns) ids) → All (λ t. t < length ns) ids → NotesFirst ids old new → Works ns q old new
-works_first q ns all ids old new none each first within n =
+pub works_first : (q : Task) (ns : List Node) (ids : List ℕ) (old new : WorkList Note) → HasOneNumberEach ns → old.lines ≡ [] → StandOnce ids
+    → All (λ t. t < length ns) ids → All (λ t. IsNameable q (term_in ns t)) ids → NotesFirst ids old new → Works ns q old new
+works_first q ns ids old new one none once within each n =
     let front : List ℕ = take n.count ids in
     let lines : new.lines ≡ notes_of front = lines_noted front old new none n.noted in
-    let legal : AreLegal q at_first (map (noted_line ns) (notes_of ids)) = legal_names q ns [] all ids at_first (λ u c. c) each first in
+    let legal : AreLegal q at_first (map (noted_line ns) (notes_of ids)) =
+    legal_names q ns one [] ids at_first refl once tt (recursion_from_All (λ t. t < length ns) ids within) (recursion_from_All (λ t. IsNameable q (term_in ns t)) ids each) in
     let some : take n.count (map (noted_line ns) (notes_of ids)) ≡ map (noted_line ns) (notes_of front) =
     take-map (noted_line ns) n.count (notes_of ids) ∙ ap (map (noted_line ns)) (take-map (λ (t : ℕ). NoteLine (Atom t)) n.count ids) in
     record {
@@ -125,20 +131,18 @@ works_solved q ns atoms old mid new works lines within legal notes limit =
 
 -- ---- None is noted twice
 
-after_names : (ns : List Node) (ids : List ℕ) (s : Search) → (after_lines s (map (noted_line ns) (notes_of ids))).atoms ≡ s.atoms ++ map (term_in ns) ids
-after_names ns [] s = sym (append-nil s.atoms)
-after_names ns (i ∷ ids) s =
-    after_names ns ids (record s { atoms = s.atoms ++ term_in ns i ∷ [] }) ∙ append_assoc s.atoms (term_in ns i ∷ []) (map (term_in ns) ids)
-
-once_by_terms : (f : ℕ → Term) (ids : List ℕ) → StandOnce (map f ids) → StandOnce ids
-once_by_terms f ids once i j t e k = once i j (f t) (slice_get-map f ids i ∙ ap (option_map f) e) (slice_get-map f ids j ∙ ap (option_map f) k)
-
-pub noted_once : LegalWorkDoesNotRepeat → (q : Task) (ns : List Node) (ids : List ℕ) (work : WorkList Note) → work.lines ≡ notes_of ids
-    → AreLegal q at_first (noted_list ns work).lines → StandOnce (noted_atoms work.lines)
-noted_once law q ns ids work lines legal =
-    let repeats = law q (map (noted_line ns) (notes_of ids)) (subst (λ ls. AreLegal q at_first (map (noted_line ns) ls)) lines legal) in
-    let terms : StandOnce (map (term_in ns) ids) = subst StandOnce (after_names ns ids at_first) repeats.atoms in
-    subst StandOnce (sym (ap noted_atoms lines ∙ atoms_noted ids)) (once_by_terms (term_in ns) ids terms)
+pub once_from_pairs : (ids : List ℕ) → AllPairs (λ t u. t ≢ u) ids → StandOnce ids
+once_from_pairs ids pairs i j t e k =
+    let first = slice_get_within ids i t e in
+    let second = slice_get_within ids j t k in
+    let same : get_or ids i 0 ≡ get_or ids j 0 = get_or_from_slice_get ids i t 0 e ∙ sym (get_or_from_slice_get ids j t 0 k) in
+    elim (lower_or_not i j) [
+      | inl below ↦ absurd (pairs i j 0 below second same)
+      | inr past ↦ elim (lower_or_not j i) [
+        | inl above ↦ absurd (pairs j i 0 above first (sym same))
+        | inr other ↦ omega (arith, past, other)
+      ]
+    ]
 
 -- ---- What a search is asked lists what the atoms are
 
@@ -189,3 +193,18 @@ nameable ns levels assumed plain =
     let contains : AllByRecursion (Contains q.listed) all = recursion_from_All (Contains q.listed) all (All-weaker (Contains all) (Contains q.listed) listed all (All-contains_itself all)) in
     let numberless : AllByRecursion HasNoNumber ts = recursion_from_All HasNoNumber ts (All-map HasNoNumber (term_in ns) roots plain) in
     both (Contains q.listed) (λ t. is_boolean_term t ≡ true) all contains (parts_boolean ts numberless)
+
+-- what one of the roots is made of may be named
+each_root : (f : ℕ → Term) (rs : List ℕ) → AllByRecursion (λ r. (u : Term) → Contains (post_order (f r)) u → Contains (flat_map post_order (map f rs)) u) rs
+each_root f [] = tt
+each_root f (r ∷ rs) =
+    let rest = flat_map post_order (map f rs) in (
+      (λ u c. Contains-append_left (post_order (f r)) rest u c),
+      AllByRecursion-weaker (λ s. (u : Term) → Contains (post_order (f s)) u → Contains rest u) (λ s. (u : Term) → Contains (post_order (f s)) u → Contains (post_order (f r) ++ rest) u)
+          (λ s h u c. Contains-append_right (post_order (f r)) rest u (h u c)) rs (each_root f rs),
+    )
+
+pub part_of_roots : (f : ℕ → Term) (rs : List ℕ) (r : ℕ) → Contains rs r → (u : Term) → Contains (post_order (f r)) u → Contains (flat_map post_order (map f rs)) u
+part_of_roots f rs r has =
+    let P : ℕ → Type 0 = λ s. (u : Term) → Contains (post_order (f s)) u → Contains (flat_map post_order (map f rs)) u in
+    All-contains P rs r (All-from_recursion P rs (each_root f rs)) has

@@ -1,15 +1,17 @@
 -- What terms without numbers are made of, in an order of them, holds no number.
-use Rattle.std.proofs.Common.{◌≡◌, ℕ, Bool, true, false, true≢false, refl, not, List, [], ◌∷◌, map, inl, inr, sym, subst}
-use Rattle.std.specs.Prelude.{flat_map}
+use Rattle.std.proofs.Common.{◌≡◌, ℕ, Bool, true, false, true≢false, refl, not, List, [], ◌∷◌}
+use Rattle.std.specs.Prelude.{All, flat_map}
 use Rattle.std.specs.List.{AllByRecursion}
 use Rattle.std.proofs.lemmas.Bool.{or_parts}
-use Rattle.std.proofs.lemmas.List.Elements.{All-from_recursion, All-map, recursion_from_All}
-use Rattle.nz_lists.proofs.Elements.{AllByRecursion-append, AllByRecursion-map}
+use Rattle.nz_lists.proofs.Elements.{AllByRecursion-append}
 use Rattle.nz_spec.specs.Term.{Head, head_sort, is_bool, is_int, is_numeric, Term, apply, Terms, no_terms, terms, holds_number, hold_number}
 use Rattle.nz_spec.specs.Gates.{is_boolean_term}
 use Rattle.nz_spec.specs.Table.{Node, term_in}
-use Rattle.nz_spec.specs.Order.{post_order, post_orders, AreFirst}
-use Rattle.nz_engine.specs.Posed.{ArePlain}
+use Rattle.nz_spec.specs.Order.{post_order, post_orders}
+
+-- the terms hold no number
+abbrev pub ArePlain : List Node → List ℕ → Type 0
+ArePlain ns ts = All (λ t. holds_number (term_in ns t) ≡ false) ts
 
 abbrev pub HasNoNumber : Term → Type 0
 HasNoNumber t = holds_number t ≡ false
@@ -25,21 +27,9 @@ mutual
       let both = or_parts (holds_number t) (hold_number ts) e in
       AllByRecursion-append HasNoNumber (post_order t) (post_orders ts) (parts_numberless t both.0) (all_parts_numberless ts both.1)
 
-roots_numberless : (ts : List Term) → AllByRecursion HasNoNumber ts → AllByRecursion HasNoNumber (flat_map post_order ts)
+pub roots_numberless : (ts : List Term) → AllByRecursion HasNoNumber ts → AllByRecursion HasNoNumber (flat_map post_order ts)
 roots_numberless [] h = tt
 roots_numberless (t ∷ ts) h = AllByRecursion-append HasNoNumber (post_order t) (flat_map post_order ts) (parts_numberless t h.0) (roots_numberless ts h.1)
-
-first_numberless : (seen all list : List Term) → AreFirst seen all list → AllByRecursion HasNoNumber all → AllByRecursion HasNoNumber list
-first_numberless seen [] list h f = subst (AllByRecursion HasNoNumber) (sym h) tt
-first_numberless seen (t ∷ ts) list (inl h) f = first_numberless seen ts list h.1 f.1
-first_numberless seen (t ∷ ts) list (inr h) f = subst (AllByRecursion HasNoNumber) (sym h.2) (f.0, first_numberless (t ∷ seen) ts h.1 h.3 f.1)
-
-pub order_numberless : (ns : List Node) (roots ids : List ℕ) → AreFirst [] (flat_map post_order (map (term_in ns) roots)) (map (term_in ns) ids)
-    → ArePlain ns roots → ArePlain ns ids
-order_numberless ns roots ids first h =
-    let terms : AllByRecursion HasNoNumber (map (term_in ns) roots) = recursion_from_All HasNoNumber (map (term_in ns) roots) (All-map HasNoNumber (term_in ns) roots h) in
-    let all = first_numberless [] (flat_map post_order (map (term_in ns) roots)) (map (term_in ns) ids) first (roots_numberless (map (term_in ns) roots) terms) in
-    All-from_recursion (λ i. holds_number (term_in ns i) ≡ false) ids (AllByRecursion-map HasNoNumber (term_in ns) ids all)
 
 -- ---- Such terms are Boolean
 

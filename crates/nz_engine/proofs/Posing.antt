@@ -1,40 +1,15 @@
--- What a problem is made of.
-use Rattle.std.proofs.Common.{◌≡◌, ℕ, suc, ◌<◌, false, List, [], ◌∷◌, ◌++◌, length, take, drop, map, get_or, Some, None, sym, ap, subst, arith}
-use Rattle.std.specs.Prelude.{All, Contains, flat_map, slice_get}
+-- What is asserted and what is assumed, in one list.
+use Rattle.std.proofs.Common.{◌≡◌, ℕ, false, List, [], ◌∷◌, ◌++◌}
+use Rattle.std.specs.Prelude.{All, Contains}
 use Rattle.std.specs.List.{AllByRecursion}
-use Rattle.std.proofs.lemmas.List.{take-append-drop, take_all}
-use Rattle.std.proofs.lemmas.List.Elements.{All-append, All-contains, All-contains_itself, All-from_recursion, All-map, All-weaker, Contains-append_left, Contains-append_right, Contains-get_or, recursion_from_All}
-use Rattle.std.proofs.lemmas.Option.{slice_get-get_or}
+use Rattle.std.proofs.lemmas.List.Elements.{All-append, All-contains, All-contains_itself, All-from_recursion, All-weaker, Contains-append_left, Contains-append_right, recursion_from_All}
 use Rattle.nz_lists.proofs.Elements.{AllByRecursion-map}
-use Rattle.nz_spec.specs.Term.{falsum, holds_number}
+use Rattle.nz_spec.specs.Term.{holds_number}
 use Rattle.nz_spec.specs.Table.{Node, term_in}
-use Rattle.nz_spec.specs.Order.{post_order, AreFirst, ComeBehindArguments}
-use Rattle.nz_spec.specs.Decide.{asserted_numbers}
 use Rattle.nz_spec.specs.Gates.{IsGated, GatedTermsArePlain}
 use Rattle.nz_log.specs.declared.lits.Lit.{Lit}
-use Rattle.nz_log.specs.Sound.{live_at}
-use Rattle.nz_engine.specs.Clausal.{IsAtomic}
-use Rattle.nz_engine.specs.Posed.{AreAtomsOf, ArePlain, terms_named}
-use Rattle.nz_engine.proofs.Orders.{order_numberless}
-
-contains_in_front : (n : ℕ) (xs : List ℕ) (x : ℕ) → Contains (take n xs) x → Contains xs x
-contains_in_front n xs x c = subst (λ l. Contains l x) (take-append-drop n xs) (Contains-append_left (take n xs) (drop n xs) x c)
-
--- each of them and its arguments is there
-atomic_in : (ns : List Node) (ids : List ℕ) → All (λ i. i < length ns) ids → ComeBehindArguments ns ids → All (IsAtomic ns ids) ids
-atomic_in ns ids within behind k d below =
-    let t : ℕ = get_or ids k d in
-    let n : Node = get_or ns t (record { head = falsum; kids = [] }) in
-    let node : slice_get ns t ≡ Some n = slice_get-get_or ns t (record { head = falsum; kids = [] }) (within k d below) in
-    record {
-      itself = Contains-get_or ids k d below;
-      arguments = subst (All (Contains ids)) (sym (ap (λ o. elim o [ None ↦ [] | Some m ↦ m.kids ]) node))
-          (All-weaker (Contains (take k ids)) (Contains ids) (contains_in_front k ids) n.kids (behind k t n (slice_get-get_or ids k d below) node));
-    }
-
-atoms_are : (ns : List Node) (roots ids : List ℕ) → AreFirst [] (flat_map post_order (map (term_in ns) roots)) (map (term_in ns) ids) → All (λ i. i < length ns) ids
-    → ComeBehindArguments ns ids → All (Contains ids) roots → AreAtomsOf ns roots ids
-atoms_are ns roots ids first within behind has = record { first = first; within = within; atomic = atomic_in ns ids within behind; roots_in = has }
+use Rattle.nz_engine.specs.Checking.{AreGatedAt, terms_named}
+use Rattle.nz_engine.proofs.Orders.{ArePlain}
 
 -- ---- The first and the others
 
@@ -57,29 +32,10 @@ all_named P ls h = All-from_recursion (λ (l : Lit). P l.term) ls (AllByRecursio
 
 -- ---- Roots
 
--- the terms of these numbers are of the gate table
-abbrev pub AreGatedAt : List Node → List ℕ → Type 0
-AreGatedAt ns ts = All (λ t. IsGated (term_in ns t)) ts
-
-pub gated_roots : (ns : List Node) (asserted : List ℕ) (assumed : List Lit) → AreGatedAt ns asserted → All (λ (l : Lit). IsGated (term_in ns l.term)) assumed
+pub gated_roots : (ns : List Node) (asserted : List ℕ) (assumed : List Lit) → AreGatedAt ns asserted → AreGatedAt ns (terms_named assumed)
     → AreGatedAt ns (asserted ++ terms_named assumed)
-gated_roots ns asserted assumed h k =
-    All-append (λ t. IsGated (term_in ns t)) asserted (terms_named assumed) h (All-map (λ t. IsGated (term_in ns t)) (λ (l : Lit). l.term) assumed k)
+gated_roots ns asserted assumed h k = All-append (λ t. IsGated (term_in ns t)) asserted (terms_named assumed) h k
 
--- so they hold no number
+-- terms of the gate table hold no number
 pub plain_roots : GatedTermsArePlain → (ns : List Node) (roots : List ℕ) → AreGatedAt ns roots → ArePlain ns roots
 plain_roots plain ns roots h = All-weaker (λ t. IsGated (term_in ns t)) (λ t. holds_number (term_in ns t) ≡ false) (λ t. plain (term_in ns t)) roots h
-
--- nor does what they are made of
-pub plain_atoms : GatedTermsArePlain → (ns : List Node) (roots atoms : List ℕ) → AreGatedAt ns roots → AreAtomsOf ns roots atoms → ArePlain ns atoms
-plain_atoms plain ns roots atoms h are = order_numberless ns roots atoms are.first (plain_roots plain ns roots h)
-
--- all is live above the last level
-pub all_live : (levels : List (List ℕ)) → live_at levels (length levels) ≡ asserted_numbers levels
-all_live levels = ap asserted_numbers (take_all (suc (length levels)) levels (omega arith))
-
--- the same of a list that is these roots
-pub atoms_posed : (ns : List Node) (roots given ids : List ℕ) → given ≡ roots → AreFirst [] (flat_map post_order (map (term_in ns) given)) (map (term_in ns) ids)
-    → All (λ i. i < length ns) ids → ComeBehindArguments ns ids → All (Contains ids) given → AreAtomsOf ns roots ids
-atoms_posed ns roots given ids e first within behind has =
-    subst (λ rs. AreAtomsOf ns rs ids) e (atoms_are ns given ids first within behind has)

@@ -22,8 +22,8 @@ use Rattle.nz_log.specs.Spelling.{AreStepsOf, step_of}
 use Rattle.nz_log.specs.Sound.{IsLog, live_terms, ClausesAreTrue}
 use Rattle.nz_log.specs.Verdicts.{OnUnsat, task_in}
 use Rattle.nz_sat.specs.Conflicts.{Refutes}
-use Rattle.nz_engine.specs.Engines.{IsInOrder, literals_in}
-use Rattle.nz_engine.specs.Posed.{IsAnswer}
+use Rattle.nz_engine.specs.Engines.{literals_in}
+use Rattle.nz_engine.specs.Checking.{IsAnswer}
 use Rattle.nz_engine.proofs.Posing.{each_of}
 
 -- ---- Assertions of a level
@@ -91,15 +91,15 @@ literals_of : (o : Option Entry) (c : List Lit) → option_map (λ e. e.literals
 literals_of None c e = absurd cc
 literals_of (Some x) c e = cc
 
-pub derived : {E : Type 0} → DerivationsGrow → (ns : List Node) (levels : List (List ℕ)) (log : LogState) (id : ℕ) (r : Result (Vec own.Step Global) E) → IsInOrder ns levels log
+pub derived : {E : Type 0} → DerivationsGrow → (ns : List Node) (levels : List (List ℕ)) (log : LogState) (id : ℕ) (r : Result (Vec own.Step Global) E) → IsTable ns → IsLog ns levels log
     → IfOk r (λ steps. AreStepsOf log id steps.items)
     → IfOk r (λ steps. (c : List Lit) → literals_in log id ≡ Some c → Derives (asserted_terms ns levels) (map (step_of ns) steps.items) (clause_in ns c))
-derived grow ns levels log id (Ok steps) order h =
+derived grow ns levels log id (Ok steps) table order h =
     λ c e.
     let same : literals_at log id ≡ c = literals_of (entry_at log id) c e in
     derived_from_all grow ns levels (level_at log id) (map (step_of ns) steps.items) (clause_in ns c)
-    (subst (λ d. Derives (live_terms ns levels (level_at log id)) (map (step_of ns) steps.items) (clause_in ns d)) same (h ns levels order.table order.order))
-derived grow ns levels log id (Err x) order h = tt
+    (subst (λ d. Derives (live_terms ns levels (level_at log id)) (map (step_of ns) steps.items) (clause_in ns d)) same (h ns levels table order))
+derived grow ns levels log id (Err x) table order h = tt
 
 -- a clause that refutes assumed literals is one of their negations
 negations : (assumed : List Lit) (o : Option Entry) → IsSome o → Refutes assumed (elim o [ None ↦ [] | Some e ↦ e.literals ]) → AreNegations assumed (option_map (λ e. e.literals) o)

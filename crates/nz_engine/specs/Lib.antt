@@ -1,4 +1,4 @@
-pub mod Clausal
+pub mod Checking
 pub mod Engines
 pub mod Levels
-pub mod Posed
+pub mod Preparing

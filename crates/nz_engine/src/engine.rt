@@ -2,25 +2,27 @@
 ghost use Rattle.std.specs.Prelude.{◌≡◌, IfOk};
 ghost use Rattle.nz_engine.specs.Engines.{empty_engine};
 
+use crate::check::{Found, cut_kept, decide, lowered};
 use crate::levels::Levels;
-use crate::problem::{Found, decide};
+use crate::prepared::Prepared;
 use nz_base::{Memory, Work};
-use nz_log::{ClauseId, Decide, Lit, Log, Note, Step, Stop, Verdict};
+use nz_log::laws::logs_stay;
+use nz_log::{ClauseId, Decide, Lit, Note, Step, Stop, Verdict};
 use nz_spec::derivation::derivations_grow;
 use nz_term::{TermId, Terms};
 use std::alloc::Global;
 use std::marker::Model;
 use std::snapshot::Snapshot;
 
-/// A search that decides checks. Each check makes the clauses of all that is asserted anew.
+/// A search that decides checks. What it made for one check it keeps for the next, as far as what is asserted still is; a check that ends with no
+/// answer drops it.
 #[derive(Drop)]
 pub struct Engine {
     alloc: Global,
     levels: Levels,
     // The table of the last check.
     seen: Option<Snapshot<Terms>>,
-    // The clauses of the last check, while what it asserted stands.
-    log: Option<Log>,
+    prepared: Option<Prepared>,
 }
 
 impl Model for Engine {
@@ -28,9 +30,9 @@ impl Model for Engine {
 
     ghost Value = { EngineState };
 
-    ghost view = { λ e. record { levels = e.levels; table = table_of e.seen; log = log_of e.log } };
+    ghost view = { λ e. record { levels = e.levels; table = table_of e.seen; log = log_of e.prepared } };
 
-    ghost invariant = { λ e. IsKept (table_of e.seen) e.levels e.log };
+    ghost invariant = { λ e. IsKept (table_of e.seen) e.levels e.prepared };
 }
 
 impl Engine {
@@ -42,7 +44,7 @@ impl Engine {
             alloc,
             levels: Levels::new(alloc),
             seen: None,
-            log: None,
+            prepared: None,
         })
     }
 }
@@ -57,17 +59,19 @@ impl Decide for Engine {
     ghost clause = { clause_at };
 
     fn push(&mut self) -> Result<(), Memory> {
-        self.log = None;
+        logs_stay();
+        self.prepared = lowered(self.prepared.take(), &self.levels);
         self.levels.push()
     }
 
     fn pop(&mut self, count: usize) {
-        self.log = None;
         self.levels.pop(count);
+        self.prepared = cut_kept(self.prepared.take(), &self.levels);
     }
 
     fn add(&mut self, term: TermId) -> Result<(), Memory> {
-        self.log = None;
+        logs_stay();
+        self.prepared = lowered(self.prepared.take(), &self.levels);
         self.levels.add(term)
     }
 
@@ -77,17 +81,26 @@ impl Decide for Engine {
         assumed: &[Lit],
         work: &mut Work<Note>,
     ) -> Result<Verdict, Stop> {
-        self.log = None;
+        let kept = self.prepared.take();
         self.seen = Some(Snapshot::of(terms));
-        let Found { verdict, log } = decide(self.alloc, &self.levels, terms, assumed, work)?;
-        self.log = Some(log);
+        let Found { verdict, prepared } = decide(
+            self.alloc,
+            kept,
+            &self.levels,
+            terms,
+            assumed,
+            work,
+        )?;
+        self.prepared = Some(prepared);
         Ok(verdict)
     }
 
     fn steps(&self, id: ClauseId) -> Result<Vec<Step>, Memory> {
         derivations_grow();
         // A clause that can be asked for is of a log.
-        let Some(log) = &self.log else { unreachable!() };
-        log.steps(id)
+        let Some(prepared) = &self.prepared else {
+            unreachable!()
+        };
+        prepared.steps(id)
     }
 }

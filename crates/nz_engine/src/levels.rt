@@ -1,12 +1,19 @@
 //! The asserted terms by level.
-ghost use Rattle.std.specs.Prelude.{◌≡◌, ◌-◌, ◌<◌, ◌≤◌, [], ◌∷◌, ◌++◌, length, take, IfOk, OnOk, OnErr};
-ghost use Rattle.nz_spec.specs.Decide.{asserted_numbers, with_number};
-ghost use Rattle.nz_engine.specs.Levels.{numbers_by_level};
+ghost use Rattle.std.specs.Prelude.{◌≡◌, ◌-◌, ◌<◌, ◌≤◌, [], ◌∷◌, ◌++◌, length, min, take, None, IfSome, OnOk, OnErr};
+ghost use Rattle.nz_spec.specs.Decide.{with_number};
+ghost use Rattle.nz_engine.specs.Levels.{IsPlaced, count_of, numbers_by_level};
 
 use nz_base::Memory;
 use nz_term::TermId;
 use std::alloc::Global;
 use std::marker::Model;
+
+/// An assertion: its term, and the number of its level.
+#[derive(Clone, Copy, Debug, PartialEq, Eq)]
+pub struct Placed {
+    pub term: TermId,
+    pub level: usize,
+}
 
 /// The numbers of the asserted terms by level, the oldest level first.
 #[derive(Debug, Drop)]
@@ -41,11 +48,19 @@ impl Levels {
         self.levels.len()
     }
 
-    /// The assertions, in the order of the levels.
-    pub fn all(&self, alloc: Global) -> Result<Vec<TermId>, Memory>
-        ensures all { IfOk result (λ ids. ids.items ≡ asserted_numbers self.now) }
+    /// The assertion of this place, in the order of the levels.
+    pub fn at(&self, place: usize) -> Option<Placed>
+        ensures placed { IfSome result (λ p. IsPlaced self.now place p.term p.level) }
+        ensures none { result ≡ None → count_of self.now ≤ place }
     {
-        all_numbers(alloc, &self.levels)
+        placed_in(&self.levels, place)
+    }
+
+    /// How many assertions there are, but at most this count.
+    pub fn count_up_to(&self, most: usize) -> usize
+        ensures count { result ≡ min most (count_of self.now) }
+    {
+        most - left_of(&self.levels, most)
     }
 
     /// Begins a level, in which nothing is asserted yet.
@@ -86,13 +101,28 @@ impl Levels {
     }
 }
 
-/// The numbers of all levels, one after another.
-fn all_numbers(alloc: Global, levels: &[Vec<TermId>]) -> Result<Vec<TermId>, Memory>
-    ensures numbers { IfOk result (λ ids. ids.items ≡ asserted_numbers (numbers_by_level levels.now)) }
+/// The assertion of this place in these levels.
+fn placed_in(levels: &[Vec<TermId>], place: usize) -> Option<Placed>
+    ensures placed { IfSome result (λ p. IsPlaced (numbers_by_level levels.now) place p.term p.level) }
+    ensures none { result ≡ None → count_of (numbers_by_level levels.now) ≤ place }
 {
-    let mut all = Vec::new(alloc);
-    for level in levels {
-        all.extend_from_slice(level)?;
+    let mut left = place;
+    for (level, terms) in levels.iter().enumerate() {
+        match terms.get(left) {
+            Some(term) => return Some(Placed { term: *term, level }),
+            None => left -= terms.len(),
+        }
     }
-    Ok(all)
+    None
+}
+
+/// What is left of a count when one is taken off for each assertion.
+fn left_of(levels: &[Vec<TermId>], count: usize) -> usize
+    ensures left { result ≡ count - count_of (numbers_by_level levels.now) }
+{
+    let mut left = count;
+    for terms in levels {
+        left = left.saturating_sub(terms.len());
+    }
+    left
 }

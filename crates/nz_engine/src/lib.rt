@@ -1,9 +1,9 @@
 //! The engine: it decides whether asserted terms and assumed literals can all be true, by a search over their clauses.
 #![tactic(auto)]
 
-mod clauses;
+mod check;
 mod engine;
 mod levels;
-mod problem;
+mod prepared;
 
 pub use engine::Engine;

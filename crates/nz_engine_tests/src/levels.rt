@@ -1,6 +1,6 @@
 //! Checks one after another: what is asserted comes and goes, and so does what is assumed.
 
-use crate::formula::Part::{self, And, Atom, Not, Or, Xor};
+use crate::formula::Part::{self, And, Atom, Equal, Ite, Not, Or, Xor};
 use crate::trial::{Trial, Tried};
 use std::alloc::Global;
 use std::test::Fail;
@@ -74,4 +74,59 @@ const SPENT: &[Act] = &[
 #[test]
 fn a_spent_check_leaves_the_engine_as_it_was(rt: HostRuntime) -> Result<(), Fail> {
     run(rt.alloc(), SPENT)
+}
+
+// Over six constants: what is asserted, and literals of which one of each list may be assumed together.
+const FORMULAS: &[&[Part]] = &[
+    &[Atom(0), Atom(1), Or(2)],
+    &[Atom(0), Not, Atom(2), Or(2)],
+    &[Atom(1), Not, Atom(3), Not, Or(2)],
+    &[Atom(2), Atom(3), Xor],
+    &[Atom(3), Atom(4), Atom(5), Or(3)],
+    &[Atom(0), Atom(1), Equal, Atom(4), Or(2)],
+    &[Atom(4), Not, Atom(5), Not, Or(2)],
+    &[Atom(5), Atom(0), Atom(2), Ite],
+    &[Atom(2), Not, Atom(4), Xor, Atom(1), Or(2)],
+    &[Atom(5), Not],
+    &[Atom(3), Atom(1), Atom(0), Or(2), Equal],
+    &[Atom(4), Atom(0), Xor],
+];
+
+const FIRST: &[&[Part]] = &[&[Atom(0)], &[Atom(1), Not], &[Atom(2)], &[Atom(0), Atom(1), Xor]];
+
+const SECOND: &[&[Part]] = &[&[Atom(3), Not], &[Atom(4)], &[Atom(5), Not], &[Atom(3), Atom(5), Equal]];
+
+/// The formula that a number picks.
+fn picked(formulas: &'static [&'static [Part]], number: u32) -> &'static [Part] {
+    formulas
+        .get(number as usize)
+        .copied()
+        .unwrap_or(&[Atom(0), Atom(3), Or(2)])
+}
+
+/// Does what a number says: begins a level or ends one, asserts a formula, or asks.
+fn do_by(trial: &mut Trial, place: usize, number: u32) -> Result<(), Fail> {
+    let formula = picked(FORMULAS, (number >> 8) % 16);
+    let first = picked(FIRST, (number >> 12) % 4);
+    let second = picked(SECOND, (number >> 14) % 4);
+    match number >> 29 {
+        0 => trial.push()?,
+        1 => trial.pop(),
+        2 | 3 => trial.assert(formula)?,
+        4 => trial.compare(place, &[first])?,
+        5 => trial.compare(place, &[first, second])?,
+        _ => trial.compare(place, &[])?,
+    }
+    Ok(())
+}
+
+#[test]
+fn an_engine_answers_as_one_that_is_new(rt: HostRuntime) -> Result<(), Fail> {
+    let mut trial = Trial::new(rt.alloc(), 6)?;
+    let mut number: u32 = 1;
+    for place in 0..150 {
+        number = number.wrapping_mul(1_664_525).wrapping_add(1_013_904_223);
+        do_by(&mut trial, place, number)?;
+    }
+    Ok(())
 }

@@ -121,6 +121,16 @@ impl Trial {
         Ok(())
     }
 
+    /// Asks so with enough units, and fails where an engine that was asked nothing before answers otherwise.
+    pub fn compare(&mut self, place: usize, assumed: &[&'static [Part]]) -> Result<(), Fail> {
+        let mut fresh = Trial::new(self.alloc, self.constants)?;
+        for asserted in &self.asserted {
+            fresh.assert(&asserted.formula)?;
+        }
+        let wanted = fresh.ask(assumed, 1000)?;
+        self.expect(place, assumed, 1000, wanted)
+    }
+
     /// Whether these values make each asserted and each assumed formula true.
     fn is_model(&mut self, assumed: &[&'static [Part]], values: &Assign) -> Result<bool, Memory> {
         let truths = self.bench.truths(values, self.constants)?;

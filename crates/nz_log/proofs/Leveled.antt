@@ -1,6 +1,6 @@
 -- The level of a clause stays at or above those told of the terms that it names.
-use Rattle.std.proofs.Common.{◌≡◌, ◌≢◌, inl, inr, ℕ, ◌≤◌, max, List, [], ◌∷◌, length, Option, Some, None, refl, sym, ap, subst, ◌∙◌, arith}
-use Rattle.std.specs.Prelude.{All, Contains, IsSome, IsSomeAnd, fold, slice_get, slice_index_or, unwrap_or, nat_le, if◌then◌else◌}
+use Rattle.std.proofs.Common.{◌≡◌, inl, inr, ℕ, ◌≤◌, max, List, [], ◌∷◌, Option, Some, None, refl, sym, ap, subst, ◌∙◌, arith}
+use Rattle.std.specs.Prelude.{Contains, IsSome, IsSomeAnd, slice_get, slice_index_or, unwrap_or, if◌then◌else◌}
 use Rattle.std.specs.List.{AllByRecursion}
 use Rattle.std.proofs.lemmas.Bool.{le-leb}
 use Rattle.std.proofs.lemmas.Bool.Decides.{eqb_tells}
@@ -9,7 +9,7 @@ use Rattle.nz_log.specs.declared.lits.Lit.{Lit}
 use Rattle.nz_log.specs.declared.origins.Link.{Link}
 use Rattle.nz_log.specs.Lits.{yes, lit_resolvent}
 use Rattle.nz_log.specs.Leveled.{AreTold, IsLeveled, IsToldWithin, LogsStayLeveled}
-use Rattle.nz_log.specs.Logs.{Entry, LogState, entry_at, IsLive, literals_at, level_with, told_of, told_level, told_below, lowest, chained, Puts, Drops}
+use Rattle.nz_log.specs.Logs.{Entry, LogState, entry_at, literals_at, level_with, told_of, told_level, told_below, lowest, chained, Puts}
 use Rattle.nz_log.proofs.Dropping.{kept_is}
 use Rattle.nz_log.proofs.Members.{each-resolvent}
 

@@ -3,6 +3,7 @@ pub mod Dropping
 pub mod Entries
 pub mod Gathering
 pub mod GatesInOrder
+pub mod Growing
 pub mod Leveled
 pub mod MarkedSets
 pub mod Marking

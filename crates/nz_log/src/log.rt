@@ -8,6 +8,7 @@ ghost use Rattle.nz_log.specs.Marked.{AreNone};
 ghost use Rattle.nz_log.specs.Sound.{IsLog, live_at};
 ghost use Rattle.nz_log.specs.Spelling.{AreStepsOf};
 ghost use Rattle.nz_log.specs.Stored.{entry_of, origin_of};
+ghost use Rattle.nz_log.specs.Theories.{Grows};
 
 use crate::gates::gate_literals;
 use crate::lits::Lit;
@@ -256,6 +257,7 @@ impl Log {
         requires some { 0 < length links.now }
         ensures made { IfOk result (λ id. Puts self.old id (chain_entry self.old first links.now) self.new) }
         ensures unchanged { OnErr result (self.new ≡ self.old) }
+        ensures grows { Grows self.old self.new }
         // Where each literal is of the table, the log stays in order.
         ensures sound { (ns : List Node) (levels : List (List ℕ)) → All (λ k. k.literal.term < length ns) links.now → IsLog ns levels self.old → IsLog ns levels self.new }
     {

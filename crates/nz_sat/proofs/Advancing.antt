@@ -1,6 +1,6 @@
 -- What the steps of a search keep, one after another.
-use Rattle.std.proofs.Common.{ℕ, List, [], ◌++◌, get_or, Option, Some, None, refl, sym, ap, ◌∙◌, append_assoc}
-use Rattle.std.specs.Prelude.{All}
+use Rattle.std.proofs.Common.{ℕ, List, [], ◌++◌, get_or, Option, Some, None, refl, sym, ap, subst, ◌∙◌, append_assoc}
+use Rattle.std.specs.Prelude.{All, IsSome}
 use Rattle.std.proofs.lemmas.List.{append-nil}
 use Rattle.nz_spec.specs.Table.{Node}
 use Rattle.nz_spec.specs.Work.{WorkList}
@@ -17,7 +17,14 @@ use Rattle.nz_sat.specs.Searching.{Advances, StaysInOrder}
 -- ---- Logs that grow
 
 pub grows_none : (log : LogState) → Grows log log
-grows_none log = record { live = λ i h. h; kept = λ i h. refl; told = refl }
+grows_none log =
+    record {
+      live = λ i h. h;
+      kept = λ i h. refl;
+      told = refl;
+      gates = λ i e t j at origin. subst (λ o. IsSome o) (sym at) refl;
+      leveled = λ h. h;
+    }
 
 pub grows_far : (a b c : LogState) → Grows a b → Grows b c → Grows a c
 grows_far a b c g h =
@@ -25,6 +32,8 @@ grows_far a b c g h =
       live = λ i l. h.live i (g.live i l);
       kept = λ i l. h.kept i (g.live i l) ∙ g.kept i l;
       told = h.told ∙ g.told;
+      gates = λ i e t j at origin. g.gates i e t j (sym (h.kept i (h.gates i e t j at origin)) ∙ at) origin;
+      leveled = λ l. h.leveled (g.leveled l);
     }
 
 -- clauses that are held still are

@@ -5,7 +5,7 @@ use Rattle.nz_term.specs.Heads.{head_of}
 use Rattle.nz_cform.specs.Forms.{covered_at}
 use Rattle.nz_cform.proofs.Listing.{grows_more, has_some}
 use Rattle.nz_cform.proofs.Sizes.{less_gone, less_opened, total}
-use Rattle.nz_cform.proofs.Underway.{IsUnderway, cover_on, skip, sound_on, start_underway}
+use Rattle.nz_cform.proofs.Underway.{IsUnderway, cover_on, no_parts, parts_on, skip, sound_on, start_underway}
 use Rattle.nz_cform.proofs.form.ClauseForm.add_term.Goals as goal
 
 pub loop-term-init : goal.loop-term-init
@@ -26,6 +26,12 @@ returns-in_err-cover-clause-sound c =
     sound_on c.args.terms.now c.args.id c.args.level c.args.log.now c.args.self.now c.loop-term.log c.loop-term.self c.loop-term.clauses.items
     c.pop.new.self.items c.in-Some.term (subst P c.in-Some.ensures.items c.loop-term.invariant) c.gates_are_true.ensures.plain c.cover.new.log c.cover.ensures.sound
 
+pub returns-in_err-cover-clause-made_of : goal.returns-in_err-cover-clause-made_of
+returns-in_err-cover-clause-made_of c =
+    let P = IsUnderway c.args.terms.now c.args.id c.args.level c.args.log.now c.args.self.now c.loop-term.log c.loop-term.self c.loop-term.clauses.items in
+    parts_on c.args.terms.now c.args.id c.args.level c.args.log.now c.args.self.now c.loop-term.log c.loop-term.self c.loop-term.clauses.items
+    c.pop.new.self.items c.in-Some.term (subst P c.in-Some.ensures.items c.loop-term.invariant) c.cover.new.self c.cover.ensures.only
+
 pub loop-term-smaller-in-Continue-branch-3 : goal.loop-term-smaller-in-Continue-branch-3
 loop-term-smaller-in-Continue-branch-3 c =
     let term = term_in c.args.terms.now in
@@ -44,7 +50,7 @@ loop-term-preserved-in-Continue-branch-3 c =
     (cover_on ns c.args.id c.args.level c.args.log.now c.args.self.now c.loop-term.log c.loop-term.self c.loop-term.clauses.items
     c.pop.new.self.items c.in-Some.term (subst P c.in-Some.ensures.items c.loop-term.invariant) c.gates_are_true.ensures.plain c.cover.new.log did.sound
     c.cover.new.self c.cover.new.clauses.items did.taken did.grown did.kept did.gates did.added did.told
-    (head_of c.node-node.result.now.head) c.node-node.result.now.kids (ap (λ o. elim o [ None ↦ [] | Some n ↦ n.kids ]) c.node-node.ensures.node) c.node-node.ensures.term c.node-node.ensures.before)
+    (head_of c.node-node.result.now.head) c.node-node.result.now.kids (ap (λ o. elim o [ None ↦ [] | Some n ↦ n.kids ]) c.node-node.ensures.node) c.node-node.ensures.term c.node-node.ensures.before did.only)
 
 pub returns-in_err-extend_from_slice-clause-grown : goal.returns-in_err-extend_from_slice-clause-grown
 returns-in_err-extend_from_slice-clause-grown c =
@@ -55,6 +61,15 @@ returns-in_err-extend_from_slice-clause-sound c =
     let P = IsUnderway c.args.terms.now c.args.id c.args.level c.args.log.now c.args.self.now c.loop-term.log c.loop-term.self c.loop-term.clauses.items in
     sound_on c.args.terms.now c.args.id c.args.level c.args.log.now c.args.self.now c.loop-term.log c.loop-term.self c.loop-term.clauses.items
     c.pop.new.self.items c.in-Some.term (subst P c.in-Some.ensures.items c.loop-term.invariant) c.gates_are_true.ensures.plain c.cover.new.log c.cover.ensures.sound
+
+pub returns-in_err-extend_from_slice-clause-made_of : goal.returns-in_err-extend_from_slice-clause-made_of
+returns-in_err-extend_from_slice-clause-made_of c =
+    let P = IsUnderway c.args.terms.now c.args.id c.args.level c.args.log.now c.args.self.now c.loop-term.log c.loop-term.self c.loop-term.clauses.items in
+    parts_on c.args.terms.now c.args.id c.args.level c.args.log.now c.args.self.now c.loop-term.log c.loop-term.self c.loop-term.clauses.items
+    c.pop.new.self.items c.in-Some.term (subst P c.in-Some.ensures.items c.loop-term.invariant) c.cover.new.self c.cover.ensures.only
+
+pub returns-in_err-push-clause-made_of : goal.returns-in_err-push-clause-made_of
+returns-in_err-push-clause-made_of c = no_parts c.args.terms.now c.args.id c.args.self.now
 
 -- ---- A term that is covered
 

@@ -1,7 +1,25 @@
 -- The level is told, the term is listed, and then its gates are put.
+use Rattle.std.proofs.Common.{◌≡◌, inl, inr, ℕ, Some, None, sym, ◌∙◌}
+use Rattle.std.specs.Prelude.{IsSome}
 use Rattle.std.proofs.lemmas.Result.{on_ok_weaker}
+use Rattle.nz_cform.specs.Forms.{FormState, Takes, covered_at}
 use Rattle.nz_cform.proofs.Covering.{all_gates, same_added, told_and_listed, told_within}
+use Rattle.nz_cform.proofs.Listing.{has_some, same_or_other}
 use Rattle.nz_cform.proofs.form.ClauseForm.cover.Goals as goal
+
+-- one term more is covered, or none
+alone : (s r : FormState) (t level : ℕ) → Takes s t level r → (u : ℕ) → covered_at s u ≡ None → IsSome (covered_at r u) → u ≡ t
+alone s r t level takes u none some =
+    elim (same_or_other u t) [
+      | inl same ↦ same
+      | inr other ↦ 
+          let n = has_some (covered_at r u) some in
+          let both : None ≡ Some n.0 = sym (takes.others u other ∙ none) ∙ n.1 in
+          cc
+    ]
+
+pub returns-clause-only : goal.returns-clause-only
+returns-clause-only c = alone c.args.self.now c.list.new.self c.args.term c.args.level c.in_ok-list.ensures.taken
 
 pub returns-in_err-list-clause-sound : goal.returns-in_err-list-clause-sound
 returns-in_err-list-clause-sound c levels boolean order = c.in_ok-place.ensures.sound c.args.terms.now levels order

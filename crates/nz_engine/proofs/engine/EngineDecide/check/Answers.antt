@@ -10,4 +10,4 @@ returns-clause-unsat c =
     let ns = c.args.terms.now in
     let found = c.in_ok-verdict.field-0 in
     subst (λ (e : EngineState). OnUnsat found.verdict (IsDeadEnd (task_in ns e.levels c.args.assumed.now) at_first)) c.self.view_is
-    (unsat_of ns c.self.inside.levels c.args.assumed.now found.log found.verdict c.in_ok-verdict.ensures.answer)
+    (unsat_of ns c.self.inside.levels c.args.assumed.now found.prepared.log found.verdict c.in_ok-verdict.ensures.answer)

@@ -4,7 +4,7 @@ use Rattle.nz_spec.specs.Steps.{Derives}
 use Rattle.nz_log.specs.declared.lits.Lit.{Lit}
 use Rattle.nz_log.specs.Lits.{clause_in}
 use Rattle.nz_log.specs.Spelling.{step_of}
-use Rattle.nz_engine.specs.Engines.{EngineState, IsInOrder, IsKept, clause_at, log_of, table_of}
+use Rattle.nz_engine.specs.Engines.{EngineState, IsKept, IsReadied, clause_at, log_of, table_of}
 use Rattle.nz_engine.proofs.Refuting.{derived}
 use Rattle.nz_engine.proofs.engine.EngineDecide.steps.Goals as goal
 
@@ -12,11 +12,11 @@ pub returns : goal.returns
 returns c =
     let levels = c.self.inside.levels in
     let table = table_of c.self.inside.seen in
-    let log = c.in-Some.log in
-    let kept : c.self.inside.log ≡ Some log = search rules in
-    let order : IsInOrder table levels log = subst (IsKept table levels) kept c.self.invariant in
-    let all = derived c.derivations_grow.ensures.grow table levels log c.args.id c.steps.result order c.steps.ensures.derives in
-    let own : EngineState = record { levels = levels; table = table; log = log } in
+    let prepared = c.in-Some.prepared in
+    let kept : c.self.inside.prepared ≡ Some prepared = search rules in
+    let ready : IsReadied table levels prepared = subst (IsKept table levels) kept c.self.invariant in
+    let all = derived c.derivations_grow.ensures.grow table levels prepared.log c.args.id c.steps.result ready.table ready.standing.raised.order c.steps.ensures.derives in
+    let own : EngineState = record { levels = levels; table = table; log = prepared.log } in
     let same : own ≡ c.args.self.now = ap (λ o. let e : EngineState = record { levels = levels; table = table; log = log_of o } in e) (sym kept) ∙ c.self.view_is in
     record {
       derives = subst (λ (e : EngineState). IfOk c.steps.result (λ steps. (d : List Lit) → clause_at e c.args.id ≡ Some d → Derives (asserted_terms e.table e.levels) (map (step_of e.table) steps.items) (clause_in e.table d))) same all;

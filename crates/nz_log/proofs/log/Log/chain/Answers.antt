@@ -3,6 +3,8 @@ use Rattle.std.proofs.Common.{◌≡◌, ℕ, ◌<◌, ◌≤◌, List, length, 
 use Rattle.std.specs.Prelude.{IfOk, OnErr}
 use Rattle.nz_log.specs.declared.origins.Link.{Link}
 use Rattle.nz_log.specs.Logs.{LogState, chain_entry, chain_of, level_at, level_of_links, level_with, IsLive, Puts, RestsOn}
+use Rattle.nz_log.specs.Theories.{Grows}
+use Rattle.nz_log.proofs.Growing.{grows_by_chain}
 use Rattle.nz_log.proofs.Members.{each_of}
 use Rattle.nz_log.proofs.Ordering.{chain_rests}
 use Rattle.nz_log.proofs.Soundness.{chain_in_order, level_grows, rule_in_order}
@@ -19,6 +21,9 @@ returns-clause-sound c ns levels within order =
     (λ id above. chain_in_order ns levels s order id c.args.first ks above c.requires.first
     (each_of (λ (k : Link). IsLive s k.clause) ks c.requires.live) (each_of (λ (k : Link). k.literal.term < length ns) ks within))
     order
+
+pub returns-clause-grows : goal.returns-clause-grows
+returns-clause-grows c = ?
 
 pub put-requires : goal.put-requires
 put-requires c =

@@ -1,0 +1,66 @@
+-- What the engine keeps, as levels change, and what a check answers.
+use Rattle.std.proofs.Common.{◌≡◌, ℕ, suc, ◌≤◌, List, [], ◌∷◌, ◌++◌, length, take, drop, inl, inr, Option, Some, None, Result, Ok, Err, OnOk, OnErr, sym, ap, subst, ◌∙◌, arith}
+use Rattle.std.proofs.lemmas.List.{length-take, take-append-drop, take-append-le, take_all}
+use Rattle.nz_spec.specs.Table.{Node, TermStays}
+use Rattle.nz_spec.specs.Decide.{IsFrontOfTable}
+use Rattle.nz_log.specs.Leveled.{LogsStayLeveled}
+use Rattle.nz_log.specs.Sound.{LogsStay}
+use Rattle.nz_cform.specs.Laws.{CoversStay}
+use Rattle.nz_engine.specs.Engines.{IsKept, IsLow, IsReadied, IsSettled}
+use Rattle.nz_engine.specs.Levels.{count_of}
+use Rattle.nz_engine.specs.Preparing.{PreparedState, CutsTo, IsPrepared}
+use Rattle.nz_engine.proofs.Going.{cut_prepared, goes_on, grown, standing}
+use Rattle.nz_engine.proofs.Placing.{GoOn, lower_or_not}
+
+-- the levels below one, of those with one above them
+front_of : (levels : List (List ℕ)) (more : List ℕ) (n : ℕ) → n ≤ length levels → take n (levels ++ more ∷ []) ≡ take n levels
+front_of levels more n few = take-append-le n levels (more ∷ []) few
+
+take_length : (n : ℕ) (xs ys : List (List ℕ)) → take n xs ≡ ys → length ys ≡ n → n ≤ length xs
+take_length n xs ys e long = let all = ap length (sym e) ∙ length-take n xs in omega (arith, all, long)
+
+-- what is cut to the last of the first levels
+pub settled : CoversStay → LogsStayLeveled → (ns : List Node) (old levels : List (List ℕ)) (p q : PreparedState) (last : ℕ) → take (length levels) old ≡ levels → suc last ≡ length levels
+    → CutsTo p last (count_of levels) q → IsReadied ns old p → IsSettled ns levels q
+settled covers leveled ns old levels p q last front end cuts r =
+    let same : take (suc last) old ≡ levels = ap (λ n. take n old) end ∙ front in
+    let few : suc last ≤ length old = take_length (suc last) old levels same (sym end) in
+    let own : CutsTo p last (count_of (take (suc last) old)) q = subst (λ ls. CutsTo p last (count_of ls) q) (sym same) cuts in
+    let cut = cut_prepared ns old (old ++ r.more ∷ []) p q last own r.standing.raised covers leveled in
+    record {
+      table = r.table;
+      prepared = subst (λ ls. IsPrepared ns ls ls q) same (subst (λ ls. IsPrepared ns (take (suc last) old) ls q) (front_of old r.more (suc last) few) cut);
+    }
+
+-- what has nothing above may have something
+pub kept_low : (ns : List Node) (levels : List (List ℕ)) (o : Option PreparedState) → IsLow ns levels o → IsKept ns levels o
+kept_low ns levels None h = tt
+kept_low ns levels (Some p) h = record { table = h.table; more = []; standing = standing ns levels [] p h.prepared }
+
+-- and so it is when the levels go on
+pub kept_on : LogsStay → (ns : List Node) (old new : List (List ℕ)) (o : Option PreparedState) → GoOn old new → IsLow ns old o → IsKept ns new o
+kept_on stay ns old new None on h = tt
+kept_on stay ns old new (Some p) on h =
+    kept_low ns new (Some p) (record { table = h.table; prepared = goes_on ns old new p on h.prepared stay })
+
+-- what is settled over a front of a table is so over the table
+pub prepared_over : TermStays → LogsStay → CoversStay → (front ns : List Node) (levels : List (List ℕ)) (p : PreparedState) → IsFrontOfTable front ns → IsSettled front levels p
+    → IsPrepared ns levels levels p
+prepared_over terms stay covers front ns levels p is h =
+    let joined : front ++ drop (length front) ns ≡ ns = ap (λ xs. xs ++ drop (length front) ns) (sym is) ∙ take-append-drop (length front) ns in
+    subst (λ xs. IsPrepared xs levels levels p) joined (grown terms stay covers front (drop (length front) ns) levels levels p h.table h.prepared)
+
+-- and after a call that makes the levels go on, or leaves them
+pub kept_either : {X E : Type 0} (r : Result X E) → LogsStay → (ns : List Node) (old on new : List (List ℕ)) (o : Option PreparedState) → GoOn old on → OnOk r (new ≡ on)
+    → OnErr r (new ≡ old) → IsLow ns old o → IsKept ns new o
+kept_either (Ok x) stay ns old on new o goes ok err h = subst (λ ls. IsKept ns ls o) (sym ok) (kept_on stay ns old on o goes h)
+kept_either (Err e) stay ns old on new o goes ok err h = subst (λ ls. IsKept ns ls o) (sym err) (kept_low ns old o h)
+
+-- the first levels are as many as they are
+pub take_again : (n : ℕ) (levels new : List (List ℕ)) → new ≡ take n levels → take (length new) levels ≡ new
+take_again n levels new is =
+    let long = ap length is ∙ length-take n levels in
+    elim (lower_or_not n (length levels)) [
+      | inl below ↦ ap (λ k. take k levels) (omega (arith, long, below)) ∙ sym is
+      | inr past ↦ take_all (length new) levels (omega (arith, long, past)) ∙ sym (take_all n levels past) ∙ sym is
+    ]

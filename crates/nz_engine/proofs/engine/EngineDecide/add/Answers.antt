@@ -1,0 +1,14 @@
+use Rattle.std.proofs.Common.{◌<◌, length, sym, subst}
+use Rattle.nz_engine.specs.Engines.{EngineState, IsKept, table_of}
+use Rattle.nz_engine.proofs.Answering.{kept_either}
+use Rattle.nz_engine.proofs.Placing.{number_goes_on}
+use Rattle.nz_engine.proofs.engine.EngineDecide.add.Goals as goal
+
+pub invariant_of-self : goal.invariant_of-self
+invariant_of-self c =
+    let ns = table_of c.self.inside.seen in
+    let levels = c.self.inside.levels in
+    let stay = c.logs_stay.ensures.stay in
+    let some : 0 < length levels = subst (λ (e : EngineState). 0 < length e.levels) (sym c.self.view_is) c.requires in
+    kept_either c.add.result stay ns levels _ c.add.new.self c.lowered.result (number_goes_on stay levels c.args.term some) c.add.ensures.ok c.add.ensures.err
+    (c.lowered.ensures.low ns (subst (IsKept ns levels) (sym c.take.ensures.value) c.self.invariant))

@@ -1,0 +1,57 @@
+use Rattle.std.proofs.Common.{◌<◌, ◌≤◌, false, length, get_or, take, refl, sym, ◌∙◌, subst, arith}
+use Rattle.std.specs.Prelude.{All, IsSome}
+use Rattle.std.proofs.lemmas.List.{take_all, take_more}
+use Rattle.std.proofs.lemmas.List.Elements.{All-push, All-weaker, Contains-get_or}
+use Rattle.nz_spec.specs.Gates.{IsGated}
+use Rattle.nz_spec.specs.Table.{term_in}
+use Rattle.nz_log.specs.declared.lits.Lit.{Lit}
+use Rattle.nz_cform.specs.Forms.{covered_at}
+use Rattle.nz_engine.specs.Checking.{AreCovered, terms_named}
+use Rattle.nz_engine.proofs.Going.{standing}
+use Rattle.nz_engine.proofs.Posing.{all_named}
+use Rattle.nz_engine.proofs.Putting.{contains_map}
+use Rattle.nz_engine.proofs.prepared.Prepared.assume.Goals as goal
+
+pub loop-literal-init : goal.loop-literal-init
+loop-literal-init c =
+    record {
+      standing = standing c.args.terms.now c.args.levels.now (terms_named c.args.assumed.now) c.args.self.now c.requires.stands;
+      covered = λ k d below. absurd (omega (arith, below));
+      given = refl;
+    }
+
+pub assume_term-requires-clause-within : goal.assume_term-requires-clause-within
+assume_term-requires-clause-within c =
+    all_named (λ t. t < length c.args.terms.now) c.args.assumed.now c.requires.within c.loop-literal.literal-index (record { term = 0; sign = false }) c.loop-literal-test.true
+
+pub loop-literal-preserved : goal.loop-literal-preserved
+loop-literal-preserved c =
+    let ns = c.args.terms.now in
+    let assumed = c.args.assumed.now in
+    let k = c.loop-literal.literal-index in
+    let l : Lit = get_or assumed k (record { term = 0; sign = false }) in
+    let before = c.loop-literal.invariant in
+    let did = c.in_ok-assume_term.ensures in
+    let form = c.assume_term.new.self.form in
+    let P : Lit → Type 0 = λ m. IsSome (covered_at form m.term) in
+    let plain = c.gates_decide.ensures.plain (term_in ns l.term) (all_named (λ t. IsGated (term_in ns t)) assumed c.requires.gated k (record { term = 0; sign = false }) c.loop-literal-test.true) in
+    record {
+      standing = did.stands c.args.levels.now (terms_named assumed)
+          (record {
+            last = sym c.len-level.ensures.count;
+            named = contains_map (λ (m : Lit). m.term) assumed l (Contains-get_or assumed k (record { term = 0; sign = false }) c.loop-literal-test.true);
+            plain = plain;
+            all_given = c.requires.all_given ∙ sym before.given;
+            standing = before.standing;
+          });
+      covered = subst (All P) (sym (take_more assumed k (record { term = 0; sign = false }) c.loop-literal-test.true))
+          (All-push P (take k assumed) l
+          (All-weaker (λ (m : Lit). IsSome (covered_at c.loop-literal.self.form m.term)) P (λ m some. did.stays m.term some) (take k assumed) before.covered) did.covered);
+      given = did.given ∙ before.given;
+    }
+
+pub returns-clause-covered : goal.returns-clause-covered
+returns-clause-covered c =
+    let assumed = c.args.assumed.now in
+    let past : length assumed ≤ c.loop-literal.literal-index = omega (arith, c.loop-literal-test.false) in
+    subst (AreCovered c.loop-literal.self) (take_all c.loop-literal.literal-index assumed past) c.loop-literal.invariant.covered

@@ -1,0 +1,18 @@
+use Rattle.std.proofs.Common.{ℕ, true, List, OnOk, subst}
+use Rattle.std.proofs.lemmas.Result.{on_ok_weaker}
+use Rattle.nz_engine.specs.Preparing.{PreparedState, IsAssumable, IsStanding}
+use Rattle.nz_engine.proofs.Assuming.{also_from, term_assumed}
+use Rattle.nz_engine.proofs.prepared.Prepared.assume_term.Goals as goal
+
+pub returns-clause-stands : goal.returns-clause-stands
+returns-clause-stands c =
+    let ns = c.args.terms.now in
+    let t = c.args.term in
+    let own : PreparedState = record { log = c.self.inside.log; form = c.self.inside.form; sat = c.self.inside.sat; given = c.self.inside.given; above = c.self.inside.above } in
+    let P : PreparedState → Type 0 = λ s. OnOk c.cover.result ((levels : List (List ℕ)) (more : List ℕ) → IsAssumable ns levels more t c.args.level s → IsStanding ns levels more c.cover.new.self) in
+    subst P c.self.view_is
+    (on_ok_weaker c.cover.result
+    (λ also levels more a.
+    term_assumed ns levels more own c.cover.new.self t c.args.level c.gates_are_named.ensures.named c.known_table.ensures.table c.requires.within
+    (also_from ns own c.cover.new.self true t c.args.level also) c.cover.ensures.above a)
+    c.cover.ensures.covered)
