@@ -1,13 +1,15 @@
--- Logs that grow by a chain.
-use Rattle.std.proofs.Common.{◌≡◌, inl, inr, ℕ, ◌<◌, List, Some, refl, sym, ap, subst, ◌∙◌, arith}
-use Rattle.std.specs.Prelude.{All, IsSome}
+-- Logs that grow by a chain, or by nothing.
+use Rattle.std.proofs.Common.{◌≡◌, inl, inr, ℕ, ◌<◌, List, Some, Result, Ok, Err, refl, sym, ap, subst, ◌∙◌, arith}
+use Rattle.std.specs.Prelude.{All, IfOk, IsSome, OnErr}
+use Rattle.nz_base.specs.declared.errors.Memory.{Memory}
 use Rattle.std.proofs.lemmas.Bool.Decides.{eqb_tells}
 use Rattle.nz_log.specs.declared.origins.Link.{Link}
 use Rattle.nz_log.specs.Logs.{chain_of, gate_of, Entry, LogState, entry_at, IsLive, Puts, chain_entry}
 use Rattle.nz_log.specs.Theories.{Grows}
 use Rattle.nz_log.proofs.Leveled.{logs_stay_leveled}
 
-pub grows_by_chain : (old new : LogState) (id first : ℕ) (ks : List Link) → Puts old id (chain_entry old first ks) new → IsLive old first
+-- by the last of a chain of resolvents
+grows_by_chain : (old new : LogState) (id first : ℕ) (ks : List Link) → Puts old id (chain_entry old first ks) new → IsLive old first
     → All (λ (k : Link). IsLive old k.clause) ks → Grows old new
 grows_by_chain old new id first ks puts live lives =
     record {
@@ -24,3 +26,17 @@ grows_by_chain old new id first ks puts live lives =
       ];
       leveled = logs_stay_leveled.chain old new id first ks puts live lives;
     }
+
+-- by the answer of a call that puts it, or finds no memory
+pub chain_grows : (old new : LogState) (first : ℕ) (ks : List Link) (r : Result ℕ Memory) → IfOk r (λ id. Puts old id (chain_entry old first ks) new)
+    → OnErr r (new ≡ old) → IsLive old first → All (λ (k : Link). IsLive old k.clause) ks → Grows old new
+chain_grows old new first ks (Ok id) puts same live lives = grows_by_chain old new id first ks puts live lives
+chain_grows old new first ks (Err e) puts same live lives =
+    subst (Grows old) (sym same)
+    (record {
+      live = λ i h. h;
+      kept = λ i h. refl;
+      told = refl;
+      gates = λ i e t j at origin. subst (λ o. IsSome o) (sym at) refl;
+      leveled = λ h. h;
+    })

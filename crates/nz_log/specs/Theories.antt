@@ -3,7 +3,7 @@ use Rattle.std.specs.Prelude.{◌≡◌, ℕ, ◌++◌, List, map, Contains, Som
 use Rattle.nz_spec.specs.Legal.{after_lines, at_first}
 use Rattle.nz_spec.specs.Literal.{StandOnce}
 use Rattle.nz_spec.specs.Table.{Node}
-use Rattle.nz_spec.specs.Work.{WorkEntry, WorkLine, WorkList, UnitLine}
+use Rattle.nz_spec.specs.Work.{WorkEntry, WorkList, UnitLine}
 use Rattle.nz_log.specs.declared.lits.Lit.{Lit}
 use Rattle.nz_log.specs.declared.note.Note.{Note}
 use Rattle.nz_log.specs.Leveled.{IsLeveled}

@@ -3,8 +3,7 @@ use Rattle.std.proofs.Common.{◌≡◌, ℕ, ◌<◌, ◌≤◌, List, length, 
 use Rattle.std.specs.Prelude.{IfOk, OnErr}
 use Rattle.nz_log.specs.declared.origins.Link.{Link}
 use Rattle.nz_log.specs.Logs.{LogState, chain_entry, chain_of, level_at, level_of_links, level_with, IsLive, Puts, RestsOn}
-use Rattle.nz_log.specs.Theories.{Grows}
-use Rattle.nz_log.proofs.Growing.{grows_by_chain}
+use Rattle.nz_log.proofs.Growing.{chain_grows}
 use Rattle.nz_log.proofs.Members.{each_of}
 use Rattle.nz_log.proofs.Ordering.{chain_rests}
 use Rattle.nz_log.proofs.Soundness.{chain_in_order, level_grows, rule_in_order}
@@ -23,7 +22,12 @@ returns-clause-sound c ns levels within order =
     order
 
 pub returns-clause-grows : goal.returns-clause-grows
-returns-clause-grows c = ?
+returns-clause-grows c =
+    let s = c.args.self.now in
+    let ks = c.args.links.now in
+    let made : IfOk c.put.result (λ id. Puts s id (chain_entry s c.args.first ks) c.put.new.self) = search rules in
+    let unchanged : OnErr c.put.result (c.put.new.self ≡ s) = search rules in
+    chain_grows s c.put.new.self c.args.first ks c.put.result made unchanged c.requires.first c.requires.live
 
 pub put-requires : goal.put-requires
 put-requires c =
