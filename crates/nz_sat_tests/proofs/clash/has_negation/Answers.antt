@@ -1,3 +1,4 @@
+use Rattle.std.proofs.Common.{rules}
 use Rattle.nz_sat_tests.proofs.Clashing.{negation_among}
 use Rattle.nz_sat_tests.proofs.clash.has_negation.Goals as goal
 
