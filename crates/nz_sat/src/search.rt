@@ -103,7 +103,12 @@ impl Search {
 
     /// Puts what the clauses alone make true on the trail, and then each assumed literal with what the clauses make true. Answers a
     /// clause in which each literal is false or the negation of an assumed one.
-    pub(crate) fn assume_all(&mut self, log: &Log, held: &[Held], assumed: &[Lit]) -> Option<ClauseId>
+    pub(crate) fn assume_all(
+        &mut self,
+        log: &Log,
+        held: &[Held],
+        assumed: &[Lit],
+    ) -> Option<ClauseId>
         requires search { IsSearch log.now held.now self.old }
         requires none { self.old.trail.entries ≡ [] }
         requires named { All (λ l. Contains self.old.atoms l.term) assumed.now }
@@ -125,7 +130,12 @@ impl Search {
     }
 
     /// The clause of the log that refutes the assumed literals, from a dead one under no decision.
-    pub(crate) fn refute(&mut self, alloc: Global, log: &mut Log, dead: ClauseId) -> Result<ClauseId, Memory>
+    pub(crate) fn refute(
+        &mut self,
+        alloc: Global,
+        log: &mut Log,
+        dead: ClauseId,
+    ) -> Result<ClauseId, Memory>
         requires live { IsLive log.old dead }
         requires implied { EachBehind (IsImplied log.old) self.old.trail.entries }
         requires undecided { depth self.old.trail.entries ≡ 0 }

@@ -1,18 +1,16 @@
 -- A theory that knows a clause of one literal.
-use Rattle.std.proofs.Common.{◌≡◌, ℕ, ◌<◌, ◌==◌, Bool, true, false, List, [], ◌∷◌, length, get_or, refl, sym, subst, ◌∙◌, arith, eqb-true}
-use Rattle.std.specs.Prelude.{All, Contains, slice_index_or}
+use Rattle.std.proofs.Common.{◌≡◌, ℕ, ◌<◌, ◌==◌, Bool, true, false, List, [], ◌∷◌, length, get_or, refl, sym, subst, ◌∙◌, eqb-true}
+use Rattle.std.specs.Prelude.{All, Contains}
 use Rattle.std.proofs.lemmas.Bool.{and_parts}
 use Rattle.std.proofs.lemmas.List.{get_or_default}
 use Rattle.std.proofs.lemmas.List.Elements.{All-nil, All-weaker}
-use Rattle.std.proofs.lemmas.Option.{slice_get_within}
 use Rattle.nz_spec.specs.Gates.{HasBooleanArguments}
-use Rattle.nz_spec.specs.Literal.{StandOnce, are_same_sign}
+use Rattle.nz_spec.specs.Literal.{are_same_sign}
 use Rattle.nz_spec.specs.Table.{Node, term_in}
 use Rattle.nz_log.specs.declared.lits.Lit.{Lit}
 use Rattle.nz_log.specs.Lits.{are_same_lit, negated_lit}
-use Rattle.nz_log.specs.Logs.{LogState, Entry, IsLive, Puts, literals_at}
+use Rattle.nz_log.specs.Logs.{LogState, literals_at}
 use Rattle.nz_log.specs.Sound.{IsLog}
-use Rattle.nz_log.specs.Theories.{Grows, IsClash}
 use Rattle.nz_sat.specs.declared.clauses.Held.{Held}
 use Rattle.nz_sat.specs.Sats.{AreAtoms}
 use Rattle.nz_sat_tests.specs.Clashes.{Negates}
@@ -38,40 +36,7 @@ pub negation_among : (told : List Lit) (i : ℕ) (l n e : Lit) → i < length to
 negation_among told i l n e inside is same =
     record { literal = l; only = refl; among = (i, inside, get_or_default told i (negated_lit l) e inside ∙ same_lit (get_or told i e) n same ∙ is) }
 
--- ---- A clause of one literal
-
-one_once : (l : Lit) → StandOnce (l ∷ [])
-one_once l i j x p q =
-    let a = slice_get_within (l ∷ []) i x p in
-    let b = slice_get_within (l ∷ []) j x q in
-    omega (arith, a, b)
-
-only_is : (l m : Lit) → Contains (l ∷ []) m → l ≡ m
-only_is l m has =
-    let inside = has.1 in
-    let first : has.0 ≡ 0 = omega (arith, inside) in
-    subst (λ (i : ℕ). slice_index_or (l ∷ []) i m ≡ m) first has.2
-
-pub one_clash : (log : LogState) (told ls : List Lit) (id : ℕ) → told ≡ ls → IsLive log id → Negates (literals_at log id) told → IsClash log ls id
-one_clash log told ls id same live n =
-    subst (λ (xs : List Lit). IsClash log xs id) same
-    (record {
-      live = live;
-      once = subst StandOnce (sym n.only) (one_once n.literal);
-      negations = λ m has.
-          subst (λ (x : Lit). Contains told (negated_lit x)) (only_is n.literal m (subst (λ (c : List Lit). Contains c m) n.only has)) n.among;
-    })
-
-pub puts_grows : (old new : LogState) (id : ℕ) (e : Entry) → Puts old id e new → Grows old new
-puts_grows old new id e p =
-    record {
-      live = p.stay;
-      kept = λ i live. p.kept i (λ same. let less = p.above i live in absurd (omega (arith, less, same)));
-      told = p.told;
-    }
-
-pub same_grows : (old new : LogState) → new ≡ old → Grows old new
-same_grows old new same = subst (Grows old) (sym same) (record { live = λ i live. live; kept = λ i live. refl; told = refl })
+-- ---- Its gate
 
 -- the clause is of the table that the theory knows
 pub gate_sound : (terms ns : List Node) (t : ℕ) (levels : List (List ℕ)) (old new : LogState)
@@ -83,10 +48,12 @@ gate_sound terms ns t levels old new sound over order =
 
 -- ---- A search over no clause
 
-pub first_atoms : (log : LogState) (n : ℕ) (assumed : List Lit) (atoms : List ℕ) → All (λ (l : Lit). l.term < n) assumed → AreBelow n atoms → AreAtoms log [] assumed atoms
-first_atoms log n assumed atoms small below =
-    record {
+pub first_atoms : (log : LogState) (held : List Held) → held ≡ [] → (n : ℕ) (assumed : List Lit) (atoms : List ℕ) → All (λ (l : Lit). l.term < n) assumed → AreBelow n atoms
+    → AreAtoms log held assumed atoms
+first_atoms log held none n assumed atoms small below =
+    subst (λ (hs : List Held). AreAtoms log hs assumed atoms) (sym none)
+    (record {
       clauses = All-nil (λ (h : Held). All (λ (l : Lit). Contains atoms l.term) (literals_at log h.id));
       assumed_named = All-weaker (λ (l : Lit). l.term < n) (λ (l : Lit). Contains atoms l.term) (λ l less. below_has n atoms below l.term less) assumed small;
       once = below_once n atoms below;
-    }
+    })

@@ -172,7 +172,12 @@ fn add_gate(
 }
 
 /// Adds the clauses of a term of the gate table that holds no number.
-fn add_gates(log: &mut Log, sat: &mut Sat<NoNumbers>, terms: &Terms, term: TermId) -> Result<(), Memory>
+fn add_gates(
+    log: &mut Log,
+    sat: &mut Sat<NoNumbers>,
+    terms: &Terms,
+    term: TermId,
+) -> Result<(), Memory>
     requires within { term < length terms.now }
     ensures posed { (asserted : List ℕ) → IsPosed terms.now asserted log.old sat.old → IsPosed terms.now asserted log.new sat.new }
 {
@@ -187,7 +192,12 @@ fn add_gates(log: &mut Log, sat: &mut Sat<NoNumbers>, terms: &Terms, term: TermI
 }
 
 /// Adds that the term of a live assertion is true.
-fn add_assertion(log: &mut Log, sat: &mut Sat<NoNumbers>, place: usize, term: TermId) -> Result<(), Memory>
+fn add_assertion(
+    log: &mut Log,
+    sat: &mut Sat<NoNumbers>,
+    place: usize,
+    term: TermId,
+) -> Result<(), Memory>
     ensures posed { (ns : List Node) (asserted : List ℕ) → term < length ns → slice_get (live_at (asserted ∷ []) 0) place ≡ Some term → IsPosed ns asserted log.old sat.old → IsPosed ns asserted log.new sat.new }
 {
     let clause = log.given(place, term, 0)?;
