@@ -179,15 +179,21 @@ impl<E: Decide> Desk<E> {
                 said(Reply::Unsat)
             }
             Err(Stop::Spent) => {
-                let reason = Reason::UnitsSpent(self.limit);
-                self.last = Some(LastAnswer::Undecided(reason));
-                Answer {
-                    reply: Reply::Unknown(reason),
-                    cause: Cause::Spent(SpentList {
-                        limit: self.limit,
-                        work: self.work.take(),
-                    }),
-                    exits: false,
+                let list = SpentList {
+                    limit: self.limit,
+                    work: self.work.take(),
+                };
+                match Box::new(self.alloc, list) {
+                    Ok(list) => {
+                        let reason = Reason::UnitsSpent(self.limit);
+                        self.last = Some(LastAnswer::Undecided(reason));
+                        Answer {
+                            reply: Reply::Unknown(reason),
+                            cause: Cause::Spent(list),
+                            exits: false,
+                        }
+                    }
+                    Err(_) => said(Reply::Error(Error::OutOfMemory)),
                 }
             }
             Err(Stop::Memory) => said(Reply::Error(Error::OutOfMemory)),

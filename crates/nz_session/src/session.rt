@@ -15,7 +15,7 @@ use crate::desk::{Answer, Desk};
 use nz_base::{Error, Memory, Sink};
 use nz_log::Decide;
 use nz_reply::{Journal, Kept, Reply, WriteFault, kept_stay, write_reply};
-use nz_sexpr::{Heard, Limits, Reader, What};
+use nz_sexpr::{Heard, Limits, PackedHeard, Reader, What};
 use nz_spec::text::{one_reading, reading_tells_first};
 use nz_spec::transcript::transcript_grows;
 use nz_term::Terms;
@@ -43,6 +43,7 @@ pub enum Fed {
 /// A session over an engine.
 #[derive(Drop)]
 pub struct Session<E: Decide> {
+    alloc: Global,
     reader: Reader,
     desk: Desk<E>,
     kept: Vec<Kept>,
@@ -80,6 +81,7 @@ fn cut<K: Sink>(sink: &mut K) -> Fed
 
 /// Answers one thing heard: the reply is written and kept.
 fn serve<E: Decide, K: Sink>(
+    alloc: Global,
     desk: &mut Desk<E>,
     kept: &mut Vec<Kept>,
     heard: Heard,
@@ -97,9 +99,14 @@ fn serve<E: Decide, K: Sink>(
     ensures faults { K.faults sink.new ≡ counted K.last (is_sink_fault result) (K.faults sink.old) }
     ensures handed { (result ≡ Fed.SinkFault → ⊥) → K.handed sink.new ≡ K.held sink.new }
 {
+    // What is kept of it has its room before it is carried out.
     if kept.reserve(1).is_err() {
         return cut(sink);
     }
+    let packed = match PackedHeard::new(alloc, &heard) {
+        Ok(packed) => packed,
+        Err(Memory) => return cut(sink),
+    };
     let Answer {
         reply,
         cause,
@@ -107,7 +114,7 @@ fn serve<E: Decide, K: Sink>(
     } = desk.answer(&heard.what);
     let shown = show(sink, &heard.what, &reply);
     kept.push(Kept {
-        heard,
+        heard: packed,
         reply,
         cause,
     })
@@ -139,6 +146,7 @@ impl<E: Decide> Session<E> {
             bytes: BYTE_LIMIT,
         };
         Ok(Session {
+            alloc,
             reader: Reader::new(alloc, limits),
             desk: Desk::new(alloc, engine, limit)?,
             kept: Vec::new(alloc),
@@ -167,7 +175,7 @@ impl<E: Decide> Session<E> {
                 None => return Fed::Going,
                 Some(heard) => heard,
             };
-            match serve(&mut self.desk, &mut self.kept, heard, sink) {
+            match serve(self.alloc, &mut self.desk, &mut self.kept, heard, sink) {
                 Fed::Going => {}
                 Fed::Exited => return Fed::Exited,
                 Fed::SinkFault => return Fed::SinkFault,
@@ -191,7 +199,7 @@ impl<E: Decide> Session<E> {
     {
         match self.reader.finish() {
             None => Fed::Going,
-            Some(heard) => serve(&mut self.desk, &mut self.kept, heard, sink),
+            Some(heard) => serve(self.alloc, &mut self.desk, &mut self.kept, heard, sink),
         }
     }
 
@@ -200,7 +208,12 @@ impl<E: Decide> Session<E> {
         ensures kept { journal_of result.1 result.0 ≡ kept_by self }
         ensures terms { result.1 ≡ table_by self }
     {
-        let Session { reader, desk, kept } = self;
+        let Session {
+            alloc: _,
+            reader,
+            desk,
+            kept,
+        } = self;
         drop(reader);
         (Journal::from_vec(kept), desk.into_terms())
     }
