@@ -183,17 +183,15 @@ impl<E: Decide> Desk<E> {
                     limit: self.limit,
                     work: self.work.take(),
                 };
-                match Box::new(self.alloc, list) {
-                    Ok(list) => {
-                        let reason = Reason::UnitsSpent(self.limit);
-                        self.last = Some(LastAnswer::Undecided(reason));
-                        Answer {
-                            reply: Reply::Unknown(reason),
-                            cause: Cause::Spent(list),
-                            exits: false,
-                        }
-                    }
-                    Err(_) => said(Reply::Error(Error::OutOfMemory)),
+                let Ok(list) = Box::new(self.alloc, list) else {
+                    return said(Reply::Error(Error::OutOfMemory));
+                };
+                let reason = Reason::UnitsSpent(self.limit);
+                self.last = Some(LastAnswer::Undecided(reason));
+                Answer {
+                    reply: Reply::Unknown(reason),
+                    cause: Cause::Spent(list),
+                    exits: false,
                 }
             }
             Err(Stop::Memory) => said(Reply::Error(Error::OutOfMemory)),

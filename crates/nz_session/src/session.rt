@@ -1,6 +1,7 @@
 //! The session: pieces of a script in, replies out, and all of it kept.
-ghost use Rattle.std.specs.Prelude.{◌≡◌, ℕ, List, [], ◌++◌, true, false, IfOk, OnOk, OnErr, is_err, ◌⊎◌};
+ghost use Rattle.std.specs.Prelude.{◌≡◌, ◌≤◌, ◌+◌, ℕ, List, [], ◌++◌, true, false, IfOk, OnOk, OnErr, is_err, ◌⊎◌, vec_len, vec_capacity};
 ghost use Rattle.std.specs.Io.KnownBytes.{Appends};
+ghost use Rattle.nz_sexpr.specs.Packed.{packed_heard_view};
 ghost use Rattle.nz_sexpr.specs.View.{heard_view, what_view};
 ghost use Rattle.nz_spec.specs.Outside.{AddsFrontOf, counted};
 ghost use Rattle.nz_spec.specs.Error.{out_of_memory};
@@ -79,6 +80,16 @@ fn cut<K: Sink>(sink: &mut K) -> Fed
     }
 }
 
+/// Makes room for one thing more, and packs what was heard for it.
+fn room_for(alloc: Global, kept: &mut Vec<Kept>, heard: &Heard) -> Result<PackedHeard, Memory>
+    ensures packed { IfOk result (λ p. packed_heard_view p ≡ heard_view heard.now) }
+    ensures room { OnOk result (vec_len kept.new + 1 ≤ vec_capacity kept.new) }
+    ensures same { kept.new.items ≡ kept.old.items }
+{
+    kept.reserve(1)?;
+    PackedHeard::new(alloc, heard)
+}
+
 /// Answers one thing heard: the reply is written and kept.
 fn serve<E: Decide, K: Sink>(
     alloc: Global,
@@ -100,12 +111,8 @@ fn serve<E: Decide, K: Sink>(
     ensures handed { (result ≡ Fed.SinkFault → ⊥) → K.handed sink.new ≡ K.held sink.new }
 {
     // What is kept of it has its room before it is carried out.
-    if kept.reserve(1).is_err() {
+    let Ok(packed) = room_for(alloc, kept, &heard) else {
         return cut(sink);
-    }
-    let packed = match PackedHeard::new(alloc, &heard) {
-        Ok(packed) => packed,
-        Err(Memory) => return cut(sink),
     };
     let Answer {
         reply,
