@@ -1,11 +1,10 @@
 -- The bytes of a packed tree say that tree.
-use Rattle.std.proofs.Common.{◌≡◌, ℕ, ◌+◌, ◌<◌, Bool, true, false, List, [], ◌∷◌, ◌++◌, length, get_or, drop, zero, suc, refl, sym, ap, ◌∙◌, append-nil, append_assoc, drop-cons, add-one, arith}
+use Rattle.std.proofs.Common.{◌≡◌, ℕ, ◌+◌, ◌<◌, Bool, true, false, List, [], ◌∷◌, ◌++◌, length, get_or, drop, suc, refl, sym, ap, ◌∙◌, append-nil, append_assoc, drop-cons, add-one}
 use Rattle.std.specs.Prelude.{nat_lt}
 use Rattle.nz_spec.specs.Tree.{Token, symbol, keyword, numeral, decimal, hexadecimal, binary, literal, Tree, leaf, node, Trees, no_trees, trees}
 use Rattle.nz_spec.specs.Reading.{trees_from, with_trees}
 use Rattle.nz_sexpr.specs.declared.tree.Tree as code
 use Rattle.nz_sexpr.specs.Packed.{escaped_byte, escaped, packed_token, packed_tree, packed_trees, packed, Unpacking, after_byte, token_marked, unpacked_on, unpacked, whole_of}
-use Rattle.nz_sexpr.specs.Sizes.{tree_size, trees_size}
 use Rattle.nz_sexpr.specs.View.{view, seen}
 
 -- between two bytes, no escape among them
@@ -93,8 +92,6 @@ packed-next ts i t below is =
     ∙ ap (λ (u : code.Tree). packed_trees (seen (u ∷ drop (suc i) ts))) (sym is)
     ∙ ap (λ (k : ℕ). packed_tree (view t) ++ packed_trees (seen (drop k ts))) (sym (add-one i))
 
--- a tree is smaller than its list
-pub tree_smaller : (ts : List code.Tree) (i : ℕ) (t : code.Tree) → i < length ts → t ≡ get_or ts i t → tree_size (view t) < trees_size (seen ts)
-tree_smaller [] i t below is = absurd (omega (arith, below))
-tree_smaller (u ∷ us) zero t below is = omega (arith, ap (λ (x : code.Tree). tree_size (view x)) is)
-tree_smaller (u ∷ us) (suc i) t below is = let inner : tree_size (view t) < trees_size (seen us) = tree_smaller us i t (omega (arith, below)) is in omega arith
+-- one piece of the bytes more
+pub piece_more : (all done new piece rest later : List ℕ) → done ++ rest ≡ all → rest ≡ piece ++ later → new ≡ done ++ piece → new ++ later ≡ all
+piece_more all done new piece rest later so_far next is = ap (λ (l : List ℕ). l ++ later) is ∙ append_assoc done piece later ∙ ap (λ (l : List ℕ). done ++ l) (sym next) ∙ so_far
