@@ -44,7 +44,6 @@ pub enum Fed {
 /// A session over an engine.
 #[derive(Drop)]
 pub struct Session<E: Decide> {
-    alloc: Global,
     reader: Reader,
     desk: Desk<E>,
     kept: Vec<Kept>,
@@ -81,18 +80,17 @@ fn cut<K: Sink>(sink: &mut K) -> Fed
 }
 
 /// Makes room for one thing more, and packs what was heard for it.
-fn room_for(alloc: Global, kept: &mut Vec<Kept>, heard: &Heard) -> Result<PackedHeard, Memory>
+fn room_for(kept: &mut Vec<Kept>, heard: &Heard) -> Result<PackedHeard, Memory>
     ensures packed { IfOk result (λ p. packed_heard_view p ≡ heard_view heard.now) }
     ensures room { OnOk result (vec_len kept.new + 1 ≤ vec_capacity kept.new) }
     ensures same { kept.new.items ≡ kept.old.items }
 {
     kept.reserve(1)?;
-    PackedHeard::new(alloc, heard)
+    PackedHeard::new(*kept.allocator(), heard)
 }
 
 /// Answers one thing heard: the reply is written and kept.
 fn serve<E: Decide, K: Sink>(
-    alloc: Global,
     desk: &mut Desk<E>,
     kept: &mut Vec<Kept>,
     heard: Heard,
@@ -111,7 +109,7 @@ fn serve<E: Decide, K: Sink>(
     ensures handed { (result ≡ Fed.SinkFault → ⊥) → K.handed sink.new ≡ K.held sink.new }
 {
     // What is kept of it has its room before it is carried out.
-    let Ok(packed) = room_for(alloc, kept, &heard) else {
+    let Ok(packed) = room_for(kept, &heard) else {
         return cut(sink);
     };
     let Answer {
@@ -153,7 +151,6 @@ impl<E: Decide> Session<E> {
             bytes: BYTE_LIMIT,
         };
         Ok(Session {
-            alloc,
             reader: Reader::new(alloc, limits),
             desk: Desk::new(alloc, engine, limit)?,
             kept: Vec::new(alloc),
@@ -182,7 +179,7 @@ impl<E: Decide> Session<E> {
                 None => return Fed::Going,
                 Some(heard) => heard,
             };
-            match serve(self.alloc, &mut self.desk, &mut self.kept, heard, sink) {
+            match serve(&mut self.desk, &mut self.kept, heard, sink) {
                 Fed::Going => {}
                 Fed::Exited => return Fed::Exited,
                 Fed::SinkFault => return Fed::SinkFault,
@@ -206,7 +203,7 @@ impl<E: Decide> Session<E> {
     {
         match self.reader.finish() {
             None => Fed::Going,
-            Some(heard) => serve(self.alloc, &mut self.desk, &mut self.kept, heard, sink),
+            Some(heard) => serve(&mut self.desk, &mut self.kept, heard, sink),
         }
     }
 
@@ -215,12 +212,7 @@ impl<E: Decide> Session<E> {
         ensures kept { journal_of result.1 result.0 ≡ kept_by self }
         ensures terms { result.1 ≡ table_by self }
     {
-        let Session {
-            alloc: _,
-            reader,
-            desk,
-            kept,
-        } = self;
+        let Session { reader, desk, kept } = self;
         drop(reader);
         (Journal::from_vec(kept), desk.into_terms())
     }

@@ -1,10 +1,10 @@
 -- The bytes of a packed tree say that tree.
 use Rattle.std.proofs.Common.{◌≡◌, ℕ, ◌+◌, ◌<◌, Bool, true, false, List, [], ◌∷◌, ◌++◌, length, get_or, drop, suc, refl, sym, ap, ◌∙◌, append-nil, append_assoc, drop-cons, add-one}
-use Rattle.std.specs.Prelude.{nat_lt}
+use Rattle.std.specs.Prelude.{nat_lt, not, if◌then◌else◌}
 use Rattle.nz_spec.specs.Tree.{Token, symbol, keyword, numeral, decimal, hexadecimal, binary, literal, Tree, leaf, node, Trees, no_trees, trees}
 use Rattle.nz_spec.specs.Reading.{trees_from, with_trees}
 use Rattle.nz_sexpr.specs.declared.tree.Tree as code
-use Rattle.nz_sexpr.specs.Packed.{escaped_byte, escaped, packed_token, packed_tree, packed_trees, packed, Unpacking, after_byte, token_marked, unpacked_on, unpacked, whole_of}
+use Rattle.nz_sexpr.specs.Packed.{escaped_byte, escaped, packed_token, packed_tree, packed_trees, packed, Unpacking, after_byte, after_mark, unpacked_on, unpacked, whole_of}
 use Rattle.nz_sexpr.specs.View.{view, seen}
 
 -- between two bytes, no escape among them
@@ -20,7 +20,9 @@ on-append (x ∷ xs) ys u = on-append xs ys (after_byte x u)
 
 byte_by : (low : Bool) (b : ℕ) (text : List ℕ) (levels : List (List Tree)) → nat_lt b 10 ≡ low → unpacked_on (escaped_byte b) (state text levels) ≡ state (text ++ b ∷ []) levels
 byte_by true b text levels e = rw e refl
-byte_by false b text levels e = rw e refl
+byte_by false b text levels e =
+    ap (λ (low : Bool). unpacked_on (if low then 0 ∷ b ∷ [] else b ∷ []) (state text levels)) e
+    ∙ ap (λ (low : Bool). if not low then state (text ++ b ∷ []) levels else after_mark b (state text levels)) e
 
 text_read : (bs text : List ℕ) (levels : List (List Tree)) → unpacked_on (escaped bs) (state text levels) ≡ state (text ++ bs) levels
 text_read [] text levels = ap (λ (l : List ℕ). state l levels) (sym (append-nil text))

@@ -35,7 +35,7 @@ pub struct Packed {
 }
 
 impl Packed {
-    ghost use Rattle.nz_sexpr.specs.Packed.{packed_view};
+    ghost use Rattle.nz_sexpr.specs.Packed.{packed_view, unpacked};
 
     /// The tree, packed.
     ///
@@ -47,8 +47,15 @@ impl Packed {
     {
         let mut bytes = Vec::with_capacity(alloc, ROOM)?;
         pack(&mut bytes, tree)?;
-        let bytes = Text::from_slice(alloc, bytes.as_slice())?;
-        Ok(Packed { bytes })
+        let text = Text::from_slice(alloc, bytes.as_slice())?;
+        Ok(Packed { bytes: text })
+    }
+
+    /// The bytes.
+    pub fn as_bytes(&self) -> &[u8]
+        ensures tree { unpacked result.now ≡ packed_view self.now }
+    {
+        self.bytes.as_bytes()
     }
 }
 
