@@ -212,9 +212,3 @@ fn a_journal_has_what_it_was_given(rt: HostRuntime) -> Result<(), Fail> {
     assert!(rt; journal.as_slice().is_empty());
     Ok(())
 }
-
-#[test]
-fn a_sizes(rt: HostRuntime) -> Result<(), Fail> {
-    let _ = println!(rt; "Text {} Vec {} Heard {} What {} PackedHeard {} Reply {} Reason {} Error {} Bindings {} Cause {} Kept {} Spent {}", size_of::<Text>(), size_of::<Vec<u8>>(), size_of::<Heard>(), size_of::<What>(), size_of::<nz_sexpr::PackedHeard>(), size_of::<Reply>(), size_of::<Reason>(), size_of::<Error>(), size_of::<Bindings>(), size_of::<nz_reply::Cause>(), size_of::<nz_reply::Kept>(), size_of::<nz_reply::SpentList>());
-    Ok(())
-}

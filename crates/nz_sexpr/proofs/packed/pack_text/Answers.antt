@@ -3,4 +3,4 @@ use Rattle.nz_sexpr.proofs.packed.pack_text.Goals as goal
 
 pub loop-byte-preserved : goal.loop-byte-preserved
 loop-byte-preserved c =
-    piece_more _ _ _ _ _ _ c.loop-byte.invariant (escaped-next c.args.text.now c.loop-byte.byte-index c.pack_byte-arg-1.result c.loop-byte-test.true c.pack_byte-arg-1.is) c.in_ok-pack_byte.ensures.packed
+    piece_more _ _ _ _ _ _ c.loop-byte.invariant (escaped-next c.args.text.now c.loop-byte.byte-index c.byte-item.result c.loop-byte-test.true c.byte-item.is) c.in_ok-pack_byte.ensures.packed
