@@ -80,11 +80,8 @@ unpacked-packed (node ts) = ap (λ (u : Unpacking). whole_of u.levels) (trees_re
 -- ---- The loops
 
 -- the bytes of the text from a place on: of the one there, and of the others
-pub escaped-next : (bs : List ℕ) (i : ℕ) (b : ℕ) → i < length bs → b ≡ get_or bs i b → escaped (drop i bs) ≡ escaped_byte b ++ escaped (drop (i + 1) bs)
-escaped-next bs i b below is =
-    ap escaped (drop-cons bs i b below)
-    ∙ ap (λ (c : ℕ). escaped (c ∷ drop (suc i) bs)) (sym is)
-    ∙ ap (λ (k : ℕ). escaped_byte b ++ escaped (drop k bs)) (sym (add-one i))
+pub escaped-next : (bs : List ℕ) (i b : ℕ) → i < length bs → escaped (drop i bs) ≡ escaped_byte (get_or bs i b) ++ escaped (drop (i + 1) bs)
+escaped-next bs i b below = ap escaped (drop-cons bs i b below) ∙ ap (λ (k : ℕ). escaped_byte (get_or bs i b) ++ escaped (drop k bs)) (sym (add-one i))
 
 -- the same of trees
 pub packed-next : (ts : List code.Tree) (i : ℕ) (t : code.Tree) → i < length ts → t ≡ get_or ts i t

@@ -178,19 +178,21 @@ fn pack_text(bytes: &mut Vec<u8>, text: &[u8], mark: u8) -> Result<(), Memory>
     ensures packed { OnOk result (bytes.new.items ≡ bytes.old.items ++ (escaped text.now ++ mark ∷ [])) }
 {
     for byte in text {
-        pack_byte(bytes, byte)?;
+        pack_byte(bytes, *byte)?;
     }
     bytes.push(mark)?;
     Ok(())
 }
 
 /// Puts a byte of a text at the end.
-fn pack_byte(bytes: &mut Vec<u8>, byte: &u8) -> Result<(), Memory>
-    ensures packed { OnOk result (bytes.new.items ≡ bytes.old.items ++ escaped_byte byte.now) }
+fn pack_byte(bytes: &mut Vec<u8>, byte: u8) -> Result<(), Memory>
+    ensures packed { OnOk result (bytes.new.items ≡ bytes.old.items ++ escaped_byte byte) }
 {
-    if *byte < LEAST_UNMARKED {
+    if byte < LEAST_UNMARKED {
         bytes.push(ESCAPE)?;
+        bytes.push(byte)?;
+        return Ok(());
     }
-    bytes.push(*byte)?;
+    bytes.push(byte)?;
     Ok(())
 }
