@@ -14,14 +14,23 @@ use std::alloc::Global;
 const LEAST_UNMARKED: u8 = 10;
 
 const ESCAPE: u8 = 0;
+
 const OPEN: u8 = 1;
+
 const CLOSE: u8 = 2;
+
 const SYMBOL: u8 = 3;
+
 const KEYWORD: u8 = 4;
+
 const NUMERAL: u8 = 5;
+
 const DECIMAL: u8 = 6;
+
 const HEXADECIMAL: u8 = 7;
+
 const BINARY: u8 = 8;
+
 const LITERAL: u8 = 9;
 
 /// How many bytes most trees take at most.
