@@ -1,5 +1,5 @@
 //! The session: pieces of a script in, replies out, and all of it kept.
-ghost use Rattle.std.specs.Prelude.{◌≡◌, ◌≤◌, ◌+◌, ℕ, List, [], ◌++◌, true, false, IfOk, OnOk, OnErr, is_err, ◌⊎◌, vec_len, vec_capacity};
+ghost use Rattle.std.specs.Prelude.{◌≡◌, ◌≤◌, ◌+◌, ℕ, List, [], ◌++◌, true, false, IfOk, IfSome, OnOk, OnErr, is_err, ◌⊎◌, vec_len, vec_capacity};
 ghost use Rattle.std.specs.Io.KnownBytes.{Appends};
 ghost use Rattle.nz_sexpr.specs.Packed.{packed_heard_view};
 ghost use Rattle.nz_sexpr.specs.View.{heard_view, what_view};
@@ -79,14 +79,19 @@ fn cut<K: Sink>(sink: &mut K) -> Fed
     }
 }
 
-/// Makes room for one thing more, and packs what was heard for it.
-fn room_for(kept: &mut Vec<Kept>, heard: &Heard) -> Result<PackedHeard, Memory>
-    ensures packed { IfOk result (λ p. packed_heard_view p ≡ heard_view heard.now) }
-    ensures room { OnOk result (vec_len kept.new + 1 ≤ vec_capacity kept.new) }
+/// Makes room for one thing more, and packs what was heard for it; `None` where there is no memory.
+fn room_for(kept: &mut Vec<Kept>, heard: &Heard) -> Option<PackedHeard>
+    ensures packed { IfSome result (λ p. packed_heard_view p ≡ heard_view heard.now) }
+    ensures room { IfSome result (λ _. vec_len kept.new + 1 ≤ vec_capacity kept.new) }
     ensures same { kept.new.items ≡ kept.old.items }
 {
-    kept.reserve(1)?;
-    PackedHeard::new(*kept.allocator(), heard)
+    if kept.reserve(1).is_err() {
+        return None;
+    }
+    match PackedHeard::new(*kept.allocator(), heard) {
+        Ok(packed) => Some(packed),
+        Err(Memory) => None,
+    }
 }
 
 /// Answers one thing heard: the reply is written and kept.
@@ -109,8 +114,9 @@ fn serve<E: Decide, K: Sink>(
     ensures handed { (result ≡ Fed.SinkFault → ⊥) → K.handed sink.new ≡ K.held sink.new }
 {
     // What is kept of it has its room before it is carried out.
-    let Ok(packed) = room_for(kept, &heard) else {
-        return cut(sink);
+    let packed = match room_for(kept, &heard) {
+        Some(packed) => packed,
+        None => return cut(sink),
     };
     let Answer {
         reply,
