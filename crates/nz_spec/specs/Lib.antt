@@ -1,11 +1,14 @@
 pub mod Argument
 pub mod Bounds
 pub mod Command
+pub mod Computation
 pub mod Decide
 pub mod Elaboration
 pub mod Error
 pub mod Example
 pub mod Expression
+pub mod Form
+pub mod FormOf
 pub mod Fraction
 pub mod Gates
 pub mod Infinitesimal
