@@ -6,6 +6,10 @@ pub mod Decimals
 pub mod Derivations
 pub mod Divisions
 pub mod Examples
+pub mod FormNumbers
+pub mod FormSums
+pub mod FormTerms
+pub mod FormValues
 pub mod FractionArithmetic
 pub mod FractionLaws
 pub mod FractionOrder
