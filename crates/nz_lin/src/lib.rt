@@ -1,13 +1,10 @@
-// A library with one function.
+//! Linear forms: sums of units with coefficients, and a number that is added.
+//!
+//! A unit is a term whose value linear arithmetic takes as it is. [`lin`] makes the form of a term.
 #![tactic(auto)]
 
-ghost use Rattle.std.specs.Prelude.{◌≡◌};
-ghost use Rattle.nz_lin.specs.Echo.{echo_of};
+mod form;
+mod linear;
 
-// The `ensures` clause is the contract: what `echo` returns is `echo_of` of its argument, a definition
-// in `specs/Echo.antt`, which a caller's clause can cite too.
-pub fn echo(x: usize) -> usize
-    ensures { result ≡ echo_of x }
-{
-    x
-}
+pub use form::{Form, LinStop, Part};
+pub use linear::lin;
