@@ -1,12 +1,13 @@
 //! Forms, and how they are added, subtracted, negated and multiplied.
-ghost use Rattle.std.specs.Prelude.{◌≡◌, List, [], ◌∷◌, None, IfOk, IfErr, OnOk, map};
+ghost use Rattle.std.specs.Prelude.{◌≡◌, ◌<◌, List, [], Some, None, IfOk, IfErr, OnOk, vec_len};
 ghost use Rattle.nz_spec.specs.Form as spec;
-ghost use Rattle.nz_spec.specs.Form.{constant_form, negated_form, joined, part_joined, parts_joined, unit_form};
+ghost use Rattle.nz_spec.specs.Form.{negated_form, joined, part_joined, scaled, unit_form};
 ghost use Rattle.nz_spec.specs.FormOf.{number_in};
 ghost use Rattle.nz_spec.specs.Fraction.{Fraction, first_wide};
 ghost use Rattle.nz_spec.specs.Table.{IsTable, Node, term_in};
-ghost use Rattle.nz_frac.specs.Operations.{operator_of};
-ghost use Rattle.nz_lin.specs.Forms.{AreUnits, NamesUnit, Numbered, form_over, part_over, parts_over};
+ghost use Rattle.nz_frac.specs.Operations.{operation_of, operator_of};
+ghost use Rattle.nz_lin.specs.Forms.{AreUnits, NamesUnit, form_over, meeting, met_at, part_over, parts_over};
+ghost use Rattle.nz_lin.specs.Making.{times};
 ghost use Rattle.nz_lin.specs.Stops.{IsStopAt};
 
 use nz_base::Memory;
@@ -200,7 +201,12 @@ impl Form {
         alloc: Global,
         side: Side,
         factor: Frac,
-    ) -> Result<Form, LinStop> {
+    ) -> Result<Form, LinStop>
+        ensures multiplied { IfOk result (λ f. (ns : List Node) → form_over ns f ≡ (scaled (times side factor) (form_over ns self.now)).result) }
+        ensures fits { IfOk result (λ f. (ns : List Node) → first_wide (scaled (times side factor) (form_over ns self.now)).operations ≡ None) }
+        ensures units { IfOk result (λ f. (ns : List Node) → AreUnits ns self.now.parts → AreUnits ns f.parts) }
+        ensures stop { IfErr result (λ s. (ns : List Node) → IsStopAt (first_wide (scaled (times side factor) (form_over ns self.now)).operations) s) }
+    {
         let mut parts = Vec::new(alloc);
         for part in &self.parts {
             let coefficient = side.product(factor, part.coefficient)?;
@@ -225,7 +231,11 @@ pub(crate) enum Side {
 
 impl Side {
     /// The product of a factor, which stands on this side, with a number.
-    fn product(self, factor: Frac, number: Frac) -> Result<Frac, Wide> {
+    fn product(self, factor: Frac, number: Frac) -> Result<Frac, Wide>
+        ensures product { IfOk result (λ q. q ≡ (times self factor number).result) }
+        ensures fits { IfOk result (λ q. first_wide (times self factor number).operations ≡ None) }
+        ensures wide { IfErr result (λ w. first_wide (times self factor number).operations ≡ Some (operation_of w)) }
+    {
         match self {
             Side::Left => factor.mul(number),
             Side::Right => number.mul(factor),
@@ -249,7 +259,12 @@ fn join_part(parts: &mut Vec<Part>, op: Op, part: Part) -> Result<(), LinStop>
 }
 
 /// Adds to the coefficient at a place, or subtracts from it; with the coefficient 0 the part goes.
-fn meet(parts: &mut Vec<Part>, op: Op, place: usize, coefficient: Frac) -> Result<(), LinStop> {
+fn meet(parts: &mut Vec<Part>, op: Op, place: usize, coefficient: Frac) -> Result<(), LinStop>
+    requires within { place < vec_len parts.old }
+    ensures met { OnOk result (parts.new.items ≡ met_at parts.old.items (operator_of op) place coefficient) }
+    ensures fits { OnOk result (first_wide (meeting parts.old.items (operator_of op) place coefficient).operations ≡ None) }
+    ensures stop { IfErr result (IsStopAt (first_wide (meeting parts.old.items (operator_of op) place coefficient).operations)) }
+{
     let met = op.carry_out(parts[place].coefficient, coefficient)?;
     if met.is_zero() {
         parts.remove(place);

@@ -1,9 +1,10 @@
 //! The forms of terms.
-ghost use Rattle.std.specs.Prelude.{◌≡◌, ◌<◌, IsTrue, IfOk, IfErr, length};
+ghost use Rattle.std.specs.Prelude.{◌≡◌, ◌<◌, ◌++◌, IsTrue, IfOk, IfErr, OnOk, Some, length, slice_get};
 ghost use Rattle.nz_spec.specs.Linear.{is_linear};
 ghost use Rattle.nz_spec.specs.FormOf.{first_wide_in_form, number_in};
-ghost use Rattle.nz_spec.specs.Table.{term_in};
+ghost use Rattle.nz_spec.specs.Table.{Node, term_in};
 ghost use Rattle.nz_lin.specs.Forms.{IsFormOf};
+ghost use Rattle.nz_lin.specs.Making.{HasForms, is_open, steps_of};
 ghost use Rattle.nz_lin.specs.Stops.{IsStopAt};
 
 use crate::form::{Form, LinStop, Side};
@@ -59,6 +60,7 @@ pub fn lin(alloc: Global, terms: &Terms, id: TermId) -> Result<Form, LinStop>
 /// Puts a term on the stack, and above it the arguments whose forms it wants, the first one on top.
 fn enter(terms: &Terms, id: TermId, steps: &mut Vec<Step>) -> Result<(), Memory>
     requires within { id < length terms.now }
+    ensures steps { OnOk result ((n : Node) → slice_get terms.now id ≡ Some n → steps.new.items ≡ steps.old.items ++ steps_of terms.now id n.kids) }
 {
     steps.push(Step::Leave(id))?;
     if is_opened(terms, id) {
@@ -72,6 +74,7 @@ fn enter(terms: &Terms, id: TermId, steps: &mut Vec<Step>) -> Result<(), Memory>
 /// Whether arithmetic opens the term: it is neither a constant term nor a unit.
 fn is_opened(terms: &Terms, id: TermId) -> bool
     requires within { id < length terms.now }
+    ensures open { result ≡ is_open (term_in terms.now id) }
 {
     if terms.constant(id).is_some() {
         return false;
@@ -97,6 +100,10 @@ fn form_over(
     forms: &HashMap<TermId, Form>,
 ) -> Result<Form, LinStop>
     requires within { id < length terms.now }
+    requires linear { IsTrue (is_linear (term_in terms.now id)) }
+    requires forms { HasForms terms.now forms.now id }
+    ensures form { IfOk result (IsFormOf terms.now id) }
+    ensures stop { IfErr result (IsStopAt (first_wide_in_form (number_in terms.now) (term_in terms.now id))) }
 {
     if let Some(number) = terms.constant(id) {
         return Ok(Form::number(alloc, number));

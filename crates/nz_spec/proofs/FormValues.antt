@@ -202,7 +202,7 @@ module _ (numbering : Numbering) (a : Assignment) where
   form-scaled times k is f =
       =ℚ_trans (+ℚ-same (parts-scaled times k is f.parts) (is f.offset)) (=ℚ_sym (*ℚ-+ℚ k (parts_value a f.parts) f.offset))
 
-  parts-negated : (ps : List Part) → parts_value a (map negated_part ps) =ℚ neg_ℚ (parts_value a ps)
+  pub parts-negated : (ps : List Part) → parts_value a (map negated_part ps) =ℚ neg_ℚ (parts_value a ps)
   parts-negated [] = =ℚ_sym neg-zero
   parts-negated (p ∷ ps) =
       let v = unit_value a p.unit in

@@ -18,6 +18,7 @@ pub mod GateTruths
 pub mod InfinitesimalLaws
 pub mod Instances
 pub mod LegalWork
+pub mod LinearLiterals
 pub mod Literals
 pub mod Normal
 pub mod NormalGates

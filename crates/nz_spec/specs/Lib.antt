@@ -16,6 +16,7 @@ pub mod Kept
 pub mod Legal
 pub mod Limits
 pub mod Linear
+pub mod LinearLiteral
 pub mod Literal
 pub mod Live
 pub mod Model
