@@ -1,5 +1,5 @@
 -- What forms of the code are: over a table, whose numbers name their units.
-use Rattle.std.specs.Prelude.{◌≡◌, ℕ, ◌<◌, List, [], ◌∷◌, map, length, set, remove, slice_get, ⊤, Option, Some, None, pos, if◌then◌else◌}
+use Rattle.std.specs.Prelude.{◌≡◌, ℕ, ◌<◌, List, [], ◌∷◌, map, length, set, remove, slice_get, ⊤, Some, None, pos, if◌then◌else◌}
 use Rattle.std.specs.List.{AllByRecursion}
 use Rattle.nz_spec.specs.Fraction.{Fraction, whole, Arithmetic, first_wide}
 use Rattle.nz_spec.specs.Computation.{Computation, operated}

@@ -1,5 +1,5 @@
 -- How the form of a term is made of those of its arguments.
-use Rattle.std.specs.Prelude.{◌≡◌, ℕ, ◌<◌, nat_eq, Bool, true, false, IsTrue, ◌&&◌, List, [], ◌∷◌, ◌++◌, map, reverse, length, All, Option, Some, None, is_none, slice_get, if◌then◌else◌}
+use Rattle.std.specs.Prelude.{◌≡◌, ℕ, ◌<◌, nat_eq, Bool, IsTrue, ◌&&◌, List, [], ◌∷◌, ◌++◌, map, reverse, length, All, Some, is_none, slice_get, if◌then◌else◌}
 use Rattle.std.specs.HashMap.{HashMap, get}
 use Rattle.nz_spec.specs.Fraction.{Fraction, Product}
 use Rattle.nz_spec.specs.Computation.{Computation, operated}
@@ -7,7 +7,7 @@ use Rattle.nz_spec.specs.Form as spec
 use Rattle.nz_spec.specs.FormOf.{is_opened}
 use Rattle.nz_spec.specs.Linear.{constant_value}
 use Rattle.nz_spec.specs.Table.{Node, term_in}
-use Rattle.nz_spec.specs.Term.{Head, Term, apply}
+use Rattle.nz_spec.specs.Term.{Term, apply}
 use Rattle.nz_lin.specs.declared.form.Side.{Side}
 use Rattle.nz_lin.specs.declared.form.Side.TheVariants.{Left, Right}
 use Rattle.nz_lin.specs.declared.linear.Step.{Step}

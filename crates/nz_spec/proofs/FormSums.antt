@@ -5,7 +5,7 @@ use Rattle.std.specs.List.{AllByRecursion}
 use Rattle.std.proofs.lemmas.Bool.Decides.{nat_tests}
 use Rattle.nz_ints.proofs.Ring.{Atom, ◌⊗◌, Minus, solve}
 use Rattle.nz_spec.specs.Fraction.{Fraction, denominator, whole, neg_ℚ, ◌=ℚ◌, fraction_eq, Arithmetic, Sum, Difference, Product, Quotient, outcome}
-use Rattle.nz_spec.specs.Term.{Head, constant, parameter, integer, decimal_number, verum, falsum, negation, conjunction, disjunction, implication, exclusion, equality, distinction, choice, less, at_most, greater, at_least, sum, difference, product, quotient, integer_quotient, modulus, magnitude, to_real, to_int, is_int, Term, apply, Terms, no_terms, terms, is_zero}
+use Rattle.nz_spec.specs.Term.{Head, sum, difference, product, quotient, to_real, Term, apply, Terms, no_terms, terms, is_zero}
 use Rattle.nz_spec.specs.Linear.{head_constant, constant_values}
 use Rattle.nz_spec.specs.Literal.{are_same_term}
 use Rattle.nz_spec.specs.Computation.{Computation, operated, at_once, turned_into, and_then}

@@ -5,7 +5,7 @@ use Rattle.nz_ints.proofs.Ring.{Atom, Literal, ◌⊕◌, ◌⊗◌, Minus, solv
 use Rattle.nz_spec.specs.Fraction.{Fraction, denominator, whole, ◌=ℚ◌, ◌+ℚ◌, neg_ℚ, ◌*ℚ◌, Arithmetic, Sum, Difference, outcome}
 use Rattle.nz_spec.specs.Term.{Term, Value, Assignment, number_of, is_zero, carried_out, combined}
 use Rattle.nz_spec.specs.Literal.{are_same_term}
-use Rattle.nz_spec.specs.Computation.{Computation, operated, at_once, turned_into, and_then}
+use Rattle.nz_spec.specs.Computation.{Computation, operated, at_once, turned_into}
 use Rattle.nz_spec.specs.Form.{Numbering, Part, Form, constant_form, unit_form, with_part, negated_part, negated_form, part_alone, part_joined, parts_joined, joined, all_joined, parts_scaled, scaled, unit_value, parts_value, form_value}
 
 use Rattle.nz_spec.proofs.FractionLaws.{=ℚ_refl, =ℚ-from_same, =ℚ_sym, =ℚ_trans}

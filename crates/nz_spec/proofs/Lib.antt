@@ -7,6 +7,7 @@ pub mod Derivations
 pub mod Divisions
 pub mod Examples
 pub mod FormNumbers
+pub mod FormPlaces
 pub mod FormSums
 pub mod FormTerms
 pub mod FormValues

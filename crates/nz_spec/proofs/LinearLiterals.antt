@@ -1,11 +1,11 @@
 -- Of a linear literal and its negation just one is true.
-use Rattle.std.proofs.Common.{◌≡◌, Bool, true, false, not, ◌⊎◌, inl, inr, List, [], ◌∷◌, map, pos, ◌*ℤ◌, neg_ℤ, ◌≤ℤ◌, ◌<ℤ◌, refl, sym, ap, ◌∙◌, arith}
+use Rattle.std.proofs.Common.{◌≡◌, true, false, not, inl, inr, List, [], ◌∷◌, map, pos, ◌*ℤ◌, neg_ℤ, refl, sym, ap, ◌∙◌, arith}
 use Rattle.std.proofs.lemmas.Int.{ints}
 use Rattle.nz_ints.proofs.Ring.{Atom, ◌⊗◌, Minus, solve}
 use Rattle.nz_spec.specs.Fraction.{Fraction, denominator, neg_ℚ, ◌=ℚ◌, ◌≤ℚ◌, ◌<ℚ◌, fraction_le, fraction_lt}
-use Rattle.nz_spec.specs.Term.{Assignment}
-use Rattle.nz_spec.specs.Form.{Part, negated_part, parts_value}
-use Rattle.nz_spec.specs.LinearLiteral.{LinearLiteral, is_at_most, is_below, NegationIsOther}
+
+use Rattle.nz_spec.specs.Form.{negated_part, parts_value}
+use Rattle.nz_spec.specs.LinearLiteral.{is_at_most, is_below, NegationIsOther}
 use Rattle.nz_spec.proofs.FractionLaws.{=ℚ_sym, ≤ℚ-from_eq, ≤ℚ_trans, <ℚ-≤ℚ_trans, ≤ℚ-<ℚ_trans, ≤ℚ_total}
 use Rattle.nz_spec.proofs.FormValues.{parts-negated}
 

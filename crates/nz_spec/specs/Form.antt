@@ -1,7 +1,7 @@
 -- Linear forms: units with coefficients, and a number that is added. What a form stands for, and how forms are added and scaled.
 -- Sources: SMT-LIB 2.6, logics LIRA and QF_LRA (linear terms); Dutertre and de Moura, A Fast Linear-Arithmetic Solver for
 -- DPLL(T), CAV 2006, section 3 (sums of variables with coefficients). The order of the operations is this solver's own.
-use Rattle.std.specs.Prelude.{◌≡◌, ℕ, ◌≤◌, nat_lt, Bool, false, List, [], ◌∷◌, map, pos, if◌then◌else◌, ⊤}
+use Rattle.std.specs.Prelude.{◌≡◌, ℕ, ◌≤◌, nat_lt, false, List, [], ◌∷◌, map, pos, if◌then◌else◌, ⊤}
 use Rattle.std.specs.List.{AllByRecursion}
 use Rattle.nz_spec.specs.Fraction.{Fraction, whole, neg_ℚ, ◌+ℚ◌, ◌*ℚ◌, Arithmetic, Difference}
 use Rattle.nz_spec.specs.Computation.{Computation, operated, at_once, turned_into, and_then}

@@ -9,6 +9,7 @@ pub mod Example
 pub mod Expression
 pub mod Form
 pub mod FormOf
+pub mod FormPlace
 pub mod Fraction
 pub mod Gates
 pub mod Infinitesimal

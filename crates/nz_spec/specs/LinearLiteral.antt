@@ -1,11 +1,11 @@
 -- Linear literals: a sum of units is at most a number, or below it. What they say, their negations, and integer rounding.
 -- Sources: SMT-LIB 2.6, theory Reals_Ints (<=, <); Dutertre and de Moura, A Fast Linear-Arithmetic Solver for DPLL(T), CAV 2006,
 -- sections 3 and 5 (bounds, strict ones too). When a literal is tight is this solver's own.
-use Rattle.std.specs.Prelude.{◌≡◌, ℕ, pred, Bool, true, false, not, ◌&&◌, List, [], ◌∷◌, map, pos, unsigned_abs, if◌then◌else◌}
+use Rattle.std.specs.Prelude.{◌≡◌, ℕ, Bool, true, false, not, ◌&&◌, List, [], ◌∷◌, map, pos, unsigned_abs, if◌then◌else◌}
 use Rattle.std.specs.List.{list_all}
 use Rattle.nz_spec.specs.Fraction.{Fraction, whole, neg_ℚ, fraction_eq, fraction_le, fraction_lt, floor, ceiling, gcd, over, Difference, Product}
 use Rattle.nz_spec.specs.Computation.{Computation, operated, at_once, turned_into, and_then}
-use Rattle.nz_spec.specs.Term.{Sort, int_sort, are_same_sort, sort_of, Assignment}
+use Rattle.nz_spec.specs.Term.{int_sort, are_same_sort, sort_of, Assignment}
 use Rattle.nz_spec.specs.Form.{Part, Form, negated_part, parts_value, parts_scaled}
 
 pub data LinearLiteral : Type 0 where

@@ -1,5 +1,6 @@
 //! Laws of linear forms.
 ghost use Rattle.nz_spec.specs.FormOf.{FormHasValue, FormsAreSums, TermHasItsNumber};
+ghost use Rattle.nz_spec.specs.FormPlace.{JoinsAtItsPlace};
 ghost use Rattle.nz_spec.specs.LinearLiteral.{NegationIsOther};
 
 /// The form of a linear term has the value of the term.
@@ -20,4 +21,9 @@ pub fn term_has_its_number()
 /// Of a linear literal and its negation just one is true.
 pub fn negation_is_other()
     ensures other { NegationIsOther }
+{}
+
+/// A part joins a sum at the place of its unit.
+pub fn joins_at_its_place()
+    ensures place { JoinsAtItsPlace }
 {}
