@@ -52,9 +52,11 @@ pub fn lin(alloc: Global, terms: &Terms, id: TermId) -> Result<Form, LinStop>
             }
         }
     }
-    Ok(forms
-        .remove(&id)
-        .unwrap_or(Form::number(alloc, Frac::whole(0))))
+    Ok(
+        forms
+            .remove(&id)
+            .unwrap_or(Form::number(alloc, Frac::whole(0))),
+    )
 }
 
 /// Puts a term on the stack, and above it the arguments whose forms it wants, the first one on top.
@@ -124,11 +126,7 @@ fn form_over(
 }
 
 /// A copy of the form that is made for a term; 0 where none is.
-fn copied(
-    alloc: Global,
-    id: TermId,
-    forms: &HashMap<TermId, Form>,
-) -> Result<Form, Memory> {
+fn copied(alloc: Global, id: TermId, forms: &HashMap<TermId, Form>) -> Result<Form, Memory> {
     match forms.get(&id) {
         Some(form) => form.copied(alloc),
         None => Ok(Form::number(alloc, Frac::whole(0))),
@@ -177,7 +175,11 @@ fn product(
     forms: &HashMap<TermId, Form>,
 ) -> Result<Form, LinStop> {
     let factor = constants_product(terms, kids)?;
-    match kids.iter().copied().find(|kid| terms.constant(*kid).is_none()) {
+    match kids
+        .iter()
+        .copied()
+        .find(|kid| terms.constant(*kid).is_none())
+    {
         Some(kid) => match forms.get(&kid) {
             Some(form) => form.multiplied(alloc, Side::Left, factor),
             None => Ok(Form::number(alloc, factor)),

@@ -243,10 +243,10 @@ module _ (number : Numbering) where
   abbrev formed_by : Head → Terms → Option Fraction → Bool → Computation Form
   formed_by h ts c opened =
       elim c [
-        Some q ↦ at_once (constant_form q)
-      | None ↦
-          if opened then and_then (forms_of number ts) (λ fs. head_form number h (constant_values ts) fs (unit_form (apply h ts)))
-          else at_once (unit_form (apply h ts))
+        | Some q ↦ at_once (constant_form q)
+        | None ↦
+            if opened then and_then (forms_of number ts) (λ fs. head_form number h (constant_values ts) fs (unit_form (apply h ts)))
+            else at_once (unit_form (apply h ts))
       ]
 
   sum_by : (h : Head) (ts : Terms) (c : Option Fraction) (opened : Bool) → AllByRecursion (IsSum number) (forms_of number ts).result → IsSum number (formed_by h ts c opened).result

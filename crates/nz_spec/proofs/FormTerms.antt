@@ -240,10 +240,10 @@ module _ (a : Assignment) where
     abbrev formed_by : Head → Terms → Option Fraction → Bool → Computation Form
     formed_by h ts c opened =
         elim c [
-          Some q ↦ at_once (constant_form q)
-        | None ↦
-            if opened then and_then (forms_of numbering ts) (λ fs. head_form numbering h (constant_values ts) fs (unit_form (apply h ts)))
-            else at_once (unit_form (apply h ts))
+          | Some q ↦ at_once (constant_form q)
+          | None ↦
+              if opened then and_then (forms_of numbering ts) (λ fs. head_form numbering h (constant_values ts) fs (unit_form (apply h ts)))
+              else at_once (unit_form (apply h ts))
         ]
 
     value_by : (h : Head) (ts : Terms) (c : Option Fraction) (opened : Bool) → head_constant h (constant_values ts) ≡ c

@@ -3,7 +3,6 @@ use Rattle.std.proofs.Common.{◌≡◌, true, false, not, inl, inr, List, [], �
 use Rattle.std.proofs.lemmas.Int.{ints}
 use Rattle.nz_ints.proofs.Ring.{Atom, ◌⊗◌, Minus, solve}
 use Rattle.nz_spec.specs.Fraction.{Fraction, denominator, neg_ℚ, ◌=ℚ◌, ◌≤ℚ◌, ◌<ℚ◌, fraction_le, fraction_lt}
-
 use Rattle.nz_spec.specs.Form.{negated_part, parts_value}
 use Rattle.nz_spec.specs.LinearLiteral.{is_at_most, is_below, NegationIsOther}
 use Rattle.nz_spec.proofs.FractionLaws.{=ℚ_sym, ≤ℚ-from_eq, ≤ℚ_trans, <ℚ-≤ℚ_trans, ≤ℚ-<ℚ_trans, ≤ℚ_total}

@@ -70,10 +70,10 @@ abbrev mutual
   pub form_of : Numbering → Term → Computation Form
   form_of number (apply h ts) =
       elim (head_constant h (constant_values ts)) [
-        Some q ↦ at_once (constant_form q)
-      | None ↦
-          if is_opened h then and_then (forms_of number ts) (λ fs. head_form number h (constant_values ts) fs (unit_form (apply h ts)))
-          else at_once (unit_form (apply h ts))
+        | Some q ↦ at_once (constant_form q)
+        | None ↦
+            if is_opened h then and_then (forms_of number ts) (λ fs. head_form number h (constant_values ts) fs (unit_form (apply h ts)))
+            else at_once (unit_form (apply h ts))
       ]
 
   pub forms_of : Numbering → Terms → Computation (List Form)
