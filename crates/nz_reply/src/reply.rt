@@ -8,7 +8,7 @@ ghost use Rattle.nz_term.specs.Values.{value_of};
 use nz_base::{Error, Lines, Memory};
 use nz_frac::Wide;
 use nz_log::Note;
-use nz_sexpr::Heard;
+use nz_sexpr::PackedHeard;
 use nz_spec::table::term_stays;
 use nz_term::{Constant, Sort, Value};
 use std::alloc::Global;
@@ -217,13 +217,14 @@ pub struct SpentList {
 #[derive(Debug, Drop)]
 pub enum Cause {
     Plain,
-    Spent(SpentList),
+    /// Seldom, and larger than all the rest of what is kept.
+    Spent(Box<SpentList>),
 }
 
-/// A thing heard, its reply, and the reply's cause.
+/// A thing heard, packed, its reply, and the reply's cause.
 #[derive(Debug, Drop)]
 pub struct Kept {
-    pub heard: Heard,
+    pub heard: PackedHeard,
     pub reply: Reply,
     pub cause: Cause,
 }

@@ -179,14 +179,18 @@ impl<E: Decide> Desk<E> {
                 said(Reply::Unsat)
             }
             Err(Stop::Spent) => {
+                let list = SpentList {
+                    limit: self.limit,
+                    work: self.work.take(),
+                };
+                let Ok(list) = Box::new(self.alloc, list) else {
+                    return said(Reply::Error(Error::OutOfMemory));
+                };
                 let reason = Reason::UnitsSpent(self.limit);
                 self.last = Some(LastAnswer::Undecided(reason));
                 Answer {
                     reply: Reply::Unknown(reason),
-                    cause: Cause::Spent(SpentList {
-                        limit: self.limit,
-                        work: self.work.take(),
-                    }),
+                    cause: Cause::Spent(list),
                     exits: false,
                 }
             }

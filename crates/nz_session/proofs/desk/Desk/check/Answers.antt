@@ -7,7 +7,9 @@ use Rattle.nz_log.specs.Notes.{noted_line, AreNotedWithin}
 use Rattle.nz_log.specs.declared.stop.Stop.TheVariants.{Spent}
 use Rattle.nz_spec.specs.Gates.{IsGated}
 use Rattle.nz_spec.specs.Table.{term_in}
+use Rattle.nz_reply.specs.Replies.{spent_of}
 use Rattle.nz_reply.specs.declared.reply.Reply.TheVariants as code
+use Rattle.nz_reply.specs.declared.reply.SpentList.{SpentList}
 use Rattle.nz_session.proofs.Answering.{checked, checked_answer}
 use Rattle.nz_session.proofs.LegalWork.{told_spent}
 use Rattle.nz_session.proofs.Assigning.{no_live_model}
@@ -38,6 +40,9 @@ returns-in-Err-Spent-clause-right g c x t h e =
     let within = rw stop at c.decide-decided.ensures.within in
     let live = told_spent c.normal_keeps_value.ensures.keeps ns c.args.self.now.live x.state c.decide-decided.new.work c.take.result x.limit h.live c.take.ensures.lines (limit ∙ h.bounded) spent in
     checked_answer g.E.Decide.levels g.E.Decide.table x t _ _ c.args.self.now.last
-    (record { live = h.live; sorted = h.sorted; told = told; front = c.decide-decided.ensures.front; last = h.last; bound = h.bound; values = h.values; success = h.success; bounded = h.bounded }) refl e refl
-    (ap units_spent h.bounded, h.bounded, subst (λ n. IsSpentLegally (task_of x.state []) (record { lines = map (noted_line ns) c.take.result; limit = n })) (sym h.bounded) live)
-    (subst (AreNotedWithin ns) (sym c.take.ensures.lines) within) tt
+    (record { live = h.live; sorted = h.sorted; told = told; front = c.decide-decided.ensures.front; last = h.last; bound = h.bound; values = h.values; success = h.success; bounded = h.bounded }) refl e refl (
+      ap units_spent h.bounded,
+      subst (λ (s : SpentList). (s.limit ≡ x.limit) × IsSpentLegally (task_of x.state []) (spent_of ns s)) (sym c.in-Ok.ensures.ok)
+          (h.bounded, subst (λ n. IsSpentLegally (task_of x.state []) (record { lines = map (noted_line ns) c.take.result; limit = n })) (sym h.bounded) live),
+    )
+    (subst (λ (s : SpentList). AreNotedWithin ns s.work) (sym c.in-Ok.ensures.ok) (subst (AreNotedWithin ns) (sym c.take.ensures.lines) within)) tt
