@@ -6,6 +6,11 @@ pub mod Decimals
 pub mod Derivations
 pub mod Divisions
 pub mod Examples
+pub mod FormNumbers
+pub mod FormPlaces
+pub mod FormSums
+pub mod FormTerms
+pub mod FormValues
 pub mod FractionArithmetic
 pub mod FractionLaws
 pub mod FractionOrder
@@ -14,6 +19,7 @@ pub mod GateTruths
 pub mod InfinitesimalLaws
 pub mod Instances
 pub mod LegalWork
+pub mod LinearLiterals
 pub mod Literals
 pub mod Normal
 pub mod NormalGates

@@ -1,11 +1,15 @@
 pub mod Argument
 pub mod Bounds
 pub mod Command
+pub mod Computation
 pub mod Decide
 pub mod Elaboration
 pub mod Error
 pub mod Example
 pub mod Expression
+pub mod Form
+pub mod FormOf
+pub mod FormPlace
 pub mod Fraction
 pub mod Gates
 pub mod Infinitesimal
@@ -13,6 +17,7 @@ pub mod Kept
 pub mod Legal
 pub mod Limits
 pub mod Linear
+pub mod LinearLiteral
 pub mod Literal
 pub mod Live
 pub mod Model

@@ -6,6 +6,7 @@
 pub mod derivation;
 pub mod elaboration;
 pub mod example;
+pub mod form;
 pub mod fraction;
 pub mod reply;
 pub mod script;
