@@ -28,12 +28,12 @@ impl Search {
         held: &mut Vec<Held>,
         theory: &mut T,
         work: &mut Work<Note>,
-        dead: ClauseId,
+        falsified: ClauseId,
     ) -> Result<Option<ClauseId>, Stop>
         requires search { IsSearch log.old held.old.items self.old }
         requires all_open { WereOpen log.old held.old.items self.old.trail.entries }
-        requires conflict { IsConflict log.old held.old.items self.old.trail.entries dead }
-        requires last { HasLast self.old.trail.entries (literals_at log.old dead) }
+        requires conflict { IsConflict log.old held.old.items self.old.trail.entries falsified }
+        requires last { HasLast self.old.trail.entries (literals_at log.old falsified) }
         requires decided { 0 < depth self.old.trail.entries }
         requires noted { WasNoted log.old held.old.items self.old.atoms self.old.trail.entries work.old }
         requires told { IsTold (T.has_told theory.old) self.old.trail.entries }
@@ -44,7 +44,7 @@ impl Search {
         ensures over { (ns : List Node) → T.is_over theory.old ns → T.is_over theory.new ns }
         ensures spent { IfErr result (λ e. e ≡ stop.Spent → IsSpent work.new) }
     {
-        let from = self.learn(log, held, theory, work, dead)?;
+        let from = self.learn(log, held, theory, work, falsified)?;
         self.conflict(log, theory, work, from)
     }
 
@@ -73,12 +73,12 @@ impl Search {
         ensures spent { IfErr result (λ e. e ≡ stop.Spent → IsSpent work.new) }
     {
         let mut conflict = self.conflict(log, theory, work, from)?;
-        while let Some(dead) = conflict {
-            self.back_to(log, theory, dead);
+        while let Some(falsified) = conflict {
+            self.back_to(log, theory, falsified);
             if self.trail.level() == 0 {
-                return Ok(Some(self.refute(*held.allocator(), log, dead)?));
+                return Ok(Some(self.refute(*held.allocator(), log, falsified)?));
             }
-            conflict = self.learn_on(log, held, theory, work, dead)?;
+            conflict = self.learn_on(log, held, theory, work, falsified)?;
         }
         Ok(None)
     }
@@ -135,8 +135,8 @@ impl Search {
         ensures refuted { IfOk result (λ r. IfSome r (λ id. IsLive log.new id × Refutes assumed.now (literals_at log.new id))) }
         ensures spent { IfErr result (λ e. e ≡ stop.Spent → IsSpent work.new) }
     {
-        if let Some(dead) = self.assume_all(log, held, assumed) {
-            return Ok(Some(self.refute(*held.allocator(), log, dead)?));
+        if let Some(falsified) = self.assume_all(log, held, assumed) {
+            return Ok(Some(self.refute(*held.allocator(), log, falsified)?));
         }
         let from = self.trail.len();
         self.settle(log, held, theory, work, from)

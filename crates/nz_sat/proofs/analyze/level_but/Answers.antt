@@ -6,7 +6,7 @@ use Rattle.nz_log.specs.Lits.{are_same_lit}
 use Rattle.nz_sat.specs.Conflicts.{IsGreatestBut}
 use Rattle.nz_sat.specs.Trails.{level_on}
 use Rattle.nz_sat.proofs.Clausal.{lit_same, same_lit}
-use Rattle.nz_sat.proofs.Lessons.{greater_of, greatest_more, greatest_same}
+use Rattle.nz_sat.proofs.LearnedClauses.{greater_of, greatest_more, greatest_same}
 use Rattle.nz_sat.proofs.analyze.level_but.Goals as goal
 use Rattle.nz_sat.proofs.analyze.level_but.Goals.{then-not-is, else-not-is}
 

@@ -6,7 +6,7 @@ use Rattle.nz_log.specs.declared.lits.Lit.{Lit}
 use Rattle.nz_log.specs.Lits.{are_same_lit}
 use Rattle.nz_sat.specs.Trails.{depth, level_on}
 use Rattle.nz_sat.proofs.Clausal.{other_lit, same_lit}
-use Rattle.nz_sat.proofs.Lessons.{IsLone, lone_again, lone_end, lone_first, lone_low, lone_other}
+use Rattle.nz_sat.proofs.LearnedClauses.{IsLone, lone_again, lone_end, lone_first, lone_low, lone_other}
 use Rattle.nz_sat.proofs.analyze.lone_last.Goals as goal
 use Rattle.nz_sat.proofs.analyze.lone_last.Goals.{then-level_of-last+in-Some+else-not-is, then-level_of-last+in-None, else-level_of-last}
 

@@ -50,4 +50,4 @@ returns-in-None-clause-comes c held assumed may =
     (p.reasons (ids held) h.only (subst R (sym put) before.reasons))
     (λ told k d inside.
     p.all_open told (get_or (ids held) k d) (h.listed k d inside) (waits (get_or (ids held) k d) (Contains-get_or (ids held) k d inside)))
-    (IfSome_then c.propagate.result p.dead (λ id q. (h.only q.0.0 id q.0.1, q.1)))
+    (IfSome_then c.propagate.result p.falsified (λ id q. (h.only q.0.0 id q.0.1, q.1)))

@@ -3,7 +3,7 @@ use Rattle.std.proofs.Common.{◌≡◌, None, ap, sym, subst, arith, rules}
 use Rattle.nz_sat.specs.declared.search.Search.{Search}
 use Rattle.nz_sat.specs.Searching.{MayFollow}
 use Rattle.nz_sat.specs.Theories.{IsTold}
-use Rattle.nz_sat.proofs.Consulting.{advances_on, back_dead, back_refuted, conflict_of, goes_back, settles_first, settles_on, settles_open}
+use Rattle.nz_sat.proofs.Consulting.{advances_on, back_falsified, back_refuted, conflict_of, goes_back, settles_first, settles_on, settles_open}
 use Rattle.nz_sat.proofs.Keeping.{search_usable}
 use Rattle.nz_sat.proofs.search.Search.settle.Goals as goal
 
@@ -54,7 +54,7 @@ pub returns-then-level-eq0-clause-refuted : goal.returns-then-level-eq0-clause-r
 returns-then-level-eq0-clause-refuted g c =
     let b = goes_back c.loop-conflict.invariant c.in-Some.is c.back_to.ensures.rest c.back_to.ensures.size c.back_to.ensures.back c.back_to.ensures.over in (
       c.in_ok-refute.ensures.live,
-      λ assumed only. c.in_ok-refute.ensures.refutes assumed (b.carries.assumed_only assumed only) (back_dead b assumed),
+      λ assumed only. c.in_ok-refute.ensures.refutes assumed (b.carries.assumed_only assumed only) (back_falsified b assumed),
     )
 
 pub learn_on-requires-clause-search : goal.learn_on-requires-clause-search

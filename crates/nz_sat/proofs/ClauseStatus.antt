@@ -6,7 +6,7 @@ use Rattle.std.proofs.lemmas.List.Elements.{Contains-get_or, Contains-push_cases
 use Rattle.nz_log.specs.declared.lits.Lit.{Lit}
 use Rattle.nz_sat.specs.declared.trail.Assigned.{Assigned}
 use Rattle.nz_sat.specs.Trails.{IsFalseOn, IsFreeOn}
-use Rattle.nz_sat.specs.Clauses.{IsDead, IsUnit}
+use Rattle.nz_sat.specs.Clauses.{IsFalsified, IsUnit}
 
 -- each literal of the front is false, but for one that is undecided
 abbrev pub IsLeft : List Assigned → (c front : List Lit) → Option Lit → Type 0
@@ -42,5 +42,5 @@ pub left_unit : (es : List Assigned) (c : List Lit) (n : ℕ) (u : Lit) → leng
 left_unit es c n u all h =
     record { has = h.0; free = h.1; others = λ m has. h.2 m (subst (λ (xs : List Lit). Contains xs m) (sym (take_all n c all)) has) }
 
-pub left_dead : (es : List Assigned) (c : List Lit) (n : ℕ) → length c ≤ n → IsLeft es c (take n c) None → IsDead es c
-left_dead es c n all h m has = h m (subst (λ (xs : List Lit). Contains xs m) (sym (take_all n c all)) has)
+pub left_falsified : (es : List Assigned) (c : List Lit) (n : ℕ) → length c ≤ n → IsLeft es c (take n c) None → IsFalsified es c
+left_falsified es c n all h m has = h m (subst (λ (xs : List Lit). Contains xs m) (sym (take_all n c all)) has)

@@ -6,9 +6,9 @@ use Rattle.nz_log.specs.Lits.{are_same_lit}
 use Rattle.nz_sat.specs.Trails.{HasValue, IsFalseOn, IsTrueOn}
 use Rattle.nz_sat.specs.Clauses.{by_true, by_two}
 use Rattle.nz_sat.proofs.Clausal.{other_lit, same_lit}
-use Rattle.nz_sat.proofs.Standing.{IsLeft, left_again, left_dead, left_false, left_first, left_unit}
-use Rattle.nz_sat.proofs.propagate.stands.Goals as goal
-use Rattle.nz_sat.proofs.propagate.stands.Goals.{in-Some-false, in-None+in-Some+else-not-is, in-None+in-None-undecided}
+use Rattle.nz_sat.proofs.ClauseStatus.{IsLeft, left_again, left_falsified, left_false, left_first, left_unit}
+use Rattle.nz_sat.proofs.propagate.status_of.Goals as goal
+use Rattle.nz_sat.proofs.propagate.status_of.Goals.{in-Some-false, in-None+in-Some+else-not-is, in-None+in-None-undecided}
 
 abbrev blank : Lit
 blank = record { term = 0; sign = false }
@@ -44,7 +44,7 @@ returns-in-Some-true c =
     let lit = get_or cs i blank in
     let inside : i < length cs = omega arith in
     let holds : IsTrueOn es lit = let V : Bool → Type 0 = λ b. HasValue es lit (Some b) in subst V c.in-Some-true.field-0-test c.in-Some-true.ensures.value in
-    record { stands = by_true lit (Contains-get_or cs i blank inside) holds }
+    record { status = by_true lit (Contains-get_or cs i blank inside) holds }
 
 pub returns-then-not-is : goal.returns-then-not-is
 returns-then-not-is c =
@@ -57,7 +57,7 @@ returns-then-not-is c =
     let Q : Option Lit → Type 0 = λ o. IsLeft es cs (take i cs) o in
     let left : IsLeft es cs (take i cs) (Some other) = subst Q c.in-Some.is c.loop-literal.invariant in
     let differ : are_same_lit other lit ≡ false = search rules in
-    record { stands = by_two other lit left.0 (Contains-get_or cs i blank inside) (other_lit other lit differ) left.1 c.in-None.ensures.value }
+    record { status = by_two other lit left.0 (Contains-get_or cs i blank inside) (other_lit other lit differ) left.1 c.in-None.ensures.value }
 
 pub returns-in-Some-undecided : goal.returns-in-Some-undecided
 returns-in-Some-undecided c =
@@ -65,7 +65,7 @@ returns-in-Some-undecided c =
     let cs = c.args.literals.now in
     let i = c.loop-literal.literal-index in
     let Q : Option Lit → Type 0 = λ o. IsLeft es cs (take i cs) o in
-    record { stands = left_unit es cs i c.in-Some-undecided.literal (omega arith) (subst Q c.in-Some-undecided.is c.loop-literal.invariant) }
+    record { status = left_unit es cs i c.in-Some-undecided.literal (omega arith) (subst Q c.in-Some-undecided.is c.loop-literal.invariant) }
 
 pub returns-in-None-undecided-2 : goal.returns-in-None-undecided-2
 returns-in-None-undecided-2 c =
@@ -73,4 +73,4 @@ returns-in-None-undecided-2 c =
     let cs = c.args.literals.now in
     let i = c.loop-literal.literal-index in
     let Q : Option Lit → Type 0 = λ o. IsLeft es cs (take i cs) o in
-    record { stands = left_dead es cs i (omega arith) (subst Q c.in-None-undecided-2.is c.loop-literal.invariant) }
+    record { status = left_falsified es cs i (omega arith) (subst Q c.in-None-undecided-2.is c.loop-literal.invariant) }

@@ -1,6 +1,6 @@
 use Rattle.std.proofs.Common.{take}
-use Rattle.nz_sat.proofs.Standing.{IsLeft}
-use Rattle.nz_sat.proofs.propagate.stands.Given as goal
+use Rattle.nz_sat.proofs.ClauseStatus.{IsLeft}
+use Rattle.nz_sat.proofs.propagate.status_of.Given as goal
 
 -- what was looked at is false, but for one literal that is undecided
 abbrev pub invariant-loop-literal : goal.invariant-loop-literal

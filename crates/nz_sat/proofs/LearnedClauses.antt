@@ -13,8 +13,8 @@ use Rattle.nz_log.specs.Logs.{Entry, LogState, IsLive, Puts, chain_entry, chaine
 use Rattle.nz_sat.specs.declared.analyze.Chain.{Chain}
 use Rattle.nz_sat.specs.declared.trail.Assigned.{Assigned}
 use Rattle.nz_sat.specs.Trails.{EachBehind, IsFalseOn, IsNext, depth, level_on}
-use Rattle.nz_sat.specs.Clauses.{IsDead}
-use Rattle.nz_sat.specs.Conflicts.{AreLinks, AreUnmarked, HasLast, HasTwoLast, IsChain, IsGreatest, IsGreatestBut, IsLesson, IsLessonLike, IsLoneLast, is_marked}
+use Rattle.nz_sat.specs.Clauses.{IsFalsified}
+use Rattle.nz_sat.specs.Conflicts.{AreLinks, AreUnmarked, HasLast, HasTwoLast, IsChain, IsGreatest, IsGreatestBut, IsLearned, IsLearnable, IsLoneLast, is_marked}
 use Rattle.nz_sat.proofs.Chains.{chained_once}
 use Rattle.nz_sat.proofs.Marks.{false_entry, level_found, marked_within}
 use Rattle.nz_sat.proofs.Trailing.{assigned_place, level_within}
@@ -145,31 +145,31 @@ links_within s es n ks within links =
     All-weaker (λ (k : Link). IsLive s k.clause × ((e : Assigned) × Contains es e × (e.literal.term ≡ k.literal.term))) (λ (k : Link). k.literal.term < n)
     (λ k w. let less = All-contains (λ (e : Assigned). e.literal.term < n) es w.1.0 within w.1.1 in omega (arith, w.1.2, less)) ks links
 
--- ---- The clause that is a lesson itself
+-- ---- A conflict that is the learned clause itself
 
 -- the level of a false literal is one of the trail's
 pub false_level : (size : ℕ) (es : List Assigned) → EachBehind (IsNext size) es → (l : Lit) → IsFalseOn es l → level_on es l.term ≤ depth es
-false_level size es order l dead =
-    let e = false_entry es l dead in
+false_level size es order l falsified =
+    let e = false_entry es l falsified in
     let place = (assigned_place es l.term e.0 e.1).1 in
     let most = level_within size es order place.0 e.0 place.1 in
     let level = level_found es l.term e.0 e.1 in
     omega (arith, most, level)
 
-lone_once : (es : List Assigned) (c : List Lit) (l : Lit) → IsLoneLast es c l → IsLessonLike es c → StandOnce c
+lone_once : (es : List Assigned) (c : List Lit) (l : Lit) → IsLoneLast es c l → IsLearnable es c → StandOnce c
 lone_once es c l lone (inr once) = once
 lone_once es c l lone (inl two) =
     let none : (m : Lit) → Contains c m → level_on es m.term ≡ depth es → (m ≢ l → ⊥) = λ m has last differ. lone.others m has differ last in
     absurd (none two.second two.has_second two.second_last (λ same. none two.first two.has_first two.first_last (λ is. two.differ (is ∙ sym same))))
 
 pub lone_taught : (size : ℕ) (es : List Assigned) → EachBehind (IsNext size) es → (log : LogState) (id : ℕ) (l : Lit) (level : ℕ) → IsLive log id
-    → IsDead es (literals_at log id) → IsLessonLike es (literals_at log id) → 0 < depth es → IsLoneLast es (literals_at log id) l
-    → IsGreatestBut es l (literals_at log id) level → IsLesson log es (record { clause = id; literal = l; level = level })
-lone_taught size es order log id l level live dead like above lone greatest =
+    → IsFalsified es (literals_at log id) → IsLearnable es (literals_at log id) → 0 < depth es → IsLoneLast es (literals_at log id) l
+    → IsGreatestBut es l (literals_at log id) level → IsLearned log es (record { clause = id; literal = l; level = level })
+lone_taught size es order log id l level live falsified like above lone greatest =
     record {
       live = live;
       once = lone_once es (literals_at log id) l lone like;
-      dead = dead;
+      falsified = falsified;
       has = lone.has;
       last = lone.last;
       earlier =
@@ -177,41 +177,41 @@ lone_taught size es order log id l level live dead like above lone greatest =
             | inl less ↦ less
             | inr atleast ↦
                 let w = greatest.reached (omega arith) in
-                let most = false_level size es order w.0 (dead w.0 w.1) in
+                let most = false_level size es order w.0 (falsified w.0 w.1) in
                 absurd (lone.others w.0 w.1 w.2 (omega (arith, most, w.3, atleast)))
           ];
       others = greatest.most;
       reached = greatest.reached;
     }
 
--- ---- The lesson
+-- ---- The learned clause
 
 unless : (b : Bool) → (b ≡ true → ⊥) → b ≡ false
 unless true f = absurd (f refl)
 unless false f = refl
 
-module _ (old new : LogState) (es : List Assigned) (dead : ℕ) (marks : List Bool) (c : Chain) (chain : IsChain old es dead marks c) where
+module _ (old new : LogState) (es : List Assigned) (falsified : ℕ) (marks : List Bool) (c : Chain) (chain : IsChain old es falsified marks c) where
   -- the marks are those of the clause, within the list
-  pub literals_within : (m : Lit) → Contains (chained old (literals_at old dead) c.links.items) m → m.term < length marks
+  pub literals_within : (m : Lit) → Contains (chained old (literals_at old falsified) c.links.items) m → m.term < length marks
   literals_within m has = marked_within marks m.term (chain.marked.each m has)
 
   pub all_unmarked : (left : List Bool) → ((t : ℕ) → is_marked left t ≡ true → is_marked marks t ≡ true)
-      → ((m : Lit) → Contains (chained old (literals_at old dead) c.links.items) m → is_marked left m.term ≡ false) → AreUnmarked left
+      → ((m : Lit) → Contains (chained old (literals_at old falsified) c.links.items) m → is_marked left m.term ≡ false) → AreUnmarked left
   all_unmarked left fewer off t = unless (is_marked left t) (λ on.
       let w = chain.marked.only t (fewer t on) in
       true≢false (sym on ∙ ap (is_marked left) (sym w.2) ∙ off w.0 w.1))
 
-  module _ (id : ℕ) (puts : Puts old id (chain_entry old dead c.links.items) new) where
-    pub literals_are : literals_at new id ≡ chained old (literals_at old dead) c.links.items
-    literals_are = puts_literals old new id (chain_entry old dead c.links.items) puts
+  module _ (id : ℕ) (puts : Puts old id (chain_entry old falsified c.links.items) new) where
+    pub literals_are : literals_at new id ≡ chained old (literals_at old falsified) c.links.items
+    literals_are = puts_literals old new id (chain_entry old falsified c.links.items) puts
 
     pub taught : (level : ℕ) → 0 < depth es → IsGreatestBut es c.literal (literals_at new id) level
-        → IsLesson new es (record { clause = id; literal = c.literal; level = level })
+        → IsLearned new es (record { clause = id; literal = c.literal; level = level })
     taught level above greatest =
         record {
           live = puts.live;
-          once = subst StandOnce (sym literals_are) (chained_once old (literals_at old dead) c.links.items chain.some);
-          dead = subst (IsDead es) (sym literals_are) chain.dead_too;
+          once = subst StandOnce (sym literals_are) (chained_once old (literals_at old falsified) c.links.items chain.some);
+          falsified = subst (IsFalsified es) (sym literals_are) chain.falsified_too;
           has = subst (λ (l : List Lit). Contains l c.literal) (sym literals_are) chain.has;
           last = chain.last;
           earlier =
