@@ -15,12 +15,12 @@ use Rattle.nz_log.specs.declared.lits.Lit.{Lit}
 use Rattle.nz_log.specs.declared.origins.Link.{Link}
 use Rattle.nz_log.specs.declared.steps.Step.{Step}
 use Rattle.nz_log.specs.declared.steps.Step.TheVariants.{Given, Gate, Resolve}
-use Rattle.nz_log.specs.Lits.{literal_of, clause_in, lit_resolvent}
+use Rattle.nz_log.specs.Lits.{LiteralsAgree, literal_of, clause_in, lit_resolvent}
 use Rattle.nz_log.specs.Logs.{RestsOn, Origin, assertion_of, gate_of, chain_of, Entry, LogState, entry_at, literals_at, level_at, chained}
 use Rattle.nz_log.specs.Sound.{live_at, live_terms, AreWithin, IsLink, IsMade, IsLog}
 use Rattle.nz_log.specs.Spelling.{is_marked, AreMarked, chain_steps, chain_place, origin_steps, origin_place, step_of}
 use Rattle.nz_log.proofs.Members.{each_of, each-resolvent}
-use Rattle.nz_log.proofs.Naming.{LiteralsAgree, resolvent_named}
+use Rattle.nz_log.proofs.Naming.{resolvent_named}
 use Rattle.nz_log.proofs.Soundness.{live_grows, within_at, same_or_other}
 
 -- ---- Derivations that go on
