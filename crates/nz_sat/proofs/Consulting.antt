@@ -1,5 +1,5 @@
 -- What a search knows after the theory was asked.
-use Rattle.std.proofs.Common.{◌≡◌, ℕ, ◌<◌, List, [], length, get_or, inl, inr, Option, None, Some, refl, sym, ap, subst, ◌∙◌, arith}
+use Rattle.std.proofs.Common.{◌≡◌, ℕ, ◌<◌, List, [], length, get_or, inl, inr, Option, None, Some, Ok, refl, sym, ap, subst, ◌∙◌, arith}
 use Rattle.std.specs.Prelude.{IfOk, IfSome}
 use Rattle.std.specs.declared.result.Result.{Result}
 use Rattle.std.proofs.lemmas.List.{append-nil}
@@ -10,6 +10,7 @@ use Rattle.nz_spec.specs.Table.{Node}
 use Rattle.nz_spec.specs.Work.{WorkList}
 use Rattle.nz_log.specs.declared.lits.Lit.{Lit}
 use Rattle.nz_log.specs.declared.note.Note.{Note}
+use Rattle.nz_log.specs.declared.stop.Stop.{Stop}
 use Rattle.nz_log.specs.Logs.{LogState, literals_at}
 use Rattle.nz_log.specs.Theories.{AddsUnits, Grows, IsClash}
 use Rattle.nz_sat.specs.declared.clauses.Held.{Held}
@@ -17,10 +18,10 @@ use Rattle.nz_sat.specs.declared.search.Search.{Search}
 use Rattle.nz_sat.specs.declared.trail.Assigned.{Assigned}
 use Rattle.nz_sat.specs.Conflicts.{GoesBackTo, HasLast, IsFalsifiedUnder, StaysSound}
 use Rattle.nz_sat.specs.Sats.{IsLegalWork}
-use Rattle.nz_sat.specs.Searching.{Advances, Carries, ComesTo, Follows, IsConflict, IsNoted, IsSearch, Learns, MayFollow, OpenOrConflict, OpenOrFalsified, Settles, StaysInOrder, Turns, TurnsOn, WasNoted, WereOpen}
+use Rattle.nz_sat.specs.Searching.{Advances, Carries, ComesTo, Follows, IsConflict, IsNoted, IsSearch, Learns, MayFollow, OpenOrConflict, OpenOrFalsified, Settles, StaysInOrder, Steps, Turns, TurnsOn, WasNoted, WereOpen}
 use Rattle.nz_sat.specs.Theories.{IsMet, IsTold, StaysSoundOver}
 use Rattle.nz_sat.specs.Trails.{GoesOn, IsTrueOn, below, depth, literals_on}
-use Rattle.nz_sat.proofs.Advancing.{far_advances, held_on, log_advances}
+use Rattle.nz_sat.proofs.Advancing.{far_advances, held_on, log_advances, steps_behind}
 use Rattle.nz_sat.proofs.Following.{carries_far, goes_first, goes_noted, stays_in_order}
 use Rattle.nz_sat.proofs.Keeping.{goes_assumed, held_live}
 use Rattle.nz_sat.proofs.Levels.{below_twice}
@@ -91,6 +92,13 @@ pub advances_on : {over over' : List Node → Type 0} → {start mid : Search} �
 advances_on {over} {over'} {start} {mid} {log} {log₁} {log₂} {held} {held₁} {held₂} {work} {work₁} {work₂} carries before keeps step =
     far_advances over over' keeps start.atoms start.trail.entries mid.trail.entries log log₁ log₂ held held₁ held₂ work work₁ work₂ carries.assumed_only before
     (subst (λ (us : List ℕ). Advances over' us mid.trail.entries log₁ log₂ held₁ held₂ work₁ work₂) carries.atoms step)
+
+pub steps_on : {over over' over'' : List Node → Type 0} → {has_told : List Lit → Type 0} → {is_feasible : Type 0} → {start mid : Search} → {es : List Assigned}
+    → {log log₁ log₂ : LogState} → {held held₁ held₂ : List Held} → {work work₁ work₂ : WorkList Note} → {answer : Result (Option ℕ) Stop}
+    → Carries start mid work work₁ → Advances over start.atoms start.trail.entries log log₁ held held₁ work work₁ → ((ns : List Node) → over ns → over' ns)
+    → Steps over' over'' has_told is_feasible mid.atoms mid.trail.entries es log₁ log₂ held₁ held₂ work₁ work₂ answer
+    → Steps over over'' has_told is_feasible start.atoms start.trail.entries es log log₂ held held₂ work work₂ answer
+steps_on carries before keeps step = steps_behind (advances_on carries before keeps step.advances) keeps step
 
 -- a look for a conflict
 pub turns_on : {start mid new : Search} → {log log' : LogState} → {held : List Held} → {work work₁ work₂ : WorkList Note} → IsSearch log held mid
@@ -243,13 +251,13 @@ module _ {over over' : List Node → Type 0} {start cut : Search} {log log' : Lo
 
   -- or is learned from
   pub settles_on : {over'' : List Node → Type 0} → {has_told : List Lit → Type 0} → {is_feasible : Type 0} → {new : Search} → {log₁ : LogState} → {held₁ : List Held}
-      → {work₁ : WorkList Note} → {told : Option ℕ} → Advances over' cut.atoms cut.trail.entries log' log₁ held' held₁ work' work₁ → TurnsOn log₁ held₁ cut new work' work₁ told
-      → IsTold has_told new.trail.entries → (told ≡ None → IsMet has_told is_feasible new.trail.entries) → ((ns : List Node) → over' ns → over'' ns)
-      → IsSettling over over'' has_told is_feasible start new log log₁ held held₁ work work₁ told
-  settles_on {new = new} {work₁ = work₁} step on is_told met keeps =
+      → {work₁ : WorkList Note} → {told : Option ℕ}
+      → Steps over' over'' has_told is_feasible cut.atoms cut.trail.entries new.trail.entries log' log₁ held' held₁ work' work₁ (Ok told)
+      → TurnsOn log₁ held₁ cut new work' work₁ told → IsSettling over over'' has_told is_feasible start new log log₁ held held₁ work work₁ told
+  settles_on {new = new} {work₁ = work₁} step on =
       let t = on.turns in
       record {
-        advances = advances_on b.carries b.advances b.keeps step;
+        advances = advances_on b.carries b.advances b.keeps step.advances;
         turns = record {
           search = t.search;
           were_open = t.were_open;
@@ -257,7 +265,7 @@ module _ {over over' : List Node → Type 0} {start cut : Search} {log log' : Lo
           noted = t.noted;
           carries = carries_far start cut new work work' work₁ b.carries t.carries;
         };
-        told = is_told;
-        met = met;
-        keeps = λ ns known. keeps ns (b.keeps ns known);
+        told = step.told;
+        met = step.met;
+        keeps = λ ns known. step.known ns (b.keeps ns known);
       }

@@ -1,11 +1,14 @@
 -- A search under way.
-use Rattle.std.specs.Prelude.{◌≡◌, ℕ, suc, ◌<◌, ◌≤◌, ◌++◌, ◌⊎◌, Bool, All, Contains, List, [], ◌∷◌, length, map, filter, Option, Some, None, IfSome, IsSome, unwrap_or}
+use Rattle.std.specs.Prelude.{◌≡◌, ℕ, suc, ◌<◌, ◌≤◌, ◌++◌, ◌⊎◌, Bool, All, Contains, List, [], ◌∷◌, length, map, filter, Option, Some, None, IfErr, IfOk, IfSome, IsSome, OnOk, unwrap_or}
+use Rattle.std.specs.declared.result.Result.{Result}
 use Rattle.nz_spec.specs.Table.{Node, term_in}
 use Rattle.nz_spec.specs.Literal.{StandOnce}
 use Rattle.nz_spec.specs.Legal.{after_lines, at_first, Task}
-use Rattle.nz_spec.specs.Work.{DecisionEntry, LearnedEntry, UnitLine, WorkLine, WorkList, unit_count, with_line}
+use Rattle.nz_spec.specs.Work.{DecisionEntry, IsSpent, LearnedEntry, UnitLine, WorkLine, WorkList, unit_count, with_line}
 use Rattle.nz_log.specs.declared.lits.Lit.{Lit}
 use Rattle.nz_log.specs.declared.note.Note.{Note}
+use Rattle.nz_log.specs.declared.stop.Stop.{Stop}
+use Rattle.nz_log.specs.declared.stop.Stop.TheVariants.{Spent}
 use Rattle.nz_log.specs.Lits.{AreConsistent}
 use Rattle.nz_log.specs.Logs.{LogState, IsLive, literals_at}
 use Rattle.nz_log.specs.Notes.{noted_list}
@@ -20,6 +23,7 @@ use Rattle.nz_log.specs.Theories.{Grows}
 use Rattle.nz_sat.specs.Conflicts.{AreUnmarked, IsFalsifiedUnder}
 use Rattle.nz_sat.specs.Numbers.{noted_atoms, number_of, numbered}
 use Rattle.nz_sat.specs.Sats.{AreHeld, HoldsMore, IsAsked, IsLegalWork}
+use Rattle.nz_sat.specs.Theories.{IsMet, IsTold}
 
 abbrev pub ids : List Held → List ℕ
 ids held = map (λ (h : Held). h.id) held
@@ -126,6 +130,16 @@ pub record Advances (over : List Node → Type 0) (atoms : List ℕ) (es : List 
   pub legal : StaysLegal over atoms log es work work'
   pub notes : noted_atoms work'.lines ≡ noted_atoms work.lines
   pub limit : work'.limit ≡ work.limit
+
+-- What a step of a search keeps, and its answer: what the theory was told of the trail, the whole of it where no clause is answered, which
+-- some values meet then; and that no unit is left where one more was wanted.
+pub record Steps (over over' : List Node → Type 0) (has_told : List Lit → Type 0) (is_feasible : Type 0) (atoms : List ℕ) (es es' : List Assigned) (log log' : LogState)
+    (held held' : List Held) (work work' : WorkList Note) (answer : Result (Option ℕ) Stop) : Type 0 where
+  pub advances : Advances over atoms es log log' held held' work work'
+  pub known : (ns : List Node) → over ns → over' ns
+  pub told : OnOk answer (IsTold has_told es')
+  pub met : IfOk answer (λ found. found ≡ None → IsMet has_told is_feasible es')
+  pub spent : IfErr answer (λ stop. stop ≡ Spent → IsSpent work')
 
 -- what is true under no decision stays so
 abbrev pub KeepsFirst : (es es' : List Assigned) → Type 0
