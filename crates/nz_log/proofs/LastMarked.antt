@@ -1,6 +1,8 @@
 -- The literals of a list that are marked, each at its last place, as one more is marked or one less.
-use Rattle.std.proofs.Common.{◌≡◌, Bool, true, false, not, ◌&&◌, ◌||◌, List, [], ◌∷◌, ◌++◌, if◌then◌else◌, refl, sym, ap, ◌∙◌, true≢false}
+use Rattle.std.proofs.Common.{◌≡◌, Bool, true, false, not, ◌&&◌, ◌||◌, List, [], ◌∷◌, ◌++◌, if◌then◌else◌, refl, sym, ap, ◌∙◌, true≢false, append_assoc}
+use Rattle.std.specs.Prelude.{reverse}
 use Rattle.std.specs.List.{list_any}
+use Rattle.std.proofs.lemmas.List.{reverse-append}
 use Rattle.std.proofs.lemmas.List.Folds.{list_any-append}
 use Rattle.nz_lists.proofs.Tests.{same_tests}
 use Rattle.nz_spec.specs.Literal.{without}
@@ -149,6 +151,14 @@ pub last_popped : (has now : Lit → Bool) (x : Lit) → has x ≡ true → ((l 
 last_popped has now x there less xs =
     last_more now has x (less x ∙ ap (λ (b : Bool). not b && has x) (lit_same x))
     (λ l. back_at (are_same_lit l x) (has l) (now l) (λ e. ap has (same_lit l x e) ∙ there) (less l)) xs
+
+-- it stands first of those that were taken off
+pub popped_joined : (has now : Lit → Bool) (x : Lit) (xs ys all : List Lit) → has x ≡ true → ((l : Lit) → now l ≡ (not (are_same_lit l x) && has l))
+    → last_marked has (xs ++ x ∷ []) ++ reverse ys ≡ all → last_marked now xs ++ reverse (ys ++ x ∷ []) ≡ all
+popped_joined has now x xs ys all there less e =
+    ap (λ (zs : List Lit). last_marked now xs ++ zs) (reverse-append ys (x ∷ []))
+    ∙ sym (append_assoc (last_marked now xs) (x ∷ []) (reverse ys))
+    ∙ ap (λ (zs : List Lit). zs ++ reverse ys) (sym (last_popped has now x there less xs)) ∙ e
 
 before_at : (s a : Bool) → s ≡ false → (a || (s || false)) ≡ true → a ≡ true
 before_at true a e h = absurd (true≢false e)

@@ -7,7 +7,7 @@ use Rattle.std.proofs.lemmas.List.Elements.{All-contains, All-push}
 use Rattle.std.proofs.lemmas.List.Sums.{get_or-le-sum_by, sum_by_push}
 use Rattle.std.proofs.lemmas.Option.{IfSome_then, get_or_from_slice_get, slice_get_within}
 use Rattle.nz_log.specs.declared.lits.Lit.{Lit}
-use Rattle.nz_log.specs.Lits.{are_same_lit, negated_lit}
+use Rattle.nz_log.specs.Lits.{TellsLits, are_same_lit, negated_lit}
 use Rattle.nz_log.specs.Logs.{LogState, literals_at}
 use Rattle.nz_sat.specs.declared.clauses.Held.{Held}
 use Rattle.nz_sat.specs.declared.search.Search.{Search}
@@ -16,7 +16,7 @@ use Rattle.nz_sat.specs.Trails.{EachBehind, GoesOn, IsFalseOn, IsTrail, IsTrueOn
 use Rattle.nz_sat.specs.Clauses.{HasReasonOf, IsAssumed, IsFalsified, IsImplied, IsOpen, IsReason, IsReasonOf, Waits}
 use Rattle.nz_sat.specs.Conflicts.{IsFalsifiedUnder}
 use Rattle.nz_sat.specs.Searching.{AreOpen, Assumes, IsSearch, MayAssume, ids}
-use Rattle.nz_sat.proofs.Clausal.{either_sign, open_grows, other_lit, same_lit, sign_again, truth_found}
+use Rattle.nz_sat.proofs.Clausal.{either_sign, open_grows, other_lit, sign_again, truth_found}
 use Rattle.nz_sat.proofs.Chains.{has_found}
 use Rattle.nz_sat.proofs.Keeping.{goes_assumed, goes_search, goes_true, held_live}
 use Rattle.nz_sat.proofs.Visiting.{goes_depth}
@@ -71,19 +71,19 @@ module _ (log : LogState) (held : List Held) (assumed : List Lit) (l : Lit) (s :
       subst (λ (xs : List Assigned). IsFalseOn xs m) (take-append-drop i s.trail.entries)
       (truth_found (take i s.trail.entries) (drop i s.trail.entries) m.term (not m.sign) h)
 
-  reason_falsified : (i : ℕ) (e : Assigned) (c : ℕ) → e.literal ≡ negated_lit l → IsReason log (take i s.trail.entries) e.literal c
+  reason_falsified : TellsLits → (i : ℕ) (e : Assigned) (c : ℕ) → e.literal ≡ negated_lit l → IsReason log (take i s.trail.entries) e.literal c
       → IsFalsifiedUnder assumed s.trail.entries (literals_at log c)
-  reason_falsified i e c turned reason m has =
+  reason_falsified tells i e c turned reason m has =
       elim (are_same_lit m e.literal) as (λ b. are_same_lit m e.literal ≡ b → IsFalseOn s.trail.entries m ⊎ Contains assumed (negated_lit m)) [
         | true ↦ λ same.
             let back : negated_lit m ≡ l =
-            ap negated_lit (same_lit m e.literal same ∙ turned) ∙ (λ i. record { term = l.term; sign = sign_again l.sign i }) in
+            ap negated_lit (tells.same m e.literal same ∙ turned) ∙ (λ i. record { term = l.term; sign = sign_again l.sign i }) in
             inr (subst (Contains assumed) (sym back) may.among)
-        | false ↦ λ differ. inl (false_later i m (reason.others m has (other_lit m e.literal differ)))
+        | false ↦ λ differ. inl (false_later i m (reason.others m has (other_lit tells m e.literal differ)))
       ] refl
 
-  pub assume_fails : (e : Assigned) → assigned s.trail.entries l.term ≡ Some e → e.literal ≢ l → Assumes log held assumed l s.trail.entries s e.reason
-  assume_fails e at other =
+  pub assume_fails : TellsLits → (e : Assigned) → assigned s.trail.entries l.term ≡ Some e → e.literal ≢ l → Assumes log held assumed l s.trail.entries s e.reason
+  assume_fails tells e at other =
       let es = s.trail.entries in
       let turned = opposite e at other in
       let place = (assigned_place es l.term e at).1 in
@@ -101,7 +101,7 @@ module _ (log : LogState) (held : List Held) (assumed : List Lit) (l : Lit) (s :
               kept = λ m h. h;
               holds = λ told. cc;
               all_open = λ told. cc;
-              falsified = (reason.live, reason_falsified place.0 e c turned reason);
+              falsified = (reason.live, reason_falsified tells place.0 e c turned reason);
             }
       ] refl caused
 

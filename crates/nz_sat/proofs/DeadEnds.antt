@@ -17,7 +17,7 @@ use Rattle.nz_spec.specs.Model.{IsAssignment}
 use Rattle.nz_spec.specs.Table.{Node, IsTable, term_in}
 use Rattle.nz_spec.specs.Term.{Term, Assignment, IsTrueUnder, apply, falsum, no_terms, is_true, value_of}
 use Rattle.nz_log.specs.declared.lits.Lit.{Lit}
-use Rattle.nz_log.specs.Lits.{are_same_lit, clause_in, literal_of, negated_lit}
+use Rattle.nz_log.specs.Lits.{TellsLits, are_same_lit, clause_in, literal_of, negated_lit}
 use Rattle.nz_log.specs.Logs.{Entry, LogState, IsLive, entry_at, literals_at}
 use Rattle.nz_log.specs.Sound.{ClausesAreTrue, IsLog, live_terms}
 use Rattle.nz_sat.specs.declared.trail.Assigned.{Assigned}
@@ -26,7 +26,7 @@ use Rattle.nz_sat.specs.Numbers.{number_of, numbered}
 use Rattle.nz_sat.specs.Trails.{EachBehind, IsFalseOn, is_decision}
 use Rattle.nz_sat.proofs.Backward.{front_place}
 use Rattle.nz_sat.proofs.Chains.{filter_has, has_first, has_found, has_more, lit_is}
-use Rattle.nz_sat.proofs.Clausal.{other_lit, same_lit}
+use Rattle.nz_sat.proofs.Clausal.{other_lit}
 use Rattle.nz_sat.proofs.Marks.{false_entry}
 use Rattle.nz_sat.proofs.Numbering.{number_place, unnamed}
 use Rattle.nz_sat.proofs.Trailing.{assigned_place}
@@ -125,7 +125,7 @@ module _ (clauses : ClausesAreTrue) (ns : List Node) (table : IsTable ns) (level
 
   -- ---- The trail
 
-  module _ (atoms : List ℕ) (assumed : List Lit) (es : List Assigned) (implied : EachBehind (IsImplied log) es)
+  module _ (tells : TellsLits) (atoms : List ℕ) (assumed : List Lit) (es : List Assigned) (implied : EachBehind (IsImplied log) es)
       (on_trail : All (λ (e : Assigned). Contains atoms e.literal.term) es) (only : All (IsAssumed assumed) es)
       (assumed_hold : AreTrueLiterals a (map (literal_of ns) assumed))
       (decided_hold : AreTrueLiterals a (literals_by (map (term_in ns) atoms) (map (λ (e : Assigned). numbered atoms e.literal) (filter is_decision es)))) where
@@ -154,8 +154,8 @@ module _ (clauses : ClausesAreTrue) (ns : List Node) (table : IsTable ns) (level
     reason_holds before each l c reason =
         let w = some_true (is_literal_true a) (literal_of ns) (literals_at log c) (clause_true c reason.live) in
         elim (are_same_lit w.0 l) as (λ b. are_same_lit w.0 l ≡ b → Holds l) [
-          | true ↦ λ same. subst Holds (same_lit w.0 l same) w.2
-          | false ↦ λ differ. absurd (false_fails before each w.0 (reason.others w.0 w.1 (other_lit w.0 l differ)) w.2)
+          | true ↦ λ same. subst Holds (tells.same w.0 l same) w.2
+          | false ↦ λ differ. absurd (false_fails before each w.0 (reason.others w.0 w.1 (other_lit tells w.0 l differ)) w.2)
         ] refl
 
     entry_holds : (i : ℕ) (e : Assigned) → slice_get es i ≡ Some e → ((x : Assigned) → Contains (take i es) x → Holds x.literal) → Holds e.literal

@@ -9,6 +9,7 @@ use Rattle.std.proofs.lemmas.List.Elements.{All-contains, All-contains_itself, A
 use Rattle.nz_spec.specs.Literal.{StandOnce}
 use Rattle.nz_log.specs.declared.lits.Lit.{Lit}
 use Rattle.nz_log.specs.declared.origins.Link.{Link}
+use Rattle.nz_log.specs.Lits.{TellsLits}
 use Rattle.nz_log.specs.Logs.{Entry, LogState, IsLive, Puts, chain_entry, chained, literals_at}
 use Rattle.nz_sat.specs.declared.analyze.Chain.{Chain}
 use Rattle.nz_sat.specs.declared.trail.Assigned.{Assigned}
@@ -205,12 +206,12 @@ module _ (old new : LogState) (es : List Assigned) (falsified : ℕ) (marks : Li
     pub literals_are : literals_at new id ≡ chained old (literals_at old falsified) c.links.items
     literals_are = puts_literals old new id (chain_entry old falsified c.links.items) puts
 
-    pub taught : (level : ℕ) → 0 < depth es → IsGreatestBut es c.literal (literals_at new id) level
+    pub taught : TellsLits → (level : ℕ) → 0 < depth es → IsGreatestBut es c.literal (literals_at new id) level
         → IsLearned new es (record { clause = id; literal = c.literal; level = level })
-    taught level above greatest =
+    taught tells level above greatest =
         record {
           live = puts.live;
-          once = subst StandOnce (sym literals_are) (chained_once old (literals_at old falsified) c.links.items chain.some);
+          once = subst StandOnce (sym literals_are) (chained_once tells old (literals_at old falsified) c.links.items chain.some);
           falsified = subst (IsFalsified es) (sym literals_are) chain.falsified_too;
           has = subst (λ (l : List Lit). Contains l c.literal) (sym literals_are) chain.has;
           last = chain.last;

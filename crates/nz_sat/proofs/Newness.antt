@@ -8,13 +8,13 @@ use Rattle.nz_spec.specs.Legal.{AreNamed}
 use Rattle.nz_spec.specs.Literal.{AreSameSet, StandOnce}
 use Rattle.nz_spec.specs.Table.{Node, term_in}
 use Rattle.nz_log.specs.declared.lits.Lit.{Lit}
-use Rattle.nz_log.specs.Lits.{are_same_lit}
+use Rattle.nz_log.specs.Lits.{TellsLits, are_same_lit}
 use Rattle.nz_sat.specs.declared.trail.Assigned.{Assigned}
 use Rattle.nz_sat.specs.Clauses.{IsFalsified, IsOpen, by_true, by_two}
 use Rattle.nz_sat.specs.Numbers.{number_of, numbered}
 use Rattle.nz_sat.specs.Trails.{EachBehind, IsFreeOn, IsNext, below, level_on, truth_on}
 use Rattle.nz_sat.proofs.Chains.{has_cases, has_first, has_found, has_more, lit_is}
-use Rattle.nz_sat.proofs.Clausal.{other_lit, same_lit}
+use Rattle.nz_sat.proofs.Clausal.{other_lit}
 use Rattle.nz_sat.proofs.DeadEnds.{number_at}
 use Rattle.nz_sat.proofs.LearnedClauses.{all_from}
 use Rattle.nz_sat.proofs.Levels.{below_true, free_high}
@@ -89,21 +89,21 @@ module _ (atoms : List ℕ) where
         once i j l.0 l.1 (m.1 ∙ ap Some (sym (lit_is l.0 m.0 term sign)))
 
     -- a clause that was open when the last decision was taken isn't the same as one with one literal of the last level
-    pub open_differs : (size : ℕ) → EachBehind (IsNext size) es → (k : ℕ) (u : Lit) → ((m : Lit) → Contains c m → m ≢ u → level_on es m.term ≤ k)
+    pub open_differs : TellsLits → (size : ℕ) → EachBehind (IsNext size) es → (k : ℕ) (u : Lit) → ((m : Lit) → Contains c m → m ≢ u → level_on es m.term ≤ k)
         → (d : List Lit) → ((l : Lit) → Contains d l → Contains atoms l.term) → IsOpen (below k es) d
         → AreSameSet (map (numbered atoms) d) (map (numbered atoms) c) → ⊥
-    open_differs size order k u others d named_d (by_true l has holds) same =
+    open_differs tells size order k u others d named_d (by_true l has holds) same =
         let there = same_has d c named_d named same l has in
         not_itself l.sign (same_Some l.sign (not l.sign) (sym (below_true size es order k l.term l.sign holds) ∙ falsified l there))
-    open_differs size order k u others d named_d (by_two l m has_l has_m differ free_l free_m) same =
+    open_differs tells size order k u others d named_d (by_two l m has_l has_m differ free_l free_m) same =
         differ (last l has_l free_l ∙ sym (last m has_m free_m)) where
           last : (x : Lit) → Contains d x → IsFreeOn (below k es) x → x ≡ u
           last x has free =
               elim (are_same_lit x u) as (λ b. are_same_lit x u ≡ b → x ≡ u) [
-                | true ↦ λ is. same_lit x u is
+                | true ↦ λ is. tells.same x u is
                 | false ↦ λ other.
                     let there = same_has d c named_d named same x has in
                     let high = free_high size es order k x (falsified x there) free in
-                    let low = others x there (other_lit x u other) in
+                    let low = others x there (other_lit tells x u other) in
                     absurd (omega (arith, high, low))
               ] refl

@@ -15,6 +15,7 @@ use Rattle.nz_spec.specs.Work.{WorkLine, WorkList, UnitLine, LearnedEntry, with_
 use Rattle.nz_spec.specs.Reply as reply
 use Rattle.nz_log.specs.declared.lits.Lit.{Lit}
 use Rattle.nz_log.specs.declared.note.Note.{Note}
+use Rattle.nz_log.specs.Lits.{TellsLits}
 use Rattle.nz_log.specs.Logs.{LogState, literals_at}
 use Rattle.nz_log.specs.Notes.{noted_line, noted_list}
 use Rattle.nz_log.specs.Sound.{ClausesAreTrue, IsLog}
@@ -162,16 +163,16 @@ module _ (log log' : LogState) (held : List Held) (s : state.Search) (work : Wor
   stays over = stays_in_order over s.atoms es h.search.on_trail log log' h.sound
 
   -- it isn't the same as a clause that is held
-  learned_new : (i : ℕ) → Contains (ids held) i → AreSameSet (map (numbered s.atoms) (literals_at log i)) (map (numbered s.atoms) lits) → ⊥
-  learned_new i has same =
+  learned_new : TellsLits → (i : ℕ) → Contains (ids held) i → AreSameSet (map (numbered s.atoms) (literals_at log i)) (map (numbered s.atoms) lits) → ⊥
+  learned_new tells i has same =
       let k = depth es - 1 in
       let less : k < depth es = omega (arith, h.decided) in
       let opened = All-contains (λ (j : ℕ). IsOpen (below k es) (literals_at log j)) (ids held) i (h.were_open k less) has in
-      open_differs s.atoms es lits learned_named h.learned.falsified s.trail.size h.search.order k l.literal
+      open_differs s.atoms es lits learned_named h.learned.falsified tells s.trail.size h.search.order k l.literal
       (λ m there other. let low = h.learned.others m there other in let earlier = h.learned.earlier in omega (arith, low, earlier))
       (literals_at log i) (held_named s.atoms log (ids held) h.search.named i has) opened same
 
-  module _ (clauses : ClausesAreTrue) (ns : List Node) (levels : List (List ℕ)) (assumed : List Lit) (q : Task) (only : All (IsAssumed assumed) es)
+  module _ (tells : TellsLits) (clauses : ClausesAreTrue) (ns : List Node) (levels : List (List ℕ)) (assumed : List Lit) (q : Task) (only : All (IsAssumed assumed) es)
       (asked : IsAsked ns levels log s.atoms assumed q) where
     abbrev at : Search
     at = after_lines at_first (noted_list ns work).lines
@@ -186,7 +187,7 @@ module _ (log log' : LogState) (held : List Held) (s : state.Search) (work : Wor
         let noted = h.noted.noted in
         let named' = subst (λ (ts : List Term). AreTrueLiterals a (literals_by ts at.decided)) (noted.named ns) decided_hold in
         let decided' = subst (λ (ps : List (ℕ × Bool)). AreTrueLiterals a (literals_by (map (term_in ns) s.atoms) ps)) (noted.decided ns) named' in
-        none_falsified clauses ns asked.table levels log asked.order a model.sorts hold s.atoms assumed es h.search.implied h.search.on_trail only assumed'
+        none_falsified clauses ns asked.table levels log asked.order a model.sorts hold tells s.atoms assumed es h.search.implied h.search.on_trail only assumed'
         (front_decided a (map (term_in ns) s.atoms) (λ (e : Assigned). numbered s.atoms e.literal) es h.noted.all h.noted.front decided')
         falsified h.conflict.live h.conflict.falsified
 
@@ -214,27 +215,27 @@ module _ (log log' : LogState) (held : List Held) (s : state.Search) (work : Wor
           once = numbers_once s.atoms es lits learned_named h.learned.falsified h.learned.once;
           new = All-weaker (λ (c : List (ℕ × Bool)). (i : ℕ) × Contains (ids held) i × (map (numbered s.atoms) (literals_at log i) ≡ c))
               (λ (c : List (ℕ × Bool)). AreSameSet c (map (numbered s.atoms) lits) → ⊥)
-              (λ c w same. learned_new w.0 w.1 (subst (λ (d : List (ℕ × Bool)). AreSameSet d (map (numbered s.atoms) lits)) (sym w.2) same))
+              (λ c w same. learned_new tells w.0 w.1 (subst (λ (d : List (ℕ × Bool)). AreSameSet d (map (numbered s.atoms) lits)) (sym w.2) same))
               at.learned (noted.learned ns);
         }
 
   -- the list stays legal with its line
-  pub line_legal : ClausesAreTrue → LegalWorkGoesOn → (over : List Node → Type 0) → StaysLegal over s.atoms log es work (with_line work (learned_line s.atoms log' l))
-  line_legal clauses goes_on over ns levels assumed q known only asked legal =
+  pub line_legal : TellsLits → ClausesAreTrue → LegalWorkGoesOn → (over : List Node → Type 0) → StaysLegal over s.atoms log es work (with_line work (learned_line s.atoms log' l))
+  line_legal tells clauses goes_on over ns levels assumed q known only asked legal =
       let line : WorkLine reply.Note = UnitLine (LearnedEntry l.level (map (numbered s.atoms) lits)) in
       subst (λ (lines : List (WorkLine reply.Note)). AreLegal q at_first lines) (sym (map-append (noted_line ns) work.lines (learned_line s.atoms log' l ∷ [])))
-      (goes_on q at_first (noted_list ns work).lines line legal (may_learn clauses ns levels assumed q only asked))
+      (goes_on q at_first (noted_list ns work).lines line legal (may_learn tells clauses ns levels assumed q only asked))
 
   -- a step that adds it
-  pub line_advances : ClausesAreTrue → LegalWorkGoesOn → (over : List Node → Type 0) (held' : List Held) → HoldsMore log' held held' → (work' : WorkList Note)
+  pub line_advances : TellsLits → ClausesAreTrue → LegalWorkGoesOn → (over : List Node → Type 0) (held' : List Held) → HoldsMore log' held held' → (work' : WorkList Note)
       → work' ≡ with_line work (learned_line s.atoms log' l) → Advances over s.atoms es log log' held held' work work'
-  line_advances clauses goes_on over held' more work' is =
+  line_advances tells clauses goes_on over held' more work' is =
       subst (Advances over s.atoms es log log' held held' work) (sym is)
       (record {
         grows = h.grows;
         sound = stays over;
         holds_more = more;
-        legal = line_legal clauses goes_on over;
+        legal = line_legal tells clauses goes_on over;
         notes = unit_noted work.lines (LearnedEntry l.level (map (numbered s.atoms) (literals_at log' l.clause)));
         limit = refl;
       })

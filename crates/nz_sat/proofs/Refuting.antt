@@ -5,7 +5,7 @@ use Rattle.std.proofs.lemmas.List.{take_all}
 use Rattle.std.proofs.lemmas.List.Elements.{All-contains}
 use Rattle.nz_log.specs.declared.lits.Lit.{Lit}
 use Rattle.nz_log.specs.declared.origins.Link.{Link}
-use Rattle.nz_log.specs.Lits.{negated_lit}
+use Rattle.nz_log.specs.Lits.{TellsLits, negated_lit}
 use Rattle.nz_log.specs.Logs.{LogState, chained, literals_at}
 use Rattle.nz_sat.specs.declared.trail.Assigned.{Assigned}
 use Rattle.nz_sat.specs.Trails.{EachBehind, IsFalseOn, IsNext, depth}
@@ -56,14 +56,14 @@ module _ (s : LogState) (size : ℕ) (es : List Assigned) (order : EachBehind (I
         ];
   }
 
-  pub assumed_on : (clause : ℕ) → e.reason ≡ Some clause → IsImplied s (take i es) e → (new : List Bool) → MarksFalse es (literals_at s clause) marks new
+  pub assumed_on : TellsLits → (clause : ℕ) → e.reason ≡ Some clause → IsImplied s (take i es) e → (new : List Bool) → MarksFalse es (literals_at s clause) marks new
       → IsOnWayToAssumed s es falsified i new (ks ++ link_of e clause ∷ [])
-  assumed_on clause reason implied new made =
+  assumed_on tells clause reason implied new made =
       let why : IsReason s (take i es) e.literal clause = subst (IsReasonOf s (take i es) e.literal) reason implied in
       record {
         links = links_longer s es i e at ks clause why.live way.links;
         each = λ assumed all under m has.
-            elim (longer_from s (literals_at s falsified) ks e clause m has) [
+            elim (longer_from tells s (literals_at s falsified) ks e clause m has) [
               | inl old ↦ elim (way.each assumed all under m old.0) [
                 | inl negated ↦ inl negated
                 | inr w ↦ elim (earlier m w) [

@@ -8,7 +8,7 @@ use Rattle.std.proofs.lemmas.List.Elements.{All-nil, All-push}
 use Rattle.std.proofs.lemmas.Option.{same_Some}
 use Rattle.nz_log.specs.declared.lits.Lit.{Lit}
 use Rattle.nz_log.specs.declared.origins.Link.{Link}
-use Rattle.nz_log.specs.Lits.{negated_lit, lit_resolvent}
+use Rattle.nz_log.specs.Lits.{TellsLits, negated_lit, lit_resolvent}
 use Rattle.nz_log.specs.Logs.{LogState, IsLive, chained, literals_at}
 use Rattle.nz_sat.specs.declared.analyze.Chain.{Chain}
 use Rattle.nz_sat.specs.declared.trail.Assigned.{Assigned}
@@ -24,10 +24,10 @@ abbrev pub link_of : Assigned → ℕ → Link
 link_of e clause = record { clause = clause; literal = negated_lit e.literal }
 
 -- a literal of the clause with one link more is another one of the clause before, or of the reason
-pub longer_from : (s : LogState) (c : List Lit) (ks : List Link) (e : Assigned) (clause : ℕ) (m : Lit) → Contains (chained s c (ks ++ link_of e clause ∷ [])) m
+pub longer_from : TellsLits → (s : LogState) (c : List Lit) (ks : List Link) (e : Assigned) (clause : ℕ) (m : Lit) → Contains (chained s c (ks ++ link_of e clause ∷ [])) m
     → (Contains (chained s c ks) m × (m ≢ negated_lit e.literal)) ⊎ (Contains (literals_at s clause) m × (m ≢ e.literal))
-longer_from s c ks e clause m has =
-    elim (resolvent_from (negated_lit e.literal) (chained s c ks) (literals_at s clause) m
+longer_from tells s c ks e clause m has =
+    elim (resolvent_from tells (negated_lit e.literal) (chained s c ks) (literals_at s clause) m
     (subst (λ (d : List Lit). Contains d m) (chained_more s c ks (link_of e clause)) has)) [
       | inl old ↦ inl (old.0, λ same. old.1 (sym same))
       | inr of_reason ↦ inr (of_reason.0, λ same. of_reason.1 (twice_negated e.literal ∙ sym same))
@@ -131,7 +131,7 @@ module _ (s : LogState) (size : ℕ) (es : List Assigned) (order : EachBehind (I
         }
 
     -- the reason of the entry, its other literals before it
-    module _ (clause : ℕ) (reason : e.reason ≡ Some clause) (implied : IsImplied s (take i es) e) (new : List Bool) (more : ℕ)
+    module _ (tells : TellsLits) (clause : ℕ) (reason : e.reason ≡ Some clause) (implied : IsImplied s (take i es) e) (new : List Bool) (more : ℕ)
         (made : MarksCounted es (literals_at s clause) (depth es) (slice_set marks e.literal.term false) new more) where
       reason_is : IsReason s (take i es) e.literal clause
       reason_is = subst (IsReasonOf s (take i es) e.literal) reason implied
@@ -144,7 +144,7 @@ module _ (s : LogState) (size : ℕ) (es : List Assigned) (order : EachBehind (I
 
       parts : (m : Lit) → Contains (chained s (literals_at s falsified) longer) m
           → (Contains so_far m × (m ≢ negated_lit e.literal)) ⊎ (Contains (literals_at s clause) m × (m ≢ e.literal))
-      parts m has = longer_from s (literals_at s falsified) ks e clause m has
+      parts m has = longer_from tells s (literals_at s falsified) ks e clause m has
 
       before_new : (m : Lit) → Contains (chained s (literals_at s falsified) longer) m → IsFalseOn (take i es) m
       before_new m has =
@@ -162,12 +162,12 @@ module _ (s : LogState) (size : ℕ) (es : List Assigned) (order : EachBehind (I
       has_old : (m : Lit) → Contains so_far m → m ≢ negated_lit e.literal → Contains (chained s (literals_at s falsified) longer) m
       has_old m has other =
           subst (λ (c : List Lit). Contains c m) (sym longer_is)
-          (resolvent_first (negated_lit e.literal) so_far (literals_at s clause) m has (λ same. other (sym same)))
+          (resolvent_first tells (negated_lit e.literal) so_far (literals_at s clause) m has (λ same. other (sym same)))
 
       has_of_reason : (m : Lit) → Contains (literals_at s clause) m → m ≢ e.literal → Contains (chained s (literals_at s falsified) longer) m
       has_of_reason m has other =
           subst (λ (c : List Lit). Contains c m) (sym longer_is)
-          (resolvent_second (negated_lit e.literal) so_far (literals_at s clause) m has (λ same. other (sym same ∙ twice_negated e.literal)))
+          (resolvent_second tells (negated_lit e.literal) so_far (literals_at s clause) m has (λ same. other (sym same ∙ twice_negated e.literal)))
 
       only_new : (t : ℕ) → is_marked new t ≡ true → (m : Lit) × Contains (chained s (literals_at s falsified) longer) m × (m.term ≡ t)
       only_new t up =

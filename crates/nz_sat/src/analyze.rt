@@ -10,6 +10,7 @@ ghost use Rattle.nz_sat.specs.Trails.{EachBehind, IsTrail, depth, level_on};
 use crate::order::Order;
 use crate::trail::Trail;
 use nz_base::Memory;
+use nz_log::laws::tells_lits;
 use nz_log::{ClauseId, Link, Lit, Log};
 use std::alloc::Global;
 
@@ -85,6 +86,7 @@ fn chain_back(
     requires unmarked { AreUnmarked seen.old }
     ensures chain { IfOk result (λ c. IsChain log.now trail.now.entries falsified seen.new c) }
 {
+    tells_lits();
     let level = trail.level();
     let count = trail.len();
     let mut links = Vec::new(alloc);
@@ -111,6 +113,7 @@ fn chain_back(
 fn level_but(trail: &Trail, literals: &[Lit], but: Lit) -> usize
     ensures greatest { IsGreatestBut trail.now.entries but literals.now result }
 {
+    tells_lits();
     let mut level = 0;
     for literal in literals {
         if !literal.is(but) {
@@ -136,6 +139,7 @@ fn lone_last(trail: &Trail, literals: &[Lit]) -> Option<Lit>
     requires last { HasLast trail.now.entries literals.now }
     ensures lone { MatchOption result (HasTwoLast trail.now.entries literals.now) (IsLoneLast trail.now.entries literals.now) }
 {
+    tells_lits();
     let last = trail.level();
     let mut lone: Option<Lit> = None;
     for literal in literals {
@@ -174,6 +178,7 @@ fn learn_from(
     ensures learned { IfOk result (λ l. IsLearned log.new trail.now.entries l) }
     ensures unmarked { OnOk result (AreUnmarked seen.new) }
 {
+    tells_lits();
     let Chain { links, literal } = chain_back(alloc, log, trail, order, seen, falsified)?;
     order.decay();
     let clause = log.chain(falsified, &links)?;
@@ -237,6 +242,7 @@ fn chain_to_assumed(
     ensures links { IfOk result (λ v. AreLinks log.now trail.now.entries v.items) }
     ensures refutes { IfOk result (λ v. RefutesFrom trail.now.entries (literals_at log.now falsified) (chained log.now (literals_at log.now falsified) v.items)) }
 {
+    tells_lits();
     let count = trail.len();
     let mut links = Vec::new(alloc);
     mark(trail, order, seen, log.clause(falsified), 0);

@@ -7,6 +7,7 @@ ghost use Rattle.nz_sat.specs.Trails.{EachBehind, GoesOn, IsTrail};
 
 use crate::clauses::{Held, Index};
 use crate::trail::Trail;
+use nz_log::laws::tells_lits;
 use nz_log::{ClauseId, Lit, Log};
 
 /// The status of a clause under a trail.
@@ -23,6 +24,7 @@ enum Status {
 fn status_of(trail: &Trail, literals: &[Lit]) -> Status
     ensures status { HasStatus trail.now.entries literals.now result }
 {
+    tells_lits();
     let mut undecided: Option<Lit> = None;
     for literal in literals {
         match trail.value(*literal) {

@@ -25,7 +25,7 @@ use crate::order::Order;
 use crate::propagate::{propagate, visit_held};
 use crate::trail::Trail;
 use nz_base::{Entry, Literals, Memory, Work};
-use nz_log::laws::clauses_are_true;
+use nz_log::laws::{clauses_are_true, tells_lits};
 use nz_log::{ClauseId, Lit, Log, Note, Stop, Theory};
 use nz_spec::work::legal_work_goes_on;
 use nz_term::TermId;
@@ -90,6 +90,7 @@ impl Search {
         ensures rest { self.new ≡ record self.old { trail = self.new.trail } }
         ensures comes { (held : List Held) (assumed : List Lit) → MayAssume log.now held assumed literal self.old → Assumes log.now held assumed literal self.old.trail.entries self.new result }
     {
+        tells_lits();
         match self.trail.assigned(literal.term) {
             Some(entry) if entry.literal.is(literal) => None,
             Some(entry) => entry.reason,
@@ -317,6 +318,7 @@ impl Search {
         ensures over { (ns : List Node) → T.is_over theory.old ns → T.is_over theory.new ns }
         ensures spent { IfErr result (λ e. e ≡ stop.Spent → IsSpent work.new) }
     {
+        tells_lits();
         clauses_are_true();
         legal_work_goes_on();
         let alloc = *held.allocator();

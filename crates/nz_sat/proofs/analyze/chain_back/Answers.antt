@@ -38,7 +38,7 @@ overflow_add-left c =
     let reason : e.reason ≡ Some c.in-Some.clause = search rules in
     let made = counted_over es _ (literals_at s c.in-Some.clause) _ (depth es) _ _ _ c.clause-in-Some.ensures.literals c.level-level.ensures.level c.mark-left-in-Some.ensures.marks in
     let next = way_on s c.args.trail.now.size es c.len-count.ensures.trail c.args.falsified c.loop-i.i (c.loop-i.i - 1) (omega arith) e c.entry-entry.ensures.entry
-    c.loop-i.seen c.loop-i.links.items c.loop-i.left c.loop-i.invariant c.if-seen-entry.true c.in-Some.clause reason
+    c.loop-i.seen c.loop-i.links.items c.loop-i.left c.loop-i.invariant c.if-seen-entry.true c.tells_lits.ensures.tells c.in-Some.clause reason
     (c.requires.implied (c.loop-i.i - 1) e c.entry-entry.ensures.entry) c.mark-left-in-Some.new.seen c.mark-left-in-Some.result made c.if-left-gt1.true in
     let n = c.loop-i.i - 1 in
     let less = count_by-le-length (is_marked_of c.mark-left-in-Some.new.seen (depth es)) (take n es) in
@@ -52,7 +52,7 @@ loop-i-preserved-then-left-gt1 c =
     let reason : e.reason ≡ Some c.in-Some.clause = search rules in
     let made = counted_over es _ (literals_at s c.in-Some.clause) _ (depth es) _ _ _ c.clause-in-Some.ensures.literals c.level-level.ensures.level c.mark-left-in-Some.ensures.marks in
     let next = way_on s c.args.trail.now.size es c.len-count.ensures.trail c.args.falsified c.loop-i.i (c.loop-i.i - 1) (omega arith) e c.entry-entry.ensures.entry
-    c.loop-i.seen c.loop-i.links.items c.loop-i.left c.loop-i.invariant c.if-seen-entry.true c.in-Some.clause reason
+    c.loop-i.seen c.loop-i.links.items c.loop-i.left c.loop-i.invariant c.if-seen-entry.true c.tells_lits.ensures.tells c.in-Some.clause reason
     (c.requires.implied (c.loop-i.i - 1) e c.entry-entry.ensures.entry) c.mark-left-in-Some.new.seen c.mark-left-in-Some.result made c.if-left-gt1.true in
     let longer : c.push.new.self.items ≡ c.loop-i.links.items ++ link_of e c.in-Some.clause ∷ [] =
     c.in_ok-push-in-Some.ensures.items ∙ ap (λ (l : Lit). c.loop-i.links.items ++ record { clause = c.in-Some.clause; literal = l } ∷ []) c.not-literal.ensures.negation in

@@ -36,7 +36,7 @@ loop-i-preserved-in-Continue-1 c =
     c.in_ok-push.ensures.items ∙ ap (λ (l : Lit). c.loop-i.links.items ++ record { clause = c.in-Some.clause; literal = l } ∷ []) c.not.ensures.negation in
     subst (IsOnWayToAssumed s es c.args.falsified i new) (sym longer)
     (assumed_on s c.args.trail.now.size es c.len-count.ensures.trail c.args.falsified c.loop-i.i i (omega arith) e c.entry-entry.ensures.entry c.loop-i.seen c.loop-i.links.items
-    c.loop-i.invariant c.in-Some.clause reason (c.requires.implied i e c.entry-entry.ensures.entry) new made)
+    c.loop-i.invariant c.tells_lits.ensures.tells c.in-Some.clause reason (c.requires.implied i e c.entry-entry.ensures.entry) new made)
 
 pub loop-i-preserved-in_default : goal.loop-i-preserved-in_default
 loop-i-preserved-in_default c =

@@ -41,4 +41,4 @@ returns-clause-learned c =
     let puts : Puts old c.in_ok-clause.clause (chain_entry old c.args.falsified chain.links.items) new =
     subst (λ (ks : List Link). Puts old c.in_ok-clause.clause (chain_entry old c.args.falsified ks) new) c.deref.ensures.value c.in_ok-clause.ensures.made in
     let greatest = subst (λ (l : List Lit). IsGreatestBut es chain.literal l c.level_but-level.result) c.clause-literals.ensures.literals c.level_but-level.ensures.greatest in
-    taught old new es c.args.falsified marks chain c.in_ok-links.ensures.chain c.in_ok-clause.clause puts c.level_but-level.result c.requires.decided greatest
+    taught old new es c.args.falsified marks chain c.in_ok-links.ensures.chain c.in_ok-clause.clause puts c.tells_lits.ensures.tells c.level_but-level.result c.requires.decided greatest

@@ -5,7 +5,7 @@ use Rattle.nz_log.specs.declared.lits.Lit.{Lit}
 use Rattle.nz_log.specs.Lits.{are_same_lit}
 use Rattle.nz_sat.specs.Trails.{HasValue, IsFalseOn, IsTrueOn}
 use Rattle.nz_sat.specs.Clauses.{by_true, by_two}
-use Rattle.nz_sat.proofs.Clausal.{other_lit, same_lit}
+use Rattle.nz_sat.proofs.Clausal.{other_lit}
 use Rattle.nz_sat.proofs.ClauseStatus.{IsLeft, left_again, left_falsified, left_false, left_first, left_unit}
 use Rattle.nz_sat.proofs.propagate.status_of.Goals as goal
 use Rattle.nz_sat.proofs.propagate.status_of.Goals.{in-Some-false, in-None+in-Some+else-not-is, in-None+in-None-undecided}
@@ -30,7 +30,7 @@ loop-literal-preserved c =
           let other = w.in-Some.other in
           let left : IsLeft es cs (take i cs) (Some other) = subst Q w.in-Some.is c.loop-literal.invariant in
           let same : are_same_lit other lit ≡ true = search rules in
-          subst P (sym w.undecided-is) (left_again es cs i blank inside other (same_lit other lit same) left)
+          subst P (sym w.undecided-is) (left_again es cs i blank inside other (c.tells_lits.ensures.tells.same other lit same) left)
       | in-None+in-None-undecided w ↦
           let left : IsLeft es cs (take i cs) None = subst Q w.in-None-undecided.is c.loop-literal.invariant in
           subst P (sym w.undecided-is) (left_first es cs i blank inside w.in-None.ensures.value left)
@@ -57,7 +57,7 @@ returns-then-not-is c =
     let Q : Option Lit → Type 0 = λ o. IsLeft es cs (take i cs) o in
     let left : IsLeft es cs (take i cs) (Some other) = subst Q c.in-Some.is c.loop-literal.invariant in
     let differ : are_same_lit other lit ≡ false = search rules in
-    record { status = by_two other lit left.0 (Contains-get_or cs i blank inside) (other_lit other lit differ) left.1 c.in-None.ensures.value }
+    record { status = by_two other lit left.0 (Contains-get_or cs i blank inside) (other_lit c.tells_lits.ensures.tells other lit differ) left.1 c.in-None.ensures.value }
 
 pub returns-in-Some-undecided : goal.returns-in-Some-undecided
 returns-in-Some-undecided c =
