@@ -42,7 +42,7 @@ impl Marks {
     /// Marks a literal.
     pub fn mark(&mut self, literal: Lit) -> Result<(), Memory>
         ensures marked { OnOk result ((l : Lit) → has_mark self.new l ≡ (are_same_lit l literal || has_mark self.old l)) }
-        ensures unchanged { OnErr result (self.new ≡ self.old) }
+        ensures unchanged { OnErr result ((l : Lit) → has_mark self.new l ≡ has_mark self.old l) }
     {
         if literal.sign {
             mark_at(&mut self.holds, literal.term)
@@ -76,7 +76,7 @@ fn has_at(marks: &[bool], i: usize) -> bool
 /// Marks a number.
 fn mark_at(marks: &mut Vec<bool>, i: usize) -> Result<(), Memory>
     ensures marked { OnOk result ((k : ℕ) → is_marked marks.new.items k ≡ ((k == i) || is_marked marks.old.items k)) }
-    ensures unchanged { OnErr result (marks.new ≡ marks.old) }
+    ensures unchanged { OnErr result (marks.new.items ≡ marks.old.items) }
 {
     let Some(count) = i.checked_add(1) else {
         return Err(Memory);
