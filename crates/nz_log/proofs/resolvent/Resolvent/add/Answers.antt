@@ -19,11 +19,6 @@ returns-then-has c =
 pub invariant_of-self-2 : goal.invariant_of-self-2
 invariant_of-self-2 c =
     subst (AreListed (has_mark c.mark.new.self)) (sym c.in_ok-push.ensures.items)
-    (λ l marked. listed_behind (has_mark c.self.inside.marks) c.args.literal c.self.inside.came.items c.self.invariant l (sym (c.in_err-mark.ensures.unchanged l) ∙ marked))
-
-pub invariant_of-self-3 : goal.invariant_of-self-3
-invariant_of-self-3 c =
-    subst (AreListed (has_mark c.mark.new.self)) (sym c.in_ok-push.ensures.items)
     (listed_more (has_mark c.self.inside.marks) (has_mark c.mark.new.self) c.args.literal c.self.inside.came.items c.self.invariant c.in_ok-mark.ensures.marked)
 
 pub returns : goal.returns
