@@ -10,10 +10,10 @@ use Rattle.nz_log.proofs.resolvent.Resolvent.resolve_with.Goals as goal
 pub returns : goal.returns
 returns c = record {
   resolvent = on_ok_weaker c.add_others.result
-    (λ added d is.
-    added
-    ∙ ap (λ s. fold (with_one are_same_lit) s (without are_same_lit c.not.result c.args.clause.now)) c.remove.ensures.removed
-    ∙ ap (λ (l : Lit). fold (with_one are_same_lit) (without are_same_lit c.args.on c.args.self.now) (without are_same_lit l c.args.clause.now)) c.not.ensures.negation
-    ∙ resolvent_of_set c.args.on d c.args.clause.now c.args.self.now is)
-    c.add_others.ensures.added;
+      (λ added d is.
+      added
+      ∙ ap (λ s. fold (with_one are_same_lit) s (without are_same_lit c.not.result c.args.clause.now)) c.remove.ensures.removed
+      ∙ ap (λ (l : Lit). fold (with_one are_same_lit) (without are_same_lit c.args.on c.args.self.now) (without are_same_lit l c.args.clause.now)) c.not.ensures.negation
+      ∙ resolvent_of_set c.args.on d c.args.clause.now c.args.self.now is)
+      c.add_others.ensures.added;
 }
