@@ -29,6 +29,7 @@ pub mod ReadOperands
 pub mod Readings
 pub mod Roots
 pub mod Rounds
+pub mod Same
 pub mod Scripts
 pub mod Sorted
 pub mod SortedStates
