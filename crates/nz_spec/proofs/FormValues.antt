@@ -147,7 +147,7 @@ module _ (numbering : Numbering) (a : Assignment) where
     joined-value (p ∷ ps) q =
         value_by p ps q (are_same_term p.unit q.unit) (nat_lt (numbering q.unit) (numbering p.unit)) refl (joined-value ps q)
 
-    parts-value : (ps qs : List Part) → parts_value a (parts_joined numbering op ps qs).result =ℚ (parts_value a ps +ℚ signed op (parts_value a qs))
+    pub parts-value : (ps qs : List Part) → parts_value a (parts_joined numbering op ps qs).result =ℚ (parts_value a ps +ℚ signed op (parts_value a qs))
     parts-value ps [] =
         =ℚ_sym (=ℚ_trans (+ℚ-same (=ℚ_refl (parts_value a ps)) joins.zero_is) (+ℚ-zero (parts_value a ps)))
     parts-value ps (q ∷ qs) =
@@ -186,7 +186,7 @@ module _ (numbering : Numbering) (a : Assignment) where
 
   -- ---- Scaled and negated
 
-  parts-scaled : (times : Fraction → Computation Fraction) (k : Fraction) → ((c : Fraction) → (times c).result =ℚ (k *ℚ c))
+  pub parts-scaled : (times : Fraction → Computation Fraction) (k : Fraction) → ((c : Fraction) → (times c).result =ℚ (k *ℚ c))
       → (ps : List Part) → parts_value a (parts_scaled times ps).result =ℚ (k *ℚ parts_value a ps)
   parts-scaled times k is [] = =ℚ_sym (times_zero k)
   parts-scaled times k is (p ∷ ps) =

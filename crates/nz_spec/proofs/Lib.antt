@@ -6,12 +6,14 @@ pub mod Decimals
 pub mod Derivations
 pub mod Divisions
 pub mod Examples
+pub mod FarkasSums
 pub mod FormNumbers
 pub mod FormPlaces
 pub mod FormSums
 pub mod FormTerms
 pub mod FormValues
 pub mod FractionArithmetic
+pub mod FractionBounds
 pub mod FractionLaws
 pub mod FractionOrder
 pub mod GateSettling
