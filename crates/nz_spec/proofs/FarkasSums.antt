@@ -110,7 +110,7 @@ module _ (a : Assignment) where
       by_parts [] s b f k = never s b k f
       by_parts (p ∷ ps) s b f k = true≢false (sym f)
 
-found : {c d : Clause} → Some c ≡ Some d → c ≡ d
+pub found : {c d : Clause} → Some c ≡ Some d → c ≡ d
 found e = cc
 
 module _ (number : Numbering) (ms : List Multiple) (c : Clause) (a : Assignment) where

@@ -2,6 +2,7 @@ mod Listed
 mod Uses
 pub mod Arguments
 pub mod ByteClasses
+pub mod CutSums
 pub mod Decimals
 pub mod Derivations
 pub mod Divisions
@@ -20,6 +21,7 @@ pub mod GateSettling
 pub mod GateTruths
 pub mod InfinitesimalLaws
 pub mod Instances
+pub mod IntegerSums
 pub mod LegalWork
 pub mod LinearLiterals
 pub mod Literals
