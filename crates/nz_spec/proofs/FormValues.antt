@@ -157,7 +157,7 @@ module _ (numbering : Numbering) (a : Assignment) where
         (=ℚ_trans (+ℚ_assoc (parts_value a ps) (part_value q) (signed op rest))
         (+ℚ-same (=ℚ_refl (parts_value a ps)) (=ℚ_sym (joins.sum_is (q.coefficient *ℚ unit_value a q.unit) rest)))))
 
-    form-joined : (f g : Form) → form_value a (joined numbering op f g).result =ℚ (form_value a f +ℚ signed op (form_value a g))
+    pub form-joined : (f g : Form) → form_value a (joined numbering op f g).result =ℚ (form_value a f +ℚ signed op (form_value a g))
     form-joined f g =
         let x = parts_value a f.parts in
         let y = parts_value a g.parts in

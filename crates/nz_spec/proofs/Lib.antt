@@ -24,6 +24,7 @@ pub mod Instances
 pub mod IntegerSums
 pub mod LegalWork
 pub mod LinearLiterals
+pub mod LinkTruths
 pub mod Literals
 pub mod Normal
 pub mod NormalGates
