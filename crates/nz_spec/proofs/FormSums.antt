@@ -21,7 +21,7 @@ use Rattle.nz_spec.proofs.Same.{same_term}
 abbrev IsNonzero : Part → Type 0
 IsNonzero p = is_zero p.coefficient ≡ false
 
-neg-neg : (q : Fraction) → neg_ℚ (neg_ℚ q) =ℚ q
+pub neg-neg : (q : Fraction) → neg_ℚ (neg_ℚ q) =ℚ q
 neg-neg q =
     by_parts (neg_parts (neg_parts (own_parts q))) (own_parts q)
     (solve (q.numerator ∷ pos (denominator q) ∷ []) (Minus (Minus (Atom 0)) ⊗ Atom 1) (Atom 0 ⊗ Atom 1) refl)

@@ -93,7 +93,7 @@ greatest_lt b = ≤ℚ-<ℚ_trans (≤ℚ-from_eq (greatest_is b)) (rounds b).1.
 -- ---- Sums of integers
 
 -- a value of sort Int is an integer
-whole_value : (v : Value) → IsOfSort int_sort v → number_of v =ℚ whole (number_of v).numerator
+pub whole_value : (v : Value) → IsOfSort int_sort v → number_of v =ℚ whole (number_of v).numerator
 unfolding denominator
 whole_value (truth b) h = absurd h
 whole_value (number q) h = record { cross = ap (λ (b : ℕ). q.numerator *ℤ pos (suc b)) (sym h) }

@@ -42,4 +42,5 @@ pub mod SortedTerms
 pub mod Tables
 pub mod Tellings
 pub mod Transcripts
+pub mod UnitTruths
 pub mod WrittenTerms

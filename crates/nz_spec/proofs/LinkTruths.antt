@@ -2,6 +2,7 @@
 use Rattle.std.proofs.Common.{◌≡◌, Bool, true, false, not, ◌&&◌, ◌||◌, ◌⊎◌, inl, inr, List, [], ◌∷◌, map, pos, refl, sym, ap, ap₂, ◌∙◌, true≢false, Ordering, Less, Equal, Greater}
 use Rattle.std.specs.Prelude.{if◌then◌else◌, ⊤}
 use Rattle.std.specs.List.{AllByRecursion}
+use Rattle.std.proofs.Math.Bool.{or-false}
 use Rattle.std.proofs.lemmas.Bool.{and_parts}
 use Rattle.nz_spec.specs.Fraction.{Fraction, whole, ◌=ℚ◌, ◌≤ℚ◌, ◌<ℚ◌, ◌+ℚ◌, neg_ℚ, fraction_cmp, fraction_eq, fraction_le, fraction_lt, floor, Difference}
 use Rattle.nz_spec.specs.Computation.{Computation, at_once, in_turn}
@@ -19,6 +20,7 @@ use Rattle.nz_spec.proofs.FractionOrder.{fraction_ranked, fraction_cmp_is, same-
 use Rattle.nz_spec.proofs.FractionArithmetic.{+ℚ_comm, +ℚ-neg, +ℚ-same, neg_ℚ-same, cmp-same, cmp-+ℚ}
 use Rattle.nz_spec.proofs.FormTerms.{form_has_value}
 use Rattle.nz_spec.proofs.FormValues.{by_difference, form-joined}
+use Rattle.nz_spec.proofs.GateTruths.{implies}
 use Rattle.nz_spec.proofs.InfinitesimalLaws.{lt-carried, le-carried}
 use Rattle.nz_spec.proofs.LinearLiterals.{lt_is, lt_is_not, le_is, le_is_not}
 use Rattle.nz_spec.proofs.Rounds.{rounds}
@@ -63,17 +65,18 @@ lt_or_le p q =
 
 -- ---- Rows
 
--- what is so has a true consequence
-pub consequence : (b c : Bool) → (b ≡ true → c ≡ true) → (not (b && true) || (c || false)) ≡ true
-consequence true true h = refl
-consequence true false h = absurd (true≢false (sym (h refl)))
-consequence false c h = refl
-
--- it is so, or the other
-pub otherwise : (b c : Bool) → (b ≡ false → c ≡ true) → ((b && true) || (c || false)) ≡ true
+-- it is so, or the other is
+pub otherwise : (b c : Bool) → (b ≡ false → c ≡ true) → (b || (c || false)) ≡ true
 otherwise true c h = refl
-otherwise false true h = refl
-otherwise false false h = absurd (true≢false (sym (h refl)))
+otherwise false c h = or-false c ∙ h refl
+
+otherwise_either : (b c d : Bool) → (b ≡ false → (c || (d || false)) ≡ true) → (b || (c || (d || false))) ≡ true
+otherwise_either true c d h = refl
+otherwise_either false c d h = h refl
+
+and-true : (b : Bool) → (b && true) ≡ b
+and-true true = refl
+and-true false = refl
 
 -- ---- Literals on a difference
 
@@ -109,12 +112,12 @@ module _ (numbering : Numbering) (a : Assignment) where
   abbrev AreTrue : List (Computation Clause) → Type 0
   AreTrue cs = AllByRecursion (λ (c : Computation Clause). IsClauseTrue a c.result) cs
 
-  comparison_rows : (t x y : Term) → is_linear x ≡ true → is_linear y ≡ true → value_of a t ≡ truth (fraction_lt (unit_value a x) (unit_value a y) && true)
+  comparison_rows : (t x y : Term) → is_linear x ≡ true → is_linear y ≡ true → value_of a t ≡ truth (fraction_lt (unit_value a x) (unit_value a y))
       → AreTrue (in_turn (at_once (fails t) ∷ below_literal numbering x y ∷ []) ∷ in_turn (at_once (holds t) ∷ at_most_literal numbering y x ∷ []) ∷ [])
   comparison_rows t x y h k e =
       let l = fraction_lt (unit_value a x) (unit_value a y) in
       (
-        ap (λ (v : Value). not (is_true v) || (is_literal_true a (below_literal numbering x y).result || false)) e ∙ consequence l (is_literal_true a (below_literal numbering x y).result) (λ f. below_is x y h k ∙ f),
+        ap (λ (v : Value). not (is_true v) || (is_literal_true a (below_literal numbering x y).result || false)) e ∙ implies l (is_literal_true a (below_literal numbering x y).result) (λ f. below_is x y h k ∙ f),
         (
           ap (λ (v : Value). is_true v || (is_literal_true a (at_most_literal numbering y x).result || false)) e
           ∙ otherwise l (is_literal_true a (at_most_literal numbering y x).result) (λ f. at_most_is y x k h ∙ le_or_lt (unit_value a x) (unit_value a y) ∙ ap not f),
@@ -122,12 +125,12 @@ module _ (numbering : Numbering) (a : Assignment) where
         ),
       )
 
-  bound_rows : (t x y : Term) → is_linear x ≡ true → is_linear y ≡ true → value_of a t ≡ truth (fraction_le (unit_value a x) (unit_value a y) && true)
+  bound_rows : (t x y : Term) → is_linear x ≡ true → is_linear y ≡ true → value_of a t ≡ truth (fraction_le (unit_value a x) (unit_value a y))
       → AreTrue (in_turn (at_once (fails t) ∷ at_most_literal numbering x y ∷ []) ∷ in_turn (at_once (holds t) ∷ below_literal numbering y x ∷ []) ∷ [])
   bound_rows t x y h k e =
       let l = fraction_le (unit_value a x) (unit_value a y) in
       (
-        ap (λ (v : Value). not (is_true v) || (is_literal_true a (at_most_literal numbering x y).result || false)) e ∙ consequence l (is_literal_true a (at_most_literal numbering x y).result) (λ f. at_most_is x y h k ∙ f),
+        ap (λ (v : Value). not (is_true v) || (is_literal_true a (at_most_literal numbering x y).result || false)) e ∙ implies l (is_literal_true a (at_most_literal numbering x y).result) (λ f. at_most_is x y h k ∙ f),
         (
           ap (λ (v : Value). is_true v || (is_literal_true a (below_literal numbering y x).result || false)) e
           ∙ otherwise l (is_literal_true a (below_literal numbering y x).result) (λ f. below_is y x k h ∙ lt_or_le (unit_value a x) (unit_value a y) ∙ ap not f),
@@ -153,11 +156,7 @@ module _ (numbering : Numbering) (a : Assignment) where
   equal_ge : (p q : Fraction) → fraction_eq p q ≡ true → fraction_le q p ≡ true
   equal_ge p q e = le_is q p (≤ℚ-from_eq (=ℚ_sym (same-fraction_eq p q e)))
 
-  otherwise_either : (b c d : Bool) → (b ≡ false → (c || (d || false)) ≡ true) → ((b && true) || (c || (d || false))) ≡ true
-  otherwise_either true c d h = refl
-  otherwise_either false c d h = h refl
-
-  equation_rows : (t x y : Term) → is_linear x ≡ true → is_linear y ≡ true → value_of a t ≡ truth (fraction_eq (unit_value a x) (unit_value a y) && true)
+  equation_rows : (t x y : Term) → is_linear x ≡ true → is_linear y ≡ true → value_of a t ≡ truth (fraction_eq (unit_value a x) (unit_value a y))
       → AreTrue (in_turn (at_once (fails t) ∷ at_most_literal numbering x y ∷ []) ∷ in_turn (at_once (fails t) ∷ at_most_literal numbering y x ∷ [])
       ∷ in_turn (at_once (holds t) ∷ below_literal numbering x y ∷ below_literal numbering y x ∷ []) ∷ [])
   equation_rows t x y h k e =
@@ -168,10 +167,10 @@ module _ (numbering : Numbering) (a : Assignment) where
       let high = is_literal_true a (below_literal numbering y x).result in
       (
         ap (λ (v : Value). not (is_true v) || (is_literal_true a (at_most_literal numbering x y).result || false)) e
-        ∙ consequence l (is_literal_true a (at_most_literal numbering x y).result) (λ f. at_most_is x y h k ∙ equal_le p q f),
+        ∙ implies l (is_literal_true a (at_most_literal numbering x y).result) (λ f. at_most_is x y h k ∙ equal_le p q f),
         (
           ap (λ (v : Value). not (is_true v) || (is_literal_true a (at_most_literal numbering y x).result || false)) e
-          ∙ consequence l (is_literal_true a (at_most_literal numbering y x).result) (λ f. at_most_is y x k h ∙ equal_ge p q f),
+          ∙ implies l (is_literal_true a (at_most_literal numbering y x).result) (λ f. at_most_is y x k h ∙ equal_ge p q f),
           (
             ap (λ (v : Value). is_true v || (low || (high || false))) e
             ∙ otherwise_either l low high (λ f. ap₂ (λ (b c : Bool). b || (c || false)) (below_is x y h k) (below_is y x k h) ∙ apart p q f),
@@ -194,13 +193,9 @@ module _ (numbering : Numbering) (a : Assignment) where
       ∷ (at_once (holds t) ∷ below_literal numbering x y ∷ below_literal numbering y x ∷ []) ∷ []))
   equation_by t x y true f h k s e = tt
   equation_by t x y false f h k s e =
-      equation_rows t x y h k (e ∙ ap (λ (b : Bool). truth (b && true)) (equal_numbers (sort_of x) (value_of a x) (value_of a y) s f))
+      equation_rows t x y h k (e ∙ ap truth (and-true (are_equal (value_of a x) (value_of a y)) ∙ equal_numbers (sort_of x) (value_of a x) (value_of a y) s f))
 
   -- ---- Integers
-
-  and-true : (b : Bool) → (b && true) ≡ b
-  and-true true = refl
-  and-true false = refl
 
   above_floor : (q : Fraction) → fraction_eq q (whole (floor q)) ≡ false → fraction_lt (whole (floor q)) q ≡ true
   above_floor q e =
@@ -215,12 +210,11 @@ module _ (numbering : Numbering) (a : Assignment) where
   integer_rows t x u h k e f =
       let q = unit_value a x in
       let l = fraction_eq q (whole (floor q)) in
-      let g = f ∙ ap truth (sym (and-true l)) in
       (
-        ap (λ (v : Value). not (is_true v) || (is_literal_true a (at_most_literal numbering x u).result || false)) g
-        ∙ consequence l (is_literal_true a (at_most_literal numbering x u).result) (λ i. at_most_is x u h k ∙ ap (fraction_le q) e ∙ equal_le q (whole (floor q)) i),
+        ap (λ (v : Value). not (is_true v) || (is_literal_true a (at_most_literal numbering x u).result || false)) f
+        ∙ implies l (is_literal_true a (at_most_literal numbering x u).result) (λ i. at_most_is x u h k ∙ ap (fraction_le q) e ∙ equal_le q (whole (floor q)) i),
         (
-          ap (λ (v : Value). is_true v || (is_literal_true a (below_literal numbering u x).result || false)) g
+          ap (λ (v : Value). is_true v || (is_literal_true a (below_literal numbering u x).result || false)) f
           ∙ otherwise l (is_literal_true a (below_literal numbering u x).result) (λ i. below_is u x k h ∙ ap (λ (p : Fraction). fraction_lt p q) e ∙ above_floor q i),
           tt,
         ),
@@ -235,10 +229,10 @@ module _ (numbering : Numbering) (a : Assignment) where
     link_rows : (h : Head) (ts : Terms) → IsArithmetic (apply h ts) → AreTrue (link_clauses numbering (apply h ts))
     link_rows less (terms x (terms y no_terms)) r =
         let both = both_linear x y r.linear in
-        comparison_rows (apply less (terms x (terms y no_terms))) x y both.0 both.1 refl
+        comparison_rows (apply less (terms x (terms y no_terms))) x y both.0 both.1 (ap truth (and-true (fraction_lt (unit_value a x) (unit_value a y))))
     link_rows at_most (terms x (terms y no_terms)) r =
         let both = both_linear x y r.linear in
-        bound_rows (apply at_most (terms x (terms y no_terms))) x y both.0 both.1 refl
+        bound_rows (apply at_most (terms x (terms y no_terms))) x y both.0 both.1 (ap truth (and-true (fraction_le (unit_value a x) (unit_value a y))))
     link_rows equality (terms x (terms y no_terms)) r =
         let both = both_linear x y r.linear in
         equation_by (apply equality (terms x (terms y no_terms))) x y (is_boolean_term x) refl both.0 both.1 (r.arguments.0 a good) refl
