@@ -1,9 +1,9 @@
 -- Cuts: a sum of multiples over integers is within the rounded limit, or one of the literals is false.
-use Rattle.std.proofs.Common.{◌≡◌, Bool, true, false, ◌||◌, ◌⊎◌, inl, inr, List, [], ◌∷◌, ◌++◌, Option, Some, None, pos, refl, sym, ap, subst, ◌∙◌}
-use Rattle.std.specs.Prelude.{if◌then◌else◌, nat_lt, ⊤}
+use Rattle.std.proofs.Common.{◌≡◌, Bool, true, false, ◌||◌, inl, inr, List, [], ◌∷◌, ◌++◌, Some, None, refl, subst, ◌∙◌}
+use Rattle.std.specs.Prelude.{if◌then◌else◌, nat_lt}
 use Rattle.std.specs.List.{list_all, list_any, AllByRecursion}
 use Rattle.std.proofs.lemmas.List.Folds.{list_any-append}
-use Rattle.nz_spec.specs.Fraction.{Fraction, whole, ◌≤ℚ◌, floor, Arithmetic, Sum, Product, outcome}
+use Rattle.nz_spec.specs.Fraction.{Fraction, whole, ◌≤ℚ◌, floor, Sum, Product, outcome}
 use Rattle.nz_spec.specs.Computation.{Computation, operated, at_once, turned_into, and_then}
 use Rattle.nz_spec.specs.Term.{Term, sort_of, is_zero, Assignment}
 use Rattle.nz_spec.specs.Same.{are_same_term}
@@ -12,7 +12,7 @@ use Rattle.nz_spec.specs.Form.{Numbering, Part, with_part, part_joined, parts_jo
 use Rattle.nz_spec.specs.Literal.{term_literal, is_at_most, is_below, Literal, is_literal_true, Clause, clause_of, IsClauseTrue}
 use Rattle.nz_spec.specs.LinearLiteral.{are_integral, greatest_below, parts_of, HasSort, HaveSortedUnits}
 use Rattle.nz_spec.specs.Farkas.{Multiple, Bound, empty_bound, bound_of, is_multiple, bound_scaled, bounds_joined, multiples_onto, sum_of_multiples, negations_of}
-use Rattle.nz_spec.specs.Cuts.{rounded_limit, cut_clause, CutClausesAreTrue}
+use Rattle.nz_spec.specs.Cuts.{rounded_limit, CutClausesAreTrue}
 use Rattle.nz_spec.proofs.FarkasSums.{Meets, one_or_meets, found}
 use Rattle.nz_spec.proofs.FractionBounds.{Within}
 use Rattle.nz_spec.proofs.IntegerSums.{integer_of_sum, floored, put_below}

@@ -1,13 +1,13 @@
 -- Sums of multiples of true literals are true bounds, so a contradiction leaves one of the literals false.
-use Rattle.std.proofs.Common.{◌≡◌, Bool, true, false, not, ◌&&◌, ◌||◌, ◌⊎◌, inl, inr, List, [], ◌∷◌, map, pos, Option, Some, None, refl, sym, ap, subst, ◌∙◌, true≢false}
-use Rattle.std.specs.Prelude.{if◌then◌else◌, ⊤}
+use Rattle.std.proofs.Common.{◌≡◌, Bool, true, false, not, ◌&&◌, ◌||◌, ◌⊎◌, inl, inr, List, [], ◌∷◌, pos, Some, None, refl, sym, subst, ◌∙◌, true≢false}
+use Rattle.std.specs.Prelude.{if◌then◌else◌}
 use Rattle.std.specs.List.{list_all, list_any, AllByRecursion}
 use Rattle.std.proofs.lemmas.Bool.{and_parts}
 use Rattle.nz_spec.specs.Fraction.{Fraction, whole, ◌≤ℚ◌, ◌<ℚ◌, fraction_le, fraction_lt, Sum, Product}
 use Rattle.nz_spec.specs.Term.{Assignment, is_zero}
 use Rattle.nz_spec.specs.Computation.{operated, at_once, turned_into}
 use Rattle.nz_spec.specs.Form.{Numbering, Part, parts_value}
-use Rattle.nz_spec.specs.Literal.{Literal, term_literal, is_at_most, is_below, is_literal_true, negation_of, Clause, clause_of, is_clause_true, IsClauseTrue}
+use Rattle.nz_spec.specs.Literal.{Literal, term_literal, is_at_most, is_below, is_literal_true, negation_of, Clause, clause_of, IsClauseTrue}
 use Rattle.nz_spec.specs.LinearLiteral.{is_without_units}
 use Rattle.nz_spec.specs.Farkas.{Multiple, Bound, empty_bound, bound_of, is_linear_literal, is_multiple, bound_scaled, bounds_joined, multiples_onto, sum_of_multiples, is_contradiction, negations_of, FarkasClausesAreTrue}
 use Rattle.nz_spec.proofs.FractionLaws.{≤ℚ-from_eq, ≤ℚ-from_lt, ≤ℚ_refl, ≤ℚ_total, <ℚ_irrefl}
@@ -15,7 +15,7 @@ use Rattle.nz_spec.proofs.FractionOrder.{same-fraction_eq}
 use Rattle.nz_spec.proofs.FractionArithmetic.{outcome-sum, outcome-product}
 use Rattle.nz_spec.proofs.FractionBounds.{Within, within_alike, within_sum, within_times}
 use Rattle.nz_spec.proofs.FormValues.{by_sum, parts-value, parts-scaled}
-use Rattle.nz_spec.proofs.LinearLiterals.{lt_is, lt_is_not, le_is, le_is_not}
+use Rattle.nz_spec.proofs.LinearLiterals.{lt_is_not, le_is_not}
 use Rattle.nz_spec.proofs.Literals.{or_either, negation_is, together}
 
 -- ---- What the tests say

@@ -1,30 +1,27 @@
 -- Sums of integers: the bounds that they keep may be rounded.
-use Rattle.std.proofs.Common.{◌≡◌, ℕ, zero, suc, ◌<◌, Bool, true, false, not, ◌&&◌, ◌||◌, ◌⊎◌, inl, inr, List, [], ◌∷◌, ◌++◌, map, ℤ, pos, negsuc, ◌+ℤ◌, ◌*ℤ◌, neg_ℤ, ◌≤ℤ◌, ◌<ℤ◌, unsigned_abs, Option, Some, None, refl, sym, ap, ap₂, subst, ◌∙◌, true≢false, arith}
-use Rattle.std.specs.Prelude.{if◌then◌else◌, ⊤, nat_lt, int_div}
-use Rattle.std.specs.List.{list_all, list_any, AllByRecursion}
-use Rattle.std.proofs.Math.IntN.{*ℤ_comm}
-use Rattle.std.proofs.Math.Bool.{or-false}
+use Rattle.std.proofs.Common.{◌≡◌, ℕ, zero, suc, ◌<◌, Bool, true, false, not, ◌&&◌, ◌||◌, inl, inr, List, [], ◌∷◌, map, ℤ, pos, negsuc, ◌+ℤ◌, ◌*ℤ◌, neg_ℤ, ◌≤ℤ◌, ◌<ℤ◌, unsigned_abs, Some, None, refl, sym, ap, subst, ◌∙◌, arith}
+use Rattle.std.specs.Prelude.{if◌then◌else◌, int_div}
+use Rattle.std.specs.List.{AllByRecursion}
 use Rattle.std.proofs.lemmas.Bool.{and_parts}
 use Rattle.std.proofs.lemmas.Int.{ints, by_lt_z}
-use Rattle.std.proofs.lemmas.List.Folds.{list_any-append}
 use Rattle.std.specs.Int.{◌∣◌}
 use Rattle.std.proofs.Math.Nat.{dvd_trans}
 use Rattle.std.proofs.lemmas.Nat.Gcd.{dvd_refl}
 use Rattle.nz_ints.proofs.Divisors.{gcd-dvd_left, gcd-dvd_right}
 use Rattle.nz_ints.proofs.Products.{mul-one}
-use Rattle.nz_ints.proofs.Ring.{Atom, Literal as Number, ◌⊕◌, ◌⊗◌, Minus, solve}
+use Rattle.nz_ints.proofs.Ring.{Atom, Literal as Number, ◌⊕◌, ◌⊗◌, solve}
 use Rattle.nz_ints.proofs.Rounding.{int_div-mul_cancel}
-use Rattle.nz_spec.specs.Fraction.{Fraction, denominator, over, whole, IsWhole, ◌=ℚ◌, ◌≤ℚ◌, ◌<ℚ◌, ◌+ℚ◌, neg_ℚ, ◌*ℚ◌, fraction_le, fraction_lt, floor, ceiling, IsFloor, IsCeiling, gcd, outcome, Sum, Difference, Product}
-use Rattle.nz_spec.specs.Computation.{Computation, operated, at_once, turned_into, and_then}
-use Rattle.nz_spec.specs.Term.{Sort, bool_sort, int_sort, real_sort, are_same_sort, Term, sort_of, Value, truth, number, Assignment, number_of, value_of, IsOfSort}
+use Rattle.nz_spec.specs.Fraction.{Fraction, denominator, over, whole, ◌=ℚ◌, ◌≤ℚ◌, ◌<ℚ◌, ◌+ℚ◌, neg_ℚ, ◌*ℚ◌, fraction_le, fraction_lt, floor, ceiling, outcome, Difference, Product}
+use Rattle.nz_spec.specs.Computation.{operated, at_once, turned_into}
+use Rattle.nz_spec.specs.Term.{Sort, int_sort, are_same_sort, Term, sort_of, Value, truth, number, Assignment, number_of, value_of, IsOfSort}
 use Rattle.nz_spec.specs.Model.{IsAssignment}
 use Rattle.nz_spec.specs.Form.{Part, unit_value, parts_value, parts_scaled, negated_part}
-use Rattle.nz_spec.specs.Literal.{Literal, term_literal, is_at_most, is_below, is_literal_true, Clause, clause_of, IsClauseTrue}
+use Rattle.nz_spec.specs.Literal.{term_literal, is_at_most, is_below, is_literal_true, Clause, clause_of, IsClauseTrue}
 use Rattle.nz_spec.specs.LinearLiteral.{is_whole, is_integral_part, are_integral, common_divisor, tight_multiplier, greatest_below, rounded, is_without_units, HasSort, HaveSortedUnits, TightSaysAsMuch}
-use Rattle.nz_spec.specs.Cuts.{branch_clause, BranchClausesAreTrue}
-use Rattle.nz_spec.proofs.FractionLaws.{=ℚ_refl, =ℚ_sym, =ℚ_trans, =ℚ-from_same, ≤ℚ-from_eq, ≤ℚ-from_lt, ≤ℚ_trans, <ℚ-≤ℚ_trans, ≤ℚ-<ℚ_trans, ≤ℚ_total, denominator-over, numerator-over, denominator-whole}
+use Rattle.nz_spec.specs.Cuts.{BranchClausesAreTrue}
+use Rattle.nz_spec.proofs.FractionLaws.{=ℚ_refl, =ℚ_sym, =ℚ_trans, =ℚ-from_same, ≤ℚ-from_eq, ≤ℚ_trans, <ℚ-≤ℚ_trans, ≤ℚ-<ℚ_trans, ≤ℚ_total, denominator-over, numerator-over}
 use Rattle.nz_spec.proofs.FractionOrder.{same-fraction_eq}
-use Rattle.nz_spec.proofs.FractionArithmetic.{Parts, own_parts, sum_parts, product_parts, neg_parts, whole_parts, by_parts, +ℚ-same, *ℚ-same, neg_ℚ-same, outcome-difference, outcome-product}
+use Rattle.nz_spec.proofs.FractionArithmetic.{Parts, sum_parts, product_parts, neg_parts, whole_parts, by_parts, +ℚ-same, *ℚ-same, neg_ℚ-same, outcome-difference, outcome-product}
 use Rattle.nz_spec.proofs.FractionBounds.{times_le, times_lt}
 use Rattle.nz_spec.proofs.FormValues.{parts-scaled, parts-negated, one_times}
 use Rattle.nz_spec.proofs.FarkasSums.{found}
@@ -132,13 +129,12 @@ module _ (a : Assignment) (good : IsAssignment a) where
       let rest = multiple_of d ps both.1 h.1 k.1 in
       let first : (p.coefficient *ℚ unit_value a p.unit) =ℚ whole (c *ℤ v) =
       =ℚ_trans (*ℚ-same (same-fraction_eq p.coefficient (whole c) own.0) (integer_unit p.unit h.0 own.1)) (whole_product c v)
-      in
-      (
+      in (
         i *ℤ v +ℤ rest.0,
         =ℚ_trans (+ℚ-same first rest.1)
-        (=ℚ_trans (whole_sum (c *ℤ v) (pos d *ℤ rest.0))
-        (=ℚ-from_same (ap whole
-        (ap (λ (z : ℤ). z *ℤ v +ℤ pos d *ℤ rest.0) (sym (int_div-mul_cancel c d k.0)) ∙ multiples (pos d) i v rest.0)))),
+            (=ℚ_trans (whole_sum (c *ℤ v) (pos d *ℤ rest.0))
+            (=ℚ-from_same (ap whole
+            (ap (λ (z : ℤ). z *ℤ v +ℤ pos d *ℤ rest.0) (sym (int_div-mul_cancel c d k.0)) ∙ multiples (pos d) i v rest.0)))),
       )
 
   -- the sum is an integer
@@ -199,7 +195,7 @@ multiplied zero s = (pos 0 *ℤ s, one_times (whole (pos 0 *ℤ s)))
 multiplied (suc d) s = (
   s,
   by_parts (product_parts (unit_fraction (suc d) (omega arith)) (whole_parts (pos (suc d) *ℤ s))) (whole_parts s)
-  (solve (pos (suc d) ∷ s ∷ []) ((Number (pos 1) ⊗ (Atom 0 ⊗ Atom 1)) ⊗ Number (pos 1)) (Atom 1 ⊗ (Atom 0 ⊗ Number (pos 1))) refl),
+      (solve (pos (suc d) ∷ s ∷ []) ((Number (pos 1) ⊗ (Atom 0 ⊗ Atom 1)) ⊗ Number (pos 1)) (Atom 1 ⊗ (Atom 0 ⊗ Number (pos 1))) refl),
 )
   where
     unit_fraction : (g : ℕ) → 0 < g → Parts (over (pos 1) g) (pos 1) (pos g)

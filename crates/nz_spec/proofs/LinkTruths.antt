@@ -1,6 +1,6 @@
 -- The clauses of the link table are true: a comparison of numbers says what its literals say.
-use Rattle.std.proofs.Common.{◌≡◌, Bool, true, false, not, ◌&&◌, ◌||◌, ◌⊎◌, inl, inr, List, [], ◌∷◌, map, pos, refl, sym, ap, ap₂, ◌∙◌, true≢false, Ordering, Less, Equal, Greater}
-use Rattle.std.specs.Prelude.{if◌then◌else◌, ⊤}
+use Rattle.std.proofs.Common.{◌≡◌, Bool, true, false, not, ◌&&◌, ◌||◌, inl, inr, List, [], ◌∷◌, map, refl, sym, ap, ap₂, ◌∙◌, true≢false, Ordering, Less, Equal, Greater}
+use Rattle.std.specs.Prelude.{if◌then◌else◌}
 use Rattle.std.specs.List.{AllByRecursion}
 use Rattle.std.proofs.Math.Bool.{or-false}
 use Rattle.std.proofs.lemmas.Bool.{and_parts}
@@ -9,13 +9,12 @@ use Rattle.nz_spec.specs.Computation.{Computation, at_once, in_turn}
 use Rattle.nz_spec.specs.Term.{Sort, bool_sort, int_sort, real_sort, is_bool, Head, equality, less, at_most, is_int, to_int, Term, apply, Terms, no_terms, terms, Value, truth, number, Assignment, is_true, number_of, are_equal, value_of, sort_of, IsOfSort}
 use Rattle.nz_spec.specs.Linear.{is_linear}
 use Rattle.nz_spec.specs.Model.{IsAssignment}
-use Rattle.nz_spec.specs.Form.{Numbering, Form, unit_value, parts_value, form_value}
+use Rattle.nz_spec.specs.Form.{Numbering, unit_value, parts_value, form_value}
 use Rattle.nz_spec.specs.FormOf.{form_of}
-use Rattle.nz_spec.specs.Literal.{Literal, is_literal_true, Clause, IsClauseTrue}
-use Rattle.nz_spec.specs.LinearLiteral.{is_at_most_zero, is_below_zero}
+use Rattle.nz_spec.specs.Literal.{is_literal_true, Clause, IsClauseTrue}
 use Rattle.nz_spec.specs.Gates.{holds, fails, is_boolean_term}
 use Rattle.nz_spec.specs.Links.{difference_of, at_most_literal, below_literal, link_clauses, IsArithmetic, LinksAreTrue}
-use Rattle.nz_spec.proofs.FractionLaws.{=ℚ_refl, =ℚ_sym, =ℚ_trans, ≤ℚ-from_eq, ≤ℚ-from_lt, ≤ℚ_antisymm, ≤ℚ_total, <ℚ_irrefl}
+use Rattle.nz_spec.proofs.FractionLaws.{=ℚ_sym, =ℚ_trans, ≤ℚ-from_eq, ≤ℚ-from_lt, ≤ℚ_antisymm, ≤ℚ_total, <ℚ_irrefl}
 use Rattle.nz_spec.proofs.FractionOrder.{fraction_ranked, fraction_cmp_is, same-fraction_eq, fraction_eq-same}
 use Rattle.nz_spec.proofs.FractionArithmetic.{+ℚ_comm, +ℚ-neg, +ℚ-same, neg_ℚ-same, cmp-same, cmp-+ℚ}
 use Rattle.nz_spec.proofs.FormTerms.{form_has_value}
@@ -115,12 +114,11 @@ module _ (numbering : Numbering) (a : Assignment) where
   comparison_rows : (t x y : Term) → is_linear x ≡ true → is_linear y ≡ true → value_of a t ≡ truth (fraction_lt (unit_value a x) (unit_value a y))
       → AreTrue (in_turn (at_once (fails t) ∷ below_literal numbering x y ∷ []) ∷ in_turn (at_once (holds t) ∷ at_most_literal numbering y x ∷ []) ∷ [])
   comparison_rows t x y h k e =
-      let l = fraction_lt (unit_value a x) (unit_value a y) in
-      (
+      let l = fraction_lt (unit_value a x) (unit_value a y) in (
         ap (λ (v : Value). not (is_true v) || (is_literal_true a (below_literal numbering x y).result || false)) e ∙ implies l (is_literal_true a (below_literal numbering x y).result) (λ f. below_is x y h k ∙ f),
         (
           ap (λ (v : Value). is_true v || (is_literal_true a (at_most_literal numbering y x).result || false)) e
-          ∙ otherwise l (is_literal_true a (at_most_literal numbering y x).result) (λ f. at_most_is y x k h ∙ le_or_lt (unit_value a x) (unit_value a y) ∙ ap not f),
+              ∙ otherwise l (is_literal_true a (at_most_literal numbering y x).result) (λ f. at_most_is y x k h ∙ le_or_lt (unit_value a x) (unit_value a y) ∙ ap not f),
           tt,
         ),
       )
@@ -128,12 +126,11 @@ module _ (numbering : Numbering) (a : Assignment) where
   bound_rows : (t x y : Term) → is_linear x ≡ true → is_linear y ≡ true → value_of a t ≡ truth (fraction_le (unit_value a x) (unit_value a y))
       → AreTrue (in_turn (at_once (fails t) ∷ at_most_literal numbering x y ∷ []) ∷ in_turn (at_once (holds t) ∷ below_literal numbering y x ∷ []) ∷ [])
   bound_rows t x y h k e =
-      let l = fraction_le (unit_value a x) (unit_value a y) in
-      (
+      let l = fraction_le (unit_value a x) (unit_value a y) in (
         ap (λ (v : Value). not (is_true v) || (is_literal_true a (at_most_literal numbering x y).result || false)) e ∙ implies l (is_literal_true a (at_most_literal numbering x y).result) (λ f. at_most_is x y h k ∙ f),
         (
           ap (λ (v : Value). is_true v || (is_literal_true a (below_literal numbering y x).result || false)) e
-          ∙ otherwise l (is_literal_true a (below_literal numbering y x).result) (λ f. below_is y x k h ∙ lt_or_le (unit_value a x) (unit_value a y) ∙ ap not f),
+              ∙ otherwise l (is_literal_true a (below_literal numbering y x).result) (λ f. below_is y x k h ∙ lt_or_le (unit_value a x) (unit_value a y) ∙ ap not f),
           tt,
         ),
       )
@@ -164,16 +161,15 @@ module _ (numbering : Numbering) (a : Assignment) where
       let q = unit_value a y in
       let l = fraction_eq p q in
       let low = is_literal_true a (below_literal numbering x y).result in
-      let high = is_literal_true a (below_literal numbering y x).result in
-      (
+      let high = is_literal_true a (below_literal numbering y x).result in (
         ap (λ (v : Value). not (is_true v) || (is_literal_true a (at_most_literal numbering x y).result || false)) e
-        ∙ implies l (is_literal_true a (at_most_literal numbering x y).result) (λ f. at_most_is x y h k ∙ equal_le p q f),
+            ∙ implies l (is_literal_true a (at_most_literal numbering x y).result) (λ f. at_most_is x y h k ∙ equal_le p q f),
         (
           ap (λ (v : Value). not (is_true v) || (is_literal_true a (at_most_literal numbering y x).result || false)) e
-          ∙ implies l (is_literal_true a (at_most_literal numbering y x).result) (λ f. at_most_is y x k h ∙ equal_ge p q f),
+              ∙ implies l (is_literal_true a (at_most_literal numbering y x).result) (λ f. at_most_is y x k h ∙ equal_ge p q f),
           (
             ap (λ (v : Value). is_true v || (low || (high || false))) e
-            ∙ otherwise_either l low high (λ f. ap₂ (λ (b c : Bool). b || (c || false)) (below_is x y h k) (below_is y x k h) ∙ apart p q f),
+                ∙ otherwise_either l low high (λ f. ap₂ (λ (b c : Bool). b || (c || false)) (below_is x y h k) (below_is y x k h) ∙ apart p q f),
             tt,
           ),
         ),
@@ -209,13 +205,12 @@ module _ (numbering : Numbering) (a : Assignment) where
       → AreTrue (in_turn (at_once (fails t) ∷ at_most_literal numbering x u ∷ []) ∷ in_turn (at_once (holds t) ∷ below_literal numbering u x ∷ []) ∷ [])
   integer_rows t x u h k e f =
       let q = unit_value a x in
-      let l = fraction_eq q (whole (floor q)) in
-      (
+      let l = fraction_eq q (whole (floor q)) in (
         ap (λ (v : Value). not (is_true v) || (is_literal_true a (at_most_literal numbering x u).result || false)) f
-        ∙ implies l (is_literal_true a (at_most_literal numbering x u).result) (λ i. at_most_is x u h k ∙ ap (fraction_le q) e ∙ equal_le q (whole (floor q)) i),
+            ∙ implies l (is_literal_true a (at_most_literal numbering x u).result) (λ i. at_most_is x u h k ∙ ap (fraction_le q) e ∙ equal_le q (whole (floor q)) i),
         (
           ap (λ (v : Value). is_true v || (is_literal_true a (below_literal numbering u x).result || false)) f
-          ∙ otherwise l (is_literal_true a (below_literal numbering u x).result) (λ i. below_is u x k h ∙ ap (λ (p : Fraction). fraction_lt p q) e ∙ above_floor q i),
+              ∙ otherwise l (is_literal_true a (below_literal numbering u x).result) (λ i. below_is u x k h ∙ ap (λ (p : Fraction). fraction_lt p q) e ∙ above_floor q i),
           tt,
         ),
       )

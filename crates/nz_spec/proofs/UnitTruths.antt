@@ -1,18 +1,18 @@
 -- The clauses of the unit table are true: a unit has the value that they say.
-use Rattle.std.proofs.Common.{◌≡◌, suc, Bool, true, false, not, ◌&&◌, ◌||◌, ◌⊎◌, inl, inr, List, [], ◌∷◌, map, ℤ, pos, negsuc, ◌+ℤ◌, ◌*ℤ◌, neg_ℤ, ◌≤ℤ◌, ◌<ℤ◌, unsigned_abs, Option, Some, None, refl, sym, ap, ap₂, subst, ◌∙◌, true≢false, arith}
-use Rattle.std.specs.Prelude.{if◌then◌else◌, ⊤}
+use Rattle.std.proofs.Common.{◌≡◌, suc, Bool, true, false, not, ◌&&◌, ◌||◌, List, [], ◌∷◌, map, ℤ, pos, negsuc, ◌+ℤ◌, ◌*ℤ◌, neg_ℤ, ◌≤ℤ◌, ◌<ℤ◌, unsigned_abs, Option, Some, None, refl, sym, ap, ap₂, subst, ◌∙◌, true≢false, arith}
+use Rattle.std.specs.Prelude.{if◌then◌else◌}
 use Rattle.std.specs.List.{AllByRecursion}
 use Rattle.std.proofs.Math.Bool.{or-false}
 use Rattle.std.proofs.lemmas.Bool.{and_parts}
-use Rattle.std.proofs.lemmas.Int.{ints, by_lt_z}
+use Rattle.std.proofs.lemmas.Int.{ints}
 use Rattle.nz_spec.specs.Fraction.{Fraction, whole, ◌=ℚ◌, ◌≤ℚ◌, ◌<ℚ◌, ◌+ℚ◌, neg_ℚ, ◌*ℚ◌, fraction_cmp, fraction_le, fraction_lt, floor, outcome, Sum, Difference}
 use Rattle.nz_spec.specs.Computation.{Computation, at_once, turned_into, and_then, in_turn}
-use Rattle.nz_spec.specs.Term.{Sort, bool_sort, int_sort, real_sort, Head, choice, integer_quotient, modulus, magnitude, to_int, Term, apply, Terms, no_terms, terms, Value, Assignment, is_true, number_of, value_of, is_zero, div_of, mod_of, IsDivision, integer_of, IsOfSort}
+use Rattle.nz_spec.specs.Term.{int_sort, real_sort, Head, choice, integer_quotient, modulus, magnitude, to_int, Term, apply, Terms, no_terms, terms, Value, Assignment, is_true, number_of, value_of, is_zero, div_of, mod_of, IsDivision, integer_of, IsOfSort}
 use Rattle.nz_spec.specs.Linear.{constant_value, are_divisors, is_linear}
 use Rattle.nz_spec.specs.Model.{IsAssignment}
-use Rattle.nz_spec.specs.Form.{Numbering, Form, unit_form, negated_form, joined, all_joined, unit_value, parts_value, form_value}
+use Rattle.nz_spec.specs.Form.{Numbering, Form, unit_form, negated_form, joined, unit_value, parts_value, form_value}
 use Rattle.nz_spec.specs.FormOf.{form_of}
-use Rattle.nz_spec.specs.Literal.{Literal, is_at_most, is_literal_true, Clause, IsClauseTrue}
+use Rattle.nz_spec.specs.Literal.{is_literal_true, Clause, IsClauseTrue}
 use Rattle.nz_spec.specs.LinearLiteral.{is_at_most_zero}
 use Rattle.nz_spec.specs.Gates.{holds, fails}
 use Rattle.nz_spec.specs.Links.{at_most_literal, IsArithmetic}
@@ -116,8 +116,7 @@ module _ (a : Assignment) where
         let b = is_true (value_of a c) in
         let is : unit_value a u ≡ number_of (if b then value_of a x else value_of a y) = ap number_of e in
         let left = λ (f : b ≡ true). is ∙ chosen b (value_of a x) (value_of a y) f in
-        let right = λ (f : b ≡ false). is ∙ left_out b (value_of a x) (value_of a y) f in
-        (
+        let right = λ (f : b ≡ false). is ∙ left_out b (value_of a x) (value_of a y) f in (
           implies b (is_literal_true a (at_most_literal numbering u x).result) (λ f. at_most_is numbering a u x h i ∙ same_le (unit_value a u) (unit_value a x) (left f)),
           (
             implies b (is_literal_true a (at_most_literal numbering x u).result) (λ f. at_most_is numbering a x u i h ∙ same_le (unit_value a x) (unit_value a u) (sym (left f))),
@@ -167,16 +166,15 @@ module _ (a : Assignment) where
 
       quotient_true : AreTrue (map in_turn (quotient_rows numbering q x (Some k)))
       quotient_true =
-          let f = (form_of numbering x).result in
-          (
+          let f = (form_of numbering x).result in (
             alone _
-            (zero_is (joined numbering Difference (times_unit k q) f).result (whole (j *ℤ d)) (whole n) (less-value (times_unit k q) f (whole (j *ℤ d)) (whole n) multiple_is dividend_is)
-            ∙ le_is (whole (j *ℤ d)) (whole n) (whole_le (j *ℤ d) n (within n (j *ℤ d) r v.division.whole_of v.division.at_least_zero))),
+                (zero_is (joined numbering Difference (times_unit k q) f).result (whole (j *ℤ d)) (whole n) (less-value (times_unit k q) f (whole (j *ℤ d)) (whole n) multiple_is dividend_is)
+                ∙ le_is (whole (j *ℤ d)) (whole n) (whole_le (j *ℤ d) n (within n (j *ℤ d) r v.division.whole_of v.division.at_least_zero))),
             (
               alone _
-              (at_most_number_is (joined numbering Difference f (times_unit k q)).result (whole r) (greatest_remainder k)
-              (=ℚ_trans (less-value f (times_unit k q) (whole n) (whole (j *ℤ d)) dividend_is multiple_is) rest_is)
-              ∙ le_is (whole r) (greatest_remainder k) (remainder_bound k j r v.is v.division.below)),
+                  (at_most_number_is (joined numbering Difference f (times_unit k q)).result (whole r) (greatest_remainder k)
+                  (=ℚ_trans (less-value f (times_unit k q) (whole n) (whole (j *ℤ d)) dividend_is multiple_is) rest_is)
+                  ∙ le_is (whole r) (greatest_remainder k) (remainder_bound k j r v.is v.division.below)),
               tt,
             ),
           )
@@ -191,24 +189,23 @@ module _ (a : Assignment) where
           let whole_again : (whole r +ℚ whole (j *ℤ d)) =ℚ whole n =
           =ℚ_trans (whole_sum r (j *ℤ d)) (=ℚ-from_same (ap whole (put_together n (j *ℤ d) r v.division.whole_of)))
           in
-          let more : form_value a second =ℚ whole n = =ℚ_trans (plus-value (unit_form u) (times_unit k q) (whole r) (whole (j *ℤ d)) own multiple_is) whole_again in
-          (
+          let more : form_value a second =ℚ whole n = =ℚ_trans (plus-value (unit_form u) (times_unit k q) (whole r) (whole (j *ℤ d)) own multiple_is) whole_again in (
             alone _
-            (zero_is (joined numbering Difference first (unit_form u)).result (whole r) (whole r) (less-value first (unit_form u) (whole r) (whole r) less own)
-            ∙ same_le (whole r) (whole r) refl),
+                (zero_is (joined numbering Difference first (unit_form u)).result (whole r) (whole r) (less-value first (unit_form u) (whole r) (whole r) less own)
+                ∙ same_le (whole r) (whole r) refl),
             (
               alone _
-              (zero_is (joined numbering Difference second f).result (whole n) (whole n) (less-value second f (whole n) (whole n) more dividend_is)
-              ∙ same_le (whole n) (whole n) refl),
+                  (zero_is (joined numbering Difference second f).result (whole n) (whole n) (less-value second f (whole n) (whole n) more dividend_is)
+                  ∙ same_le (whole n) (whole n) refl),
               (
                 alone _
-                (zero_is (negated_form (unit_form u)) (whole (pos 0)) (whole r)
-                (=ℚ_trans (form-negated numbering a (unit_form u)) (=ℚ_trans (neg_ℚ-same own) (=ℚ_sym (zero_left (neg_ℚ (whole r))))))
-                ∙ le_is (whole (pos 0)) (whole r) (whole_le (pos 0) r v.division.at_least_zero)),
+                    (zero_is (negated_form (unit_form u)) (whole (pos 0)) (whole r)
+                    (=ℚ_trans (form-negated numbering a (unit_form u)) (=ℚ_trans (neg_ℚ-same own) (=ℚ_sym (zero_left (neg_ℚ (whole r))))))
+                    ∙ le_is (whole (pos 0)) (whole r) (whole_le (pos 0) r v.division.at_least_zero)),
                 (
                   alone _
-                  (le_is (parts_value a (unit_form u).parts) (greatest_remainder k)
-                  (≤ℚ_trans (≤ℚ-from_eq (=ℚ_trans (=ℚ_sym (+ℚ-zero (parts_value a (unit_form u).parts))) own)) (remainder_bound k j r v.is v.division.below))),
+                      (le_is (parts_value a (unit_form u).parts) (greatest_remainder k)
+                      (≤ℚ_trans (≤ℚ-from_eq (=ℚ_trans (=ℚ_sym (+ℚ-zero (parts_value a (unit_form u).parts))) own)) (remainder_bound k j r v.is v.division.below))),
                   tt,
                 ),
               ),
@@ -290,21 +287,20 @@ module _ (a : Assignment) where
         let turned : form_value a (negated_form f) =ℚ whole (neg_ℤ n) = =ℚ_trans (form-negated numbering a f) (=ℚ_trans (neg_ℚ-same value) (whole_negated n)) in
         let low = (joined numbering Difference (negated_form f) (unit_form u)).result in
         let high = (joined numbering Sum (unit_form u) f).result in
-        let back : whole n =ℚ neg_ℚ (whole (neg_ℤ n)) = =ℚ_sym (=ℚ_trans (neg_ℚ-same (=ℚ_sym (whole_negated n))) (neg-neg (whole n))) in
-        (
+        let back : whole n =ℚ neg_ℚ (whole (neg_ℤ n)) = =ℚ_sym (=ℚ_trans (neg_ℚ-same (=ℚ_sym (whole_negated n))) (neg-neg (whole n))) in (
           alone _
-          (at_most_is numbering a x u i h
-          ∙ le_is (unit_value a x) (unit_value a u) (≤ℚ_trans (≤ℚ-from_eq e) (≤ℚ_trans (whole_le n size (at_most_size n)) (≤ℚ-from_eq (=ℚ-from_same (sym is)))))),
+              (at_most_is numbering a x u i h
+              ∙ le_is (unit_value a x) (unit_value a u) (≤ℚ_trans (≤ℚ-from_eq e) (≤ℚ_trans (whole_le n size (at_most_size n)) (≤ℚ-from_eq (=ℚ-from_same (sym is)))))),
           (
             alone _
-            (zero_is low (whole (neg_ℤ n)) (whole size) (less-value (negated_form f) (unit_form u) (whole (neg_ℤ n)) (whole size) turned own)
-            ∙ le_is (whole (neg_ℤ n)) (whole size) (whole_le (neg_ℤ n) size (turned_at_most_size n))),
+                (zero_is low (whole (neg_ℤ n)) (whole size) (less-value (negated_form f) (unit_form u) (whole (neg_ℤ n)) (whole size) turned own)
+                ∙ le_is (whole (neg_ℤ n)) (whole size) (whole_le (neg_ℤ n) size (turned_at_most_size n))),
             (
               ap₂ (λ (b c : Bool). b || (c || false))
-              (at_most_is numbering a u x h i ∙ le_alike (unit_value a u) (unit_value a x) (whole size) (whole n) (cmp-same (=ℚ-from_same is) e))
-              (zero_is high (whole size) (whole (neg_ℤ n))
-              (=ℚ_trans (plus-value (unit_form u) f (whole size) (whole n) own value) (+ℚ-same (=ℚ_refl (whole size)) back)))
-              ∙ size_either n,
+                  (at_most_is numbering a u x h i ∙ le_alike (unit_value a u) (unit_value a x) (whole size) (whole n) (cmp-same (=ℚ-from_same is) e))
+                  (zero_is high (whole size) (whole (neg_ℤ n))
+                  (=ℚ_trans (plus-value (unit_form u) f (whole size) (whole n) own value) (+ℚ-same (=ℚ_refl (whole size)) back)))
+                  ∙ size_either n,
               tt,
             ),
           ),
@@ -326,13 +322,12 @@ module _ (a : Assignment) where
         in
         let below : (p +ℚ neg_ℚ (whole n)) <ℚ (whole (n +ℤ pos 1) +ℚ neg_ℚ (whole n)) =
         lt-carried p (whole (n +ℤ pos 1)) (p +ℚ neg_ℚ (whole n)) (whole (n +ℤ pos 1) +ℚ neg_ℚ (whole n)) (sym (cmp-+ℚ p (whole (n +ℤ pos 1)) (neg_ℚ (whole n)))) (rounds p).0.greatest
-        in
-        (
+        in (
           alone _ (at_most_is numbering a u x h i ∙ ap (λ (q : Fraction). fraction_le q p) is ∙ le_is (whole n) p (rounds p).0.at_most),
           (
             alone _
-            (below_number_is (joined numbering Difference f (unit_form u)).result (p +ℚ neg_ℚ (whole n)) (whole (pos 1)) (less-value f (unit_form u) p (whole n) (form_has_value numbering a x i) own)
-            ∙ lt_is (p +ℚ neg_ℚ (whole n)) (whole (pos 1)) (<ℚ-≤ℚ_trans below (≤ℚ-from_eq one))),
+                (below_number_is (joined numbering Difference f (unit_form u)).result (p +ℚ neg_ℚ (whole n)) (whole (pos 1)) (less-value f (unit_form u) p (whole n) (form_has_value numbering a x i) own)
+                ∙ lt_is (p +ℚ neg_ℚ (whole n)) (whole (pos 1)) (<ℚ-≤ℚ_trans below (≤ℚ-from_eq one))),
             tt,
           ),
         )

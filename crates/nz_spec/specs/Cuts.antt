@@ -1,6 +1,6 @@
 -- Branches and cuts: what a sum of integers may be. It is at most an integer or at least the next one, and a bound on it may be rounded.
 -- Source: Gomory, Outline of an algorithm for integer solutions to linear programs, 1958.
-use Rattle.std.specs.Prelude.{◌≡◌, Bool, ◌&&◌, List, [], ◌∷◌, ◌++◌, map, Option, Some, None, pos, if◌then◌else◌}
+use Rattle.std.specs.Prelude.{◌≡◌, ◌&&◌, List, [], ◌∷◌, ◌++◌, map, Option, Some, None, pos, if◌then◌else◌}
 use Rattle.std.specs.List.{list_all, AllByRecursion}
 use Rattle.nz_spec.specs.Fraction.{Fraction, whole, neg_ℚ, floor, Difference}
 use Rattle.nz_spec.specs.Computation.{Computation, operated, at_once, turned_into, and_then}

@@ -1,8 +1,8 @@
 -- Sums of multiples of linear literals, and the literals that can't all be true because such a sum is a false bound on 0.
 -- Sources: Farkas, Theorie der einfachen Ungleichungen, 1902; Dutertre and de Moura, A Fast Linear-Arithmetic Solver for DPLL(T),
 -- CAV 2006, section 3 (explanations). The order of the operations is this solver's own.
-use Rattle.std.specs.Prelude.{◌≡◌, Bool, true, false, ◌&&◌, ◌||◌, IsTrue, List, [], ◌∷◌, map, Option, Some, None, pos, if◌then◌else◌}
-use Rattle.std.specs.List.{list_all, AllByRecursion}
+use Rattle.std.specs.Prelude.{◌≡◌, Bool, true, false, ◌&&◌, ◌||◌, List, [], ◌∷◌, map, Option, Some, None, pos, if◌then◌else◌}
+use Rattle.std.specs.List.{list_all}
 use Rattle.nz_spec.specs.Fraction.{Fraction, whole, fraction_lt, Sum, Product}
 use Rattle.nz_spec.specs.Computation.{Computation, operated, at_once, turned_into, and_then}
 use Rattle.nz_spec.specs.Term.{Assignment, is_zero}

@@ -1,7 +1,7 @@
 -- Linear literals over integers: which sums are integers, and the bounds that say as much of them as any other.
 -- Sources: SMT-LIB 2.6, theory Reals_Ints (<=, <); Gomory, Outline of an algorithm for integer solutions to linear programs,
 -- 1958 (a bound on a sum of integers may be rounded). When a literal is tight is this solver's own.
-use Rattle.std.specs.Prelude.{◌≡◌, ℕ, Bool, true, false, not, ◌&&◌, List, [], ◌∷◌, pos, unsigned_abs, if◌then◌else◌, ⊤}
+use Rattle.std.specs.Prelude.{◌≡◌, ℕ, Bool, true, false, not, ◌&&◌, List, [], ◌∷◌, pos, unsigned_abs, if◌then◌else◌}
 use Rattle.std.specs.List.{list_all, AllByRecursion}
 use Rattle.nz_spec.specs.Fraction.{Fraction, whole, neg_ℚ, fraction_eq, floor, ceiling, gcd, over, Difference, Product}
 use Rattle.nz_spec.specs.Computation.{Computation, operated, at_once, turned_into, and_then}

@@ -1,7 +1,7 @@
 -- The link table: the clauses that tie a comparison of numbers to literals on a sum, as a function of the term.
 -- Sources: SMT-LIB 2.6, theory Reals_Ints (<, <=, = and is_int); Dutertre and de Moura, A Fast Linear-Arithmetic Solver for
 -- DPLL(T), CAV 2006, section 3 (an atom is a bound on a sum of variables). The clauses' order is this solver's own.
-use Rattle.std.specs.Prelude.{ℕ, Bool, List, [], ◌∷◌, map, if◌then◌else◌, IsTrue, ⊤}
+use Rattle.std.specs.Prelude.{List, [], ◌∷◌, map, if◌then◌else◌, IsTrue, ⊤}
 use Rattle.std.specs.List.{AllByRecursion}
 use Rattle.nz_spec.specs.Fraction.{Difference}
 use Rattle.nz_spec.specs.Computation.{Computation, at_once, turned_into, and_then, in_turn}
