@@ -2,24 +2,29 @@ mod Listed
 mod Uses
 pub mod Arguments
 pub mod ByteClasses
+pub mod CutSums
 pub mod Decimals
 pub mod Derivations
 pub mod Divisions
 pub mod Examples
+pub mod FarkasSums
 pub mod FormNumbers
 pub mod FormPlaces
 pub mod FormSums
 pub mod FormTerms
 pub mod FormValues
 pub mod FractionArithmetic
+pub mod FractionBounds
 pub mod FractionLaws
 pub mod FractionOrder
 pub mod GateSettling
 pub mod GateTruths
 pub mod InfinitesimalLaws
 pub mod Instances
+pub mod IntegerSums
 pub mod LegalWork
 pub mod LinearLiterals
+pub mod LinkTruths
 pub mod Literals
 pub mod Normal
 pub mod NormalGates
@@ -29,6 +34,7 @@ pub mod ReadOperands
 pub mod Readings
 pub mod Roots
 pub mod Rounds
+pub mod Same
 pub mod Scripts
 pub mod Sorted
 pub mod SortedStates
@@ -36,4 +42,5 @@ pub mod SortedTerms
 pub mod Tables
 pub mod Tellings
 pub mod Transcripts
+pub mod UnitTruths
 pub mod WrittenTerms

@@ -2,11 +2,13 @@ pub mod Argument
 pub mod Bounds
 pub mod Command
 pub mod Computation
+pub mod Cuts
 pub mod Decide
 pub mod Elaboration
 pub mod Error
 pub mod Example
 pub mod Expression
+pub mod Farkas
 pub mod Form
 pub mod FormOf
 pub mod FormPlace
@@ -18,6 +20,7 @@ pub mod Legal
 pub mod Limits
 pub mod Linear
 pub mod LinearLiteral
+pub mod Links
 pub mod Literal
 pub mod Live
 pub mod Model
@@ -32,6 +35,7 @@ pub mod Reply
 pub mod Request
 pub mod Right
 pub mod Run
+pub mod Same
 pub mod Samples
 pub mod Scoping
 pub mod Script
@@ -46,8 +50,10 @@ pub mod Told
 pub mod Transcript
 pub mod Tree
 pub mod TruthTables
+pub mod Units
 pub mod WellSorted
 pub mod Work
+pub mod WorkedArithmetic
 pub mod WorkedLinear
 pub mod WorkedListings
 pub mod WorkedNormals

@@ -1,6 +1,6 @@
 //! Laws of terms.
 ghost use Rattle.nz_spec.specs.Term.{DecimalsAreNumbers, Divides, DividesOnce};
-ghost use Rattle.nz_spec.specs.Literal.{TellsHeads};
+ghost use Rattle.nz_spec.specs.Same.{TellsHeads};
 ghost use Rattle.nz_spec.specs.Numerals.{NumeralsAreWhole};
 ghost use Rattle.nz_spec.specs.Normal.{NormalKeepsValue};
 ghost use Rattle.nz_spec.specs.Elaboration.{InstanceKeepsNormal};
