@@ -1,6 +1,8 @@
 mod Listed
 mod Uses
 pub mod Arguments
+pub mod BasisRows
+pub mod BasisSums
 pub mod ByteClasses
 pub mod Decimals
 pub mod Derivations
@@ -14,6 +16,7 @@ pub mod FormValues
 pub mod FractionArithmetic
 pub mod FractionLaws
 pub mod FractionOrder
+pub mod FractionSolver
 pub mod GateSettling
 pub mod GateTruths
 pub mod InfinitesimalLaws

@@ -1,4 +1,5 @@
 pub mod Argument
+pub mod Basis
 pub mod Bounds
 pub mod Command
 pub mod Computation
