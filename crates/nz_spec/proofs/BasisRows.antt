@@ -5,7 +5,7 @@ use Rattle.nz_ints.proofs.Ring.{Atom, Literal, ◌⊕◌, ◌⊗◌, Minus}
 use Rattle.nz_spec.specs.Fraction.{Fraction, whole, ◌=ℚ◌, ◌+ℚ◌, neg_ℚ, ◌*ℚ◌}
 use Rattle.nz_spec.specs.Term.{Assignment}
 use Rattle.nz_spec.specs.Form.{Part, unit_value, parts_value}
-use Rattle.nz_spec.specs.Basis.{sum_of, Valuation, worth, form_at, Coefficients, mix, IsZeroAtBasic, IsRow, HasItsUnits, IsBasis, IsCoefficient, AreIndependent, CoefficientsAreUnique, alone, NonbasicFormIsItself, ValueIsWorth}
+use Rattle.nz_spec.specs.Basis.{sum_of, Valuation, worth, form_at, Coefficients, weighted, mix, IsZeroAtBasic, IsRow, HasItsUnits, IsBasis, IsCoefficient, AreIndependent, CoefficientsAreUnique, alone, NonbasicFormIsItself, ValueIsWorth}
 use Rattle.nz_spec.proofs.FractionLaws.{=ℚ_refl, =ℚ_sym}
 use Rattle.nz_spec.proofs.FractionArithmetic.{+ℚ-zero, +ℚ-same, *ℚ-same}
 use Rattle.nz_spec.proofs.FormValues.{zero_left, zero_times, times_zero, one_times}
@@ -18,9 +18,9 @@ value_is_worth a (p ∷ ps) = ap₂ (λ (x y : Fraction). x +ℚ y) refl (value_
 
 -- ---- Sums with coefficients, over any values of the forms
 
--- the values y with these coefficients
-abbrev pub weighted : ℕ → Coefficients → Coefficients → Fraction
-weighted n c y = sum_of n (λ k. c k *ℚ y k)
+-- equal values
+pub weighted-alike : (n : ℕ) (c x y : Coefficients) → ((k : ℕ) → x k =ℚ y k) → weighted n c x =ℚ weighted n c y
+weighted-alike n c x y h = sum-same n (λ k. c k *ℚ x k) (λ k. c k *ℚ y k) (λ k p. times_right (c k) (h k))
 
 module _ (n : ℕ) (y : Coefficients) where
   pub weighted-same : (c d : Coefficients) → ((k : ℕ) → c k =ℚ d k) → weighted n c y =ℚ weighted n d y
@@ -37,10 +37,10 @@ module _ (n : ℕ) (y : Coefficients) where
   pub weighted-zero : (c : Coefficients) → ((k : ℕ) → c k =ℚ whole (pos 0)) → weighted n c y =ℚ whole (pos 0)
   weighted-zero c h = sum-zero n (λ k. c k *ℚ y k) (λ k p. times_left (y k) (h k) ∙ℚ zero_times (y k))
 
-equal-number : (k i : ℕ) → k ≡ i → (k == i) ≡ true
+pub equal-number : (k i : ℕ) → k ≡ i → (k == i) ≡ true
 equal-number k i e = grind (arith, e)
 
-other-number : (k i : ℕ) → k ≢ i → (k == i) ≡ false
+pub other-number : (k i : ℕ) → k ≢ i → (k == i) ≡ false
 other-number k i h = grind (arith, h)
 
 pub alone-here : (i : ℕ) → alone i i =ℚ whole (pos 1)
@@ -70,7 +70,7 @@ abbrev less : Coefficients → Coefficients → Coefficients
 less c d k = c k +ℚ whole (negsuc 0) *ℚ d k
 
 module _ (fs : List (List Part)) (nonbasic : ℕ → Bool) where
-  nonbasic-plus : (c d : Coefficients) (s : Fraction) → IsZeroAtBasic nonbasic c → IsZeroAtBasic nonbasic d → IsZeroAtBasic nonbasic (λ k. c k +ℚ s *ℚ d k)
+  pub nonbasic-plus : (c d : Coefficients) (s : Fraction) → IsZeroAtBasic nonbasic c → IsZeroAtBasic nonbasic d → IsZeroAtBasic nonbasic (λ k. c k +ℚ s *ℚ d k)
   nonbasic-plus c d s h m k e = +ℚ-same (h k e) (times_right s (m k e) ∙ℚ times_zero s) ∙ℚ +ℚ-zero (whole (pos 0))
 
   one_from_independent : AreIndependent fs nonbasic → (i : ℕ) (c d : Coefficients) → IsRow fs nonbasic i c → IsRow fs nonbasic i d → (k : ℕ) → c k =ℚ d k
@@ -110,7 +110,7 @@ module _ (fs : List (List Part)) (nonbasic : ℕ → Bool) where
   coefficient_is_one i j p q b h c d = =ℚ_sym c.at ∙ℚ b.one i c.row d.row h c.is_row d.is_row j ∙ℚ d.at
 
   -- a form of the list alone
-  alone-row : (i : ℕ) → i < length fs → nonbasic i ≡ true → IsRow fs nonbasic i (alone i)
+  pub alone-row : (i : ℕ) → i < length fs → nonbasic i ≡ true → IsRow fs nonbasic i (alone i)
   alone-row i h e = record {
     at_basic = λ k o. alone-there i k (λ (q : k ≡ i). true≢false (sym e ∙ ap nonbasic (sym q) ∙ o));
     equal = λ v. =ℚ_sym (weighted-alone (length fs) i (λ k. worth v (form_at fs k)) h);

@@ -1,6 +1,7 @@
 mod Listed
 mod Uses
 pub mod Arguments
+pub mod BasisExchange
 pub mod BasisRows
 pub mod BasisSums
 pub mod ByteClasses
@@ -16,6 +17,7 @@ pub mod FormValues
 pub mod FractionArithmetic
 pub mod FractionLaws
 pub mod FractionOrder
+pub mod FractionQuotients
 pub mod FractionSolver
 pub mod GateSettling
 pub mod GateTruths

@@ -33,9 +33,13 @@ form_at fs i = slice_index_or fs i []
 abbrev pub Coefficients : Type 0
 Coefficients = ℕ → Fraction
 
+-- the first n values, with these coefficients, in one sum
+abbrev pub weighted : ℕ → Coefficients → (ℕ → Fraction) → Fraction
+weighted n c y = sum_of n (λ k. c k *ℚ y k)
+
 -- the forms with these coefficients, in one sum
 abbrev pub mix : List (List Part) → Coefficients → Valuation → Fraction
-mix fs c v = sum_of (length fs) (λ k. c k *ℚ worth v (form_at fs k))
+mix fs c v = weighted (length fs) c (λ k. worth v (form_at fs k))
 
 -- Only nonbasic forms have coefficients other than 0.
 abbrev pub IsZeroAtBasic : (ℕ → Bool) → Coefficients → Type 0

@@ -1,5 +1,6 @@
 pub mod Argument
 pub mod Basis
+pub mod BasisMoves
 pub mod Bounds
 pub mod Command
 pub mod Computation

@@ -1,5 +1,6 @@
 //! Laws of bases of linear forms.
 ghost use Rattle.nz_spec.specs.Basis.{CoefficientsAreUnique, NonbasicFormIsItself, ValueIsWorth};
+ghost use Rattle.nz_spec.specs.BasisMoves.{ExchangeKeepsBasis, SolutionsStay};
 
 /// Coefficients over a basis are unique.
 pub fn coefficients_are_unique()
@@ -14,4 +15,14 @@ pub fn nonbasic_form_is_itself()
 /// A form is worth under an assignment what its units are.
 pub fn value_is_worth()
     ensures worth { ValueIsWorth }
+{}
+
+/// An exchange of a basic and a nonbasic form leaves a basis, with the rows that are computed.
+pub fn exchange_keeps_basis()
+    ensures kept { ExchangeKeepsBasis }
+{}
+
+/// The values of forms under an assignment fit every basis, and an exchange leaves the same solutions.
+pub fn solutions_stay()
+    ensures stay { SolutionsStay }
 {}
