@@ -15,12 +15,7 @@ use Rattle.nz_spec.proofs.FractionArithmetic.{+ℚ-zero, +ℚ-same, *ℚ-same, n
 use Rattle.nz_spec.proofs.FormValues.{zero_left, zero_times, times_zero, one_times}
 use Rattle.nz_spec.proofs.FractionQuotients.{reciprocal-times, outcome-quotient, nonzero-test, zero-factor}
 use Rattle.nz_spec.proofs.FractionSolver.{◌∙ℚ◌, solve, solve_by, plus_left, plus_right, times_left, times_right}
-use Rattle.nz_spec.proofs.BasisRows.{value_is_worth, weighted-same, weighted-alike, weighted-plus, alone-here, alone-there, weighted-alone, equal-number, other-number, alone-row, coefficients_are_unique}
-
--- ---- Tests of numbers
-
-same-number : (k i : ℕ) → (k == i) ≡ true → k ≡ i
-same-number k i e = grind (arith, e)
+use Rattle.nz_spec.proofs.BasisRows.{value_is_worth, weighted-same, weighted-alike, weighted-plus, alone-here, alone-there, weighted-alone, equal-number, other-number, same-number, alone-row, coefficients_are_unique}
 
 -- equal coefficients make one row
 pub row-same : (fs : List (List Part)) (nonbasic : ℕ → Bool) (i : ℕ) (c d : Coefficients) → ((k : ℕ) → d k =ℚ c k) → IsRow fs nonbasic i c → IsRow fs nonbasic i d

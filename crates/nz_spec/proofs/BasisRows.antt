@@ -40,6 +40,9 @@ module _ (n : ℕ) (y : Coefficients) where
 pub equal-number : (k i : ℕ) → k ≡ i → (k == i) ≡ true
 equal-number k i e = grind (arith, e)
 
+pub same-number : (k i : ℕ) → (k == i) ≡ true → k ≡ i
+same-number k i e = grind (arith, e)
+
 pub other-number : (k i : ℕ) → k ≢ i → (k == i) ≡ false
 other-number k i h = grind (arith, h)
 

@@ -2,6 +2,7 @@ mod Listed
 mod Uses
 pub mod Arguments
 pub mod BasisExchange
+pub mod BasisJoins
 pub mod BasisRows
 pub mod BasisSums
 pub mod ByteClasses

@@ -1,6 +1,6 @@
 //! Laws of bases of linear forms.
 ghost use Rattle.nz_spec.specs.Basis.{CoefficientsAreUnique, NonbasicFormIsItself, ValueIsWorth};
-ghost use Rattle.nz_spec.specs.BasisMoves.{ExchangeKeepsBasis, SolutionsStay};
+ghost use Rattle.nz_spec.specs.BasisMoves.{ExchangeKeepsBasis, JoinsKeepBasis, SolutionsStay};
 
 /// Coefficients over a basis are unique.
 pub fn coefficients_are_unique()
@@ -25,4 +25,9 @@ pub fn exchange_keeps_basis()
 /// The values of forms under an assignment fit every basis, and an exchange leaves the same solutions.
 pub fn solutions_stay()
     ensures stay { SolutionsStay }
+{}
+
+/// New units join a basis as nonbasic, and forms over its units as basic; what stood there stays.
+pub fn joins_keep_basis()
+    ensures kept { JoinsKeepBasis }
 {}
