@@ -259,29 +259,39 @@ module _ (fs : List (List Part)) (nonbasic : ℕ → Bool) (i j : ℕ) (a : Coef
   solution-back q y fits k c p n =
       fits k (shifted c (factor c)) p (forth k c n) ∙ℚ weighted-kept c (factor c) y (fits_at_i y q fits)
 
+-- where i may be exchanged with j, its row has a coefficient there
+nonzero_at : (fs : List (List Part)) (nonbasic : ℕ → Bool) (i j : ℕ) (may : MayExchange fs nonbasic i j) → may.at.row j =ℚ whole (pos 0) → ⊥
+nonzero_at fs nonbasic i j may z = nonzero-test may.coefficient may.nonzero (=ℚ_sym may.at.at ∙ℚ z)
+
 pub exchange_keeps_basis : ExchangeKeepsBasis
 exchange_keeps_basis = record {
-  basis = λ fs nonbasic rows i j b m may.
-      still_basis fs nonbasic i j (rows i) may.listed may.leaves may.enters (m i may.listed may.leaves) (nonzero-test (rows i j) may.nonzero) b;
+  basis = λ fs nonbasic i j b may.
+      still_basis fs nonbasic i j may.at.row may.listed may.leaves may.enters may.at.is_row (nonzero_at fs nonbasic i j may) b;
   rows = kept;
 }
   where
-    kept : (fs : List (List Part)) (nonbasic : ℕ → Bool) (rows : Rows) (i j : ℕ) → IsBasis fs nonbasic → AreRows fs nonbasic rows → MayExchange fs nonbasic rows i j
+    kept : (fs : List (List Part)) (nonbasic : ℕ → Bool) (rows : Rows) (i j : ℕ) → IsBasis fs nonbasic → MayExchange fs nonbasic i j → AreRows fs nonbasic rows
         → AreRows fs (exchanged nonbasic i j) (exchange (length fs) nonbasic rows i j).result
-    kept fs nonbasic rows i j b m may k p = by_test (k == j) (k == i) refl
+    kept fs nonbasic rows i j b may m k p = by_test (k == j) (k == i) refl
       where
+        ks : List ℕ
+        ks = numbers (length fs) (λ l. nonbasic l && not (l == j))
         q : Coefficients
         q = (solved (numbers (length fs) (λ l. nonbasic l && not (l == j))) i j (rows i)).result
+        row : IsRow fs nonbasic i (rows i)
+        row = m i may.listed may.leaves
+        nonzero : rows i j =ℚ whole (pos 0) → ⊥
+        nonzero z =
+            nonzero_at fs nonbasic i j may
+            (b.one i may.at.row (rows i) may.listed may.at.is_row (m i may.listed may.leaves) j ∙ℚ z)
         by_test : (d e : Bool) → (k == j) ≡ d → (if e then true else if d then false else nonbasic k) ≡ false
             → IsRow fs (exchanged nonbasic i j) k (if d then q else (replaced (numbers (length fs) (exchanged nonbasic i j)) j q (rows k)).result)
         by_test d true f o = absurd (true≢false o)
         by_test true false f o =
             subst (λ (l : ℕ). IsRow fs (exchanged nonbasic i j) l q) (sym (same-number k j f))
-            (solved-row fs nonbasic i j (rows i) may.listed may.leaves may.enters (m i may.listed may.leaves) (nonzero-test (rows i j) may.nonzero)
-            (numbers (length fs) (λ l. nonbasic l && not (l == j))) (b.listed j may.enters))
+            (solved-row fs nonbasic i j (rows i) may.listed may.leaves may.enters row nonzero ks (b.listed j may.enters))
         by_test false false f o =
-            replaced-row fs nonbasic i j (rows i) may.listed may.leaves may.enters (m i may.listed may.leaves) (nonzero-test (rows i j) may.nonzero)
-            (numbers (length fs) (λ l. nonbasic l && not (l == j))) k (rows k) (numbers (length fs) (exchanged nonbasic i j)) (m k p o)
+            replaced-row fs nonbasic i j (rows i) may.listed may.leaves may.enters row nonzero ks k (rows k) (numbers (length fs) (exchanged nonbasic i j)) (m k p o)
 
 pub solutions_stay : SolutionsStay
 solutions_stay = record {
@@ -290,7 +300,7 @@ solutions_stay = record {
       subst (λ (x : Fraction). x =ℚ weighted (length fs) c (λ k. parts_value a (form_at fs k))) (sym (value_is_worth a (form_at fs i)))
       (r.equal (unit_value a)
       ∙ℚ =ℚ_sym (weighted-alike (length fs) c (λ k. parts_value a (form_at fs k)) (λ k. worth (unit_value a) (form_at fs k)) (λ k. =ℚ-from_same (value_is_worth a (form_at fs k)))));
-  exchange = λ fs nonbasic rows i j b m may y.
-      (solution-forth fs nonbasic i j (rows i) may.listed may.leaves may.enters (m i may.listed may.leaves) (nonzero-test (rows i j) may.nonzero) b y,
-      solution-back fs nonbasic i j (rows i) may.listed may.leaves may.enters (m i may.listed may.leaves) (nonzero-test (rows i j) may.nonzero) (b.listed j may.enters) y);
+  exchange = λ fs nonbasic i j b may y.
+      (solution-forth fs nonbasic i j may.at.row may.listed may.leaves may.enters may.at.is_row (nonzero_at fs nonbasic i j may) b y,
+      solution-back fs nonbasic i j may.at.row may.listed may.leaves may.enters may.at.is_row (nonzero_at fs nonbasic i j may) (b.listed j may.enters) y);
 }

@@ -8,7 +8,7 @@ use Rattle.nz_spec.specs.Fraction.{Fraction, whole, ◌=ℚ◌, neg_ℚ, Sum, Pr
 use Rattle.nz_spec.specs.Computation.{Computation, at_once, and_then}
 use Rattle.nz_spec.specs.Term.{Term, Assignment, is_zero}
 use Rattle.nz_spec.specs.Form.{Part, unit_form, parts_value}
-use Rattle.nz_spec.specs.Basis.{weighted, Valuation, worth, form_at, Coefficients, IsRow, HasItsUnits, IsBasis}
+use Rattle.nz_spec.specs.Basis.{weighted, Valuation, worth, form_at, Coefficients, IsRow, HasItsUnits, IsBasis, IsCoefficient}
 
 -- ---- Numbers and rows
 
@@ -43,12 +43,14 @@ plus_multiple ks c s d = record {
 abbrev pub exchanged : (ℕ → Bool) → ℕ → ℕ → ℕ → Bool
 exchanged nonbasic i j k = if k == i then true else if k == j then false else nonbasic k
 
--- i may be exchanged with j: it is basic, and has a coefficient at the nonbasic j
-pub record MayExchange (fs : List (List Part)) (nonbasic : ℕ → Bool) (rows : Rows) (i j : ℕ) : Type 0 where
+-- i may be exchanged with j: it is basic, j is nonbasic, and its coefficient there isn't 0
+pub record MayExchange (fs : List (List Part)) (nonbasic : ℕ → Bool) (i j : ℕ) : Type 0 where
   pub listed : i < length fs
   pub leaves : nonbasic i ≡ false
   pub enters : nonbasic j ≡ true
-  pub nonzero : is_zero (rows i j) ≡ false
+  pub coefficient : Fraction
+  pub at : IsCoefficient fs nonbasic i j coefficient
+  pub nonzero : is_zero coefficient ≡ false
 
 -- The equation i = a_j j + .. a_k k .. is solved for j: 1/a_j at i, and -(a_k/a_j) at each other k. A number's negation is one.
 abbrev pub solved : List ℕ → ℕ → ℕ → Coefficients → Computation Coefficients
@@ -114,9 +116,8 @@ joining_row n nonbasic rows number f = parts_added (numbers n nonbasic) nonbasic
 
 -- An exchange leaves a basis, and its rows are those that are computed.
 pub record ExchangeKeepsBasis : Type 0 where
-  pub basis : (fs : List (List Part)) (nonbasic : ℕ → Bool) (rows : Rows) (i j : ℕ) → IsBasis fs nonbasic → AreRows fs nonbasic rows → MayExchange fs nonbasic rows i j
-      → IsBasis fs (exchanged nonbasic i j)
-  pub rows : (fs : List (List Part)) (nonbasic : ℕ → Bool) (rows : Rows) (i j : ℕ) → IsBasis fs nonbasic → AreRows fs nonbasic rows → MayExchange fs nonbasic rows i j
+  pub basis : (fs : List (List Part)) (nonbasic : ℕ → Bool) (i j : ℕ) → IsBasis fs nonbasic → MayExchange fs nonbasic i j → IsBasis fs (exchanged nonbasic i j)
+  pub rows : (fs : List (List Part)) (nonbasic : ℕ → Bool) (rows : Rows) (i j : ℕ) → IsBasis fs nonbasic → MayExchange fs nonbasic i j → AreRows fs nonbasic rows
       → AreRows fs (exchanged nonbasic i j) (exchange (length fs) nonbasic rows i j).result
 
 -- These values of the forms fit the basis: each form's is the sum of the nonbasic ones' with its coefficients.
@@ -127,7 +128,7 @@ IsSolution fs nonbasic y = (i : ℕ) (c : Coefficients) → i < length fs → Is
 pub record SolutionsStay : Type 0 where
   pub worth : (fs : List (List Part)) (nonbasic : ℕ → Bool) (v : Valuation) → IsSolution fs nonbasic (λ k. worth v (form_at fs k))
   pub values : (fs : List (List Part)) (nonbasic : ℕ → Bool) (a : Assignment) → IsSolution fs nonbasic (λ k. parts_value a (form_at fs k))
-  pub exchange : (fs : List (List Part)) (nonbasic : ℕ → Bool) (rows : Rows) (i j : ℕ) → IsBasis fs nonbasic → AreRows fs nonbasic rows → MayExchange fs nonbasic rows i j
+  pub exchange : (fs : List (List Part)) (nonbasic : ℕ → Bool) (i j : ℕ) → IsBasis fs nonbasic → MayExchange fs nonbasic i j
       → (y : ℕ → Fraction) → IsSolution fs nonbasic y ↔ IsSolution fs (exchanged nonbasic i j) y
 
 -- The empty list is a basis. A new unit joins as nonbasic, and a form over units of the list as basic, with the row that is computed; the rows that were there stay.
