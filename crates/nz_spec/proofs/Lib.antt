@@ -5,6 +5,7 @@ pub mod BasisExchange
 pub mod BasisJoins
 pub mod BasisRows
 pub mod BasisSums
+pub mod BlandValues
 pub mod ByteClasses
 pub mod Decimals
 pub mod Derivations
@@ -23,6 +24,7 @@ pub mod FractionSolver
 pub mod GateSettling
 pub mod GateTruths
 pub mod InfinitesimalLaws
+pub mod InfinitesimalOrder
 pub mod Instances
 pub mod LegalWork
 pub mod LinearLiterals

@@ -1,6 +1,7 @@
 pub mod Argument
 pub mod Basis
 pub mod BasisMoves
+pub mod Bland
 pub mod Bounds
 pub mod Command
 pub mod Computation

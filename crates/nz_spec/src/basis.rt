@@ -1,6 +1,7 @@
 //! Laws of bases of linear forms.
 ghost use Rattle.nz_spec.specs.Basis.{CoefficientsAreUnique, NonbasicFormIsItself, ValueIsWorth};
 ghost use Rattle.nz_spec.specs.BasisMoves.{ExchangeKeepsBasis, JoinsKeepBasis, SolutionsStay};
+ghost use Rattle.nz_spec.specs.Bland.{SumMoves, ValueIsComputed};
 
 /// Coefficients over a basis are unique.
 pub fn coefficients_are_unique()
@@ -30,4 +31,14 @@ pub fn solutions_stay()
 /// New units join a basis as nonbasic, and forms over its units as basic; what stood there stays.
 pub fn joins_keep_basis()
     ensures kept { JoinsKeepBasis }
+{}
+
+/// The value of a form that is computed from its row is the sum over the point.
+pub fn value_is_computed()
+    ensures computed { ValueIsComputed }
+{}
+
+/// Where one value moves, a sum moves by its coefficient there.
+pub fn sum_moves()
+    ensures moves { SumMoves }
 {}
