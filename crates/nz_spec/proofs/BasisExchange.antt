@@ -224,14 +224,18 @@ module _ (fs : List (List Part)) (nonbasic : ℕ → Bool) (i j : ℕ) (a : Coef
 
   -- ---- solutions
 
+  -- where the row of i fits, the old and the new row of a form sum to one value
+  pub row-sum_stays : IsBasis fs nonbasic → (y : Coefficients) → weighted (length fs) a y =ℚ y i → (k : ℕ) (c d : Coefficients) → k < length fs → IsRow fs nonbasic k c → IsRow fs (exchanged nonbasic i j) k d
+      → weighted (length fs) c y =ℚ weighted (length fs) d y
+  row-sum_stays b y fits k c d p n m =
+      =ℚ_sym (weighted-kept c (factor c) y fits)
+      ∙ℚ weighted-same (length fs) y (shifted c (factor c)) d ((still_basis b).one k (shifted c (factor c)) d p (forth k c n) m)
+
   solution-forth : IsBasis fs nonbasic → (y : Coefficients) → IsSolution fs nonbasic y → IsSolution fs (exchanged nonbasic i j) y
   solution-forth b y fits k d p m = by_row (b.some k p)
     where
       by_row : (c : Coefficients) × IsRow fs nonbasic k c → y k =ℚ weighted (length fs) d y
-      by_row (c, n) =
-          fits k c p n
-          ∙ℚ =ℚ_sym (weighted-kept c (factor c) y (=ℚ_sym (fits i a inside r)))
-          ∙ℚ weighted-same (length fs) y (shifted c (factor c)) d ((still_basis b).one k (shifted c (factor c)) d p (forth k c n) m)
+      by_row (c, n) = fits k c p n ∙ℚ row-sum_stays b y (=ℚ_sym (fits i a inside r)) k c d p n m
 
   -- i is the sum of its row where j fits the new one
   fits_at_i : (y : Coefficients) → j < length fs → IsSolution fs (exchanged nonbasic i j) y → weighted (length fs) a y =ℚ y i
@@ -260,7 +264,7 @@ module _ (fs : List (List Part)) (nonbasic : ℕ → Bool) (i j : ℕ) (a : Coef
       fits k (shifted c (factor c)) p (forth k c n) ∙ℚ weighted-kept c (factor c) y (fits_at_i y q fits)
 
 -- where i may be exchanged with j, its row has a coefficient there
-nonzero_at : (fs : List (List Part)) (nonbasic : ℕ → Bool) (i j : ℕ) (may : MayExchange fs nonbasic i j) → may.at.row j =ℚ whole (pos 0) → ⊥
+pub nonzero_at : (fs : List (List Part)) (nonbasic : ℕ → Bool) (i j : ℕ) (may : MayExchange fs nonbasic i j) → may.at.row j =ℚ whole (pos 0) → ⊥
 nonzero_at fs nonbasic i j may z = nonzero-test may.coefficient may.nonzero (=ℚ_sym may.at.at ∙ℚ z)
 
 pub exchange_keeps_basis : ExchangeKeepsBasis

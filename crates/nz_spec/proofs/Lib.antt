@@ -5,6 +5,8 @@ pub mod BasisExchange
 pub mod BasisJoins
 pub mod BasisRows
 pub mod BasisSums
+pub mod BlandRefutes
+pub mod BlandSteps
 pub mod BlandValues
 pub mod ByteClasses
 pub mod Decimals

@@ -1,7 +1,7 @@
 //! Laws of bases of linear forms.
 ghost use Rattle.nz_spec.specs.Basis.{CoefficientsAreUnique, NonbasicFormIsItself, ValueIsWorth};
 ghost use Rattle.nz_spec.specs.BasisMoves.{ExchangeKeepsBasis, JoinsKeepBasis, SolutionsStay};
-ghost use Rattle.nz_spec.specs.Bland.{SumMoves, ValueIsComputed};
+ghost use Rattle.nz_spec.specs.Bland.{CheckStepsKeepBasis, NoHelpRefutes, SumMoves, ValueIsComputed};
 
 /// Coefficients over a basis are unique.
 pub fn coefficients_are_unique()
@@ -41,4 +41,14 @@ pub fn value_is_computed()
 /// Where one value moves, a sum moves by its coefficient there.
 pub fn sum_moves()
     ensures moves { SumMoves }
+{}
+
+/// A check step leads from basis to basis.
+pub fn check_steps_keep_basis()
+    ensures kept { CheckStepsKeepBasis }
+{}
+
+/// Where a form breaks a bound and no nonbasic form can help, its row refutes the bounds.
+pub fn no_help_refutes()
+    ensures refutes { NoHelpRefutes }
 {}
