@@ -46,4 +46,5 @@ pub mod SortedTerms
 pub mod Tables
 pub mod Tellings
 pub mod Transcripts
+pub mod WorkedBases
 pub mod WrittenTerms

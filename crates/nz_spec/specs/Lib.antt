@@ -51,6 +51,7 @@ pub mod Tree
 pub mod TruthTables
 pub mod WellSorted
 pub mod Work
+pub mod WorkedBasis
 pub mod WorkedLinear
 pub mod WorkedListings
 pub mod WorkedNormals

@@ -2,6 +2,7 @@
 ghost use Rattle.nz_spec.specs.Basis.{CoefficientsAreUnique, NonbasicFormIsItself, ValueIsWorth};
 ghost use Rattle.nz_spec.specs.BasisMoves.{ExchangeKeepsBasis, JoinsKeepBasis, SolutionsStay};
 ghost use Rattle.nz_spec.specs.Bland.{CheckStepsKeepBasis, NoHelpRefutes, SumMoves, ValueIsComputed};
+ghost use Rattle.nz_spec.specs.WorkedBasis.{HasExchange, HasJoiningRow};
 
 /// Coefficients over a basis are unique.
 pub fn coefficients_are_unique()
@@ -51,4 +52,10 @@ pub fn check_steps_keep_basis()
 /// Where a form breaks a bound and no nonbasic form can help, its row refutes the bounds.
 pub fn no_help_refutes()
     ensures refutes { NoHelpRefutes }
+{}
+
+/// Forms that join two units, and an exchange, by the definitions alone.
+pub fn worked_basis()
+    ensures joining { HasJoiningRow }
+    ensures exchange { HasExchange }
 {}
