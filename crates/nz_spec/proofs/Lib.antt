@@ -23,6 +23,7 @@ pub mod FractionLaws
 pub mod FractionOrder
 pub mod FractionQuotients
 pub mod FractionSolver
+pub mod FractionZeros
 pub mod GateSettling
 pub mod GateTruths
 pub mod InfinitesimalLaws

@@ -1,6 +1,6 @@
 //! Laws of bases of linear forms.
 ghost use Rattle.nz_spec.specs.Basis.{CoefficientsAreUnique, NonbasicFormIsItself, ValueIsWorth};
-ghost use Rattle.nz_spec.specs.BasisMoves.{ExchangeKeepsBasis, JoinsKeepBasis, SolutionsStay};
+ghost use Rattle.nz_spec.specs.BasisMoves.{ExchangeKeepsBasis, JoinsKeepBasis, SolutionsStay, ZerosAreNeverWide};
 ghost use Rattle.nz_spec.specs.Bland.{CheckStepsKeepBasis, NoHelpRefutes, SumMoves, ValueIsComputed};
 ghost use Rattle.nz_spec.specs.WorkedBasis.{HasExchange, HasJoiningRow};
 
@@ -58,4 +58,9 @@ pub fn no_help_refutes()
 pub fn worked_basis()
     ensures joining { HasJoiningRow }
     ensures exchange { HasExchange }
+{}
+
+/// Beside 0 no operation leaves the numbers.
+pub fn zeros_are_never_wide()
+    ensures zeros { ZerosAreNeverWide }
 {}
