@@ -1,18 +1,18 @@
 -- Exchanges: adding a multiple of "the sum of form i, less form i" to coefficients keeps what they sum to. It leads from the old
 -- coefficients to the new ones, and back.
-use Rattle.std.proofs.Common.{◌≡◌, ℕ, zero, suc, ◌<◌, Bool, true, false, List, [], ◌∷◌, length, pos, negsuc, refl, sym, ap, ◌∙◌, subst, true≢false, arith}
-use Rattle.std.specs.Prelude.{◌==◌, not, ◌&&◌, if◌then◌else◌, ◌≢◌, ◌↔◌}
+use Rattle.std.proofs.Common.{◌≡◌, ℕ, ◌<◌, Bool, true, false, List, [], ◌∷◌, length, pos, negsuc, refl, sym, ap, ◌∙◌, subst, true≢false}
+use Rattle.std.specs.Prelude.{◌==◌, not, ◌&&◌, if◌then◌else◌, ◌≢◌}
 use Rattle.nz_ints.proofs.Ring.{Atom, Literal, ◌⊕◌, ◌⊗◌, Minus}
-use Rattle.nz_spec.specs.Fraction.{Fraction, whole, ◌=ℚ◌, ◌+ℚ◌, neg_ℚ, ◌*ℚ◌, reciprocal, Sum, Product, Quotient, outcome}
-use Rattle.nz_spec.specs.Computation.{Computation, at_once}
-use Rattle.nz_spec.specs.Term.{Assignment, is_zero}
+use Rattle.nz_spec.specs.Fraction.{Fraction, whole, ◌=ℚ◌, ◌+ℚ◌, neg_ℚ, ◌*ℚ◌, reciprocal, Product, Quotient, outcome}
+use Rattle.nz_spec.specs.Computation.{at_once}
+use Rattle.nz_spec.specs.Term.{is_zero}
 use Rattle.nz_spec.specs.Form.{Part, unit_value, parts_value}
-use Rattle.nz_spec.specs.Basis.{sum_of, Valuation, worth, form_at, Coefficients, weighted, mix, IsZeroAtBasic, IsRow, HasItsUnits, IsBasis, AreIndependent, alone}
+use Rattle.nz_spec.specs.Basis.{Valuation, worth, form_at, Coefficients, weighted, mix, IsZeroAtBasic, IsRow, IsBasis, AreIndependent, alone}
 use Rattle.nz_spec.specs.BasisMoves.{numbers, Rows, AreRows, plus_multiple, exchanged, MayExchange, solved, replaced, exchange, ExchangeKeepsBasis, IsSolution, SolutionsStay}
 use Rattle.nz_spec.proofs.FractionLaws.{=ℚ_refl, =ℚ-from_same, =ℚ_sym}
 use Rattle.nz_spec.proofs.FractionOrder.{same-fraction_eq}
-use Rattle.nz_spec.proofs.FractionArithmetic.{+ℚ-zero, +ℚ-same, *ℚ-same, neg_ℚ-same, outcome-sum, outcome-product}
-use Rattle.nz_spec.proofs.FormValues.{zero_left, zero_times, times_zero, one_times}
+use Rattle.nz_spec.proofs.FractionArithmetic.{+ℚ-zero, +ℚ-same, neg_ℚ-same, outcome-sum, outcome-product}
+use Rattle.nz_spec.proofs.FormValues.{zero_left, zero_times}
 use Rattle.nz_spec.proofs.FractionQuotients.{reciprocal-times, outcome-quotient, nonzero-test, zero-factor}
 use Rattle.nz_spec.proofs.FractionSolver.{◌∙ℚ◌, solve, solve_by, plus_left, plus_right, times_left, times_right}
 use Rattle.nz_spec.proofs.BasisRows.{value_is_worth, weighted-same, weighted-alike, weighted-plus, alone-here, alone-there, weighted-alone, equal-number, other-number, same-number, alone-row, coefficients_are_unique}
@@ -98,6 +98,7 @@ module _ (fs : List (List Part)) (nonbasic : ℕ → Bool) (i j : ℕ) (a : Coef
       kept true c p q = absurd (true≢false p)
       kept false true p q = absurd (true≢false q)
       kept false false p q = e
+
       by_test : (b : Bool) → (k == i) ≡ b → shifted d (d i) k =ℚ whole (pos 0)
       by_test true f =
           subst (λ (m : ℕ). shifted d (d i) m =ℚ whole (pos 0)) (sym (same-number k i f))
@@ -121,6 +122,7 @@ module _ (fs : List (List Part)) (nonbasic : ℕ → Bool) (i j : ℕ) (a : Coef
     where
       all : (m : ℕ) → shifted d (d i) m =ℚ whole (pos 0)
       all = free (shifted d (d i)) (back-zero d z) (λ v. mix-kept d (d i) v ∙ℚ none v)
+
       at_i : d i =ℚ whole (pos 0)
       at_i =
           zero-factor (d i) (a j) h
@@ -128,6 +130,7 @@ module _ (fs : List (List Part)) (nonbasic : ℕ → Bool) (i j : ℕ) (a : Coef
           ∙ℚ plus_left (d i *ℚ a j) (=ℚ_sym (z j out_at_j))
           ∙ℚ =ℚ_sym (shifted-there d (d i) j apart)
           ∙ℚ all j)
+
       by_test : (b : Bool) → (k == i) ≡ b → d k =ℚ whole (pos 0)
       by_test true f = subst (λ (m : ℕ). d m =ℚ whole (pos 0)) (sym (same-number k i f)) at_i
       by_test false f =
@@ -165,6 +168,7 @@ module _ (fs : List (List Part)) (nonbasic : ℕ → Bool) (i j : ℕ) (a : Coef
       where
         recip : Fraction
         recip = reciprocal (a j)
+
         by_tests : (b d : Bool) → (k == i) ≡ b → (k == j) ≡ d
             → ((if d then whole (pos 0) else c k) +ℚ c j *ℚ (if b then outcome Quotient (whole (pos 1)) (a j) else if d then whole (pos 0) else neg_ℚ (outcome Quotient (a k) (a j)))) =ℚ shifted c (factor c) k
         by_tests true true e f = absurd (apart (sym (same-number k j f) ∙ same-number k i e))
@@ -196,6 +200,7 @@ module _ (fs : List (List Part)) (nonbasic : ℕ → Bool) (i j : ℕ) (a : Coef
             by_test : (b : Bool) → (k == j) ≡ b → (if b then whole (pos 0) else alone j k) =ℚ whole (pos 0)
             by_test true e = =ℚ_refl (whole (pos 0))
             by_test false e = alone-there j k (λ (q : k ≡ j). true≢false (sym (equal-number k j q) ∙ e))
+
         same : (k : ℕ) → solution k =ℚ shifted (alone j) (factor (alone j)) k
         same k =
             solve (solution k ∷ []) (Atom 0) (Literal (pos 0) ⊕ Literal (pos 1) ⊗ Atom 0) refl
@@ -210,16 +215,17 @@ module _ (fs : List (List Part)) (nonbasic : ℕ → Bool) (i j : ℕ) (a : Coef
         unmoved z l =
             solve (c l ∷ a l ∷ alone i l ∷ reciprocal (a j) ∷ []) (Atom 0) ((Atom 0 ⊕ Minus (Literal (pos 0) ⊗ Atom 3) ⊗ Atom 1) ⊕ Minus (Minus (Literal (pos 0) ⊗ Atom 3)) ⊗ Atom 2) refl
             ∙ℚ (let f = neg_ℚ-same (times_left (reciprocal (a j)) (=ℚ_sym z)) in
-                +ℚ-same (plus_right (c l) (times_left (a l) f)) (times_left (alone i l) (neg_ℚ-same f)))
+            +ℚ-same (plus_right (c l) (times_left (a l) f)) (times_left (alone i l) (neg_ℚ-same f)))
+
         by_test : (b : Bool) → is_zero (c j) ≡ b → IsRow fs (exchanged nonbasic i j) k (if b then at_once c else plus_multiple ms (λ l. if l == j then whole (pos 0) else c l) (c j) solution).result
         by_test true e =
             row-same fs (exchanged nonbasic i j) k (shifted c (factor c)) c (unmoved (same-fraction_eq (c j) (whole (pos 0)) e)) (forth k c m)
         by_test false e =
             row-same fs (exchanged nonbasic i j) k (shifted c (factor c)) (plus_multiple ms (λ l. if l == j then whole (pos 0) else c l) (c j) solution).result
             (λ l.
-              outcome-sum (if l == j then whole (pos 0) else c l) (outcome Product (c j) (solution l))
-              ∙ℚ plus_right (if l == j then whole (pos 0) else c l) (outcome-product (c j) (solution l))
-              ∙ℚ filled-is c (m.at_basic i leaves) l)
+            outcome-sum (if l == j then whole (pos 0) else c l) (outcome Product (c j) (solution l))
+            ∙ℚ plus_right (if l == j then whole (pos 0) else c l) (outcome-product (c j) (solution l))
+            ∙ℚ filled-is c (m.at_basic i leaves) l)
             (forth k c m)
 
   -- ---- solutions
@@ -280,14 +286,18 @@ exchange_keeps_basis = record {
       where
         ks : List ℕ
         ks = numbers (length fs) (λ l. nonbasic l && not (l == j))
+
         q : Coefficients
         q = (solved (numbers (length fs) (λ l. nonbasic l && not (l == j))) i j (rows i)).result
+
         row : IsRow fs nonbasic i (rows i)
         row = m i may.listed may.leaves
+
         nonzero : rows i j =ℚ whole (pos 0) → ⊥
         nonzero z =
             nonzero_at fs nonbasic i j may
             (b.one i may.at.row (rows i) may.listed may.at.is_row (m i may.listed may.leaves) j ∙ℚ z)
+
         by_test : (d e : Bool) → (k == j) ≡ d → (if e then true else if d then false else nonbasic k) ≡ false
             → IsRow fs (exchanged nonbasic i j) k (if d then q else (replaced (numbers (length fs) (exchanged nonbasic i j)) j q (rows k)).result)
         by_test d true f o = absurd (true≢false o)
@@ -304,7 +314,8 @@ solutions_stay = record {
       subst (λ (x : Fraction). x =ℚ weighted (length fs) c (λ k. parts_value a (form_at fs k))) (sym (value_is_worth a (form_at fs i)))
       (r.equal (unit_value a)
       ∙ℚ =ℚ_sym (weighted-alike (length fs) c (λ k. parts_value a (form_at fs k)) (λ k. worth (unit_value a) (form_at fs k)) (λ k. =ℚ-from_same (value_is_worth a (form_at fs k)))));
-  exchange = λ fs nonbasic i j b may y.
-      (solution-forth fs nonbasic i j may.at.row may.listed may.leaves may.enters may.at.is_row (nonzero_at fs nonbasic i j may) b y,
-      solution-back fs nonbasic i j may.at.row may.listed may.leaves may.enters may.at.is_row (nonzero_at fs nonbasic i j may) (b.listed j may.enters) y);
+  exchange = λ fs nonbasic i j b may y. (
+    solution-forth fs nonbasic i j may.at.row may.listed may.leaves may.enters may.at.is_row (nonzero_at fs nonbasic i j may) b y,
+    solution-back fs nonbasic i j may.at.row may.listed may.leaves may.enters may.at.is_row (nonzero_at fs nonbasic i j may) (b.listed j may.enters) y,
+  );
 }

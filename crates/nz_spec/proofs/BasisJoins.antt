@@ -1,14 +1,13 @@
 -- Forms that join a basis: units as nonbasic forms, and forms over units of the list as basic ones.
-use Rattle.std.proofs.Common.{◌≡◌, ℕ, zero, suc, ◌<◌, ◌≤◌, Bool, true, false, ◌⊎◌, inl, inr, List, [], ◌∷◌, ◌++◌, length, pos, refl, sym, ap, ap₂, ◌∙◌, subst, true≢false, arith}
-use Rattle.std.specs.Prelude.{◌==◌, if◌then◌else◌, ◌≢◌, Contains, slice_index_or}
-use Rattle.std.specs.List.{AllByRecursion}
-use Rattle.nz_ints.proofs.Ring.{Atom, Literal, ◌⊕◌, ◌⊗◌, Minus}
-use Rattle.nz_spec.specs.Fraction.{Fraction, whole, ◌=ℚ◌, ◌+ℚ◌, neg_ℚ, ◌*ℚ◌, Sum, Product, outcome}
+use Rattle.std.proofs.Common.{◌≡◌, ℕ, zero, suc, ◌<◌, ◌≤◌, Bool, true, false, ◌⊎◌, inl, inr, List, [], ◌∷◌, ◌++◌, length, pos, refl, sym, ap, ◌∙◌, subst, true≢false, arith}
+use Rattle.std.specs.Prelude.{◌==◌, if◌then◌else◌, Contains, slice_index_or}
+use Rattle.nz_ints.proofs.Ring.{Atom, Literal, ◌⊕◌, ◌⊗◌}
+use Rattle.nz_spec.specs.Fraction.{Fraction, whole, ◌=ℚ◌, ◌+ℚ◌, ◌*ℚ◌, Sum, Product, outcome}
 use Rattle.nz_spec.specs.Computation.{Computation}
 use Rattle.nz_spec.specs.Term.{Term}
 use Rattle.nz_spec.specs.Literal.{are_same_term}
 use Rattle.nz_spec.specs.Form.{Part, unit_form}
-use Rattle.nz_spec.specs.Basis.{sum_of, Valuation, worth, form_at, Coefficients, weighted, mix, IsZeroAtBasic, IsRow, HasItsUnits, IsBasis, AreIndependent, alone}
+use Rattle.nz_spec.specs.Basis.{Valuation, worth, form_at, Coefficients, weighted, mix, IsZeroAtBasic, IsRow, HasItsUnits, IsBasis, AreIndependent, alone}
 use Rattle.nz_spec.specs.BasisMoves.{numbers, Rows, AreRows, plus_multiple, with_nonbasic, AreNumbered, part_added, parts_added, joining_row, JoinsKeepBasis}
 use Rattle.nz_spec.proofs.FractionLaws.{=ℚ_refl, =ℚ-from_same, =ℚ_sym}
 use Rattle.nz_spec.proofs.FractionArithmetic.{+ℚ-zero, +ℚ-same, *ℚ-one, outcome-sum, outcome-product}
@@ -16,7 +15,7 @@ use Rattle.nz_spec.proofs.FormValues.{zero_times, times_zero}
 use Rattle.nz_spec.proofs.Literals.{same_term, one_term}
 use Rattle.nz_spec.proofs.FractionSolver.{◌∙ℚ◌, solve, plus_left, plus_right, times_left, times_right}
 use Rattle.nz_spec.proofs.BasisSums.{sum-same, sum-zero}
-use Rattle.nz_spec.proofs.BasisRows.{weighted-same, weighted-plus, weighted-zero, alone-there, equal-number, other-number, same-number, nonbasic-plus, alone-row, coefficients_are_unique}
+use Rattle.nz_spec.proofs.BasisRows.{weighted-same, weighted-plus, weighted-zero, equal-number, same-number, nonbasic-plus, alone-row, coefficients_are_unique}
 
 -- ---- Lists with one more at the end
 
@@ -109,23 +108,29 @@ module _ (fs : List (List Part)) (nonbasic : ℕ → Bool) where
     equal : (v : Valuation) → worth v ps =ℚ mix fs c v
 
   spanned : IsBasis fs nonbasic → (ps : List Part) → HasItsUnits fs ps → (c : Coefficients) × Spans ps c
-  spanned b [] h = (λ k. whole (pos 0), record {
-    at_basic = λ k e. =ℚ_refl (whole (pos 0));
-    equal = λ v. =ℚ_sym (weighted-zero (length fs) (λ k. worth v (form_at fs k)) (λ k. whole (pos 0)) (λ k. =ℚ_refl (whole (pos 0))));
-  })
+  spanned b [] h = (
+    λ k. whole (pos 0),
+    record {
+      at_basic = λ k e. =ℚ_refl (whole (pos 0));
+      equal = λ v. =ℚ_sym (weighted-zero (length fs) (λ k. worth v (form_at fs k)) (λ k. whole (pos 0)) (λ k. =ℚ_refl (whole (pos 0))));
+    },
+  )
   spanned b (p ∷ ps) h = by_parts h.0 (spanned b ps h.1)
     where
       by_row : (m : ℕ) → form_at fs m ≡ (unit_form p.unit).parts → (d : Coefficients) × IsRow fs nonbasic m d → (c : Coefficients) × Spans ps c → (c : Coefficients) × Spans (p ∷ ps) c
       by_row m e (d, r) (c, s) =
           let q = p.coefficient in
-          let more : Coefficients = λ k. c k +ℚ q *ℚ d k in
-          (more, record {
-            at_basic = added-zero m c d more q s.at_basic r (λ k. =ℚ_refl (more k));
-            equal = λ v.
-                =ℚ_sym (added-mix m c d more q r (λ k. =ℚ_refl (more k)) v
-                ∙ℚ +ℚ-same (=ℚ_sym (s.equal v)) (times_right q (=ℚ-from_same (ap (worth v) e) ∙ℚ unit_worth v p.unit))
-                ∙ℚ solve (worth v ps ∷ (q *ℚ v p.unit) ∷ []) (Atom 0 ⊕ Atom 1) (Atom 1 ⊕ Atom 0) refl);
-          })
+          let more : Coefficients = λ k. c k +ℚ q *ℚ d k in (
+            more,
+            record {
+              at_basic = added-zero m c d more q s.at_basic r (λ k. =ℚ_refl (more k));
+              equal = λ v.
+                  =ℚ_sym (added-mix m c d more q r (λ k. =ℚ_refl (more k)) v
+                  ∙ℚ +ℚ-same (=ℚ_sym (s.equal v)) (times_right q (=ℚ-from_same (ap (worth v) e) ∙ℚ unit_worth v p.unit))
+                  ∙ℚ solve (worth v ps ∷ (q *ℚ v p.unit) ∷ []) (Atom 0 ⊕ Atom 1) (Atom 1 ⊕ Atom 0) refl);
+            },
+          )
+
       by_parts : Contains fs (unit_form p.unit).parts → (c : Coefficients) × Spans ps c → (c : Coefficients) × Spans (p ∷ ps) c
       by_parts (m, l, e) rest = by_row m (any_default fs m [] (unit_form p.unit).parts l ∙ e) (b.some m l) rest
 
@@ -179,6 +184,7 @@ module _ (fs : List (List Part)) (nonbasic : ℕ → Bool) where
       where
         places : (k n : ℕ) → (k < n) ⊎ ((k ≡ n) ⊎ (n < k))
         places k n = grind arith
+
         by_place : (i < length fs) ⊎ ((i ≡ length fs) ⊎ (length fs < i)) → HasItsUnits (fs ++ f ∷ []) (form_at (fs ++ f ∷ []) i)
         by_place (inl p) = subst (λ (g : List Part). HasItsUnits (fs ++ f ∷ []) g) (sym (at_front fs f [] i p)) (units-more fs f (form_at fs i) (b.units i))
         by_place (inr (inl e)) = subst (λ (g : List Part). HasItsUnits (fs ++ f ∷ []) g) (sym (ap (form_at (fs ++ f ∷ [])) e ∙ at_end fs f [])) own
@@ -198,8 +204,8 @@ module _ (fs : List (List Part)) (nonbasic : ℕ → Bool) where
         (λ k e. within-more k (b.listed k e))
         (λ i p. rows i (last_or_before i (length fs) (length (fs ++ f ∷ [])) (length-more fs f) p))
         (λ c z none k.
-          coefficients_are_unique.independent fs nonbasic b c z
-          (λ v. =ℚ_sym (mix-stays c v (z (length fs) (new_is_basic b))) ∙ℚ none v) k)
+        coefficients_are_unique.independent fs nonbasic b c z
+        (λ v. =ℚ_sym (mix-stays c v (z (length fs) (new_is_basic b))) ∙ℚ none v) k)
       where
         rows : (i : ℕ) → (i ≡ length fs) ⊎ (i < length fs) → (c : Coefficients) × IsRow (fs ++ f ∷ []) nonbasic i c
         rows i (inl e) =
@@ -242,22 +248,26 @@ module _ (fs : List (List Part)) (nonbasic : ℕ → Bool) where
       where
         n : ℕ
         n = length fs
+
         others : mix fs c (only u) =ℚ whole (pos 0)
         others =
             sum-zero (length fs) (λ k. c k *ℚ worth (only u) (form_at fs k))
             (λ k p. times_right (c k) (worth-without fs u new (form_at fs k) (b.units k)) ∙ℚ times_zero (c k))
+
         last : c (length fs) =ℚ whole (pos 0)
         last =
             =ℚ_sym (mix-more unit c (only u)
             ∙ℚ +ℚ-same others (times_right (c (length fs)) (unit_worth (only u) u ∙ℚ only-here u))
             ∙ℚ solve (c (length fs) ∷ []) (Literal (pos 0) ⊕ Atom 0 ⊗ Literal (pos 1)) (Atom 0) refl)
             ∙ℚ none (only u)
+
         at_basic : IsZeroAtBasic nonbasic c
         at_basic k e = by_test (k == length fs) refl
           where
             kept : (t : Bool) → t ≡ false → (if t then true else nonbasic k) ≡ false
             kept true g = absurd (true≢false g)
             kept false g = e
+
             by_test : (t : Bool) → (k == length fs) ≡ t → c k =ℚ whole (pos 0)
             by_test true g = subst (λ (m : ℕ). c m =ℚ whole (pos 0)) (sym (same-number k (length fs) g)) last
             by_test false g = z k (kept (k == length fs) g)
@@ -271,10 +281,12 @@ module _ (fs : List (List Part)) (nonbasic : ℕ → Bool) where
         (after-independent new)
       where
         rows : (i : ℕ) → (i ≡ length fs) ⊎ (i < length fs) → (c : Coefficients) × IsRow (fs ++ unit ∷ []) after i c
-        rows i (inl e) =
-            (alone i, alone-row (fs ++ unit ∷ []) after i
-            (subst (λ (n : ℕ). i < n) (sym (length-more fs unit)) (omega (arith, e)))
-            (after-last i e))
+        rows i (inl e) = (
+          alone i,
+          alone-row (fs ++ unit ∷ []) after i
+              (subst (λ (n : ℕ). i < n) (sym (length-more fs unit)) (omega (arith, e)))
+              (after-last i e),
+        )
         rows i (inr p) = let some = b.some i p in (some.0, row-stays unit b after after-less i some.0 p some.1)
 
   -- ---- The row that is computed
@@ -296,17 +308,20 @@ module _ (fs : List (List Part)) (nonbasic : ℕ → Bool) where
       where
         m : ℕ
         m = number p.unit
+
         by_test : (t : Bool) → nonbasic (number p.unit) ≡ t → (d : Coefficients) × IsRow fs nonbasic (number p.unit) d
             × ((k : ℕ) → (if t then (let x : Computation Coefficients = record {
               result = λ k. if k == number p.unit then outcome Sum (c k) p.coefficient else c k;
               operations = record { operator = Sum; left = c (number p.unit); right = p.coefficient } ∷ [];
             } in x) else plus_multiple ks c p.coefficient (rows (number p.unit))).result k =ℚ (c k +ℚ p.coefficient *ℚ d k))
         by_test true e = (alone (number p.unit), alone-row fs nonbasic (number p.unit) l e, raised c (number p.unit) p.coefficient)
-        by_test false e =
-            (rows (number p.unit), are (number p.unit) l e,
-            λ k.
+        by_test false e = (
+          rows (number p.unit),
+          are (number p.unit) l e,
+          λ k.
               outcome-sum (c k) (outcome Product p.coefficient (rows (number p.unit) k))
-              ∙ℚ plus_right (c k) (outcome-product p.coefficient (rows (number p.unit) k)))
+              ∙ℚ plus_right (c k) (outcome-product p.coefficient (rows (number p.unit) k)),
+        )
 
     added-row : (c : Coefficients) (ps : List Part) → IsZeroAtBasic nonbasic c → AreNumbered fs number ps
         → IsZeroAtBasic nonbasic (parts_added ks nonbasic rows number c ps).result
@@ -321,13 +336,15 @@ module _ (fs : List (List Part)) (nonbasic : ℕ → Bool) where
             × ((v : Valuation) → mix fs (parts_added ks nonbasic rows number (added c p) ps).result v =ℚ (mix fs c v +ℚ (p.coefficient *ℚ v p.unit +ℚ worth v ps)))
         by_row (d, r, e) rest =
             let q = p.coefficient in
-            let later = rest (added-zero (number p.unit) c d (added c p) q z r e) in
-            (later.0, λ v.
-              later.1 v
-              ∙ℚ plus_left (worth v ps)
-              (added-mix (number p.unit) c d (added c p) q r e v
-              ∙ℚ plus_right (mix fs c v) (times_right q (=ℚ-from_same (ap (worth v) h.0.1) ∙ℚ unit_worth v p.unit)))
-              ∙ℚ solve (mix fs c v ∷ (q *ℚ v p.unit) ∷ worth v ps ∷ []) ((Atom 0 ⊕ Atom 1) ⊕ Atom 2) (Atom 0 ⊕ (Atom 1 ⊕ Atom 2)) refl)
+            let later = rest (added-zero (number p.unit) c d (added c p) q z r e) in (
+              later.0,
+              λ v.
+                  later.1 v
+                  ∙ℚ plus_left (worth v ps)
+                  (added-mix (number p.unit) c d (added c p) q r e v
+                  ∙ℚ plus_right (mix fs c v) (times_right q (=ℚ-from_same (ap (worth v) h.0.1) ∙ℚ unit_worth v p.unit)))
+                  ∙ℚ solve (mix fs c v ∷ (q *ℚ v p.unit) ∷ worth v ps ∷ []) ((Atom 0 ⊕ Atom 1) ⊕ Atom 2) (Atom 0 ⊕ (Atom 1 ⊕ Atom 2)) refl,
+            )
 
     joining-spans : (f : List Part) → AreNumbered fs number f → Spans f (parts_added ks nonbasic rows number (λ k. whole (pos 0)) f).result
     joining-spans f h =

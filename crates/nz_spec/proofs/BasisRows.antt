@@ -1,15 +1,14 @@
 -- Rows over a basis: mixes of coefficients, and what is independent has one coefficient each.
-use Rattle.std.proofs.Common.{◌≡◌, ℕ, zero, suc, ◌<◌, Bool, true, false, List, [], ◌∷◌, length, pos, negsuc, refl, sym, ap, ap₂, ◌∙◌, true≢false, arith}
+use Rattle.std.proofs.Common.{◌≡◌, ℕ, ◌<◌, Bool, true, false, List, [], ◌∷◌, length, pos, negsuc, refl, sym, ap, ap₂, ◌∙◌, true≢false, arith}
 use Rattle.std.specs.Prelude.{◌==◌, if◌then◌else◌, ◌≢◌}
-use Rattle.nz_ints.proofs.Ring.{Atom, Literal, ◌⊕◌, ◌⊗◌, Minus}
-use Rattle.nz_spec.specs.Fraction.{Fraction, whole, ◌=ℚ◌, ◌+ℚ◌, neg_ℚ, ◌*ℚ◌}
-use Rattle.nz_spec.specs.Term.{Assignment}
-use Rattle.nz_spec.specs.Form.{Part, unit_value, parts_value}
-use Rattle.nz_spec.specs.Basis.{sum_of, Valuation, worth, form_at, Coefficients, weighted, mix, IsZeroAtBasic, IsRow, HasItsUnits, IsBasis, IsCoefficient, AreIndependent, CoefficientsAreUnique, alone, NonbasicFormIsItself, ValueIsWorth}
+use Rattle.nz_ints.proofs.Ring.{Atom, Literal, ◌⊕◌, ◌⊗◌}
+use Rattle.nz_spec.specs.Fraction.{Fraction, whole, ◌=ℚ◌, ◌+ℚ◌, ◌*ℚ◌}
+use Rattle.nz_spec.specs.Form.{Part}
+use Rattle.nz_spec.specs.Basis.{Valuation, worth, form_at, Coefficients, weighted, mix, IsZeroAtBasic, IsRow, IsBasis, IsCoefficient, AreIndependent, CoefficientsAreUnique, alone, NonbasicFormIsItself, ValueIsWorth}
 use Rattle.nz_spec.proofs.FractionLaws.{=ℚ_refl, =ℚ_sym}
-use Rattle.nz_spec.proofs.FractionArithmetic.{+ℚ-zero, +ℚ-same, *ℚ-same}
-use Rattle.nz_spec.proofs.FormValues.{zero_left, zero_times, times_zero, one_times}
-use Rattle.nz_spec.proofs.FractionSolver.{◌∙ℚ◌, solve, solve_by, equal_from_difference, plus_left, plus_right, times_left, times_right}
+use Rattle.nz_spec.proofs.FractionArithmetic.{+ℚ-zero, +ℚ-same}
+use Rattle.nz_spec.proofs.FormValues.{zero_times, times_zero, one_times}
+use Rattle.nz_spec.proofs.FractionSolver.{◌∙ℚ◌, solve, solve_by, plus_right, times_left, times_right}
 use Rattle.nz_spec.proofs.BasisSums.{sum-same, sum-plus, sum-scaled, sum-zero, sum-single}
 
 pub value_is_worth : ValueIsWorth
@@ -105,6 +104,7 @@ module _ (fs : List (List Part)) (nonbasic : ℕ → Bool) where
                 ∙ℚ plus_right (mix fs d v) (times_right (whole (pos 1)) (none v))
                 ∙ℚ solve (mix fs d v ∷ []) (Atom 0 ⊕ Literal (pos 1) ⊗ Literal (pos 0)) (Atom 0) refl);
           }
+
       by_test : (t : Bool) → nonbasic k ≡ t → c k =ℚ whole (pos 0)
       by_test true e = by_row (b.listed k e) (b.some k (b.listed k e))
       by_test false e = h k e

@@ -1,8 +1,8 @@
 -- Sums by number: alike, added, scaled, and of one summand.
-use Rattle.std.proofs.Common.{◌≡◌, ℕ, zero, suc, ◌<◌, Bool, true, false, ◌⊎◌, inl, inr, List, [], ◌∷◌, pos, refl, sym, subst, arith}
-use Rattle.std.specs.Prelude.{◌==◌, if◌then◌else◌, ◌≢◌}
-use Rattle.nz_ints.proofs.Ring.{Atom, Literal, ◌⊕◌, ◌⊗◌, Minus}
-use Rattle.nz_spec.specs.Fraction.{Fraction, whole, ◌=ℚ◌, ◌+ℚ◌, neg_ℚ, ◌*ℚ◌}
+use Rattle.std.proofs.Common.{◌≡◌, ℕ, zero, suc, ◌<◌, ◌⊎◌, inl, inr, [], ◌∷◌, pos, refl, sym, subst, arith}
+use Rattle.std.specs.Prelude.{◌≢◌}
+use Rattle.nz_ints.proofs.Ring.{Atom, ◌⊕◌, ◌⊗◌}
+use Rattle.nz_spec.specs.Fraction.{Fraction, whole, ◌=ℚ◌, ◌+ℚ◌, ◌*ℚ◌}
 use Rattle.nz_spec.specs.Basis.{sum_of}
 use Rattle.nz_spec.proofs.FractionLaws.{=ℚ_refl, =ℚ_sym}
 use Rattle.nz_spec.proofs.FractionArithmetic.{+ℚ-zero, +ℚ-same}

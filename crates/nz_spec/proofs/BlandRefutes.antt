@@ -1,21 +1,20 @@
 -- Bounds that contradict: where no form can help, the row of the form that breaks its bound refutes them.
-use Rattle.std.proofs.Common.{◌≡◌, ℕ, zero, suc, ◌<◌, Bool, true, false, ◌⊎◌, inl, inr, List, [], ◌∷◌, length, Option, Some, None, pos, refl, sym, ap, ap₂, ◌∙◌, subst, true≢false, arith, Ordering, Less, Equal, Greater}
-use Rattle.std.specs.Prelude.{◌==◌, if◌then◌else◌, ◌≢◌, unwrap_or, is_some}
-use Rattle.std.specs.Ordering.{is_gt, MatchOrdering}
+use Rattle.std.proofs.Common.{◌≡◌, ℕ, zero, suc, ◌<◌, Bool, true, false, inl, inr, length, Option, Some, None, pos, refl, sym, ap, subst, arith, Ordering, Less, Equal, Greater}
+use Rattle.std.specs.Prelude.{if◌then◌else◌, unwrap_or}
+use Rattle.std.specs.Ordering.{MatchOrdering}
 use Rattle.std.proofs.lemmas.Int.{ints}
 use Rattle.nz_spec.specs.Fraction.{Fraction, whole, ◌=ℚ◌, ◌<ℚ◌, ◌*ℚ◌, fraction_cmp, fraction_lt}
-use Rattle.nz_spec.specs.Infinitesimal.{Infinitesimal, ◌=δ◌, infinitesimal_cmp}
-use Rattle.nz_spec.specs.Term.{Assignment}
-use Rattle.nz_spec.specs.Form.{Part, parts_value}
-use Rattle.nz_spec.specs.Basis.{form_at, Coefficients, weighted, IsRow, IsBasis, IsCoefficient}
-use Rattle.nz_spec.specs.Bland.{is_nonbasic, zero_infinitesimal, value_in, sum_at, Position, HasBasis, HasValue, Side, lower_side, upper_side, other_side, bound_on, ◌<δ◌, IsOutside, IsInside, Breaks, HasRoom, CanHelp, MeetsBounds, IsRefutation, NoHelpRefutes}
-use Rattle.nz_spec.proofs.FractionLaws.{=ℚ_refl, =ℚ_sym, ≤ℚ-from_eq, <ℚ_irrefl, <ℚ_trans, ≤ℚ_refl}
+use Rattle.nz_spec.specs.Infinitesimal.{Infinitesimal, ◌=δ◌}
+use Rattle.nz_spec.specs.Form.{parts_value}
+use Rattle.nz_spec.specs.Basis.{form_at, Coefficients, IsCoefficient}
+use Rattle.nz_spec.specs.Bland.{is_nonbasic, zero_infinitesimal, value_in, sum_at, Position, HasBasis, Side, lower_side, upper_side, other_side, bound_on, IsOutside, IsInside, Breaks, HasRoom, CanHelp, MeetsBounds, IsRefutation, NoHelpRefutes}
+use Rattle.nz_spec.proofs.FractionLaws.{=ℚ_refl, =ℚ_sym, ≤ℚ-from_eq, <ℚ_irrefl}
 use Rattle.nz_spec.proofs.FractionOrder.{fraction_ranked}
 use Rattle.nz_spec.proofs.FormValues.{zero_times, times_zero}
-use Rattle.nz_spec.proofs.FractionSolver.{◌∙ℚ◌, times_left, times_right}
+use Rattle.nz_spec.proofs.FractionSolver.{◌∙ℚ◌, times_left}
 use Rattle.nz_spec.proofs.BasisSums.{sum-zero}
 use Rattle.nz_spec.proofs.BasisExchange.{solutions_stay}
-use Rattle.nz_spec.proofs.InfinitesimalOrder.{infinitesimal_total, AtMost, at_most_trans, not_less, at_most-less, less-at_most, at_most-equal, =δ_sym, parts_plus, parts_times, at_most-plus, at_most-times_pos, at_most-times_neg}
+use Rattle.nz_spec.proofs.InfinitesimalOrder.{AtMost, not_less, at_most-less, less-at_most, at_most-equal, =δ_sym, parts_times, at_most-plus, at_most-times_pos, at_most-times_neg}
 
 -- ---- Sums of values that are at most others
 
@@ -85,13 +84,13 @@ refutes s i side bound row bounds r y fits meets =
     (outside-equal side bound (sum_at (length s.forms) row y) (y i) (=δ_sym fits)
     (outside-sum side (length s.forms) row bounds y bound
     (λ k p h.
-      past-swapped side (bounds k) (y k)
-      (past-turned side (bounds k) (y k)
-      (not_outside (other_side side) (bounds k) (y k) (meets (other_side side) k (bounds k) p (r.above_zero k h)))))
+    past-swapped side (bounds k) (y k)
+    (past-turned side (bounds k) (y k)
+    (not_outside (other_side side) (bounds k) (y k) (meets (other_side side) k (bounds k) p (r.above_zero k h)))))
     (λ k p h.
-      past-turned side (y k) (bounds k)
-      (past-swapped (other_side side) (bounds k) (y k)
-      (not_outside side (bounds k) (y k) (meets side k (bounds k) p (r.below_zero k h)))))
+    past-turned side (y k) (bounds k)
+    (past-swapped (other_side side) (bounds k) (y k)
+    (not_outside side (bounds k) (y k) (meets side k (bounds k) p (r.below_zero k h)))))
     r.short))
 
 -- ---- Where no form can help

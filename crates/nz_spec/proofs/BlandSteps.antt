@@ -1,19 +1,18 @@
 -- Check steps: what is exchanged may be, and the values after it.
-use Rattle.std.proofs.Common.{◌≡◌, ℕ, zero, suc, ◌<◌, Bool, true, false, ◌⊎◌, inl, inr, List, [], ◌∷◌, length, Option, Some, None, pos, negsuc, refl, sym, ap, ◌∙◌, subst, true≢false, arith}
+use Rattle.std.proofs.Common.{◌≡◌, ℕ, ◌<◌, Bool, true, false, ◌⊎◌, inl, inr, [], ◌∷◌, length, Some, None, pos, negsuc, refl, sym, ap, ◌∙◌, subst, true≢false}
 use Rattle.std.specs.Prelude.{◌==◌, if◌then◌else◌, ◌≢◌, unwrap_or, is_some}
 use Rattle.nz_ints.proofs.Ring.{Atom, Literal, ◌⊕◌, ◌⊗◌, Minus}
 use Rattle.nz_spec.specs.Fraction.{Fraction, whole, ◌=ℚ◌, ◌<ℚ◌, ◌+ℚ◌, ◌-ℚ◌, neg_ℚ, ◌*ℚ◌}
-use Rattle.nz_spec.specs.Infinitesimal.{Infinitesimal, ◌=δ◌, ◌+δ◌, ◌-δ◌, scaled}
+use Rattle.nz_spec.specs.Infinitesimal.{Infinitesimal, ◌+δ◌, ◌-δ◌, scaled}
 use Rattle.nz_spec.specs.Term.{is_zero}
-use Rattle.nz_spec.specs.Form.{Part}
-use Rattle.nz_spec.specs.Basis.{sum_of, Coefficients, weighted, IsRow, IsBasis, IsCoefficient, alone}
+use Rattle.nz_spec.specs.Basis.{Coefficients, weighted, IsRow, IsBasis, IsCoefficient, alone}
 use Rattle.nz_spec.specs.BasisMoves.{exchanged, MayExchange}
-use Rattle.nz_spec.specs.Bland.{Point, is_nonbasic, zero_infinitesimal, value_in, sum_at, Position, HasBasis, HasValue, Side, other_side, HasRoom, CanHelp, exchanged_point, IsCheckStep, CheckStepsKeepBasis}
+use Rattle.nz_spec.specs.Bland.{Point, is_nonbasic, zero_infinitesimal, value_in, Position, HasBasis, HasValue, Side, other_side, HasRoom, CanHelp, exchanged_point, IsCheckStep, CheckStepsKeepBasis}
 use Rattle.nz_spec.proofs.FractionLaws.{=ℚ_refl, =ℚ-from_same, =ℚ_sym, ≤ℚ-from_eq, <ℚ_irrefl}
 use Rattle.nz_spec.proofs.FractionOrder.{same-fraction_eq}
-use Rattle.nz_spec.proofs.FractionArithmetic.{+ℚ-zero, +ℚ-same}
-use Rattle.nz_spec.proofs.FormValues.{zero_times, times_zero}
-use Rattle.nz_spec.proofs.FractionSolver.{◌∙ℚ◌, solve, plus_left, plus_right, times_left, times_right}
+use Rattle.nz_spec.proofs.FractionArithmetic.{+ℚ-same}
+use Rattle.nz_spec.proofs.FormValues.{zero_times}
+use Rattle.nz_spec.proofs.FractionSolver.{◌∙ℚ◌, solve, times_left, times_right}
 use Rattle.nz_spec.proofs.BasisSums.{sum-same, sum-plus, sum-single}
 use Rattle.nz_spec.proofs.BasisRows.{weighted-same, weighted-alone, equal-number, other-number, same-number, nonbasic_form_is_itself}
 use Rattle.nz_spec.proofs.BasisExchange.{row-sum_stays, nonzero_at, exchange_keeps_basis}
@@ -25,6 +24,7 @@ signed-nonzero q h = by_test (is_zero q) refl
     unequal : q =ℚ whole (pos 0) → (whole (pos 0) <ℚ q) ⊎ (q <ℚ whole (pos 0)) → ⊥
     unequal e (inl k) = <ℚ_irrefl k (≤ℚ-from_eq e)
     unequal e (inr k) = <ℚ_irrefl k (≤ℚ-from_eq (=ℚ_sym e))
+
     by_test : (b : Bool) → is_zero q ≡ b → b ≡ false
     by_test true e = absurd (unequal (same-fraction_eq q (whole (pos 0)) e) h)
     by_test false e = refl
@@ -126,20 +126,24 @@ module _ (s t : Position) (i j : ℕ) (b : HasBasis s) (step : IsCheckStep s t i
       -- the values of the nonbasic forms before, and that of i
       y : Coefficients
       y k = if k == i then w else x k
+
       neg-same : {f g : Fraction} → f =ℚ g → neg_ℚ f =ℚ neg_ℚ g
       neg-same {f} {g} h = solve (f ∷ []) (Minus (Atom 0)) (Literal (negsuc 0) ⊗ Atom 0) refl ∙ℚ times_right (whole (negsuc 0)) h ∙ℚ solve (g ∷ []) (Literal (negsuc 0) ⊗ Atom 0) (Minus (Atom 0)) refl
+
       y-here : (if i == i then w else x i) =ℚ w
       y-here = by_test (i == i) (equal-number i i refl)
         where
           by_test : (f : Bool) → f ≡ true → (if f then w else x i) =ℚ w
           by_test true g = =ℚ_refl w
           by_test false g = absurd (true≢false (sym g))
+
       y-there : (k : ℕ) → k ≢ i → (if k == i then w else x k) =ℚ x k
       y-there k h = by_test (k == i) (other-number k i h)
         where
           by_test : (f : Bool) → f ≡ false → (if f then w else x k) =ℚ x k
           by_test true g = absurd (true≢false g)
           by_test false g = =ℚ_refl (x k)
+
       -- a row over the nonbasic forms before has nothing at i
       unmoved : (k : ℕ) (f : Coefficients) → IsRow s.forms (is_nonbasic s.point) k f → weighted (length s.forms) f y =ℚ weighted (length s.forms) f x
       unmoved k f g = sum-same (length s.forms) (λ l. f l *ℚ y l) (λ l. f l *ℚ x l) (λ l h. by_place l (l == i) refl)
@@ -149,6 +153,7 @@ module _ (s t : Position) (i j : ℕ) (b : HasBasis s) (step : IsCheckStep s t i
               let none : f l =ℚ whole (pos 0) = subst (λ (m : ℕ). f m =ℚ whole (pos 0)) (sym (same-number l i h)) (g.at_basic i step.breaks.basic) in
               times_left w none ∙ℚ zero_times w ∙ℚ =ℚ_sym (times_left (x l) none ∙ℚ zero_times (x l))
           by_place l false h = =ℚ_refl (f l *ℚ x l)
+
       old : weighted (length s.forms) d y =ℚ weighted (length s.forms) c x
       old =
           =ℚ_sym (row-sum_stays s.forms (is_nonbasic s.point) i j step.helps.at.row step.breaks.listed step.breaks.basic step.helps.nonbasic step.helps.at.is_row
@@ -159,15 +164,18 @@ module _ (s t : Position) (i j : ℕ) (b : HasBasis s) (step : IsCheckStep s t i
           ∙ℚ =ℚ_sym y-here)
           r c d p o q)
           ∙ℚ unmoved r c o
+
       out : now_nonbasic j ≡ false
       out = by_tests (j == i) (j == j) (other-number j i apart) (equal-number j j refl)
         where
           apart : j ≢ i
           apart f = true≢false (sym step.helps.nonbasic ∙ ap (is_nonbasic s.point) f ∙ step.breaks.basic)
+
           by_tests : (f g : Bool) → f ≡ false → g ≡ true → (if f then true else if g then false else is_nonbasic s.point j) ≡ false
           by_tests true g h k = absurd (true≢false h)
           by_tests false true h k = refl
           by_tests false false h k = absurd (true≢false (sym k))
+
       by_number : (k : ℕ) → k ≢ i → (f : Bool) → (k == j) ≡ f → (d k *ℚ (z k +ℚ neg_ℚ (y k))) =ℚ whole (pos 0)
       by_number k g true f =
           times_left (z k +ℚ neg_ℚ (y k)) (subst (λ (m : ℕ). d m =ℚ whole (pos 0)) (sym (same-number k j f)) (q.at_basic j out))

@@ -1,19 +1,17 @@
 -- Values at points: what is computed, what moves with one value, and what a check step leaves.
-use Rattle.std.proofs.Common.{◌≡◌, ℕ, zero, suc, ◌<◌, Bool, true, false, ◌⊎◌, inl, inr, List, [], ◌∷◌, ◌++◌, length, Option, Some, None, pos, refl, sym, ap, ◌∙◌, subst, true≢false, arith}
-use Rattle.std.specs.Prelude.{◌==◌, if◌then◌else◌, ◌≢◌, unwrap_or, is_some}
+use Rattle.std.proofs.Common.{◌≡◌, ℕ, zero, suc, ◌<◌, Bool, true, false, List, [], ◌∷◌, ◌++◌, pos, refl}
+use Rattle.std.specs.Prelude.{if◌then◌else◌}
 use Rattle.nz_ints.proofs.Ring.{Atom, Literal, ◌⊕◌, ◌⊗◌, Minus}
-use Rattle.nz_spec.specs.Fraction.{Fraction, whole, ◌=ℚ◌, ◌<ℚ◌, ◌+ℚ◌, ◌-ℚ◌, neg_ℚ, ◌*ℚ◌, Sum, Product, outcome}
-use Rattle.nz_spec.specs.Infinitesimal.{Infinitesimal, ◌=δ◌, ◌+δ◌, ◌-δ◌, scaled}
-use Rattle.nz_spec.specs.Form.{Part}
-use Rattle.nz_spec.specs.Basis.{sum_of, Coefficients, weighted, IsZeroAtBasic, IsRow, IsBasis, IsCoefficient, alone}
-use Rattle.nz_spec.specs.BasisMoves.{numbers, exchanged, MayExchange}
-use Rattle.nz_spec.specs.Bland.{Point, is_nonbasic, zero_infinitesimal, value_in, sum_at, value_onto, row_value, Position, HasBasis, HasValue, Side, other_side, HasRoom, CanHelp, exchanged_point, IsCheckStep, ValueIsComputed, SumMoves, CheckStepsKeepBasis}
+use Rattle.nz_spec.specs.Fraction.{Fraction, whole, ◌=ℚ◌, ◌+ℚ◌, ◌-ℚ◌, neg_ℚ, ◌*ℚ◌, Sum, Product, outcome}
+use Rattle.nz_spec.specs.Infinitesimal.{Infinitesimal, ◌+δ◌, ◌-δ◌, scaled}
+use Rattle.nz_spec.specs.Basis.{sum_of, Coefficients, weighted}
+use Rattle.nz_spec.specs.BasisMoves.{numbers}
+use Rattle.nz_spec.specs.Bland.{is_nonbasic, zero_infinitesimal, value_in, value_onto, ValueIsComputed, SumMoves}
 use Rattle.nz_spec.proofs.FractionLaws.{=ℚ_refl, =ℚ_sym}
-use Rattle.nz_spec.proofs.FractionArithmetic.{+ℚ-zero, +ℚ-same, outcome-sum, outcome-product}
-use Rattle.nz_spec.proofs.FormValues.{zero_left, zero_times, times_zero}
+use Rattle.nz_spec.proofs.FractionArithmetic.{+ℚ-zero, outcome-sum, outcome-product}
+use Rattle.nz_spec.proofs.FormValues.{zero_left, zero_times}
 use Rattle.nz_spec.proofs.FractionSolver.{◌∙ℚ◌, solve, plus_left, plus_right, times_left, times_right}
-use Rattle.nz_spec.proofs.BasisSums.{sum-same, sum-plus, sum-zero, sum-single}
-use Rattle.nz_spec.proofs.BasisRows.{weighted-alike}
+use Rattle.nz_spec.proofs.BasisSums.{sum-same, sum-plus, sum-single}
 
 -- ---- Computed values
 
@@ -86,8 +84,8 @@ weighted-moves n c x y j p h =
     ∙ℚ plus_right (weighted n c x)
     (sum-single n j (λ k. c k *ℚ (y k +ℚ neg_ℚ (x k))) p
     (λ k l e.
-      times_right (c k) (plus_left (neg_ℚ (x k)) (h k e))
-      ∙ℚ solve (c k ∷ x k ∷ []) (Atom 0 ⊗ (Atom 1 ⊕ Minus (Atom 1))) (Literal (pos 0)) refl)
+    times_right (c k) (plus_left (neg_ℚ (x k)) (h k e))
+    ∙ℚ solve (c k ∷ x k ∷ []) (Atom 0 ⊗ (Atom 1 ⊕ Minus (Atom 1))) (Literal (pos 0)) refl)
     ∙ℚ solve (c j ∷ y j ∷ x j ∷ []) (Atom 0 ⊗ (Atom 1 ⊕ Minus (Atom 2))) ((Atom 1 ⊕ Minus (Atom 2)) ⊗ Atom 0) refl)
 
 pub sum_moves : SumMoves

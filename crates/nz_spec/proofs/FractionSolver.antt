@@ -1,6 +1,6 @@
 -- A solver for equations between sums and products of fractions, up to equality by cross products. Both sides are expressions
 -- over numbered fractions; they are multiplied out as the solver for integers does it, which knows nothing of the atoms.
-use Rattle.std.proofs.Common.{◌≡◌, ℕ, zero, suc, Bool, true, false, ◌&&◌, eqb, leb, List, [], ◌∷◌, ℤ, pos, negsuc, ◌+ℤ◌, ◌*ℤ◌, refl, sym, ap₂, subst, true≢false, eqb-true}
+use Rattle.std.proofs.Common.{◌≡◌, ℕ, zero, suc, Bool, true, false, eqb, leb, List, [], ◌∷◌, ℤ, pos, negsuc, ◌+ℤ◌, ◌*ℤ◌, refl, sym, ap₂, subst, true≢false, eqb-true}
 use Rattle.std.proofs.lemmas.Bool.{and_parts}
 use Rattle.nz_ints.proofs.Ring as ring
 use Rattle.nz_ints.proofs.Ring.{Expression, Atom, Literal, ◌⊕◌, ◌⊗◌, Minus, Polynomial, End, More, agree}

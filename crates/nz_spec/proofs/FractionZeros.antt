@@ -1,5 +1,5 @@
 -- Operations beside 0: what they come to, and that none leaves the numbers.
-use Rattle.std.proofs.Common.{◌≡◌, ℕ, suc, ◌<◌, ◌≤◌, ◌*◌, ◌/◌, Bool, true, false, ◌||◌, ℤ, pos, ◌+ℤ◌, ◌*ℤ◌, refl, arith, sym, ap, ap₂, ◌∙◌, subst, le-ltb}
+use Rattle.std.proofs.Common.{◌≡◌, ℕ, ◌<◌, ◌≤◌, ◌*◌, ◌/◌, false, ◌||◌, ℤ, pos, ◌+ℤ◌, ◌*ℤ◌, refl, arith, sym, ap, ◌∙◌, subst, le-ltb}
 use Rattle.std.proofs.Math.IntN.{zero-*ℤ, +ℤ_idl, +ℤ_comm}
 use Rattle.std.specs.Prelude.{unsigned_abs}
 use Rattle.std.proofs.Math.Nat.{div_self}
@@ -7,7 +7,7 @@ use Rattle.std.proofs.lemmas.Bool.{or_from}
 use Rattle.nz_ints.specs.Division.{gcd_within, gcd, lcm}
 use Rattle.nz_ints.proofs.Divisors.{gcd-one, gcd_comm}
 use Rattle.nz_ints.proofs.Products.{mul-one}
-use Rattle.nz_spec.specs.Fraction.{Fraction, denominator, whole, ◌=ℚ◌, ◌+ℚ◌, ◌*ℚ◌, ◌/ℚ◌, reciprocal, reduce, largest, exceeds, IsNumber, is_wide_sum, is_wide_product, is_wide, exact, outcome, Sum, Product, Quotient}
+use Rattle.nz_spec.specs.Fraction.{Fraction, denominator, whole, ◌=ℚ◌, ◌*ℚ◌, ◌/ℚ◌, reciprocal, reduce, largest, exceeds, IsNumber, is_wide_sum, is_wide_product, is_wide, exact, outcome, Sum, Product, Quotient}
 use Rattle.nz_spec.specs.BasisMoves.{ZerosAreNeverWide}
 use Rattle.nz_spec.proofs.FractionLaws.{denominator_pos, IsLowest, reduce-is}
 use Rattle.nz_spec.proofs.FractionArithmetic.{+ℚ-zero}

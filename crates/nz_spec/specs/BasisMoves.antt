@@ -31,9 +31,9 @@ plus_multiple ks c s d = record {
   operations =
       flat_map
       (λ k.
-        record { operator = Product; left = s; right = d k }
-        ∷ record { operator = Sum; left = c k; right = outcome Product s (d k) }
-        ∷ [])
+      record { operator = Product; left = s; right = d k }
+      ∷ record { operator = Sum; left = c k; right = outcome Product s (d k) }
+      ∷ [])
       ks;
 }
 

@@ -89,7 +89,6 @@ abbrev pub ◌<δ◌ : Infinitesimal → Infinitesimal → Type 0
 x <δ y = infinitesimal_cmp x y ≡ Less
 
 infix 4 ◌<δ◌
-
 -- a value breaks a bound of this side: it is below a lower one, or above an upper one
 abbrev pub IsOutside : Side → Infinitesimal → Infinitesimal → Type 0
 IsOutside lower_side bound x = x <δ bound
