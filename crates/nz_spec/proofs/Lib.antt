@@ -1,6 +1,13 @@
 mod Listed
 mod Uses
 pub mod Arguments
+pub mod BasisExchange
+pub mod BasisJoins
+pub mod BasisRows
+pub mod BasisSums
+pub mod BlandRefutes
+pub mod BlandSteps
+pub mod BlandValues
 pub mod ByteClasses
 pub mod CutSums
 pub mod Decimals
@@ -17,9 +24,13 @@ pub mod FractionArithmetic
 pub mod FractionBounds
 pub mod FractionLaws
 pub mod FractionOrder
+pub mod FractionQuotients
+pub mod FractionSolver
+pub mod FractionZeros
 pub mod GateSettling
 pub mod GateTruths
 pub mod InfinitesimalLaws
+pub mod InfinitesimalOrder
 pub mod Instances
 pub mod IntegerSums
 pub mod LegalWork
@@ -43,4 +54,5 @@ pub mod Tables
 pub mod Tellings
 pub mod Transcripts
 pub mod UnitTruths
+pub mod WorkedBases
 pub mod WrittenTerms

@@ -1,4 +1,7 @@
 pub mod Argument
+pub mod Basis
+pub mod BasisMoves
+pub mod Bland
 pub mod Bounds
 pub mod Command
 pub mod Computation
@@ -54,6 +57,7 @@ pub mod Units
 pub mod WellSorted
 pub mod Work
 pub mod WorkedArithmetic
+pub mod WorkedBasis
 pub mod WorkedLinear
 pub mod WorkedListings
 pub mod WorkedNormals

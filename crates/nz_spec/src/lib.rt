@@ -4,6 +4,7 @@
 #![tactic(auto)]
 
 pub mod arithmetic;
+pub mod basis;
 pub mod derivation;
 pub mod elaboration;
 pub mod example;

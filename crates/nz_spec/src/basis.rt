@@ -1,0 +1,66 @@
+//! Laws of bases of linear forms.
+ghost use Rattle.nz_spec.specs.Basis.{CoefficientsAreUnique, NonbasicFormIsItself, ValueIsWorth};
+ghost use Rattle.nz_spec.specs.BasisMoves.{ExchangeKeepsBasis, JoinsKeepBasis, SolutionsStay, ZerosAreNeverWide};
+ghost use Rattle.nz_spec.specs.Bland.{CheckStepsKeepBasis, NoHelpRefutes, SumMoves, ValueIsComputed};
+ghost use Rattle.nz_spec.specs.WorkedBasis.{HasExchange, HasJoiningRow};
+
+/// Coefficients over a basis are unique.
+pub fn coefficients_are_unique()
+    ensures unique { CoefficientsAreUnique }
+{}
+
+/// The sum of a nonbasic form is the form itself.
+pub fn nonbasic_form_is_itself()
+    ensures itself { NonbasicFormIsItself }
+{}
+
+/// A form is worth under an assignment what its units are.
+pub fn value_is_worth()
+    ensures worth { ValueIsWorth }
+{}
+
+/// An exchange of a basic and a nonbasic form leaves a basis, with the rows that are computed.
+pub fn exchange_keeps_basis()
+    ensures kept { ExchangeKeepsBasis }
+{}
+
+/// The values of forms under an assignment fit every basis, and an exchange leaves the same solutions.
+pub fn solutions_stay()
+    ensures stay { SolutionsStay }
+{}
+
+/// New units join a basis as nonbasic, and forms over its units as basic; what stood there stays.
+pub fn joins_keep_basis()
+    ensures kept { JoinsKeepBasis }
+{}
+
+/// The value of a form that is computed from its row is the sum over the point.
+pub fn value_is_computed()
+    ensures computed { ValueIsComputed }
+{}
+
+/// Where one value moves, a sum moves by its coefficient there.
+pub fn sum_moves()
+    ensures moves { SumMoves }
+{}
+
+/// A check step leads from basis to basis.
+pub fn check_steps_keep_basis()
+    ensures kept { CheckStepsKeepBasis }
+{}
+
+/// Where a form breaks a bound and no nonbasic form can help, its row refutes the bounds.
+pub fn no_help_refutes()
+    ensures refutes { NoHelpRefutes }
+{}
+
+/// Forms that join two units, and an exchange, by the definitions alone.
+pub fn worked_basis()
+    ensures joining { HasJoiningRow }
+    ensures exchange { HasExchange }
+{}
+
+/// Beside 0 no operation leaves the numbers.
+pub fn zeros_are_never_wide()
+    ensures zeros { ZerosAreNeverWide }
+{}
