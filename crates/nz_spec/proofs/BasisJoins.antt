@@ -12,7 +12,7 @@ use Rattle.nz_spec.specs.BasisMoves.{numbers, Rows, AreRows, plus_multiple, with
 use Rattle.nz_spec.proofs.FractionLaws.{=ℚ_refl, =ℚ-from_same, =ℚ_sym}
 use Rattle.nz_spec.proofs.FractionArithmetic.{+ℚ-zero, +ℚ-same, *ℚ-one, outcome-sum, outcome-product}
 use Rattle.nz_spec.proofs.FormValues.{zero_times, times_zero}
-use Rattle.nz_spec.proofs.Literals.{same_term, one_term}
+use Rattle.nz_spec.proofs.Same.{same_term, one_term}
 use Rattle.nz_spec.proofs.FractionSolver.{◌∙ℚ◌, solve, plus_left, plus_right, times_left, times_right}
 use Rattle.nz_spec.proofs.BasisSums.{sum-same, sum-zero}
 use Rattle.nz_spec.proofs.BasisRows.{weighted-same, weighted-plus, weighted-zero, equal-number, same-number, nonbasic-plus, alone-row, coefficients_are_unique}
