@@ -1,5 +1,5 @@
 -- What the steps of a search keep, one after another.
-use Rattle.std.proofs.Common.{ℕ, List, [], ◌++◌, get_or, Option, Some, None, refl, sym, ap, subst, ◌∙◌, append_assoc}
+use Rattle.std.proofs.Common.{◌≡◌, ℕ, List, [], ◌++◌, get_or, Option, Some, None, refl, sym, ap, subst, ◌∙◌, append_assoc}
 use Rattle.std.specs.Prelude.{All, IsSome}
 use Rattle.std.specs.declared.result.Result.{Result}
 use Rattle.std.proofs.lemmas.List.{append-nil}
@@ -101,3 +101,9 @@ pub steps_behind : {over over' over'' : List Node → Type 0} → {has_told : Li
     → Steps over over'' has_told is_feasible atoms es es' log log' held held' work work' answer
 steps_behind advances keeps step =
     record { advances = advances; known = λ ns over. step.known ns (keeps ns over); told = step.told; met = step.met; spent = step.spent }
+
+pub steps_same : {over over' : List Node → Type 0} → {has_told : List Lit → Type 0} → {is_feasible : Type 0} → {atoms : List ℕ} → {es es' : List Assigned} → {log log' : LogState}
+    → {held held' : List Held} → {work work' : WorkList Note} → {answer other : Result (Option ℕ) Stop} → answer ≡ other
+    → Steps over over' has_told is_feasible atoms es es' log log' held held' work work' answer → Steps over over' has_told is_feasible atoms es es' log log' held held' work work' other
+steps_same {over} {over'} {has_told} {is_feasible} {atoms} {es} {es'} {log} {log'} {held} {held'} {work} {work'} same step =
+    subst (Steps over over' has_told is_feasible atoms es es' log log' held held' work work') same step

@@ -2,7 +2,7 @@
 ghost use Rattle.std.specs.Prelude.{◌≡◌, ℕ, ◌≤◌, true, false, All, Contains, List, length, map, IfSome};
 ghost use Rattle.nz_log.specs.declared.lits.Lit.{Lit};
 ghost use Rattle.nz_log.specs.Logs.{literals_at};
-ghost use Rattle.nz_sat.specs.Clauses.{AreUsable, HasReasonOf, IsFalsified, IsImplied, IsListed, IsOpen, IsUsable, HasStatus, Waits, ids_of};
+ghost use Rattle.nz_sat.specs.Clauses.{AreUsable, HasReasonOf, HasStatus, IsFalsified, IsImplied, IsListed, IsOpen, IsUsable, Waits, ids_of};
 ghost use Rattle.nz_sat.specs.Trails.{EachBehind, GoesOn, IsTrail};
 
 use crate::clauses::{Held, Index};

@@ -1,5 +1,5 @@
 -- One decision more, with what is learned from its conflicts.
-use Rattle.std.proofs.Common.{◌≡◌, ℕ, List, Option, None, sym, subst, arith, rules}
+use Rattle.std.proofs.Common.{◌≡◌, ℕ, Err, List, Ok, Option, None, ap, sym, subst, arith, rules}
 use Rattle.std.specs.Prelude.{All, IfSome}
 use Rattle.nz_log.specs.declared.lits.Lit.{Lit}
 use Rattle.nz_log.specs.Logs.{IsLive, literals_at}
@@ -7,6 +7,7 @@ use Rattle.nz_sat.specs.declared.search.Search.{Search}
 use Rattle.nz_sat.specs.Clauses.{IsAssumed}
 use Rattle.nz_sat.specs.Conflicts.{Refutes}
 use Rattle.nz_sat.specs.Theories.{IsMet, IsTold}
+use Rattle.nz_sat.proofs.Advancing.{steps_same}
 use Rattle.nz_sat.proofs.Running.{met_told, run_advances, run_steps, runs_on, runs_ordered}
 use Rattle.nz_sat.proofs.search.Search.run.Goals as goal
 
@@ -38,11 +39,14 @@ turn-requires-clause-told g c =
 
 pub returns-in_err-found-clause-steps : goal.returns-in_err-found-clause-steps
 returns-in_err-found-clause-steps g c =
-    run_steps c.loop-term.invariant.advances (runs_ordered c.loop-term.invariant.runs c.next.ensures.rest) c.loop-term.invariant.keeps c.in_err-found.ensures.steps
+    let same : Err c.in_err-found.field-0.0 ≡ c.from_residual-in_err-found.result = search rules in
+    steps_same same
+    (run_steps c.loop-term.invariant.advances (runs_ordered c.loop-term.invariant.runs c.next.ensures.rest) c.loop-term.invariant.keeps c.in_err-found.ensures.steps)
 
 pub returns-in-Some-2-clause-steps : goal.returns-in-Some-2-clause-steps
 returns-in-Some-2-clause-steps g c =
-    run_steps c.loop-term.invariant.advances (runs_ordered c.loop-term.invariant.runs c.next.ensures.rest) c.loop-term.invariant.keeps c.in_ok-found.ensures.steps
+    steps_same (ap Ok c.in-Some-2.is)
+    (run_steps c.loop-term.invariant.advances (runs_ordered c.loop-term.invariant.runs c.next.ensures.rest) c.loop-term.invariant.keeps c.in_ok-found.ensures.steps)
 
 pub returns-in-Some-2-clause-refuted : goal.returns-in-Some-2-clause-refuted
 returns-in-Some-2-clause-refuted g c =

@@ -1,8 +1,9 @@
 -- One conflict more is learned from.
-use Rattle.std.proofs.Common.{◌≡◌, None, ap, sym, subst, arith, rules}
+use Rattle.std.proofs.Common.{◌≡◌, Err, None, ap, sym, subst, arith, rules}
 use Rattle.nz_sat.specs.declared.search.Search.{Search}
 use Rattle.nz_sat.specs.Searching.{MayFollow}
 use Rattle.nz_sat.specs.Theories.{IsTold}
+use Rattle.nz_sat.proofs.Advancing.{steps_same}
 use Rattle.nz_sat.proofs.Consulting.{back_falsified, back_refuted, conflict_of, goes_back, settles_first, settles_on, settles_open, steps_on}
 use Rattle.nz_sat.proofs.Keeping.{search_usable}
 use Rattle.nz_sat.proofs.search.Search.settle.Goals as goal
@@ -89,7 +90,8 @@ learn_on-requires-clause-told g c = c.back_to.ensures.told c.loop-conflict.invar
 pub returns-in_err-conflict-2-clause-steps : goal.returns-in_err-conflict-2-clause-steps
 returns-in_err-conflict-2-clause-steps g c =
     let b = goes_back c.loop-conflict.invariant c.in-Some.is c.back_to.ensures.rest c.back_to.ensures.size c.back_to.ensures.back c.back_to.ensures.over in
-    steps_on b.carries b.advances b.keeps c.in_err-conflict-2.ensures.steps
+    let same : Err c.in_err-conflict-2.field-0.0 ≡ c.from_residual-in_err-conflict-2.result = search rules in
+    steps_same same (steps_on b.carries b.advances b.keeps c.in_err-conflict-2.ensures.steps)
 
 pub loop-conflict-preserved : goal.loop-conflict-preserved
 loop-conflict-preserved g c =
