@@ -14,10 +14,10 @@ use Rattle.nz_ints.proofs.Rounding.{int_div-mul_cancel}
 use Rattle.nz_spec.specs.Fraction.{Fraction, denominator, over, whole, ◌=ℚ◌, ◌≤ℚ◌, ◌<ℚ◌, ◌+ℚ◌, neg_ℚ, ◌*ℚ◌, fraction_le, fraction_lt, floor, ceiling, outcome, Difference, Product}
 use Rattle.nz_spec.specs.Computation.{operated, at_once, turned_into}
 use Rattle.nz_spec.specs.Term.{Sort, int_sort, are_same_sort, Term, sort_of, Value, truth, number, Assignment, number_of, value_of, IsOfSort}
-use Rattle.nz_spec.specs.Model.{IsAssignment}
+use Rattle.nz_spec.specs.Model.{IsAssignment, HasSort}
 use Rattle.nz_spec.specs.Form.{Part, unit_value, parts_value, parts_scaled, negated_part}
 use Rattle.nz_spec.specs.Literal.{term_literal, is_at_most, is_below, is_literal_true, Clause, clause_of, IsClauseTrue}
-use Rattle.nz_spec.specs.LinearLiteral.{is_whole, is_integral_part, are_integral, common_divisor, tight_multiplier, greatest_below, rounded, is_without_units, HasSort, HaveSortedUnits, TightSaysAsMuch}
+use Rattle.nz_spec.specs.LinearLiteral.{is_whole, is_integral_part, are_integral, common_divisor, tight_multiplier, greatest_below, rounded, is_without_units, HaveSortedUnits, TightSaysAsMuch}
 use Rattle.nz_spec.specs.Cuts.{BranchClausesAreTrue}
 use Rattle.nz_spec.proofs.FractionLaws.{=ℚ_refl, =ℚ_sym, =ℚ_trans, =ℚ-from_same, ≤ℚ-from_eq, ≤ℚ_trans, <ℚ-≤ℚ_trans, ≤ℚ-<ℚ_trans, ≤ℚ_total, denominator-over, numerator-over}
 use Rattle.nz_spec.proofs.FractionOrder.{same-fraction_eq}

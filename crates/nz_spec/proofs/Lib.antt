@@ -39,6 +39,7 @@ pub mod LinkTruths
 pub mod Literals
 pub mod Normal
 pub mod NormalGates
+pub mod NormalSorts
 pub mod Pieces
 pub mod Placed
 pub mod ReadOperands
@@ -48,8 +49,10 @@ pub mod Rounds
 pub mod Same
 pub mod Scripts
 pub mod Sorted
+pub mod SortedArithmetic
 pub mod SortedStates
 pub mod SortedTerms
+pub mod SumUnits
 pub mod Tables
 pub mod Tellings
 pub mod Transcripts

@@ -5,8 +5,8 @@ use Rattle.std.specs.Prelude.{◌≡◌, ℕ, Bool, true, false, not, ◌&&◌, 
 use Rattle.std.specs.List.{list_all, AllByRecursion}
 use Rattle.nz_spec.specs.Fraction.{Fraction, whole, neg_ℚ, fraction_eq, floor, ceiling, gcd, over, Difference, Product}
 use Rattle.nz_spec.specs.Computation.{Computation, operated, at_once, turned_into, and_then}
-use Rattle.nz_spec.specs.Term.{Sort, int_sort, are_same_sort, Term, sort_of, Assignment, value_of, IsOfSort}
-use Rattle.nz_spec.specs.Model.{IsAssignment}
+use Rattle.nz_spec.specs.Term.{int_sort, are_same_sort, sort_of, Assignment}
+use Rattle.nz_spec.specs.Model.{IsAssignment, HasSort}
 use Rattle.nz_spec.specs.Form.{Part, Form, parts_scaled}
 use Rattle.nz_spec.specs.Literal.{Literal, term_literal, is_at_most, is_below, is_literal_true}
 
@@ -69,10 +69,6 @@ tight_form (is_below ps b) =
     else at_once (is_below ps b)
 
 -- ---- Laws
-
--- Under each assignment of the sorts the term has a value of this sort.
-abbrev pub HasSort : Sort → Term → Type 0
-HasSort s t = (a : Assignment) → IsAssignment a → IsOfSort s (value_of a t)
 
 -- Each unit has a value of its sort.
 abbrev pub HaveSortedUnits : List Part → Type 0

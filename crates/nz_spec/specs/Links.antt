@@ -7,11 +7,11 @@ use Rattle.nz_spec.specs.Fraction.{Difference}
 use Rattle.nz_spec.specs.Computation.{Computation, at_once, turned_into, and_then, in_turn}
 use Rattle.nz_spec.specs.Term.{int_sort, sort_of, Head, equality, less, at_most, integer_quotient, modulus, magnitude, to_int, is_int, Term, apply, no_terms, terms, Assignment}
 use Rattle.nz_spec.specs.Linear.{is_linear}
-use Rattle.nz_spec.specs.Model.{IsAssignment}
+use Rattle.nz_spec.specs.Model.{IsAssignment, HasSort}
 use Rattle.nz_spec.specs.Form.{Numbering, Form, joined}
 use Rattle.nz_spec.specs.FormOf.{form_of}
 use Rattle.nz_spec.specs.Literal.{Literal, Clause, IsClauseTrue}
-use Rattle.nz_spec.specs.LinearLiteral.{is_at_most_zero, is_below_zero, HasSort}
+use Rattle.nz_spec.specs.LinearLiteral.{is_at_most_zero, is_below_zero}
 use Rattle.nz_spec.specs.Gates.{holds, fails, list_of, is_boolean_term}
 
 module _ (number : Numbering) where

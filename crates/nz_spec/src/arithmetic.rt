@@ -1,5 +1,6 @@
 //! Laws of the steps of linear arithmetic.
 ghost use Rattle.nz_spec.specs.LinearLiteral.{TightSaysAsMuch};
+ghost use Rattle.nz_spec.specs.WellSorted.{SortedTermsAreArithmetic};
 ghost use Rattle.nz_spec.specs.Links.{LinksAreTrue};
 ghost use Rattle.nz_spec.specs.Units.{UnitsAreTrue};
 ghost use Rattle.nz_spec.specs.Farkas.{FarkasClausesAreTrue};
@@ -19,6 +20,11 @@ pub fn links_are_true()
 /// A unit has the value that its clauses say.
 pub fn units_are_true()
     ensures clauses { UnitsAreTrue }
+{}
+
+/// Well sorted linear terms are what the tables of links and units ask for, and so are the units of forms.
+pub fn sorted_terms_are_arithmetic()
+    ensures arithmetic { SortedTermsAreArithmetic }
 {}
 
 /// A sum of integers is at most an integer, or at least the next one.
