@@ -2,6 +2,7 @@
 ghost use Rattle.nz_spec.specs.Basis.{CoefficientsAreUnique, NonbasicFormIsItself, ValueIsWorth};
 ghost use Rattle.nz_spec.specs.BasisMoves.{ExchangeKeepsBasis, JoinsKeepBasis, SolutionsStay, ZerosAreNeverWide};
 ghost use Rattle.nz_spec.specs.Bland.{CheckStepsKeepBasis, NoHelpRefutes, SumMoves, ValueIsComputed};
+ghost use Rattle.nz_spec.specs.BlandRuns.{NoPostureReturns};
 ghost use Rattle.nz_spec.specs.WorkedBasis.{HasExchange, HasJoiningRow};
 
 /// Coefficients over a basis are unique.
@@ -63,4 +64,9 @@ pub fn worked_basis()
 /// Beside 0 no operation leaves the numbers.
 pub fn zeros_are_never_wide()
     ensures zeros { ZerosAreNeverWide }
+{}
+
+/// In a run of check steps no posture returns.
+pub fn no_posture_returns()
+    ensures returns { NoPostureReturns }
 {}

@@ -1,0 +1,81 @@
+-- The values of all forms at a position: they fit its basis.
+use Rattle.std.proofs.Common.{◌≡◌, ℕ, suc, ◌<◌, ◌≤◌, Bool, true, false, ◌⊎◌, inl, inr, length, pos, refl, sym, arith}
+use Rattle.nz_spec.specs.Fraction.{Fraction, whole, ◌=ℚ◌, ◌*ℚ◌}
+use Rattle.nz_spec.specs.Infinitesimal.{Infinitesimal, ◌=δ◌}
+use Rattle.nz_spec.specs.Basis.{Coefficients, weighted, IsRow, alone}
+use Rattle.nz_spec.specs.BasisMoves.{IsSolution}
+use Rattle.nz_spec.specs.Bland.{is_nonbasic, value_in, sum_at, Position, HasBasis, HasValue}
+use Rattle.nz_spec.proofs.FractionLaws.{=ℚ_refl, =ℚ_sym}
+use Rattle.nz_spec.proofs.FormValues.{zero_times}
+use Rattle.nz_spec.proofs.FractionSolver.{◌∙ℚ◌, times_left, times_right}
+use Rattle.nz_spec.proofs.BasisSums.{sum-same}
+use Rattle.nz_spec.proofs.BasisRows.{weighted-same, weighted-alone, nonbasic_form_is_itself}
+
+place : (k n : ℕ) → (k < n) ⊎ (n ≤ k)
+place k n = grind arith
+
+module _ (u : Position) (b : HasBasis u) where
+  row_by : (k : ℕ) → (k < length u.forms) ⊎ (length u.forms ≤ k) → Coefficients
+  row_by k (inl p) = (b.some k p).0
+  row_by k (inr p) = λ l. whole (pos 0)
+
+  row-is_by : (k : ℕ) (o : (k < length u.forms) ⊎ (length u.forms ≤ k)) → k < length u.forms → IsRow u.forms (is_nonbasic u.point) k (row_by k o)
+  unfolding row_by
+  row-is_by k (inl p) h = (b.some k p).1
+  row-is_by k (inr p) h = absurd (omega (arith, p, h))
+
+  pub all_rows : ℕ → Coefficients
+  all_rows k = row_by k (place k (length u.forms))
+
+  row-is : (k : ℕ) → k < length u.forms → IsRow u.forms (is_nonbasic u.point) k (all_rows k)
+  unfolding all_rows
+  row-is k h = row-is_by k (place k (length u.forms)) h
+
+  -- the value of each form
+  abbrev pub all_values : ℕ → Infinitesimal
+  all_values k = sum_at (length u.forms) (all_rows k) (value_in u.point)
+
+  pub all-have : (k : ℕ) → k < length u.forms → HasValue u k (all_values k)
+  all-have k h = record {
+    row = all_rows k;
+    is_row = row-is k h;
+    at = record { standard = =ℚ_refl (all_values k).standard; coefficient = =ℚ_refl (all_values k).coefficient };
+  }
+
+  -- one form has one value
+  pub one-value : (k : ℕ) (v : Infinitesimal) → k < length u.forms → HasValue u k v → v =δ all_values k
+  one-value k v h has = record {
+    standard = has.at.standard ∙ℚ weighted-same (length u.forms) (λ l. (value_in u.point l).standard) has.row (all_rows k) (b.one k has.row (all_rows k) h has.is_row (row-is k h));
+    coefficient = has.at.coefficient ∙ℚ weighted-same (length u.forms) (λ l. (value_in u.point l).coefficient) has.row (all_rows k) (b.one k has.row (all_rows k) h has.is_row (row-is k h));
+  }
+
+  pub nonbasic-value : (k : ℕ) → is_nonbasic u.point k ≡ true → value_in u.point k =δ all_values k
+  nonbasic-value k e =
+      let h = b.listed k e in
+      one-value k (value_in u.point k) h (record {
+        row = alone k;
+        is_row = nonbasic_form_is_itself u.forms (is_nonbasic u.point) k b e;
+        at = record {
+          standard = =ℚ_sym (weighted-alone (length u.forms) k (λ l. (value_in u.point l).standard) h);
+          coefficient = =ℚ_sym (weighted-alone (length u.forms) k (λ l. (value_in u.point l).coefficient) h);
+        };
+      })
+
+  -- one part of the values fits
+  part-fits : (x : Coefficients) → ((k : ℕ) → is_nonbasic u.point k ≡ true → x k =ℚ weighted (length u.forms) (all_rows k) x) → IsSolution u.forms (is_nonbasic u.point) (λ k. weighted (length u.forms) (all_rows k) x)
+  part-fits x same i c p r =
+      weighted-same (length u.forms) x (all_rows i) c (b.one i (all_rows i) c p (row-is i p) r)
+      ∙ℚ sum-same (length u.forms) (λ k. c k *ℚ x k) (λ k. c k *ℚ weighted (length u.forms) (all_rows k) x) (λ k q. by_test k (is_nonbasic u.point k) refl)
+    where
+      by_test : (k : ℕ) (t : Bool) → is_nonbasic u.point k ≡ t → (c k *ℚ x k) =ℚ (c k *ℚ weighted (length u.forms) (all_rows k) x)
+      by_test k true e = times_right (c k) (same k e)
+      by_test k false e =
+          times_left (x k) (r.at_basic k e)
+          ∙ℚ zero_times (x k)
+          ∙ℚ =ℚ_sym (times_left (weighted (length u.forms) (all_rows k) x) (r.at_basic k e) ∙ℚ zero_times (weighted (length u.forms) (all_rows k) x))
+
+  pub standard-fits : IsSolution u.forms (is_nonbasic u.point) (λ k. (all_values k).standard)
+  standard-fits = part-fits (λ l. (value_in u.point l).standard) (λ k e. (nonbasic-value k e).standard)
+
+  pub coefficient-fits : IsSolution u.forms (is_nonbasic u.point) (λ k. (all_values k).coefficient)
+  coefficient-fits = part-fits (λ l. (value_in u.point l).coefficient) (λ k e. (nonbasic-value k e).coefficient)
