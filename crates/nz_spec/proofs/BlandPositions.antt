@@ -1,6 +1,6 @@
 -- The values of all forms at a position: they fit its basis.
-use Rattle.std.proofs.Common.{◌≡◌, ℕ, suc, ◌<◌, ◌≤◌, Bool, true, false, ◌⊎◌, inl, inr, length, pos, refl, sym, arith}
-use Rattle.nz_spec.specs.Fraction.{Fraction, whole, ◌=ℚ◌, ◌*ℚ◌}
+use Rattle.std.proofs.Common.{◌≡◌, ℕ, ◌<◌, ◌≤◌, Bool, true, false, ◌⊎◌, inl, inr, length, pos, refl, arith}
+use Rattle.nz_spec.specs.Fraction.{whole, ◌=ℚ◌, ◌*ℚ◌}
 use Rattle.nz_spec.specs.Infinitesimal.{Infinitesimal, ◌=δ◌}
 use Rattle.nz_spec.specs.Basis.{Coefficients, weighted, IsRow, alone}
 use Rattle.nz_spec.specs.BasisMoves.{IsSolution}

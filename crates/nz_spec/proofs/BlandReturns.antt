@@ -1,22 +1,23 @@
--- No posture returns. If one did, some forms would leave the basis and enter it in between. Take the greatest number r of these,
--- a step at which r enters, and one at which it left to where it then stands. Of the values before both steps the later choice
--- tells that the row of the form that leaves when r enters can't differ as it would have to.
-use Rattle.std.proofs.Common.{◌≡◌, ℕ, zero, suc, ◌<◌, ◌≤◌, ◌+◌, Bool, true, false, ◌⊎◌, inl, inr, length, Option, Some, None, pos, refl, sym, ap, ◌∙◌, subst, true≢false, arith}
+-- No posture returns. If one did, forms would leave the basis and enter it in between. Let r be the greatest of them: at one step
+-- it enters, and at another it left for the bound where it stands then. The values before it left would take the form that it
+-- helps no nearer to its bound: the lesser ones keep their bounds there, the greater ones don't move, and r goes the wrong way.
+-- But that form is a lesser one, and so it keeps its own bound there.
+use Rattle.std.proofs.Common.{◌≡◌, ℕ, zero, suc, ◌<◌, ◌≤◌, Bool, true, false, ◌⊎◌, inl, inr, length, Option, Some, None, pos, refl, sym, ap, ◌∙◌, subst, true≢false, arith}
 use Rattle.std.specs.Prelude.{◌==◌, ◌≢◌, ◌↔◌, ◌&&◌, if◌then◌else◌, unwrap_or, is_some, option_map}
 use Rattle.std.proofs.lemmas.Bool.{and_parts, and_from}
-use Rattle.nz_spec.specs.Fraction.{Fraction, whole, ◌=ℚ◌, ◌<ℚ◌, fraction_eq}
+use Rattle.nz_spec.specs.Fraction.{whole, ◌=ℚ◌, ◌<ℚ◌, fraction_eq}
 use Rattle.nz_spec.specs.Infinitesimal.{Infinitesimal, ◌=δ◌}
-use Rattle.nz_spec.specs.Basis.{Coefficients, weighted, IsRow, IsCoefficient}
+use Rattle.nz_spec.specs.Basis.{Coefficients}
 use Rattle.nz_spec.specs.BasisMoves.{IsSolution}
-use Rattle.nz_spec.specs.Bland.{Point, is_nonbasic, zero_infinitesimal, value_in, sum_at, Position, HasBasis, HasValue, Side, lower_side, upper_side, other_side, bound_on, IsOutside, IsInside, Stand, at_lower, at_upper, at_neither, is_at, posture_of, Breaks, HasRoom, CanHelp, exchanged_point, IsCheckStep}
+use Rattle.nz_spec.specs.Bland.{Point, is_nonbasic, zero_infinitesimal, value_in, sum_at, Position, HasBasis, Side, lower_side, upper_side, other_side, bound_on, IsOutside, Stand, at_lower, at_upper, at_neither, is_at, posture_of, HasRoom, CanHelp, exchanged_point, IsCheckStep}
 use Rattle.nz_spec.specs.BlandRuns.{AreConsistent, NonbasicFormsFit, IsRun, NoPostureReturns}
-use Rattle.nz_spec.proofs.FractionLaws.{=ℚ_refl, =ℚ-from_same, =ℚ_sym, ≤ℚ-from_eq, ≤ℚ-<ℚ_trans, <ℚ-≤ℚ_trans, ≤ℚ-from_lt, <ℚ_trans, <ℚ_irrefl}
+use Rattle.nz_spec.proofs.FractionLaws.{=ℚ_refl, =ℚ-from_same, =ℚ_sym, ≤ℚ-from_eq, ≤ℚ-<ℚ_trans, <ℚ-≤ℚ_trans, ≤ℚ-from_lt, <ℚ_irrefl}
 use Rattle.nz_spec.proofs.FractionOrder.{same-fraction_eq, fraction_eq-same}
 use Rattle.nz_spec.proofs.FractionSolver.{◌∙ℚ◌}
 use Rattle.nz_spec.proofs.BasisRows.{equal-number, other-number, same-number}
 use Rattle.nz_spec.proofs.InfinitesimalOrder.{=δ_sym, =δ_trans}
 use Rattle.nz_spec.proofs.BlandSteps.{step-solutions, check_steps_keep_basis}
-use Rattle.nz_spec.proofs.BlandRefutes.{IsPast, not_outside, outside-sum, outside-equal, past-turned, past-between, past-outside, past-equal, inside-at, outside-at, held_back, held_up, held_down}
+use Rattle.nz_spec.proofs.BlandRefutes.{IsPast, not_outside, outside-sum, outside-equal, past-between, past-outside, past-equal, inside-at, outside-at, held_back, held_up, held_down}
 use Rattle.nz_spec.proofs.BlandPositions.{all_values, all-have, one-value, nonbasic-value, standard-fits, coefficient-fits}
 
 =δ_refl : (x : Infinitesimal) → x =δ x
@@ -78,10 +79,13 @@ greatest f a (suc c) h = by_place (first_or_later a c h) (λ k. greatest f a c k
   where
     first_or_later : (a c : ℕ) → a < suc c → (a ≡ c) ⊎ (a < c)
     first_or_later a c h = grind (arith, h)
+
     compare : (x y : ℕ) → (x ≤ y) ⊎ (y < x)
     compare x y = grind arith
+
     last : (t : ℕ) → t < suc c → (t ≡ c) ⊎ (t < c)
     last t h = grind (arith, h)
+
     by_value : (m : ℕ) → a ≤ m → m < c → ((t : ℕ) → a ≤ t → t < c → f t ≤ f m) → (f c ≤ f m) ⊎ (f m < f c) → (m : ℕ) × (a ≤ m) × (m < suc c) × ((t : ℕ) → a ≤ t → t < suc c → f t ≤ f m)
     by_value m p q g (inl k) = (m, p, omega (arith, q), λ t r l. by_last t r (last t l))
       where
@@ -93,6 +97,7 @@ greatest f a (suc c) h = by_place (first_or_later a c h) (λ k. greatest f a c k
         by_last : (t : ℕ) → a ≤ t → (t ≡ c) ⊎ (t < c) → f t ≤ f c
         by_last t r (inl e) = subst (λ (x : ℕ). f x ≤ f c) (sym e) (omega arith)
         by_last t r (inr l) = omega (arith, g t r l, k)
+
     by_place : (a ≡ c) ⊎ (a < c) → (a < c → (m : ℕ) × (a ≤ m) × (m < c) × ((t : ℕ) → a ≤ t → t < c → f t ≤ f m)) → (m : ℕ) × (a ≤ m) × (m < suc c) × ((t : ℕ) → a ≤ t → t < suc c → f t ≤ f m)
     by_place (inl e) rest = (c, omega (arith, e), omega arith, λ t p q. subst (λ (x : ℕ). f x ≤ f c) (c_is t p q) (omega arith))
       where
@@ -159,6 +164,7 @@ module _ (s : Position) (x : ℕ → Point) (out into : ℕ → ℕ) (n : ℕ) w
       where
         first_or_later : (from t : ℕ) → from ≤ suc t → (from ≡ suc t) ⊎ (from ≤ t)
         first_or_later from t p = grind (arith, p)
+
         by_place : (from ≡ suc t) ⊎ (from ≤ t) → (k ≡ out t) ⊎ (k ≢ out t) → (k ≡ into t) ⊎ (k ≢ into t) → (from ≤ t → is_nonbasic (x t) k ≡ true → Left k from t) → Left k from (suc t)
         by_place (inl r) o i rest = absurd (true≢false (sym f ∙ ap (λ (l : ℕ). is_nonbasic (x l) k) (sym r) ∙ e))
         by_place (inr r) (inl o) i rest = record { time = t; early = r; late = omega arith; is = sym o; stands = λ l. leaves t l k o }
@@ -186,13 +192,16 @@ module _ (s : Position) (x : ℕ → Point) (out into : ℕ → ℕ) (n : ℕ) w
       where
         first_or_later : (from t : ℕ) → from ≤ suc t → (from ≡ suc t) ⊎ (from ≤ t)
         first_or_later from t p = grind (arith, p)
+
         by_step : from ≤ t → x t k ≡ x from k → (k ≡ out t) ⊎ (k ≢ out t) → (k ≡ into t) ⊎ (k ≢ into t) → (x (suc t) k ≡ x from k) ⊎ Entered k from (suc t)
         by_step r g (inl o) i = absurd (true≢false (sym e ∙ ap is_some (sym g) ∙ ap (is_nonbasic (x t)) o ∙ (step t (omega (arith, q))).breaks.basic))
         by_step r g (inr o) (inl i) = inr (record { time = t; early = r; late = omega arith; is = sym i; stands = g })
         by_step r g (inr o) (inr i) = inl (stays t (omega (arith, q)) k o i ∙ g)
+
         by_rest : from ≤ t → (x t k ≡ x from k) ⊎ Entered k from t → (x (suc t) k ≡ x from k) ⊎ Entered k from (suc t)
         by_rest r (inl g) = by_step r g (is_one k (out t)) (is_one k (into t))
         by_rest r (inr g) = inr (record { time = g.time; early = g.early; late = omega (arith, g.late); is = g.is; stands = g.stands })
+
         by_place : (from ≡ suc t) ⊎ (from ≤ t) → (from ≤ t → (x t k ≡ x from k) ⊎ Entered k from t) → (x (suc t) k ≡ x from k) ⊎ Entered k from (suc t)
         by_place (inl r) rest = inl (ap (λ (l : ℕ). x l k) (sym r))
         by_place (inr r) rest = by_rest r (rest r)
@@ -230,6 +239,7 @@ module _ (s : Position) (x : ℕ → Point) (out into : ℕ → ℕ) (n : ℕ) w
       where
         own : bound_on side s k ≡ Some bound
         own = sym (bound-at side (suc t) k) ∙ f
+
         by_side : (half : Side) (stand : Infinitesimal) → bound_on half s k ≡ Some stand → value_in (x (suc t)) k ≡ stand → (side ≡ half) ⊎ (side ≡ other_side half) → ⊥
         by_side half stand a v (inl i) =
             outside-at side bound (value_in (x (suc t)) k)
@@ -238,6 +248,7 @@ module _ (s : Position) (x : ℕ → Point) (out into : ℕ → ℕ) (n : ℕ) w
         by_side half stand a v (inr i) =
             apart c half k stand bound a (ap (λ (l : Side). bound_on l s k) (sym i) ∙ own)
             (subst (λ (l : Side). IsOutside l bound stand) i (subst (λ (z : Infinitesimal). IsOutside side bound z) v g))
+
         by_step : (k ≡ out t) ⊎ (k ≢ out t) → (k ≡ into t) ⊎ (k ≢ into t) → ⊥
         by_step (inl o) i =
             let now = step t h in
@@ -269,6 +280,7 @@ module _ (s : Position) (x : ℕ → Point) (out into : ℕ → ℕ) (n : ℕ) w
           where
             first_or_later : (from t : ℕ) → from ≤ suc t → (from ≡ suc t) ⊎ (from ≤ t)
             first_or_later from t p = grind (arith, p)
+
             by_place : (from ≡ suc t) ⊎ (from ≤ t) → (from ≤ t → x t k ≡ x from k) → x (suc t) k ≡ x from k
             by_place (inl e) rest = ap (λ (l : ℕ). x l k) (sym e)
             by_place (inr l) rest =
@@ -390,6 +402,7 @@ module _ (s : Position) (x : ℕ → Point) (out into : ℕ → ℕ) (n : ℕ) w
                 by_side : (leaving.side ≡ away) ⊎ (leaving.side ≡ other_side away) → whole (pos 0) <ℚ row r → IsPast away (y r) (value_in (x q) r)
                 by_side (inl e) g = absurd (no-room away (sym e) (room-above g))
                 by_side (inr e) g = subst (λ (l : Side). IsPast l (y r) (value_in (x q) r)) (ap other_side e ∙ turned away) past-r
+
                 by_place : (k < r) ⊎ ((k ≡ r) ⊎ (r < k)) → IsPast away (y k) (value_in (x q) k)
                 by_place (inl l) =
                     let held = held_up (at q) entering.side entering.bound (out q) entering.breaks k (helpless k l) h in
@@ -406,6 +419,7 @@ module _ (s : Position) (x : ℕ → Point) (out into : ℕ → ℕ) (n : ℕ) w
                 by_side : (leaving.side ≡ entering.side) ⊎ (leaving.side ≡ other_side entering.side) → row r <ℚ whole (pos 0) → IsPast entering.side (y r) (value_in (x q) r)
                 by_side (inl e) g = absurd (no-room (other_side away) (turned entering.side ∙ sym e) (room-below g))
                 by_side (inr e) g = subst (λ (l : Side). IsPast l (y r) (value_in (x q) r)) (ap other_side e ∙ turned entering.side) past-r
+
                 by_place : (k < r) ⊎ ((k ≡ r) ⊎ (r < k)) → IsPast entering.side (y k) (value_in (x q) k)
                 by_place (inl l) =
                     let held = held_down (at q) entering.side entering.bound (out q) entering.breaks k (helpless k l) h in
@@ -463,9 +477,11 @@ module _ (s : Position) (x : ℕ → Point) (out into : ℕ → ℕ) (n : ℕ) w
           where
             stand_is : {i j : Stand} → Some i ≡ Some j → i ≡ j
             stand_is {i} {j} h = ap (λ (o : Option Stand). unwrap_or o i) h
+
             by_side : (side : Side) → bound_on side s k ≡ Some v → (is_at (s.lower k) v ≡ true) ⊎ (is_at (s.upper k) v ≡ true)
             by_side lower_side h = inl (at-own (s.lower k) v h)
             by_side upper_side h = inr (at-own (s.upper k) v h)
+
             by_stands : (la ua lb ub : Bool) → is_at (s.lower k) u ≡ la → is_at (s.upper k) u ≡ ua → is_at (s.lower k) v ≡ lb → is_at (s.upper k) v ≡ ub
                 → (if la then at_lower else if ua then at_upper else at_neither) ≡ (if lb then at_lower else if ub then at_upper else at_neither)
                 → (is_at (s.lower k) v ≡ true) ⊎ (is_at (s.upper k) v ≡ true) → u =δ v
@@ -517,31 +533,37 @@ module _ (s : Position) (x : ℕ → Point) (out into : ℕ → ℕ) (n : ℕ) w
           where
             r : ℕ
             r = out top.0
+
             unwrapped : (o : Option Infinitesimal) (v : Infinitesimal) → o ≡ Some v → unwrap_or o zero_infinitesimal ≡ v
             unwrapped o v e = ap (λ (z : Option Infinitesimal). unwrap_or z zero_infinitesimal) e
+
             by_left : (q : ℕ) → from ≤ q → q < to → into q ≡ out top.0 → Left (out top.0) from q → ⊥
             by_left q late hq entered l =
                 never l.time q (omega (arith, hq, l.late)) hq l.early late l.is entered
                 (λ h. =δ-from_same (unwrapped (x q (out top.0)) (step l.time h).bound (l.stands h)))
+
             basic-first : is_nonbasic (x from) (out top.0) ≡ false → Entered (out top.0) (suc top.0) to → ⊥
             basic-first e g =
                 by_left g.time (omega (arith, g.early, top.1)) g.late g.is
                 (last_left (out top.0) from g.time (omega (arith, g.early, top.1)) (omega (arith, g.late, inside)) e
                 (subst (λ (k : ℕ). is_nonbasic (x g.time) k ≡ true) g.is (step g.time (omega (arith, g.late, inside))).helps.nonbasic))
+
             by_return : (q : ℕ) → from ≤ q → q < top.0 → into q ≡ out top.0 → x q (out top.0) ≡ x from (out top.0) → is_nonbasic (x from) (out top.0) ≡ true → Left (out top.0) (suc q) to → ⊥
             by_return q late hq entered stands e l =
                 never l.time q l.late (omega (arith, hq, top.2)) (omega (arith, late, l.early)) late l.is entered
                 (λ h.
-                  same-value (out top.0) (value_in (x q) (out top.0)) (step l.time h).bound (step l.time h).side
-                  (sym stands ∙ some-value (x q (out top.0)) (ap is_some stands ∙ e))
-                  (l.stands h)
-                  (ap (bound_on (step l.time h).side s) (sym l.is) ∙ sym (bound-at (step l.time h).side l.time (out l.time)) ∙ (step l.time h).breaks.bounded))
+                same-value (out top.0) (value_in (x q) (out top.0)) (step l.time h).bound (step l.time h).side
+                (sym stands ∙ some-value (x q (out top.0)) (ap is_some stands ∙ e))
+                (l.stands h)
+                (ap (bound_on (step l.time h).side s) (sym l.is) ∙ sym (bound-at (step l.time h).side l.time (out l.time)) ∙ (step l.time h).breaks.bounded))
+
             nonbasic-first : is_nonbasic (x from) (out top.0) ≡ true → is_nonbasic (x to) (out top.0) ≡ true → Entered (out top.0) from top.0 → ⊥
             nonbasic-first e f g =
                 by_return g.time g.early g.late g.is g.stands e
                 (last_left (out top.0) (suc g.time) to (omega (arith, g.late, top.2)) inside
                 (subst (λ (k : ℕ). is_nonbasic (x (suc g.time)) k ≡ false) g.is (entered-basic g.time (omega (arith, g.late, top.2, inside))))
                 f)
+
             by_test : (c : Bool) → is_nonbasic (x to) (out top.0) ≡ c → ⊥
             by_test true g =
                 nonbasic-first (same-nonbasic (out top.0) ∙ g) g
@@ -574,6 +596,6 @@ pub no_posture_returns : NoPostureReturns
 no_posture_returns n p b c start run from to h inside same =
     returned (p 0) (λ t. (p t).point) run.leaving run.entering n (placed-step n p run) b c start from to h inside
     (λ k.
-      ap (λ (u : Position). posture_of u k) (sym (placed-is n p run from (omega (arith, h, inside))))
-      ∙ same k
-      ∙ ap (λ (u : Position). posture_of u k) (placed-is n p run to inside))
+    ap (λ (u : Position). posture_of u k) (sym (placed-is n p run from (omega (arith, h, inside))))
+    ∙ same k
+    ∙ ap (λ (u : Position). posture_of u k) (placed-is n p run to inside))
