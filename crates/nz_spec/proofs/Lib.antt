@@ -5,6 +5,8 @@ pub mod BasisExchange
 pub mod BasisJoins
 pub mod BasisRows
 pub mod BasisSums
+pub mod BasisValues
+pub mod BlandCounts
 pub mod BlandPositions
 pub mod BlandRefutes
 pub mod BlandReturns

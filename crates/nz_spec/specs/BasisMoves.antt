@@ -139,6 +139,11 @@ pub record SolutionsStay : Type 0 where
   pub exchange : (fs : List (List Part)) (nonbasic : ℕ → Bool) (i j : ℕ) → IsBasis fs nonbasic → MayExchange fs nonbasic i j
       → (y : ℕ → Fraction) → IsSolution fs nonbasic y ↔ IsSolution fs (exchanged nonbasic i j) y
 
+-- Values that fit a basis are those of the forms where each unit is worth what the form of its number has.
+abbrev pub SolutionsAreWorth : Type 0
+SolutionsAreWorth = (fs : List (List Part)) (nonbasic : ℕ → Bool) (number : Term → ℕ) (y : ℕ → Fraction) (k : ℕ) → IsBasis fs nonbasic → IsSolution fs nonbasic y
+    → k < length fs → AreNumbered fs number (form_at fs k) → worth (λ u. y (number u)) (form_at fs k) =ℚ y k
+
 -- The empty list is a basis. A new unit joins as nonbasic, and a form over units of the list as basic, with the row that is computed; the rows that were there stay.
 pub record JoinsKeepBasis : Type 0 where
   pub empty : IsBasis [] (λ k. false)

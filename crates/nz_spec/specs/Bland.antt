@@ -5,12 +5,12 @@
 use Rattle.std.specs.Prelude.{◌≡◌, ℕ, ◌<◌, ◌==◌, Bool, true, false, ◌&&◌, ◌⊎◌, List, [], ◌∷◌, length, Option, Some, None, option_map, unwrap_or, is_some, pos, if◌then◌else◌}
 use Rattle.std.specs.declared.cmp.Ordering.TheVariants.{Less}
 use Rattle.nz_spec.specs.Fraction.{Fraction, whole, ◌<ℚ◌, fraction_eq, Sum, Product}
-use Rattle.nz_spec.specs.Infinitesimal.{Infinitesimal, ◌=δ◌, infinitesimal_cmp, ◌+δ◌, ◌-δ◌, scaled}
+use Rattle.nz_spec.specs.Infinitesimal.{Infinitesimal, ◌=δ◌, infinitesimal_cmp, ◌+δ◌, ◌-δ◌, scaled, at}
 use Rattle.nz_spec.specs.Computation.{Computation, operated, at_once, turned_into, and_then}
 use Rattle.nz_spec.specs.Term.{Assignment}
 use Rattle.nz_spec.specs.Form.{Part, parts_value}
 use Rattle.nz_spec.specs.Basis.{form_at, Coefficients, weighted, IsZeroAtBasic, IsRow, IsBasis, IsCoefficient}
-use Rattle.nz_spec.specs.BasisMoves.{numbers}
+use Rattle.nz_spec.specs.BasisMoves.{numbers, IsSolution}
 
 -- ---- Points
 
@@ -99,6 +99,10 @@ abbrev pub IsInside : Side → Infinitesimal → Infinitesimal → Type 0
 IsInside lower_side bound x = bound <δ x
 IsInside upper_side bound x = x <δ bound
 
+-- the nonbasic forms break no bound
+abbrev pub NonbasicFormsFit : Position → Type 0
+NonbasicFormsFit s = (side : Side) (k : ℕ) (bound : Infinitesimal) → is_nonbasic s.point k ≡ true → bound_on side s k ≡ Some bound → IsOutside side bound (value_in s.point k) → ⊥
+
 -- ---- Where nonbasic forms stand
 
 pub data Stand : Type 0 where
@@ -173,6 +177,15 @@ pub record IsRefutation (s : Position) (i : ℕ) (side : Side) (bound : Infinite
 -- A value that is computed has the value of the sum.
 abbrev pub ValueIsComputed : Type 0
 ValueIsComputed = (n : ℕ) (c : Coefficients) (x : Point) → IsZeroAtBasic (is_nonbasic x) c → (row_value n c x).result =δ sum_at n c (value_in x)
+
+-- Each form has one value at a position. The values of all forms fit the basis, with any fraction for δ. Where no form breaks a
+-- bound, these values meet the bounds.
+pub record PositionsHaveValues : Type 0 where
+  pub some : (s : Position) → HasBasis s → (y : ℕ → Infinitesimal) × ((k : ℕ) → k < length s.forms → HasValue s k (y k))
+  pub one : (s : Position) (k : ℕ) (x y : Infinitesimal) → HasBasis s → k < length s.forms → HasValue s k x → HasValue s k y → x =δ y
+  pub fit : (s : Position) (y : ℕ → Infinitesimal) (e : Fraction) → HasBasis s → ((k : ℕ) → k < length s.forms → HasValue s k (y k)) → IsSolution s.forms (is_nonbasic s.point) (λ k. at (y k) e)
+  pub feasible : (s : Position) (y : ℕ → Infinitesimal) → HasBasis s → ((k : ℕ) → k < length s.forms → HasValue s k (y k)) → NonbasicFormsFit s
+      → ((side : Side) (bound : Infinitesimal) (i : ℕ) → Breaks s side bound i → ⊥) → MeetsBounds s y
 
 -- Where one value moves, a sum moves by its coefficient there.
 abbrev pub SumMoves : Type 0

@@ -1,17 +1,13 @@
 -- Runs of check steps: none comes back to where it was.
 -- Source: Bland, New finite pivoting rules for the simplex method, 1977; for these steps Dutertre and de Moura, A Fast
 -- Linear-Arithmetic Solver for DPLL(T), CAV 2006, section 3 (termination of checking).
-use Rattle.std.specs.Prelude.{◌≡◌, ℕ, suc, ◌<◌, ◌≤◌, true, Some}
+use Rattle.std.specs.Prelude.{◌≡◌, ℕ, suc, ◌<◌, ◌≤◌, ◌^◌, length, Some}
 use Rattle.nz_spec.specs.Infinitesimal.{Infinitesimal}
-use Rattle.nz_spec.specs.Bland.{is_nonbasic, value_in, Position, HasBasis, Side, bound_on, ◌<δ◌, IsOutside, posture_of, IsCheckStep}
+use Rattle.nz_spec.specs.Bland.{Position, HasBasis, ◌<δ◌, NonbasicFormsFit, posture_of, IsCheckStep}
 
 -- no lower bound is above an upper one of the same form
 abbrev pub AreConsistent : Position → Type 0
 AreConsistent s = (k : ℕ) (low high : Infinitesimal) → s.lower k ≡ Some low → s.upper k ≡ Some high → high <δ low → ⊥
-
--- the nonbasic forms break no bound
-abbrev pub NonbasicFormsFit : Position → Type 0
-NonbasicFormsFit s = (side : Side) (k : ℕ) (bound : Infinitesimal) → is_nonbasic s.point k ≡ true → bound_on side s k ≡ Some bound → IsOutside side bound (value_in s.point k) → ⊥
 
 -- so many check steps, and where they lead one after another
 pub record IsRun (n : ℕ) (p : ℕ → Position) : Type 0 where
@@ -25,3 +21,7 @@ pub record IsRun (n : ℕ) (p : ℕ → Position) : Type 0 where
 abbrev pub NoPostureReturns : Type 0
 NoPostureReturns = (n : ℕ) (p : ℕ → Position) → HasBasis (p 0) → AreConsistent (p 0) → NonbasicFormsFit (p 0) → IsRun n p
     → (a b : ℕ) → a < b → b ≤ n → ((k : ℕ) → posture_of (p a) k ≡ posture_of (p b) k) → ⊥
+
+-- So it has fewer steps than there are postures: each form is basic, or stands in one of three ways.
+abbrev pub RunsAreShort : Type 0
+RunsAreShort = (n : ℕ) (p : ℕ → Position) → HasBasis (p 0) → AreConsistent (p 0) → NonbasicFormsFit (p 0) → IsRun n p → n < 4 ^ length (p 0).forms

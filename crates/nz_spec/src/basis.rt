@@ -1,8 +1,8 @@
 //! Laws of bases of linear forms.
 ghost use Rattle.nz_spec.specs.Basis.{CoefficientsAreUnique, NonbasicFormIsItself, ValueIsWorth};
-ghost use Rattle.nz_spec.specs.BasisMoves.{ExchangeKeepsBasis, JoinsKeepBasis, SolutionsStay, ZerosAreNeverWide};
-ghost use Rattle.nz_spec.specs.Bland.{CheckStepsKeepBasis, NoHelpRefutes, SumMoves, ValueIsComputed};
-ghost use Rattle.nz_spec.specs.BlandRuns.{NoPostureReturns};
+ghost use Rattle.nz_spec.specs.BasisMoves.{ExchangeKeepsBasis, JoinsKeepBasis, SolutionsAreWorth, SolutionsStay, ZerosAreNeverWide};
+ghost use Rattle.nz_spec.specs.Bland.{CheckStepsKeepBasis, NoHelpRefutes, PositionsHaveValues, SumMoves, ValueIsComputed};
+ghost use Rattle.nz_spec.specs.BlandRuns.{NoPostureReturns, RunsAreShort};
 ghost use Rattle.nz_spec.specs.WorkedBasis.{HasExchange, HasJoiningRow};
 
 /// Coefficients over a basis are unique.
@@ -53,6 +53,21 @@ pub fn check_steps_keep_basis()
 /// Where a form breaks a bound and no nonbasic form can help, its row refutes the bounds.
 pub fn no_help_refutes()
     ensures refutes { NoHelpRefutes }
+{}
+
+/// A run of check steps has fewer steps than there are postures.
+pub fn runs_are_short()
+    ensures short { RunsAreShort }
+{}
+
+/// Each form has one value at a position, and the values of all forms fit the basis.
+pub fn positions_have_values()
+    ensures values { PositionsHaveValues }
+{}
+
+/// Values that fit a basis are those of its forms, where the units are worth their own.
+pub fn solutions_are_worth()
+    ensures worth { SolutionsAreWorth }
 {}
 
 /// Forms that join two units, and an exchange, by the definitions alone.
