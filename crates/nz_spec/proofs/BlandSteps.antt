@@ -6,7 +6,7 @@ use Rattle.nz_spec.specs.Fraction.{Fraction, whole, ◌=ℚ◌, ◌<ℚ◌, ◌+
 use Rattle.nz_spec.specs.Infinitesimal.{Infinitesimal, ◌+δ◌, ◌-δ◌, scaled}
 use Rattle.nz_spec.specs.Term.{is_zero}
 use Rattle.nz_spec.specs.Basis.{Coefficients, weighted, IsRow, IsBasis, IsCoefficient, alone}
-use Rattle.nz_spec.specs.BasisMoves.{exchanged, MayExchange, IsSolution}
+use Rattle.nz_spec.specs.BasisMoves.{AreRows, exchange, exchanged, MayExchange, IsSolution}
 use Rattle.nz_spec.specs.Bland.{Point, is_nonbasic, zero_infinitesimal, value_in, Position, HasBasis, HasValue, Side, other_side, HasRoom, CanHelp, exchanged_point, IsCheckStep, CheckStepsKeepBasis}
 use Rattle.nz_spec.proofs.FractionLaws.{=ℚ_refl, =ℚ-from_same, =ℚ_sym, ≤ℚ-from_eq, <ℚ_irrefl}
 use Rattle.nz_spec.proofs.FractionOrder.{same-fraction_eq}
@@ -218,6 +218,10 @@ step-solutions s t i j b step y =
 pub check_steps_keep_basis : CheckStepsKeepBasis
 check_steps_keep_basis = record {
   basis = λ s t i j b step. subst (λ (u : Position). HasBasis u) (sym step.after) (next-basis s t i j b step);
+  rows = λ s t i j rows b step are.
+      subst (λ (u : Position). AreRows u.forms (is_nonbasic u.point) (exchange (length s.forms) (is_nonbasic s.point) rows i j).result) (sym step.after)
+      (subst (λ (test : ℕ → Bool). AreRows s.forms test (exchange (length s.forms) (is_nonbasic s.point) rows i j).result) (tests s t i j b step)
+      (exchange_keeps_basis.rows s.forms (is_nonbasic s.point) rows i j b (may s t i j b step) are));
   stands = λ s t i j b step. subst (λ (u : Position). HasValue u i step.bound) (sym step.after) (next-stands s t i j b step);
   moves = λ s t i j r v w q b step p hv hw c.
       subst (λ (u : Position). HasValue u r (v +δ scaled (step.bound -δ w) q)) (sym step.after)

@@ -6,6 +6,7 @@ pub mod BasisJoins
 pub mod BasisRows
 pub mod BasisSums
 pub mod BasisValues
+pub mod BlandBounds
 pub mod BlandCounts
 pub mod BlandPositions
 pub mod BlandRefutes

@@ -1,7 +1,7 @@
 //! Laws of bases of linear forms.
 ghost use Rattle.nz_spec.specs.Basis.{CoefficientsAreUnique, NonbasicFormIsItself, ValueIsWorth};
 ghost use Rattle.nz_spec.specs.BasisMoves.{ExchangeKeepsBasis, JoinsKeepBasis, SolutionsAreWorth, SolutionsStay, ZerosAreNeverWide};
-ghost use Rattle.nz_spec.specs.Bland.{CheckStepsKeepBasis, NoHelpRefutes, PositionsHaveValues, SumMoves, ValueIsComputed};
+ghost use Rattle.nz_spec.specs.Bland.{BoundsSayWhatTheyMean, CheckStepsKeepBasis, NoHelpRefutes, PositionsHaveValues, SumMoves, ValueIsComputed};
 ghost use Rattle.nz_spec.specs.BlandRuns.{NoPostureReturns, RunsAreShort};
 ghost use Rattle.nz_spec.specs.WorkedBasis.{HasExchange, HasJoiningRow};
 
@@ -68,6 +68,11 @@ pub fn positions_have_values()
 /// Values that fit a basis are those of its forms, where the units are worth their own.
 pub fn solutions_are_worth()
     ensures worth { SolutionsAreWorth }
+{}
+
+/// What bounds say of fractions.
+pub fn bounds_say_what_they_mean()
+    ensures mean { BoundsSayWhatTheyMean }
 {}
 
 /// Forms that join two units, and an exchange, by the definitions alone.
