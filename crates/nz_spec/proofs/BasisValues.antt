@@ -4,8 +4,8 @@ use Rattle.nz_ints.proofs.Ring.{Atom, ◌⊕◌}
 use Rattle.nz_spec.specs.Fraction.{Fraction, whole, ◌=ℚ◌, ◌+ℚ◌, ◌*ℚ◌}
 use Rattle.nz_spec.specs.Term.{Term}
 use Rattle.nz_spec.specs.Form.{Part}
-use Rattle.nz_spec.specs.Basis.{Valuation, worth, form_at, Coefficients, weighted, IsRow, IsBasis}
-use Rattle.nz_spec.specs.BasisMoves.{AreNumbered, IsSolution, SolutionsAreWorth}
+use Rattle.nz_spec.specs.Basis.{Valuation, worth, form_at, Coefficients, weighted, IsRow, IsBasis, IsSolution}
+use Rattle.nz_spec.specs.BasisMoves.{AreNumbered, SolutionsAreWorth}
 use Rattle.nz_spec.proofs.FractionLaws.{=ℚ_refl, =ℚ-from_same, =ℚ_sym}
 use Rattle.nz_spec.proofs.FractionArithmetic.{+ℚ-same}
 use Rattle.nz_spec.proofs.FractionSolver.{◌∙ℚ◌, solve, times_right}

@@ -3,8 +3,7 @@ use Rattle.std.proofs.Common.{◌≡◌, ℕ, ◌<◌, ◌≤◌, Bool, true, fa
 use Rattle.nz_ints.proofs.Ring.{Atom, ◌⊕◌, ◌⊗◌}
 use Rattle.nz_spec.specs.Fraction.{Fraction, whole, ◌=ℚ◌, ◌+ℚ◌, ◌*ℚ◌}
 use Rattle.nz_spec.specs.Infinitesimal.{Infinitesimal, ◌=δ◌, at}
-use Rattle.nz_spec.specs.Basis.{Coefficients, weighted, IsRow, alone}
-use Rattle.nz_spec.specs.BasisMoves.{IsSolution}
+use Rattle.nz_spec.specs.Basis.{Coefficients, weighted, IsRow, alone, IsSolution}
 use Rattle.nz_spec.specs.Bland.{is_nonbasic, value_in, sum_at, Position, HasBasis, HasValue, Side, NonbasicFormsFit, Breaks, MeetsBounds, PositionsHaveValues}
 use Rattle.nz_spec.proofs.FractionLaws.{=ℚ_refl, =ℚ_sym}
 use Rattle.nz_spec.proofs.FractionArithmetic.{+ℚ-same}

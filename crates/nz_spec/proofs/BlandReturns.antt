@@ -7,8 +7,7 @@ use Rattle.std.specs.Prelude.{◌==◌, ◌≢◌, ◌↔◌, ◌&&◌, if◌the
 use Rattle.std.proofs.lemmas.Bool.{and_parts, and_from}
 use Rattle.nz_spec.specs.Fraction.{whole, ◌=ℚ◌, ◌<ℚ◌, fraction_eq}
 use Rattle.nz_spec.specs.Infinitesimal.{Infinitesimal, ◌=δ◌}
-use Rattle.nz_spec.specs.Basis.{Coefficients}
-use Rattle.nz_spec.specs.BasisMoves.{IsSolution}
+use Rattle.nz_spec.specs.Basis.{Coefficients, IsSolution}
 use Rattle.nz_spec.specs.Bland.{Point, is_nonbasic, NonbasicFormsFit, zero_infinitesimal, value_in, sum_at, Position, HasBasis, Side, lower_side, upper_side, other_side, bound_on, IsOutside, Stand, at_lower, at_upper, at_neither, is_at, posture_of, HasRoom, CanHelp, exchanged_point, IsCheckStep}
 use Rattle.nz_spec.specs.BlandRuns.{AreConsistent, IsRun, NoPostureReturns}
 use Rattle.nz_spec.proofs.FractionLaws.{=ℚ_refl, =ℚ-from_same, =ℚ_sym, ≤ℚ-from_eq, ≤ℚ-<ℚ_trans, <ℚ-≤ℚ_trans, ≤ℚ-from_lt, <ℚ_irrefl}

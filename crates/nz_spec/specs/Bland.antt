@@ -9,8 +9,8 @@ use Rattle.nz_spec.specs.Infinitesimal.{Infinitesimal, ◌=δ◌, infinitesimal_
 use Rattle.nz_spec.specs.Computation.{Computation, operated, at_once, turned_into, and_then}
 use Rattle.nz_spec.specs.Term.{Assignment}
 use Rattle.nz_spec.specs.Form.{Part, parts_value}
-use Rattle.nz_spec.specs.Basis.{form_at, Coefficients, weighted, IsZeroAtBasic, IsRow, IsBasis, IsCoefficient}
-use Rattle.nz_spec.specs.BasisMoves.{numbers, Rows, AreRows, exchange, IsSolution}
+use Rattle.nz_spec.specs.Basis.{form_at, Coefficients, weighted, IsZeroAtBasic, IsRow, IsBasis, IsCoefficient, IsSolution}
+use Rattle.nz_spec.specs.BasisMoves.{numbers, Rows, AreRows, exchange}
 
 -- ---- Points
 
@@ -163,7 +163,8 @@ pub record IsCheckStep (s t : Position) (i j : ℕ) : Type 0 where
 abbrev pub MeetsBounds : Position → (ℕ → Infinitesimal) → Type 0
 MeetsBounds s y = (side : Side) (k : ℕ) (bound : Infinitesimal) → k < length s.forms → bound_on side s k ≡ Some bound → IsOutside side bound (y k) → ⊥
 
--- Form i can't meet its bound of this side: its row, over bounds that hold back the nonbasic forms in it, falls short of that bound.
+-- Form i can't meet its bound of this side: the bounds that hold back the nonbasic forms, with the coefficients of its row for
+-- multipliers, fall short of that bound.
 pub record IsRefutation (s : Position) (i : ℕ) (side : Side) (bound : Infinitesimal) (row : Coefficients) (bounds : ℕ → Infinitesimal) : Type 0 where
   pub listed : i < length s.forms
   pub is_row : IsRow s.forms (is_nonbasic s.point) i row
