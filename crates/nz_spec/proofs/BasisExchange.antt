@@ -7,8 +7,8 @@ use Rattle.nz_spec.specs.Fraction.{Fraction, whole, ◌=ℚ◌, ◌+ℚ◌, neg_
 use Rattle.nz_spec.specs.Computation.{at_once}
 use Rattle.nz_spec.specs.Term.{is_zero}
 use Rattle.nz_spec.specs.Form.{Part, unit_value, parts_value}
-use Rattle.nz_spec.specs.Basis.{Valuation, worth, form_at, Coefficients, weighted, mix, IsZeroAtBasic, IsRow, IsBasis, AreIndependent, alone}
-use Rattle.nz_spec.specs.BasisMoves.{numbers, Rows, AreRows, plus_multiple, exchanged, MayExchange, solved, replaced, exchange, ExchangeKeepsBasis, IsSolution, SolutionsStay}
+use Rattle.nz_spec.specs.Basis.{Valuation, worth, form_at, Coefficients, weighted, mix, IsZeroAtBasic, IsRow, IsBasis, AreIndependent, alone, IsSolution}
+use Rattle.nz_spec.specs.BasisMoves.{numbers, Rows, AreRows, plus_multiple, exchanged, MayExchange, solved, replaced, exchange, ExchangeKeepsBasis, SolutionsStay}
 use Rattle.nz_spec.proofs.FractionLaws.{=ℚ_refl, =ℚ-from_same, =ℚ_sym}
 use Rattle.nz_spec.proofs.FractionOrder.{same-fraction_eq}
 use Rattle.nz_spec.proofs.FractionArithmetic.{+ℚ-zero, +ℚ-same, neg_ℚ-same, outcome-sum, outcome-product}

@@ -53,7 +53,7 @@ last_or_before k n m e h = grind (arith, e, h)
 
 -- ---- Units
 
-unit_worth : (v : Valuation) (u : Term) → worth v (unit_form u).parts =ℚ v u
+pub unit_worth : (v : Valuation) (u : Term) → worth v (unit_form u).parts =ℚ v u
 unit_worth v u = solve (v u ∷ []) (Literal (pos 1) ⊗ Atom 0 ⊕ Literal (pos 0)) (Atom 0) refl
 
 -- this unit is worth 1, and each other one nothing
@@ -92,10 +92,10 @@ module _ (fs : List (List Part)) (nonbasic : ℕ → Bool) where
   -- ---- Sums of rows
 
   -- a multiple of a row is added to coefficients
-  added-zero : (m : ℕ) (c d e : Coefficients) (s : Fraction) → IsZeroAtBasic nonbasic c → IsRow fs nonbasic m d → ((k : ℕ) → e k =ℚ (c k +ℚ s *ℚ d k)) → IsZeroAtBasic nonbasic e
+  pub added-zero : (m : ℕ) (c d e : Coefficients) (s : Fraction) → IsZeroAtBasic nonbasic c → IsRow fs nonbasic m d → ((k : ℕ) → e k =ℚ (c k +ℚ s *ℚ d k)) → IsZeroAtBasic nonbasic e
   added-zero m c d e s z r h k b = h k ∙ℚ nonbasic-plus fs nonbasic c d s z r.at_basic k b
 
-  added-mix : (m : ℕ) (c d e : Coefficients) (s : Fraction) → IsRow fs nonbasic m d → ((k : ℕ) → e k =ℚ (c k +ℚ s *ℚ d k)) → (v : Valuation) → mix fs e v =ℚ (mix fs c v +ℚ s *ℚ worth v (form_at fs m))
+  pub added-mix : (m : ℕ) (c d e : Coefficients) (s : Fraction) → IsRow fs nonbasic m d → ((k : ℕ) → e k =ℚ (c k +ℚ s *ℚ d k)) → (v : Valuation) → mix fs e v =ℚ (mix fs c v +ℚ s *ℚ worth v (form_at fs m))
   added-mix m c d e s r h v =
       let y : Coefficients = λ k. worth v (form_at fs k) in
       weighted-same (length fs) y e (λ k. c k +ℚ s *ℚ d k) h
@@ -103,9 +103,9 @@ module _ (fs : List (List Part)) (nonbasic : ℕ → Bool) where
       ∙ℚ plus_right (mix fs c v) (times_right s (=ℚ_sym (r.equal v)))
 
   -- coefficients that sum to a list of parts
-  record Spans (ps : List Part) (c : Coefficients) : Type 0 where
-    at_basic : IsZeroAtBasic nonbasic c
-    equal : (v : Valuation) → worth v ps =ℚ mix fs c v
+  pub record Spans (ps : List Part) (c : Coefficients) : Type 0 where
+    pub at_basic : IsZeroAtBasic nonbasic c
+    pub equal : (v : Valuation) → worth v ps =ℚ mix fs c v
 
   spanned : IsBasis fs nonbasic → (ps : List Part) → HasItsUnits fs ps → (c : Coefficients) × Spans ps c
   spanned b [] h = (

@@ -1,12 +1,12 @@
 -- Check steps: what is exchanged may be, and the values after it.
 use Rattle.std.proofs.Common.{◌≡◌, ℕ, ◌<◌, Bool, true, false, ◌⊎◌, inl, inr, [], ◌∷◌, length, Some, None, pos, negsuc, refl, sym, ap, ◌∙◌, subst, true≢false}
-use Rattle.std.specs.Prelude.{◌==◌, if◌then◌else◌, ◌≢◌, unwrap_or, is_some}
+use Rattle.std.specs.Prelude.{◌==◌, if◌then◌else◌, ◌≢◌, ◌↔◌, unwrap_or, is_some}
 use Rattle.nz_ints.proofs.Ring.{Atom, Literal, ◌⊕◌, ◌⊗◌, Minus}
 use Rattle.nz_spec.specs.Fraction.{Fraction, whole, ◌=ℚ◌, ◌<ℚ◌, ◌+ℚ◌, ◌-ℚ◌, neg_ℚ, ◌*ℚ◌}
 use Rattle.nz_spec.specs.Infinitesimal.{Infinitesimal, ◌+δ◌, ◌-δ◌, scaled}
 use Rattle.nz_spec.specs.Term.{is_zero}
-use Rattle.nz_spec.specs.Basis.{Coefficients, weighted, IsRow, IsBasis, IsCoefficient, alone}
-use Rattle.nz_spec.specs.BasisMoves.{exchanged, MayExchange}
+use Rattle.nz_spec.specs.Basis.{Coefficients, weighted, IsRow, IsBasis, IsCoefficient, alone, IsSolution}
+use Rattle.nz_spec.specs.BasisMoves.{AreRows, exchange, exchanged, MayExchange}
 use Rattle.nz_spec.specs.Bland.{Point, is_nonbasic, zero_infinitesimal, value_in, Position, HasBasis, HasValue, Side, other_side, HasRoom, CanHelp, exchanged_point, IsCheckStep, CheckStepsKeepBasis}
 use Rattle.nz_spec.proofs.FractionLaws.{=ℚ_refl, =ℚ-from_same, =ℚ_sym, ≤ℚ-from_eq, <ℚ_irrefl}
 use Rattle.nz_spec.proofs.FractionOrder.{same-fraction_eq}
@@ -15,7 +15,7 @@ use Rattle.nz_spec.proofs.FormValues.{zero_times}
 use Rattle.nz_spec.proofs.FractionSolver.{◌∙ℚ◌, solve, times_left, times_right}
 use Rattle.nz_spec.proofs.BasisSums.{sum-same, sum-plus, sum-single}
 use Rattle.nz_spec.proofs.BasisRows.{weighted-same, weighted-alone, equal-number, other-number, same-number, nonbasic_form_is_itself}
-use Rattle.nz_spec.proofs.BasisExchange.{row-sum_stays, nonzero_at, exchange_keeps_basis}
+use Rattle.nz_spec.proofs.BasisExchange.{row-sum_stays, nonzero_at, exchange_keeps_basis, solutions_stay}
 
 -- a coefficient above or below 0 isn't 0
 signed-nonzero : (q : Fraction) → (whole (pos 0) <ℚ q) ⊎ (q <ℚ whole (pos 0)) → is_zero q ≡ false
@@ -208,9 +208,20 @@ module _ (s t : Position) (i j : ℕ) (b : HasBasis s) (step : IsCheckStep s t i
         };
       }
 
+-- a step leaves the same solutions
+pub step-solutions : (s t : Position) (i j : ℕ) → HasBasis s → IsCheckStep s t i j → (y : Coefficients) → IsSolution s.forms (is_nonbasic s.point) y ↔ IsSolution t.forms (is_nonbasic t.point) y
+step-solutions s t i j b step y =
+    subst (λ (u : Position). IsSolution s.forms (is_nonbasic s.point) y ↔ IsSolution u.forms (is_nonbasic u.point) y) (sym step.after)
+    (subst (λ (test : ℕ → Bool). IsSolution s.forms (is_nonbasic s.point) y ↔ IsSolution s.forms test y) (tests s t i j b step)
+    (solutions_stay.exchange s.forms (is_nonbasic s.point) i j b (may s t i j b step) y))
+
 pub check_steps_keep_basis : CheckStepsKeepBasis
 check_steps_keep_basis = record {
   basis = λ s t i j b step. subst (λ (u : Position). HasBasis u) (sym step.after) (next-basis s t i j b step);
+  rows = λ s t i j rows b step are.
+      subst (λ (u : Position). AreRows u.forms (is_nonbasic u.point) (exchange (length s.forms) (is_nonbasic s.point) rows i j).result) (sym step.after)
+      (subst (λ (test : ℕ → Bool). AreRows s.forms test (exchange (length s.forms) (is_nonbasic s.point) rows i j).result) (tests s t i j b step)
+      (exchange_keeps_basis.rows s.forms (is_nonbasic s.point) rows i j b (may s t i j b step) are));
   stands = λ s t i j b step. subst (λ (u : Position). HasValue u i step.bound) (sym step.after) (next-stands s t i j b step);
   moves = λ s t i j r v w q b step p hv hw c.
       subst (λ (u : Position). HasValue u r (v +δ scaled (step.bound -δ w) q)) (sym step.after)

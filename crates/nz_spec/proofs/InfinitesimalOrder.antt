@@ -1,7 +1,7 @@
 -- The order of infinitesimals, as `infinitesimal_cmp` tells it: chains, sums and multiples.
 use Rattle.std.proofs.Common.{◌≡◌, true, false, pos, refl, sym, ap, ap₂, ◌∙◌, true≢false, Ordering, Less, Equal, Greater}
-use Rattle.std.specs.Ordering.{ordering_then, ordering_reverse, is_gt}
-use Rattle.std.specs.Cmp.{IsTotalOrder, upto, alike_right}
+use Rattle.std.specs.Ordering.{ordering_then, ordering_reverse, is_gt, is_lt}
+use Rattle.std.specs.Cmp.{IsTotalOrder, upto, tied_itself, alike_right}
 use Rattle.std.proofs.lemmas.Cmp.{on_total, then_total}
 use Rattle.nz_spec.specs.Fraction.{Fraction, whole, ◌=ℚ◌, ◌<ℚ◌, ◌+ℚ◌, ◌*ℚ◌, fraction_cmp}
 use Rattle.nz_spec.specs.Infinitesimal.{Infinitesimal, ◌=δ◌, infinitesimal_cmp}
@@ -46,6 +46,18 @@ less-at_most x y z k h = by_order (infinitesimal_cmp y z) refl h
     by_order Less e g = infinitesimal_total.trans x y z k e
     by_order Equal e g = sym (alike_right infinitesimal_total y z x e) ∙ k
     by_order Greater e g = absurd (true≢false g)
+
+pub never_less : (x : Infinitesimal) → infinitesimal_cmp x x ≡ Less → ⊥
+never_less x h = true≢false (sym (ap is_lt h) ∙ ap is_lt (tied_itself infinitesimal_total x))
+
+pub at_most-from_less : (x y : Infinitesimal) → infinitesimal_cmp x y ≡ Less → AtMost x y
+at_most-from_less x y h = ap is_gt h
+
+pub less-at_most_too : (x y z : Infinitesimal) → infinitesimal_cmp x y ≡ Less → AtMost y z → AtMost x z
+less-at_most_too x y z h k = at_most-from_less x z (less-at_most x y z h k)
+
+pub at_most-less_too : (x y z : Infinitesimal) → AtMost x y → infinitesimal_cmp y z ≡ Less → AtMost x z
+at_most-less_too x y z h k = at_most-from_less x z (at_most-less x y z h k)
 
 -- ---- Equal values
 

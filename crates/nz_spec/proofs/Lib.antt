@@ -5,7 +5,12 @@ pub mod BasisExchange
 pub mod BasisJoins
 pub mod BasisRows
 pub mod BasisSums
+pub mod BasisValues
+pub mod BlandBounds
+pub mod BlandCounts
+pub mod BlandPositions
 pub mod BlandRefutes
+pub mod BlandReturns
 pub mod BlandSteps
 pub mod BlandValues
 pub mod ByteClasses

@@ -67,6 +67,14 @@ pub record IsCoefficient (fs : List (List Part)) (nonbasic : ℕ → Bool) (i j 
   pub is_row : IsRow fs nonbasic i row
   pub at : row j =ℚ q
 
+-- These values of the forms fit the basis: each form's is the sum of the nonbasic ones' with its coefficients.
+abbrev pub IsSolution : List (List Part) → (ℕ → Bool) → (ℕ → Fraction) → Type 0
+IsSolution fs nonbasic y = (i : ℕ) (c : Coefficients) → i < length fs → IsRow fs nonbasic i c → y i =ℚ weighted (length fs) c y
+
+-- 1 at one form
+abbrev pub alone : ℕ → Coefficients
+alone i k = if k == i then whole (pos 1) else whole (pos 0)
+
 -- ---- Laws
 
 -- Only the zero coefficients sum to nothing.
@@ -82,10 +90,7 @@ pub record CoefficientsAreUnique : Type 0 where
   pub basis : (fs : List (List Part)) (nonbasic : ℕ → Bool) → ((i : ℕ) → HasItsUnits fs (form_at fs i)) → ((k : ℕ) → nonbasic k ≡ true → k < length fs)
       → ((i : ℕ) → i < length fs → (c : Coefficients) × IsRow fs nonbasic i c) → AreIndependent fs nonbasic → IsBasis fs nonbasic
 
--- the coefficients of a nonbasic form: 1 at the form itself
-abbrev pub alone : ℕ → Coefficients
-alone i k = if k == i then whole (pos 1) else whole (pos 0)
-
+-- A nonbasic form is the sum of itself.
 abbrev pub NonbasicFormIsItself : Type 0
 NonbasicFormIsItself = (fs : List (List Part)) (nonbasic : ℕ → Bool) (i : ℕ) → IsBasis fs nonbasic → nonbasic i ≡ true → IsRow fs nonbasic i (alone i)
 

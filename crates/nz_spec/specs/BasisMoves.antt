@@ -8,7 +8,7 @@ use Rattle.nz_spec.specs.Fraction.{Fraction, whole, ◌=ℚ◌, neg_ℚ, Sum, Pr
 use Rattle.nz_spec.specs.Computation.{Computation, at_once, and_then}
 use Rattle.nz_spec.specs.Term.{Term, Assignment, is_zero}
 use Rattle.nz_spec.specs.Form.{Part, unit_form, parts_value}
-use Rattle.nz_spec.specs.Basis.{weighted, Valuation, worth, form_at, Coefficients, IsRow, HasItsUnits, IsBasis, IsCoefficient}
+use Rattle.nz_spec.specs.Basis.{Valuation, worth, form_at, Coefficients, IsRow, HasItsUnits, IsBasis, IsCoefficient, IsSolution}
 
 -- ---- Numbers and rows
 
@@ -52,7 +52,8 @@ pub record MayExchange (fs : List (List Part)) (nonbasic : ℕ → Bool) (i j : 
   pub at : IsCoefficient fs nonbasic i j coefficient
   pub nonzero : is_zero coefficient ≡ false
 
--- The equation i = a_j j + .. a_k k .. is solved for j: 1/a_j at i, and -(a_k/a_j) at each other k. A number's negation is one.
+-- The equation i = a_j*j + .. + a_k*k + .. is solved for j: 1/a_j at i, and -(a_k/a_j) at each other k. To negate
+-- never leaves the numbers.
 abbrev pub solved : List ℕ → ℕ → ℕ → Coefficients → Computation Coefficients
 solved ks i j a = record {
   result = λ k.
@@ -64,7 +65,7 @@ solved ks i j a = record {
       ∷ map (λ k. let x : Operation = record { operator = Quotient; left = a k; right = a j } in x) ks;
 }
 
--- Where a row has a coefficient at j, what j was solved to stands in place of it.
+-- Where a row has a coefficient at j, what j was solved to stands in place of it; at i, which is new there, 0 stood before.
 abbrev pub replaced : List ℕ → ℕ → Coefficients → Coefficients → Computation Coefficients
 replaced ks j q c =
     if is_zero (c j) then at_once c
@@ -128,16 +129,17 @@ pub record ExchangeKeepsBasis : Type 0 where
   pub rows : (fs : List (List Part)) (nonbasic : ℕ → Bool) (rows : Rows) (i j : ℕ) → IsBasis fs nonbasic → MayExchange fs nonbasic i j → AreRows fs nonbasic rows
       → AreRows fs (exchanged nonbasic i j) (exchange (length fs) nonbasic rows i j).result
 
--- These values of the forms fit the basis: each form's is the sum of the nonbasic ones' with its coefficients.
-abbrev pub IsSolution : List (List Part) → (ℕ → Bool) → (ℕ → Fraction) → Type 0
-IsSolution fs nonbasic y = (i : ℕ) (c : Coefficients) → i < length fs → IsRow fs nonbasic i c → y i =ℚ weighted (length fs) c y
-
 -- The values of the forms under an assignment fit every basis, and an exchange leaves the same solutions.
 pub record SolutionsStay : Type 0 where
   pub worth : (fs : List (List Part)) (nonbasic : ℕ → Bool) (v : Valuation) → IsSolution fs nonbasic (λ k. worth v (form_at fs k))
   pub values : (fs : List (List Part)) (nonbasic : ℕ → Bool) (a : Assignment) → IsSolution fs nonbasic (λ k. parts_value a (form_at fs k))
   pub exchange : (fs : List (List Part)) (nonbasic : ℕ → Bool) (i j : ℕ) → IsBasis fs nonbasic → MayExchange fs nonbasic i j
       → (y : ℕ → Fraction) → IsSolution fs nonbasic y ↔ IsSolution fs (exchanged nonbasic i j) y
+
+-- Values that fit a basis are those of the forms where each unit is worth what the form of its number has.
+abbrev pub SolutionsAreWorth : Type 0
+SolutionsAreWorth = (fs : List (List Part)) (nonbasic : ℕ → Bool) (number : Term → ℕ) (y : ℕ → Fraction) (k : ℕ) → IsBasis fs nonbasic → IsSolution fs nonbasic y
+    → k < length fs → AreNumbered fs number (form_at fs k) → worth (λ u. y (number u)) (form_at fs k) =ℚ y k
 
 -- The empty list is a basis. A new unit joins as nonbasic, and a form over units of the list as basic, with the row that is computed; the rows that were there stay.
 pub record JoinsKeepBasis : Type 0 where

@@ -2,15 +2,15 @@
 -- form can be, the bounds contradict.
 -- Source: Dutertre and de Moura, A Fast Linear-Arithmetic Solver for DPLL(T), CAV 2006, sections 3 to 5 (checking, conflicts,
 -- strict bounds). The order of a value's operations is this solver's own.
-use Rattle.std.specs.Prelude.{◌≡◌, ℕ, ◌<◌, ◌==◌, Bool, true, false, ◌&&◌, ◌⊎◌, List, [], ◌∷◌, length, Option, Some, None, option_map, unwrap_or, is_some, pos, if◌then◌else◌}
+use Rattle.std.specs.Prelude.{◌≡◌, ℕ, ◌<◌, ◌==◌, Bool, true, false, ◌&&◌, ◌⊎◌, List, [], ◌∷◌, length, Option, Some, None, option_map, unwrap_or, is_some, pos, negsuc, ◌↔◌, if◌then◌else◌}
 use Rattle.std.specs.declared.cmp.Ordering.TheVariants.{Less}
-use Rattle.nz_spec.specs.Fraction.{Fraction, whole, ◌<ℚ◌, fraction_eq, Sum, Product}
-use Rattle.nz_spec.specs.Infinitesimal.{Infinitesimal, ◌=δ◌, infinitesimal_cmp, ◌+δ◌, ◌-δ◌, scaled}
+use Rattle.nz_spec.specs.Fraction.{Fraction, whole, ◌≤ℚ◌, ◌<ℚ◌, fraction_eq, Sum, Product}
+use Rattle.nz_spec.specs.Infinitesimal.{Infinitesimal, ◌=δ◌, infinitesimal_cmp, ◌+δ◌, ◌-δ◌, scaled, at}
 use Rattle.nz_spec.specs.Computation.{Computation, operated, at_once, turned_into, and_then}
 use Rattle.nz_spec.specs.Term.{Assignment}
 use Rattle.nz_spec.specs.Form.{Part, parts_value}
-use Rattle.nz_spec.specs.Basis.{form_at, Coefficients, weighted, IsZeroAtBasic, IsRow, IsBasis, IsCoefficient}
-use Rattle.nz_spec.specs.BasisMoves.{numbers}
+use Rattle.nz_spec.specs.Basis.{form_at, Coefficients, weighted, IsZeroAtBasic, IsRow, IsBasis, IsCoefficient, IsSolution}
+use Rattle.nz_spec.specs.BasisMoves.{numbers, Rows, AreRows, exchange}
 
 -- ---- Points
 
@@ -99,6 +99,10 @@ abbrev pub IsInside : Side → Infinitesimal → Infinitesimal → Type 0
 IsInside lower_side bound x = bound <δ x
 IsInside upper_side bound x = x <δ bound
 
+-- the nonbasic forms break no bound
+abbrev pub NonbasicFormsFit : Position → Type 0
+NonbasicFormsFit s = (side : Side) (k : ℕ) (bound : Infinitesimal) → is_nonbasic s.point k ≡ true → bound_on side s k ≡ Some bound → IsOutside side bound (value_in s.point k) → ⊥
+
 -- ---- Where nonbasic forms stand
 
 pub data Stand : Type 0 where
@@ -159,7 +163,8 @@ pub record IsCheckStep (s t : Position) (i j : ℕ) : Type 0 where
 abbrev pub MeetsBounds : Position → (ℕ → Infinitesimal) → Type 0
 MeetsBounds s y = (side : Side) (k : ℕ) (bound : Infinitesimal) → k < length s.forms → bound_on side s k ≡ Some bound → IsOutside side bound (y k) → ⊥
 
--- Form i can't meet its bound of this side: its row, over bounds that hold back the nonbasic forms in it, falls short of that bound.
+-- Form i can't meet its bound of this side: the bounds that hold back the nonbasic forms, with the coefficients of its row for
+-- multipliers, fall short of that bound.
 pub record IsRefutation (s : Position) (i : ℕ) (side : Side) (bound : Infinitesimal) (row : Coefficients) (bounds : ℕ → Infinitesimal) : Type 0 where
   pub listed : i < length s.forms
   pub is_row : IsRow s.forms (is_nonbasic s.point) i row
@@ -168,20 +173,52 @@ pub record IsRefutation (s : Position) (i : ℕ) (side : Side) (bound : Infinite
   pub below_zero : (k : ℕ) → row k <ℚ whole (pos 0) → bound_on side s k ≡ Some (bounds k)
   pub short : IsOutside side bound (sum_at (length s.forms) row bounds)
 
+-- ---- Bounds of fractions
+
+abbrev pub standing : Fraction → Infinitesimal
+standing q = record { standard = q; coefficient = whole (pos 0) }
+
+-- at most q, or below it: what is below is at most q less an infinitesimal
+abbrev pub at_most_bound : Bool → Fraction → Infinitesimal
+at_most_bound strict q = record { standard = q; coefficient = if strict then whole (negsuc 0) else whole (pos 0) }
+
+-- at least q, or above it
+abbrev pub at_least_bound : Bool → Fraction → Infinitesimal
+at_least_bound strict q = record { standard = q; coefficient = if strict then whole (pos 1) else whole (pos 0) }
+
 -- ---- Laws
+
+-- What a bound says of a fraction: it breaks the bound just where it isn't at most q, below q, at least q, or above q.
+pub record BoundsSayWhatTheyMean : Type 0 where
+  pub at_most : (p q : Fraction) → IsOutside upper_side (at_most_bound false q) (standing p) ↔ (q <ℚ p)
+  pub below : (p q : Fraction) → IsOutside upper_side (at_most_bound true q) (standing p) ↔ (q ≤ℚ p)
+  pub at_least : (p q : Fraction) → IsOutside lower_side (at_least_bound false q) (standing p) ↔ (p <ℚ q)
+  pub above : (p q : Fraction) → IsOutside lower_side (at_least_bound true q) (standing p) ↔ (p ≤ℚ q)
 
 -- A value that is computed has the value of the sum.
 abbrev pub ValueIsComputed : Type 0
 ValueIsComputed = (n : ℕ) (c : Coefficients) (x : Point) → IsZeroAtBasic (is_nonbasic x) c → (row_value n c x).result =δ sum_at n c (value_in x)
+
+-- Each form has one value at a position. The values of all forms fit the basis, with any fraction for δ. Where no form breaks a
+-- bound, these values meet the bounds.
+pub record PositionsHaveValues : Type 0 where
+  pub some : (s : Position) → HasBasis s → (y : ℕ → Infinitesimal) × ((k : ℕ) → k < length s.forms → HasValue s k (y k))
+  pub one : (s : Position) (k : ℕ) (x y : Infinitesimal) → HasBasis s → k < length s.forms → HasValue s k x → HasValue s k y → x =δ y
+  pub fit : (s : Position) (y : ℕ → Infinitesimal) (e : Fraction) → HasBasis s → ((k : ℕ) → k < length s.forms → HasValue s k (y k)) → IsSolution s.forms (is_nonbasic s.point) (λ k. at (y k) e)
+  pub feasible : (s : Position) (y : ℕ → Infinitesimal) → HasBasis s → ((k : ℕ) → k < length s.forms → HasValue s k (y k)) → NonbasicFormsFit s
+      → ((side : Side) (bound : Infinitesimal) (i : ℕ) → Breaks s side bound i → ⊥) → MeetsBounds s y
 
 -- Where one value moves, a sum moves by its coefficient there.
 abbrev pub SumMoves : Type 0
 SumMoves = (n : ℕ) (c : Coefficients) (x y : ℕ → Infinitesimal) (j : ℕ) → j < n → ((k : ℕ) → (k ≡ j → ⊥) → y k =δ x k)
     → sum_at n c y =δ (sum_at n c x +δ scaled (y j -δ x j) (c j))
 
--- A check step leads from basis to basis. The form that left stands at its bound, and each other form moves by its coefficient there.
+-- A check step leads from basis to basis, and its rows are those that are computed. The form that left stands at its bound, and each
+-- other form moves by its coefficient there.
 pub record CheckStepsKeepBasis : Type 0 where
   pub basis : (s t : Position) (i j : ℕ) → HasBasis s → IsCheckStep s t i j → HasBasis t
+  pub rows : (s t : Position) (i j : ℕ) (rows : Rows) → HasBasis s → IsCheckStep s t i j → AreRows s.forms (is_nonbasic s.point) rows
+      → AreRows t.forms (is_nonbasic t.point) (exchange (length s.forms) (is_nonbasic s.point) rows i j).result
   pub stands : (s t : Position) (i j : ℕ) → HasBasis s → (step : IsCheckStep s t i j) → HasValue t i step.bound
   pub moves : (s t : Position) (i j r : ℕ) (v w : Infinitesimal) (q : Fraction) → HasBasis s → (step : IsCheckStep s t i j) → r < length s.forms
       → HasValue s r v → HasValue s i w → IsCoefficient t.forms (is_nonbasic t.point) r i q → HasValue t r (v +δ scaled (step.bound -δ w) q)
@@ -194,4 +231,4 @@ pub record NoHelpRefutes : Type 0 where
   pub refutes : (s : Position) (i : ℕ) (side : Side) (bound : Infinitesimal) (row : Coefficients) (bounds : ℕ → Infinitesimal) → IsRefutation s i side bound row bounds
       → (y : ℕ → Infinitesimal) → y i =δ sum_at (length s.forms) row y → MeetsBounds s y → ⊥
   pub assignments : (s : Position) (i : ℕ) (side : Side) (bound : Infinitesimal) (row : Coefficients) (bounds : ℕ → Infinitesimal) → IsRefutation s i side bound row bounds
-      → (a : Assignment) → MeetsBounds s (λ k. record { standard = parts_value a (form_at s.forms k); coefficient = whole (pos 0) }) → ⊥
+      → (a : Assignment) → MeetsBounds s (λ k. standing (parts_value a (form_at s.forms k))) → ⊥

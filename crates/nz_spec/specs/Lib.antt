@@ -2,6 +2,7 @@ pub mod Argument
 pub mod Basis
 pub mod BasisMoves
 pub mod Bland
+pub mod BlandRuns
 pub mod Bounds
 pub mod Command
 pub mod Computation

@@ -1,7 +1,8 @@
 //! Laws of bases of linear forms.
 ghost use Rattle.nz_spec.specs.Basis.{CoefficientsAreUnique, NonbasicFormIsItself, ValueIsWorth};
-ghost use Rattle.nz_spec.specs.BasisMoves.{ExchangeKeepsBasis, JoinsKeepBasis, SolutionsStay, ZerosAreNeverWide};
-ghost use Rattle.nz_spec.specs.Bland.{CheckStepsKeepBasis, NoHelpRefutes, SumMoves, ValueIsComputed};
+ghost use Rattle.nz_spec.specs.BasisMoves.{ExchangeKeepsBasis, JoinsKeepBasis, SolutionsAreWorth, SolutionsStay, ZerosAreNeverWide};
+ghost use Rattle.nz_spec.specs.Bland.{BoundsSayWhatTheyMean, CheckStepsKeepBasis, NoHelpRefutes, PositionsHaveValues, SumMoves, ValueIsComputed};
+ghost use Rattle.nz_spec.specs.BlandRuns.{NoPostureReturns, RunsAreShort};
 ghost use Rattle.nz_spec.specs.WorkedBasis.{HasExchange, HasJoiningRow};
 
 /// Coefficients over a basis are unique.
@@ -54,6 +55,26 @@ pub fn no_help_refutes()
     ensures refutes { NoHelpRefutes }
 {}
 
+/// A run of check steps has fewer steps than there are postures.
+pub fn runs_are_short()
+    ensures short { RunsAreShort }
+{}
+
+/// Each form has one value at a position, and the values of all forms fit the basis.
+pub fn positions_have_values()
+    ensures values { PositionsHaveValues }
+{}
+
+/// Values that fit a basis are those of its forms, where the units are worth their own.
+pub fn solutions_are_worth()
+    ensures worth { SolutionsAreWorth }
+{}
+
+/// What bounds say of fractions.
+pub fn bounds_say_what_they_mean()
+    ensures mean { BoundsSayWhatTheyMean }
+{}
+
 /// Forms that join two units, and an exchange, by the definitions alone.
 pub fn worked_basis()
     ensures joining { HasJoiningRow }
@@ -63,4 +84,9 @@ pub fn worked_basis()
 /// Beside 0 no operation leaves the numbers.
 pub fn zeros_are_never_wide()
     ensures zeros { ZerosAreNeverWide }
+{}
+
+/// In a run of check steps no posture returns.
+pub fn no_posture_returns()
+    ensures returns { NoPostureReturns }
 {}
