@@ -238,7 +238,7 @@ fn fitting_term(terms: &mut Terms, head: Head<'_>) -> Result<Found, Memory>
     ensures grows { Grows terms.old terms.new }
     ensures within { IfOk result (IsFoundWithin terms.new) }
     ensures names { IfOk result (λ f. TellsNames (fault_in f) false false) }
-    ensures found { IfOk result (λ f. IsFound f (if head_fits (head_of head) then Some (spec.apply (head_of head) spec.no_terms) else None) terms.new) }
+    ensures found { IfOk result (λ f. IsFound f (if head_fits (head_of head.entry) then Some (spec.apply (head_of head.entry) spec.no_terms) else None) terms.new) }
 {
     if !head.fits() {
         return Ok(Found::Fault(Fault::Sort));

@@ -77,7 +77,7 @@ fn clause_over(
     kids: &[TermId],
     j: usize,
 ) -> Result<Gate, Memory>
-    ensures clause { IfOk result (λ c. option_map (λ v. v.items) c ≡ slice_get (gates_over term (head_of head) kids.now) j) }
+    ensures clause { IfOk result (λ c. option_map (λ v. v.items) c ≡ slice_get (gates_over term (head_of head.entry) kids.now) j) }
 {
     let Head::Operator(operator) = head else {
         return Ok(None);

@@ -1,5 +1,5 @@
 -- What a leaf of the code is.
-use Rattle.std.specs.Prelude.{◌≡◌, ℕ, ◌<◌, Bool, List, length, slice_get, Some}
+use Rattle.std.specs.Prelude.{◌≡◌, ℕ, ◌<◌, ◌≤◌, Bool, List, length, slice_get}
 use Rattle.std.specs.List.{IsDistinct}
 use Rattle.nz_spec.specs.Term as spec
 use Rattle.nz_spec.specs.Term.{constant, parameter, integer, decimal_number}
@@ -31,4 +31,4 @@ AreDistinctLeaves ls = IsDistinct are_same_leaf ls
 
 -- Each leaf keeps its place.
 abbrev pub AreKept : List Leaf → List Leaf → Type 0
-AreKept old new = (i : ℕ) (l : Leaf) → slice_get old i ≡ Some l → slice_get new i ≡ Some l
+AreKept old new = (length old ≤ length new) × ((i : ℕ) → i < length old → slice_get new i ≡ slice_get old i)

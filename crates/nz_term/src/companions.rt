@@ -46,7 +46,7 @@ fn make_companion(alloc: Global, terms: &mut Terms, id: TermId) -> Result<(), Me
 
 /// The head of what a term list has just before a term of this head.
 pub(crate) fn companion_head(head: Head<'_>) -> Option<Head<'static>>
-    ensures companion { option_map head_of result ≡ companion_head (head_of head) }
+    ensures companion { option_map head_of result ≡ companion_head (head_of head.entry) }
 {
     match head {
         Head::Operator(Operator::Mod) => Some(Head::Operator(Operator::Div)),

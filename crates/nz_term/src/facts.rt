@@ -29,7 +29,7 @@ pub(crate) struct Fact {
 pub(crate) fn fact_over(facts: &Facts, head: Head<'_>, kids: &[TermId]) -> Fact
     requires within { All (λ k. k < length facts.now) kids.now }
     requires fits { IsTrue (head_fits (head_of head)) }
-    ensures fact { (ts : List Term) → facts.now ≡ map fact_of ts → result ≡ fact_of (apply (head_of head) (terms_at (listed_term ts) kids.now)) }
+    ensures fact { (ts : List Term) → facts.now ≡ map fact_of ts → result ≡ fact_of (apply (head_of head.entry) (terms_at (listed_term ts) kids.now)) }
 {
     Fact {
         constant: constant_over(facts, head, kids),
@@ -42,7 +42,7 @@ pub(crate) fn fact_over(facts: &Facts, head: Head<'_>, kids: &[TermId]) -> Fact
 fn constant_over(facts: &Facts, head: Head<'_>, kids: &[TermId]) -> Option<Frac>
     requires within { All (λ k. k < length facts.now) kids.now }
     requires fits { IsTrue (head_fits (head_of head)) }
-    ensures constant { result ≡ head_constant (head_of head) (constants_at facts.now kids.now) }
+    ensures constant { result ≡ head_constant (head_of head.entry) (constants_at facts.now kids.now) }
 {
     match head {
         Head::Integer(n) => integer(n),
@@ -165,7 +165,7 @@ fn operation(op: Op, left: Frac, right: Frac) -> Option<Frac>
 /// Whether the term of this head over these terms is linear.
 fn is_linear_over(facts: &Facts, head: Head<'_>, kids: &[TermId]) -> bool
     requires within { All (λ k. k < length facts.now) kids.now }
-    ensures linear { result ≡ (is_linear_node (head_of head) (constants_at facts.now kids.now) && are_linear_at facts.now kids.now) }
+    ensures linear { result ≡ (is_linear_node (head_of head.entry) (constants_at facts.now kids.now) && are_linear_at facts.now kids.now) }
 {
     is_linear_head(facts, head, kids) && are_linear(facts, kids)
 }
@@ -173,7 +173,7 @@ fn is_linear_over(facts: &Facts, head: Head<'_>, kids: &[TermId]) -> bool
 /// Whether a head is linear over these terms, apart from what they are made of.
 fn is_linear_head(facts: &Facts, head: Head<'_>, kids: &[TermId]) -> bool
     requires within { All (λ k. k < length facts.now) kids.now }
-    ensures linear { result ≡ is_linear_node (head_of head) (constants_at facts.now kids.now) }
+    ensures linear { result ≡ is_linear_node (head_of head.entry) (constants_at facts.now kids.now) }
 {
     match head {
         Head::Operator(operator) => is_linear_operator(facts, operator, kids),
@@ -257,7 +257,7 @@ fn are_linear(facts: &Facts, kids: &[TermId]) -> bool
 /// Whether the term of this head over these terms, or one that it is made of, is numeric.
 fn holds_number_over(facts: &Facts, head: Head<'_>, kids: &[TermId]) -> bool
     requires within { All (λ k. k < length facts.now) kids.now }
-    ensures holds { result ≡ (is_numeric (head_of head) || hold_number_at facts.now kids.now) }
+    ensures holds { result ≡ (is_numeric (head_of head.entry) || hold_number_at facts.now kids.now) }
 {
     head.is_numeric() || hold_number(facts, kids)
 }

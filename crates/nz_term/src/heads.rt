@@ -199,7 +199,7 @@ pub enum Head<'a> {
 impl<'a> Head<'a> {
     /// The sort of a term of this head.
     pub fn sort(self) -> Sort
-        ensures sort { sort_of result ≡ head_sort (head_of self) }
+        ensures sort { sort_of result ≡ head_sort (head_of self.entry) }
     {
         match self {
             Head::Constant(constant) => constant.sort,
@@ -213,7 +213,7 @@ impl<'a> Head<'a> {
     /// Whether what is spelled as a number is one: a numeral is at most 2^127 - 1, and so are the digits of a decimal, of which at
     /// most 38 stand after the point. Every other head fits.
     pub fn fits(self) -> bool
-        ensures fits { result ≡ head_fits (head_of self) }
+        ensures fits { result ≡ head_fits (head_of self.entry) }
     {
         match self {
             Head::Integer(number) => number <= LARGEST,
@@ -224,7 +224,7 @@ impl<'a> Head<'a> {
 
     /// Whether the two are the same head.
     pub fn is(self, other: Head<'_>) -> bool
-        ensures same { result ≡ are_same_head (head_of self) (head_of other) }
+        ensures same { result ≡ are_same_head (head_of self.entry) (head_of other.entry) }
     {
         self.kind() == other.kind()
             && self.sort().number() == other.sort().number()
@@ -235,7 +235,7 @@ impl<'a> Head<'a> {
 
     /// Whether a term of this head is of sort `Int` or `Real`, or asks something of one that is.
     pub(crate) fn is_numeric(self) -> bool
-        ensures numeric { result ≡ is_numeric (head_of self) }
+        ensures numeric { result ≡ is_numeric (head_of self.entry) }
     {
         match self {
             Head::Operator(operator) => operator.is_numeric(),
@@ -245,8 +245,8 @@ impl<'a> Head<'a> {
 
     /// The same head, which borrows nothing; none of a constant.
     pub(crate) fn detached(self) -> Option<Head<'static>>
-        ensures same { IfSome result (λ head. head_of head ≡ head_of self) }
-        ensures constant { IfNone result (IsOperator (head_of self) → ⊥) }
+        ensures same { IfSome result (λ head. head_of head ≡ head_of self.entry) }
+        ensures constant { IfNone result (IsOperator (head_of self.entry) → ⊥) }
     {
         match self {
             Head::Constant(_) => None,
@@ -259,7 +259,7 @@ impl<'a> Head<'a> {
 
     /// A number that tells heads apart, whatever they hold.
     pub(crate) fn kind(self) -> u8
-        ensures kind { result ≡ head_kind (head_of self) }
+        ensures kind { result ≡ head_kind (head_of self.entry) }
     {
         match self {
             Head::Constant(_) => 0,
@@ -272,7 +272,7 @@ impl<'a> Head<'a> {
 
     /// The digits of a number; 0 for another head.
     pub(crate) fn digits(self) -> u128
-        ensures digits { result ≡ head_digits (head_of self) }
+        ensures digits { result ≡ head_digits (head_of self.entry) }
     {
         match self {
             Head::Integer(digits) | Head::Decimal(digits, _) => digits,
@@ -282,7 +282,7 @@ impl<'a> Head<'a> {
 
     /// The place of a parameter, or how many digits of a decimal stand after the point; 0 for another head.
     pub(crate) fn place(self) -> usize
-        ensures place { result ≡ head_place (head_of self) }
+        ensures place { result ≡ head_place (head_of self.entry) }
     {
         match self {
             Head::Parameter(place, _) | Head::Decimal(_, place) => place,
@@ -292,7 +292,7 @@ impl<'a> Head<'a> {
 
     /// The name of a constant; nothing for another head.
     pub(crate) fn name(self) -> &'a [u8]
-        ensures name { result.now ≡ head_name (head_of self) }
+        ensures name { result.now ≡ head_name (head_of self.entry) }
     {
         match self {
             Head::Constant(constant) => constant.name.as_bytes(),

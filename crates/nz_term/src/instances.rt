@@ -74,7 +74,7 @@ fn node_instance(
 
 /// What is put for a parameter that isn't past the end; nothing for another head.
 fn argument(head: Head<'_>, arguments: &[TermId]) -> Option<TermId>
-    ensures argument { result ≡ argument_of (head_of head) arguments.now }
+    ensures argument { result ≡ argument_of (head_of head.entry) arguments.now }
 {
     match head {
         Head::Parameter(place, _) => arguments.get(place).copied(),

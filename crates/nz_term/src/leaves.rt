@@ -73,7 +73,7 @@ pub(crate) enum Key {
 impl Key {
     /// The same head.
     pub(crate) fn of(head: Head<'_>) -> Result<Key, Memory>
-        ensures head { IfOk result (λ key. key_head key ≡ head_of head) }
+        ensures head { IfOk result (λ key. key_head key ≡ head_of head.entry) }
     {
         Ok(match head {
             Head::Constant(constant) => Key::Leaf(Leaf::Constant(constant.clone()?)),

@@ -145,9 +145,9 @@ impl Nodes {
         requires within { All (λ k. k < length self.old) kids.now }
         requires fits { IsTrue (head_fits (head_of head)) }
         requires leaves { HasItsArguments (head_of head) kids.now }
-        ensures goes_on { GoesOn self.old (node_with head kids.now) self.new }
+        ensures goes_on { GoesOn self.old (node_with head.entry kids.now) self.new }
         ensures table { IsTable self.new }
-        ensures node { IfOk result (λ id. slice_get self.new id ≡ Some (node_with head kids.now)) }
+        ensures node { IfOk result (λ id. slice_get self.new id ≡ Some (node_with head.entry kids.now)) }
         ensures unchanged { OnErr result (self.new ≡ self.old) }
     {
         tells_heads();
@@ -161,7 +161,7 @@ impl Nodes {
     pub(crate) fn find(&self, head: Head<'_>, kids: &[TermId]) -> Result<Option<TermId>, Memory>
         requires table { IsTable self.now }
         requires within { All (λ k. k < length self.now) kids.now }
-        ensures found { IfOk result (IsFound self.now (apply (head_of head) (terms_at (term_in self.now) kids.now))) }
+        ensures found { IfOk result (IsFound self.now (apply (head_of head.entry) (terms_at (term_in self.now) kids.now))) }
     {
         tells_heads();
         one_number();

@@ -57,9 +57,9 @@ impl Terms {
         requires within { All (λ k. k < length self.old) kids.now }
         requires fits { IsTrue (head_fits (head_of head)) }
         requires leaves { HasItsArguments (head_of head) kids.now }
-        ensures node { IfOk result (λ id. slice_get self.new id ≡ Some (node_with head kids.now)) }
-        ensures term { IfOk result (λ id. term_in self.new id ≡ apply (head_of head) (terms_at (term_in self.old) kids.now)) }
-        ensures grown { OnOk result ((self.new ≡ self.old) ⊎ (self.new ≡ self.old ++ node_with head kids.now ∷ [])) }
+        ensures node { IfOk result (λ id. slice_get self.new id ≡ Some (node_with head.entry kids.now)) }
+        ensures term { IfOk result (λ id. term_in self.new id ≡ apply (head_of head.entry) (terms_at (term_in self.old) kids.now)) }
+        ensures grown { OnOk result ((self.new ≡ self.old) ⊎ (self.new ≡ self.old ++ node_with head.entry kids.now ∷ [])) }
         ensures stays { KeepsTerms self.old self.new }
 
         // Equal terms have equal numbers, here and before.
@@ -84,7 +84,7 @@ impl Terms {
     fn known(&self, head: Head<'_>, kids: &[TermId]) -> Fact
         requires within { All (λ k. k < length self.now) kids.now }
         requires fits { IsTrue (head_fits (head_of head)) }
-        ensures known { result ≡ fact_of (apply (head_of head) (terms_at (term_in self.now) kids.now)) }
+        ensures known { result ≡ fact_of (apply (head_of head.entry) (terms_at (term_in self.now) kids.now)) }
     {
         fact_over(&self.facts, head, kids)
     }
@@ -93,7 +93,7 @@ impl Terms {
     /// key that it is looked up by.
     pub fn find(&self, head: Head<'_>, kids: &[TermId]) -> Result<Option<TermId>, Memory>
         requires within { All (λ k. k < length self.now) kids.now }
-        ensures found { IfOk result (IsFound self.now (apply (head_of head) (terms_at (term_in self.now) kids.now))) }
+        ensures found { IfOk result (IsFound self.now (apply (head_of head.entry) (terms_at (term_in self.now) kids.now))) }
     {
         self.nodes.find(head, kids)
     }
