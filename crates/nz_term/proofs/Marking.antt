@@ -1,11 +1,16 @@
 -- What is known of terms, as marks are put, cut and read.
-use Rattle.std.proofs.Common.{◌≡◌, ℕ, zero, suc, ◌+◌, ◌<◌, Bool, true, false, List, [], ◌∷◌, ◌++◌, length, take, get_or, Option, Some, None, refl, sym, ap, ◌∙◌, arith}
-use Rattle.std.specs.Prelude.{is_some, slice_index_or}
+use Rattle.std.proofs.Common.{◌≡◌, ℕ, zero, suc, ◌+◌, ◌<◌, Bool, true, false, List, [], ◌∷◌, ◌++◌, length, take, get_or, Option, Some, None, Result, Ok, Err, refl, sym, ap, ◌∙◌, arith}
+use Rattle.std.specs.Prelude.{OnErr, is_some, slice_index_or, if◌then◌else◌}
 use Rattle.nz_spec.specs.Fraction.{Fraction}
 use Rattle.nz_term.specs.declared.fact_table.Marks.{Marks}
 use Rattle.nz_term.specs.declared.facts.Fact.{Fact}
 use Rattle.nz_term.specs.Facts.{fact_at}
 use Rattle.nz_term.specs.Marks.{fact_by, facts_by}
+
+-- what holds in any case holds after an error
+pub on_err : {T E P : Type 0} (r : Result T E) → P → OnErr r P
+on_err (Ok x) h = tt
+on_err (Err e) h = h
 
 pub length-facts : (f : ℕ → Option Fraction) (j : ℕ) (ms : List Marks) → length (facts_by f j ms) ≡ length ms
 length-facts f j [] = refl
@@ -22,12 +27,18 @@ at_place f j (x ∷ ms) (suc i) d m below is =
     at_place f (suc j) ms i d m (omega arith) is ∙ ap (λ k. fact_by (f k) m) further
 
 pub read : (f : ℕ → Option Fraction) (ms : List Marks) (i : ℕ) (m : Marks) → i < length ms → m ≡ get_or ms i m → fact_at (facts_by f 0 ms) i ≡ fact_by (f i) m
-read f ms i m below is = at_place f 0 ms i _ m below is
+read f ms i m below is = let here : 0 + i ≡ i = omega arith in at_place f 0 ms i _ m below is ∙ ap (λ k. fact_by (f k) m) here
+
+pub constant_shown : (v : Option Fraction) (m : Marks) → m.is_constant ≡ true → v ≡ (fact_by v m).constant
+constant_shown v m e = sym (ap (λ b. if b then v else None) e)
+
+pub constant_hidden : (v : Option Fraction) (m : Marks) → m.is_constant ≡ false → None ≡ (fact_by v m).constant
+constant_hidden v m e = sym (ap (λ b. if b then v else None) e)
 
 -- ---- Putting and cutting
 
 -- values of later terms don't count
-agreeing : (f g : ℕ → Option Fraction) (j : ℕ) (ms : List Marks) → ((i : ℕ) → i < j + length ms → f i ≡ g i) → facts_by f j ms ≡ facts_by g j ms
+pub agreeing : (f g : ℕ → Option Fraction) (j : ℕ) (ms : List Marks) → ((i : ℕ) → i < j + length ms → f i ≡ g i) → facts_by f j ms ≡ facts_by g j ms
 agreeing f g j [] same = refl
 agreeing f g j (m ∷ ms) same =
     ap (λ v. fact_by v m ∷ facts_by f (suc j) ms) (same j (omega arith)) ∙ ap (λ l. fact_by (g j) m ∷ l) (agreeing f g (suc j) ms (λ i below. same i (omega arith)))
@@ -54,5 +65,7 @@ pub put : (f g : ℕ → Option Fraction) (ms : List Marks) (c : Option Fraction
     → facts_by g 0 (ms ++ record { is_constant = is_some c; is_linear = linear; holds_number = number } ∷ [])
     ≡ facts_by f 0 ms ++ record { constant = c; is_linear = linear; holds_number = number } ∷ []
 put f g ms c linear number same own =
-    one_more g 0 ms _ ∙ ap (λ x. facts_by g 0 ms ++ x ∷ []) (whole (g (length ms)) c linear number own)
-    ∙ ap (λ l. l ++ record { constant = c; is_linear = linear; holds_number = number } ∷ []) (agreeing g f 0 ms same)
+    let m : Marks = record { is_constant = is_some c; is_linear = linear; holds_number = number } in
+    let last : 0 + length ms ≡ length ms = omega arith in
+    one_more g 0 ms m ∙ ap (λ k. facts_by g 0 ms ++ fact_by (g k) m ∷ []) last ∙ ap (λ x. facts_by g 0 ms ++ x ∷ []) (whole (g (length ms)) c linear number own)
+    ∙ ap (λ l. l ++ record { constant = c; is_linear = linear; holds_number = number } ∷ []) (agreeing g f 0 ms (λ i below. same i (omega arith)))

@@ -84,7 +84,7 @@ abbrev node_eq : Stored → Stored → Bool
 node_eq = stored.eq-value.it
 
 -- the leaf of each node is there
-abbrev HaveLeaves : List Leaf → List Stored → Type 0
+abbrev pub HaveLeaves : List Leaf → List Stored → Type 0
 HaveLeaves ls ns = AllByRecursion (λ (n : Stored). HasLeaf ls n.symbol) ns
 
 -- what a key that is inserted leaves, by whether one was equal to it

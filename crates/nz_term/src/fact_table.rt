@@ -1,5 +1,6 @@
 //! What is known of the terms of a table, in few bytes for each.
-ghost use Rattle.std.specs.Prelude.{◌≡◌, ◌<◌, [], ◌∷◌, ◌++◌, length, take, OnOk, OnErr};
+ghost use Rattle.std.specs.Prelude.{◌≡◌, ℕ, ◌<◌, [], ◌∷◌, ◌++◌, true, nat_eq, length, take, OnOk, OnErr, is_some};
+ghost use Rattle.std.specs.HashMap.{get};
 ghost use Rattle.nz_term.specs.Facts.{fact_at};
 
 use crate::facts::Fact;
@@ -53,9 +54,7 @@ impl Facts {
         ensures grown { OnOk result (self.new ≡ self.old ++ fact ∷ []) }
         ensures unchanged { OnErr result (self.new ≡ self.old) }
     {
-        if let Some(value) = fact.constant {
-            self.values.insert(self.marks.len(), value)?;
-        }
+        keep(&mut self.values, self.marks.len(), fact.constant)?;
         self.marks.push(Marks {
             is_constant: fact.constant.is_some(),
             is_linear: fact.is_linear,
@@ -98,4 +97,19 @@ impl Facts {
     {
         self.marks[id].holds_number
     }
+}
+
+/// Keeps the value of the term of this number, if it has one.
+fn keep(
+    values: &mut HashMap<TermId, Frac>,
+    id: TermId,
+    value: Option<Frac>,
+) -> Result<(), Memory>
+    ensures kept { OnOk result (is_some value ≡ true → get nat_eq values.new id ≡ value) }
+    ensures others { (i : ℕ) → i < id → get nat_eq values.new i ≡ get nat_eq values.old i }
+{
+    if let Some(value) = value {
+        values.insert(id, value)?;
+    }
+    Ok(())
 }

@@ -152,7 +152,8 @@ impl Nodes {
     {
         tells_heads();
         let kids = Ids::from_slice(*self.nodes.allocator(), kids)?;
-        let symbol = put_symbol(&mut self.leaves, Key::of(head)?)?;
+        let key = Key::of(head)?;
+        let symbol = put_symbol(&mut self.leaves, key)?;
         let (id, _) = self.nodes.insert_full(Stored { symbol, kids })?;
         Ok(id)
     }
@@ -166,11 +167,14 @@ impl Nodes {
         tells_heads();
         one_number();
         term_of_node();
-        let Some(symbol) = found_symbol(&self.leaves, &Key::of(head)?)? else {
-            return Ok(None);
-        };
-        let kids = Ids::from_slice(*self.nodes.allocator(), kids)?;
-        Ok(self.nodes.get_index_of(&Stored { symbol, kids }))
+        let key = Key::of(head)?;
+        match found_symbol(&self.leaves, &key)? {
+            Some(symbol) => {
+                let kids = Ids::from_slice(*self.nodes.allocator(), kids)?;
+                Ok(self.nodes.get_index_of(&Stored { symbol, kids }))
+            }
+            None => Ok(None),
+        }
     }
 
     /// The node of a number.

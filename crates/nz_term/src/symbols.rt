@@ -91,7 +91,10 @@ pub(crate) fn found_symbol(leaves: &IndexSet<Leaf>, key: &Key) -> Result<Option<
     tells_heads();
     match key {
         Key::Leaf(leaf) => match leaves.get_index_of(leaf) {
-            Some(place) => Ok(Some(leaf_symbol(place)?)),
+            Some(place) => {
+                let symbol = leaf_symbol(place)?;
+                Ok(Some(symbol))
+            }
             None => Ok(None),
         },
         Key::Operator(operator) => Ok(Some(Symbol::Operator(*operator))),
