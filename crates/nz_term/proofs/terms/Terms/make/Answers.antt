@@ -13,7 +13,7 @@ use Rattle.nz_term.proofs.Tables.{grown_stays, made_term}
 use Rattle.nz_term.proofs.terms.Terms.make.Goals as goal
 
 pub returns-in_err-push-clause-one_number : goal.returns-in_err-push-clause-one_number
-returns-in_err-push-clause-one_number c = subst HasOneNumberEach c.self.view_is (c.one_number.ensures.one _ c.self.invariant.table)
+returns-in_err-push-clause-one_number c = c.one_number.ensures.one _ c.self.invariant.table
 
 pub put-made-requires-clause-table : goal.put-made-requires-clause-table
 put-made-requires-clause-table c = c.self.invariant.table
