@@ -219,7 +219,7 @@ fn number_term(terms: &mut Terms, number: Number) -> Result<Found, Memory>
 }
 
 /// The head of the term of a number.
-fn number_head(number: Number) -> Option<Head>
+fn number_head(number: Number) -> Option<Head<'static>>
     ensures head { option_map head_of result ≡ option_map numeric_head (number_view number) }
     ensures operator { IfSome result (λ head. IsOperator (head_of head)) }
     ensures normal { IfSome result (λ head. IsNormalLeaf (head_of head)) }
@@ -232,13 +232,13 @@ fn number_head(number: Number) -> Option<Head>
 }
 
 /// The term of this head, which takes no arguments, where it is one.
-fn fitting_term(terms: &mut Terms, head: Head) -> Result<Found, Memory>
+fn fitting_term(terms: &mut Terms, head: Head<'_>) -> Result<Found, Memory>
     requires operator { IsOperator (head_of head) }
     requires normal { IsNormalLeaf (head_of head) }
     ensures grows { Grows terms.old terms.new }
     ensures within { IfOk result (IsFoundWithin terms.new) }
     ensures names { IfOk result (λ f. TellsNames (fault_in f) false false) }
-    ensures found { IfOk result (λ f. IsFound f (if head_fits (head_of head) then Some (spec.apply (head_of head) spec.no_terms) else None) terms.new) }
+    ensures found { IfOk result (λ f. IsFound f (if head_fits (head_of head.entry) then Some (spec.apply (head_of head.entry) spec.no_terms) else None) terms.new) }
 {
     if !head.fits() {
         return Ok(Found::Fault(Fault::Sort));

@@ -76,11 +76,11 @@ pub(crate) fn make(
 }
 
 /// The number of the term of this leaf, which is no constant.
-pub(crate) fn make_leaf(terms: &mut Terms, head: Head) -> Result<TermId, Memory>
+pub(crate) fn make_leaf(terms: &mut Terms, head: Head<'_>) -> Result<TermId, Memory>
     requires operator { IsOperator (head_of head) }
     requires fits { IsTrue (head_fits (head_of head)) }
     ensures grows { Grows terms.old terms.new }
-    ensures made { IfOk result (λ id. StandsFor terms.new id (apply (head_of head) no_terms)) }
+    ensures made { IfOk result (λ id. StandsFor terms.new id (apply (head_of head.entry) no_terms)) }
 {
     terms.make(head, &[])
 }

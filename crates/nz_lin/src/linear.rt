@@ -111,8 +111,8 @@ fn form_over(
         return Ok(Form::number(alloc, number));
     }
     let node = terms.node(id);
-    let kids = node.kids.as_slice();
-    match &node.head {
+    let kids = node.kids;
+    match node.head {
         Head::Operator(operator) => match operator {
             Operator::Sum(_) => joined(alloc, Op::Add, kids, forms),
             Operator::Difference(_) => difference(alloc, kids, forms),

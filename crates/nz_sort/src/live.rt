@@ -299,7 +299,7 @@ impl Live {
             sort,
         };
         let key = Text::from_slice(self.alloc, name.as_bytes())?;
-        let id = terms.make(Head::Constant(constant), &[])?;
+        let id = terms.make(Head::Constant(&constant), &[])?;
         self.keep_constant(key, Typed { id, sort })
     }
 
