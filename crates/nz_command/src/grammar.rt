@@ -9,13 +9,15 @@ ghost use Rattle.nz_command.specs.Requests.{request, direction_view};
 ghost use Rattle.nz_command.specs.Names.{arguments_of};
 ghost use Rattle.nz_command.specs.Lists.{IsWord, IsNotOneList};
 
-use crate::command::{Attributes, Command, Direction};
+use crate::command::{
+    Assumption, Attributes, Command, Direction, Parameter, Question, WrittenSort,
+};
 use crate::expression::Expression;
 use crate::lists::{only, pair, triple};
 use crate::names::{keyword_of, listed_with, name_of};
 use crate::parts::{
-    assumptions, attributes_onto, info_key, is_attribute_value, level_count, literal_of,
-    parameters, questions, setting_of, sorts, written_sort,
+    all_parts, attributes_onto, info_key, is_attribute_value, level_count, literal_of, setting_of,
+    written_sort,
 };
 use crate::terms::expression;
 use nz_base::{Memory, Text};
@@ -241,7 +243,7 @@ fn assuming<'a>(alloc: Global, arguments: &'a [Tree]) -> Result<Option<Command<'
     let Some(list) = only_list(arguments) else {
         return Ok(None);
     };
-    match assumptions(alloc, list)? {
+    match all_parts::<Assumption>(alloc, list)? {
         Some(assumptions) => Ok(Some(Command::CheckSatAssuming(assumptions))),
         None => Ok(None),
     }
@@ -256,7 +258,7 @@ fn values<'a>(alloc: Global, arguments: &'a [Tree]) -> Result<Option<Command<'a>
     if list.is_empty() {
         return Ok(None);
     }
-    match questions(alloc, list)? {
+    match all_parts::<Question>(alloc, list)? {
         Some(questions) => Ok(Some(Command::GetValue(questions))),
         None => Ok(None),
     }
@@ -303,7 +305,7 @@ fn function_of<'a>(
     let Some(list) = list_of(list) else {
         return Ok(None);
     };
-    let Some(sorts) = sorts(alloc, list)? else {
+    let Some(sorts) = all_parts::<WrittenSort>(alloc, list)? else {
         return Ok(None);
     };
     match written_sort(sort) {
@@ -334,7 +336,7 @@ fn written_definition<'a>(
     let Some(list) = list_of(list) else {
         return Ok(None);
     };
-    let Some(parameters) = parameters(alloc, list)? else {
+    let Some(parameters) = all_parts::<Parameter>(alloc, list)? else {
         return Ok(None);
     };
     let Some(sort) = written_sort(sort) else {

@@ -3,7 +3,7 @@ ghost use Rattle.std.specs.Prelude.{◌≡◌, [], None, Some, IfOk, OnOk};
 ghost use Rattle.nz_elaborate.specs.Faults.{Answers, after, clash_fault, error_of, fault_in, first, joined as joined_by, term_in_found, terms_with};
 
 use crate::typed::{ApplyError, Typed};
-use nz_base::Memory;
+use nz_base::{Error, Memory};
 use std::alloc::{AllocError, AllocFailed, Global};
 
 /// Why a term isn't elaborated: the first rule that it breaks.
@@ -46,6 +46,21 @@ impl<T: Drop> From<AllocFailed<T>> for ElaborateError {
 
     fn from(_error: AllocFailed<T>) -> ElaborateError {
         ElaborateError::Memory
+    }
+}
+
+impl From<ElaborateError> for Error {
+    ghost use Rattle.nz_elaborate.specs.Faults.{refusal_by};
+
+    ghost from_gives = { λ error refusal. refusal ≡ refusal_by error };
+
+    fn from(error: ElaborateError) -> Error {
+        match error {
+            ElaborateError::Unknown => Error::UnknownSymbol,
+            ElaborateError::Clash => Error::AlreadyDeclared,
+            ElaborateError::Sort => Error::Sort,
+            ElaborateError::Memory => Error::OutOfMemory,
+        }
     }
 }
 
