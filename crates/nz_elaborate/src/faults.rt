@@ -4,7 +4,7 @@ ghost use Rattle.nz_elaborate.specs.Faults.{Answers, after, clash_fault, error_o
 
 use crate::typed::{ApplyError, Typed};
 use nz_base::{Error, Memory};
-use std::alloc::{AllocError, AllocFailed, Global};
+use std::alloc::{AllocFailed, Global};
 
 /// Why a term isn't elaborated: the first rule that it breaks.
 #[derive(Clone, Copy, Debug, PartialEq, Eq)]
@@ -25,16 +25,6 @@ impl From<Memory> for ElaborateError {
     ghost from_gives = { λ _ r. r ≡ errors.Memory };
 
     fn from(_memory: Memory) -> ElaborateError {
-        ElaborateError::Memory
-    }
-}
-
-impl From<AllocError> for ElaborateError {
-    ghost use Rattle.nz_elaborate.specs.declared.faults.ElaborateError.TheVariants as errors;
-
-    ghost from_gives = { λ _ r. r ≡ errors.Memory };
-
-    fn from(_error: AllocError) -> ElaborateError {
         ElaborateError::Memory
     }
 }
