@@ -21,10 +21,10 @@ pub returns-in_err-made-clause-refused : goal.returns-in_err-made-clause-refused
 returns-in_err-made-clause-refused c =
     let names = ap (λ (st : Standing). st.names) c.self.view_is in
     let e = written c.args.term.now in
-    broken_by _ c.args.self.now (λ s. assertion_of s e) c.in_err-made.error c.from_residual.result c.from_residual.ensures.1
+    broken_by _ c.args.self.now (λ s. assertion_of s e) c.in_err-made.field-0.0 c.from_residual.result c.from_residual.ensures.1
     (λ s live.
     let scope = live_scope _ c.args.self.now s _ names live in
-    refused_by c.in_err-made.error (is_unknown_in (scope_of s) e) (has_clash e) (term_outcome (term_of (scope_of s) e))
+    refused_by c.in_err-made.field-0.0 (is_unknown_in (scope_of s) e) (has_clash e) (term_outcome (term_of (scope_of s) e))
     (λ is. c.in_err-made.ensures.unknown (ap Err is) (scope_of s) scope)
     (λ is. c.in_err-made.ensures.clash (ap Err is) (scope_of s) scope)
     (λ is. let h = c.in_err-made.ensures.refused (ap Err is) (scope_of s) scope in record { known = h.known; distinct = h.distinct; holds = ap term_outcome h.holds }))

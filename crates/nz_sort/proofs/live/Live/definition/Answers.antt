@@ -27,12 +27,12 @@ returns-then-is_some-clause-refused c =
     (λ s live.
     let scope = live_scope _ c.args.self.now s _ names live in
     subst (λ refusal. IfSome (rule_of refusal) (λ e. definition_of s c.args.name.now ps w body ≡ refused e)) (sym c.redeclared.ensures.refusal)
-    (redeclared_definition s c.args.name.now ps w body c.elaborate_body.new.terms c.elaborate_body.result
+    (redeclared_definition s c.args.name.now ps w body c.elaborate_body-made.new.terms c.elaborate_body-made.result
     (looked_up _ c.args.self.now s _ c.args.name.now c.get.result names live c.get.ensures.named c.get.ensures.none ∙ there)
-    (λ is. c.elaborate_body.ensures.unknown is (scope_of s) scope)
-    (λ is. c.elaborate_body.ensures.clash is (scope_of s) scope)
-    (IfOk-weaker c.elaborate_body.result _ _ (λ d found. found (scope_of s) scope) c.elaborate_body.ensures.found)
-    (λ is. c.elaborate_body.ensures.refused is (scope_of s) scope)))
+    (λ is. c.elaborate_body-made.ensures.unknown is (scope_of s) scope)
+    (λ is. c.elaborate_body-made.ensures.clash is (scope_of s) scope)
+    (IfOk-weaker c.elaborate_body-made.result _ _ (λ d found. found (scope_of s) scope) c.elaborate_body-made.ensures.found)
+    (λ is. c.elaborate_body-made.ensures.refused is (scope_of s) scope)))
 
 pub returns-in_err-definition-clause-refused : goal.returns-in_err-definition-clause-refused
 returns-in_err-definition-clause-refused c =
@@ -41,20 +41,20 @@ returns-in_err-definition-clause-refused c =
     let w = sort_view c.args.sort.now in
     let body = written c.args.body.now in
     let absent : is_some c.get.result ≡ false = search rules in
-    broken_by _ c.args.self.now (λ s. definition_of s c.args.name.now ps w body) c.in_err-definition.error c.from_residual.result c.from_residual.ensures.1
+    broken_by _ c.args.self.now (λ s. definition_of s c.args.name.now ps w body) c.in_err-definition.field-0.0 c.from_residual.result c.from_residual.ensures.1
     (λ s live.
     let scope = live_scope _ c.args.self.now s _ names live in
-    unmade_definition s c.args.name.now ps w body c.in_err-definition.error
+    unmade_definition s c.args.name.now ps w body c.in_err-definition.field-0.0
     (looked_up _ c.args.self.now s _ c.args.name.now c.get.result names live c.get.ensures.named c.get.ensures.none ∙ absent)
-    (λ is. c.elaborate_body.ensures.unknown (c.in_err-definition.is ∙ ap Err is) (scope_of s) scope)
-    (λ is. c.elaborate_body.ensures.clash (c.in_err-definition.is ∙ ap Err is) (scope_of s) scope)
-    (λ is. c.elaborate_body.ensures.refused (c.in_err-definition.is ∙ ap Err is) (scope_of s) scope))
+    (λ is. c.elaborate_body-made.ensures.unknown (c.in_err-definition.was ∙ ap Err is) (scope_of s) scope)
+    (λ is. c.elaborate_body-made.ensures.clash (c.in_err-definition.was ∙ ap Err is) (scope_of s) scope)
+    (λ is. c.elaborate_body-made.ensures.refused (c.in_err-definition.was ∙ ap Err is) (scope_of s) scope))
 
 pub returns-then-not-is_linear-clause-refused : goal.returns-then-not-is_linear-clause-refused
 returns-then-not-is_linear-clause-refused c = λ s live.
     let names = ap (λ (st : Standing). st.names) c.self.view_is in
     let absent : is_some c.get.result ≡ false = search rules in
-    nonlinear_definition s c.args.name.now (map parameter_view c.args.parameters.now) (sort_view c.args.sort.now) (written c.args.body.now) c.elaborate_body.new.terms c.in_ok-definition.definition
+    nonlinear_definition s c.args.name.now (map parameter_view c.args.parameters.now) (sort_view c.args.sort.now) (written c.args.body.now) c.elaborate_body-made.new.terms c.in_ok-definition.definition
     (looked_up _ c.args.self.now s _ c.args.name.now c.get.result names live c.get.ensures.named c.get.ensures.none ∙ absent)
     (c.in_ok-definition.ensures.found (scope_of s) (live_scope _ c.args.self.now s _ names live)) (sym c.is_linear.ensures.linear ∙ c.if-not-is_linear.true)
 
@@ -63,7 +63,7 @@ returns-clause-grows c = grows_more _ _ _ c.in_ok-definition.ensures.grows c.in_
 
 pub returns-clause-companions : goal.returns-clause-companions
 returns-clause-companions c =
-    companions_made c.args.terms.now c.elaborate_body.new.terms c.add_companions.new.terms c.mark-mark.result c.mark-mark.ensures.mark c.in_ok-definition.ensures.grows c.requires.live.1.companions
+    companions_made c.args.terms.now c.elaborate_body-made.new.terms c.add_companions.new.terms c.mark-mark.result c.mark-mark.ensures.mark c.in_ok-definition.ensures.grows c.requires.live.1.companions
     c.in_ok-add_companions.ensures.companions
 
 pub returns-clause-accepted : goal.returns-clause-accepted
@@ -71,7 +71,7 @@ returns-clause-accepted c = λ s live.
     let names = ap (λ (st : Standing). st.names) c.self.view_is in
     let absent : is_some c.get.result ≡ false = search rules in
     linear_definition c.terms_fit.ensures.fits s c.args.name.now (map parameter_view c.args.parameters.now) (sort_view c.args.sort.now) (written c.args.body.now)
-    c.elaborate_body.new.terms c.add_companions.new.terms c.in_ok-definition.definition live.named.fits
+    c.elaborate_body-made.new.terms c.add_companions.new.terms c.in_ok-definition.definition live.named.fits
     (looked_up _ c.args.self.now s _ c.args.name.now c.get.result names live c.get.ensures.named c.get.ensures.none ∙ absent)
     (c.in_ok-definition.ensures.found (scope_of s) (live_scope _ c.args.self.now s _ names live)) (sym c.is_linear.ensures.linear ∙ c.if-not-is_linear.false)
-    (λ t typed. typed_kept c.elaborate_body.new.terms c.add_companions.new.terms c.in_ok-add_companions.ensures.grows c.in_ok-definition.definition.body t typed)
+    (λ t typed. typed_kept c.elaborate_body-made.new.terms c.add_companions.new.terms c.in_ok-add_companions.ensures.grows c.in_ok-definition.definition.body t typed)

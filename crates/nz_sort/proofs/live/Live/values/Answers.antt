@@ -25,10 +25,10 @@ returns-in_err-values-clause-refused c =
     let names = ap (λ (st : Standing). st.names) c.self.view_is in
     let qs = map question_view c.args.questions.now in
     let es = asked_expressions qs in
-    broken_by _ c.args.self.now (λ s. values_asked s qs) c.in_err-values.error c.from_residual.result c.from_residual.ensures.1
+    broken_by _ c.args.self.now (λ s. values_asked s qs) c.in_err-values.field-0.0 c.from_residual.result c.from_residual.ensures.1
     (λ s live.
     let scope = live_scope _ c.args.self.now s _ names live in
-    refused_by c.in_err-values.error (are_unknown_in (scope_of s) es) (have_clash es) (terms_outcome qs (terms_of (scope_of s) es))
+    refused_by c.in_err-values.field-0.0 (are_unknown_in (scope_of s) es) (have_clash es) (terms_outcome qs (terms_of (scope_of s) es))
     (λ is. c.in_err-values.ensures.unknown (ap Err is) (scope_of s) scope)
     (λ is. c.in_err-values.ensures.clash (ap Err is) (scope_of s) scope)
     (λ is. let h = c.in_err-values.ensures.refused (ap Err is) (scope_of s) scope in record { known = h.known; distinct = h.distinct; holds = ap (terms_outcome qs) h.holds }))
