@@ -19,7 +19,7 @@ use Rattle.nz_spec.proofs.BasisRows.{weighted-same, weighted-plus, weighted-zero
 
 -- ---- Lists with one more at the end
 
-length-more : {A : Type 0} (xs : List A) (x : A) → length (xs ++ x ∷ []) ≡ suc (length xs)
+pub length-more : {A : Type 0} (xs : List A) (x : A) → length (xs ++ x ∷ []) ≡ suc (length xs)
 length-more [] x = refl
 length-more (y ∷ xs) x = ap suc (length-more xs x)
 

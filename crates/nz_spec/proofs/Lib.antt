@@ -41,6 +41,7 @@ pub mod Normal
 pub mod NormalGates
 pub mod Pieces
 pub mod Placed
+pub mod PositionMovesKeep
 pub mod ReadOperands
 pub mod Readings
 pub mod Roots

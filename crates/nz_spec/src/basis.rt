@@ -3,6 +3,7 @@ ghost use Rattle.nz_spec.specs.Basis.{CoefficientsAreUnique, NonbasicFormIsItsel
 ghost use Rattle.nz_spec.specs.BasisMoves.{ExchangeKeepsBasis, JoinsKeepBasis, SolutionsAreWorth, SolutionsStay, ZerosAreNeverWide};
 ghost use Rattle.nz_spec.specs.Bland.{BoundsSayWhatTheyMean, CheckStepsKeepBasis, NoHelpRefutes, PositionsHaveValues, SumMoves, ValueIsComputed};
 ghost use Rattle.nz_spec.specs.BlandRuns.{NoPostureReturns, RunsAreShort};
+ghost use Rattle.nz_spec.specs.PositionMoves.{MovesKeepReady};
 ghost use Rattle.nz_spec.specs.WorkedBasis.{HasExchange, HasJoiningRow};
 
 /// Coefficients over a basis are unique.
@@ -73,6 +74,11 @@ pub fn solutions_are_worth()
 /// What bounds say of fractions.
 pub fn bounds_say_what_they_mean()
     ensures mean { BoundsSayWhatTheyMean }
+{}
+
+/// What a check takes for granted stays when units, forms and bounds join, and when bounds are taken back.
+pub fn moves_keep_ready()
+    ensures ready { MovesKeepReady }
 {}
 
 /// Forms that join two units, and an exchange, by the definitions alone.
