@@ -1,20 +1,20 @@
 -- What a check takes for granted stays when units, forms and bounds join, and when bounds are taken back.
-use Rattle.std.proofs.Common.{◌≡◌, ℕ, suc, ◌<◌, Bool, true, false, ◌⊎◌, inl, inr, List, [], ◌∷◌, ◌++◌, length, Option, Some, None, refl, sym, ap, ◌∙◌, subst, true≢false, arith, Ordering, Less, Equal, Greater}
+use Rattle.std.proofs.Common.{◌≡◌, ℕ, ◌<◌, Bool, true, false, ◌⊎◌, inl, inr, List, [], ◌∷◌, ◌++◌, length, Option, Some, None, refl, sym, ap, ◌∙◌, subst, true≢false, arith, Less}
 use Rattle.std.specs.Prelude.{◌==◌, if◌then◌else◌, unwrap_or, is_some, option_map, Contains}
 use Rattle.std.specs.Ordering.{is_lt}
-use Rattle.nz_spec.specs.Fraction.{Fraction}
-use Rattle.nz_spec.specs.Infinitesimal.{Infinitesimal, ◌=δ◌, infinitesimal_cmp}
+use Rattle.nz_spec.specs.Infinitesimal.{Infinitesimal, infinitesimal_cmp}
 use Rattle.nz_spec.specs.Term.{Term}
 use Rattle.nz_spec.specs.Form.{Part, unit_form}
 use Rattle.nz_spec.specs.Basis.{HasItsUnits, IsBasis}
 use Rattle.nz_spec.specs.BasisMoves.{with_nonbasic}
-use Rattle.nz_spec.specs.Bland.{Point, is_nonbasic, zero_infinitesimal, value_in, Position, HasBasis, Side, lower_side, upper_side, other_side, bound_on, IsOutside, NonbasicFormsFit}
-use Rattle.nz_spec.specs.BlandRuns.{AreConsistent}
-use Rattle.nz_spec.specs.PositionMoves.{with_unit, with_form, AreListedBounds, is_outside, moved_within, with_one_bound, bounds_with, with_bound, AreLooser, IsReadyToCheck, empty_position, MovesKeepReady}
+use Rattle.nz_spec.specs.Bland.{Point, is_nonbasic, zero_infinitesimal, value_in, Position, Side, lower_side, upper_side, other_side, bound_on, IsOutside, NonbasicFormsFit, exchanged_point, IsCheckStep}
+use Rattle.nz_spec.specs.PositionMoves.{AreConsistent, with_unit, with_form, AreListedBounds, is_outside, moved_within, bounds_with, with_bound, AreLooser, IsReadyToCheck, empty_position, MovesKeepReady}
 use Rattle.nz_spec.proofs.FractionLaws.{=ℚ_refl}
 use Rattle.nz_spec.proofs.BasisRows.{equal-number, same-number}
 use Rattle.nz_spec.proofs.BasisJoins.{length-more, joins_keep_basis}
+use Rattle.nz_spec.proofs.BlandSteps.{check_steps_keep_basis}
 use Rattle.nz_spec.proofs.BlandRefutes.{outside-at}
+use Rattle.nz_spec.proofs.BlandReturns.{step-fits}
 
 more : (s : Position) (f : List Part) (k : ℕ) → k < length s.forms → k < length (s.forms ++ f ∷ [])
 more s f k h = subst (λ (n : ℕ). k < n) (sym (length-more s.forms f)) (omega (arith, h))
@@ -92,6 +92,7 @@ module _ (s : Position) (side : Side) (i : ℕ) (bound : Infinitesimal) (ready :
       mapped : (o : Option Infinitesimal) → is_some o ≡ is_some (option_map (moved_within side bound) o)
       mapped None = refl
       mapped (Some x) = refl
+
       by_test : (b : Bool) → is_some (s.point k) ≡ is_some (if b then option_map (moved_within side bound) (s.point k) else s.point k)
       by_test true = mapped (s.point k)
       by_test false = refl
@@ -108,9 +109,11 @@ module _ (s : Position) (side : Side) (i : ℕ) (bound : Infinitesimal) (ready :
       by_test : (bounds : ℕ → Option Infinitesimal) (c : Bool) → (k == i) ≡ c → (if c then Some bound else bounds k) ≡ Some b → ((k ≡ i) × (bound ≡ b)) ⊎ (bounds k ≡ Some b)
       by_test bounds true e f = inl (same-number k i e, ap (λ (o : Option Infinitesimal). unwrap_or o bound) f)
       by_test bounds false e f = inr f
+
       on_one : (a : Side) (o : Option Infinitesimal) → ((k ≡ i) × (bound ≡ b)) ⊎ (o ≡ Some b) → ((a ≡ a) × (k ≡ i) × (bound ≡ b)) ⊎ (o ≡ Some b)
       on_one a o (inl h) = inl (refl, h.0, h.1)
       on_one a o (inr h) = inr h
+
       by_sides : (half side : Side) → bounds_with half side s i bound k ≡ Some b → ((half ≡ side) × (k ≡ i) × (bound ≡ b)) ⊎ (bound_on half s k ≡ Some b)
       by_sides lower_side lower_side e = on_one lower_side (s.lower k) (by_test s.lower (k == i) refl e)
       by_sides upper_side upper_side e = on_one upper_side (s.upper k) (by_test s.upper (k == i) refl e)
@@ -177,8 +180,10 @@ module _ (s : Position) (side : Side) (i : ℕ) (bound : Infinitesimal) (ready :
           by_case : ((half ≡ side) × (k ≡ i) × (bound ≡ b')) ⊎ (bound_on half s k ≡ Some b') → bound_on half s k ≡ Some b'
           by_case (inl h) = absurd (elsewhere h.0 h.1)
           by_case (inr h) = h
+
       g : bounds_with half side s i bound k ≡ Some b
       g = sym (bounds-are half k) ∙ f
+
       at_i : (x : Option Infinitesimal) → s.point k ≡ x → k ≡ i → is_some (option_map (moved_within side bound) x) ≡ true → IsOutside half b (unwrap_or (option_map (moved_within side bound) x) zero_infinitesimal) → ⊥
       at_i None p q e o = true≢false (sym e)
       at_i (Some x) p q e o = by_side (sides half side)
@@ -193,6 +198,7 @@ module _ (s : Position) (side : Side) (i : ℕ) (bound : Infinitesimal) (ready :
               old-fit half b x (ap (bound_on half s) (sym q) ∙ before)
               (λ c. ready.fit half k b (ap is_some p) before (subst (λ (z : Option Infinitesimal). IsOutside half b (unwrap_or z zero_infinitesimal)) (sym p) c))
               h o
+
       by_test : (c : Bool) → (k == i) ≡ c → is_some (if c then option_map (moved_within side bound) (s.point k) else s.point k) ≡ true
           → IsOutside half b (unwrap_or (if c then option_map (moved_within side bound) (s.point k) else s.point k) zero_infinitesimal) → ⊥
       by_test true m e o = at_i (s.point k) refl (same-number k i m) e o
@@ -207,11 +213,13 @@ module _ (s : Position) (side : Side) (i : ℕ) (bound : Infinitesimal) (ready :
           apart high
           (ap (λ (l : Side). bound_on (other_side l) s i) (sym a) ∙ ap s.upper (sym q) ∙ g)
           (subst (λ (l : Side). IsOutside (other_side l) high bound) a (subst (λ (z : Infinitesimal). infinitesimal_cmp high z ≡ Less) (sym m) h))
+
       as_high : upper_side ≡ side → k ≡ i → bound ≡ high → s.lower k ≡ Some low → ⊥
       as_high a q m g =
           apart low
           (ap (λ (l : Side). bound_on (other_side l) s i) (sym a) ∙ ap s.lower (sym q) ∙ g)
           (subst (λ (l : Side). IsOutside (other_side l) low bound) a (subst (λ (z : Infinitesimal). infinitesimal_cmp z low ≡ Less) (sym m) h))
+
       by_cases : ((lower_side ≡ side) × (k ≡ i) × (bound ≡ low)) ⊎ (s.lower k ≡ Some low) → ((upper_side ≡ side) × (k ≡ i) × (bound ≡ high)) ⊎ (s.upper k ≡ Some high) → ⊥
       by_cases (inl a) (inl c) = low-unlike (a.0 ∙ sym c.0)
       by_cases (inl a) (inr c) = as_low a.0 a.1 a.2 c
@@ -225,6 +233,20 @@ module _ (s : Position) (side : Side) (i : ℕ) (bound : Infinitesimal) (ready :
     fit = bound-fit;
     consistent = bound-consistent;
   }
+
+-- ---- A step
+
+step-ready : (s t : Position) (i j : ℕ) → IsReadyToCheck s → IsCheckStep s t i j → IsReadyToCheck t
+step-ready s t i j ready step = record {
+  basis = check_steps_keep_basis.basis s t i j ready.basis step;
+  listed = subst (λ (u : Position). AreListedBounds u) (sym step.after) after-listed;
+  fit = step-fits s t i j ready.consistent ready.fit step;
+  consistent = subst (λ (u : Position). AreConsistent u) (sym step.after) ready.consistent;
+}
+  where
+    after-listed : AreListedBounds (record s { point = exchanged_point s.point i j step.bound })
+    after-listed lower_side k bound e = ready.listed lower_side k bound e
+    after-listed upper_side k bound e = ready.listed upper_side k bound e
 
 -- ---- Looser bounds
 
@@ -264,5 +286,6 @@ moves_keep_ready = record {
   unit = λ s u ready new. unit-ready s u ready new;
   form = form-ready;
   bound = λ s side i b ready inside apart. bound-ready s side i b ready inside apart;
+  step = step-ready;
   looser = looser-ready;
 }

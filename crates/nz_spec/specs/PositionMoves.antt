@@ -1,15 +1,35 @@
 -- How a position changes outside of check steps: units and forms join, and bounds are set and taken back.
 -- Source: Dutertre and de Moura, A Fast Linear-Arithmetic Solver for DPLL(T), CAV 2006, section 4 (asserting bounds, backtracking).
-use Rattle.std.specs.Prelude.{◌≡◌, ℕ, ◌<◌, ◌==◌, Bool, false, List, [], ◌∷◌, ◌++◌, length, Option, Some, None, option_map, Contains, if◌then◌else◌}
+use Rattle.std.specs.Prelude.{◌≡◌, ℕ, ◌<◌, ◌==◌, Bool, List, [], ◌∷◌, ◌++◌, length, Option, Some, None, option_map, Contains, if◌then◌else◌}
 use Rattle.std.specs.Ordering.{is_lt}
 use Rattle.nz_spec.specs.Infinitesimal.{Infinitesimal, infinitesimal_cmp}
 use Rattle.nz_spec.specs.Term.{Term}
 use Rattle.nz_spec.specs.Form.{Part, unit_form}
 use Rattle.nz_spec.specs.Basis.{HasItsUnits}
-use Rattle.nz_spec.specs.Bland.{zero_infinitesimal, Position, HasBasis, Side, lower_side, upper_side, other_side, bound_on, IsOutside, NonbasicFormsFit}
-use Rattle.nz_spec.specs.BlandRuns.{AreConsistent}
+use Rattle.nz_spec.specs.Bland.{zero_infinitesimal, Position, HasBasis, Side, lower_side, upper_side, other_side, bound_on, ◌<δ◌, IsOutside, NonbasicFormsFit, IsCheckStep}
+
+-- ---- What a check takes for granted
+
+-- only forms of the list have bounds
+abbrev pub AreListedBounds : Position → Type 0
+AreListedBounds s = (side : Side) (k : ℕ) (bound : Infinitesimal) → bound_on side s k ≡ Some bound → k < length s.forms
+
+-- no lower bound is above an upper one of the same form
+abbrev pub AreConsistent : Position → Type 0
+AreConsistent s = (k : ℕ) (low high : Infinitesimal) → s.lower k ≡ Some low → s.upper k ≡ Some high → high <δ low → ⊥
+
+-- It has a basis, bounds of its forms alone that leave each form a value, and nonbasic forms that break none.
+pub record IsReadyToCheck (s : Position) : Type 0 where
+  pub basis : HasBasis s
+  pub listed : AreListedBounds s
+  pub fit : NonbasicFormsFit s
+  pub consistent : AreConsistent s
 
 -- ---- Forms that join
+
+-- no form yet
+abbrev pub empty_position : Position
+empty_position = record { forms = []; point = λ k. None; lower = λ k. None; upper = λ k. None }
 
 -- a unit joins as nonbasic, at 0
 abbrev pub with_unit : Position → Term → Position
@@ -21,10 +41,6 @@ with_unit s u = record s {
 -- a form joins as basic
 abbrev pub with_form : Position → List Part → Position
 with_form s f = record s { forms = s.forms ++ f ∷ [] }
-
--- only forms of the list have bounds
-abbrev pub AreListedBounds : Position → Type 0
-AreListedBounds s = (side : Side) (k : ℕ) (bound : Infinitesimal) → bound_on side s k ≡ Some bound → k < length s.forms
 
 -- ---- Bounds
 
@@ -60,21 +76,13 @@ AreLooser t s = (side : Side) (k : ℕ) (bound x : Infinitesimal) → bound_on s
 
 -- ---- Laws
 
--- What a check takes for granted holds of the empty position, and stays when a new unit or a form joins, when a bound is set that leaves the form a value,
--- and when bounds become looser while the point stays.
-pub record IsReadyToCheck (s : Position) : Type 0 where
-  pub basis : HasBasis s
-  pub listed : AreListedBounds s
-  pub fit : NonbasicFormsFit s
-  pub consistent : AreConsistent s
-
-abbrev pub empty_position : Position
-empty_position = record { forms = []; point = λ k. None; lower = λ k. None; upper = λ k. None }
-
+-- What a check takes for granted holds of the empty position, and stays when a new unit or a form joins, when a bound is set that
+-- leaves the form a value, by a check step, and when bounds become looser while the point stays.
 pub record MovesKeepReady : Type 0 where
   pub empty : IsReadyToCheck empty_position
   pub unit : (s : Position) (u : Term) → IsReadyToCheck s → (Contains s.forms (unit_form u).parts → ⊥) → IsReadyToCheck (with_unit s u)
   pub form : (s : Position) (f : List Part) → IsReadyToCheck s → HasItsUnits s.forms f → IsReadyToCheck (with_form s f)
   pub bound : (s : Position) (side : Side) (i : ℕ) (bound : Infinitesimal) → IsReadyToCheck s → i < length s.forms
       → ((other : Infinitesimal) → bound_on (other_side side) s i ≡ Some other → IsOutside (other_side side) other bound → ⊥) → IsReadyToCheck (with_bound s side i bound)
+  pub step : (s t : Position) (i j : ℕ) → IsReadyToCheck s → IsCheckStep s t i j → IsReadyToCheck t
   pub looser : (s t : Position) → IsReadyToCheck s → t.forms ≡ s.forms → ((k : ℕ) → t.point k ≡ s.point k) → AreLooser t s → AreListedBounds t → AreConsistent t → IsReadyToCheck t
