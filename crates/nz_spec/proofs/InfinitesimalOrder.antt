@@ -1,5 +1,5 @@
 -- The order of infinitesimals, as `infinitesimal_cmp` tells it: chains, sums and multiples.
-use Rattle.std.proofs.Common.{◌≡◌, true, false, pos, refl, sym, ap, ap₂, ◌∙◌, true≢false, Ordering, Less, Equal, Greater}
+use Rattle.std.proofs.Common.{◌≡◌, false, pos, refl, sym, ap, ap₂, ◌∙◌, true≢false, Ordering, Less, Equal, Greater}
 use Rattle.std.specs.Ordering.{ordering_then, ordering_reverse, is_gt, is_lt}
 use Rattle.std.specs.Cmp.{IsTotalOrder, upto, tied_itself, alike_right}
 use Rattle.std.proofs.lemmas.Cmp.{on_total, then_total}
