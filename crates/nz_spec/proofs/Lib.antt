@@ -12,6 +12,7 @@ pub mod BlandPositions
 pub mod BlandRefutes
 pub mod BlandReturns
 pub mod BlandSteps
+pub mod BlandTells
 pub mod BlandValues
 pub mod ByteClasses
 pub mod Decimals

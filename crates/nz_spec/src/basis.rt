@@ -1,7 +1,7 @@
 //! Laws of bases of linear forms.
 ghost use Rattle.nz_spec.specs.Basis.{CoefficientsAreUnique, NonbasicFormIsItself, ValueIsWorth};
 ghost use Rattle.nz_spec.specs.BasisMoves.{ExchangeKeepsBasis, JoinsKeepBasis, SolutionsAreWorth, SolutionsStay, ZerosAreNeverWide};
-ghost use Rattle.nz_spec.specs.Bland.{BoundsSayWhatTheyMean, CheckStepsKeepBasis, NoHelpRefutes, PositionsHaveValues, SumMoves, ValueIsComputed};
+ghost use Rattle.nz_spec.specs.Bland.{BoundsSayWhatTheyMean, CheckStepsKeepBasis, NoHelpRefutes, PositionsHaveValues, RowsTell, SumMoves, ValueIsComputed};
 ghost use Rattle.nz_spec.specs.BlandRuns.{NoPostureReturns, RunsAreShort};
 ghost use Rattle.nz_spec.specs.PositionMoves.{MovesKeepReady};
 ghost use Rattle.nz_spec.specs.WorkedBasis.{HasExchange, HasJoiningRow};
@@ -79,6 +79,11 @@ pub fn bounds_say_what_they_mean()
 /// What a check takes for granted stays when units, forms and bounds join, and when bounds are taken back.
 pub fn moves_keep_ready()
     ensures ready { MovesKeepReady }
+{}
+
+/// Rows tell what breaks a bound, and what can help.
+pub fn rows_tell()
+    ensures tell { RowsTell }
 {}
 
 /// Forms that join two units, and an exchange, by the definitions alone.
