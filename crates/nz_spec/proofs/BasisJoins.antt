@@ -57,17 +57,17 @@ pub unit_worth : (v : Valuation) (u : Term) → worth v (unit_form u).parts =ℚ
 unit_worth v u = solve (v u ∷ []) (Literal (pos 1) ⊗ Atom 0 ⊕ Literal (pos 0)) (Atom 0) refl
 
 -- this unit is worth 1, and each other one nothing
-abbrev only : Term → Valuation
+abbrev pub only : Term → Valuation
 only u t = if are_same_term t u then whole (pos 1) else whole (pos 0)
 
-only-here : (u : Term) → only u u =ℚ whole (pos 1)
+pub only-here : (u : Term) → only u u =ℚ whole (pos 1)
 only-here u = by_test (are_same_term u u) (one_term u)
   where
     by_test : (b : Bool) → b ≡ true → (if b then whole (pos 1) else whole (pos 0)) =ℚ whole (pos 1)
     by_test true e = =ℚ_refl (whole (pos 1))
     by_test false e = absurd (true≢false (sym e))
 
-only-there : (u t : Term) → (t ≡ u → ⊥) → only u t =ℚ whole (pos 0)
+pub only-there : (u t : Term) → (t ≡ u → ⊥) → only u t =ℚ whole (pos 0)
 only-there u t h = by_test (are_same_term t u) refl
   where
     by_test : (b : Bool) → are_same_term t u ≡ b → (if b then whole (pos 1) else whole (pos 0)) =ℚ whole (pos 0)

@@ -3,7 +3,7 @@ use Rattle.std.proofs.Common.{◌≡◌, ℕ, ◌<◌, false, true, ◌⊎◌, i
 use Rattle.nz_spec.specs.Fraction.{whole, ◌=ℚ◌, ◌<ℚ◌}
 use Rattle.nz_spec.specs.Infinitesimal.{Infinitesimal}
 use Rattle.nz_spec.specs.BasisMoves.{Rows, AreRows}
-use Rattle.nz_spec.specs.Bland.{is_nonbasic, value_in, row_value, Position, HasBasis, HasValue, Side, other_side, bound_on, IsOutside, Breaks, HasRoom, CanHelp, RowsTell}
+use Rattle.nz_spec.specs.Bland.{is_nonbasic, row_value, Position, HasBasis, HasValue, Side, other_side, bound_on, IsOutside, Breaks, HasRoom, CanHelp, RowsTell}
 use Rattle.nz_spec.proofs.FractionLaws.{=ℚ_refl, =ℚ_sym, ≤ℚ-from_eq, <ℚ-≤ℚ_trans, ≤ℚ-<ℚ_trans}
 use Rattle.nz_spec.proofs.FractionSolver.{◌∙ℚ◌}
 use Rattle.nz_spec.proofs.BlandValues.{value_is_computed}
@@ -49,6 +49,7 @@ module _ (s : Position) (rows : Rows) (b : HasBasis s) (are : AreRows s.forms (i
       where
         same : help.coefficient =ℚ rows i j
         same = =ℚ_sym help.at.at ∙ℚ b.one i help.at.row (rows i) h help.at.is_row (are i h e) j
+
         by_way : ((whole (pos 0) <ℚ help.coefficient) × HasRoom s side j) ⊎ ((help.coefficient <ℚ whole (pos 0)) × HasRoom s (other_side side) j)
             → ((whole (pos 0) <ℚ rows i j) × HasRoom s side j) ⊎ ((rows i j <ℚ whole (pos 0)) × HasRoom s (other_side side) j)
         by_way (inl w) = inl (<ℚ-≤ℚ_trans w.0 (≤ℚ-from_eq same), w.1)

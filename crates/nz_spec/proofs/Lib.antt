@@ -24,6 +24,7 @@ pub mod FormPlaces
 pub mod FormSums
 pub mod FormTerms
 pub mod FormValues
+pub mod FormWorth
 pub mod FractionArithmetic
 pub mod FractionLaws
 pub mod FractionOrder

@@ -1,5 +1,5 @@
 //! Laws of bases of linear forms.
-ghost use Rattle.nz_spec.specs.Basis.{CoefficientsAreUnique, NonbasicFormIsItself, ValueIsWorth};
+ghost use Rattle.nz_spec.specs.Basis.{CoefficientsAreUnique, NonbasicFormIsItself, ValueIsWorth, WorthIsByUnits};
 ghost use Rattle.nz_spec.specs.BasisMoves.{ExchangeKeepsBasis, JoinsKeepBasis, SolutionsAreWorth, SolutionsStay, ZerosAreNeverWide};
 ghost use Rattle.nz_spec.specs.Bland.{BoundsSayWhatTheyMean, CheckStepsKeepBasis, NoHelpRefutes, PositionsHaveValues, RowsTell, SumMoves, ValueIsComputed};
 ghost use Rattle.nz_spec.specs.BlandRuns.{NoPostureReturns, RunsAreShort};
@@ -19,6 +19,11 @@ pub fn nonbasic_form_is_itself()
 /// A form is worth under an assignment what its units are.
 pub fn value_is_worth()
     ensures worth { ValueIsWorth }
+{}
+
+/// Forms are worth the same just where each unit has the same coefficient in both.
+pub fn worth_is_by_units()
+    ensures units { WorthIsByUnits }
 {}
 
 /// An exchange of a basic and a nonbasic form leaves a basis, with the rows that are computed.
