@@ -6,6 +6,7 @@ use Rattle.nz_spec.specs.Bland.{Position, HasBasis, Stand, at_lower, at_upper, a
 use Rattle.nz_spec.specs.BlandRuns.{IsRun, RunsAreShort}
 use Rattle.nz_spec.proofs.BasisRows.{equal-number, same-number}
 use Rattle.nz_spec.proofs.BlandSteps.{check_steps_keep_basis}
+use Rattle.nz_spec.proofs.BlandPositions.{place}
 use Rattle.nz_spec.proofs.BlandReturns.{no_posture_returns}
 
 -- ---- As many different numbers as there are below a bound
@@ -122,9 +123,6 @@ runs_are_short n p ready run =
           (λ i j h k e. no_posture_returns n p ready run i j h (omega (arith, k)) (λ l. by_place i j h k e l (place l (length (p 0).forms)))),
     )
   where
-    place : (k v : ℕ) → (k < v) ⊎ (v ≤ k)
-    place k v = grind arith
-
     by_place : (i j : ℕ) → i < j → j < suc n → code (length (p 0).forms) (posture_of (p i)) ≡ code (length (p 0).forms) (posture_of (p j)) → (l : ℕ) → (l < length (p 0).forms) ⊎ (length (p 0).forms ≤ l) → posture_of (p i) l ≡ posture_of (p j) l
     by_place i j h k e l (inl m) = same-code (length (p 0).forms) (posture_of (p i)) (posture_of (p j)) e l m
     by_place i j h k e l (inr m) =

@@ -15,25 +15,16 @@ use Rattle.nz_spec.proofs.FractionLaws.{=ℚ_refl, =ℚ-from_same, =ℚ_sym, ≤
 use Rattle.nz_spec.proofs.FractionOrder.{same-fraction_eq, fraction_eq-same}
 use Rattle.nz_spec.proofs.FractionSolver.{◌∙ℚ◌}
 use Rattle.nz_spec.proofs.BasisRows.{equal-number, other-number, same-number}
-use Rattle.nz_spec.proofs.InfinitesimalOrder.{=δ_sym, =δ_trans}
+use Rattle.nz_spec.proofs.InfinitesimalOrder.{=δ_refl, =δ_sym, =δ_trans}
 use Rattle.nz_spec.proofs.BlandSteps.{step-solutions, check_steps_keep_basis}
-use Rattle.nz_spec.proofs.BlandRefutes.{IsPast, not_outside, outside-sum, outside-equal, past-between, past-outside, past-equal, inside-at, outside-at, held_back, held_up, held_down}
+use Rattle.nz_spec.proofs.BlandRefutes.{sides, IsPast, not_outside, outside-sum, outside-equal, past-between, past-outside, past-equal, inside-at, outside-at, held_back, held_up, held_down}
 use Rattle.nz_spec.proofs.BlandPositions.{all_values, all-have, one-value, nonbasic-value, standard-fits, coefficient-fits}
-
-=δ_refl : (x : Infinitesimal) → x =δ x
-=δ_refl x = record { standard = =ℚ_refl x.standard; coefficient = =ℚ_refl x.coefficient }
 
 =δ-from_same : {x y : Infinitesimal} → x ≡ y → x =δ y
 =δ-from_same {x} {y} e = subst (λ (z : Infinitesimal). x =δ z) e (=δ_refl x)
 
 some_is : (x y : Infinitesimal) → Some x ≡ Some y → x ≡ y
 some_is x y e = ap (λ (o : Option Infinitesimal). unwrap_or o x) e
-
-sides : (a b : Side) → (a ≡ b) ⊎ (a ≡ other_side b)
-sides lower_side lower_side = inl refl
-sides lower_side upper_side = inr refl
-sides upper_side lower_side = inr refl
-sides upper_side upper_side = inl refl
 
 turned : (a : Side) → other_side (other_side a) ≡ a
 turned lower_side = refl

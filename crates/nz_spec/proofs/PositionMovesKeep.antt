@@ -9,11 +9,11 @@ use Rattle.nz_spec.specs.Basis.{HasItsUnits, IsBasis}
 use Rattle.nz_spec.specs.BasisMoves.{with_nonbasic}
 use Rattle.nz_spec.specs.Bland.{Point, is_nonbasic, zero_infinitesimal, value_in, Position, Side, lower_side, upper_side, other_side, bound_on, IsOutside, NonbasicFormsFit, exchanged_point, IsCheckStep}
 use Rattle.nz_spec.specs.PositionMoves.{AreConsistent, with_unit, with_form, AreListedBounds, is_outside, moved_within, bounds_with, with_bound, AreLooser, IsReadyToCheck, empty_position, MovesKeepReady}
-use Rattle.nz_spec.proofs.FractionLaws.{=ℚ_refl}
 use Rattle.nz_spec.proofs.BasisRows.{equal-number, same-number}
 use Rattle.nz_spec.proofs.BasisJoins.{length-more, joins_keep_basis}
+use Rattle.nz_spec.proofs.InfinitesimalOrder.{=δ_refl}
 use Rattle.nz_spec.proofs.BlandSteps.{check_steps_keep_basis}
-use Rattle.nz_spec.proofs.BlandRefutes.{outside-at}
+use Rattle.nz_spec.proofs.BlandRefutes.{sides, outside-at}
 use Rattle.nz_spec.proofs.BlandReturns.{step-fits}
 
 more : (s : Position) (f : List Part) (k : ℕ) → k < length s.forms → k < length (s.forms ++ f ∷ [])
@@ -127,14 +127,8 @@ module _ (s : Position) (side : Side) (i : ℕ) (bound : Infinitesimal) (ready :
       by_case (inl h) = subst (λ (l : ℕ). l < length s.forms) (sym h.1) inside
       by_case (inr h) = ready.listed half k b h
 
-  sides : (a b : Side) → (a ≡ b) ⊎ (a ≡ other_side b)
-  sides lower_side lower_side = inl refl
-  sides lower_side upper_side = inr refl
-  sides upper_side lower_side = inr refl
-  sides upper_side upper_side = inl refl
-
   never_own : (half : Side) (x : Infinitesimal) → IsOutside half x x → ⊥
-  never_own half x h = outside-at half x x (record { standard = =ℚ_refl x.standard; coefficient = =ℚ_refl x.coefficient }) h
+  never_own half x h = outside-at half x x (=δ_refl x) h
 
   -- a moved value meets the new bound
   new-fit : (x : Infinitesimal) → IsOutside side bound (moved_within side bound x) → ⊥
