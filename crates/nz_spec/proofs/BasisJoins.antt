@@ -1,6 +1,9 @@
 -- Forms that join a basis: units as nonbasic forms, and forms over units of the list as basic ones.
-use Rattle.std.proofs.Common.{◌≡◌, ℕ, zero, suc, ◌<◌, ◌≤◌, Bool, true, false, ◌⊎◌, inl, inr, List, [], ◌∷◌, ◌++◌, length, pos, refl, sym, ap, ◌∙◌, subst, true≢false, arith}
-use Rattle.std.specs.Prelude.{◌==◌, if◌then◌else◌, Contains, slice_index_or}
+use Rattle.std.proofs.Common.{◌≡◌, ℕ, suc, ◌<◌, ◌≤◌, Bool, true, false, ◌⊎◌, inl, inr, List, [], ◌∷◌, ◌++◌, length, pos, refl, sym, ap, ◌∙◌, subst, true≢false, arith}
+use Rattle.std.specs.Prelude.{◌==◌, if◌then◌else◌, Contains}
+use Rattle.std.proofs.Math.Seq.{get_or-append_seam}
+use Rattle.std.proofs.lemmas.List.{get_or_append_left, get_or_default, get_or_past, length_push}
+use Rattle.std.proofs.lemmas.List.Elements.{Contains-append_left, Contains-append_right}
 use Rattle.nz_ints.proofs.Ring.{Atom, Literal, ◌⊕◌, ◌⊗◌}
 use Rattle.nz_spec.specs.Fraction.{Fraction, whole, ◌=ℚ◌, ◌+ℚ◌, ◌*ℚ◌, Sum, Product, outcome}
 use Rattle.nz_spec.specs.Computation.{Computation}
@@ -19,34 +22,11 @@ use Rattle.nz_spec.proofs.BasisRows.{weighted-same, weighted-plus, weighted-zero
 
 -- ---- Lists with one more at the end
 
-length-more : {A : Type 0} (xs : List A) (x : A) → length (xs ++ x ∷ []) ≡ suc (length xs)
-length-more [] x = refl
-length-more (y ∷ xs) x = ap suc (length-more xs x)
-
-at_front : {A : Type 0} (xs : List A) (x d : A) (k : ℕ) → k < length xs → slice_index_or (xs ++ x ∷ []) k d ≡ slice_index_or xs k d
-at_front [] x d k h = absurd (omega (arith, h))
-at_front (y ∷ xs) x d zero h = refl
-at_front (y ∷ xs) x d (suc k) h = at_front xs x d k (omega (arith, h))
-
-at_end : {A : Type 0} (xs : List A) (x d : A) → slice_index_or (xs ++ x ∷ []) (length xs) d ≡ x
-at_end [] x d = refl
-at_end (y ∷ xs) x d = at_end xs x d
-
-any_default : {A : Type 0} (xs : List A) (k : ℕ) (d e : A) → k < length xs → slice_index_or xs k d ≡ slice_index_or xs k e
-any_default [] k d e h = absurd (omega (arith, h))
-any_default (y ∷ xs) zero d e h = refl
-any_default (y ∷ xs) (suc k) d e h = any_default xs k d e (omega (arith, h))
-
-past_end : {A : Type 0} (xs : List A) (k : ℕ) (d : A) → length xs ≤ k → slice_index_or xs k d ≡ d
-past_end [] k d h = refl
-past_end (y ∷ xs) zero d h = absurd (omega (arith, h))
-past_end (y ∷ xs) (suc k) d h = past_end xs k d (omega (arith, h))
-
-contains-more : {A : Type 0} (xs : List A) (x y : A) → Contains xs y → Contains (xs ++ x ∷ []) y
-contains-more xs x y (k, h, e) = (k, subst (λ (n : ℕ). k < n) (sym (length-more xs x)) (omega (arith, h)), at_front xs x y k h ∙ e)
+pub length-more : {A : Type 0} (xs : List A) (x : A) → length (xs ++ x ∷ []) ≡ suc (length xs)
+length-more xs x = length_push xs x ∙ omega arith
 
 contains-last : {A : Type 0} (xs : List A) (x : A) → Contains (xs ++ x ∷ []) x
-contains-last xs x = (length xs, subst (λ (n : ℕ). length xs < n) (sym (length-more xs x)) (omega arith), at_end xs x x)
+contains-last xs x = Contains-append_right xs (x ∷ []) x (0, omega arith, refl)
 
 last_or_before : (k n m : ℕ) → m ≡ suc n → k < m → (k ≡ n) ⊎ (k < n)
 last_or_before k n m e h = grind (arith, e, h)
@@ -57,17 +37,17 @@ pub unit_worth : (v : Valuation) (u : Term) → worth v (unit_form u).parts =ℚ
 unit_worth v u = solve (v u ∷ []) (Literal (pos 1) ⊗ Atom 0 ⊕ Literal (pos 0)) (Atom 0) refl
 
 -- this unit is worth 1, and each other one nothing
-abbrev only : Term → Valuation
+abbrev pub only : Term → Valuation
 only u t = if are_same_term t u then whole (pos 1) else whole (pos 0)
 
-only-here : (u : Term) → only u u =ℚ whole (pos 1)
+pub only-here : (u : Term) → only u u =ℚ whole (pos 1)
 only-here u = by_test (are_same_term u u) (one_term u)
   where
     by_test : (b : Bool) → b ≡ true → (if b then whole (pos 1) else whole (pos 0)) =ℚ whole (pos 1)
     by_test true e = =ℚ_refl (whole (pos 1))
     by_test false e = absurd (true≢false (sym e))
 
-only-there : (u t : Term) → (t ≡ u → ⊥) → only u t =ℚ whole (pos 0)
+pub only-there : (u t : Term) → (t ≡ u → ⊥) → only u t =ℚ whole (pos 0)
 only-there u t h = by_test (are_same_term t u) refl
   where
     by_test : (b : Bool) → are_same_term t u ≡ b → (if b then whole (pos 1) else whole (pos 0)) =ℚ whole (pos 0)
@@ -86,7 +66,7 @@ worth-without fs u new (p ∷ ps) h =
 
 units-more : (fs : List (List Part)) (f : List Part) (ps : List Part) → HasItsUnits fs ps → HasItsUnits (fs ++ f ∷ []) ps
 units-more fs f [] h = _
-units-more fs f (p ∷ ps) h = (contains-more fs f (unit_form p.unit).parts h.0, units-more fs f ps h.1)
+units-more fs f (p ∷ ps) h = (Contains-append_left fs (f ∷ []) (unit_form p.unit).parts h.0, units-more fs f ps h.1)
 
 module _ (fs : List (List Part)) (nonbasic : ℕ → Bool) where
   -- ---- Sums of rows
@@ -132,7 +112,7 @@ module _ (fs : List (List Part)) (nonbasic : ℕ → Bool) where
           )
 
       by_parts : Contains fs (unit_form p.unit).parts → (c : Coefficients) × Spans ps c → (c : Coefficients) × Spans (p ∷ ps) c
-      by_parts (m, l, e) rest = by_row m (any_default fs m [] (unit_form p.unit).parts l ∙ e) (b.some m l) rest
+      by_parts (m, l, e) rest = by_row m (get_or_default fs m [] (unit_form p.unit).parts l ∙ e) (b.some m l) rest
 
   -- ---- One form more
 
@@ -143,8 +123,8 @@ module _ (fs : List (List Part)) (nonbasic : ℕ → Bool) where
         =ℚ-from_same (ap (λ (n : ℕ). weighted n c y) (length-more fs f))
         ∙ℚ +ℚ-same
         (sum-same (length fs) (λ k. c k *ℚ y k) (λ k. c k *ℚ worth v (form_at fs k))
-        (λ k p. =ℚ-from_same (ap (λ (g : List Part). c k *ℚ worth v g) (at_front fs f [] k p))))
-        (=ℚ-from_same (ap (λ (g : List Part). c (length fs) *ℚ worth v g) (at_end fs f [])))
+        (λ k p. =ℚ-from_same (ap (λ (g : List Part). c k *ℚ worth v g) (get_or_append_left fs (f ∷ []) [] k p))))
+        (=ℚ-from_same (ap (λ (g : List Part). c (length fs) *ℚ worth v g) (get_or-append_seam fs f [] [])))
 
     mix-stays : (c : Coefficients) (v : Valuation) → c (length fs) =ℚ whole (pos 0) → mix (fs ++ f ∷ []) c v =ℚ mix fs c v
     mix-stays c v z =
@@ -164,7 +144,7 @@ module _ (fs : List (List Part)) (nonbasic : ℕ → Bool) where
     row-stays b after less i c p r = record {
       at_basic = λ k e. r.at_basic k (less k e);
       equal = λ v.
-          =ℚ-from_same (ap (worth v) (at_front fs f [] i p))
+          =ℚ-from_same (ap (worth v) (get_or_append_left fs (f ∷ []) [] i p))
           ∙ℚ r.equal v
           ∙ℚ =ℚ_sym (mix-stays c v (r.at_basic (length fs) (new_is_basic b)));
     }
@@ -174,7 +154,7 @@ module _ (fs : List (List Part)) (nonbasic : ℕ → Bool) where
     new-row b c s = record {
       at_basic = s.at_basic;
       equal = λ v.
-          =ℚ-from_same (ap (worth v) (at_end fs f []))
+          =ℚ-from_same (ap (worth v) (get_or-append_seam fs f [] []))
           ∙ℚ s.equal v
           ∙ℚ =ℚ_sym (mix-stays c v (s.at_basic (length fs) (new_is_basic b)));
     }
@@ -186,11 +166,11 @@ module _ (fs : List (List Part)) (nonbasic : ℕ → Bool) where
         places k n = grind arith
 
         by_place : (i < length fs) ⊎ ((i ≡ length fs) ⊎ (length fs < i)) → HasItsUnits (fs ++ f ∷ []) (form_at (fs ++ f ∷ []) i)
-        by_place (inl p) = subst (λ (g : List Part). HasItsUnits (fs ++ f ∷ []) g) (sym (at_front fs f [] i p)) (units-more fs f (form_at fs i) (b.units i))
-        by_place (inr (inl e)) = subst (λ (g : List Part). HasItsUnits (fs ++ f ∷ []) g) (sym (ap (form_at (fs ++ f ∷ [])) e ∙ at_end fs f [])) own
+        by_place (inl p) = subst (λ (g : List Part). HasItsUnits (fs ++ f ∷ []) g) (sym (get_or_append_left fs (f ∷ []) [] i p)) (units-more fs f (form_at fs i) (b.units i))
+        by_place (inr (inl e)) = subst (λ (g : List Part). HasItsUnits (fs ++ f ∷ []) g) (sym (ap (form_at (fs ++ f ∷ [])) e ∙ get_or-append_seam fs f [] [])) own
         by_place (inr (inr p)) =
             subst (λ (g : List Part). HasItsUnits (fs ++ f ∷ []) g)
-            (sym (past_end (fs ++ f ∷ []) i [] (subst (λ (n : ℕ). n ≤ i) (sym (length-more fs f)) (omega (arith, p)))))
+            (sym (get_or_past (fs ++ f ∷ []) i [] (subst (λ (n : ℕ). n ≤ i) (sym (length-more fs f)) (omega (arith, p)))))
             _
 
     within-more : (k : ℕ) → k < length fs → k < length (fs ++ f ∷ [])

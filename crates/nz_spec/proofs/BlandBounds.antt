@@ -1,10 +1,10 @@
 -- Bounds of fractions: what stands before an infinitesimal decides, and then the infinitesimal does.
-use Rattle.std.proofs.Common.{◌≡◌, pos, negsuc, refl, sym, ap, ap₂, ◌∙◌, true≢false, Ordering, Less, Equal, Greater}
+use Rattle.std.proofs.Common.{◌≡◌, refl, sym, ap, true≢false, Ordering, Less, Equal, Greater}
 use Rattle.std.specs.Prelude.{◌↔◌}
 use Rattle.std.specs.Ordering.{ordering_then, is_lt}
-use Rattle.nz_spec.specs.Fraction.{Fraction, denominator, whole, ◌≤ℚ◌, ◌<ℚ◌, fraction_cmp}
+use Rattle.nz_spec.specs.Fraction.{Fraction, denominator, ◌≤ℚ◌, ◌<ℚ◌, fraction_cmp}
 use Rattle.nz_spec.specs.Infinitesimal.{infinitesimal_cmp}
-use Rattle.nz_spec.specs.Bland.{standing, at_most_bound, at_least_bound, BoundsSayWhatTheyMean}
+use Rattle.nz_spec.specs.Bland.{BoundsSayWhatTheyMean}
 use Rattle.nz_spec.proofs.FractionLaws.{≤ℚ-from_eq, ≤ℚ-from_lt, <ℚ_irrefl}
 use Rattle.nz_spec.proofs.FractionOrder.{fraction_ranked, fraction_cmp_is}
 

@@ -6,6 +6,7 @@ use Rattle.nz_spec.specs.Bland.{Position, HasBasis, Stand, at_lower, at_upper, a
 use Rattle.nz_spec.specs.BlandRuns.{IsRun, RunsAreShort}
 use Rattle.nz_spec.proofs.BasisRows.{equal-number, same-number}
 use Rattle.nz_spec.proofs.BlandSteps.{check_steps_keep_basis}
+use Rattle.nz_spec.proofs.BlandPositions.{place}
 use Rattle.nz_spec.proofs.BlandReturns.{no_posture_returns}
 
 -- ---- As many different numbers as there are below a bound
@@ -114,18 +115,15 @@ module _ (n : ℕ) (p : ℕ → Position) (b : HasBasis (p 0)) (run : IsRun n p)
       by_test (Some v) e = absurd (omega (arith, l, run-forms t h, (run-basis t h).listed k (ap is_some e)))
 
 pub runs_are_short : RunsAreShort
-runs_are_short n p b c start run =
+runs_are_short n p ready run =
     omega (
       arith,
       different (4 ^ length (p 0).forms) (suc n) (λ t. code (length (p 0).forms) (posture_of (p t)))
           (λ t h. code-small (length (p 0).forms) (posture_of (p t)))
-          (λ i j h k e. no_posture_returns n p b c start run i j h (omega (arith, k)) (λ l. by_place i j h k e l (place l (length (p 0).forms)))),
+          (λ i j h k e. no_posture_returns n p ready run i j h (omega (arith, k)) (λ l. by_place i j h k e l (place l (length (p 0).forms)))),
     )
   where
-    place : (k v : ℕ) → (k < v) ⊎ (v ≤ k)
-    place k v = grind arith
-
     by_place : (i j : ℕ) → i < j → j < suc n → code (length (p 0).forms) (posture_of (p i)) ≡ code (length (p 0).forms) (posture_of (p j)) → (l : ℕ) → (l < length (p 0).forms) ⊎ (length (p 0).forms ≤ l) → posture_of (p i) l ≡ posture_of (p j) l
     by_place i j h k e l (inl m) = same-code (length (p 0).forms) (posture_of (p i)) (posture_of (p j)) e l m
     by_place i j h k e l (inr m) =
-        no-stand n p b run i (omega (arith, h, k)) l m ∙ sym (no-stand n p b run j (omega (arith, k)) l m)
+        no-stand n p ready.basis run i (omega (arith, h, k)) l m ∙ sym (no-stand n p ready.basis run j (omega (arith, k)) l m)

@@ -14,7 +14,7 @@ use Rattle.nz_spec.proofs.BasisRows.{weighted-same, weighted-alone, nonbasic_for
 use Rattle.nz_spec.proofs.InfinitesimalOrder.{=δ_sym, =δ_trans}
 use Rattle.nz_spec.proofs.BlandRefutes.{outside-equal}
 
-place : (k n : ℕ) → (k < n) ⊎ (n ≤ k)
+pub place : (k n : ℕ) → (k < n) ⊎ (n ≤ k)
 place k n = grind arith
 
 module _ (u : Position) (b : HasBasis u) where

@@ -1,5 +1,5 @@
 -- Bounds that contradict: where no form can help, the row of the form that breaks its bound refutes them.
-use Rattle.std.proofs.Common.{◌≡◌, ℕ, zero, suc, ◌<◌, Bool, true, false, inl, inr, length, Option, Some, None, pos, refl, sym, ap, subst, arith, Ordering, Less, Equal, Greater}
+use Rattle.std.proofs.Common.{◌≡◌, ℕ, zero, suc, ◌<◌, Bool, true, false, ◌⊎◌, inl, inr, length, Option, Some, None, pos, refl, sym, ap, subst, arith, Ordering, Less, Equal, Greater}
 use Rattle.std.specs.Prelude.{if◌then◌else◌, unwrap_or}
 use Rattle.std.specs.Ordering.{MatchOrdering}
 use Rattle.std.proofs.lemmas.Int.{ints}
@@ -39,6 +39,12 @@ at_most-sum (suc n) c x y up down =
     (at_most-term (c n) (x n) (y n) (up n (omega arith)) (down n (omega arith)))
 
 -- ---- Bounds
+
+pub sides : (a b : Side) → (a ≡ b) ⊎ (a ≡ other_side b)
+sides lower_side lower_side = inl refl
+sides lower_side upper_side = inr refl
+sides upper_side lower_side = inr refl
+sides upper_side upper_side = inl refl
 
 -- x has come to the bound of this side, or is past it
 abbrev pub IsPast : Side → Infinitesimal → Infinitesimal → Type 0

@@ -9,30 +9,22 @@ use Rattle.nz_spec.specs.Fraction.{whole, ◌=ℚ◌, ◌<ℚ◌, fraction_eq}
 use Rattle.nz_spec.specs.Infinitesimal.{Infinitesimal, ◌=δ◌}
 use Rattle.nz_spec.specs.Basis.{Coefficients, IsSolution}
 use Rattle.nz_spec.specs.Bland.{Point, is_nonbasic, NonbasicFormsFit, zero_infinitesimal, value_in, sum_at, Position, HasBasis, Side, lower_side, upper_side, other_side, bound_on, IsOutside, Stand, at_lower, at_upper, at_neither, is_at, posture_of, HasRoom, CanHelp, exchanged_point, IsCheckStep}
-use Rattle.nz_spec.specs.BlandRuns.{AreConsistent, IsRun, NoPostureReturns}
+use Rattle.nz_spec.specs.BlandRuns.{IsRun, NoPostureReturns}
+use Rattle.nz_spec.specs.PositionMoves.{AreConsistent}
 use Rattle.nz_spec.proofs.FractionLaws.{=ℚ_refl, =ℚ-from_same, =ℚ_sym, ≤ℚ-from_eq, ≤ℚ-<ℚ_trans, <ℚ-≤ℚ_trans, ≤ℚ-from_lt, <ℚ_irrefl}
 use Rattle.nz_spec.proofs.FractionOrder.{same-fraction_eq, fraction_eq-same}
 use Rattle.nz_spec.proofs.FractionSolver.{◌∙ℚ◌}
 use Rattle.nz_spec.proofs.BasisRows.{equal-number, other-number, same-number}
-use Rattle.nz_spec.proofs.InfinitesimalOrder.{=δ_sym, =δ_trans}
+use Rattle.nz_spec.proofs.InfinitesimalOrder.{=δ_refl, =δ_sym, =δ_trans}
 use Rattle.nz_spec.proofs.BlandSteps.{step-solutions, check_steps_keep_basis}
-use Rattle.nz_spec.proofs.BlandRefutes.{IsPast, not_outside, outside-sum, outside-equal, past-between, past-outside, past-equal, inside-at, outside-at, held_back, held_up, held_down}
+use Rattle.nz_spec.proofs.BlandRefutes.{sides, IsPast, not_outside, outside-sum, outside-equal, past-between, past-outside, past-equal, inside-at, outside-at, held_back, held_up, held_down}
 use Rattle.nz_spec.proofs.BlandPositions.{all_values, all-have, one-value, nonbasic-value, standard-fits, coefficient-fits}
-
-=δ_refl : (x : Infinitesimal) → x =δ x
-=δ_refl x = record { standard = =ℚ_refl x.standard; coefficient = =ℚ_refl x.coefficient }
 
 =δ-from_same : {x y : Infinitesimal} → x ≡ y → x =δ y
 =δ-from_same {x} {y} e = subst (λ (z : Infinitesimal). x =δ z) e (=δ_refl x)
 
 some_is : (x y : Infinitesimal) → Some x ≡ Some y → x ≡ y
 some_is x y e = ap (λ (o : Option Infinitesimal). unwrap_or o x) e
-
-sides : (a b : Side) → (a ≡ b) ⊎ (a ≡ other_side b)
-sides lower_side lower_side = inl refl
-sides lower_side upper_side = inr refl
-sides upper_side lower_side = inr refl
-sides upper_side upper_side = inl refl
 
 turned : (a : Side) → other_side (other_side a) ≡ a
 turned lower_side = refl
@@ -571,6 +563,22 @@ module _ (s : Position) (x : ℕ → Point) (out into : ℕ → ℕ) (n : ℕ) w
                 basic-first (same-nonbasic (out top.0) ∙ g)
                 (first_entered (out top.0) (suc top.0) to (omega (arith, top.2)) inside (ap is_some (leaves top.0 (omega (arith, top.2, inside)) (out top.0) refl)) g)
 
+-- ---- One step
+
+-- the nonbasic forms break no bound after a step either
+pub step-fits : (s t : Position) (i j : ℕ) → AreConsistent s → NonbasicFormsFit s → IsCheckStep s t i j → NonbasicFormsFit t
+step-fits s t i j c start step =
+    subst (λ (u : Position). NonbasicFormsFit u) (sym step.after)
+    (fit-step s points (λ l. i) (λ l. j) 1 steps c 0 (omega arith) start)
+  where
+    points : ℕ → Point
+    points zero = s.point
+    points (suc l) = exchanged_point s.point i j step.bound
+
+    steps : (l : ℕ) → l < 1 → IsCheckStep (record s { point = points l }) (record s { point = points (suc l) }) i j
+    steps zero h = subst (λ (u : Position). IsCheckStep s u i j) step.after step
+    steps (suc l) h = absurd (omega (arith, h))
+
 -- ---- Any run
 
 module _ (n : ℕ) (p : ℕ → Position) (run : IsRun n p) where
@@ -592,8 +600,8 @@ module _ (n : ℕ) (p : ℕ → Position) (run : IsRun n p) where
       (subst (λ (u : Position). IsCheckStep (p t) u (run.leaving t) (run.entering t)) (placed-is (suc t) (omega (arith, h))) (run.step t h))
 
 pub no_posture_returns : NoPostureReturns
-no_posture_returns n p b c start run from to h inside same =
-    returned (p 0) (λ t. (p t).point) run.leaving run.entering n (placed-step n p run) b c start from to h inside
+no_posture_returns n p ready run from to h inside same =
+    returned (p 0) (λ t. (p t).point) run.leaving run.entering n (placed-step n p run) ready.basis ready.consistent ready.fit from to h inside
     (λ k.
     ap (λ (u : Position). posture_of u k) (sym (placed-is n p run from (omega (arith, h, inside))))
     ∙ same k

@@ -1,5 +1,5 @@
 -- Quotients of fractions: what they are by value, and what a divisor other than 0 leaves.
-use Rattle.std.proofs.Common.{◌≡◌, ℕ, zero, suc, true, false, [], ◌∷◌, ℤ, pos, negsuc, ◌*ℤ◌, refl, sym, ◌∙◌, subst, true≢false}
+use Rattle.std.proofs.Common.{◌≡◌, ℕ, zero, suc, false, [], ◌∷◌, ℤ, pos, negsuc, ◌*ℤ◌, refl, sym, ◌∙◌, subst, true≢false}
 use Rattle.nz_ints.proofs.Ring as ring
 use Rattle.nz_ints.proofs.Ring.{Atom, Literal, ◌⊗◌, Minus}
 use Rattle.nz_spec.specs.Fraction.{Fraction, denominator, over, whole, ◌=ℚ◌, ◌*ℚ◌, ◌/ℚ◌, flipped, reciprocal, outcome, exact, Quotient}

@@ -1,11 +1,11 @@
 -- The order of infinitesimals, as `infinitesimal_cmp` tells it: chains, sums and multiples.
-use Rattle.std.proofs.Common.{◌≡◌, true, false, pos, refl, sym, ap, ap₂, ◌∙◌, true≢false, Ordering, Less, Equal, Greater}
+use Rattle.std.proofs.Common.{◌≡◌, false, pos, refl, sym, ap, ap₂, ◌∙◌, true≢false, Ordering, Less, Equal, Greater}
 use Rattle.std.specs.Ordering.{ordering_then, ordering_reverse, is_gt, is_lt}
 use Rattle.std.specs.Cmp.{IsTotalOrder, upto, tied_itself, alike_right}
 use Rattle.std.proofs.lemmas.Cmp.{on_total, then_total}
 use Rattle.nz_spec.specs.Fraction.{Fraction, whole, ◌=ℚ◌, ◌<ℚ◌, ◌+ℚ◌, ◌*ℚ◌, fraction_cmp}
 use Rattle.nz_spec.specs.Infinitesimal.{Infinitesimal, ◌=δ◌, infinitesimal_cmp}
-use Rattle.nz_spec.proofs.FractionLaws.{=ℚ_sym, =ℚ_trans}
+use Rattle.nz_spec.proofs.FractionLaws.{=ℚ_refl, =ℚ_sym, =ℚ_trans}
 use Rattle.nz_spec.proofs.FractionOrder.{fraction_cmp_is, fraction_cmp_total}
 use Rattle.nz_spec.proofs.FractionArithmetic.{+ℚ_comm, *ℚ_comm, cmp-same, cmp-+ℚ, cmp-*ℚ_pos, cmp-*ℚ_neg}
 
@@ -67,6 +67,9 @@ tied {p} {q} h = sym (fraction_cmp_is p q Equal h)
 pub at_most-equal : (x y : Infinitesimal) → x =δ y → AtMost x y
 unfolding infinitesimal_cmp
 at_most-equal x y h = ap is_gt (ap₂ (λ (o p : Ordering). ordering_then o p) (tied h.standard) (tied h.coefficient))
+
+pub =δ_refl : (x : Infinitesimal) → x =δ x
+=δ_refl x = record { standard = =ℚ_refl x.standard; coefficient = =ℚ_refl x.coefficient }
 
 pub =δ_sym : {x y : Infinitesimal} → x =δ y → y =δ x
 =δ_sym h = record { standard = =ℚ_sym h.standard; coefficient = =ℚ_sym h.coefficient }

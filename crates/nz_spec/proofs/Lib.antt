@@ -12,6 +12,7 @@ pub mod BlandPositions
 pub mod BlandRefutes
 pub mod BlandReturns
 pub mod BlandSteps
+pub mod BlandTells
 pub mod BlandValues
 pub mod ByteClasses
 pub mod CutSums
@@ -25,6 +26,7 @@ pub mod FormPlaces
 pub mod FormSums
 pub mod FormTerms
 pub mod FormValues
+pub mod FormWorth
 pub mod FractionArithmetic
 pub mod FractionBounds
 pub mod FractionLaws
@@ -47,6 +49,7 @@ pub mod NormalGates
 pub mod NormalSorts
 pub mod Pieces
 pub mod Placed
+pub mod PositionMovesKeep
 pub mod ReadOperands
 pub mod Readings
 pub mod Roots

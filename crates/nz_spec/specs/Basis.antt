@@ -1,10 +1,11 @@
 -- Bases: lists of linear forms in which each form is just one sum of the nonbasic ones. Coefficients are known by that equation
 -- alone, and not by what some table holds.
 -- Source: Dutertre and de Moura, A Fast Linear-Arithmetic Solver for DPLL(T), CAV 2006, section 3 (basic and nonbasic variables).
-use Rattle.std.specs.Prelude.{◌≡◌, ℕ, zero, suc, ◌<◌, ◌==◌, Bool, true, false, List, [], ◌∷◌, length, pos, Contains, slice_index_or, if◌then◌else◌}
+use Rattle.std.specs.Prelude.{◌≡◌, ℕ, zero, suc, ◌<◌, ◌==◌, Bool, true, false, List, [], ◌∷◌, length, pos, Contains, slice_index_or, ◌↔◌, if◌then◌else◌}
 use Rattle.std.specs.List.{AllByRecursion}
 use Rattle.nz_spec.specs.Fraction.{Fraction, whole, ◌=ℚ◌, ◌+ℚ◌, ◌*ℚ◌}
 use Rattle.nz_spec.specs.Term.{Term, Assignment}
+use Rattle.nz_spec.specs.Literal.{are_same_term}
 use Rattle.nz_spec.specs.Form.{Part, unit_form, unit_value, parts_value}
 
 -- ---- Sums
@@ -89,6 +90,15 @@ pub record CoefficientsAreUnique : Type 0 where
       → IsCoefficient fs nonbasic i j p → IsCoefficient fs nonbasic i j q → p =ℚ q
   pub basis : (fs : List (List Part)) (nonbasic : ℕ → Bool) → ((i : ℕ) → HasItsUnits fs (form_at fs i)) → ((k : ℕ) → nonbasic k ≡ true → k < length fs)
       → ((i : ℕ) → i < length fs → (c : Coefficients) × IsRow fs nonbasic i c) → AreIndependent fs nonbasic → IsBasis fs nonbasic
+
+-- the coefficient of a unit in a form
+abbrev pub unit_coefficient : Term → List Part → Fraction
+unit_coefficient u [] = whole (pos 0)
+unit_coefficient u (p ∷ ps) = if are_same_term p.unit u then p.coefficient +ℚ unit_coefficient u ps else unit_coefficient u ps
+
+-- Forms are worth the same whatever the units are worth just where each unit has the same coefficient in both.
+abbrev pub WorthIsByUnits : Type 0
+WorthIsByUnits = (ps qs : List Part) → ((v : Valuation) → worth v ps =ℚ worth v qs) ↔ ((u : Term) → unit_coefficient u ps =ℚ unit_coefficient u qs)
 
 -- A nonbasic form is the sum of itself.
 abbrev pub NonbasicFormIsItself : Type 0

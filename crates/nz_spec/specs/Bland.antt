@@ -199,6 +199,15 @@ pub record BoundsSayWhatTheyMean : Type 0 where
 abbrev pub ValueIsComputed : Type 0
 ValueIsComputed = (n : ℕ) (c : Coefficients) (x : Point) → IsZeroAtBasic (is_nonbasic x) c → (row_value n c x).result =δ sum_at n c (value_in x)
 
+-- Rows tell what breaks a bound, by the values that are computed from them, and what can help.
+pub record RowsTell : Type 0 where
+  pub breaks : (s : Position) (rows : Rows) (side : Side) (bound : Infinitesimal) (i : ℕ) → HasBasis s → AreRows s.forms (is_nonbasic s.point) rows
+      → i < length s.forms → is_nonbasic s.point i ≡ false → bound_on side s i ≡ Some bound
+      → IsOutside side bound (row_value (length s.forms) (rows i) s.point).result ↔ Breaks s side bound i
+  pub helps : (s : Position) (rows : Rows) (side : Side) (i j : ℕ) → HasBasis s → AreRows s.forms (is_nonbasic s.point) rows
+      → i < length s.forms → is_nonbasic s.point i ≡ false → is_nonbasic s.point j ≡ true
+      → (((whole (pos 0) <ℚ rows i j) × HasRoom s side j) ⊎ ((rows i j <ℚ whole (pos 0)) × HasRoom s (other_side side) j)) ↔ CanHelp s i side j
+
 -- Each form has one value at a position. The values of all forms fit the basis, with any fraction for δ. Where no form breaks a
 -- bound, these values meet the bounds.
 pub record PositionsHaveValues : Type 0 where

@@ -1,13 +1,9 @@
 -- Runs of check steps: none comes back to where it was.
 -- Source: Bland, New finite pivoting rules for the simplex method, 1977; for these steps Dutertre and de Moura, A Fast
 -- Linear-Arithmetic Solver for DPLL(T), CAV 2006, section 3 (termination of checking).
-use Rattle.std.specs.Prelude.{◌≡◌, ℕ, suc, ◌<◌, ◌≤◌, ◌^◌, length, Some}
-use Rattle.nz_spec.specs.Infinitesimal.{Infinitesimal}
-use Rattle.nz_spec.specs.Bland.{Position, HasBasis, ◌<δ◌, NonbasicFormsFit, posture_of, IsCheckStep}
-
--- no lower bound is above an upper one of the same form
-abbrev pub AreConsistent : Position → Type 0
-AreConsistent s = (k : ℕ) (low high : Infinitesimal) → s.lower k ≡ Some low → s.upper k ≡ Some high → high <δ low → ⊥
+use Rattle.std.specs.Prelude.{◌≡◌, ℕ, suc, ◌<◌, ◌≤◌, ◌^◌, length}
+use Rattle.nz_spec.specs.Bland.{Position, posture_of, IsCheckStep}
+use Rattle.nz_spec.specs.PositionMoves.{IsReadyToCheck}
 
 -- so many check steps, and where they lead one after another
 pub record IsRun (n : ℕ) (p : ℕ → Position) : Type 0 where
@@ -19,9 +15,9 @@ pub record IsRun (n : ℕ) (p : ℕ → Position) : Type 0 where
 
 -- In a run of check steps no posture returns.
 abbrev pub NoPostureReturns : Type 0
-NoPostureReturns = (n : ℕ) (p : ℕ → Position) → HasBasis (p 0) → AreConsistent (p 0) → NonbasicFormsFit (p 0) → IsRun n p
+NoPostureReturns = (n : ℕ) (p : ℕ → Position) → IsReadyToCheck (p 0) → IsRun n p
     → (a b : ℕ) → a < b → b ≤ n → ((k : ℕ) → posture_of (p a) k ≡ posture_of (p b) k) → ⊥
 
 -- So it has fewer steps than there are postures: each form is basic, or stands in one of three ways.
 abbrev pub RunsAreShort : Type 0
-RunsAreShort = (n : ℕ) (p : ℕ → Position) → HasBasis (p 0) → AreConsistent (p 0) → NonbasicFormsFit (p 0) → IsRun n p → n < 4 ^ length (p 0).forms
+RunsAreShort = (n : ℕ) (p : ℕ → Position) → IsReadyToCheck (p 0) → IsRun n p → n < 4 ^ length (p 0).forms

@@ -34,6 +34,7 @@ pub mod Operations
 pub mod Order
 pub mod Outside
 pub mod Parse
+pub mod PositionMoves
 pub mod Reading
 pub mod Reply
 pub mod Request

@@ -1,8 +1,9 @@
 //! Laws of bases of linear forms.
-ghost use Rattle.nz_spec.specs.Basis.{CoefficientsAreUnique, NonbasicFormIsItself, ValueIsWorth};
+ghost use Rattle.nz_spec.specs.Basis.{CoefficientsAreUnique, NonbasicFormIsItself, ValueIsWorth, WorthIsByUnits};
 ghost use Rattle.nz_spec.specs.BasisMoves.{ExchangeKeepsBasis, JoinsKeepBasis, SolutionsAreWorth, SolutionsStay, ZerosAreNeverWide};
-ghost use Rattle.nz_spec.specs.Bland.{BoundsSayWhatTheyMean, CheckStepsKeepBasis, NoHelpRefutes, PositionsHaveValues, SumMoves, ValueIsComputed};
+ghost use Rattle.nz_spec.specs.Bland.{BoundsSayWhatTheyMean, CheckStepsKeepBasis, NoHelpRefutes, PositionsHaveValues, RowsTell, SumMoves, ValueIsComputed};
 ghost use Rattle.nz_spec.specs.BlandRuns.{NoPostureReturns, RunsAreShort};
+ghost use Rattle.nz_spec.specs.PositionMoves.{MovesKeepReady};
 ghost use Rattle.nz_spec.specs.WorkedBasis.{HasExchange, HasJoiningRow};
 
 /// Coefficients over a basis are unique.
@@ -18,6 +19,11 @@ pub fn nonbasic_form_is_itself()
 /// A form is worth under an assignment what its units are.
 pub fn value_is_worth()
     ensures worth { ValueIsWorth }
+{}
+
+/// Forms are worth the same just where each unit has the same coefficient in both.
+pub fn worth_is_by_units()
+    ensures units { WorthIsByUnits }
 {}
 
 /// An exchange of a basic and a nonbasic form leaves a basis, with the rows that are computed.
@@ -73,6 +79,16 @@ pub fn solutions_are_worth()
 /// What bounds say of fractions.
 pub fn bounds_say_what_they_mean()
     ensures mean { BoundsSayWhatTheyMean }
+{}
+
+/// What a check takes for granted stays when units, forms and bounds join, and when bounds are taken back.
+pub fn moves_keep_ready()
+    ensures ready { MovesKeepReady }
+{}
+
+/// Rows tell what breaks a bound, and what can help.
+pub fn rows_tell()
+    ensures tell { RowsTell }
 {}
 
 /// Forms that join two units, and an exchange, by the definitions alone.
