@@ -9,7 +9,7 @@ use Rattle.nz_elaborate.specs.Elaborate.{is_unknown_in}
 use Rattle.nz_sort.specs.Acts.{rule_of}
 use Rattle.nz_sort.specs.Live.{Standing}
 use Rattle.nz_sort.proofs.Asserting.{term_outcome, linear_assertion}
-use Rattle.nz_sort.proofs.Living.{companions_made, grows_more, live_scope, stands_kept}
+use Rattle.nz_sort.proofs.Living.{companions_made, live_scope, stands_kept}
 use Rattle.nz_sort.proofs.Ruling.{broken_in_each, refused_by_error}
 use Rattle.nz_sort.proofs.live.Live.assertion.Goals as goal
 
@@ -31,7 +31,7 @@ returns-in-Err-clause-refused c =
     (λ is. let h = c.in-Err.ensures.refused (ap Err is) (scope_of s) scope in record { known = h.known; distinct = h.distinct; holds = ap term_outcome h.holds }))
 
 pub returns-in_ok-add_companions-in-Ok-clause-grows : goal.returns-in_ok-add_companions-in-Ok-clause-grows
-returns-in_ok-add_companions-in-Ok-clause-grows c = grows_more _ _ _ c.in-Ok.ensures.grows c.in_ok-add_companions-in-Ok.ensures.grows
+returns-in_ok-add_companions-in-Ok-clause-grows c = c.grows_twice.ensures.twice _ _ _ c.in-Ok.ensures.grows c.in_ok-add_companions-in-Ok.ensures.grows
 
 pub returns-in_ok-add_companions-in-Ok-clause-companions : goal.returns-in_ok-add_companions-in-Ok-clause-companions
 returns-in_ok-add_companions-in-Ok-clause-companions c =

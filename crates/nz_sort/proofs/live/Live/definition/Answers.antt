@@ -4,7 +4,7 @@ use Rattle.nz_command.specs.Requests.{sort_view, parameter_view}
 use Rattle.nz_spec.specs.Script.{scope_of}
 use Rattle.nz_sort.specs.Live.{Standing}
 use Rattle.nz_sort.proofs.Defining.{unknown_definition, clashing_definition, declared_definition, unsorted_definition, nonlinear_definition, linear_definition}
-use Rattle.nz_sort.proofs.Living.{companions_made, grows_more, live_scope, looked_up, typed_kept}
+use Rattle.nz_sort.proofs.Living.{companions_made, live_scope, looked_up, typed_kept}
 use Rattle.nz_sort.proofs.live.Live.definition.Goals as goal
 
 pub is_linear-requires : goal.is_linear-requires
@@ -57,7 +57,7 @@ returns-then-not-is_linear-clause-refused c = λ s live.
     (c.in-Ok.ensures.found (scope_of s) (live_scope _ c.args.self.now s _ names live)) (sym c.is_linear.ensures.linear ∙ c.if-not-is_linear.true)
 
 pub returns-in_ok-add_companions-in-Ok-clause-grows : goal.returns-in_ok-add_companions-in-Ok-clause-grows
-returns-in_ok-add_companions-in-Ok-clause-grows c = grows_more _ _ _ c.in-Ok.ensures.grows c.in_ok-add_companions-in-Ok.ensures.grows
+returns-in_ok-add_companions-in-Ok-clause-grows c = c.grows_twice.ensures.twice _ _ _ c.in-Ok.ensures.grows c.in_ok-add_companions-in-Ok.ensures.grows
 
 pub returns-in_ok-add_companions-in-Ok-clause-companions : goal.returns-in_ok-add_companions-in-Ok-clause-companions
 returns-in_ok-add_companions-in-Ok-clause-companions c =
