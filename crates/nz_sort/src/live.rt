@@ -35,7 +35,7 @@ use nz_elaborate::{
 use nz_sexpr::Tree;
 use nz_spec::elaboration::terms_fit;
 use nz_spec::table::term_stays;
-use nz_term::{Constant, Head, Sort, TermId, Terms, add_companions, listing_order};
+use nz_term::{Constant, Head, Sort, TermId, Terms, add_companions, grows_twice, listing_order};
 use std::alloc::Global;
 use std::marker::Model;
 
@@ -356,6 +356,7 @@ impl Live {
         ensures accepted { IfOk result (λ d. (s : State) → IsLive terms.old self.now s → Defines name.now (definition_of s name.now (map parameter_view parameters.now) (sort_view sort.now) (written body.now)) terms.new d) }
         ensures refused { IfErr result (λ refusal. IfSome (rule_of refusal) (λ e. (s : State) → IsLive terms.old self.now s → definition_of s name.now (map parameter_view parameters.now) (sort_view sort.now) (written body.now) ≡ refused e)) }
     {
+        grows_twice();
         terms_fit();
         let mark = terms.mark();
         let made = elaborate_body(self.alloc, &self.names, terms, parameters, sort, body);
@@ -414,6 +415,7 @@ impl Live {
         ensures accepted { IfOk result (λ id. (s : State) → IsLive terms.old self.now s → Asserts (assertion_of s (written term.now)) terms.new id) }
         ensures refused { IfErr result (λ refusal. IfSome (rule_of refusal) (λ e. (s : State) → IsLive terms.old self.now s → assertion_of s (written term.now) ≡ refused e)) }
     {
+        grows_twice();
         let mark = terms.mark();
         let made = elaborate(self.alloc, &self.names, terms, term)?;
         if made.sort != Sort::Bool {

@@ -10,7 +10,7 @@ use Rattle.nz_spec.specs.Basis.{Valuation, worth, unit_coefficient, WorthIsByUni
 use Rattle.nz_spec.proofs.FractionLaws.{=ℚ_refl, =ℚ-from_same, =ℚ_sym}
 use Rattle.nz_spec.proofs.FractionArithmetic.{+ℚ-same, +ℚ-neg, neg_ℚ-same}
 use Rattle.nz_spec.proofs.FormValues.{times_zero}
-use Rattle.nz_spec.proofs.Literals.{same_term, one_term}
+use Rattle.nz_spec.proofs.Same.{same_term, one_term}
 use Rattle.nz_spec.proofs.FractionSolver.{◌∙ℚ◌, solve, equal_from_difference, plus_left, plus_right, times_left, times_right}
 use Rattle.nz_spec.proofs.BasisJoins.{only, only-here, only-there}
 

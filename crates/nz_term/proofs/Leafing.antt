@@ -1,12 +1,11 @@
 -- Leaves that are put into their table, and found there.
-use Rattle.std.proofs.Common.{◌≡◌, ℕ, zero, suc, ◌<◌, ◌≤◌, Bool, true, false, cond, List, [], ◌∷◌, ◌++◌, length, map, Option, Some, None, slice_get, get_or, refl, sym, ap, subst, ◌∙◌, arith, length-append, true≢false}
+use Rattle.std.proofs.Common.{◌≡◌, ℕ, zero, suc, ◌<◌, Bool, true, false, cond, List, [], ◌∷◌, ◌++◌, length, Option, Some, None, slice_get, get_or, refl, sym, ap, subst, ◌∙◌, arith, length-append, true≢false}
 use Rattle.std.specs.Prelude.{position, is_some, option_map}
 use Rattle.std.specs.List.{AllByRecursion, list_any}
 use Rattle.std.proofs.lemmas.Bool.{or_parts}
 use Rattle.std.proofs.lemmas.List.Quantifiers.{position-Some}
 use Rattle.std.proofs.lemmas.Option.{slice_get-get_or, slice_get_within}
 use Rattle.indexmap.specs.IndexSet.{insert_key}
-use Rattle.nz_spec.specs.Term as spec
 use Rattle.nz_spec.specs.Literal.{TellsHeads}
 use Rattle.nz_term.specs.declared.heads.Operator.{Operator}
 use Rattle.nz_term.specs.declared.leaves.Leaf.{Leaf}
@@ -15,7 +14,7 @@ use Rattle.nz_term.specs.declared.symbols.Symbol as symbols
 use Rattle.nz_term.specs.declared.symbols.Symbol.TheVariants as symbol
 use Rattle.nz_term.specs.Heads.{operator_of}
 use Rattle.nz_term.specs.Leaves.{AreKept, are_same_leaf, leaf_head}
-use Rattle.nz_term.specs.Stored.{AreStored, node_in, nodes_in}
+use Rattle.nz_term.specs.Stored.{nodes_in}
 use Rattle.nz_term.specs.Symbols.{HasLeaf, IsFoundSymbol, IsSymbolOf, head_in, head_or_falsum, leaf_at}
 use Rattle.nz_term.proofs.Equality.{kinds_apart, tells_leaves}
 

@@ -100,11 +100,7 @@ impl Facts {
 }
 
 /// Keeps the value of the term of this number, if it has one.
-fn keep(
-    values: &mut HashMap<TermId, Frac>,
-    id: TermId,
-    value: Option<Frac>,
-) -> Result<(), Memory>
+fn keep(values: &mut HashMap<TermId, Frac>, id: TermId, value: Option<Frac>) -> Result<(), Memory>
     ensures kept { OnOk result (is_some value ≡ true → get nat_eq values.new id ≡ value) }
     ensures others { (i : ℕ) → i < id → get nat_eq values.new i ≡ get nat_eq values.old i }
 {

@@ -24,4 +24,4 @@ pub use instances::instance;
 pub use listings::listing_order;
 pub use nodes::{Node, TermId};
 pub use order::post_order;
-pub use terms::{Terms, known_table};
+pub use terms::{Terms, grows_twice, known_table};

@@ -5,7 +5,7 @@ ghost use Rattle.nz_spec.specs.Term.{apply, head_fits, holds_number};
 ghost use Rattle.nz_spec.specs.Table.{HasItsArguments, HasOneNumberEach, IsTable, term_in, terms_at};
 ghost use Rattle.nz_term.specs.Facts.{fact_of};
 ghost use Rattle.nz_term.specs.Found.{IsFound};
-ghost use Rattle.nz_term.specs.Growth.{KeepsTerms};
+ghost use Rattle.nz_term.specs.Growth.{GrowsTwice, KeepsTerms};
 ghost use Rattle.nz_term.specs.Heads.{head_of};
 ghost use Rattle.nz_term.specs.Nodes.{node_of, node_with};
 
@@ -190,3 +190,8 @@ pub fn known_table(terms: &Terms)
 {
     terms.len();
 }
+
+/// A table that has grown twice has grown.
+pub fn grows_twice()
+    ensures twice { GrowsTwice }
+{}

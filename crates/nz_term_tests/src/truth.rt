@@ -108,7 +108,13 @@ fn integer(terms: &mut Terms, n: i64) -> Result<TermId, Memory>
 }
 
 // Whether an operator over two integers comes to the integer that is expected.
-fn is_of_integers(alloc: Global, head: Head<'_>, m: i64, n: i64, expected: i128) -> Result<bool, Memory>
+fn is_of_integers(
+    alloc: Global,
+    head: Head<'_>,
+    m: i64,
+    n: i64,
+    expected: i128,
+) -> Result<bool, Memory>
     requires operator { constant_of (head_of head) ≡ None }
     requires fits { IsTrue (head_fits (head_of head)) }
 {

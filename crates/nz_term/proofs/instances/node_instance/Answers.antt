@@ -1,6 +1,6 @@
 -- The instance of a term by how its head and its arguments are.
 use Rattle.std.proofs.Common.{◌≡◌, ◌<◌, List, [], ◌∷◌, ◌++◌, ℕ, length, map, slice_get, All, false, Some, sym, ap, subst, ◌∙◌, true≢false}
-use Rattle.std.specs.Prelude.{◌⊎◌, bytes_eq, IfOk, Result, Ok, Err}
+use Rattle.std.specs.Prelude.{◌⊎◌, bytes_eq}
 use Rattle.std.proofs.lemmas.Option.{slice_get_within}
 use Rattle.std.specs.Cmp.Lexicographic.{bytes_decides}
 use Rattle.nz_lists.proofs.Results.{both_ok}

@@ -8,7 +8,7 @@ use Rattle.nz_term.specs.Constants.{sort_of}
 use Rattle.nz_elaborate.specs.Elaborate.{is_unknown_in}
 use Rattle.nz_sort.specs.Live.{Standing}
 use Rattle.nz_sort.proofs.Asserting.{term_outcome, linear_assertion}
-use Rattle.nz_sort.proofs.Living.{companions_made, grows_more, live_scope, stands_kept}
+use Rattle.nz_sort.proofs.Living.{companions_made, live_scope, stands_kept}
 use Rattle.nz_sort.proofs.Ruling.{broken_by, refused_by}
 use Rattle.nz_sort.proofs.live.Live.assertion.Goals as goal
 
@@ -30,7 +30,7 @@ returns-in_err-made-clause-refused c =
     (λ is. let h = c.in_err-made.ensures.refused (ap Err is) (scope_of s) scope in record { known = h.known; distinct = h.distinct; holds = ap term_outcome h.holds }))
 
 pub returns-clause-grows : goal.returns-clause-grows
-returns-clause-grows c = grows_more _ _ _ c.in_ok-made.ensures.grows c.in_ok-add_companions.ensures.grows
+returns-clause-grows c = c.grows_twice.ensures.twice _ _ _ c.in_ok-made.ensures.grows c.in_ok-add_companions.ensures.grows
 
 pub returns-clause-companions : goal.returns-clause-companions
 returns-clause-companions c =

@@ -7,7 +7,7 @@ use Rattle.nz_spec.specs.Command.{refused}
 use Rattle.nz_sort.specs.Acts.{rule_of}
 use Rattle.nz_sort.specs.Live.{Standing}
 use Rattle.nz_sort.proofs.Defining.{unmade_definition, redeclared_definition, nonlinear_definition, linear_definition}
-use Rattle.nz_sort.proofs.Living.{companions_made, grows_more, live_scope, looked_up, typed_kept}
+use Rattle.nz_sort.proofs.Living.{companions_made, live_scope, looked_up, typed_kept}
 use Rattle.nz_sort.proofs.Ruling.{broken_by, broken_in_each}
 use Rattle.nz_sort.proofs.live.Live.definition.Goals as goal
 
@@ -59,7 +59,7 @@ returns-then-not-is_linear-clause-refused c = λ s live.
     (c.in_ok-definition.ensures.found (scope_of s) (live_scope _ c.args.self.now s _ names live)) (sym c.is_linear.ensures.linear ∙ c.if-not-is_linear.true)
 
 pub returns-clause-grows : goal.returns-clause-grows
-returns-clause-grows c = grows_more _ _ _ c.in_ok-definition.ensures.grows c.in_ok-add_companions.ensures.grows
+returns-clause-grows c = c.grows_twice.ensures.twice _ _ _ c.in_ok-definition.ensures.grows c.in_ok-add_companions.ensures.grows
 
 pub returns-clause-companions : goal.returns-clause-companions
 returns-clause-companions c =

@@ -1,5 +1,5 @@
 -- The key that is looked up stands for the term.
-use Rattle.std.proofs.Common.{◌≡◌, ◌<◌, length, All, None, sym, subst, ◌∙◌}
+use Rattle.std.proofs.Common.{◌<◌, length, All, None, sym, subst, ◌∙◌}
 use Rattle.nz_spec.specs.Term.{apply}
 use Rattle.nz_spec.specs.Table.{IsTable, term_in, terms_at}
 use Rattle.nz_term.specs.declared.nodes.Stored.{Stored}
