@@ -1,5 +1,5 @@
 -- Definitions: the rules on one, and what it leaves.
-use Rattle.std.proofs.Common.{◌||◌, ◌&&◌, ◌+◌, ◌-◌, option_and_then, ◌≡◌, ℕ, suc, List, [], ◌∷◌, ◌++◌, length, map, take, Option, None, Some, IfSome, Result, Ok, Err, IfOk, Bool, true, false, cond, slice_get, refl, sym, ap, ◌∙◌, append-nil, subst, arith}
+use Rattle.std.proofs.Common.{◌||◌, ◌&&◌, ◌+◌, option_and_then, ◌≡◌, ℕ, suc, List, [], ◌∷◌, ◌++◌, length, map, take, Option, None, Some, IfSome, Result, Ok, Err, IfOk, Bool, true, false, cond, slice_get, refl, sym, ap, ◌∙◌, append-nil, subst, arith}
 use Rattle.std.specs.List.{AllByRecursion}
 use Rattle.nz_spec.specs.Term.{Sort, int_sort, real_sort, to_real, Term, no_terms, terms, apply, are_same_sort}
 use Rattle.nz_spec.specs.Normal.{normal_of}
@@ -15,7 +15,6 @@ use Rattle.nz_spec.specs.Command.{define, Outcome, refused}
 use Rattle.nz_spec.specs.Error.{unknown_symbol, wrong_sort, not_linear, already_declared}
 use Rattle.nz_spec.specs.Scoping.{clash, has_clash}
 use Rattle.nz_term.specs.Constants.{sort_of}
-use Rattle.nz_elaborate.specs.declared.typed.Typed.{Typed}
 use Rattle.nz_elaborate.specs.declared.names.Definition as code
 use Rattle.nz_elaborate.specs.declared.faults.ElaborateError.{ElaborateError}
 use Rattle.nz_elaborate.specs.declared.faults.ElaborateError.TheVariants as errors

@@ -1,4 +1,4 @@
-use Rattle.std.proofs.Common.{◌≡◌, ◌∙◌, ◌<◌, length, true, Err, ap, sym, rules}
+use Rattle.std.proofs.Common.{◌≡◌, ◌∙◌, true, Err, ap, sym, rules}
 use Rattle.nz_command.specs.View.{view as written}
 use Rattle.nz_spec.specs.Term.{are_same_sort, bool_sort}
 use Rattle.nz_spec.specs.Elaboration.{term_of}

@@ -1,4 +1,4 @@
-use Rattle.std.proofs.Common.{◌≡◌, ◌∙◌, ◌<◌, length, map, All, Err, ap, sym, subst}
+use Rattle.std.proofs.Common.{◌∙◌, ◌<◌, length, map, All, Err, ap, sym, subst}
 use Rattle.nz_command.specs.Requests.{question_view}
 use Rattle.nz_spec.specs.Elaboration.{terms_of}
 use Rattle.nz_spec.specs.Scoping.{have_clash}
