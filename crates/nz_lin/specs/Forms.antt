@@ -28,9 +28,8 @@ form_over ns f = record { parts = parts_over ns f.parts; offset = f.offset }
 abbrev pub meeting : List Part → Arithmetic → ℕ → Fraction → Computation Fraction
 meeting ps op place c = operated op (elim (slice_get ps place) [ Some p ↦ p.coefficient | None ↦ whole (pos 0) ]) c
 
-abbrev pub met_at : List Part → Arithmetic → ℕ → Fraction → List Part
-met_at ps op place c =
-    let met = (meeting ps op place c).result in
+abbrev pub with_met : List Part → ℕ → Fraction → List Part
+with_met ps place met =
     if is_zero met then remove ps place
     else elim (slice_get ps place) [ Some p ↦ set ps place (record { unit = p.unit; sort = p.sort; coefficient = met }) | None ↦ ps ]
 
