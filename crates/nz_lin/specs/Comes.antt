@@ -14,7 +14,7 @@ use Rattle.nz_lin.specs.declared.form.Side.{Side}
 use Rattle.nz_lin.specs.declared.form.Side.TheVariants.{Left, Right}
 use Rattle.nz_lin.specs.declared.form.Sign.{Sign}
 use Rattle.nz_lin.specs.declared.form.Sign.TheVariants.{Plus, Minus}
-use Rattle.nz_lin.specs.Forms.{Numbered, form_over, parts_over, AreUnits}
+use Rattle.nz_lin.specs.Forms.{Numbered, form_over, parts_over, negated, AreUnits}
 use Rattle.nz_lin.specs.Stops.{IsStopAt}
 
 -- ---- Operations
@@ -23,6 +23,11 @@ use Rattle.nz_lin.specs.Stops.{IsStopAt}
 abbrev pub arithmetic_of : Sign → Arithmetic
 arithmetic_of Plus = Sum
 arithmetic_of Minus = Difference
+
+-- a part that is added to nothing, or subtracted from it
+abbrev pub alone : Sign → Part → Part
+alone Plus p = p
+alone Minus p = negated p
 
 -- the product of a number with a factor, which stands on this side
 abbrev pub times : Side → Fraction → Fraction → Computation Fraction

@@ -1,6 +1,6 @@
 -- How the form of a term is made of those of its arguments.
 use Rattle.std.specs.Prelude.{◌≡◌, ℕ, ◌<◌, Bool, IsTrue, List, [], ◌∷◌, ◌++◌, map, reverse, length, All, Option, Some, None, IsSome, is_some, slice_get, unwrap_or, pos, if◌then◌else◌}
-use Rattle.nz_spec.specs.Fraction.{Fraction, whole, Arithmetic, Difference, Product}
+use Rattle.nz_spec.specs.Fraction.{Fraction, whole, Arithmetic, Sum, Difference, Product}
 use Rattle.nz_spec.specs.Computation.{Computation, operated, at_once, and_then}
 use Rattle.nz_spec.specs.Form as spec
 use Rattle.nz_spec.specs.FormOf.{constants_product, open_form, divided_by_each}
@@ -86,3 +86,15 @@ product_of cs fs = and_then (constants_product cs) (λ p. spec.scaled (λ c. ope
 abbrev pub quotient_of : List (Option Fraction) → List spec.Form → Computation spec.Form
 quotient_of (c ∷ cs) (f ∷ fs) = divided_by_each f cs
 quotient_of cs fs = at_once (spec.constant_form (whole (pos 1)))
+
+abbrev pub real_of : List spec.Form → spec.Form → Computation spec.Form
+real_of (f ∷ []) unit = at_once f
+real_of fs unit = at_once unit
+
+-- a term that is opened so
+abbrev pub opened_by : spec.Numbering → Opening → List (Option Fraction) → List spec.Form → spec.Form → Computation spec.Form
+opened_by number Adds cs fs unit = joined_forms number Sum fs
+opened_by number Subtracts cs fs unit = difference_of number fs
+opened_by number Multiplies cs fs unit = product_of cs fs
+opened_by number Divides cs fs unit = quotient_of cs fs
+opened_by number ToReal cs fs unit = real_of fs unit

@@ -1,13 +1,13 @@
 //! Forms, and how they are added, subtracted, negated and multiplied.
-ghost use Rattle.std.specs.Prelude.{◌≡◌, ◌<◌, List, [], IfOk, OnOk, vec_len};
+ghost use Rattle.std.specs.Prelude.{◌≡◌, ◌<◌, List, [], IfOk, OnOk, map, vec_len};
 ghost use Rattle.nz_spec.specs.Computation.{operated};
 ghost use Rattle.nz_spec.specs.Form as spec;
 ghost use Rattle.nz_spec.specs.Form.{negated_form, joined, part_joined, scaled, unit_form};
 ghost use Rattle.nz_spec.specs.FormOf.{number_in};
 ghost use Rattle.nz_spec.specs.Fraction.{Fraction};
 ghost use Rattle.nz_spec.specs.Table.{IsTable, Node, term_in};
-ghost use Rattle.nz_lin.specs.Comes.{AreFormed, Comes, IsFormed, IsOperated, arithmetic_of, times};
-ghost use Rattle.nz_lin.specs.Forms.{AreUnits, NamesUnit, form_over, meeting, part_over, parts_over, with_met};
+ghost use Rattle.nz_lin.specs.Comes.{AreFormed, Comes, IsFormed, IsOperated, alone, arithmetic_of, times};
+ghost use Rattle.nz_lin.specs.Forms.{AreUnits, NamesUnit, form_over, meeting, negated, part_over, parts_over, with_last, with_met};
 
 use nz_base::Memory;
 use nz_frac::{Frac, Wide};
@@ -30,9 +30,7 @@ pub struct Part {
 impl Part {
     /// The part with the other sign.
     fn neg(self) -> Part
-        ensures negated { (ns : List Node) → part_over ns result ≡ spec.negated_part (part_over ns self) }
-        ensures unit { result.unit ≡ self.unit }
-        ensures sort { result.sort ≡ self.sort }
+        ensures negated { result ≡ negated self }
     {
         Part {
             coefficient: self.coefficient.neg(),
@@ -42,9 +40,7 @@ impl Part {
 
     /// What is added to nothing, or subtracted from it.
     fn alone(self, sign: Sign) -> Part
-        ensures alone { (ns : List Node) → part_over ns result ≡ spec.part_alone (arithmetic_of sign) (part_over ns self) }
-        ensures unit { result.unit ≡ self.unit }
-        ensures sort { result.sort ≡ self.sort }
+        ensures alone { result ≡ alone sign self }
     {
         match sign {
             Sign::Plus => self,
@@ -174,9 +170,8 @@ impl Form {
         ensures negated { IfOk result (λ f. (ns : List Node) → form_over ns f ≡ negated_form (form_over ns self.now)) }
         ensures units { IfOk result (λ f. (ns : List Node) → AreUnits ns self.now.parts → AreUnits ns f.parts) }
     {
-        let parts = self.parts.iter().map(|part| part.neg()).collect(alloc)?;
         Ok(Form {
-            parts,
+            parts: negated_parts(alloc, self.parts.as_slice())?,
             offset: self.offset.neg(),
         })
     }
@@ -237,7 +232,7 @@ pub(crate) enum Side {
 impl Side {
     /// The product of a factor, which stands on this side, with a number.
     #[tactic(auto, unfolding(nz_spec::specs::Fraction::first_wide))]
-    fn product(self, factor: Frac, number: Frac) -> Result<Frac, Wide>
+    pub(crate) fn product(self, factor: Frac, number: Frac) -> Result<Frac, Wide>
         ensures product { IsOperated (times self factor number) result }
     {
         match self {
@@ -245,6 +240,13 @@ impl Side {
             Side::Right => number.mul(factor),
         }
     }
+}
+
+/// Parts with the other sign.
+fn negated_parts(alloc: Global, parts: &[Part]) -> Result<Vec<Part>, AllocError>
+    ensures negated { IfOk result (λ new. new.items ≡ map negated parts.now) }
+{
+    parts.iter().map(|part| part.neg()).collect(alloc)
 }
 
 /// Each coefficient as a product with a number, which stands on this side; a part whose coefficient gets 0 goes.
@@ -260,14 +262,22 @@ fn multiplied_parts(
     let mut new = Vec::new(alloc);
     for part in parts {
         let coefficient = side.product(factor, part.coefficient)?;
-        if !coefficient.is_zero() {
-            new.push(Part {
-                coefficient,
-                ..*part
-            })?;
-        }
+        put(&mut new, Part {
+            coefficient,
+            ..*part
+        })?;
     }
     Ok(new)
+}
+
+/// Puts a part last, where its coefficient isn't 0.
+fn put(parts: &mut Vec<Part>, part: Part) -> Result<(), Memory>
+    ensures put { OnOk result (parts.new.items ≡ with_last parts.old.items part) }
+{
+    if !part.coefficient.is_zero() {
+        parts.push(part)?;
+    }
+    Ok(())
 }
 
 /// Adds parts, or subtracts them, one after another.

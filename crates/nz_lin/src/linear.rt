@@ -1,20 +1,24 @@
 //! The forms of terms.
-ghost use Rattle.std.specs.Prelude.{◌≡◌, ◌<◌, ◌++◌, All, IfOk, IfErr, IsTrue, List, OnOk, Some, length, nat_eq};
+ghost use Rattle.std.specs.Prelude.{◌≡◌, ◌≢◌, ◌<◌, ◌++◌, All, IfOk, IfErr, IsTrue, List, OnOk, Some, length, nat_eq, pos};
 ghost use Rattle.std.specs.HashMap.{get};
-ghost use Rattle.nz_spec.specs.FormOf as form;
+ghost use Rattle.nz_spec.specs.Computation.{at_once, operated};
+ghost use Rattle.nz_spec.specs.Form.{unit_form};
+ghost use Rattle.nz_spec.specs.FormOf as forms_of;
 ghost use Rattle.nz_spec.specs.FormOf.{first_wide_in_form, number_in};
+ghost use Rattle.nz_spec.specs.Fraction.{Quotient, whole};
 ghost use Rattle.nz_spec.specs.Linear.{divides_by_constants, is_linear};
 ghost use Rattle.nz_spec.specs.Table.{IsTable, Node, term_in};
-ghost use Rattle.nz_lin.specs.Comes.{IsFormed, IsNumbered, arithmetic_of};
-ghost use Rattle.nz_lin.specs.Forms.{IsFormOf};
-ghost use Rattle.nz_lin.specs.Making.{AreMade, HaveForms, HaveUnits, constants_at, difference_of, joined_forms, made_forms, opened_kids, opening_in, product_of, quotient_of, steps_of};
+ghost use Rattle.nz_term.specs.Heads.{head_of};
+ghost use Rattle.nz_lin.specs.Comes.{IsFormed, IsNumbered, IsOperated, arithmetic_of};
+ghost use Rattle.nz_lin.specs.Forms.{AreUnits, IsFormOf, form_over};
+ghost use Rattle.nz_lin.specs.Making.{AreMade, HaveForms, HaveUnits, constants_at, difference_of, joined_forms, made_forms, opened_by, opened_kids, opening_in, opening_of, product_of, quotient_of, steps_of};
 ghost use Rattle.nz_lin.specs.Stops.{IsStopAt};
 
 use crate::form::{Form, LinStop, Side, Sign};
 use nz_base::Memory;
-use nz_frac::Frac;
+use nz_frac::{Frac, Wide};
 use nz_spec::table::term_of_node;
-use nz_term::{Head, Operator, Sort, TermId, Terms, known_table};
+use nz_term::{Head, Operator, TermId, Terms, known_table};
 use std::alloc::Global;
 use std::collections::HashMap;
 
@@ -78,8 +82,8 @@ fn enter(terms: &Terms, id: TermId, steps: &mut Vec<Step>) -> Result<(), Memory>
 {
     steps.push(Step::Leave(id))?;
     if opening_in(terms, id).is_some() {
-        for kid in terms.kids(id).iter().rev().copied() {
-            steps.push(Step::Enter(kid))?;
+        for kid in terms.kids(id).iter().rev() {
+            steps.push(Step::Enter(*kid))?;
         }
     }
     Ok(())
@@ -90,10 +94,19 @@ fn opening_in(terms: &Terms, id: TermId) -> Option<Opening>
     requires within { id < length terms.now }
     ensures opening { result ≡ opening_in (term_in terms.now id) }
 {
+    term_of_node();
+    known_table(terms);
     if terms.constant(id).is_some() {
         return None;
     }
-    match terms.head(id) {
+    opening_of(terms.head(id))
+}
+
+/// How arithmetic opens terms of this head, where they aren't constant.
+fn opening_of(head: &Head) -> Option<Opening>
+    ensures opening { result ≡ opening_of (head_of head.now) }
+{
+    match head {
         Head::Operator(operator) => match operator {
             Operator::Sum(_) => Some(Opening::Sum),
             Operator::Difference(_) => Some(Opening::Difference),
@@ -117,35 +130,46 @@ fn form_over(
     requires linear { IsTrue (is_linear (term_in terms.now id)) }
     requires made { AreMade terms.now (get nat_eq forms.now) }
     requires forms { HaveForms (get nat_eq forms.now) (opened_kids terms.now id) }
-    ensures formed { IsFormed terms.now (form.form_of (number_in terms.now) (term_in terms.now id)) result }
+    ensures formed { IsFormed terms.now (forms_of.form_of (number_in terms.now) (term_in terms.now id)) result }
 {
+    term_of_node();
+    known_table(terms);
     if let Some(number) = terms.constant(id) {
         return Ok(Form::number(alloc, number));
     }
     match opening_in(terms, id) {
-        Some(opening) => opened(alloc, terms, id, opening, forms),
-        None => Ok(Form::unit(alloc, id, terms.head(id).sort())?),
+        Some(opening) => opened(alloc, terms, id, opening, terms.kids(id), forms),
+        None => unit(alloc, terms, id),
     }
 }
 
-/// The form of a term that arithmetic opens, over those of its arguments.
+/// The form of a unit.
+fn unit(alloc: Global, terms: &Terms, id: TermId) -> Result<Form, LinStop>
+    requires within { id < length terms.now }
+    ensures formed { IsFormed terms.now (at_once (unit_form (term_in terms.now id))) result }
+{
+    term_of_node();
+    known_table(terms);
+    Ok(Form::unit(alloc, id, terms.head(id).sort())?)
+}
+
+/// The form of a term that arithmetic opens so, over those of its arguments.
 fn opened(
     alloc: Global,
     terms: &Terms,
     id: TermId,
     opening: Opening,
+    kids: &[TermId],
     forms: &HashMap<TermId, Form>,
 ) -> Result<Form, LinStop>
-    requires within { id < length terms.now }
-    requires linear { IsTrue (is_linear (term_in terms.now id)) }
-    requires opening { opening_in (term_in terms.now id) ≡ Some opening }
-    requires made { AreMade terms.now (get nat_eq forms.now) }
-    requires forms { HaveForms (get nat_eq forms.now) (opened_kids terms.now id) }
-    ensures formed { IsFormed terms.now (form.form_of (number_in terms.now) (term_in terms.now id)) result }
+    requires term { id < length terms.now }
+    requires within { All (λ k. k < length terms.now) kids.now }
+    requires forms { HaveForms (get nat_eq forms.now) kids.now }
+    requires units { HaveUnits terms.now (get nat_eq forms.now) kids.now }
+    requires divisors { opening ≡ Opening.Quotient → IsTrue (divides_by_constants (constants_at terms.now kids.now)) }
+    ensures formed { IsFormed terms.now (opened_by (number_in terms.now) opening (constants_at terms.now kids.now) (made_forms terms.now (get nat_eq forms.now) kids.now) (unit_form (term_in terms.now id))) result }
 {
-    term_of_node();
     known_table(terms);
-    let kids = terms.kids(id);
     match opening {
         Opening::Sum => joined(alloc, Sign::Plus, kids, forms),
         Opening::Difference => difference(alloc, kids, forms),
@@ -153,7 +177,7 @@ fn opened(
         Opening::Quotient => quotient(alloc, terms, kids, forms),
         Opening::ToReal => match kids {
             [kid] => Ok(forms[kid].copied(alloc)?),
-            _ => Ok(Form::unit(alloc, id, Sort::Real)?),
+            _ => unit(alloc, terms, id),
         },
     }
 }
@@ -216,13 +240,13 @@ fn product(
 /// The product of the constants among these terms, from the left; of none it is 1.
 fn constants_product(terms: &Terms, kids: &[TermId]) -> Result<Frac, LinStop>
     requires within { All (λ k. k < length terms.now) kids.now }
-    ensures product { IsNumbered (form.constants_product (constants_at terms.now kids.now)) result }
+    ensures product { IsNumbered (forms_of.constants_product (constants_at terms.now kids.now)) result }
 {
     let mut product: Option<Frac> = None;
     for kid in kids {
         if let Some(constant) = terms.constant(*kid) {
             product = Some(match product {
-                Some(product) => product.mul(constant)?,
+                Some(product) => Side::Left.product(product, constant)?,
                 None => constant,
             });
         }
@@ -230,7 +254,7 @@ fn constants_product(terms: &Terms, kids: &[TermId]) -> Result<Frac, LinStop>
     Ok(product.unwrap_or(Frac::whole(1)))
 }
 
-/// The form of the first term, times 1/k for each constant k among the others; of none it is 1.
+/// The form of the first term, times 1/k for each of the others, which are constants k other than 0; of none it is 1.
 fn quotient(
     alloc: Global,
     terms: &Terms,
@@ -247,10 +271,26 @@ fn quotient(
     };
     let mut form = forms[first].copied(alloc)?;
     for divisor in divisors {
-        if let Some(k) = terms.constant(*divisor) {
-            let factor = Frac::whole(1).div(k)?;
-            form = form.multiplied(alloc, Side::Right, factor)?;
-        }
+        let constant = terms.constant(*divisor).unwrap();
+        form = divided(alloc, &form, constant)?;
     }
     Ok(form)
+}
+
+/// A form times 1/k.
+fn divided(alloc: Global, form: &Form, k: Frac) -> Result<Form, LinStop>
+    requires nonzero { k.numerator ≢ pos 0 }
+    ensures formed { (ns : List Node) → AreUnits ns form.now.parts → IsFormed ns (forms_of.divided_by k (form_over ns form.now)) result }
+{
+    let factor = inverse(k)?;
+    form.multiplied(alloc, Side::Right, factor)
+}
+
+/// 1/k.
+#[tactic(auto, unfolding(nz_spec::specs::Fraction::first_wide))]
+fn inverse(k: Frac) -> Result<Frac, Wide>
+    requires nonzero { k.numerator ≢ pos 0 }
+    ensures inverse { IsOperated (operated Quotient (whole (pos 1)) k) result }
+{
+    Frac::whole(1).div(k)
 }
