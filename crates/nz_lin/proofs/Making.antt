@@ -139,11 +139,11 @@ not_by (Some q) p none e = absurd cc
 -- the node of a number, by its head or by its arguments
 head_by : (o : Option Node) (h : Head) → option_map (λ (n : Node). n.head) o ≡ Some h → (n : Node) × ((o ≡ Some n) × (n.head ≡ h))
 head_by None h e = absurd cc
-head_by (Some n) h e = (n, refl, same_Some n.head h e)
+head_by (Some n) h e = (n, (refl, same_Some n.head h e))
 
 kids_by : (o : Option Node) (ks : List ℕ) → option_map (λ (n : Node). n.kids) o ≡ Some ks → (n : Node) × ((o ≡ Some n) × (n.kids ≡ ks))
 kids_by None ks e = absurd cc
-kids_by (Some n) ks e = (n, refl, same_Some n.kids ks e)
+kids_by (Some n) ks e = (n, (refl, same_Some n.kids ks e))
 
 module _ (law : TermOfNode) (ns : List Node) (table : IsTable ns) (id : ℕ) where
   pub opening_is : (h : Head) → option_map (λ (n : Node). n.head) (slice_get ns id) ≡ Some h → constant_value (term_in ns id) ≡ None → opening_of h ≡ opening_in (term_in ns id)
@@ -216,5 +216,18 @@ module _ (law : TermOfNode) (ns : List Node) (table : IsTable ns) (id : ℕ) whe
     pub divisors : o ≡ Divides → IsTrue (is_linear (term_in ns id)) → IsTrue (divides_by_constants (constants_at ns n.kids))
     divisors e linear =
         let whole : is_linear (apply n.head parts) ≡ true = sym (ap is_linear (law ns table id n at)) ∙ linear in
-        sym (ap divides_by_constants (sym (constants_are ns n.kids)))
+        sym (ap divides_by_constants (constants_are ns n.kids))
         ∙ divides n.head (constant_values parts) (both.1 ∙ ap Some e) ((and_parts (is_linear_node n.head (constant_values parts)) (are_linear parts) whole).0)
+
+pub none_from : (o : Option Fraction) → is_some o ≡ false → o ≡ None
+none_from None e = refl
+none_from (Some q) e = absurd (true≢false e)
+
+-- the arguments that are opened, by those of the node
+pub opened_kids_are : (ns : List Node) (id : ℕ) (ks : List ℕ) → option_map (λ (n : Node). n.kids) (slice_get ns id) ≡ Some ks → is_some (opening_in (term_in ns id)) ≡ true → opened_kids ns id ≡ ks
+opened_kids_are ns id ks at some =
+    let n = kids_by (slice_get ns id) ks at in
+    ap (λ b. if b then elim (slice_get ns id) [ Some m ↦ m.kids | None ↦ [] ] else []) some ∙ ap (λ o. elim o [ Some m ↦ m.kids | None ↦ [] ]) n.1.0 ∙ n.1.1
+
+pub no_opened_kids : (ns : List Node) (id : ℕ) → is_some (opening_in (term_in ns id)) ≡ false → opened_kids ns id ≡ []
+no_opened_kids ns id none = ap (λ b. if b then elim (slice_get ns id) [ Some m ↦ m.kids | None ↦ [] ] else []) none

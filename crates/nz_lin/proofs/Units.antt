@@ -1,5 +1,5 @@
 -- Parts in the order of their units, where one goes, changes or comes.
-use Rattle.std.proofs.Common.{◌≡◌, ℕ, ◌+◌, ◌<◌, ◌≤◌, suc, zero, Bool, true, false, List, [], ◌∷◌, ◌++◌, length, map, take, drop, get_or, refl, sym, ap, subst, ◌∙◌, arith}
+use Rattle.std.proofs.Common.{◌≡◌, ℕ, ◌+◌, ◌<◌, ◌≤◌, suc, zero, Bool, true, false, List, [], ◌∷◌, ◌++◌, length, map, take, drop, get_or, refl, sym, ap, ap₂, subst, ◌∙◌, arith}
 use Rattle.std.specs.List.{AllByRecursion, AllWithin, All}
 use Rattle.std.proofs.lemmas.List.{get_or-take, get_or-drop, length-take-le, length-drop}
 use Rattle.std.proofs.lemmas.List.Elements.{All-from_recursion, recursion_from_All}
@@ -7,7 +7,7 @@ use Rattle.nz_spec.specs.Fraction.{Fraction, neg_ℚ}
 use Rattle.nz_spec.specs.Form as spec
 use Rattle.nz_spec.specs.Table.{Node}
 use Rattle.nz_lin.specs.declared.form.Part.{Part}
-use Rattle.nz_lin.specs.Forms.{NamesUnit, AreInOrder, AreUnits, negated, part_over, parts_over}
+use Rattle.nz_lin.specs.Forms.{NamesUnit, AreInOrder, AreUnits, form_over, negated, part_over, parts_over}
 
 -- ---- What holds of each
 
@@ -111,3 +111,7 @@ module _ (ns : List Node) where
 
 pub one_unit : (ns : List Node) (p : Part) → NamesUnit ns p → AreUnits ns (p ∷ [])
 one_unit ns p h = record { names = (h, tt); in_order = (tt, tt) }
+
+pub negated_is : (ns : List Node) (new ps : List Part) (o p : Fraction) → new ≡ map negated ps → o ≡ neg_ℚ p
+    → form_over ns (record { parts = new; offset = o }) ≡ spec.negated_form (form_over ns (record { parts = ps; offset = p }))
+negated_is ns new ps o p e k = ap₂ (λ (qs : List spec.Part) (r : Fraction). record { parts = qs; offset = r }) (ap (parts_over ns) e ∙ negated_over ns ps) k

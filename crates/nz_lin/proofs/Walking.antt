@@ -147,7 +147,7 @@ module _ (law : TermOfNode) (ns : List Node) (table : IsTable ns) (root : ℕ) w
       let known = kids_by id n at (opening_in (term_in ns id)) refl h.0 in
       subst (Ready ns root made) (sym (stack ss id kids))
       (kids_ready ns root (Leave id ∷ reverse ss) kids made are known.0 known.1
-      (λ later l have. (h.0, have, λ last m some. h.1.1 last (later_more ns made later last l m) some)))
+      (λ later l have. (h.0, have, λ last m some. h.2 last (later_more ns made later last l m) some)))
 
 -- ---- The other steps
 
@@ -158,7 +158,7 @@ module _ (ns : List Node) (root : ℕ) where
 
   -- the form was made before
   pub skipped : (made : Made) → AreMade ns made → (id : ℕ) (rest : List Step) → Ready ns root made (Enter id ∷ rest) → is_some (made id) ≡ true → Ready ns root made rest
-  skipped made are id rest h some = h.1.1 made (later_itself ns made are) some
+  skipped made are id rest h some = h.2 made (later_itself ns made are) some
 
   -- it is made now
   module _ (old new : Made) (id : ℕ) (f : Numbered) (put : (j : ℕ) → new j ≡ cond (id == j) (Some f) (old j)) (is : IsFormOf ns id f) (are : AreMade ns old) where
@@ -177,7 +177,7 @@ module _ (ns : List Node) (root : ℕ) where
 
     pub left : (rest : List Step) → Ready ns root old (Leave id ∷ rest) → Ready ns root new rest
     left rest h =
-        h.1.1 new (record { stays = λ j some. some_by j (id == j) (put j) some; are_made = made_more })
+        h.2 new (record { stays = λ j some. some_by j (id == j) (put j) some; are_made = made_more })
         (elim (eqb_tells id id) [ inl e ↦ subst (λ o. IsSome o) (sym (put id ∙ ap (λ b. cond b (Some f) (old id)) e.0)) refl | inr e ↦ absurd (e.1 refl) ])
 
   -- an operation of the term leaves the numbers

@@ -80,6 +80,11 @@ abbrev pub difference_of : spec.Numbering → List spec.Form → Computation spe
 difference_of number (f ∷ []) = at_once (spec.negated_form f)
 difference_of number fs = joined_forms number Difference fs
 
+-- a product, where there is one, with one factor more
+abbrev pub factor_onto : Option Fraction → Fraction → Computation Fraction
+factor_onto None c = at_once c
+factor_onto (Some p) c = operated Product p c
+
 abbrev pub product_of : List (Option Fraction) → List spec.Form → Computation spec.Form
 product_of cs fs = and_then (constants_product cs) (λ p. spec.scaled (λ c. operated Product p c) (open_form cs fs))
 

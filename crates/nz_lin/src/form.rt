@@ -232,7 +232,7 @@ pub(crate) enum Side {
 impl Side {
     /// The product of a factor, which stands on this side, with a number.
     #[tactic(auto, unfolding(nz_spec::specs::Fraction::first_wide))]
-    pub(crate) fn product(self, factor: Frac, number: Frac) -> Result<Frac, Wide>
+    fn product(self, factor: Frac, number: Frac) -> Result<Frac, Wide>
         ensures product { IsOperated (times self factor number) result }
     {
         match self {

@@ -2,16 +2,16 @@
 ghost use Rattle.std.specs.Prelude.{◌≡◌, ◌≢◌, ◌<◌, ◌++◌, All, IfOk, IfErr, IsTrue, List, OnOk, Some, length, nat_eq, pos};
 ghost use Rattle.std.specs.HashMap.{get};
 ghost use Rattle.nz_spec.specs.Computation.{at_once, operated};
-ghost use Rattle.nz_spec.specs.Form.{unit_form};
+ghost use Rattle.nz_spec.specs.Form.{all_joined, unit_form};
 ghost use Rattle.nz_spec.specs.FormOf as forms_of;
 ghost use Rattle.nz_spec.specs.FormOf.{first_wide_in_form, number_in};
 ghost use Rattle.nz_spec.specs.Fraction.{Quotient, whole};
-ghost use Rattle.nz_spec.specs.Linear.{divides_by_constants, is_linear};
+ghost use Rattle.nz_spec.specs.Linear.{are_divisors, divides_by_constants, is_linear};
 ghost use Rattle.nz_spec.specs.Table.{IsTable, Node, term_in};
 ghost use Rattle.nz_term.specs.Heads.{head_of};
 ghost use Rattle.nz_lin.specs.Comes.{IsFormed, IsNumbered, IsOperated, arithmetic_of};
 ghost use Rattle.nz_lin.specs.Forms.{AreUnits, IsFormOf, form_over};
-ghost use Rattle.nz_lin.specs.Making.{AreMade, HaveForms, HaveUnits, constants_at, difference_of, joined_forms, made_forms, opened_by, opened_kids, opening_in, opening_of, product_of, quotient_of, steps_of};
+ghost use Rattle.nz_lin.specs.Making.{AreMade, HaveForms, HaveUnits, constants_at, difference_of, factor_onto, joined_forms, made_forms, opened_by, opened_kids, opening_in, opening_of, product_of, quotient_of, steps_of};
 ghost use Rattle.nz_lin.specs.Stops.{IsStopAt};
 
 use crate::form::{Form, LinStop, Side, Sign};
@@ -195,8 +195,21 @@ fn joined(
     let Some((first, others)) = kids.split_first() else {
         return Ok(Form::number(alloc, Frac::whole(0)));
     };
-    let mut sum = forms[first].copied(alloc)?;
-    for kid in others {
+    let first = forms[first].copied(alloc)?;
+    all_joined(sign, first, others, forms)
+}
+
+/// A form, and then those of these terms added or subtracted.
+fn all_joined(
+    sign: Sign,
+    mut sum: Form,
+    kids: &[TermId],
+    forms: &HashMap<TermId, Form>,
+) -> Result<Form, LinStop>
+    requires forms { HaveForms (get nat_eq forms.now) kids.now }
+    ensures formed { (ns : List Node) → IsTable ns → AreUnits ns sum.parts → HaveUnits ns (get nat_eq forms.now) kids.now → IsFormed ns (all_joined (number_in ns) (arithmetic_of sign) (form_over ns sum) (made_forms ns (get nat_eq forms.now) kids.now)) result }
+{
+    for kid in kids {
         sum.join(sign, &forms[kid])?;
     }
     Ok(sum)
@@ -245,13 +258,21 @@ fn constants_product(terms: &Terms, kids: &[TermId]) -> Result<Frac, LinStop>
     let mut product: Option<Frac> = None;
     for kid in kids {
         if let Some(constant) = terms.constant(*kid) {
-            product = Some(match product {
-                Some(product) => Side::Left.product(product, constant)?,
-                None => constant,
-            });
+            product = Some(with_factor(product, constant)?);
         }
     }
     Ok(product.unwrap_or(Frac::whole(1)))
+}
+
+/// The product so far with one factor more.
+#[tactic(auto, unfolding(nz_spec::specs::Fraction::first_wide))]
+fn with_factor(product: Option<Frac>, factor: Frac) -> Result<Frac, Wide>
+    ensures product { IsOperated (factor_onto product factor) result }
+{
+    match product {
+        Some(product) => product.mul(factor),
+        None => Ok(factor),
+    }
 }
 
 /// The form of the first term, times 1/k for each of the others, which are constants k other than 0; of none it is 1.
@@ -269,7 +290,21 @@ fn quotient(
     let Some((first, divisors)) = kids.split_first() else {
         return Ok(Form::number(alloc, Frac::whole(1)));
     };
-    let mut form = forms[first].copied(alloc)?;
+    let first = forms[first].copied(alloc)?;
+    all_divided(alloc, terms, first, divisors)
+}
+
+/// A form times 1/k for each of these constants k, which are other than 0.
+fn all_divided(
+    alloc: Global,
+    terms: &Terms,
+    mut form: Form,
+    divisors: &[TermId],
+) -> Result<Form, LinStop>
+    requires within { All (λ k. k < length terms.now) divisors.now }
+    requires divisors { IsTrue (are_divisors (constants_at terms.now divisors.now)) }
+    ensures formed { AreUnits terms.now form.parts → IsFormed terms.now (forms_of.divided_by_each (form_over terms.now form) (constants_at terms.now divisors.now)) result }
+{
     for divisor in divisors {
         let constant = terms.constant(*divisor).unwrap();
         form = divided(alloc, &form, constant)?;
