@@ -1,6 +1,6 @@
 -- The form of a term is made of those of its arguments.
-use Rattle.std.proofs.Common.{◌≡◌, ℕ, ◌<◌, ◌&&◌, Bool, true, false, List, [], ◌∷◌, ◌++◌, length, map, Option, Some, None, Result, Ok, Err, slice_get, refl, sym, ap, ap₂, subst, ◌∙◌, true≢false, if◌then◌else◌}
-use Rattle.std.specs.Prelude.{All, IsSome, is_some, IsTrue, option_map, unwrap_or, pos}
+use Rattle.std.proofs.Common.{◌≡◌, ℕ, zero, suc, arith, ◌<◌, ◌&&◌, Bool, true, false, List, [], ◌∷◌, ◌++◌, length, map, Option, Some, None, Result, Ok, Err, slice_get, refl, sym, ap, ap₂, subst, ◌∙◌, true≢false, if◌then◌else◌}
+use Rattle.std.specs.Prelude.{All, IsSome, is_none, is_some, IsTrue, option_map, unwrap_or, pos}
 use Rattle.std.specs.List.{AllByRecursion}
 use Rattle.std.proofs.lemmas.Bool.{and_parts}
 use Rattle.std.proofs.lemmas.List.Elements.{All-from_recursion, All-head, All-tail, recursion_from_All}
@@ -231,3 +231,59 @@ opened_kids_are ns id ks at some =
 
 pub no_opened_kids : (ns : List Node) (id : ℕ) → is_some (opening_in (term_in ns id)) ≡ false → opened_kids ns id ≡ []
 no_opened_kids ns id none = ap (λ b. if b then elim (slice_get ns id) [ Some m ↦ m.kids | None ↦ [] ] else []) none
+
+pub made_is : (made : Made) (k : ℕ) (f : Numbered) → made k ≡ Some f → made_form made k ≡ f
+made_is made k f e = ap (λ (o : Option Numbered). unwrap_or o (record { parts = []; offset = whole (pos 0) })) e
+
+node_by : (o : Option Node) → IsSome o → (n : Node) × (o ≡ Some n)
+node_by None some = absurd (true≢false (sym some))
+node_by (Some n) some = (n, refl)
+
+-- ---- What a term is
+
+module _ (law : TermOfNode) (ns : List Node) (table : IsTable ns) (id : ℕ) where
+  -- a number
+  pub constant_formed : IsSome (slice_get ns id) → (q : Fraction) → constant_value (term_in ns id) ≡ Some q → (f : Numbered) → f ≡ record { parts = []; offset = q }
+      → IsFormed ns (form_of (number_in ns) (term_in ns id)) (Ok f)
+  constant_formed inside q e f is =
+      let n = node_by (slice_get ns id) inside in
+      subst (λ (g : Numbered). IsFormed ns (form_of (number_in ns) (term_in ns id)) (Ok g)) (sym is)
+      (subst (λ (c : Computation spec.Form). IsFormed ns c (Ok (record { parts = []; offset = q }))) (constant_same law ns table id n.0 n.1 q e)
+      (at_once_done (constant_form q), record { names = tt; in_order = tt }))
+
+  -- a unit
+  pub unit_formed : IsSome (slice_get ns id) → constant_value (term_in ns id) ≡ None → opening_in (term_in ns id) ≡ None → (r : Result Numbered LinStop)
+      → IsFormed ns (at_once (unit_form (term_in ns id))) r → IsFormed ns (form_of (number_in ns) (term_in ns id)) r
+  unit_formed inside none closed r h =
+      let n = node_by (slice_get ns id) inside in
+      subst (λ (c : Computation spec.Form). IsFormed ns c r) (unit_same law ns table id n.0 n.1 none closed) h
+
+  -- or it is opened
+  module _ (ks : List ℕ) (at : option_map (λ (n : Node). n.kids) (slice_get ns id) ≡ Some ks) (o : Opening) (is : opening_in (term_in ns id) ≡ Some o) where
+    same_kids : opened_kids ns id ≡ ks
+    same_kids = opened_kids_are ns id ks at (ap is_some is)
+
+    pub open_divisors : o ≡ Divides → IsTrue (is_linear (term_in ns id)) → IsTrue (divides_by_constants (constants_at ns ks))
+    open_divisors e linear =
+        let n = kids_by (slice_get ns id) ks at in
+        subst (λ (l : List ℕ). IsTrue (divides_by_constants (constants_at ns l))) n.1.1 (divisors law ns table id n.0 n.1.0 o is e linear)
+
+    module _ (made : Made) (are : AreMade ns made) (have : HaveForms made (opened_kids ns id)) where
+      pub open_units : HaveUnits ns made ks
+      open_units = subst (HaveUnits ns made) same_kids (have_units ns made (opened_kids ns id) (kids_made ns made (opened_kids ns id) are have))
+
+      pub open_formed : (r : Result Numbered LinStop) → IsFormed ns (opened_by (number_in ns) o (constants_at ns ks) (made_forms ns made ks) (unit_form (term_in ns id))) r
+          → IsFormed ns (form_of (number_in ns) (term_in ns id)) r
+      open_formed r h =
+          let n = kids_by (slice_get ns id) ks at in
+          formed law ns table id n.0 n.1.0 o is made are (subst (HaveForms made) (same_kids ∙ sym n.1.1) have) r
+          (subst (λ (l : List ℕ). IsFormed ns (opened_by (number_in ns) o (constants_at ns l) (made_forms ns made l) (unit_form (term_in ns id))) r) (sym n.1.1) h)
+
+pub inside_some : (ns : List Node) (id : ℕ) → id < length ns → IsSome (slice_get ns id)
+inside_some [] id inside = absurd (omega (arith, inside))
+inside_some (n ∷ ns) zero inside = refl
+inside_some (n ∷ ns) (suc id) inside = inside_some ns id (omega (arith, inside))
+
+pub is_none_from : (o : Option Fraction) → is_none o ≡ true → o ≡ None
+is_none_from None e = refl
+is_none_from (Some q) e = absurd (true≢false (sym e))

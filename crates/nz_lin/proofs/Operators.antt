@@ -1,21 +1,22 @@
 -- Products and quotients, one argument after another.
 use Rattle.std.proofs.Common.{◌≡◌, ◌≢◌, ℕ, ◌&&◌, Bool, true, false, not, List, [], ◌∷◌, map, Option, Some, None, Result, Ok, Err, refl, sym, ap, subst, ◌∙◌, true≢false}
 use Rattle.std.specs.Prelude.{IsSome, IsTrue, pos, unwrap_or}
-use Rattle.std.proofs.lemmas.Bool.{and_parts}
+use Rattle.std.proofs.lemmas.Option.{same_Some}
 use Rattle.nz_spec.specs.Computation.{Computation, operated, at_once, and_then}
 use Rattle.nz_spec.specs.Form as spec
 use Rattle.nz_spec.specs.FormOf.{product_onto, constants_product, open_form, divided_by, divided_by_each}
-use Rattle.nz_spec.specs.Fraction.{Fraction, Operation, whole, Product, Quotient, first_wide}
+use Rattle.nz_spec.specs.Fraction.{Fraction, Arithmetic, Operation, whole, Product, Quotient, first_wide}
 use Rattle.nz_spec.specs.Linear.{are_divisors}
 use Rattle.nz_spec.specs.Table.{Node}
 use Rattle.nz_spec.specs.Term.{is_zero}
+use Rattle.nz_frac.proofs.Zero.{is_not_zero}
 use Rattle.nz_lin.specs.declared.form.LinStop.{LinStop}
 use Rattle.nz_lin.specs.declared.form.LinStop.TheVariants as stops
 use Rattle.nz_lin.specs.declared.form.Side.TheVariants.{Left, Right}
 use Rattle.nz_lin.specs.Stops.{IsStopAt}
 use Rattle.nz_lin.specs.Forms.{Numbered, form_over, AreUnits}
 use Rattle.nz_lin.specs.Comes.{IsDone, IsFormed, times}
-use Rattle.nz_lin.specs.Making.{Made, factor_onto, made_form, product_of}
+use Rattle.nz_lin.specs.Making.{Made, constants_at, factor_onto, joined_forms, made_forms, product_of, quotient_of}
 use Rattle.nz_lin.proofs.Computing.{IsSame, at_once_done, no_operation, one_step, same_done, same_formed, same_more, same_stop, stop_first}
 
 -- ---- Products of constants
@@ -76,9 +77,18 @@ not_zero true c e = absurd (true≢false (sym e))
 not_zero false c e = (refl, e)
 
 -- the first of them is a constant other than 0, and so are the others
-pub first_divisor : (d : Option Fraction) (cs : List (Option Fraction)) → are_divisors (d ∷ cs) ≡ true → (k : Fraction) × ((d ≡ Some k) × (is_zero k ≡ false) × (are_divisors cs ≡ true))
+first_divisor : (d : Option Fraction) (cs : List (Option Fraction)) → are_divisors (d ∷ cs) ≡ true → (k : Fraction) × ((d ≡ Some k) × (is_zero k ≡ false) × (are_divisors cs ≡ true))
 first_divisor None cs e = absurd (true≢false (sym e))
 first_divisor (Some k) cs e = let both = not_zero (is_zero k) (are_divisors cs) e in (k, (refl, both.0, both.1))
+
+pub nonzero_divisor : (d : Option Fraction) (cs : List (Option Fraction)) (q : Fraction) → IsTrue (are_divisors (d ∷ cs)) → d ≡ Some q → q.numerator ≢ pos 0
+nonzero_divisor d cs q e is zero =
+    let k = first_divisor d cs e in
+    let same : q ≡ k.0 = same_Some q k.0 (sym is ∙ k.1.0) in
+    is_not_zero q (ap is_zero same ∙ k.1.1) zero
+
+pub later_divisors : (d : Option Fraction) (cs : List (Option Fraction)) → IsTrue (are_divisors (d ∷ cs)) → IsTrue (are_divisors cs)
+later_divisors d cs e = (first_divisor d cs e).1.2
 
 module _ (f : spec.Form) (k : Fraction) (cs : List (Option Fraction)) (whole_form : Computation spec.Form) (h : IsSame (divided_by_each f (Some k ∷ cs)) whole_form) where
   pub divide_stop : (s : LinStop) → IsStopAt (first_wide (divided_by k f).operations) s → IsStopAt (first_wide whole_form.operations) s
@@ -96,3 +106,20 @@ module _ (k : Fraction) (f : spec.Form) where
       → IsFormed ns (divided_by k f) result
   divided_formed ns r done result h =
       same_formed ns (spec.scaled (times Right r) f) (divided_by k f) result (one_step (operated Quotient (whole (pos 1)) k) (λ x. spec.scaled (λ c. operated Product c x) f) r done) h
+
+-- a number alone
+pub one_form : (ns : List Node) (f : Numbered) (q : Fraction) → f ≡ record { parts = []; offset = q } → {p : Fraction} → q ≡ p → (form_over ns f ≡ spec.constant_form p) × AreUnits ns f.parts
+one_form ns f q is {p} e =
+    (ap (form_over ns) is ∙ ap (λ (x : Fraction). spec.constant_form x) e, subst (λ (h : Numbered). AreUnits ns h.parts) (sym is) (record { names = tt; in_order = tt }))
+
+pub none_joined : (ns : List Node) (number : spec.Numbering) (op : Arithmetic) (made : Made) (ks : List ℕ) → ks ≡ [] → (f : Numbered) (q : Fraction) → f ≡ record { parts = []; offset = q } → q ≡ whole (pos 0)
+    → IsDone (joined_forms number op (made_forms ns made ks)) (form_over ns f) × AreUnits ns f.parts
+none_joined ns number op made ks none f q is zero =
+    let one = one_form ns f q is zero in
+    (subst (λ (l : List ℕ). IsDone (joined_forms number op (made_forms ns made l)) (form_over ns f)) (sym none) (record { result = one.0; fits = no_operation }), one.1)
+
+pub none_divided : (ns : List Node) (made : Made) (ks : List ℕ) → ks ≡ [] → (f : Numbered) (q : Fraction) → f ≡ record { parts = []; offset = q } → q ≡ whole (pos 1)
+    → IsDone (quotient_of (constants_at ns ks) (made_forms ns made ks)) (form_over ns f) × AreUnits ns f.parts
+none_divided ns made ks none f q is zero =
+    let one = one_form ns f q is zero in
+    (subst (λ (l : List ℕ). IsDone (quotient_of (constants_at ns l) (made_forms ns made l)) (form_over ns f)) (sym none) (record { result = one.0; fits = no_operation }), one.1)

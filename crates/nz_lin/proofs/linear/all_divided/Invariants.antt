@@ -10,7 +10,7 @@ use Rattle.nz_lin.proofs.linear.all_divided.Given as goal
 -- to divide what is divided so far by the rest is to divide the whole
 abbrev pub invariant-loop-divisor : goal.invariant-loop-divisor
 invariant-loop-divisor l = record {
-  divided : IsSame (divided_by_each (form_over l.terms l.form) (constants_at l.terms (drop l.divisor-index l.divisors))) (divided_by_each (form_over l.terms l.fn.form) (constants_at l.terms l.divisors));
+  divided : AreUnits l.terms l.fn.form.parts → IsSame (divided_by_each (form_over l.terms l.form) (constants_at l.terms (drop l.divisor-index l.divisors))) (divided_by_each (form_over l.terms l.fn.form) (constants_at l.terms l.divisors));
   units : AreUnits l.terms l.fn.form.parts → AreUnits l.terms l.form.parts;
   divisors : IsTrue (are_divisors (constants_at l.terms (drop l.divisor-index l.divisors)));
 }
