@@ -1,10 +1,11 @@
 -- Where a part joins those of a form.
-use Rattle.std.proofs.Common.{◌≡◌, ℕ, ◌+◌, ◌<◌, ◌≤◌, suc, Bool, true, false, List, [], ◌∷◌, ◌++◌, length, map, take, drop, set, get_or, slice_get, Some, None, Result, Ok, Err, OnOk, refl, sym, ap, subst, ◌∙◌, arith, if◌then◌else◌}
+use Rattle.std.proofs.Common.{◌≡◌, ℕ, ◌+◌, ◌<◌, ◌≤◌, ◌&&◌, suc, Bool, true, false, List, [], ◌∷◌, ◌++◌, length, map, take, drop, set, get_or, slice_get, Some, None, Result, Ok, Err, OnOk, refl, sym, ap, subst, ◌∙◌, arith, if◌then◌else◌}
 use Rattle.std.specs.Prelude.{nat_lt, pos, remove}
 use Rattle.std.specs.List.{AllByRecursion, AllWithin, HoldsAt}
 use Rattle.std.specs.List.Sorted.{IsNonDecreasingBy, IsPartitionPoint}
 use Rattle.std.specs.Ordering.{nat_cmp, ordering_index}
 use Rattle.std.specs.declared.cmp.Ordering.TheVariants.{Less, Equal, Greater}
+use Rattle.std.proofs.lemmas.Bool.{and_parts}
 use Rattle.std.proofs.lemmas.Bool.Decides.{nat_tests}
 use Rattle.std.proofs.lemmas.Cmp.{ranked}
 use Rattle.std.proofs.lemmas.List.{map-append, set_split, take-append-drop}
@@ -15,10 +16,9 @@ use Rattle.nz_spec.specs.Form.{MayPrecede, with_part, part_alone, part_joined}
 use Rattle.nz_spec.specs.FormOf.{number_in, TermHasItsNumber}
 use Rattle.nz_spec.specs.FormPlace.{JoinsAtItsPlace}
 use Rattle.nz_spec.specs.Fraction.{Fraction, Arithmetic, whole as whole_number, first_wide}
-use Rattle.nz_spec.specs.Literal.{are_same_term}
+use Rattle.nz_spec.specs.Literal.{Literal, TellsLiterals, are_same_sign, are_same_term, term_literal}
 use Rattle.nz_spec.specs.Table.{IsTable, Node, term_in}
-use Rattle.nz_spec.specs.Term.{is_zero}
-use Rattle.nz_spec.proofs.Literals.{same_term, one_term}
+use Rattle.nz_spec.specs.Term.{Term, is_zero}
 use Rattle.nz_lin.specs.declared.form.LinStop.{LinStop}
 use Rattle.nz_lin.specs.declared.form.Part.{Part}
 use Rattle.nz_lin.specs.declared.form.Sign.{Sign}
@@ -60,14 +60,28 @@ not_true true h = absurd (h refl)
 less_to : (m n : ℕ) → m < n → nat_lt m n ≡ true
 less_to m n h = grind (arith, nat_tests)
 
-module _ (law : JoinsAtItsPlace) (numbers : TermHasItsNumber) (ns : List Node) (table : IsTable ns) (op : Arithmetic) (q : Part) (named : NamesUnit ns q) where
+-- ---- Which terms are one
+
+abbrev term_of : Literal → Term
+term_of (term_literal t sign) = t
+
+module _ (tells : TellsLiterals) where
+  one_term : (t : Term) → are_same_term t t ≡ true
+  one_term t = (and_parts (are_same_term t t) (are_same_sign true true) (tells.one (term_literal t true))).0
+
+  same_term : (t u : Term) → are_same_term t u ≡ true → t ≡ u
+  same_term t u e = ap term_of (tells.same (term_literal t true) (term_literal u true) (ap (λ (b : Bool). b && true) e))
+
+-- ---- The place of a part
+
+module _ (law : JoinsAtItsPlace) (numbers : TermHasItsNumber) (tells : TellsLiterals) (ns : List Node) (table : IsTable ns) (op : Arithmetic) (q : Part) (named : NamesUnit ns q) where
   number_of_unit : (p : Part) → NamesUnit ns p → number_in ns (term_in ns p.unit) ≡ p.unit
   number_of_unit p h = numbers ns table p.unit h.0
 
   other : (p : Part) → NamesUnit ns p → (p.unit ≡ q.unit → ⊥) → are_same_term (term_in ns p.unit) (term_in ns q.unit) ≡ false
   other p h differ =
       not_true (are_same_term (term_in ns p.unit) (term_in ns q.unit))
-      (λ e. differ (sym (number_of_unit p h) ∙ ap (number_in ns) (same_term (term_in ns p.unit) (term_in ns q.unit) e) ∙ number_of_unit q named))
+      (λ e. differ (sym (number_of_unit p h) ∙ ap (number_in ns) (same_term tells (term_in ns p.unit) (term_in ns q.unit) e) ∙ number_of_unit q named))
 
   may_precede : (p : Part) → NamesUnit ns p → p.unit < q.unit → MayPrecede (number_in ns) (part_over ns p) (part_over ns q)
   may_precede p h below =
@@ -117,7 +131,7 @@ module _ (law : JoinsAtItsPlace) (numbers : TermHasItsNumber) (ns : List Node) (
       passes front (p ∷ ps) h below
       ∙ ap (turned_into (λ (rs : List spec.Part). parts_over ns front ++ rs))
       (law.meets (number_in ns) op (part_over ns p) (parts_over ns ps) (part_over ns q)
-      (ap (λ (u : ℕ). are_same_term (term_in ns u) (term_in ns q.unit)) same ∙ one_term (term_in ns q.unit)))
+      (ap (λ (u : ℕ). are_same_term (term_in ns u) (term_in ns q.unit)) same ∙ one_term tells (term_in ns q.unit)))
 
 -- ---- The coefficient at a place
 
@@ -142,7 +156,7 @@ module _ (ns : List Node) (old : List Part) (place : ℕ) (p : Part) (at : slice
   pub units_met : (c : Fraction) → AreUnits ns old → AreUnits ns (with_met old place c)
   units_met c h = units_by c (is_zero c) h
 
-  module _ (law : JoinsAtItsPlace) (numbers : TermHasItsNumber) (table : IsTable ns) (op : Arithmetic) (q : Part) (named : NamesUnit ns q) (h : AreUnits ns old)
+  module _ (law : JoinsAtItsPlace) (numbers : TermHasItsNumber) (tells : TellsLiterals) (table : IsTable ns) (op : Arithmetic) (q : Part) (named : NamesUnit ns q) (h : AreUnits ns old)
       (below : AllByRecursion (λ (p : Part). p.unit < q.unit) (take place old)) (same : p.unit ≡ q.unit) where
     abbrev whole : Computation (List spec.Part)
     whole = part_joined (number_in ns) op (parts_over ns old) (part_over ns q)
@@ -156,7 +170,7 @@ module _ (ns : List Node) (old : List Part) (place : ℕ) (p : Part) (at : slice
     joins : whole ≡ turned_into with_it (meeting old op place q.coefficient)
     joins =
         ap (λ (ps : List Part). part_joined (number_in ns) op (parts_over ns ps) (part_over ns q)) split
-        ∙ meets law numbers ns table op q named (take place old) p (drop (suc place) old) (subst (AreUnits ns) split h) below same
+        ∙ meets law numbers tells ns table op q named (take place old) p (drop (suc place) old) (subst (AreUnits ns) split h) below same
         ∙ ap (turned_into with_it) (sym one)
 
     pub met_comes : {X : Type 0} (r : Result X LinStop) (new : List Part) → Comes (meeting old op place q.coefficient) (meeting old op place q.coefficient).result r
@@ -203,9 +217,9 @@ module _ (ns : List Node) (sign : Sign) (q : Part) (named : NamesUnit ns q) (old
   pub units_inserted : AreUnits ns (take place old ++ alone sign q ∷ drop place old)
   units_inserted = units_alone ns sign q (take place old) (drop place old) named is.below is.above parted_units
 
-  pub insert_done : JoinsAtItsPlace → TermHasItsNumber → IsTable ns
+  pub insert_done : JoinsAtItsPlace → TermHasItsNumber → TellsLiterals → IsTable ns
       → IsDone (part_joined (number_in ns) (arithmetic_of sign) (parts_over ns old) (part_over ns q)) (parts_over ns (take place old ++ alone sign q ∷ drop place old))
-  insert_done law numbers table =
+  insert_done law numbers tells table =
       subst (λ (l : List Part). IsDone (part_joined (number_in ns) (arithmetic_of sign) (parts_over ns l) (part_over ns q)) (parts_over ns (take place old ++ alone sign q ∷ drop place old)))
       (take-append-drop place old)
-      (inserted law numbers ns table (arithmetic_of sign) q named (take place old) (drop place old) (alone sign q) parted_units is.below is.above (alone_over ns sign q))
+      (inserted law numbers tells ns table (arithmetic_of sign) q named (take place old) (drop place old) (alone sign q) parted_units is.below is.above (alone_over ns sign q))

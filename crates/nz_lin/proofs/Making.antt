@@ -1,5 +1,5 @@
 -- The form of a term is made of those of its arguments.
-use Rattle.std.proofs.Common.{◌≡◌, ℕ, zero, suc, arith, ◌<◌, ◌&&◌, Bool, true, false, List, [], ◌∷◌, ◌++◌, length, map, Option, Some, None, Result, Ok, Err, slice_get, refl, sym, ap, ap₂, subst, ◌∙◌, true≢false, if◌then◌else◌}
+use Rattle.std.proofs.Common.{◌≡◌, ℕ, zero, suc, arith, ◌<◌, ◌&&◌, Bool, true, false, List, [], ◌∷◌, ◌++◌, length, get_or, map, Option, Some, None, Result, Ok, Err, slice_get, refl, sym, ap, ap₂, subst, ◌∙◌, true≢false, if◌then◌else◌}
 use Rattle.std.specs.Prelude.{All, IsSome, is_none, is_some, IsTrue, option_map, unwrap_or, pos}
 use Rattle.std.specs.List.{AllByRecursion}
 use Rattle.std.proofs.lemmas.Bool.{and_parts}
@@ -235,7 +235,7 @@ no_opened_kids ns id none = ap (λ b. if b then elim (slice_get ns id) [ Some m 
 pub made_is : (made : Made) (k : ℕ) (f : Numbered) → made k ≡ Some f → made_form made k ≡ f
 made_is made k f e = ap (λ (o : Option Numbered). unwrap_or o (record { parts = []; offset = whole (pos 0) })) e
 
-node_by : (o : Option Node) → IsSome o → (n : Node) × (o ≡ Some n)
+pub node_by : (o : Option Node) → IsSome o → (n : Node) × (o ≡ Some n)
 node_by None some = absurd (true≢false (sym some))
 node_by (Some n) some = (n, refl)
 
@@ -287,3 +287,9 @@ inside_some (n ∷ ns) (suc id) inside = inside_some ns id (omega (arith, inside
 pub is_none_from : (o : Option Fraction) → is_none o ≡ true → o ≡ None
 is_none_from None e = refl
 is_none_from (Some q) e = absurd (true≢false (sym e))
+
+-- a list of one number
+pub only_one : (ks : List ℕ) → length ks ≡ 1 → ks ≡ get_or ks 0 0 ∷ []
+only_one [] e = absurd (omega (arith, e))
+only_one (k ∷ []) e = refl
+only_one (k ∷ l ∷ ks) e = absurd (omega (arith, e))

@@ -1,5 +1,5 @@
 -- Products and quotients, one argument after another.
-use Rattle.std.proofs.Common.{◌≡◌, ◌≢◌, ℕ, ◌&&◌, Bool, true, false, not, List, [], ◌∷◌, map, Option, Some, None, Result, Ok, Err, refl, sym, ap, subst, ◌∙◌, true≢false}
+use Rattle.std.proofs.Common.{◌≡◌, ℕ, ◌&&◌, Bool, true, false, not, List, [], ◌∷◌, map, Option, Some, None, Result, Ok, Err, refl, sym, ap, subst, ◌∙◌, true≢false}
 use Rattle.std.specs.Prelude.{IsSome, IsTrue, pos, unwrap_or}
 use Rattle.std.proofs.lemmas.Option.{same_Some}
 use Rattle.nz_spec.specs.Computation.{Computation, operated, at_once, and_then}
@@ -9,7 +9,6 @@ use Rattle.nz_spec.specs.Fraction.{Fraction, Arithmetic, Operation, whole, Produ
 use Rattle.nz_spec.specs.Linear.{are_divisors}
 use Rattle.nz_spec.specs.Table.{Node}
 use Rattle.nz_spec.specs.Term.{is_zero}
-use Rattle.nz_frac.proofs.Zero.{is_not_zero}
 use Rattle.nz_lin.specs.declared.form.LinStop.{LinStop}
 use Rattle.nz_lin.specs.declared.form.LinStop.TheVariants as stops
 use Rattle.nz_lin.specs.declared.form.Side.TheVariants.{Left, Right}
@@ -81,11 +80,11 @@ first_divisor : (d : Option Fraction) (cs : List (Option Fraction)) → are_divi
 first_divisor None cs e = absurd (true≢false (sym e))
 first_divisor (Some k) cs e = let both = not_zero (is_zero k) (are_divisors cs) e in (k, (refl, both.0, both.1))
 
-pub nonzero_divisor : (d : Option Fraction) (cs : List (Option Fraction)) (q : Fraction) → IsTrue (are_divisors (d ∷ cs)) → d ≡ Some q → q.numerator ≢ pos 0
-nonzero_divisor d cs q e is zero =
+pub nonzero_divisor : (d : Option Fraction) (cs : List (Option Fraction)) (q : Fraction) → IsTrue (are_divisors (d ∷ cs)) → d ≡ Some q → is_zero q ≡ false
+nonzero_divisor d cs q e is =
     let k = first_divisor d cs e in
     let same : q ≡ k.0 = same_Some q k.0 (sym is ∙ k.1.0) in
-    is_not_zero q (ap is_zero same ∙ k.1.1) zero
+    ap is_zero same ∙ k.1.1
 
 pub later_divisors : (d : Option Fraction) (cs : List (Option Fraction)) → IsTrue (are_divisors (d ∷ cs)) → IsTrue (are_divisors cs)
 later_divisors d cs e = (first_divisor d cs e).1.2

@@ -75,7 +75,7 @@ module _ (ns : List Node) where
       let after = weights-append ss (steps_of ns id) in
       let of : size (term_in ns id) ≡ suc (sizes (terms_at (term_in ns) n.kids)) = ap size (law ns table id n at) in
       let kids : opened_kids ns id ≡ (if is_some (opening_in (term_in ns id)) then n.kids else []) =
-          ap (λ o. if is_some (opening_in (term_in ns id)) then elim o [ Some m ↦ m.kids | None ↦ [] ] else []) at in
+      ap (λ o. if is_some (opening_in (term_in ns id)) then elim o [ Some m ↦ m.kids | None ↦ [] ] else []) at in
       let less : weights (entries (opened_kids ns id)) < suc (2 * sizes (terms_at (term_in ns) n.kids)) =
-          subst (λ (l : List ℕ). weights (entries l) < suc (2 * sizes (terms_at (term_in ns) n.kids))) (sym kids) (opened_weigh (is_some (opening_in (term_in ns id))) n.kids) in
+      subst (λ (l : List ℕ). weights (entries l) < suc (2 * sizes (terms_at (term_in ns) n.kids))) (sym kids) (opened_weigh (is_some (opening_in (term_in ns id))) n.kids) in
       omega arith

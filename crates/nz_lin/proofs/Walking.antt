@@ -105,12 +105,13 @@ module _ (ns : List Node) (root : ℕ) (rest : List Step) where
   kids_ready [] made are linear leading next = next made (later_itself ns made are) (All-nil (λ id. IsSome (made id)))
   kids_ready (k ∷ ks) made are linear leading next =
       let ops = (form_of (number_in ns) (term_in ns k)).operations in
-      let others = (forms_of (number_in ns) (terms_at (term_in ns) ks)).operations in
-      (record { within = linear.0.0; linear = linear.0.1; stop = λ w e. leading w (first_wide-some ops others w e) },
+      let others = (forms_of (number_in ns) (terms_at (term_in ns) ks)).operations in (
+        record { within = linear.0.0; linear = linear.0.1; stop = λ w e. leading w (first_wide-some ops others w e) },
         tt,
         λ later l some. kids_ready ks later l.are_made linear.1
-        (λ w e. leading w (first_wide-none ops others (fits_in later k l.are_made (later k) refl some) ∙ e))
-        (λ last m have. next last (later_more ns made later last l m) (All-cons (λ id. IsSome (last id)) k ks (m.stays k some) have)))
+            (λ w e. leading w (first_wide-none ops others (fits_in later k l.are_made (later k) refl some) ∙ e))
+            (λ last m have. next last (later_more ns made later last l m) (All-cons (λ id. IsSome (last id)) k ks (m.stays k some) have)),
+      )
 
 module _ (law : TermOfNode) (ns : List Node) (table : IsTable ns) (root : ℕ) where
   are_linear_at : (ks : List ℕ) → All (λ k. k < length ns) ks → are_linear (terms_at (term_in ns) ks) ≡ true → AreLinear ns ks

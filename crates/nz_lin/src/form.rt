@@ -11,6 +11,7 @@ ghost use Rattle.nz_lin.specs.Forms.{AreUnits, NamesUnit, form_over, meeting, ne
 
 use nz_base::Memory;
 use nz_frac::{Frac, Wide};
+use nz_spec::derivation::tells_literals;
 use nz_spec::form::{joins_at_its_place, term_has_its_number};
 use nz_term::{Sort, TermId};
 use std::alloc::{AllocError, AllocFailed, Global};
@@ -262,10 +263,13 @@ fn multiplied_parts(
     let mut new = Vec::new(alloc);
     for part in parts {
         let coefficient = side.product(factor, part.coefficient)?;
-        put(&mut new, Part {
-            coefficient,
-            ..*part
-        })?;
+        put(
+            &mut new,
+            Part {
+                coefficient,
+                ..*part
+            },
+        )?;
     }
     Ok(new)
 }
@@ -297,6 +301,7 @@ fn join_part(parts: &mut Vec<Part>, sign: Sign, part: Part) -> Result<(), LinSto
     ensures units { OnOk result ((ns : List Node) → AreUnits ns parts.old.items → NamesUnit ns part → AreUnits ns parts.new.items) }
 {
     joins_at_its_place();
+    tells_literals();
     term_has_its_number();
     match parts.binary_search_by_key(&part.unit, |p| p.unit) {
         Ok(place) => meet(parts, sign, place, part.coefficient),
@@ -308,12 +313,7 @@ fn join_part(parts: &mut Vec<Part>, sign: Sign, part: Part) -> Result<(), LinSto
 }
 
 /// Adds to the coefficient at a place, or subtracts from it; with the coefficient 0 the part goes.
-fn meet(
-    parts: &mut Vec<Part>,
-    sign: Sign,
-    place: usize,
-    coefficient: Frac,
-) -> Result<(), LinStop>
+fn meet(parts: &mut Vec<Part>, sign: Sign, place: usize, coefficient: Frac) -> Result<(), LinStop>
     requires within { place < vec_len parts.old }
     ensures met { OnOk result (parts.new.items ≡ with_met parts.old.items place (meeting parts.old.items (arithmetic_of sign) place coefficient).result) }
     ensures comes { Comes (meeting parts.old.items (arithmetic_of sign) place coefficient) (meeting parts.old.items (arithmetic_of sign) place coefficient).result result }

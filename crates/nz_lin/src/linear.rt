@@ -1,5 +1,5 @@
 //! The forms of terms.
-ghost use Rattle.std.specs.Prelude.{◌≡◌, ◌≢◌, ◌<◌, ◌++◌, All, IfOk, IfErr, IsTrue, List, OnOk, Some, length, nat_eq, pos};
+ghost use Rattle.std.specs.Prelude.{◌≡◌, ◌<◌, ◌++◌, All, IfOk, IfErr, IsTrue, List, OnOk, Some, false, length, nat_eq, pos};
 ghost use Rattle.std.specs.HashMap.{get};
 ghost use Rattle.nz_spec.specs.Computation.{at_once, operated};
 ghost use Rattle.nz_spec.specs.Form.{all_joined, unit_form};
@@ -8,6 +8,7 @@ ghost use Rattle.nz_spec.specs.FormOf.{first_wide_in_form, number_in};
 ghost use Rattle.nz_spec.specs.Fraction.{Quotient, whole};
 ghost use Rattle.nz_spec.specs.Linear.{are_divisors, divides_by_constants, is_linear};
 ghost use Rattle.nz_spec.specs.Table.{IsTable, Node, term_in};
+ghost use Rattle.nz_spec.specs.Term.{is_zero};
 ghost use Rattle.nz_term.specs.Heads.{head_of};
 ghost use Rattle.nz_lin.specs.Comes.{IsFormed, IsNumbered, IsOperated, arithmetic_of};
 ghost use Rattle.nz_lin.specs.Forms.{AreUnits, IsFormOf, form_over};
@@ -314,7 +315,7 @@ fn all_divided(
 
 /// A form times 1/k.
 fn divided(alloc: Global, form: &Form, k: Frac) -> Result<Form, LinStop>
-    requires nonzero { k.numerator ≢ pos 0 }
+    requires nonzero { is_zero k ≡ false }
     ensures formed { (ns : List Node) → AreUnits ns form.now.parts → IsFormed ns (forms_of.divided_by k (form_over ns form.now)) result }
 {
     let factor = inverse(k)?;
@@ -324,8 +325,9 @@ fn divided(alloc: Global, form: &Form, k: Frac) -> Result<Form, LinStop>
 /// 1/k.
 #[tactic(auto, unfolding(nz_spec::specs::Fraction::first_wide))]
 fn inverse(k: Frac) -> Result<Frac, Wide>
-    requires nonzero { k.numerator ≢ pos 0 }
+    requires nonzero { is_zero k ≡ false }
     ensures inverse { IsOperated (operated Quotient (whole (pos 1)) k) result }
 {
+    prove!(!k.is_zero());
     Frac::whole(1).div(k)
 }

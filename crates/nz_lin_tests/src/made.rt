@@ -34,7 +34,11 @@ fn sum(terms: &mut Terms, x: TermId, y: TermId) -> Result<TermId, Memory>
     let three = numeral(terms, 3)?;
     let twice = over(terms, Operator::Product(NumberSort::Real), &[y, two])?;
     let half = over(terms, Operator::Quotient, &[x, two])?;
-    over(terms, Operator::Sum(NumberSort::Real), &[twice, half, three, x])
+    over(
+        terms,
+        Operator::Sum(NumberSort::Real),
+        &[twice, half, three, x],
+    )
 }
 
 #[test]
@@ -93,7 +97,11 @@ fn nested(terms: &mut Terms, unit: TermId) -> Result<TermId, Memory>
     let three = numeral(terms, 3)?;
     let four = numeral(terms, 4)?;
     let less = over(terms, Operator::Difference(NumberSort::Real), &[four])?;
-    let product = over(terms, Operator::Product(NumberSort::Real), &[two, unit, three])?;
+    let product = over(
+        terms,
+        Operator::Product(NumberSort::Real),
+        &[two, unit, three],
+    )?;
     let quotient = over(terms, Operator::Quotient, &[product, less])?;
     over(terms, Operator::Difference(NumberSort::Real), &[quotient])
 }

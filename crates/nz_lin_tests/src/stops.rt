@@ -60,7 +60,11 @@ fn stops_twice(terms: &mut Terms, sum: TermId) -> Result<TermId, Memory>
 {
     let most = numeral(terms, MOST)?;
     let square = over(terms, Operator::Product(NumberSort::Real), &[most, most])?;
-    over(terms, Operator::Difference(NumberSort::Real), &[sum, square])
+    over(
+        terms,
+        Operator::Difference(NumberSort::Real),
+        &[sum, square],
+    )
 }
 
 #[test]
@@ -79,7 +83,11 @@ fn a_product_of_constants_may_stop(rt: HostRuntime) -> Result<(), Fail> {
     let alloc = rt.alloc();
     let mut terms = Terms::new(alloc)?;
     let most = numeral(&mut terms, MOST)?;
-    let square = over(&mut terms, Operator::Product(NumberSort::Int), &[most, most])?;
+    let square = over(
+        &mut terms,
+        Operator::Product(NumberSort::Int),
+        &[most, most],
+    )?;
     assert!(rt; stops_at(alloc, &terms, square, Op::Mul, MOST as i128, MOST as i128));
     Ok(())
 }

@@ -33,11 +33,7 @@ pub(crate) fn numeral(terms: &mut Terms, number: u128) -> Result<TermId, Memory>
 }
 
 /// An operator over terms.
-pub(crate) fn over(
-    terms: &mut Terms,
-    operator: Operator,
-    kids: &[TermId],
-) -> Result<TermId, Memory>
+pub(crate) fn over(terms: &mut Terms, operator: Operator, kids: &[TermId]) -> Result<TermId, Memory>
     requires within { All (λ k. k < length terms.old) kids.now }
     ensures within { IfOk result (λ id. id < length terms.new) }
     ensures more { length terms.old ≤ length terms.new }
@@ -47,11 +43,7 @@ pub(crate) fn over(
 }
 
 /// The form of a term; none where it isn't linear.
-pub(crate) fn form(
-    alloc: Global,
-    terms: &Terms,
-    id: TermId,
-) -> Option<Result<Form, LinStop>>
+pub(crate) fn form(alloc: Global, terms: &Terms, id: TermId) -> Option<Result<Form, LinStop>>
     requires within { id < length terms.now }
 {
     terms.is_linear(id).then(|| lin(alloc, terms, id))

@@ -42,7 +42,7 @@ returns-in_err-form c = record {
       let left : drop i ds ≡ k ∷ drop (i + 1) ds = drop_more ds i 0 (omega arith) in
       let is : constant_value (term_in ns k) ≡ Some q = sym c.constant.ensures.constant ∙ c.unwrap-constant.ensures in
       let here = subst (λ (d : Option Fraction). IsSame (divided_by_each now (d ∷ rest)) whole) is
-          (subst (λ (l : List ℕ). IsSame (divided_by_each now (constants_at ns l)) whole) left (c.loop-divisor.invariant.divided units)) in
+      (subst (λ (l : List ℕ). IsSame (divided_by_each now (constants_at ns l)) whole) left (c.loop-divisor.invariant.divided units)) in
       let error = err_from_is_err_and c.from_residual.result c.from_residual.ensures.1 in
       subst (λ r. IsFormed ns whole r) (sym (error.1 ∙ ap Err error.2))
       (divide_stop now q rest whole here c.in_err-form.field-0.0 (c.in_err-form.ensures.formed ns (c.loop-divisor.invariant.units units)));
@@ -63,7 +63,7 @@ loop-divisor-preserved c =
     record {
       divided = λ units.
           let here = subst (λ (d : Option Fraction). IsSame (divided_by_each now (d ∷ rest)) whole) is
-              (subst (λ (l : List ℕ). IsSame (divided_by_each now (constants_at ns l)) whole) left (c.loop-divisor.invariant.divided units)) in
+          (subst (λ (l : List ℕ). IsSame (divided_by_each now (constants_at ns l)) whole) left (c.loop-divisor.invariant.divided units)) in
           divide_more now q rest whole here (form_over ns c.in_ok-form.form) ((c.in_ok-form.ensures.formed ns (c.loop-divisor.invariant.units units)).0);
       units = λ units. (c.in_ok-form.ensures.formed ns (c.loop-divisor.invariant.units units)).1;
       divisors = later_divisors (constant_value (term_in ns k)) rest (subst (λ (l : List ℕ). IsTrue (are_divisors (constants_at ns l))) left c.loop-divisor.invariant.divisors);
@@ -75,9 +75,10 @@ returns c = record {
       let ns = c.args.terms.now in
       let ds = c.args.divisors.now in
       let now = form_over ns c.loop-divisor.form in
-      let whole = divided_by_each (form_over ns c.args.form) (constants_at ns ds) in
-      (same_done (at_once now) whole now
-        (subst (λ (l : List ℕ). IsSame (divided_by_each now (constants_at ns l)) whole) (drop_all c.loop-divisor.divisor-index ds (omega arith)) (c.loop-divisor.invariant.divided units))
-        (at_once_done now),
-        c.loop-divisor.invariant.units units);
+      let whole = divided_by_each (form_over ns c.args.form) (constants_at ns ds) in (
+        same_done (at_once now) whole now
+            (subst (λ (l : List ℕ). IsSame (divided_by_each now (constants_at ns l)) whole) (drop_all c.loop-divisor.divisor-index ds (omega arith)) (c.loop-divisor.invariant.divided units))
+            (at_once_done now),
+        c.loop-divisor.invariant.units units,
+      );
 }

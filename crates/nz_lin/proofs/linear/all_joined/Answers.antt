@@ -32,7 +32,7 @@ returns-in_err-join c = record {
       let left : drop i ks ≡ k ∷ rest = drop_more ks i 0 inside in
       let is = made_is m k f c.index.ensures in
       let here = subst (λ (h : Numbered). IsSame (all_joined n op now (form_over ns h ∷ made_forms ns m rest)) whole) is
-          (subst (λ (l : List ℕ). IsSame (all_joined n op now (made_forms ns m l)) whole) left (c.loop-kid.invariant.joined ns table units have)) in
+      (subst (λ (l : List ℕ). IsSame (all_joined n op now (made_forms ns m l)) whole) left (c.loop-kid.invariant.joined ns table units have)) in
       let own : AreUnits ns f.parts = subst (λ (h : Numbered). AreUnits ns h.parts) is (have i 0 inside) in
       let error = err_from_is_err_and c.from_residual.result c.from_residual.ensures.1 in
       subst (λ r. IsFormed ns whole r) (sym (error.1 ∙ ap Err error.2))
@@ -58,7 +58,7 @@ loop-kid-preserved c =
           let now = form_over ns c.loop-kid.sum in
           let whole = all_joined n op (form_over ns c.args.sum) (made_forms ns m ks) in
           let here = subst (λ (h : Numbered). IsSame (all_joined n op now (form_over ns h ∷ made_forms ns m rest)) whole) is
-              (subst (λ (l : List ℕ). IsSame (all_joined n op now (made_forms ns m l)) whole) left (c.loop-kid.invariant.joined ns table units have)) in
+          (subst (λ (l : List ℕ). IsSame (all_joined n op now (made_forms ns m l)) whole) left (c.loop-kid.invariant.joined ns table units have)) in
           all_more n op now (form_over ns f) (made_forms ns m rest) whole here (form_over ns c.join.new.self)
           (c.in_ok-join.ensures.comes ns table (c.loop-kid.invariant.units ns units have) (subst (λ (h : Numbered). AreUnits ns h.parts) is (have i 0 inside)));
       units = λ ns units have. c.in_ok-join.ensures.units ns (c.loop-kid.invariant.units ns units have) (subst (λ (h : Numbered). AreUnits ns h.parts) is (have i 0 inside));
@@ -72,9 +72,10 @@ returns c = record {
       let n = number_in ns in
       let op = arithmetic_of c.args.sign in
       let now = form_over ns c.loop-kid.sum in
-      let whole = all_joined n op (form_over ns c.args.sum) (made_forms ns m ks) in
-      (same_done (at_once now) whole now
-        (subst (λ (l : List ℕ). IsSame (all_joined n op now (made_forms ns m l)) whole) (drop_all c.loop-kid.kid-index ks (omega arith)) (c.loop-kid.invariant.joined ns table units have))
-        (at_once_done now),
-        c.loop-kid.invariant.units ns units have);
+      let whole = all_joined n op (form_over ns c.args.sum) (made_forms ns m ks) in (
+        same_done (at_once now) whole now
+            (subst (λ (l : List ℕ). IsSame (all_joined n op now (made_forms ns m l)) whole) (drop_all c.loop-kid.kid-index ks (omega arith)) (c.loop-kid.invariant.joined ns table units have))
+            (at_once_done now),
+        c.loop-kid.invariant.units ns units have,
+      );
 }

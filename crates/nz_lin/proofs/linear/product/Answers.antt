@@ -54,6 +54,6 @@ returns c = record {
       let none = drop_all c.loop-kid.kid-index ks (omega arith) in
       let here = subst (λ (l : List ℕ). open_form (constants_at ns l) (made_forms ns m l) ≡ open_form (constants_at ns ks) (made_forms ns m ks)) none c.loop-kid.invariant in
       let one = one_form ns c.number.result c.whole.result c.number.ensures.form c.whole.ensures in
-      product_formed ns (constants_at ns ks) (made_forms ns m ks) c.in_ok-factor.factor (form_over ns c.number.result) c.multiplied.result c.in_ok-factor.ensures.product
-      (one.0 ∙ here) (c.multiplied.ensures.formed ns one.1);
+      product_formed ns (constants_at ns ks) (made_forms ns m ks) c.in_ok-factor.factor (form_over ns c.number.result) c.multiplied-3.result c.in_ok-factor.ensures.product
+      (one.0 ∙ here) (c.multiplied-3.ensures.formed ns one.1);
 }

@@ -46,10 +46,11 @@ returns c = record {
       let t = times c.args.side c.args.factor in
       let f : Numbered = record { parts = c.self.inside.parts.items; offset = c.self.inside.offset } in
       let new = parts_over ns c.in_ok-parts.parts.items in
-      let own = subst (λ (v : Numbered). AreUnits ns v.parts) (sym c.self.view_is) units in
-      (subst (λ (v : Numbered). IsDone (scaled t (form_over ns v)) (record { parts = new; offset = c.in_ok-offset.offset })) c.self.view_is
-        (scaled_done t (form_over ns f) new c.in_ok-offset.offset
-        (subst (λ (l : List Part). IsDone (parts_scaled t (parts_over ns l)) new) c.as_slice.ensures.value (c.in_ok-parts.ensures.scaled ns))
-        c.in_ok-offset.ensures.product),
-        c.in_ok-parts.ensures.units ns (subst (AreUnits ns) (sym c.as_slice.ensures.value) own));
+      let own = subst (λ (v : Numbered). AreUnits ns v.parts) (sym c.self.view_is) units in (
+        subst (λ (v : Numbered). IsDone (scaled t (form_over ns v)) (record { parts = new; offset = c.in_ok-offset.offset })) c.self.view_is
+            (scaled_done t (form_over ns f) new c.in_ok-offset.offset
+            (subst (λ (l : List Part). IsDone (parts_scaled t (parts_over ns l)) new) c.as_slice.ensures.value (c.in_ok-parts.ensures.scaled ns))
+            c.in_ok-offset.ensures.product),
+        c.in_ok-parts.ensures.units ns (subst (AreUnits ns) (sym c.as_slice.ensures.value) own),
+      );
 }
