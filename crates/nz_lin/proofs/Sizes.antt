@@ -39,15 +39,18 @@ module _ (ns : List Node) where
   weights-append (s ∷ ss) us = let more = weights-append ss us in omega arith
 
   -- what is popped is gone
-  pub less_popped : (ss : List Step) (s : Step) → weights (ss ++ s ∷ []) ≡ weights ss + weight s
+  less_popped : (ss : List Step) (s : Step) → weights (ss ++ s ∷ []) ≡ weights ss + weight s
   less_popped ss s = let more = weights-append ss (s ∷ []) in omega arith
 
   some_size : (t : Term) → 0 < size t
   some_size (apply h ts) = omega arith
 
-  pub less_gone : (ss : List Step) (s : Step) → weights ss < weights (ss ++ s ∷ [])
+  less_gone : (ss : List Step) (s : Step) → weights ss < weights (ss ++ s ∷ [])
   less_gone ss (Enter id) = let whole = less_popped ss (Enter id) in let some = some_size (term_in ns id) in omega arith
   less_gone ss (Leave id) = let whole = less_popped ss (Leave id) in omega arith
+
+  pub less_on : (items ss : List Step) (s : Step) → items ≡ ss ++ s ∷ [] → weights ss < weights items
+  less_on items ss s stack = subst (λ (l : List Step). weights ss < weights l) (sym stack) (less_gone ss s)
 
   entered : (ks : List ℕ) → weights (map Enter ks) ≡ 2 * sizes (terms_at (term_in ns) ks)
   entered [] = refl
@@ -69,7 +72,7 @@ module _ (ns : List Node) where
   opened_weigh false ks = omega arith
 
   -- a term is left, and its arguments are entered
-  pub less_entered : TermOfNode → IsTable ns → (ss : List Step) (id : ℕ) (n : Node) → slice_get ns id ≡ Some n → weights (ss ++ steps_of ns id) < weights (ss ++ Enter id ∷ [])
+  less_entered : TermOfNode → IsTable ns → (ss : List Step) (id : ℕ) (n : Node) → slice_get ns id ≡ Some n → weights (ss ++ steps_of ns id) < weights (ss ++ Enter id ∷ [])
   less_entered law table ss id n at =
       let before = less_popped ss (Enter id) in
       let after = weights-append ss (steps_of ns id) in
@@ -79,3 +82,9 @@ module _ (ns : List Node) where
       let less : weights (entries (opened_kids ns id)) < suc (2 * sizes (terms_at (term_in ns) n.kids)) =
       subst (λ (l : List ℕ). weights (entries l) < suc (2 * sizes (terms_at (term_in ns) n.kids))) (sym kids) (opened_weigh (is_some (opening_in (term_in ns id))) n.kids) in
       omega arith
+
+  pub less_opened : TermOfNode → IsTable ns → (items new ss : List Step) (s : Step) (id : ℕ) (n : Node) → slice_get ns id ≡ Some n → items ≡ ss ++ s ∷ [] → s ≡ Enter id → new ≡ ss ++ steps_of ns id
+      → weights new < weights items
+  less_opened law table items new ss s id n at stack same put =
+      subst (λ (l : List Step). weights new < weights l) (sym (stack ∙ ap (λ (x : Step). ss ++ x ∷ []) same))
+      (subst (λ (l : List Step). weights l < weights (ss ++ Enter id ∷ [])) (sym put) (less_entered law table ss id n at))

@@ -1,6 +1,6 @@
 -- Terms are entered and left from a stack, until the form of the first one is made.
 use Rattle.std.proofs.Common.{◌≡◌, ◌==◌, inl, inr, ℕ, ◌<◌, Bool, true, false, cond, List, [], ◌∷◌, ◌++◌, length, map, Option, Some, None, slice_get, refl, sym, ap, subst, ◌∙◌, arith, true≢false, if◌then◌else◌}
-use Rattle.std.specs.Prelude.{All, IsSome, IsTrue, is_some, reverse, ⊤}
+use Rattle.std.specs.Prelude.{Ok, All, IsSome, IsTrue, is_some, reverse, ⊤}
 use Rattle.std.specs.List.{AllByRecursion}
 use Rattle.std.proofs.lemmas.Bool.{and_parts}
 use Rattle.std.proofs.lemmas.Bool.Decides.{eqb_tells}
@@ -14,14 +14,11 @@ use Rattle.nz_spec.specs.Fraction.{Operation, first_wide}
 use Rattle.nz_spec.specs.Linear.{constant_values, is_linear, is_linear_node, are_linear}
 use Rattle.nz_spec.specs.Table.{IsTable, Node, TermOfNode, term_in, terms_at}
 use Rattle.nz_spec.specs.Term.{Term, apply}
-use Rattle.nz_frac.specs.Operations.{operation_of}
-use Rattle.nz_lin.specs.declared.form.LinStop.{LinStop}
-use Rattle.nz_lin.specs.declared.form.LinStop.TheVariants as stops
 use Rattle.nz_lin.specs.declared.linear.Opening.{Opening}
 use Rattle.nz_lin.specs.declared.linear.Step.{Step}
 use Rattle.nz_lin.specs.declared.linear.Step.TheVariants.{Enter, Leave}
-use Rattle.nz_lin.specs.Stops.{IsStopAt}
 use Rattle.nz_lin.specs.Forms.{Numbered, IsFormOf}
+use Rattle.nz_lin.specs.Comes.{IsFormed}
 use Rattle.nz_lin.specs.Making.{AreMade, HaveForms, Made, constants_at, entries, opened_by, opened_kids, opening_in, steps_of}
 use Rattle.nz_lin.proofs.Computing.{first_wide-none, first_wide-some, no_operation}
 use Rattle.nz_lin.proofs.Making.{form_is, kids_are}
@@ -96,8 +93,10 @@ stack ss id ks =
     ∙ ap (λ (l : List Step). l ++ reverse ss) (reverse-append (Leave id ∷ []) (entries ks) ∙ ap (λ (l : List Step). l ++ Leave id ∷ []) (ap reverse (turned ks) ∙ reverse-reverse (map Enter ks)))
     ∙ append_assoc (map Enter ks) (Leave id ∷ []) (reverse ss)
 
-pub popped : (ns : List Node) (root : ℕ) (made : Made) (ss : List Step) (s : Step) → Ready ns root made (reverse (ss ++ s ∷ [])) → Ready ns root made (s ∷ reverse ss)
-popped ns root made ss s h = subst (Ready ns root made) (reverse-append ss (s ∷ [])) h
+-- the step on the top of the stack
+pub popped : (ns : List Node) (root : ℕ) (made : Made) (items rest : List Step) (s t : Step) → items ≡ rest ++ s ∷ [] → s ≡ t → Ready ns root made (reverse items) → Ready ns root made (t ∷ reverse rest)
+popped ns root made items rest s t stack same h =
+    subst (Ready ns root made) (reverse-append rest (t ∷ [])) (subst (λ (l : List Step). Ready ns root made (reverse l)) (stack ∙ ap (λ (x : Step). rest ++ x ∷ []) same) h)
 
 module _ (ns : List Node) (root : ℕ) (rest : List Step) where
   kids_ready : (ks : List ℕ) (made : Made) → AreMade ns made → AreLinear ns ks → AreLeading ns root ks
@@ -153,17 +152,12 @@ module _ (law : TermOfNode) (ns : List Node) (table : IsTable ns) (root : ℕ) w
 -- ---- The other steps
 
 module _ (ns : List Node) (root : ℕ) where
-  -- at the start the root is to be entered
-  pub started : (made : Made) → root < length ns → IsTrue (is_linear (term_in ns root)) → Ready ns root made (Enter root ∷ [])
-  started made within linear = (record { within = within; linear = linear; stop = λ w e. e }, tt, λ later l some. some)
-
-  -- the form was made before
-  pub skipped : (made : Made) → AreMade ns made → (id : ℕ) (rest : List Step) → Ready ns root made (Enter id ∷ rest) → is_some (made id) ≡ true → Ready ns root made rest
-  skipped made are id rest h some = h.2 made (later_itself ns made are) some
-
   -- it is made now
-  module _ (old new : Made) (id : ℕ) (f : Numbered) (put : (j : ℕ) → new j ≡ cond (id == j) (Some f) (old j)) (is : IsFormOf ns id f) (are : AreMade ns old) where
-    pub made_more : AreMade ns new
+  module _ (old new : Made) (id : ℕ) (f : Numbered) (put : (j : ℕ) → new j ≡ cond (id == j) (Some f) (old j)) (formed : IsFormed ns (form_of (number_in ns) (term_in ns id)) (Ok f)) (are : AreMade ns old) where
+    is : IsFormOf ns id f
+    is = record { form = formed.0.result; fits = formed.0.fits; units = formed.1 }
+
+    made_more : AreMade ns new
     made_more j g at =
         elim (eqb_tells id j) [
           | inl e ↦
@@ -176,12 +170,10 @@ module _ (ns : List Node) (root : ℕ) where
     some_by j true e some = subst (λ o. IsSome o) (sym e) refl
     some_by j false e some = subst (λ o. IsSome o) (sym e) some
 
-    pub left : (rest : List Step) → Ready ns root old (Leave id ∷ rest) → Ready ns root new rest
+    left : (rest : List Step) → Ready ns root old (Leave id ∷ rest) → Ready ns root new rest
     left rest h =
         h.2 new (record { stays = λ j some. some_by j (id == j) (put j) some; are_made = made_more })
         (elim (eqb_tells id id) [ inl e ↦ subst (λ o. IsSome o) (sym (put id ∙ ap (λ b. cond b (Some f) (old id)) e.0)) refl | inr e ↦ absurd (e.1 refl) ])
 
-  -- an operation of the term leaves the numbers
-  pub leads_stop : (id : ℕ) → Leads ns root id → (s : LinStop) → IsStopAt (first_in ns id) s → IsStopAt (first_in ns root) s
-  leads_stop id leads (stops.Wide w) e = leads.stop (operation_of w) e
-  leads_stop id leads stops.Memory e = tt
+    pub left_now : (items rest : List Step) (s : Step) → items ≡ rest ++ s ∷ [] → s ≡ Leave id → Ready ns root old (reverse items) → AreMade ns new × Ready ns root new (reverse rest)
+    left_now items rest s stack same h = (made_more, left (reverse rest) (popped ns root old items rest s (Leave id) stack same h))
