@@ -62,15 +62,17 @@ less_to m n h = grind (arith, nat_tests)
 
 -- ---- Which terms are one
 
-abbrev term_of : Literal → Term
-term_of (term_literal t sign) = t
+-- the term of a literal on a term; another literal has none
+abbrev term_or : Term → Literal → Term
+term_or u (term_literal t sign) = t
+term_or u l = u
 
 module _ (tells : TellsLiterals) where
   one_term : (t : Term) → are_same_term t t ≡ true
   one_term t = (and_parts (are_same_term t t) (are_same_sign true true) (tells.one (term_literal t true))).0
 
   same_term : (t u : Term) → are_same_term t u ≡ true → t ≡ u
-  same_term t u e = ap term_of (tells.same (term_literal t true) (term_literal u true) (ap (λ (b : Bool). b && true) e))
+  same_term t u e = ap (term_or u) (tells.same (term_literal t true) (term_literal u true) (ap (λ (b : Bool). b && true) e))
 
 -- ---- The place of a part
 

@@ -105,7 +105,7 @@ fn opening_in(terms: &Terms, id: TermId) -> Option<Opening>
 
 /// How arithmetic opens terms of this head, where they aren't constant.
 fn opening_of(head: Head) -> Option<Opening>
-    ensures opening { result ≡ opening_of (head_of head) }
+    ensures opening { result ≡ opening_of (head_of head.entry) }
 {
     match head {
         Head::Operator(operator) => match operator {

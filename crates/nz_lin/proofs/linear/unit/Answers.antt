@@ -7,5 +7,5 @@ use Rattle.nz_lin.proofs.linear.unit.Goals as goal
 pub returns : goal.returns
 returns c =
     let ns = c.args.terms.now in
-    let sort = c.sort.ensures.sort ∙ sort_is c.term_of_node.ensures.node ns c.known_table.ensures.table c.args.id (head_of c.head.result.now) c.head.ensures.head in
+    let sort = c.sort.ensures.sort ∙ sort_is c.term_of_node.ensures.node ns c.known_table.ensures.table c.args.id (head_of c.head.result) c.head.ensures.head in
     record { formed = (record { result = c.in_ok-unit.ensures.unit ns; fits = no_operation }, c.in_ok-unit.ensures.names ns (λ q. (c.requires.within, sort))) }
