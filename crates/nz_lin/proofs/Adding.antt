@@ -1,5 +1,5 @@
 -- One part more, or one form more, is added or subtracted.
-use Rattle.std.proofs.Common.{◌≡◌, List, ◌∷◌}
+use Rattle.std.proofs.Common.{List, ◌∷◌}
 use Rattle.nz_spec.specs.Computation.{Computation, operated, turned_into}
 use Rattle.nz_spec.specs.Form as spec
 use Rattle.nz_spec.specs.Form.{Numbering, Form, all_joined, joined, part_joined, parts_joined, parts_scaled, scaled}

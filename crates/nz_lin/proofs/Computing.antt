@@ -9,7 +9,7 @@ use Rattle.nz_lin.specs.declared.form.LinStop.{LinStop}
 use Rattle.nz_lin.specs.declared.form.LinStop.TheVariants.{Wide, Memory}
 use Rattle.nz_lin.specs.Stops.{IsStopAt}
 use Rattle.nz_lin.specs.Forms.{Numbered}
-use Rattle.nz_lin.specs.Comes.{IsDone, Comes, IsFormed}
+use Rattle.nz_lin.specs.Comes.{IsDone, IsFormed}
 
 -- ---- The first operation of two lists
 

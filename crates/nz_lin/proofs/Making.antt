@@ -1,9 +1,9 @@
 -- The form of a term is made of those of its arguments.
-use Rattle.std.proofs.Common.{◌≡◌, ℕ, zero, suc, arith, ◌<◌, ◌&&◌, Bool, true, false, List, [], ◌∷◌, ◌++◌, length, get_or, map, Option, Some, None, Result, Ok, Err, slice_get, refl, sym, ap, ap₂, subst, ◌∙◌, true≢false, if◌then◌else◌}
-use Rattle.std.specs.Prelude.{All, IsSome, is_none, is_some, IsTrue, option_map, unwrap_or, pos}
+use Rattle.std.proofs.Common.{◌≡◌, ℕ, zero, suc, arith, ◌<◌, Bool, true, false, List, [], ◌∷◌, length, get_or, Option, Some, None, Result, Ok, slice_get, refl, sym, ap, ap₂, subst, ◌∙◌, true≢false, if◌then◌else◌}
+use Rattle.std.specs.Prelude.{IsSome, is_none, is_some, IsTrue, option_map, unwrap_or, pos}
 use Rattle.std.specs.List.{AllByRecursion}
 use Rattle.std.proofs.lemmas.Bool.{and_parts}
-use Rattle.std.proofs.lemmas.List.Elements.{All-from_recursion, All-head, All-tail, recursion_from_All}
+use Rattle.std.proofs.lemmas.List.Elements.{All-from_recursion, recursion_from_All}
 use Rattle.std.proofs.lemmas.Option.{same_Some}
 use Rattle.std.proofs.Math.Path.{fun_ext}
 use Rattle.nz_lists.proofs.Elements.{AllByRecursion-weaker}
@@ -11,20 +11,18 @@ use Rattle.nz_spec.specs.Computation.{Computation, at_once, and_then}
 use Rattle.nz_spec.specs.Form as spec
 use Rattle.nz_spec.specs.Form.{constant_form, unit_form}
 use Rattle.nz_spec.specs.FormOf.{is_opened, head_form, form_of, forms_of, number_in}
-use Rattle.nz_spec.specs.Fraction.{Fraction, Operation, whole, first_wide, Sum, Difference}
+use Rattle.nz_spec.specs.Fraction.{Fraction, whole, first_wide, Sum}
 use Rattle.nz_spec.specs.Linear.{head_constant, constant_value, constant_values, is_linear, is_linear_node, are_linear, divides_by_constants}
 use Rattle.nz_spec.specs.Table.{Node, IsTable, TermOfNode, term_in, terms_at}
 use Rattle.nz_spec.specs.Term as term
 use Rattle.nz_spec.specs.Term.{Head, Term, apply, Terms, Sort, sort_of, head_sort}
 use Rattle.nz_lin.specs.declared.form.LinStop.{LinStop}
-use Rattle.nz_lin.specs.declared.form.Part.{Part}
 use Rattle.nz_lin.specs.declared.linear.Opening.{Opening}
-use Rattle.nz_lin.specs.declared.linear.Opening.TheVariants.{Sum as Adds, Difference as Subtracts, Product as Multiplies, Quotient as Divides, ToReal}
-use Rattle.nz_lin.specs.Stops.{IsStopAt}
-use Rattle.nz_lin.specs.Forms.{Numbered, AreUnits, IsFormOf, form_over}
+use Rattle.nz_lin.specs.declared.linear.Opening.TheVariants.{Quotient as Divides}
+use Rattle.nz_lin.specs.Forms.{Numbered, AreUnits, IsFormOf}
 use Rattle.nz_lin.specs.Comes.{IsDone, IsFormed}
-use Rattle.nz_lin.specs.Making.{AreMade, HaveForms, HaveUnits, Made, constants_at, difference_of, joined_forms, made_form, made_forms, opened_by, opened_kids, opening_in, opening_of, product_of, quotient_of, real_of}
-use Rattle.nz_lin.proofs.Computing.{IsSame, at_once_done, first_wide-none, first_wide-some, no_operation, one_step, same_done, same_formed, same_itself}
+use Rattle.nz_lin.specs.Making.{AreMade, HaveForms, HaveUnits, Made, constants_at, difference_of, joined_forms, made_form, made_forms, opened_by, opened_kids, opening_in, opening_of, quotient_of, real_of}
+use Rattle.nz_lin.proofs.Computing.{at_once_done, first_wide-none, no_operation, one_step, same_formed}
 
 -- ---- Arguments
 

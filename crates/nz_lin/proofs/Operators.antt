@@ -1,8 +1,8 @@
 -- Products and quotients, one argument after another.
-use Rattle.std.proofs.Common.{◌≡◌, ℕ, ◌&&◌, Bool, true, false, not, List, [], ◌∷◌, map, Option, Some, None, Result, Ok, Err, refl, sym, ap, subst, ◌∙◌, true≢false}
+use Rattle.std.proofs.Common.{◌≡◌, ℕ, ◌&&◌, Bool, true, false, not, List, [], ◌∷◌, Option, Some, None, Result, refl, sym, ap, subst, ◌∙◌, true≢false}
 use Rattle.std.specs.Prelude.{IsSome, IsTrue, pos, unwrap_or}
 use Rattle.std.proofs.lemmas.Option.{same_Some}
-use Rattle.nz_spec.specs.Computation.{Computation, operated, at_once, and_then}
+use Rattle.nz_spec.specs.Computation.{Computation, operated, at_once}
 use Rattle.nz_spec.specs.Form as spec
 use Rattle.nz_spec.specs.FormOf.{product_onto, constants_product, open_form, divided_by, divided_by_each}
 use Rattle.nz_spec.specs.Fraction.{Fraction, Arithmetic, Operation, whole, Product, Quotient, first_wide}

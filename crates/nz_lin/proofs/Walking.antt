@@ -6,14 +6,13 @@ use Rattle.std.proofs.lemmas.Bool.{and_parts}
 use Rattle.std.proofs.lemmas.Bool.Decides.{eqb_tells}
 use Rattle.std.proofs.lemmas.List.{append_assoc, reverse-append, reverse-reverse}
 use Rattle.std.proofs.lemmas.List.Elements.{All-cons, All-nil, recursion_from_All}
-use Rattle.nz_spec.specs.Computation.{and_then}
 use Rattle.nz_spec.specs.Form as spec
 use Rattle.nz_spec.specs.Form.{unit_form}
 use Rattle.nz_spec.specs.FormOf.{form_of, forms_of, number_in}
 use Rattle.nz_spec.specs.Fraction.{Operation, first_wide}
 use Rattle.nz_spec.specs.Linear.{constant_values, is_linear, is_linear_node, are_linear}
 use Rattle.nz_spec.specs.Table.{IsTable, Node, TermOfNode, term_in, terms_at}
-use Rattle.nz_spec.specs.Term.{Term, apply}
+use Rattle.nz_spec.specs.Term.{apply}
 use Rattle.nz_lin.specs.declared.linear.Opening.{Opening}
 use Rattle.nz_lin.specs.declared.linear.Step.{Step}
 use Rattle.nz_lin.specs.declared.linear.Step.TheVariants.{Enter, Leave}

@@ -3,7 +3,7 @@ ghost use Rattle.std.specs.Prelude.{◌<◌, ◌≤◌, IfOk, length};
 
 use crate::terms::{MOST, constant, form, numeral, over};
 use nz_base::Memory;
-use nz_frac::Op;
+use nz_frac::{Op, Wide};
 use nz_lin::LinStop;
 use nz_term::{NumberSort, Operator, Sort, TermId, Terms};
 use std::alloc::Global;
@@ -14,11 +14,14 @@ fn stops_at(alloc: Global, terms: &Terms, id: TermId, op: Op, left: i128, right:
     requires within { id < length terms.now }
 {
     match form(alloc, terms, id) {
-        Some(Err(LinStop::Wide(wide))) => {
-            wide.op == op && wide.a.num() == left && wide.b.num() == right
-        }
+        Some(Err(LinStop::Wide(wide))) => is_at(&wide, op, left, right),
         _ => false,
     }
+}
+
+/// Whether it is this operation.
+fn is_at(wide: &Wide, op: Op, left: i128, right: i128) -> bool {
+    wide.op == op && wide.a.num() == left && wide.b.num() == right
 }
 
 /// `(* M u)`.

@@ -1,5 +1,5 @@
 -- The unit is there, or its place is found.
-use Rattle.std.proofs.Common.{◌≡◌, ℕ, ◌<◌, List, length, get_or, take, drop, ◌++◌, ◌∷◌, sym, ap, subst, ◌∙◌, rules, arith}
+use Rattle.std.proofs.Common.{◌≡◌, ◌<◌, List, length, get_or, take, drop, ◌++◌, ◌∷◌, sym, ap, subst, ◌∙◌, rules, arith}
 use Rattle.std.proofs.lemmas.List.Sorted.{answers_always}
 use Rattle.std.proofs.lemmas.Option.{slice_get-get_or}
 use Rattle.nz_spec.specs.FormOf.{number_in}

@@ -1,10 +1,9 @@
 -- One part more.
-use Rattle.std.proofs.Common.{◌≡◌, ◌+◌, List, [], ◌∷◌, ◌++◌, drop, Err, sym, ap, subst, ◌∙◌, arith}
+use Rattle.std.proofs.Common.{◌≡◌, ◌+◌, List, ◌∷◌, ◌++◌, drop, Err, sym, ap, subst, ◌∙◌, arith}
 use Rattle.std.proofs.lemmas.List.{append-nil, drop_all}
 use Rattle.std.proofs.lemmas.Result.{err_from_is_err_and}
 use Rattle.nz_lists.proofs.Places.{drop_read}
 use Rattle.nz_spec.specs.Form.{parts_scaled}
-use Rattle.nz_spec.specs.Table.{Node}
 use Rattle.nz_lin.specs.declared.form.LinStop.TheVariants.{Wide}
 use Rattle.nz_lin.specs.declared.form.Part.{Part}
 use Rattle.nz_lin.specs.Comes.{AreFormed, times}

@@ -1,5 +1,5 @@
 -- The negation of one term.
-use Rattle.std.proofs.Common.{◌≡◌, ℕ, [], ◌∷◌, List, length, get_or, sym, subst, arith}
+use Rattle.std.proofs.Common.{◌≡◌, ℕ, List, length, get_or, sym, subst, arith}
 use Rattle.std.specs.Prelude.{nat_eq}
 use Rattle.std.specs.HashMap.{get}
 use Rattle.nz_spec.specs.Computation.{at_once}

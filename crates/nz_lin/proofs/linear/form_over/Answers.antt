@@ -1,10 +1,7 @@
 -- A number, a unit, or a term that is opened.
-use Rattle.std.proofs.Common.{◌≡◌, None, Some, ◌∙◌, sym, rules}
-use Rattle.std.specs.Prelude.{IsSome, nat_eq, slice_get}
+use Rattle.std.proofs.Common.{◌∙◌, sym}
+use Rattle.std.specs.Prelude.{nat_eq}
 use Rattle.std.specs.HashMap.{get}
-use Rattle.nz_spec.specs.Linear.{constant_value}
-use Rattle.nz_spec.specs.Table.{term_in}
-use Rattle.nz_lin.specs.Making.{opening_in}
 use Rattle.nz_lin.proofs.Making.{constant_formed, inside_some, open_divisors, open_formed, open_units}
 use Rattle.nz_lin.proofs.linear.form_over.Goals as goal
 
