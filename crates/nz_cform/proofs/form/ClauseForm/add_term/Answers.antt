@@ -1,5 +1,5 @@
 -- The stack leads from one term to what it is made of.
-use Rattle.std.proofs.Common.{ℕ, ◌<◌, List, [], ◌∷◌, ◌++◌, Some, None, ap, sym, subst, ◌∙◌}
+use Rattle.std.proofs.Common.{◌<◌, [], ◌∷◌, ◌++◌, Some, None, ap, sym, subst, ◌∙◌}
 use Rattle.nz_spec.specs.Table.{term_in}
 use Rattle.nz_term.specs.Heads.{head_of}
 use Rattle.nz_cform.specs.Forms.{covered_at}

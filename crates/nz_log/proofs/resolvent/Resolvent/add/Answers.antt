@@ -4,7 +4,7 @@ use Rattle.std.specs.List.{list_any}
 use Rattle.nz_log.specs.declared.lits.Lit.{Lit}
 use Rattle.nz_log.specs.Lits.{are_same_lit}
 use Rattle.nz_log.specs.Marked.{AreListed, has_mark, last_marked}
-use Rattle.nz_log.proofs.LastMarked.{last_more, listed_behind, listed_more, marks_tell}
+use Rattle.nz_log.proofs.LastMarked.{last_more, listed_more, marks_tell}
 use Rattle.nz_log.proofs.resolvent.Resolvent.add.Goals as goal
 
 pub returns-then-has : goal.returns-then-has
