@@ -13,9 +13,20 @@ use std::test::Fail;
 fn stops_at(alloc: Global, terms: &Terms, id: TermId, op: Op, left: i128, right: i128) -> bool
     requires within { id < length terms.now }
 {
-    match form(alloc, terms, id) {
-        Some(Err(LinStop::Wide(wide))) => is_at(&wide, op, left, right),
-        _ => false,
+    match &form(alloc, terms, id) {
+        Some(made) => match made {
+            Err(stop) => is_stop_at(stop, op, left, right),
+            Ok(_) => false,
+        },
+        None => false,
+    }
+}
+
+/// Whether it stopped at this operation.
+fn is_stop_at(stop: &LinStop, op: Op, left: i128, right: i128) -> bool {
+    match stop {
+        LinStop::Wide(wide) => is_at(wide, op, left, right),
+        LinStop::Memory => false,
     }
 }
 
