@@ -23,6 +23,7 @@ pub mod LinearLiterals
 pub mod Literals
 pub mod Normal
 pub mod NormalGates
+pub mod OverConstants
 pub mod Pieces
 pub mod Placed
 pub mod ReadOperands

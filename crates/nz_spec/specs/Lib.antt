@@ -26,6 +26,7 @@ pub mod Numerals
 pub mod Operations
 pub mod Order
 pub mod Outside
+pub mod OverConstants
 pub mod Parse
 pub mod Reading
 pub mod Reply
