@@ -28,10 +28,10 @@ ghost use Rattle.nz_session.specs.Told.{IsTold};
 use crate::values::values_shown;
 use nz_base::{Error, Memory, Work};
 use nz_elaborate::Typed;
-use nz_log::{Decide, Note, Stop, Verdict};
+use nz_log::{Decide, Lit, Note, Stop, Verdict};
 use nz_reply::{Binding, Bindings, Cause, Info, Reason, Reply, SpentList};
 use nz_sexpr::{Tree, What};
-use nz_sort::{Accepted, Act, Info as InfoAsked, Live};
+use nz_sort::{Accepted, Act, Assumed, Info as InfoAsked, Live};
 use nz_spec::script::argument_tells;
 use nz_spec::table::{assigns_by_number, term_of_node};
 use nz_spec::term::{decimals_are_numbers, normal_keeps_value, numerals_are_whole};
@@ -56,8 +56,7 @@ pub struct Desk<E: Decide> {
     terms: Terms,
     live: Live,
     engine: E,
-    /// How many assertions the engine has been told, once it has a level for them.
-    told: Option<usize>,
+    told: Told,
     work: Work<Note>,
     limit: u64,
     prints_success: bool,
@@ -99,7 +98,7 @@ impl<E: Decide> Desk<E> {
             terms: Terms::new(alloc)?,
             live: Live::new(alloc)?,
             engine,
-            told: None,
+            told: Told::NOTHING,
             work: Work::new(alloc)?,
             limit,
             prints_success: false,
@@ -135,7 +134,21 @@ impl<E: Decide> Desk<E> {
                 self.last = None;
                 said(done(self.prints_success))
             }
-            Ok(Act::Check) => self.check(),
+            Ok(Act::Popped) => {
+                pop_told(&mut self.engine, &mut self.told, &self.live);
+                self.last = None;
+                said(done(self.prints_success))
+            }
+            Ok(Act::Cleared) => {
+                self.forget();
+                said(done(self.prints_success))
+            }
+            Ok(Act::Reset) => {
+                self.forget();
+                self.prints_success = false;
+                said(Reply::Quiet)
+            }
+            Ok(Act::Check(assumed)) => self.check_under(&assumed),
             Ok(Act::ShowModel) => self.show_model(),
             Ok(Act::ShowValues(asked)) => self.show_values(&asked),
             Ok(Act::ShowReason) => self.show_reason(),
@@ -156,19 +169,39 @@ impl<E: Decide> Desk<E> {
         }
     }
 
-    /// The answer to `check-sat`.
-    fn check(&mut self) -> Answer
-        requires { (c : Context) × Holds E.levels E.table self.old c × (items_hold_numbers (items_of c.state.levels) ≡ false) }
-        ensures right { (c : Context) (tree : script.Tree) → Holds E.levels E.table self.old c → outcome_of c.state tree ≡ accepted (check_sat []) → IsAnswer E.levels E.table c (intact tree) result self.new }
-        ensures terms { table_of self.new ≡ table_of self.old }
-    {
+    /// Forgets the last answer, and all that the engine was told. Takes no memory.
+    fn forget(&mut self) {
+        self.engine.pop(self.told.levels);
+        self.told = Told::NOTHING;
+        self.last = None;
+    }
+
+    /// The answer to a check under what is assumed.
+    fn check_under(&mut self, assumed: &[Assumed]) -> Answer {
+        let literals = match literals_of(self.alloc, assumed) {
+            Ok(literals) => literals,
+            Err(Memory) => return said(Reply::Error(Error::OutOfMemory)),
+        };
+        match are_consistent(self.alloc, &self.terms, &literals) {
+            Ok(true) => self.check(&literals),
+            Ok(false) => {
+                self.last = Some(LastAnswer::Refutation);
+                said(Reply::Unsat)
+            }
+            Err(Memory) => said(Reply::Error(Error::OutOfMemory)),
+        }
+    }
+
+    /// The answer to a check under literals, none of which is the negation of another.
+    fn check(&mut self, assumed: &[Lit]) -> Answer {
         normal_keeps_value();
         assertions_are_gated();
         let decided = decide(
             &mut self.engine,
             &mut self.told,
-            self.live.assertions(),
+            &self.live,
             &self.terms,
+            assumed,
             &mut self.work,
             self.limit,
         );
@@ -199,21 +232,14 @@ impl<E: Decide> Desk<E> {
     }
 
     /// The answer where a model was found, which is kept for `get-model`.
-    fn found(&mut self, assign: Assign) -> Answer
-        ensures right { (c : Context) (tree : script.Tree) → Holds E.levels E.table self.old c → outcome_of c.state tree ≡ accepted (check_sat []) → AreModelValues self.old.terms (asserted_in self.old) [] assign → IsAnswer E.levels E.table c (intact tree) result self.new }
-        ensures terms { table_of self.new ≡ table_of self.old }
-    {
+    fn found(&mut self, assign: Assign) -> Answer {
         known_table(&self.terms);
         term_of_node();
         normal_keeps_value();
         decimals_are_numbers();
         numerals_are_whole();
-        match bindings_twice(self.alloc, &self.terms, self.live.constants(), &assign) {
-            Ok((shown, kept)) => {
-                let model = FoundModel {
-                    bindings: kept,
-                    values: assign,
-                };
+        match model_of(self.alloc, &self.terms, &self.live, &assign) {
+            Ok((shown, model)) => {
                 self.last = Some(LastAnswer::Model(model));
                 said(Reply::Sat(shown))
             }
@@ -318,99 +344,150 @@ fn info_told(info: InfoAsked) -> Info
     }
 }
 
-/// Tells the engine the assertions that it hasn't been told, in its one level.
-fn tell<E: Decide>(
-    engine: &mut E,
-    told: &mut Option<usize>,
-    assertions: &[Accepted],
-) -> Result<(), Memory>
-    requires told { IsTold (E.levels engine.old) told.old (table_numbers assertions.now) }
-    ensures told { IsTold (E.levels engine.new) told.new (table_numbers assertions.now) }
-    ensures all { OnOk result (E.levels engine.new ≡ table_numbers assertions.now ∷ []) }
-    ensures table { E.table engine.new ≡ E.table engine.old }
-{
-    let mut count = match *told {
-        Some(count) => count,
-        None => {
-            engine.push()?;
-            *told = Some(0);
-            0
+/// The literals that terms are assumed by.
+fn literals_of(alloc: Global, assumed: &[Assumed]) -> Result<Vec<Lit>, Memory> {
+    Ok(assumed
+        .iter()
+        .map(|one| Lit {
+            term: one.term,
+            sign: one.is_true,
+        })
+        .collect(alloc)?)
+}
+
+/// None of these literals, which are of the table, is the negation of another.
+fn are_consistent(alloc: Global, terms: &Terms, literals: &[Lit]) -> Result<bool, Memory> {
+    let mut signs = vec![in alloc; None; terms.len()]?;
+    for literal in literals {
+        match signs[literal.term] {
+            Some(sign) => {
+                if sign != literal.sign {
+                    return Ok(false);
+                }
+            }
+            None => signs[literal.term] = Some(literal.sign),
         }
+    }
+    Ok(true)
+}
+
+// ---- What the engine is told
+
+/// How much of the live assertions the engine has been told: all of the first levels, and of the last that it knows so many.
+#[derive(Clone, Copy, Debug)]
+struct Told {
+    levels: usize,
+    last: usize,
+}
+
+impl Told {
+    const NOTHING: Told = Told { levels: 0, last: 0 };
+}
+
+/// Takes the levels off the engine that are live no more.
+fn pop_told<E: Decide>(engine: &mut E, told: &mut Told, live: &Live) {
+    let count = live.below().len() + 1;
+    if told.levels > count {
+        engine.pop(told.levels - count);
+        *told = Told {
+            levels: count,
+            last: live.top().assertions().len(),
+        };
+    }
+}
+
+/// Tells the engine the levels and the assertions that it hasn't been told.
+fn tell<E: Decide>(engine: &mut E, told: &mut Told, live: &Live) -> Result<(), Memory> {
+    if told.levels == 0 {
+        begin_level(engine, told)?;
+    }
+    let below = live.below();
+    for place in told.levels - 1..below.len() {
+        tell_last(engine, told, below[place].assertions())?;
+        begin_level(engine, told)?;
+    }
+    tell_last(engine, told, live.top().assertions())
+}
+
+/// Begins a level in the engine.
+fn begin_level<E: Decide>(engine: &mut E, told: &mut Told) -> Result<(), Memory> {
+    engine.push()?;
+    *told = Told {
+        levels: told.levels + 1,
+        last: 0,
     };
-    while count < assertions.len() {
-        engine.add(assertions[count].term)?;
-        count += 1;
-        *told = Some(count);
+    Ok(())
+}
+
+/// Tells the engine what it hasn't been told of the last level that it knows.
+fn tell_last<E: Decide>(
+    engine: &mut E,
+    told: &mut Told,
+    assertions: &[Accepted],
+) -> Result<(), Memory> {
+    while told.last < assertions.len() {
+        engine.add(assertions[told.last].term)?;
+        told.last += 1;
     }
     Ok(())
 }
 
-/// Decides whether the assertions have a model, with a fresh work list of so many units.
+/// Decides whether the live assertions and the assumed literals have a model, with a fresh work list of so many units.
 fn decide<E: Decide>(
     engine: &mut E,
-    told: &mut Option<usize>,
-    assertions: &[Accepted],
+    told: &mut Told,
+    live: &Live,
     terms: &Terms,
+    assumed: &[Lit],
     work: &mut Work<Note>,
     limit: u64,
-) -> Result<Verdict, Stop>
-    requires told { IsTold (E.levels engine.old) told.old (table_numbers assertions.now) }
-    requires within { All (λ i. i < length terms.now) (table_numbers assertions.now) }
-    requires front { IsFrontOfTable (E.table engine.old) terms.now }
-    requires gated { All (λ i. IsGated (term_in terms.now i)) (table_numbers assertions.now) }
-    ensures told { IsTold (E.levels engine.new) told.new (table_numbers assertions.now) }
-    ensures sat { IfOk result (λ v. IfSat v (AreModelValues terms.now (map (term_in terms.now) (table_numbers assertions.now)) [])) }
-    ensures unsat { IfOk result (λ v. OnUnsat v (IsUnsatisfiable (map (term_in terms.now) (table_numbers assertions.now)) [])) }
-    ensures spent { IfErr result (λ s. OnSpent s (IsSpentLegally (task_in terms.now (table_numbers assertions.now ∷ []) []) (noted_list terms.now work.new))) }
-    ensures limit { IfErr result (λ s. OnSpent s (work.new.limit ≡ limit)) }
-    ensures within { IfErr result (λ s. OnSpent s (AreNotedWithin terms.now work.new.lines)) }
-    ensures front { IsFrontOfTable (E.table engine.new) terms.now }
-{
-    tell(engine, told, assertions)?;
+) -> Result<Verdict, Stop> {
+    tell(engine, told, live)?;
     work.reserve(limit)?;
-    engine.check(terms, &[], work)
+    engine.check(terms, assumed, work)
 }
 
-/// The bindings of these constants by an assignment, twice: to be shown, and to be kept.
-fn bindings_twice(
-    alloc: Global,
-    terms: &Terms,
-    constants: &[Accepted],
-    assign: &Assign,
-) -> Result<(Bindings, Bindings), Memory>
-    ensures shown { IfOk result (λ p. p.0 ≡ completed terms.now assign.now (table_numbers constants.now)) }
-    ensures kept { IfOk result (λ p. p.1 ≡ completed terms.now assign.now (table_numbers constants.now)) }
-{
-    let shown = bindings_of(alloc, terms, constants, assign)?;
-    let kept = shown.copy(alloc)?;
-    Ok((shown, kept))
-}
+// ---- Models
 
-/// The bindings of these constants: each with the value that the assignment gives it, or else the default of its sort.
-fn bindings_of(
+/// The bindings of the live constants by an assignment, to be shown, and what is kept of the model.
+fn model_of(
     alloc: Global,
     terms: &Terms,
-    constants: &[Accepted],
+    live: &Live,
     assign: &Assign,
-) -> Result<Bindings, Memory>
-    ensures bindings { IfOk result (λ bs. bs ≡ completed terms.now assign.now (table_numbers constants.now)) }
-{
+) -> Result<(Bindings, FoundModel), Memory> {
     let mut bindings = Bindings::new(alloc);
-    for accepted in constants {
-        add_binding(&mut bindings, terms, accepted.term, assign)?;
+    let mut values = Assign::new(alloc)?;
+    for level in live.below() {
+        bind_all(&mut bindings, &mut values, terms, level.constants(), assign)?;
     }
-    Ok(bindings)
+    bind_all(&mut bindings, &mut values, terms, live.top().constants(), assign)?;
+    let shown = bindings.copy(alloc)?;
+    Ok((shown, FoundModel { bindings, values }))
+}
+
+/// Adds what these constants are bound to: each has the value that the assignment gives it, or else the default of its sort.
+fn bind_all(
+    bindings: &mut Bindings,
+    values: &mut Assign,
+    terms: &Terms,
+    constants: &[Accepted],
+    assign: &Assign,
+) -> Result<(), Memory> {
+    for accepted in constants {
+        bind(bindings, values, terms, accepted.term, assign)?;
+    }
+    Ok(())
 }
 
 /// Adds what the constant of this number is bound to.
-fn add_binding(
+fn bind(
     bindings: &mut Bindings,
+    values: &mut Assign,
     terms: &Terms,
     id: TermId,
     assign: &Assign,
-) -> Result<(), Memory>
-    ensures grown { OnOk result (bindings.new ≡ bindings.old ++ bound_at terms.now assign.now (slice_get terms.now id)) }
-{
+) -> Result<(), Memory> {
     assigns_by_number();
     known_table(terms);
     if id >= terms.len() {
@@ -421,5 +498,6 @@ fn add_binding(
     };
     let constant = constant.clone()?;
     let value = assign.value(id).unwrap_or(default_value(constant.sort));
+    values.push(id, value)?;
     bindings.push(Binding { constant, value })
 }

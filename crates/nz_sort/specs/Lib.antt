@@ -1,4 +1,6 @@
 pub mod Acts
+pub mod Assuming
 pub mod Changes
 pub mod Items
+pub mod Layers
 pub mod Live
