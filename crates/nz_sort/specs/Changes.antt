@@ -3,7 +3,7 @@ use Rattle.std.specs.Prelude.{◌≡◌, ℕ, zero, suc, ◌||◌, ◌+◌, not,
 use Rattle.nz_spec.specs.Tree.{Tree}
 use Rattle.nz_spec.specs.Term.{Sort, is_bool, Constant, constant, Term, Terms, apply, no_terms}
 use Rattle.nz_spec.specs.Normal.{normal_of}
-use Rattle.nz_spec.specs.Table.{Node, term_in}
+use Rattle.nz_spec.specs.Table.{Node, term_in, IsTable}
 use Rattle.nz_spec.specs.Elaboration.{Definition as SpecDefinition, RootFits}
 use Rattle.nz_spec.specs.Request.{Question, Request, other_request}
 use Rattle.nz_spec.specs.Live.{State}
@@ -121,7 +121,7 @@ with_level before = record before { below = before.below ++ before.top ∷ []; t
 
 abbrev pub with_levels : ℕ → Standing → Standing
 with_levels zero before = before
-with_levels (suc n) before = with_levels n (with_level before)
+with_levels (suc n) before = with_level (with_levels n before)
 
 -- what stands without the newest level, where another is below it; here that is this one, and these are below
 abbrev pub Drops : Standing → Standing → Type 0
@@ -149,3 +149,4 @@ pub record HasAdded (name : List ℕ) (sort : Sort) (old new : List Node) (befor
   pub node : slice_get new added.id ≡ Some (record { head = constant (constant_of name sort); kids = [] })
   pub grown : (new ≡ old) ⊎ (new ≡ old ++ record { head = constant (constant_of name sort); kids = [] } ∷ [])
   pub term : term_in new added.id ≡ apply (constant (constant_of name sort)) no_terms
+  pub table : IsTable new

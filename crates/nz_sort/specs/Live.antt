@@ -68,7 +68,7 @@ scope_in levels = record { constants = constants_in (items_of levels); definitio
 pub record IsLevel (ns : List Node) (names : List (List ℕ × Named)) (layer : Layer) (items : List LiveItem) (older : List (List LiveItem)) : Type 0 where
   pub named : IsScope ns names [] (scope_in (items ∷ older))
   pub before : layer.names_before ≤ length names
-  pub items : HasItems ns layer items
+  pub has : HasItems ns layer items
   pub count : layer.constant_count ≡ length (constants_in (items_of (items ∷ older)))
   pub numbers : items_hold_numbers (items_of (items ∷ older)) ≡ layer.holds_numbers
 

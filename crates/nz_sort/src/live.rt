@@ -1,5 +1,5 @@
 //! The live state: what becomes of a command, and what it leaves.
-ghost use Rattle.std.specs.Prelude.{◌≡◌, All, ◌<◌, ◌+◌, ℕ, List, [], ◌∷◌, length, map, take, OnOk, OnErr, IfOk, IfErr, IfSome, Some, None, ◌||◌, false, if◌then◌else◌};
+ghost use Rattle.std.specs.Prelude.{◌≡◌, All, ◌<◌, ◌≤◌, ◌+◌, vec_len, vec_capacity, ℕ, List, [], ◌∷◌, length, map, take, OnOk, OnErr, IfOk, IfErr, IfSome, Some, None, ◌||◌, false, if◌then◌else◌};
 ghost use Rattle.std.specs.List.{list_any};
 ghost use Rattle.nz_sexpr.specs.View.{view};
 ghost use Rattle.nz_spec.specs.Bounds.{has_token, is_long_decimal};
@@ -11,17 +11,18 @@ ghost use Rattle.nz_spec.specs.Parse.{request_of};
 ghost use Rattle.nz_spec.specs.Limits.{passes_limit as beyond_limit};
 ghost use Rattle.nz_spec.specs.Live.{State, pushed_levels, start};
 ghost use Rattle.nz_spec.specs.Command.{accepted, refused, declare_const};
-ghost use Rattle.nz_spec.specs.Script.{outcome_of, outcome_requested, outcome_by, declaration_of, definition_of, assertion_of, values_asked, all_linear, is_unknown_sort as is_unknown};
+ghost use Rattle.nz_spec.specs.Script.{outcome_of, outcome_requested, outcome_by, declaration_of, definition_of, assertion_of, values_asked, push_of, pop_of, check_under, all_linear, is_unknown_sort as is_unknown};
 ghost use Rattle.nz_spec.specs.TermList.{IsTermList};
 ghost use Rattle.nz_term.specs.Constants.{sort_of};
 ghost use Rattle.nz_command.specs.View.{view as written};
-ghost use Rattle.nz_command.specs.Requests.{request, sort_view, parameter_view, question_view};
+ghost use Rattle.nz_command.specs.Requests.{request, sort_view, parameter_view, question_view, assumption_view, count_view};
 ghost use Rattle.nz_elaborate.specs.Names.{named_by};
 ghost use Rattle.nz_elaborate.specs.Typed.{Grows, AreTyped};
 ghost use Rattle.nz_sort.specs.Layers.{layer_of};
-ghost use Rattle.nz_sort.specs.Live.{IsLive, IsCarriedOut, IfSkipped, Moves, asserted_by, check, unsupported};
+ghost use Rattle.nz_sort.specs.Live.{IsLive, IsCarriedOut, IfSkipped, Moves, asserted_by, standing_of, check, unsupported};
+ghost use Rattle.nz_elaborate.specs.declared.names.Named.{Named};
 ghost use Rattle.nz_sort.specs.Acts.{asked, rule_of, refusal_by};
-ghost use Rattle.nz_sort.specs.Changes.{Comes, ComesBy, Defines, Asserts, Shows, HasAdded, constant_of, with_constant, with_definition, with_assertion};
+ghost use Rattle.nz_sort.specs.Changes.{Comes, ComesBy, Defines, Asserts, Shows, HasAdded, IsCleared, Drops, DropsMany, constant_of, with_constant, with_definition, with_assertion, with_levels};
 
 use crate::acts::{Act, info_act, setting_act};
 use crate::assuming::assumed;
@@ -234,7 +235,9 @@ impl Live {
     // ---- Levels
 
     /// Pushes levels, so many.
-    fn push_counted(&mut self, count: LevelCount) -> Result<Act, Error> {
+    fn push_counted(&mut self, count: LevelCount) -> Result<Act, Error>
+        ensures comes { (ns : List Node) → Comes ns ns self.old self.new (requests.pushes (count_view count)) (λ s. push_of (count_view count)) result }
+    {
         let LevelCount::Within(count) = count else {
             return Err(Error::Limit);
         };
@@ -246,23 +249,20 @@ impl Live {
     }
 
     /// Pushes so many levels, in which nothing is accepted yet.
-    fn push(&mut self, count: usize) -> Result<(), Memory> {
+    fn push(&mut self, count: usize) -> Result<(), Memory>
+        ensures pushed { OnOk result (self.new ≡ with_levels count self.old) }
+        ensures unchanged { OnErr result (self.new ≡ self.old) }
+    {
         self.below.reserve(count)?;
-        for _ in 0..count {
-            let level = Level::new(
-                self.alloc,
-                self.names.count(),
-                self.top.constant_count,
-                self.top.holds_numbers,
-            );
-            let older = mem::replace(&mut self.top, level);
-            self.below.push_reserved(older);
-        }
+        let names_before = self.names.count();
+        begin_levels(self.alloc, names_before, &mut self.top, &mut self.below, count);
         Ok(())
     }
 
     /// Takes levels off, where so many were pushed.
-    fn pop_counted(&mut self, count: LevelCount) -> Result<Act, Error> {
+    fn pop_counted(&mut self, count: LevelCount) -> Result<Act, Error>
+        ensures comes { (ns : List Node) → Comes ns ns self.old self.new (requests.pops (count_view count)) (λ s. pop_of s (count_view count)) result }
+    {
         let LevelCount::Within(count) = count else {
             return Err(Error::TooWide);
         };
@@ -274,14 +274,20 @@ impl Live {
     }
 
     /// Takes the newest levels off, so many. Takes no memory.
-    fn pop(&mut self, count: usize) {
+    fn pop(&mut self, count: usize)
+        requires some { count ≤ length self.old.below }
+        ensures dropped { DropsMany count self.old self.new }
+    {
         for _ in 0..count {
             self.pop_newest();
         }
     }
 
     /// Takes the newest level off, with its names, where another is below it.
-    fn pop_newest(&mut self) {
+    fn pop_newest(&mut self)
+        requires some { 0 < length self.old.below }
+        ensures dropped { Drops self.old self.new }
+    {
         if let Some(older) = self.below.pop() {
             self.names.truncate(self.top.names_before);
             self.top = older;
@@ -289,7 +295,9 @@ impl Live {
     }
 
     /// Back to the live state of the start. Takes no memory.
-    fn clear(&mut self) {
+    fn clear(&mut self)
+        ensures cleared { IsCleared self.old self.new }
+    {
         self.pop(self.below.len());
         self.names.truncate(self.top.names_before);
         self.top = Level::new(self.alloc, self.names.count(), 0, false);
@@ -310,11 +318,11 @@ impl Live {
     }
 
     /// A check under assumptions.
-    fn check_under(
-        &self,
-        terms: &mut Terms,
-        assumptions: &[Assumption],
-    ) -> Result<Act, Error> {
+    fn check_under(&self, terms: &mut Terms, assumptions: &[Assumption]) -> Result<Act, Error>
+        requires live { (s : State) × IsLive terms.old self.now s }
+        ensures comes { Comes terms.old terms.new self.now self.now (requests.checks_assuming (map assumption_view assumptions.now)) (λ s. check_under s (map assumption_view assumptions.now)) result }
+    {
+        term_stays();
         let mark = terms.mark();
         let found = assumed(self.alloc, &self.names, terms, assumptions)?;
         if self.top.holds_numbers || found.holds_number {
@@ -598,6 +606,24 @@ impl Live {
                 Ok(values)
             }
         }
+    }
+}
+
+/// Puts so many levels above these, for which there is room, each without items and above the names of all of them.
+fn begin_levels(
+    alloc: Global,
+    names_before: usize,
+    top: &mut Level,
+    below: &mut Vec<Level>,
+    count: usize,
+)
+    requires room { vec_len below.old + count ≤ vec_capacity below.old }
+    ensures begun { (names : List (List ℕ × Named)) (next : ℕ) → length names ≡ names_before → standing_of names top.new below.new.items next ≡ with_levels count (standing_of names top.old below.old.items next) }
+{
+    for _ in 0..count {
+        let level = Level::new(alloc, names_before, top.constant_count, top.holds_numbers);
+        let older = mem::replace(top, level);
+        below.push_reserved(older);
     }
 }
 
