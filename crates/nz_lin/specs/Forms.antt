@@ -1,7 +1,7 @@
 -- What forms of the code are: over a table, whose numbers name their units.
-use Rattle.std.specs.Prelude.{◌≡◌, ℕ, ◌<◌, List, [], ◌∷◌, map, length, set, remove, slice_get, ⊤, Some, None, pos, if◌then◌else◌}
+use Rattle.std.specs.Prelude.{◌≡◌, ℕ, ◌<◌, List, [], ◌∷◌, ◌++◌, map, length, set, remove, slice_get, ⊤, Some, None, pos, if◌then◌else◌}
 use Rattle.std.specs.List.{AllByRecursion}
-use Rattle.nz_spec.specs.Fraction.{Fraction, whole, Arithmetic, first_wide}
+use Rattle.nz_spec.specs.Fraction.{Fraction, whole, neg_ℚ, Arithmetic, first_wide}
 use Rattle.nz_spec.specs.Computation.{Computation, operated}
 use Rattle.nz_spec.specs.Form as spec
 use Rattle.nz_spec.specs.FormOf.{form_of, number_in}
@@ -24,13 +24,20 @@ parts_over ns ps = map (part_over ns) ps
 abbrev pub form_over : List Node → Numbered → spec.Form
 form_over ns f = record { parts = parts_over ns f.parts; offset = f.offset }
 
+-- a part with the other sign
+abbrev pub negated : Part → Part
+negated p = record { unit = p.unit; sort = p.sort; coefficient = neg_ℚ p.coefficient }
+
+-- the parts with one more, where its coefficient isn't 0
+abbrev pub with_last : List Part → Part → List Part
+with_last ps p = if is_zero p.coefficient then ps else ps ++ p ∷ []
+
 -- the coefficient at a place with another, and the list with it
 abbrev pub meeting : List Part → Arithmetic → ℕ → Fraction → Computation Fraction
 meeting ps op place c = operated op (elim (slice_get ps place) [ Some p ↦ p.coefficient | None ↦ whole (pos 0) ]) c
 
-abbrev pub met_at : List Part → Arithmetic → ℕ → Fraction → List Part
-met_at ps op place c =
-    let met = (meeting ps op place c).result in
+abbrev pub with_met : List Part → ℕ → Fraction → List Part
+with_met ps place met =
     if is_zero met then remove ps place
     else elim (slice_get ps place) [ Some p ↦ set ps place (record { unit = p.unit; sort = p.sort; coefficient = met }) | None ↦ ps ]
 

@@ -1,17 +1,18 @@
 //! Forms, and how they are added, subtracted, negated and multiplied.
-ghost use Rattle.std.specs.Prelude.{◌≡◌, ◌<◌, List, [], Some, None, IfOk, IfErr, OnOk, vec_len};
+ghost use Rattle.std.specs.Prelude.{◌≡◌, ◌<◌, List, [], IfOk, OnOk, map, vec_len};
+ghost use Rattle.nz_spec.specs.Computation.{operated};
 ghost use Rattle.nz_spec.specs.Form as spec;
 ghost use Rattle.nz_spec.specs.Form.{negated_form, joined, part_joined, scaled, unit_form};
 ghost use Rattle.nz_spec.specs.FormOf.{number_in};
-ghost use Rattle.nz_spec.specs.Fraction.{Fraction, first_wide};
+ghost use Rattle.nz_spec.specs.Fraction.{Fraction};
 ghost use Rattle.nz_spec.specs.Table.{IsTable, Node, term_in};
-ghost use Rattle.nz_frac.specs.Operations.{operation_of, operator_of};
-ghost use Rattle.nz_lin.specs.Forms.{AreUnits, NamesUnit, form_over, meeting, met_at, part_over, parts_over};
-ghost use Rattle.nz_lin.specs.Making.{times};
-ghost use Rattle.nz_lin.specs.Stops.{IsStopAt};
+ghost use Rattle.nz_lin.specs.Comes.{AreFormed, Comes, IsFormed, IsOperated, alone, arithmetic_of, times};
+ghost use Rattle.nz_lin.specs.Forms.{AreUnits, NamesUnit, form_over, meeting, negated, part_over, parts_over, with_last, with_met};
 
 use nz_base::Memory;
-use nz_frac::{Frac, Op, Wide};
+use nz_frac::{Frac, Wide};
+use nz_spec::derivation::tells_literals;
+use nz_spec::form::{joins_at_its_place, term_has_its_number};
 use nz_term::{Sort, TermId};
 use std::alloc::{AllocError, AllocFailed, Global};
 use std::marker::Model;
@@ -30,9 +31,7 @@ pub struct Part {
 impl Part {
     /// The part with the other sign.
     fn neg(self) -> Part
-        ensures negated { (ns : List Node) → part_over ns result ≡ spec.negated_part (part_over ns self) }
-        ensures unit { result.unit ≡ self.unit }
-        ensures sort { result.sort ≡ self.sort }
+        ensures negated { result ≡ negated self }
     {
         Part {
             coefficient: self.coefficient.neg(),
@@ -41,14 +40,12 @@ impl Part {
     }
 
     /// What is added to nothing, or subtracted from it.
-    fn alone(self, op: Op) -> Part
-        ensures alone { (ns : List Node) → part_over ns result ≡ spec.part_alone (operator_of op) (part_over ns self) }
-        ensures unit { result.unit ≡ self.unit }
-        ensures sort { result.sort ≡ self.sort }
+    fn alone(self, sign: Sign) -> Part
+        ensures alone { result ≡ alone sign self }
     {
-        match op {
-            Op::Sub => self.neg(),
-            Op::Add | Op::Mul | Op::Div => self,
+        match sign {
+            Sign::Plus => self,
+            Sign::Minus => self.neg(),
         }
     }
 }
@@ -174,24 +171,20 @@ impl Form {
         ensures negated { IfOk result (λ f. (ns : List Node) → form_over ns f ≡ negated_form (form_over ns self.now)) }
         ensures units { IfOk result (λ f. (ns : List Node) → AreUnits ns self.now.parts → AreUnits ns f.parts) }
     {
-        let parts = self.parts.iter().map(|part| part.neg()).collect(alloc)?;
         Ok(Form {
-            parts,
+            parts: negated_parts(alloc, self.parts.as_slice())?,
             offset: self.offset.neg(),
         })
     }
 
     /// Adds a form, or subtracts it: unit by unit, and what is added last. Each part of `other` costs a search among the
     /// parts, and moves those behind it where its unit is new or goes.
-    pub(crate) fn join(&mut self, op: Op, other: &Form) -> Result<(), LinStop>
-        ensures joined { OnOk result ((ns : List Node) → IsTable ns → AreUnits ns self.old.parts → AreUnits ns other.now.parts → (form_over ns self.new ≡ (joined (number_in ns) (operator_of op) (form_over ns self.old) (form_over ns other.now)).result) × AreUnits ns self.new.parts) }
-        ensures fits { OnOk result ((ns : List Node) → IsTable ns → AreUnits ns self.old.parts → AreUnits ns other.now.parts → first_wide (joined (number_in ns) (operator_of op) (form_over ns self.old) (form_over ns other.now)).operations ≡ None) }
-        ensures stop { IfErr result (λ s. (ns : List Node) → IsTable ns → AreUnits ns self.old.parts → AreUnits ns other.now.parts → IsStopAt (first_wide (joined (number_in ns) (operator_of op) (form_over ns self.old) (form_over ns other.now)).operations) s) }
+    pub(crate) fn join(&mut self, sign: Sign, other: &Form) -> Result<(), LinStop>
+        ensures comes { (ns : List Node) → IsTable ns → AreUnits ns self.old.parts → AreUnits ns other.now.parts → Comes (joined (number_in ns) (arithmetic_of sign) (form_over ns self.old) (form_over ns other.now)) (form_over ns self.new) result }
+        ensures units { OnOk result ((ns : List Node) → AreUnits ns self.old.parts → AreUnits ns other.now.parts → AreUnits ns self.new.parts) }
     {
-        for part in &other.parts {
-            join_part(&mut self.parts, op, *part)?;
-        }
-        self.offset = op.carry_out(self.offset, other.offset)?;
+        join_parts(&mut self.parts, sign, other.parts.as_slice())?;
+        self.offset = sign.join(self.offset, other.offset)?;
         Ok(())
     }
 
@@ -202,23 +195,31 @@ impl Form {
         side: Side,
         factor: Frac,
     ) -> Result<Form, LinStop>
-        ensures multiplied { IfOk result (λ f. (ns : List Node) → form_over ns f ≡ (scaled (times side factor) (form_over ns self.now)).result) }
-        ensures fits { IfOk result (λ f. (ns : List Node) → first_wide (scaled (times side factor) (form_over ns self.now)).operations ≡ None) }
-        ensures units { IfOk result (λ f. (ns : List Node) → AreUnits ns self.now.parts → AreUnits ns f.parts) }
-        ensures stop { IfErr result (λ s. (ns : List Node) → IsStopAt (first_wide (scaled (times side factor) (form_over ns self.now)).operations) s) }
+        ensures formed { (ns : List Node) → AreUnits ns self.now.parts → IsFormed ns (scaled (times side factor) (form_over ns self.now)) result }
     {
-        let mut parts = Vec::new(alloc);
-        for part in &self.parts {
-            let coefficient = side.product(factor, part.coefficient)?;
-            if !coefficient.is_zero() {
-                parts.push(Part {
-                    coefficient,
-                    ..*part
-                })?;
-            }
-        }
+        let parts = multiplied_parts(alloc, side, factor, self.parts.as_slice())?;
         let offset = side.product(factor, self.offset)?;
         Ok(Form { parts, offset })
+    }
+}
+
+/// Whether something is added or subtracted.
+#[derive(Clone, Copy, Debug)]
+pub(crate) enum Sign {
+    Plus,
+    Minus,
+}
+
+impl Sign {
+    /// A number, and another one added to it or subtracted from it.
+    #[tactic(auto, unfolding(nz_spec::specs::Fraction::first_wide))]
+    fn join(self, left: Frac, right: Frac) -> Result<Frac, Wide>
+        ensures joined { IsOperated (operated (arithmetic_of self) left right) result }
+    {
+        match self {
+            Sign::Plus => left.add(right),
+            Sign::Minus => left.sub(right),
+        }
     }
 }
 
@@ -231,10 +232,9 @@ pub(crate) enum Side {
 
 impl Side {
     /// The product of a factor, which stands on this side, with a number.
+    #[tactic(auto, unfolding(nz_spec::specs::Fraction::first_wide))]
     fn product(self, factor: Frac, number: Frac) -> Result<Frac, Wide>
-        ensures product { IfOk result (λ q. q ≡ (times self factor number).result) }
-        ensures fits { IfOk result (λ q. first_wide (times self factor number).operations ≡ None) }
-        ensures wide { IfErr result (λ w. first_wide (times self factor number).operations ≡ Some (operation_of w)) }
+        ensures product { IsOperated (times self factor number) result }
     {
         match self {
             Side::Left => factor.mul(number),
@@ -243,29 +243,82 @@ impl Side {
     }
 }
 
-/// Adds a part, or subtracts it, at its place.
-fn join_part(parts: &mut Vec<Part>, op: Op, part: Part) -> Result<(), LinStop>
-    ensures joined { OnOk result ((ns : List Node) → IsTable ns → AreUnits ns parts.old.items → NamesUnit ns part → (parts_over ns parts.new.items ≡ (part_joined (number_in ns) (operator_of op) (parts_over ns parts.old.items) (part_over ns part)).result) × AreUnits ns parts.new.items) }
-    ensures fits { OnOk result ((ns : List Node) → IsTable ns → AreUnits ns parts.old.items → NamesUnit ns part → first_wide (part_joined (number_in ns) (operator_of op) (parts_over ns parts.old.items) (part_over ns part)).operations ≡ None) }
-    ensures stop { IfErr result (λ s. (ns : List Node) → IsTable ns → AreUnits ns parts.old.items → NamesUnit ns part → IsStopAt (first_wide (part_joined (number_in ns) (operator_of op) (parts_over ns parts.old.items) (part_over ns part)).operations) s) }
+/// Parts with the other sign.
+fn negated_parts(alloc: Global, parts: &[Part]) -> Result<Vec<Part>, AllocError>
+    ensures negated { IfOk result (λ new. new.items ≡ map negated parts.now) }
 {
+    parts.iter().map(|part| part.neg()).collect(alloc)
+}
+
+/// Each coefficient as a product with a number, which stands on this side; a part whose coefficient gets 0 goes.
+fn multiplied_parts(
+    alloc: Global,
+    side: Side,
+    factor: Frac,
+    parts: &[Part],
+) -> Result<Vec<Part>, LinStop>
+    ensures scaled { (ns : List Node) → AreFormed ns (spec.parts_scaled (times side factor) (parts_over ns parts.now)) result }
+    ensures units { IfOk result (λ new. (ns : List Node) → AreUnits ns parts.now → AreUnits ns new.items) }
+{
+    let mut new = Vec::new(alloc);
+    for part in parts {
+        let coefficient = side.product(factor, part.coefficient)?;
+        put(
+            &mut new,
+            Part {
+                coefficient,
+                ..*part
+            },
+        )?;
+    }
+    Ok(new)
+}
+
+/// Puts a part last, where its coefficient isn't 0.
+fn put(parts: &mut Vec<Part>, part: Part) -> Result<(), Memory>
+    ensures put { OnOk result (parts.new.items ≡ with_last parts.old.items part) }
+{
+    if !part.coefficient.is_zero() {
+        parts.push(part)?;
+    }
+    Ok(())
+}
+
+/// Adds parts, or subtracts them, one after another.
+fn join_parts(parts: &mut Vec<Part>, sign: Sign, others: &[Part]) -> Result<(), LinStop>
+    ensures joined { (ns : List Node) → IsTable ns → AreUnits ns parts.old.items → AreUnits ns others.now → Comes (spec.parts_joined (number_in ns) (arithmetic_of sign) (parts_over ns parts.old.items) (parts_over ns others.now)) (parts_over ns parts.new.items) result }
+    ensures units { OnOk result ((ns : List Node) → AreUnits ns parts.old.items → AreUnits ns others.now → AreUnits ns parts.new.items) }
+{
+    for other in others {
+        join_part(parts, sign, *other)?;
+    }
+    Ok(())
+}
+
+/// Adds a part, or subtracts it, at its place.
+fn join_part(parts: &mut Vec<Part>, sign: Sign, part: Part) -> Result<(), LinStop>
+    ensures joined { (ns : List Node) → IsTable ns → AreUnits ns parts.old.items → NamesUnit ns part → Comes (part_joined (number_in ns) (arithmetic_of sign) (parts_over ns parts.old.items) (part_over ns part)) (parts_over ns parts.new.items) result }
+    ensures units { OnOk result ((ns : List Node) → AreUnits ns parts.old.items → NamesUnit ns part → AreUnits ns parts.new.items) }
+{
+    joins_at_its_place();
+    tells_literals();
+    term_has_its_number();
     match parts.binary_search_by_key(&part.unit, |p| p.unit) {
-        Ok(place) => meet(parts, op, place, part.coefficient),
+        Ok(place) => meet(parts, sign, place, part.coefficient),
         Err(place) => {
-            parts.insert(place, part.alone(op))?;
+            parts.insert(place, part.alone(sign))?;
             Ok(())
         }
     }
 }
 
 /// Adds to the coefficient at a place, or subtracts from it; with the coefficient 0 the part goes.
-fn meet(parts: &mut Vec<Part>, op: Op, place: usize, coefficient: Frac) -> Result<(), LinStop>
+fn meet(parts: &mut Vec<Part>, sign: Sign, place: usize, coefficient: Frac) -> Result<(), LinStop>
     requires within { place < vec_len parts.old }
-    ensures met { OnOk result (parts.new.items ≡ met_at parts.old.items (operator_of op) place coefficient) }
-    ensures fits { OnOk result (first_wide (meeting parts.old.items (operator_of op) place coefficient).operations ≡ None) }
-    ensures stop { IfErr result (IsStopAt (first_wide (meeting parts.old.items (operator_of op) place coefficient).operations)) }
+    ensures met { OnOk result (parts.new.items ≡ with_met parts.old.items place (meeting parts.old.items (arithmetic_of sign) place coefficient).result) }
+    ensures comes { Comes (meeting parts.old.items (arithmetic_of sign) place coefficient) (meeting parts.old.items (arithmetic_of sign) place coefficient).result result }
 {
-    let met = op.carry_out(parts[place].coefficient, coefficient)?;
+    let met = sign.join(parts[place].coefficient, coefficient)?;
     if met.is_zero() {
         parts.remove(place);
     } else {

@@ -217,7 +217,7 @@ pub struct SpentList {
 #[derive(Debug, Drop)]
 pub enum Cause {
     Plain,
-    /// Seldom, and larger than all the rest of what is kept.
+    /// In a box, since few entries have one, and each would be as large as it.
     Spent(Box<SpentList>),
 }
 

@@ -56,7 +56,7 @@ module _ (stay : KeptStay) (ns ms : List Node) (front : IsFrontOfTable ns ms) (k
         written = subst (λ (t : spec.Heard). Appends b c (reply_text (reply_of t.what a.reply))) (sym same) w;
       }
 
-  -- so of the thing that was packed
+  -- the reply to the thing that was packed was kept, and a front of its text was written
   packed_in_part : (b c : Option (List ℕ)) → AddsFrontOf b c (reply_text (reply_of (packed_heard_view h).what a.reply))
       → AnswersInPart (packed_heard_view h) (all_kept ns ks) (all_kept ms (ks ++ kept_answer h a ∷ [])) b c
   packed_in_part b c f =
@@ -71,7 +71,7 @@ module _ (stay : KeptStay) (ns ms : List Node) (front : IsFrontOfTable ns ms) (k
         written = f;
       }
 
-  -- the reply was kept, and a front of its text was written
+  -- so of the thing heard
   pub answered_in_part : (thing : spec.Heard) → packed_heard_view h ≡ thing → (b c : Option (List ℕ)) → AddsFrontOf b c (reply_text (reply_of thing.what a.reply))
       → AnswersInPart thing (all_kept ns ks) (all_kept ms (ks ++ kept_answer h a ∷ [])) b c
   answered_in_part thing same b c f =

@@ -33,11 +33,11 @@ const BINARY: u8 = 8;
 
 const LITERAL: u8 = 9;
 
-/// How many bytes most trees take at most.
+/// The room that is made for the bytes of a tree before its size is known. Most trees take no more.
 const ROOM: usize = 64;
 
-/// A tree as one block of bytes of its exact size: the text of each token, and behind it the mark of its kind; the trees of a
-/// list between two marks, but those of the whole tree without.
+/// A tree as bytes: the text of each token, and behind it the mark of its kind; the trees of a list between two marks, but those
+/// of the whole tree without.
 #[derive(Debug, Drop)]
 pub struct Packed {
     bytes: Text,
@@ -110,10 +110,7 @@ fn packed_what(alloc: Global, what: &What) -> Result<PackedWhat, Memory>
     ensures what { IfOk result (λ p. packed_what_view p ≡ what_view what.now) }
 {
     match what {
-        What::Tree(tree) => match Packed::new(alloc, tree) {
-            Ok(packed) => Ok(PackedWhat::Tree(packed)),
-            Err(Memory) => Err(Memory),
-        },
+        What::Tree(tree) => Ok(PackedWhat::Tree(Packed::new(alloc, tree)?)),
         What::Bad(error) => Ok(PackedWhat::Bad(*error)),
         What::Unclosed => Ok(PackedWhat::Unclosed),
         What::Unread => Ok(PackedWhat::Unread),
@@ -199,8 +196,6 @@ fn pack_byte(bytes: &mut Vec<u8>, byte: u8) -> Result<(), Memory>
 {
     if byte < LEAST_UNMARKED {
         bytes.push(ESCAPE)?;
-        bytes.push(byte)?;
-        return Ok(());
     }
     bytes.push(byte)?;
     Ok(())

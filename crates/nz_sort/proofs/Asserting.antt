@@ -2,7 +2,7 @@
 use Rattle.std.proofs.Common.{◌≡◌, ℕ, List, [], ◌∷◌, ◌++◌, take, length, Option, None, Some, Ok, Bool, true, false, cond, refl, sym, ap, ◌∙◌, append-nil, subst}
 use Rattle.std.specs.Prelude.{reverse}
 use Rattle.std.proofs.lemmas.List.{map-append}
-use Rattle.nz_spec.specs.Term.{Sort, bool_sort, Term, holds_number, are_same_sort}
+use Rattle.nz_spec.specs.Term.{bool_sort, Term, holds_number, are_same_sort}
 use Rattle.nz_spec.specs.Normal.{normal_of}
 use Rattle.nz_spec.specs.Table.{Node, term_in, TermStays}
 use Rattle.nz_spec.specs.Order.{HasCompanions}

@@ -1,11 +1,11 @@
 -- Where a part joins a sum.
-use Rattle.std.proofs.Common.{◌≡◌, ℕ, ◌≤◌, Bool, true, false, List, [], ◌∷◌, ◌++◌, refl, sym, ap, ap₂, ◌∙◌, arith}
+use Rattle.std.proofs.Common.{◌≡◌, ℕ, ◌≤◌, Bool, true, false, List, [], ◌∷◌, ◌++◌, refl, ap, ap₂, ◌∙◌, arith}
 use Rattle.std.specs.Prelude.{if◌then◌else◌, nat_lt}
 use Rattle.std.specs.List.{AllByRecursion}
 use Rattle.std.proofs.lemmas.Bool.Decides.{nat_tests}
 use Rattle.nz_spec.specs.Fraction.{Arithmetic}
 use Rattle.nz_spec.specs.Computation.{Computation, operated, at_once, turned_into}
-use Rattle.nz_spec.specs.Literal.{are_same_term}
+use Rattle.nz_spec.specs.Same.{are_same_term}
 use Rattle.nz_spec.specs.Form.{Numbering, Part, MayPrecede, with_part, part_alone, part_joined}
 use Rattle.nz_spec.specs.FormPlace.{JoinsAtItsPlace}
 

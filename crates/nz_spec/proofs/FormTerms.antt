@@ -103,7 +103,7 @@ module _ (a : Assignment) where
   head_known h cs vs k q e = none_is_some e
 
   mutual
-    constant_known : (t : Term) (q : Fraction) → constant_value t ≡ Some q → number_of (value_of a t) ≡ q
+    pub constant_known : (t : Term) (q : Fraction) → constant_value t ≡ Some q → number_of (value_of a t) ≡ q
     constant_known (apply h ts) q e = head_known h (constant_values ts) (values_of a ts) (constants_known ts) q e
 
     constants_known : (ts : Terms) → Known (constant_values ts) (values_of a ts)

@@ -4,13 +4,13 @@ use Rattle.std.specs.Prelude.{if◌then◌else◌, nat_lt, ⊤}
 use Rattle.nz_ints.proofs.Ring.{Atom, Literal, ◌⊕◌, ◌⊗◌, Minus, solve}
 use Rattle.nz_spec.specs.Fraction.{Fraction, denominator, whole, ◌=ℚ◌, ◌+ℚ◌, neg_ℚ, ◌*ℚ◌, Arithmetic, Sum, Difference, outcome}
 use Rattle.nz_spec.specs.Term.{Term, Value, Assignment, number_of, is_zero, carried_out, combined}
-use Rattle.nz_spec.specs.Literal.{are_same_term}
+use Rattle.nz_spec.specs.Same.{are_same_term}
 use Rattle.nz_spec.specs.Computation.{Computation, operated, at_once, turned_into}
 use Rattle.nz_spec.specs.Form.{Numbering, Part, Form, constant_form, unit_form, with_part, negated_part, negated_form, part_alone, part_joined, parts_joined, joined, all_joined, parts_scaled, scaled, unit_value, parts_value, form_value}
 use Rattle.nz_spec.proofs.FractionLaws.{=ℚ_refl, =ℚ-from_same, =ℚ_sym, =ℚ_trans}
 use Rattle.nz_spec.proofs.FractionOrder.{same-fraction_eq}
 use Rattle.nz_spec.proofs.FractionArithmetic.{own_parts, sum_parts, product_parts, neg_parts, whole_parts, by_parts, +ℚ_comm, +ℚ_assoc, +ℚ-zero, +ℚ-same, neg_ℚ-same, *ℚ_comm, *ℚ_assoc, *ℚ-one, *ℚ-+ℚ, *ℚ-same, outcome-sum, outcome-difference}
-use Rattle.nz_spec.proofs.Literals.{same_term}
+use Rattle.nz_spec.proofs.Same.{same_term}
 
 -- ---- Sums and products of fractions
 
@@ -147,7 +147,7 @@ module _ (numbering : Numbering) (a : Assignment) where
     joined-value (p ∷ ps) q =
         value_by p ps q (are_same_term p.unit q.unit) (nat_lt (numbering q.unit) (numbering p.unit)) refl (joined-value ps q)
 
-    parts-value : (ps qs : List Part) → parts_value a (parts_joined numbering op ps qs).result =ℚ (parts_value a ps +ℚ signed op (parts_value a qs))
+    pub parts-value : (ps qs : List Part) → parts_value a (parts_joined numbering op ps qs).result =ℚ (parts_value a ps +ℚ signed op (parts_value a qs))
     parts-value ps [] =
         =ℚ_sym (=ℚ_trans (+ℚ-same (=ℚ_refl (parts_value a ps)) joins.zero_is) (+ℚ-zero (parts_value a ps)))
     parts-value ps (q ∷ qs) =
@@ -157,7 +157,7 @@ module _ (numbering : Numbering) (a : Assignment) where
         (=ℚ_trans (+ℚ_assoc (parts_value a ps) (part_value q) (signed op rest))
         (+ℚ-same (=ℚ_refl (parts_value a ps)) (=ℚ_sym (joins.sum_is (q.coefficient *ℚ unit_value a q.unit) rest)))))
 
-    form-joined : (f g : Form) → form_value a (joined numbering op f g).result =ℚ (form_value a f +ℚ signed op (form_value a g))
+    pub form-joined : (f g : Form) → form_value a (joined numbering op f g).result =ℚ (form_value a f +ℚ signed op (form_value a g))
     form-joined f g =
         let x = parts_value a f.parts in
         let y = parts_value a g.parts in
@@ -186,7 +186,7 @@ module _ (numbering : Numbering) (a : Assignment) where
 
   -- ---- Scaled and negated
 
-  parts-scaled : (times : Fraction → Computation Fraction) (k : Fraction) → ((c : Fraction) → (times c).result =ℚ (k *ℚ c))
+  pub parts-scaled : (times : Fraction → Computation Fraction) (k : Fraction) → ((c : Fraction) → (times c).result =ℚ (k *ℚ c))
       → (ps : List Part) → parts_value a (parts_scaled times ps).result =ℚ (k *ℚ parts_value a ps)
   parts-scaled times k is [] = =ℚ_sym (times_zero k)
   parts-scaled times k is (p ∷ ps) =

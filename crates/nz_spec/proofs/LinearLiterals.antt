@@ -1,28 +1,25 @@
--- Of a linear literal and its negation just one is true.
-use Rattle.std.proofs.Common.{◌≡◌, true, false, not, inl, inr, List, [], ◌∷◌, map, pos, ◌*ℤ◌, neg_ℤ, refl, sym, ap, ◌∙◌, arith}
+-- The tests of order, and how the other sign turns them.
+use Rattle.std.proofs.Common.{◌≡◌, true, false, not, inl, inr, [], ◌∷◌, pos, ◌*ℤ◌, neg_ℤ, refl, sym, ap, ◌∙◌, arith}
 use Rattle.std.proofs.lemmas.Int.{ints}
 use Rattle.nz_ints.proofs.Ring.{Atom, ◌⊗◌, Minus, solve}
 use Rattle.nz_spec.specs.Fraction.{Fraction, denominator, neg_ℚ, ◌=ℚ◌, ◌≤ℚ◌, ◌<ℚ◌, fraction_le, fraction_lt}
-use Rattle.nz_spec.specs.Form.{negated_part, parts_value}
-use Rattle.nz_spec.specs.LinearLiteral.{is_at_most, is_below, NegationIsOther}
 use Rattle.nz_spec.proofs.FractionLaws.{=ℚ_sym, ≤ℚ-from_eq, ≤ℚ_trans, <ℚ-≤ℚ_trans, ≤ℚ-<ℚ_trans, ≤ℚ_total}
-use Rattle.nz_spec.proofs.FormValues.{parts-negated}
 
 -- ---- The tests
 
-lt_is : (p q : Fraction) → p <ℚ q → fraction_lt p q ≡ true
+pub lt_is : (p q : Fraction) → p <ℚ q → fraction_lt p q ≡ true
 unfolding fraction_lt
 lt_is p q h = let e : true ≡ fraction_lt p q = omega (arith, ints, h.cross) in sym e
 
-lt_is_not : (p q : Fraction) → q ≤ℚ p → fraction_lt p q ≡ false
+pub lt_is_not : (p q : Fraction) → q ≤ℚ p → fraction_lt p q ≡ false
 unfolding fraction_lt
 lt_is_not p q h = let e : false ≡ fraction_lt p q = omega (arith, ints, h.cross) in sym e
 
-le_is : (p q : Fraction) → p ≤ℚ q → fraction_le p q ≡ true
+pub le_is : (p q : Fraction) → p ≤ℚ q → fraction_le p q ≡ true
 unfolding fraction_le
 le_is p q h = let e : true ≡ fraction_le p q = omega (arith, ints, h.cross) in sym e
 
-le_is_not : (p q : Fraction) → q <ℚ p → fraction_le p q ≡ false
+pub le_is_not : (p q : Fraction) → q <ℚ p → fraction_le p q ≡ false
 unfolding fraction_le
 le_is_not p q h = let e : false ≡ fraction_le p q = omega (arith, ints, h.cross) in sym e
 
@@ -38,20 +35,16 @@ turned_le p q h = record { cross = omega (arith, ints, h.cross, crossed p q, cro
 turned_lt : (p q : Fraction) → p <ℚ q → neg_ℚ q <ℚ neg_ℚ p
 turned_lt p q h = record { cross = omega (arith, ints, h.cross, crossed p q, crossed q p) }
 
-at_most_turned : (x p b : Fraction) → x =ℚ neg_ℚ p → fraction_lt x (neg_ℚ b) ≡ not (fraction_le p b)
+pub at_most_turned : (x p b : Fraction) → x =ℚ neg_ℚ p → fraction_lt x (neg_ℚ b) ≡ not (fraction_le p b)
 at_most_turned x p b e =
     elim (≤ℚ_total p b) [
       | inl h ↦ lt_is_not x (neg_ℚ b) (≤ℚ_trans (turned_le p b h) (≤ℚ-from_eq (=ℚ_sym e))) ∙ sym (ap not (le_is p b h))
       | inr h ↦ lt_is x (neg_ℚ b) (≤ℚ-<ℚ_trans (≤ℚ-from_eq e) (turned_lt b p h)) ∙ sym (ap not (le_is_not p b h))
     ]
 
-below_turned : (x p b : Fraction) → x =ℚ neg_ℚ p → fraction_le x (neg_ℚ b) ≡ not (fraction_lt p b)
+pub below_turned : (x p b : Fraction) → x =ℚ neg_ℚ p → fraction_le x (neg_ℚ b) ≡ not (fraction_lt p b)
 below_turned x p b e =
     elim (≤ℚ_total b p) [
       | inl h ↦ le_is x (neg_ℚ b) (≤ℚ_trans (≤ℚ-from_eq e) (turned_le b p h)) ∙ sym (ap not (lt_is_not p b h))
       | inr h ↦ le_is_not x (neg_ℚ b) (<ℚ-≤ℚ_trans (turned_lt p b h) (≤ℚ-from_eq (=ℚ_sym e))) ∙ sym (ap not (lt_is p b h))
     ]
-
-pub negation_is_other : NegationIsOther
-negation_is_other a (is_at_most ps b) = at_most_turned (parts_value a (map negated_part ps)) (parts_value a ps) b (parts-negated (λ t. 0) a ps)
-negation_is_other a (is_below ps b) = below_turned (parts_value a (map negated_part ps)) (parts_value a ps) b (parts-negated (λ t. 0) a ps)

@@ -24,3 +24,9 @@ module _ {A B : Type 0} where
   -- a computation, and then another over what it comes to
   abbrev pub and_then : Computation A → (A → Computation B) → Computation B
   and_then c f = record { result = (f c.result).result; operations = c.operations ++ (f c.result).operations }
+
+module _ {A : Type 0} where
+  -- one computation after another
+  abbrev pub in_turn : List (Computation A) → Computation (List A)
+  in_turn [] = at_once []
+  in_turn (c ∷ cs) = and_then c (λ x. turned_into (λ xs. x ∷ xs) (in_turn cs))

@@ -6,7 +6,7 @@ use Rattle.std.specs.List.{AllByRecursion}
 use Rattle.nz_spec.specs.Fraction.{Fraction, whole, neg_ℚ, ◌+ℚ◌, ◌*ℚ◌, Arithmetic, Difference}
 use Rattle.nz_spec.specs.Computation.{Computation, operated, at_once, turned_into, and_then}
 use Rattle.nz_spec.specs.Term.{Term, Assignment, number_of, value_of, is_zero}
-use Rattle.nz_spec.specs.Literal.{are_same_term}
+use Rattle.nz_spec.specs.Same.{are_same_term}
 
 -- The units of a form stand in the order of their numbers.
 abbrev pub Numbering : Type 0

@@ -6,7 +6,7 @@ use Rattle.nz_spec.specs.Fraction.{Fraction, whole, ◌=ℚ◌, Sum, Difference,
 use Rattle.nz_spec.specs.Computation.{Computation, operated, at_once, turned_into, and_then}
 use Rattle.nz_spec.specs.Term.{Head, sum, difference, product, quotient, to_real, Term, apply, Terms, no_terms, terms, Assignment}
 use Rattle.nz_spec.specs.Linear.{head_constant, constant_values, is_linear}
-use Rattle.nz_spec.specs.Literal.{are_same_term}
+use Rattle.nz_spec.specs.Same.{are_same_term}
 use Rattle.nz_spec.specs.Table.{Node, IsTable, with_term, term_in}
 use Rattle.nz_spec.specs.Form.{Numbering, Form, constant_form, unit_form, negated_form, all_joined, scaled, unit_value, form_value, IsSum}
 

@@ -1,7 +1,6 @@
 //! Laws of linear forms.
 ghost use Rattle.nz_spec.specs.FormOf.{FormHasValue, FormsAreSums, TermHasItsNumber};
 ghost use Rattle.nz_spec.specs.FormPlace.{JoinsAtItsPlace};
-ghost use Rattle.nz_spec.specs.LinearLiteral.{NegationIsOther};
 
 /// The form of a linear term has the value of the term.
 pub fn form_has_value()
@@ -16,11 +15,6 @@ pub fn forms_are_sums()
 /// The number of a term in a table is the one by which it is found there.
 pub fn term_has_its_number()
     ensures number { TermHasItsNumber }
-{}
-
-/// Of a linear literal and its negation just one is true.
-pub fn negation_is_other()
-    ensures other { NegationIsOther }
 {}
 
 /// A part joins a sum at the place of its unit.

@@ -3,6 +3,8 @@
 //! A definition stands in `specs/`, over plain data. A law is the contract of a function with no body to run.
 #![tactic(auto)]
 
+pub mod arithmetic;
+pub mod basis;
 pub mod derivation;
 pub mod elaboration;
 pub mod example;

@@ -5,7 +5,7 @@ ghost use Rattle.nz_spec.specs.Order.{HasCompanions};
 use nz_base::Text;
 use nz_frac::Frac;
 use nz_term::{
-    Assign, Constant, Head, Ids, NumberSort, Operator, Sort, TermId, Terms, Value, add_companions,
+    Assign, Constant, Head, NumberSort, Operator, Sort, TermId, Terms, Value, add_companions,
     instance, listing_order, post_order,
 };
 use std::alloc::Global;
@@ -21,8 +21,8 @@ fn bool_constant(alloc: Global, name: &[u8]) -> Result<Constant, Fail> {
 // The table and the number of `(or p (not q))`, made from its leaves.
 fn clause(alloc: Global) -> Result<(Terms, TermId), Fail> {
     let mut terms = Terms::new(alloc)?;
-    let p = terms.make(Head::Constant(bool_constant(alloc, b"p")?), &[])?;
-    let q = terms.make(Head::Constant(bool_constant(alloc, b"q")?), &[])?;
+    let p = terms.make(Head::Constant(&bool_constant(alloc, b"p")?), &[])?;
+    let q = terms.make(Head::Constant(&bool_constant(alloc, b"q")?), &[])?;
     let not_q = terms.make(Head::Operator(Operator::Not), &[q])?;
     let root = terms.make(Head::Operator(Operator::Or), &[p, not_q])?;
     Ok((terms, root))
@@ -32,7 +32,7 @@ fn clause(alloc: Global) -> Result<(Terms, TermId), Fail> {
 fn equal_terms_have_one_number(rt: HostRuntime) -> Result<(), Fail> {
     let (mut terms, root) = clause(rt.alloc())?;
     assert_eq!(rt; root, 3);
-    let p = terms.make(Head::Constant(bool_constant(rt.alloc(), b"p")?), &[])?;
+    let p = terms.make(Head::Constant(&bool_constant(rt.alloc(), b"p")?), &[])?;
     assert_eq!(rt; p, 0);
     assert_eq!(rt; terms.len(), 4);
     let again = terms.make(Head::Operator(Operator::Or), &[0, 2])?;
@@ -60,7 +60,7 @@ fn terms_of_different_operators_are_different(rt: HostRuntime) -> Result<(), Fai
     assert_eq!(rt; equal, 5);
     let chosen = terms.make(Head::Operator(Operator::Ite(Sort::Bool)), &[0, 1, 2])?;
     assert_eq!(rt; chosen, 6);
-    assert!(rt; Head::Operator(Operator::Xor) != Head::Operator(Operator::Equal));
+    assert!(rt; !Head::Operator(Operator::Xor).is(Head::Operator(Operator::Equal)));
     Ok(())
 }
 
@@ -68,13 +68,14 @@ fn terms_of_different_operators_are_different(rt: HostRuntime) -> Result<(), Fai
 fn nodes_are_lent(rt: HostRuntime) -> Result<(), Fail> {
     let (terms, root) = clause(rt.alloc())?;
     assert!(rt; root < terms.len());
-    assert_eq!(rt; *terms.head(root), Head::Operator(Operator::Or));
+    assert!(rt; terms.head(root).is(Head::Operator(Operator::Or)));
     assert_eq!(rt; terms.kids(root), [0, 2].as_slice());
     let first = terms.node(0);
-    assert!(rt; first.head == Head::Constant(bool_constant(rt.alloc(), b"p")?));
-    assert!(rt; first.head != Head::Constant(bool_constant(rt.alloc(), b"q")?));
-    assert!(rt; first.head.clone()? == first.head);
-    assert!(rt; first.kids == Ids::from_slice(rt.alloc(), &[])?);
+    let p = bool_constant(rt.alloc(), b"p")?;
+    let q = bool_constant(rt.alloc(), b"q")?;
+    assert!(rt; first.head.is(Head::Constant(&p)));
+    assert!(rt; !first.head.is(Head::Constant(&q)));
+    assert!(rt; first.kids.is_empty());
     Ok(())
 }
 
@@ -88,7 +89,7 @@ fn cut_goes_back_to_the_mark(rt: HostRuntime) -> Result<(), Fail> {
     terms.cut(mark);
     assert_eq!(rt; terms.len(), 4);
     assert!(rt; root < terms.len());
-    assert_eq!(rt; *terms.head(root), Head::Operator(Operator::Or));
+    assert!(rt; terms.head(root).is(Head::Operator(Operator::Or)));
     let other = terms.make(Head::Operator(Operator::False), &[])?;
     assert_eq!(rt; other, 4);
     Ok(())
@@ -112,7 +113,7 @@ fn negations(alloc: Global, count: usize) -> Result<(Terms, TermId), Fail>
     ensures within { IfOk result (λ made. made.1 < length made.0) }
 {
     let mut terms = Terms::new(alloc)?;
-    let mut last = terms.make(Head::Constant(bool_constant(alloc, b"p")?), &[])?;
+    let mut last = terms.make(Head::Constant(&bool_constant(alloc, b"p")?), &[])?;
     for _ in 0..count {
         last = terms.make(Head::Operator(Operator::Not), &[last])?;
     }

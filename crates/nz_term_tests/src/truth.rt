@@ -19,11 +19,11 @@ const GREATEST: u128 = 170141183460469231731687303715884105727;
 fn constant(alloc: Global, terms: &mut Terms, sort: Sort) -> Result<TermId, Memory>
     ensures within { IfOk result (λ id. id < length terms.new) }
 {
-    let p = Head::Constant(Constant {
+    let p = Constant {
         name: Text::from_slice(alloc, b"p")?,
         sort,
-    });
-    let id = terms.make(p, &[])?;
+    };
+    let id = terms.make(Head::Constant(&p), &[])?;
     Ok(id)
 }
 
@@ -37,7 +37,7 @@ fn one_constant(alloc: Global) -> Result<(Terms, TermId), Memory>
 }
 
 // One term more, which is no constant.
-fn operation(terms: &mut Terms, head: Head, kids: &[TermId]) -> Result<TermId, Memory>
+fn operation(terms: &mut Terms, head: Head<'_>, kids: &[TermId]) -> Result<TermId, Memory>
     requires known { AllByRecursion (λ k. k < length terms.old) kids.now }
     requires operator { constant_of (head_of head) ≡ None }
     requires fits { IsTrue (head_fits (head_of head)) }
@@ -108,7 +108,13 @@ fn integer(terms: &mut Terms, n: i64) -> Result<TermId, Memory>
 }
 
 // Whether an operator over two integers comes to the integer that is expected.
-fn is_of_integers(alloc: Global, head: Head, m: i64, n: i64, expected: i128) -> Result<bool, Memory>
+fn is_of_integers(
+    alloc: Global,
+    head: Head<'_>,
+    m: i64,
+    n: i64,
+    expected: i128,
+) -> Result<bool, Memory>
     requires operator { constant_of (head_of head) ≡ None }
     requires fits { IsTrue (head_fits (head_of head)) }
 {
@@ -120,7 +126,7 @@ fn is_of_integers(alloc: Global, head: Head, m: i64, n: i64, expected: i128) -> 
 }
 
 // The term of an operator over the quotient of two integers.
-fn of_quotient(alloc: Global, head: Head, m: i64, n: i64) -> Result<(Terms, TermId), Memory>
+fn of_quotient(alloc: Global, head: Head<'_>, m: i64, n: i64) -> Result<(Terms, TermId), Memory>
     requires operator { constant_of (head_of head) ≡ None }
     requires fits { IsTrue (head_fits (head_of head)) }
     ensures within { IfOk result (λ t. t.1 < length t.0) }

@@ -14,8 +14,8 @@ returns-in-Ok-clause-exited g c =
     (exits_on g.E.Decide.levels g.E.Decide.table c.kept_stay.ensures.stay c.transcript_grows.ensures.grows limit _ _ c.answer-reply.ensures.front
     c.args.kept.now.items c.in-Some.packed c.answer-reply.result going (heard_view c.args.heard) c.in-Some.ensures.packed (c.answer-reply.ensures.right _ going.holds) c.if-exits.true)
 
-pub returns-in-Ok-2-clause-going : goal.returns-in-Ok-2-clause-going
-returns-in-Ok-2-clause-going g c =
+pub returns-clause-going : goal.returns-clause-going
+returns-clause-going g c =
     λ _ limit going.
     rw (c.push.ensures.items, c.unwrap.ensures, c.room_for.ensures.same)
     (going_on g.E.Decide.levels g.E.Decide.table c.kept_stay.ensures.stay c.transcript_grows.ensures.grows limit _ _ c.answer-reply.ensures.front
@@ -35,8 +35,8 @@ returns-in-Ok-clause-answered g c =
     (answered c.kept_stay.ensures.stay (table_of c.args.desk.now) (table_of c.answer-reply.new.self) c.answer-reply.ensures.front c.args.kept.now.items c.requires.1.within
     c.in-Some.packed c.answer-reply.result (heard_view c.args.heard) c.in-Some.ensures.packed _ _ c.in-Ok.ensures.whole)
 
-pub returns-in-Ok-2-clause-answered : goal.returns-in-Ok-2-clause-answered
-returns-in-Ok-2-clause-answered g c =
+pub returns-clause-answered : goal.returns-clause-answered
+returns-clause-answered g c =
     λ _.
     rw (c.push.ensures.items, c.unwrap.ensures, c.room_for.ensures.same)
     (answered c.kept_stay.ensures.stay (table_of c.args.desk.now) (table_of c.answer-reply.new.self) c.answer-reply.ensures.front c.args.kept.now.items c.requires.1.within
