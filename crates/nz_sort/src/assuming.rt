@@ -12,7 +12,7 @@ use nz_base::Memory;
 use nz_command::{Assumption, Expression};
 use nz_elaborate::{ElaborateError, Names, elaborate};
 use nz_spec::table::term_stays;
-use nz_term::{Sort, Terms};
+use nz_term::{Sort, Terms, grows_twice};
 use std::alloc::Global;
 
 /// What is found of assumptions.
@@ -65,6 +65,7 @@ pub(crate) fn assumed(
     ensures grows { Grows terms.old terms.new }
     ensures found { IfOk result (λ f. (s : State) → IsScope terms.old names.now [] (scope_of s) → HasFound s (map assumption_view assumptions.now) terms.new f) }
 {
+    grows_twice();
     term_stays();
     let mut found = FoundAssumptions {
         literals: Vec::with_capacity(alloc, assumptions.len())?,

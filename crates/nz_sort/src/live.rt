@@ -322,6 +322,7 @@ impl Live {
         requires live { (s : State) × IsLive terms.old self.now s }
         ensures comes { Comes terms.old terms.new self.now self.now (requests.checks_assuming (map assumption_view assumptions.now)) (λ s. check_under s (map assumption_view assumptions.now)) result }
     {
+        grows_twice();
         term_stays();
         let mark = terms.mark();
         let found = assumed(self.alloc, &self.names, terms, assumptions)?;
