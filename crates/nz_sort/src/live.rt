@@ -288,10 +288,11 @@ impl Live {
         requires some { 0 < length self.old.below }
         ensures dropped { Drops self.old self.new }
     {
-        if let Some(older) = self.below.pop() {
-            self.names.truncate(self.top.names_before);
-            self.top = older;
-        }
+        let Some(older) = self.below.pop() else {
+            return;
+        };
+        self.names.truncate(self.top.names_before);
+        self.top = older;
     }
 
     /// Back to the live state of the start. Takes no memory.
