@@ -1,5 +1,5 @@
 -- Computations on rows as lists of coefficients, and on blocks of rows.
-use Rattle.std.specs.Prelude.{ℕ, zero, suc, ◌*◌, List, [], ◌∷◌, ◌++◌, map, length, take, drop, set, remove, slice_index_or, Option, Some, None, pos, if◌then◌else◌}
+use Rattle.std.specs.Prelude.{ℕ, zero, suc, ◌*◌, List, [], ◌∷◌, ◌++◌, map, length, take, drop, set, insert, remove, slice_index_or, Option, Some, None, pos, if◌then◌else◌}
 use Rattle.nz_spec.specs.Fraction.{Fraction, whole, neg_ℚ, Sum, Product, Quotient}
 use Rattle.nz_spec.specs.Computation.{Computation, operated, at_once, turned_into, and_then, in_turn}
 use Rattle.nz_spec.specs.Term.{is_zero}
@@ -25,8 +25,7 @@ abbrev pub solved_row : Change → List Fraction → Computation (List Fraction)
 solved_row c row =
     let a = coefficient_at row c.taken in
     and_then (operated Quotient (whole (pos 1)) a)
-    (λ inverse. turned_into
-    (λ (others : List Fraction). changed (record { taken = length others; put = c.put }) inverse (others ++ inverse ∷ []))
+    (λ inverse. turned_into (λ others. insert others c.put inverse)
     (in_turn (map (λ x. turned_into neg_ℚ (operated Quotient x a)) (remove row c.taken))))
 
 -- a multiple of another row is added, coefficient by coefficient

@@ -68,10 +68,7 @@ pub record FirstWideOfJoin (ns : List Node) (old : Table) (f : List Part) (first
   pub first : (number : Term → ℕ) → AreNumbered (forms_over ns (old.forms ++ units)) number (parts_over ns f)
       → first_wide_on_joining ns (old.forms ++ units) (nonbasic_from (length old.forms) old.nonbasic) old.rows number f ≡ first
 
--- a form that wasn't there has joined, and no operation on its row leaves the numbers
-abbrev pub JoinsWithout : List Node → Table → Table → List Part → Option Operation → Type 0
-JoinsWithout ns old new f none = (Contains new.forms f → (new ≡ old) ⊎ FirstWideOfJoin ns old f none)
-
+-- why a form didn't join
 abbrev pub IsStopOfJoin : List Node → Table → List Part → TabStop → Type 0
 IsStopOfJoin ns old f (Wide w) = FirstWideOfJoin ns old f (Some (operation_of w))
 IsStopOfJoin ns old f Memory = ⊤

@@ -1,12 +1,12 @@
 //! The table of forms.
-ghost use Rattle.std.specs.Prelude.{◌≡◌, ◌<◌, ℕ, IsTrue, IfOk, IfErr, OnOk, OnErr, List, false, length, slice_index_or, Some, None};
+ghost use Rattle.std.specs.Prelude.{◌≡◌, ◌<◌, ◌↔◌, ⊥, Contains, [], IsTrue, IfOk, IfErr, OnOk, OnErr, List, false, length, slice_index_or, Some, None};
 ghost use Rattle.nz_spec.specs.Fraction.{first_wide};
 ghost use Rattle.nz_spec.specs.BasisMoves.{exchange, exchanged};
 ghost use Rattle.nz_spec.specs.Term.{is_zero};
 ghost use Rattle.nz_spec.specs.Table.{IsTable, Node};
 ghost use Rattle.nz_frac.specs.Operations.{operation_of};
 ghost use Rattle.nz_lin.specs.Forms.{AreUnits};
-ghost use Rattle.nz_tab.specs.Tables.{HasRows, IsJoined, IsExchanged, JoinsWithout, IsStopOfJoin, empty_table};
+ghost use Rattle.nz_tab.specs.Tables.{FirstWideOfJoin, HasRows, IsJoined, IsExchanged, IsStopOfJoin, empty_table};
 
 pub use crate::change::Var;
 
@@ -189,7 +189,7 @@ impl Tab {
     pub fn add_form(&mut self, form: &Form) -> Result<Var, TabStop>
         ensures joined { IfOk result (λ v. IsJoined self.old self.new form.now.parts v) }
         ensures rows { OnOk result ((ns : List Node) → IsTable ns → AreUnits ns form.now.parts → HasRows ns self.old → HasRows ns self.new) }
-        ensures fits { OnOk result ((ns : List Node) → IsTable ns → AreUnits ns form.now.parts → HasRows ns self.old → JoinsWithout ns self.old self.new form.now.parts None) }
+        ensures fits { OnOk result ((Contains self.old.forms form.now.parts → ⊥) → (ns : List Node) → IsTable ns → AreUnits ns form.now.parts → HasRows ns self.old → FirstWideOfJoin ns self.old form.now.parts None) }
         ensures wide { IfErr result (λ s. (ns : List Node) → IsTable ns → AreUnits ns form.now.parts → HasRows ns self.old → IsStopOfJoin ns self.old form.now.parts s) }
         ensures unchanged { OnErr result (self.new ≡ self.old) }
     {
