@@ -209,19 +209,13 @@ impl<E: Decide> Desk<E> {
         normal_keeps_value();
         decimals_are_numbers();
         numerals_are_whole();
-        let constants = self.live.constants();
-        let Ok(bindings) = bindings_of(self.alloc, &self.terms, constants, &assign) else {
-            return said(Reply::Error(Error::OutOfMemory));
-        };
-        let Ok(shown) = bindings.clone() else {
-            return said(Reply::Error(Error::OutOfMemory));
-        };
-        let model = FoundModel {
-            bindings,
-            values: assign,
-        };
-        self.last = Some(LastAnswer::Model(model));
-        said(Reply::Sat(shown))
+        match found_model(self.alloc, &self.terms, self.live.constants(), assign) {
+            Ok((model, shown)) => {
+                self.last = Some(LastAnswer::Model(model));
+                said(Reply::Sat(shown))
+            }
+            Err(Memory) => said(Reply::Error(Error::OutOfMemory)),
+        }
     }
 
     /// The answer to `get-model`.
@@ -374,20 +368,41 @@ fn decide<E: Decide>(
     engine.check(terms, &[], work)
 }
 
+/// The model that an assignment makes of these constants, and its bindings to be shown: they are one list with those of
+/// the model.
+fn found_model(
+    alloc: Global,
+    terms: &Terms,
+    constants: &[Accepted],
+    assign: Assign,
+) -> Result<(FoundModel, Rc<Bindings>), Memory>
+    ensures kept { IfOk result (λ p. p.0.bindings.value ≡ completed terms.now assign (table_numbers constants.now)) }
+    ensures values { IfOk result (λ p. p.0.values ≡ assign) }
+    ensures shown { IfOk result (λ p. p.1.value ≡ completed terms.now assign (table_numbers constants.now)) }
+{
+    let bindings = Rc::new(alloc, bindings_of(alloc, terms, constants, &assign)?)?;
+    let shown = bindings.clone()?;
+    let model = FoundModel {
+        bindings,
+        values: assign,
+    };
+    Ok((model, shown))
+}
+
 /// The bindings of these constants: each with the value that the assignment gives it, or else the default of its sort.
 fn bindings_of(
     alloc: Global,
     terms: &Terms,
     constants: &[Accepted],
     assign: &Assign,
-) -> Result<Rc<Bindings>, Memory>
-    ensures bindings { IfOk result (λ rc. rc.value ≡ completed terms.now assign.now (table_numbers constants.now)) }
+) -> Result<Bindings, Memory>
+    ensures bindings { IfOk result (λ bs. bs ≡ completed terms.now assign.now (table_numbers constants.now)) }
 {
     let mut bindings = Bindings::new(alloc);
     for accepted in constants {
         add_binding(&mut bindings, terms, accepted.term, assign)?;
     }
-    Ok(Rc::new(alloc, bindings)?)
+    Ok(bindings)
 }
 
 /// Adds what the constant of this number is bound to.
