@@ -1,5 +1,5 @@
 -- What bounds of the code are: linear literals over a table, and their multiples.
-use Rattle.std.specs.Prelude.{◌≡◌, Bool, true, false, ◌&&◌, List, map, Result, Ok, Err}
+use Rattle.std.specs.Prelude.{◌≡◌, Bool, true, false, List, map, Result, Ok, Err}
 use Rattle.nz_spec.specs.Fraction.{Fraction, first_wide}
 use Rattle.nz_spec.specs.Computation.{Computation}
 use Rattle.nz_spec.specs.Farkas as farkas
@@ -7,8 +7,8 @@ use Rattle.nz_spec.specs.Form as spec
 use Rattle.nz_spec.specs.LinearLiteral.{is_whole}
 use Rattle.nz_spec.specs.Literal.{Literal, is_at_most, is_below}
 use Rattle.nz_spec.specs.Table.{Node}
-use Rattle.nz_spec.specs.Term.{int_sort, are_same_sort}
-use Rattle.nz_term.specs.Constants.{sort_of}
+use Rattle.nz_term.specs.declared.heads.Sort.{Sort}
+use Rattle.nz_term.specs.declared.heads.Sort.TheVariants.{Int}
 use Rattle.nz_lin.specs.declared.bound.Bound.{Bound}
 use Rattle.nz_lin.specs.declared.bound.Multiple.{Multiple}
 use Rattle.nz_lin.specs.declared.form.LinStop.{LinStop}
@@ -54,6 +54,10 @@ IsLiteral ns c (Err s) = IsStopAt (first_wide c.operations) s
 
 -- ---- Integers
 
--- the coefficient is an integer, and the unit of sort Int
+-- the coefficient is an integer, where the unit is of sort Int
+abbrev pub is_integral_of : Sort → Fraction → Bool
+is_integral_of Int c = is_whole c
+is_integral_of s c = false
+
 abbrev pub is_integral : Part → Bool
-is_integral p = is_whole p.coefficient && are_same_sort (sort_of p.sort) int_sort
+is_integral p = is_integral_of p.sort p.coefficient

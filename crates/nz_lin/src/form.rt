@@ -4,7 +4,7 @@ ghost use Rattle.nz_spec.specs.Computation.{operated};
 ghost use Rattle.nz_spec.specs.Form as spec;
 ghost use Rattle.nz_spec.specs.Form.{negated_form, joined, part_joined, scaled, unit_form};
 ghost use Rattle.nz_spec.specs.FormOf.{number_in};
-ghost use Rattle.nz_spec.specs.Fraction.{Fraction, neg_ℚ};
+ghost use Rattle.nz_spec.specs.Fraction.{Fraction};
 ghost use Rattle.nz_spec.specs.Table.{IsTable, Node, term_in};
 ghost use Rattle.nz_lin.specs.Comes.{AreFormed, Comes, IsFormed, IsOperated, alone, arithmetic_of, times};
 ghost use Rattle.nz_lin.specs.Forms.{AreUnits, NamesUnit, form_over, meeting, negated, part_over, parts_over, with_last, with_met};
@@ -156,13 +156,13 @@ impl Form {
         self.offset
     }
 
-    /// The units, and what is added with the other sign, as it stands on the other side of a bound.
-    pub(crate) fn with_offset_negated(self) -> Form
-        ensures other_side { result ≡ record { parts = self.parts; offset = neg_ℚ self.offset } }
+    /// The same units, and another number that is added.
+    pub(crate) fn with_offset(self, offset: Frac) -> Form
+        ensures other { result ≡ record { parts = self.parts; offset = offset } }
     {
         Form {
-            offset: self.offset.neg(),
             parts: self.parts,
+            offset,
         }
     }
 
