@@ -6,7 +6,7 @@ use Rattle.std.proofs.Math.Bool.{or-false}
 use Rattle.std.proofs.lemmas.Bool.{and_parts}
 use Rattle.std.proofs.lemmas.Int.{ints}
 use Rattle.nz_spec.specs.Fraction.{Fraction, whole, ◌=ℚ◌, ◌≤ℚ◌, ◌<ℚ◌, ◌+ℚ◌, neg_ℚ, ◌*ℚ◌, fraction_cmp, fraction_le, fraction_lt, floor, outcome, Sum, Difference}
-use Rattle.nz_spec.specs.Computation.{Computation, at_once, turned_into, and_then, in_turn}
+use Rattle.nz_spec.specs.Computation.{Computation, at_once, in_turn}
 use Rattle.nz_spec.specs.Term.{int_sort, real_sort, Head, choice, integer_quotient, modulus, magnitude, to_int, Term, apply, Terms, no_terms, terms, Value, Assignment, is_true, number_of, value_of, is_zero, div_of, mod_of, IsDivision, integer_of, IsOfSort}
 use Rattle.nz_spec.specs.Linear.{constant_value, are_divisors, is_linear}
 use Rattle.nz_spec.specs.Model.{IsAssignment}
