@@ -1,5 +1,5 @@
 -- The number of a term in a table is the one by which it is found there.
-use Rattle.std.proofs.Common.{◌≡◌, ℕ, zero, suc, ◌+◌, ◌<◌, Bool, true, false, List, [], ◌∷◌, ◌++◌, length, fold, refl, sym, subst, ◌∙◌, true≢false, arith, length-append}
+use Rattle.std.proofs.Common.{◌≡◌, ℕ, zero, suc, ◌+◌, ◌<◌, Bool, true, false, List, [], ◌∷◌, length, fold, refl, sym, subst, ◌∙◌, true≢false, arith, length-append}
 use Rattle.std.specs.Prelude.{if◌then◌else◌}
 use Rattle.nz_spec.specs.Term.{Term, apply}
 use Rattle.nz_spec.specs.Literal.{are_same_term}

@@ -1,5 +1,5 @@
 -- Of a linear literal and its negation just one is true.
-use Rattle.std.proofs.Common.{◌≡◌, true, false, not, inl, inr, List, [], ◌∷◌, map, pos, ◌*ℤ◌, neg_ℤ, refl, sym, ap, ◌∙◌, arith}
+use Rattle.std.proofs.Common.{◌≡◌, true, false, not, inl, inr, [], ◌∷◌, map, pos, ◌*ℤ◌, neg_ℤ, refl, sym, ap, ◌∙◌, arith}
 use Rattle.std.proofs.lemmas.Int.{ints}
 use Rattle.nz_ints.proofs.Ring.{Atom, ◌⊗◌, Minus, solve}
 use Rattle.nz_spec.specs.Fraction.{Fraction, denominator, neg_ℚ, ◌=ℚ◌, ◌≤ℚ◌, ◌<ℚ◌, fraction_le, fraction_lt}
