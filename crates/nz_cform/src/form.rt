@@ -102,7 +102,7 @@ impl ClauseForm {
             if !self.is_covered(term) {
                 self.cover(log, terms, term, level, &mut clauses)?;
                 let node = terms.node(term);
-                waiting.extend_from_slice(node.kids.as_slice())?;
+                waiting.extend_from_slice(node.kids)?;
             }
         }
         Ok(clauses)

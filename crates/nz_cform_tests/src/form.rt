@@ -18,7 +18,7 @@ fn constant(terms: &mut Terms, alloc: Global, name: &[u8]) -> Result<TermId, Mem
         name: Text::from_slice(alloc, name)?,
         sort: Sort::Bool,
     };
-    terms.make(Head::Constant(constant), &[])
+    terms.make(Head::Constant(&constant), &[])
 }
 
 // `xor` and `=` over the same arguments, and the conjunction of the two.

@@ -9,13 +9,13 @@ ghost use Rattle.nz_command.specs.Requests.{request, direction_view};
 ghost use Rattle.nz_command.specs.Names.{arguments_of};
 ghost use Rattle.nz_command.specs.Lists.{IsWord, IsNotOneList};
 
-use crate::command::{Attributes, Command, Direction};
+use crate::command::{Attributes, Command, Direction, Parameter, WrittenSort};
 use crate::expression::Expression;
 use crate::lists::{only, pair, triple};
 use crate::names::{keyword_of, listed_with, name_of};
 use crate::parts::{
-    assumptions, attributes_onto, info_key, is_attribute_value, level_count, literal_of,
-    parameters, questions, setting_of, sorts, written_sort,
+    all_parts, attributes_onto, info_key, is_attribute_value, level_count, literal_of, setting_of,
+    written_sort,
 };
 use crate::terms::expression;
 use nz_base::{Memory, Text};
@@ -180,10 +180,7 @@ fn only_expression<'a>(
 fn assertion<'a>(alloc: Global, arguments: &'a [Tree]) -> Result<Option<Command<'a>>, Memory>
     ensures parsed { IfOk result (λ c. option_map request c ≡ parse.one parse.expression_of spec.asserts (seen arguments.now)) }
 {
-    match only_expression(alloc, arguments)? {
-        Some(term) => Ok(Some(Command::Assert(term))),
-        None => Ok(None),
-    }
+    Ok(only_expression(alloc, arguments)?.map(Command::Assert))
 }
 
 fn goal<'a>(
@@ -241,10 +238,7 @@ fn assuming<'a>(alloc: Global, arguments: &'a [Tree]) -> Result<Option<Command<'
     let Some(list) = only_list(arguments) else {
         return Ok(None);
     };
-    match assumptions(alloc, list)? {
-        Some(assumptions) => Ok(Some(Command::CheckSatAssuming(assumptions))),
-        None => Ok(None),
-    }
+    Ok(all_parts(alloc, list)?.map(Command::CheckSatAssuming))
 }
 
 fn values<'a>(alloc: Global, arguments: &'a [Tree]) -> Result<Option<Command<'a>>, Memory>
@@ -256,10 +250,7 @@ fn values<'a>(alloc: Global, arguments: &'a [Tree]) -> Result<Option<Command<'a>
     if list.is_empty() {
         return Ok(None);
     }
-    match questions(alloc, list)? {
-        Some(questions) => Ok(Some(Command::GetValue(questions))),
-        None => Ok(None),
-    }
+    Ok(all_parts(alloc, list)?.map(Command::GetValue))
 }
 
 // ---- Declarations and definitions
@@ -303,13 +294,10 @@ fn function_of<'a>(
     let Some(list) = list_of(list) else {
         return Ok(None);
     };
-    let Some(sorts) = sorts(alloc, list)? else {
+    let Some(sorts) = all_parts::<WrittenSort>(alloc, list)? else {
         return Ok(None);
     };
-    match written_sort(sort) {
-        Some(sort) => Ok(Some(Command::Declare(name, sorts, sort))),
-        None => Ok(None),
-    }
+    Ok(written_sort(sort).map(|sort| Command::Declare(name, sorts, sort)))
 }
 
 fn definition<'a>(alloc: Global, arguments: &'a [Tree]) -> Result<Option<Command<'a>>, Memory>
@@ -334,7 +322,7 @@ fn written_definition<'a>(
     let Some(list) = list_of(list) else {
         return Ok(None);
     };
-    let Some(parameters) = parameters(alloc, list)? else {
+    let Some(parameters) = all_parts::<Parameter>(alloc, list)? else {
         return Ok(None);
     };
     let Some(sort) = written_sort(sort) else {

@@ -1,6 +1,8 @@
 //! The parts of commands: sorts, parameters, assumptions, questions, attributes, options and infos.
-ghost use Rattle.std.specs.Prelude.{◌≡◌, IfOk, map, option_map, option_and_then};
+ghost use Rattle.std.specs.Prelude.{◌≡◌, IfOk, map, Option, option_map, option_and_then};
 ghost use Rattle.nz_sexpr.specs.View.{view, seen};
+ghost use Rattle.nz_spec.specs.Tree.{Tree};
+ghost use Rattle.nz_spec.specs.Request as requests;
 ghost use Rattle.nz_spec.specs.Parse as parse;
 ghost use Rattle.nz_command.specs.Lists.{IsShort};
 ghost use Rattle.nz_command.specs.View as views;
@@ -19,6 +21,38 @@ use nz_base::{Memory, Text};
 use nz_sexpr::{Token, Tree};
 use std::alloc::Global;
 
+// ---- Lists of parts
+
+/// What stands in a list of a command, as often as it may.
+pub(crate) trait Part<'a>: Sized + Drop {
+    ghost Meaning: { Type 0 };
+
+    ghost meaning: { Self → Meaning };
+
+    ghost meant_by: { Tree → Option Meaning };
+
+    /// The part that a tree is, if it is one.
+    fn part_of(alloc: Global, tree: &'a Tree) -> Result<Option<Self>, Memory>
+        ensures parsed { IfOk result (λ part. option_map meaning part ≡ meant_by (view tree.now)) };
+}
+
+/// The parts that these trees are, if each of them is one.
+pub(crate) fn all_parts<'a, P: Part<'a>>(
+    alloc: Global,
+    list: &'a [Tree],
+) -> Result<Option<Vec<P>>, Memory>
+    ensures parsed { IfOk result (λ r. option_map (λ v. map P.meaning v.items) r ≡ parse.each P.meant_by (seen list.now)) }
+{
+    let mut parts = Vec::with_capacity(alloc, list.len())?;
+    for tree in list {
+        match P::part_of(alloc, tree)? {
+            Some(part) => parts.push(part)?,
+            None => return Ok(None),
+        }
+    }
+    Ok(Some(parts))
+}
+
 // ---- Sorts and parameters
 
 /// A sort: its name, or a list, whatever stands in it.
@@ -31,21 +65,28 @@ pub(crate) fn written_sort(tree: &Tree) -> Option<WrittenSort<'_>>
     }
 }
 
-/// The sorts that these trees are.
-pub(crate) fn sorts<'a>(
-    alloc: Global,
-    list: &'a [Tree],
-) -> Result<Option<Vec<WrittenSort<'a>>>, Memory>
-    ensures parsed { IfOk result (λ r. option_map (λ v. map sort_view v.items) r ≡ parse.each parse.written_sort (seen list.now)) }
-{
-    let mut items = Vec::with_capacity(alloc, list.len())?;
-    for tree in list {
-        match written_sort(tree) {
-            Some(item) => items.push(item)?,
-            None => return Ok(None),
-        }
+impl<'a> Part<'a> for WrittenSort<'a> {
+    ghost Meaning = { requests.WrittenSort };
+
+    ghost meaning = { sort_view };
+
+    ghost meant_by = { parse.written_sort };
+
+    fn part_of(_alloc: Global, tree: &'a Tree) -> Result<Option<WrittenSort<'a>>, Memory> {
+        Ok(written_sort(tree))
     }
-    Ok(Some(items))
+}
+
+impl<'a> Part<'a> for Parameter<'a> {
+    ghost Meaning = { requests.Parameter };
+
+    ghost meaning = { parameter_view };
+
+    ghost meant_by = { parse.parameter_of };
+
+    fn part_of(_alloc: Global, tree: &'a Tree) -> Result<Option<Parameter<'a>>, Memory> {
+        Ok(parameter_of(tree))
+    }
 }
 
 /// A parameter of a definition: its name and its sort.
@@ -67,24 +108,19 @@ fn parameter_in(list: &[Tree]) -> Option<Parameter<'_>>
     Some(Parameter { name, sort })
 }
 
-/// The parameters that these trees are.
-pub(crate) fn parameters<'a>(
-    alloc: Global,
-    list: &'a [Tree],
-) -> Result<Option<Vec<Parameter<'a>>>, Memory>
-    ensures parsed { IfOk result (λ r. option_map (λ v. map parameter_view v.items) r ≡ parse.each parse.parameter_of (seen list.now)) }
-{
-    let mut items = Vec::with_capacity(alloc, list.len())?;
-    for tree in list {
-        match parameter_of(tree) {
-            Some(item) => items.push(item)?,
-            None => return Ok(None),
-        }
-    }
-    Ok(Some(items))
-}
-
 // ---- Assumptions and questions
+
+impl<'a> Part<'a> for Assumption<'a> {
+    ghost Meaning = { requests.Assumption };
+
+    ghost meaning = { assumption_view };
+
+    ghost meant_by = { parse.assumption_of };
+
+    fn part_of(_alloc: Global, tree: &'a Tree) -> Result<Option<Assumption<'a>>, Memory> {
+        Ok(assumption_of(tree))
+    }
+}
 
 /// A name, or `not` of one.
 fn assumption_of(tree: &Tree) -> Option<Assumption<'_>>
@@ -121,48 +157,19 @@ fn is_negation(tree: &Tree) -> bool
     }
 }
 
-/// The assumptions that these trees are.
-pub(crate) fn assumptions<'a>(
-    alloc: Global,
-    list: &'a [Tree],
-) -> Result<Option<Vec<Assumption<'a>>>, Memory>
-    ensures parsed { IfOk result (λ r. option_map (λ v. map assumption_view v.items) r ≡ parse.each parse.assumption_of (seen list.now)) }
-{
-    let mut items = Vec::with_capacity(alloc, list.len())?;
-    for tree in list {
-        match assumption_of(tree) {
-            Some(item) => items.push(item)?,
-            None => return Ok(None),
+impl<'a> Part<'a> for Question<'a> {
+    ghost Meaning = { requests.Question };
+
+    ghost meaning = { question_view };
+
+    ghost meant_by = { parse.question_of };
+
+    fn part_of(alloc: Global, tree: &'a Tree) -> Result<Option<Question<'a>>, Memory> {
+        match expression(alloc, tree)? {
+            Some(expression) => Ok(Some(Question { tree, expression })),
+            None => Ok(None),
         }
     }
-    Ok(Some(items))
-}
-
-/// A term that is asked for.
-fn question_of<'a>(alloc: Global, tree: &'a Tree) -> Result<Option<Question<'a>>, Memory>
-    ensures parsed { IfOk result (λ q. option_map question_view q ≡ parse.question_of (view tree.now)) }
-{
-    match expression(alloc, tree)? {
-        Some(expression) => Ok(Some(Question { tree, expression })),
-        None => Ok(None),
-    }
-}
-
-/// The questions that these trees are.
-pub(crate) fn questions<'a>(
-    alloc: Global,
-    list: &'a [Tree],
-) -> Result<Option<Vec<Question<'a>>>, Memory>
-    ensures parsed { IfOk result (λ r. option_map (λ v. map question_view v.items) r ≡ parse.each parse.question_of (seen list.now)) }
-{
-    let mut items = Vec::with_capacity(alloc, list.len())?;
-    for tree in list {
-        match question_of(alloc, tree)? {
-            Some(item) => items.push(item)?,
-            None => return Ok(None),
-        }
-    }
-    Ok(Some(items))
 }
 
 /// The text of a tree that is a string literal.

@@ -1,32 +1,17 @@
 -- Numbers and their terms in a table that grows.
-use Rattle.std.proofs.Common.{◌≡◌, ℕ, ◌<◌, ◌≤◌, List, [], ◌∷◌, ◌++◌, length, All, refl, sym, ap, ◌∙◌, append_assoc, append-nil, subst, arith, length-append}
+use Rattle.std.proofs.Common.{◌≡◌, ℕ, ◌<◌, ◌≤◌, List, [], ◌∷◌, ◌++◌, length, All, refl, sym, ap, ◌∙◌, append-nil, subst, arith, length-append}
 use Rattle.std.proofs.lemmas.List.Elements.{All-head, All-tail, All-push, All-weaker}
-use Rattle.std.specs.List.{AllByRecursion}
 use Rattle.nz_spec.specs.Term.{Term, Terms, no_terms, terms}
 use Rattle.nz_spec.specs.Table.{Node, term_in, terms_at}
-use Rattle.nz_elaborate.specs.Typed.{IsOperator, Grows, StandsFor, terms_before}
+use Rattle.nz_elaborate.specs.Typed.{Grows, StandsFor, terms_before}
 
 -- ---- A table that grows
 
 pub grows_none : (ns : List Node) → Grows ns ns
 grows_none ns = record { more = []; all = sym (append-nil ns); operators = tt; stays = λ i below. refl }
 
-operators-append : (xs ys : List Node) → AllByRecursion (λ (n : Node). IsOperator n.head) xs → AllByRecursion (λ (n : Node). IsOperator n.head) ys
-    → AllByRecursion (λ (n : Node). IsOperator n.head) (xs ++ ys)
-operators-append [] ys a b = b
-operators-append (x ∷ xs) ys a b = (a.0, operators-append xs ys a.1 b)
-
 pub longer : (old new : List Node) → Grows old new → length old ≤ length new
 longer old new g = omega (arith, simp length-append at (ap length g.all))
-
-pub grows_more : (old mid new : List Node) → Grows old mid → Grows mid new → Grows old new
-grows_more old mid new g h =
-    record {
-      more = g.more ++ h.more;
-      all = h.all ∙ ap (λ l. l ++ h.more) g.all ∙ append_assoc old g.more h.more;
-      operators = operators-append g.more h.more g.operators h.operators;
-      stays = λ i below. h.stays i (let long = longer old mid g in omega arith) ∙ g.stays i below;
-    }
 
 -- ---- Numbers
 

@@ -6,8 +6,9 @@ use Rattle.std.proofs.lemmas.List.Elements.{All-get_or, All-drop}
 use Rattle.nz_spec.specs.Term.{Head, negation, disjunction, equality, Term, apply, Terms, no_terms, terms}
 use Rattle.nz_spec.specs.Normal.{negated, paired, implication_of, grouped_onto, neighbours_of, disequations_onto, disequations_of}
 use Rattle.nz_spec.specs.Table.{Node, term_in, terms_at}
+use Rattle.nz_term.specs.Growth.{GrowsTwice}
 use Rattle.nz_elaborate.specs.Typed.{Grows, StandsFor, terms_before}
-use Rattle.nz_elaborate.proofs.Growing.{term_kept, terms_kept, before-none, grows_more, next_term}
+use Rattle.nz_elaborate.proofs.Growing.{term_kept, terms_kept, before-none, next_term}
 
 -- ---- Terms of one argument, and of two
 
@@ -103,13 +104,13 @@ neighbours_all pair old ns kids ids i above e =
 -- ---- Disequations
 
 -- the disequation of one of the others more
-pub disequation_next : (old mid next new : List Node) (kid : ℕ) (others ids items : List ℕ) (i equation id : ℕ) (more : Terms) → Grows old mid → Grows mid next → Grows next new
+pub disequation_next : GrowsTwice → (old mid next new : List Node) (kid : ℕ) (others ids items : List ℕ) (i equation id : ℕ) (more : Terms) → Grows old mid → Grows mid next → Grows next new
     → kid < length old → i < length others → get_or others i 0 < length old → All (λ j. j < length mid) ids
     → StandsFor next equation (apply equality (terms_at (term_in mid) (kid ∷ get_or others i 0 ∷ [])))
     → StandsFor new id (apply negation (terms_at (term_in next) (equation ∷ []))) → items ≡ ids ++ id ∷ []
     → terms_before (term_in new) items (disequations_onto (term_in old kid) (terms_at (term_in old) (drop (i + 1) others)) more)
     ≡ terms_before (term_in mid) ids (disequations_onto (term_in old kid) (terms_at (term_in old) (drop i others)) more)
-disequation_next old mid next new kid others ids items i equation id more g h k below there other within equal made e =
+disequation_next twice old mid next new kid others ids items i equation id more g h k below there other within equal made e =
     let f = term_in old in
     let rest : Terms = disequations_onto (f kid) (terms_at f (drop (suc i) others)) more in
     let same : StandsFor next equation (paired equality (f kid) (f (get_or others i 0))) =
@@ -117,7 +118,7 @@ disequation_next old mid next new kid others ids items i equation id more g h k 
     let differ : StandsFor new id (negated (paired equality (f kid) (f (get_or others i 0)))) =
     record { within = made.within; term = made.term ∙ ap negated same.term } in
     ap (λ n. terms_before (term_in new) items (disequations_onto (f kid) (terms_at f (drop n others)) more)) (add-one i)
-    ∙ next_term mid new ids items id (negated (paired equality (f kid) (f (get_or others i 0)))) rest (grows_more mid next new h k) within differ e
+    ∙ next_term mid new ids items id (negated (paired equality (f kid) (f (get_or others i 0)))) rest (twice mid next new h k) within differ e
     ∙ ap (λ l. terms_before (term_in mid) ids (disequations_onto (f kid) (terms_at f l) more)) (sym (drop-cons others i 0 there))
 
 -- those of one term more

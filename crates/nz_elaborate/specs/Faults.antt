@@ -2,6 +2,8 @@
 use Rattle.std.specs.Prelude.{◌≡◌, ◌<◌, Bool, true, false, List, [], ◌∷◌, ◌++◌, length, Option, Some, None, Result, Ok, Err, ⊤}
 use Rattle.nz_spec.specs.Term.{Term}
 use Rattle.nz_spec.specs.Table.{Node}
+use Rattle.nz_base.specs.declared.reply_errors.Error.{Error}
+use Rattle.nz_base.specs.declared.reply_errors.Error.TheVariants as refusals
 use Rattle.nz_elaborate.specs.declared.typed.Typed.{Typed}
 use Rattle.nz_elaborate.specs.declared.typed.ApplyError.{ApplyError}
 use Rattle.nz_elaborate.specs.declared.typed.ApplyError.TheVariants as errors
@@ -52,6 +54,13 @@ abbrev pub error_of : Fault → ElaborateError
 error_of faults.Unknown = told.Unknown
 error_of faults.Clash = told.Clash
 error_of faults.Sort = told.Sort
+
+-- the error of the rule that a term breaks
+abbrev pub refusal_by : ElaborateError → Error
+refusal_by told.Unknown = refusals.UnknownSymbol
+refusal_by told.Clash = refusals.AlreadyDeclared
+refusal_by told.Sort = refusals.Sort
+refusal_by told.Memory = refusals.OutOfMemory
 
 -- the answer is no error where there is no fault, and else the error of the fault
 abbrev pub Answers : {T : Type 0} → Option Fault → Result T ElaborateError → Type 0

@@ -13,7 +13,7 @@ use crate::normal::{make, normal_term};
 use crate::operators::{Operands, Operator, operands_of, takes};
 use crate::typed::{ApplyError, Typed};
 use nz_base::Memory;
-use nz_term::{NumberSort, Operator as NormalOperator, Sort, TermId, Terms};
+use nz_term::{NumberSort, Operator as NormalOperator, Sort, TermId, Terms, grows_twice};
 use std::alloc::Global;
 
 /// The operator over its arguments, where it takes them.
@@ -33,6 +33,7 @@ pub(crate) fn apply(
     ensures applied { IfOk result (λ x. (ts : spec.Terms) → AreTyped terms.old arguments.now ts → HasApplied (operator_meaning operator) ts terms.new x) }
     ensures refused { IsErrOf result ApplyError.Sort → (ts : spec.Terms) → AreTyped terms.old arguments.now ts → applied (operator_meaning operator) ts ≡ None }
 {
+    grows_twice();
     if !takes(operator, arguments.len()) {
         return Err(ApplyError::Sort);
     }
@@ -119,6 +120,7 @@ fn read_at(
     ensures within { IfOk result (λ ids. All (λ i. i < length terms.new) ids.items) }
     ensures read { IfOk result (λ ids. (ts : spec.Terms) → AreTyped terms.old arguments.now ts → HasRead (sort_of sort) ts terms.new ids.items) }
 {
+    grows_twice();
     let mut ids = Vec::with_capacity(alloc, arguments.len())?;
     for argument in arguments {
         let id = read_one(terms, sort, *argument)?;

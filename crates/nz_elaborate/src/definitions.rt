@@ -25,7 +25,7 @@ use crate::sorts::{is_unknown_sort, written_sort};
 use crate::typed::{ApplyError, Typed};
 use nz_base::{Memory, Text};
 use nz_command::{Expression, Parameter, WrittenSort};
-use nz_term::{Head, Sort, Terms};
+use nz_term::{Head, Sort, Terms, grows_twice};
 use std::alloc::Global;
 
 /// The sorts of a definition's parameters and its body, which is placed at this sort, where these names are live.
@@ -50,6 +50,7 @@ pub fn elaborate_body<'a>(
     ensures found { IfOk result (λ d. (sc : Scope) → IsScope terms.old names.now [] sc → IsWellNamed (definition_unknown sc (parameters_of parameters.now) (sort_view sort.now) (view body.now)) (definition_clash (parameters_of parameters.now) (view body.now)) (HasBody sc (parameters_of parameters.now) (sort_view sort.now) (view body.now) terms.new d)) }
     ensures refused { IsErrOf result ElaborateError.Sort → (sc : Scope) → IsScope terms.old names.now [] sc → IsWellNamed (definition_unknown sc (parameters_of parameters.now) (sort_view sort.now) (view body.now)) (definition_clash (parameters_of parameters.now) (view body.now)) (definition_term sc (parameters_of parameters.now) (sort_view sort.now) (view body.now) ≡ None) }
 {
+    grows_twice();
     let Parameters { bound, sorts } = bind_parameters(alloc, names, terms, parameters)?;
     let Bound { frame, fault } = bound;
     let mut frames = Vec::new(alloc);
@@ -137,6 +138,7 @@ fn bind_parameters<'a>(
     ensures names { IfOk result (λ ps. TellsNames ps.bound.fault (list_any is_unknown (parameter_sorts (parameters_of parameters.now))) (clash (parameter_names (parameters_of parameters.now)))) }
     ensures found { IfOk result (λ ps. Settles ps.bound.fault (BindsParameters (parameters_of parameters.now) (map sort_of ps.sorts.items) terms.new ps.bound.frame) (sorts_written (parameter_sorts (parameters_of parameters.now)) ≡ None)) }
 {
+    grows_twice();
     let mut listed = Parameters {
         bound: Bound::new(alloc),
         sorts: Vec::with_capacity(alloc, parameters.len())?,

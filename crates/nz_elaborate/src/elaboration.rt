@@ -24,7 +24,7 @@ use crate::normal::make_leaf;
 use crate::typed::Typed;
 use nz_base::{Memory, Text};
 use nz_command::{Expression, Local, Number, Question};
-use nz_term::{Head, Terms};
+use nz_term::{Head, Terms, grows_twice};
 use std::alloc::Global;
 
 /// The normal term of a term that is written, where these names are live.
@@ -69,6 +69,7 @@ pub fn elaborate_all(
     ensures found { IfOk result (λ xs. (sc : Scope) → IsScope terms.old names.now [] sc → IsWellNamed (are_unknown_in sc (asked questions.now)) (have_clash (asked questions.now)) (StandAs (terms_of sc (asked questions.now)) terms.new xs.items)) }
     ensures refused { IsErrOf result ElaborateError.Sort → (sc : Scope) → IsScope terms.old names.now [] sc → IsWellNamed (are_unknown_in sc (asked questions.now)) (have_clash (asked questions.now)) (terms_of sc (asked questions.now) ≡ None) }
 {
+    grows_twice();
     let mut frames = Vec::new(alloc);
     let mut all = FoundAll::with_capacity(alloc, questions.len())?;
     for question in questions {
@@ -126,6 +127,7 @@ fn expression_terms<'a>(
     ensures names { IfOk result (λ all. (is_live : List ℕ → Bool) (bound : List (List ℕ)) → AreNames names.now frames.old.items is_live bound → TellsNames all.fault (have_unknown is_live bound (seen expressions.now)) (have_clash (seen expressions.now))) }
     ensures found { IfOk result (λ all. (sc : Scope) → IsScope terms.old names.now frames.old.items sc → Settles all.fault (StandAs (terms_of sc (seen expressions.now)) terms.new all.terms.items) (terms_of sc (seen expressions.now) ≡ None)) }
 {
+    grows_twice();
     let mut all = FoundAll::with_capacity(alloc, expressions.len())?;
     for expression in expressions {
         let found = expression_term(alloc, names, frames, terms, expression)?;
@@ -173,6 +175,7 @@ fn let_term<'a>(
     ensures names { IfOk result (λ f. (is_live : List ℕ → Bool) (bound : List (List ℕ)) → AreNames names.now frames.old.items is_live bound → TellsNames (fault_in f) (has_unknown is_live bound (written_let (seen_locals locals.now) (view body.now))) (has_clash (written_let (seen_locals locals.now) (view body.now)))) }
     ensures found { IfOk result (λ f. (sc : Scope) → IsScope terms.old names.now frames.old.items sc → IsFound f (term_of sc (written_let (seen_locals locals.now) (view body.now))) terms.new) }
 {
+    grows_twice();
     let Bound { frame, fault } = bind_all(alloc, names, frames, terms, locals)?;
     frames.push(frame)?;
     let found = expression_term(alloc, names, frames, terms, body)?;
@@ -197,6 +200,7 @@ fn bind_all<'a>(
     ensures names { IfOk result (λ b. (is_live : List ℕ → Bool) (bound : List (List ℕ)) → AreNames names.now frames.old.items is_live bound → TellsNames b.fault (locals_have_unknown is_live bound (seen_locals locals.now)) (clash (local_names (seen_locals locals.now)) || locals_have_clash (seen_locals locals.now))) }
     ensures found { IfOk result (λ b. (sc : Scope) → IsScope terms.old names.now frames.old.items sc → Settles b.fault (Binds sc (seen_locals locals.now) terms.new b.frame) (bindings_of sc (seen_locals locals.now) ≡ None)) }
 {
+    grows_twice();
     let mut bound = Bound::new(alloc);
     for local in locals {
         let found = expression_term(alloc, names, frames, terms, &local.term)?;
@@ -219,7 +223,7 @@ fn number_term(terms: &mut Terms, number: Number) -> Result<Found, Memory>
 }
 
 /// The head of the term of a number.
-fn number_head(number: Number) -> Option<Head>
+fn number_head(number: Number) -> Option<Head<'static>>
     ensures head { option_map head_of result ≡ option_map numeric_head (number_view number) }
     ensures operator { IfSome result (λ head. IsOperator (head_of head)) }
     ensures normal { IfSome result (λ head. IsNormalLeaf (head_of head)) }
@@ -232,13 +236,13 @@ fn number_head(number: Number) -> Option<Head>
 }
 
 /// The term of this head, which takes no arguments, where it is one.
-fn fitting_term(terms: &mut Terms, head: Head) -> Result<Found, Memory>
+fn fitting_term(terms: &mut Terms, head: Head<'_>) -> Result<Found, Memory>
     requires operator { IsOperator (head_of head) }
     requires normal { IsNormalLeaf (head_of head) }
     ensures grows { Grows terms.old terms.new }
     ensures within { IfOk result (IsFoundWithin terms.new) }
     ensures names { IfOk result (λ f. TellsNames (fault_in f) false false) }
-    ensures found { IfOk result (λ f. IsFound f (if head_fits (head_of head) then Some (spec.apply (head_of head) spec.no_terms) else None) terms.new) }
+    ensures found { IfOk result (λ f. IsFound f (if head_fits (head_of head.entry) then Some (spec.apply (head_of head.entry) spec.no_terms) else None) terms.new) }
 {
     if !head.fits() {
         return Ok(Found::Fault(Fault::Sort));

@@ -3,8 +3,8 @@ ghost use Rattle.std.specs.Prelude.{◌≡◌, [], None, Some, IfOk, OnOk};
 ghost use Rattle.nz_elaborate.specs.Faults.{Answers, after, clash_fault, error_of, fault_in, first, joined as joined_by, term_in_found, terms_with};
 
 use crate::typed::{ApplyError, Typed};
-use nz_base::Memory;
-use std::alloc::{AllocError, AllocFailed, Global};
+use nz_base::{Error, Memory};
+use std::alloc::{AllocFailed, Global};
 
 /// Why a term isn't elaborated: the first rule that it breaks.
 #[derive(Clone, Copy, Debug, PartialEq, Eq)]
@@ -29,16 +29,6 @@ impl From<Memory> for ElaborateError {
     }
 }
 
-impl From<AllocError> for ElaborateError {
-    ghost use Rattle.nz_elaborate.specs.declared.faults.ElaborateError.TheVariants as errors;
-
-    ghost from_gives = { λ _ r. r ≡ errors.Memory };
-
-    fn from(_error: AllocError) -> ElaborateError {
-        ElaborateError::Memory
-    }
-}
-
 impl<T: Drop> From<AllocFailed<T>> for ElaborateError {
     ghost use Rattle.nz_elaborate.specs.declared.faults.ElaborateError.TheVariants as errors;
 
@@ -46,6 +36,21 @@ impl<T: Drop> From<AllocFailed<T>> for ElaborateError {
 
     fn from(_error: AllocFailed<T>) -> ElaborateError {
         ElaborateError::Memory
+    }
+}
+
+impl From<ElaborateError> for Error {
+    ghost use Rattle.nz_elaborate.specs.Faults.{refusal_by};
+
+    ghost from_gives = { λ error refusal. refusal ≡ refusal_by error };
+
+    fn from(error: ElaborateError) -> Error {
+        match error {
+            ElaborateError::Unknown => Error::UnknownSymbol,
+            ElaborateError::Clash => Error::AlreadyDeclared,
+            ElaborateError::Sort => Error::Sort,
+            ElaborateError::Memory => Error::OutOfMemory,
+        }
     }
 }
 

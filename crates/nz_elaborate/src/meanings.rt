@@ -19,7 +19,7 @@ use nz_base::{Memory, Text};
 use nz_spec::elaboration::expansions_keep_sort;
 use nz_spec::table::term_stays;
 use nz_spec::term::instance_keeps_normal;
-use nz_term::{Sort, TermId, Terms, instance};
+use nz_term::{Sort, TermId, Terms, grows_twice, instance};
 use std::alloc::Global;
 
 /// What a name alone stands for: a bound term, a truth value, a constant, or a definition without parameters.
@@ -135,6 +135,7 @@ fn place_all(
     ensures placed { IfOk result (λ ids. (ts : spec.Terms) → AreTyped terms.old arguments.now ts → Places (map sort_of sorts.now) ts terms.new ids.items) }
     ensures refused { IsErrOf result ApplyError.Sort → (ts : spec.Terms) → AreTyped terms.old arguments.now ts → all_placed (map sort_of sorts.now) ts ≡ None }
 {
+    grows_twice();
     if sorts.len() != arguments.len() {
         return Err(ApplyError::Sort);
     }

@@ -13,7 +13,8 @@ ghost use Rattle.nz_elaborate.specs.Links.{link_pair};
 use crate::operators::Operator;
 use nz_base::Memory;
 use nz_term::{
-    Head, NumberSort, Operator as NormalOperator, Sort, TermId, Terms, operators_are_no_leaves,
+    Head, NumberSort, Operator as NormalOperator, Sort, TermId, Terms, grows_twice,
+    operators_are_no_leaves,
 };
 use std::alloc::Global;
 
@@ -76,11 +77,11 @@ pub(crate) fn make(
 }
 
 /// The number of the term of this leaf, which is no constant.
-pub(crate) fn make_leaf(terms: &mut Terms, head: Head) -> Result<TermId, Memory>
+pub(crate) fn make_leaf(terms: &mut Terms, head: Head<'_>) -> Result<TermId, Memory>
     requires operator { IsOperator (head_of head) }
     requires fits { IsTrue (head_fits (head_of head)) }
     ensures grows { Grows terms.old terms.new }
-    ensures made { IfOk result (λ id. StandsFor terms.new id (apply (head_of head) no_terms)) }
+    ensures made { IfOk result (λ id. StandsFor terms.new id (apply (head_of head.entry) no_terms)) }
 {
     terms.make(head, &[])
 }
@@ -103,6 +104,7 @@ fn implication(terms: &mut Terms, kids: &[TermId]) -> Result<TermId, Memory>
     ensures grows { Grows terms.old terms.new }
     ensures made { IfOk result (λ id. StandsFor terms.new id (implication_of (terms_at (term_in terms.old) kids.now))) }
 {
+    grows_twice();
     let Some(last) = kids.last() else {
         return make(terms, NormalOperator::True, &[]);
     };
@@ -120,6 +122,7 @@ fn grouped(terms: &mut Terms, operator: NormalOperator, kids: &[TermId]) -> Resu
     ensures grows { Grows terms.old terms.new }
     ensures made { IfOk result (λ id. StandsFor terms.new id (grouped_by (operator_of operator) (terms_at (term_in terms.old) kids.now))) }
 {
+    grows_twice();
     let Some(first) = kids.first() else {
         return make(terms, operator, &[]);
     };
@@ -161,6 +164,7 @@ fn chained(alloc: Global, terms: &mut Terms, link: Link, kids: &[TermId]) -> Res
     ensures grows { Grows terms.old terms.new }
     ensures made { IfOk result (λ id. StandsFor terms.new id (chained_by (link_pair link) (terms_at (term_in terms.old) kids.now))) }
 {
+    grows_twice();
     let mut links = Vec::with_capacity(alloc, kids.len())?;
     for i in 0..kids.len().saturating_sub(1) {
         let made = linked(terms, link, kids[i], kids[i + 1])?;
@@ -175,6 +179,7 @@ fn distinct(alloc: Global, terms: &mut Terms, kids: &[TermId]) -> Result<TermId,
     ensures grows { Grows terms.old terms.new }
     ensures made { IfOk result (λ id. StandsFor terms.new id (joined_by conjunction (disequations_of (terms_at (term_in terms.old) kids.now)))) }
 {
+    grows_twice();
     let mut disequations = Vec::with_capacity(alloc, pair_count(kids.len()))?;
     for i in 0..kids.len() {
         add_disequations(terms, kids[i], &kids[i + 1..], &mut disequations)?;
@@ -201,6 +206,7 @@ fn add_disequations(
     ensures within { OnOk result (All (λ k. k < length terms.new) disequations.new.items) }
     ensures added { OnOk result ((more : Arguments) → terms_before (term_in terms.new) disequations.new.items more ≡ terms_before (term_in terms.old) disequations.old.items (disequations_onto (term_in terms.old kid) (terms_at (term_in terms.old) others.now) more)) }
 {
+    grows_twice();
     for other in others {
         let equation = make(terms, NormalOperator::Equal, &[kid, *other])?;
         let denied = make(terms, NormalOperator::Not, &[equation])?;

@@ -47,9 +47,10 @@ derived_from_all : DerivationsGrow → (ns : List Node) (levels : List (List ℕ
     → Derives (live_terms ns levels level) steps c → Derives (asserted_terms ns levels) steps c
 derived_from_all grow ns levels level steps c d =
     record {
+      number = d.number;
       front = d.front;
-      derivation = subst (λ ts. IsDerivation ts steps (d.front ++ c ∷ [])) (live_front ns levels level)
-          (grow.asserted (live_terms ns levels level) (map (term_in ns) (asserted_numbers (drop (suc level) levels))) steps (d.front ++ c ∷ []) d.derivation);
+      derivation = subst (λ ts. IsDerivation d.number ts steps (d.front ++ c ∷ [])) (live_front ns levels level)
+          (grow.asserted d.number (live_terms ns levels level) (map (term_in ns) (asserted_numbers (drop (suc level) levels))) steps (d.front ++ c ∷ []) d.derivation);
     }
 
 -- ---- Clauses of negations

@@ -12,7 +12,7 @@ use nz_term::{Constant, Head, Operator, Sort, TermId, Terms};
 use std::alloc::Global;
 
 /// The term of a head of the gate table over these terms.
-fn make(terms: &mut Terms, head: Head, kids: &[TermId]) -> Result<TermId, Memory>
+fn make(terms: &mut Terms, head: Head<'_>, kids: &[TermId]) -> Result<TermId, Memory>
     requires kids { All (IsGatedAt terms.old) kids.now }
     requires row { IsRowAt terms.old (head_of head) kids.now }
     requires fits { IsTrue (head_fits (head_of head)) }
@@ -33,7 +33,7 @@ pub fn constant(alloc: Global, terms: &mut Terms, number: usize) -> Result<TermI
         name: Text::from_slice(alloc, name.as_bytes())?,
         sort: Sort::Bool,
     };
-    make(terms, Head::Constant(constant), &[])
+    make(terms, Head::Constant(&constant), &[])
 }
 
 /// How many arguments a part has.

@@ -86,8 +86,8 @@ fn gate(alloc: Global, terms: &Terms, term: TermId, j: usize) -> Result<Option<V
         return Ok(None);
     }
     let node = terms.node(term);
-    let kids = node.kids.as_slice();
-    match &node.head {
+    let kids = node.kids;
+    match node.head {
         Head::Operator(Operator::And) => group_clause(alloc, term, kids, true, j),
         Head::Operator(Operator::Or) => group_clause(alloc, term, kids, false, j),
         head => match table_of(head, kids.len()).get(j) {
@@ -143,7 +143,7 @@ const EQUAL: &[Row] = &[&[-1, -2, 3], &[-1, 2, -3], &[1, 2, 3], &[1, -2, -3]];
 const ITE: &[Row] = &[&[-1, -2, 3], &[-1, 2, 4], &[1, -2, -3], &[1, 2, -4]];
 
 /// The clauses of a term of this head over so many arguments, but for conjunctions and disjunctions.
-fn table_of(head: &Head, kids: usize) -> &'static [Row] {
+fn table_of(head: Head<'_>, kids: usize) -> &'static [Row] {
     match (head, kids) {
         (Head::Operator(Operator::True), 0) => TRUE,
         (Head::Operator(Operator::False), 0) => FALSE,

@@ -1,11 +1,11 @@
 pub mod Chaining
 pub mod Dropping
 pub mod Entries
-pub mod Gathering
 pub mod GatesInOrder
+pub mod Gathering
 pub mod Growing
+pub mod LastMarked
 pub mod Leveled
-pub mod MarkedSets
 pub mod Marking
 pub mod Members
 pub mod Naming

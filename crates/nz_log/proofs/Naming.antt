@@ -11,7 +11,7 @@ use Rattle.nz_spec.specs.Literal.{Literal, term_literal, are_same_term, are_same
 use Rattle.nz_spec.specs.Gates.{holds, fails, list_of, is_boolean_term, clauses_over, gate_clauses}
 use Rattle.nz_lists.proofs.Tests.{same_tests}
 use Rattle.nz_log.specs.declared.lits.Lit.{Lit}
-use Rattle.nz_log.specs.Lits.{yes, no, negated_lit, are_same_lit, lit_resolvent, literal_of, clause_in, is_boolean_at, gates_at}
+use Rattle.nz_log.specs.Lits.{LiteralsAgree, yes, no, negated_lit, are_same_lit, lit_resolvent, literal_of, clause_in, is_boolean_at, gates_at}
 use Rattle.nz_log.specs.Sound.{AreWithin, GatesAreNamed}
 use Rattle.nz_log.proofs.Members.{each-append, each-without, each-put}
 
@@ -51,10 +51,6 @@ module _ {A B : Type 0} (W : A → Type 0) (f : A → B) (same : A → A → Boo
       ∙ ap (λ b. if not b then f y ∷ without same' (f x) (map f ys) else without same' (f x) (map f ys)) (sym (agree x y w h.0))
 
 -- ---- Literals by numbers
-
--- In this table two literals are one where their numbers and signs are.
-abbrev pub LiteralsAgree : List Node → Type 0
-LiteralsAgree ns = (l m : Lit) → l.term < length ns → m.term < length ns → are_same_literal (literal_of ns l) (literal_of ns m) ≡ are_same_lit l m
 
 -- two terms are one where their literals of one sign are
 module _ (tells : TellsLiterals) where

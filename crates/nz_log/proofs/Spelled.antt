@@ -6,6 +6,8 @@ use Rattle.std.proofs.lemmas.Option.{option_and_then_some, slice_get-map}
 use Rattle.std.proofs.lemmas.List.{append-nil, length-append, map-append}
 use Rattle.nz_spec.specs.Term.{Term}
 use Rattle.nz_spec.specs.Table.{Node, term_in}
+use Rattle.nz_spec.specs.Form.{Numbering}
+use Rattle.nz_spec.specs.FormOf.{number_in}
 use Rattle.nz_spec.specs.Literal.{Clause, resolvent}
 use Rattle.nz_spec.specs.Gates.{holds}
 use Rattle.nz_spec.specs.Steps as spec
@@ -15,23 +17,23 @@ use Rattle.nz_log.specs.declared.lits.Lit.{Lit}
 use Rattle.nz_log.specs.declared.origins.Link.{Link}
 use Rattle.nz_log.specs.declared.steps.Step.{Step}
 use Rattle.nz_log.specs.declared.steps.Step.TheVariants.{Given, Gate, Resolve}
-use Rattle.nz_log.specs.Lits.{literal_of, clause_in, lit_resolvent}
+use Rattle.nz_log.specs.Lits.{LiteralsAgree, literal_of, clause_in, lit_resolvent}
 use Rattle.nz_log.specs.Logs.{RestsOn, Origin, assertion_of, gate_of, chain_of, Entry, LogState, entry_at, literals_at, level_at, chained}
 use Rattle.nz_log.specs.Sound.{live_at, live_terms, AreWithin, IsLink, IsMade, IsLog}
 use Rattle.nz_log.specs.Spelling.{is_marked, AreMarked, chain_steps, chain_place, origin_steps, origin_place, step_of}
 use Rattle.nz_log.proofs.Members.{each_of, each-resolvent}
-use Rattle.nz_log.proofs.Naming.{LiteralsAgree, resolvent_named}
+use Rattle.nz_log.proofs.Naming.{resolvent_named}
 use Rattle.nz_log.proofs.Soundness.{live_grows, within_at, same_or_other}
 
 -- ---- Derivations that go on
 
 -- there is a clause for each step
-lengths : (asserted : List Term) (steps : List spec.Step) (earlier clauses : List Clause) → clauses_behind asserted earlier steps ≡ Some clauses
+lengths : (number : Numbering) (asserted : List Term) (steps : List spec.Step) (earlier clauses : List Clause) → clauses_behind number asserted earlier steps ≡ Some clauses
     → length clauses ≡ length earlier + length steps
-lengths asserted [] earlier clauses e = let same : earlier ≡ clauses = cc in omega (arith, ap length same)
-lengths asserted (s ∷ ss) earlier clauses e =
-    option_and_then_some (λ c. clauses_behind asserted (earlier ++ c ∷ []) ss) (step_clause asserted earlier s) clauses e
-    (λ c at rest. omega (arith, lengths asserted ss (earlier ++ c ∷ []) clauses rest, length-append earlier (c ∷ [])))
+lengths number asserted [] earlier clauses e = let same : earlier ≡ clauses = cc in omega (arith, ap length same)
+lengths number asserted (s ∷ ss) earlier clauses e =
+    option_and_then_some (λ c. clauses_behind number asserted (earlier ++ c ∷ []) ss) (step_clause number asserted earlier s) clauses e
+    (λ c at rest. omega (arith, lengths number asserted ss (earlier ++ c ∷ []) clauses rest, length-append earlier (c ∷ [])))
 
 seam : {X : Type 0} (xs : List X) (x : X) (n : ℕ) → n ≡ length xs → slice_get (xs ++ x ∷ []) n ≡ Some x
 seam [] x zero e = refl
@@ -40,19 +42,19 @@ seam (y ∷ ys) x zero e = absurd (omega arith)
 seam (y ∷ ys) x (suc n) e = seam ys x n (omega arith)
 
 -- The steps derive clauses that begin with those from before, and at this place this one.
-pub record IsBehind (asserted : List Term) (steps : List spec.Step) (before : List Clause) (place : ℕ) (c : Clause) : Type 0 where
+pub record IsBehind (number : Numbering) (asserted : List Term) (steps : List spec.Step) (before : List Clause) (place : ℕ) (c : Clause) : Type 0 where
   pub clauses : List Clause
-  pub derivation : IsDerivation asserted steps clauses
+  pub derivation : IsDerivation number asserted steps clauses
   pub kept : (i : ℕ) (x : Clause) → slice_get before i ≡ Some x → slice_get clauses i ≡ Some x
   pub here : slice_get clauses place ≡ Some c
 
-one_more : DerivationsGrow → (asserted : List Term) (steps : List spec.Step) (before : List Clause) (s : spec.Step) (c : Clause) (n : ℕ) → n ≡ length steps
-    → IsDerivation asserted steps before → step_clause asserted before s ≡ Some c → IsBehind asserted (steps ++ s ∷ []) before n c
-one_more grow asserted steps before s c n long d e =
-    let count = lengths asserted steps [] before d in
+one_more : DerivationsGrow → (number : Numbering) (asserted : List Term) (steps : List spec.Step) (before : List Clause) (s : spec.Step) (c : Clause) (n : ℕ) → n ≡ length steps
+    → IsDerivation number asserted steps before → step_clause number asserted before s ≡ Some c → IsBehind number asserted (steps ++ s ∷ []) before n c
+one_more grow number asserted steps before s c n long d e =
+    let count = lengths number asserted steps [] before d in
     record {
       clauses = before ++ c ∷ [];
-      derivation = grow.step asserted steps before s c d e;
+      derivation = grow.step number asserted steps before s c d e;
       kept = λ i x at. slice_get_kept before (c ∷ []) i x at;
       here = seam before c n (omega (arith, long, count));
     }
@@ -63,11 +65,11 @@ module _ (grow : DerivationsGrow) (ns : List Node) (agree : LiteralsAgree ns) (l
   length-map (x ∷ xs) = ap suc (length-map xs)
 
   push : (steps : List Step) (before : List Clause) (r : Step) (c : Clause) (n : ℕ) → n ≡ length steps
-      → IsDerivation asserted (map (step_of ns) steps) before → step_clause asserted before (step_of ns r) ≡ Some c
-      → IsBehind asserted (map (step_of ns) (steps ++ r ∷ [])) before n c
+      → IsDerivation (number_in ns) asserted (map (step_of ns) steps) before → step_clause (number_in ns) asserted before (step_of ns r) ≡ Some c
+      → IsBehind (number_in ns) asserted (map (step_of ns) (steps ++ r ∷ [])) before n c
   push steps before r c n long d e =
-      subst (λ rs. IsBehind asserted rs before n c) (sym (map-append (step_of ns) steps (r ∷ [])))
-      (one_more grow asserted (map (step_of ns) steps) before (step_of ns r) c n (long ∙ sym (length-map steps)) d e)
+      subst (λ rs. IsBehind (number_in ns) asserted rs before n c) (sym (map-append (step_of ns) steps (r ∷ [])))
+      (one_more grow (number_in ns) asserted (map (step_of ns) steps) before (step_of ns r) c n (long ∙ sym (length-map steps)) d e)
 
   -- a link whose clause has its place
   abbrev IsPlaced : List ℕ → List Clause → Link → Type 0
@@ -79,10 +81,10 @@ module _ (grow : DerivationsGrow) (ns : List Node) (agree : LiteralsAgree ns) (l
   placed_kept places before after kept (k ∷ ks) h = ((kept _ _ h.0.0, h.0.1), placed_kept places before after kept ks h.1)
 
   chain_behind : (places : List ℕ) (ks : List Link) (steps : List Step) (before : List Clause) (c : List Lit) (current n : ℕ) → AreWithin ns c → n ≡ length steps
-      → IsDerivation asserted (map (step_of ns) steps) before → slice_get before current ≡ Some (clause_in ns c) → AllByRecursion (IsPlaced places before) ks
-      → IsBehind asserted (map (step_of ns) (steps ++ chain_steps places n current ks)) before (chain_place n current ks) (clause_in ns (chained s c ks))
+      → IsDerivation (number_in ns) asserted (map (step_of ns) steps) before → slice_get before current ≡ Some (clause_in ns c) → AllByRecursion (IsPlaced places before) ks
+      → IsBehind (number_in ns) asserted (map (step_of ns) (steps ++ chain_steps places n current ks)) before (chain_place n current ks) (clause_in ns (chained s c ks))
   chain_behind places [] steps before c current n w long d here h =
-      subst (λ rs. IsBehind asserted (map (step_of ns) rs) before current (clause_in ns c)) (sym (append-nil steps))
+      subst (λ rs. IsBehind (number_in ns) asserted (map (step_of ns) rs) before current (clause_in ns c)) (sym (append-nil steps))
       (record { clauses = before; derivation = d; kept = λ i x at. at; here = here })
   chain_behind places (k ∷ ks) steps before c current n w long d here h =
       let l = literal_of ns k.literal in
@@ -91,7 +93,7 @@ module _ (grow : DerivationsGrow) (ns : List Node) (agree : LiteralsAgree ns) (l
       let place = slice_index places k.clause in
       let r = Resolve current place k.literal in
       let next = lit_resolvent k.literal c e in
-      let gives : step_clause asserted before (step_of ns r) ≡ Some (clause_in ns next) =
+      let gives : step_clause (number_in ns) asserted before (step_of ns r) ≡ Some (clause_in ns next) =
       ap (λ o. elim o [ None ↦ None | Some x ↦ option_map (resolvent l x) (slice_get before place) ]) here
       ∙ ap (option_map (resolvent l (clause_in ns c))) h.0.0
       ∙ ap Some (sym (resolvent_named ns agree k.literal c e h.0.1 w within)) in
@@ -100,7 +102,7 @@ module _ (grow : DerivationsGrow) (ns : List Node) (agree : LiteralsAgree ns) (l
       (each-resolvent (λ (m : Lit). m.term < length ns) k.literal c e w within)
       (omega (arith, long, length-append steps (r ∷ [])))
       pushed.derivation pushed.here (placed_kept places before pushed.clauses pushed.kept ks h.1) in
-      subst (λ rs. IsBehind asserted (map (step_of ns) rs) before (chain_place (suc n) n ks) (clause_in ns (chained s next ks)))
+      subst (λ rs. IsBehind (number_in ns) asserted (map (step_of ns) rs) before (chain_place (suc n) n ks) (clause_in ns (chained s next ks)))
       (append_assoc steps (r ∷ []) (chain_steps places (suc n) n ks))
       (record { clauses = rest.clauses; derivation = rest.derivation; kept = λ i x at. rest.kept i x (pushed.kept i x at); here = rest.here })
 
@@ -116,8 +118,8 @@ module _ (grow : DerivationsGrow) (ns : List Node) (agree : LiteralsAgree ns) (l
 
   origin_behind : (id : ℕ) (e : Entry) → e.level ≤ level → (o : Origin) → IsMade ns levels s id e o → AreMarked marks o
       → ((j : ℕ) → j < id → is_marked marks j ≡ true → slice_get before (slice_index places j) ≡ Some (clause_in ns (literals_at s j)))
-      → (steps : List Step) (n : ℕ) → n ≡ length steps → IsDerivation (live_terms ns levels level) (map (step_of ns) steps) before
-      → IsBehind (live_terms ns levels level) (map (step_of ns) (steps ++ origin_steps places n o)) before (origin_place places n o) (clause_in ns e.literals)
+      → (steps : List Step) (n : ℕ) → n ≡ length steps → IsDerivation (number_in ns) (live_terms ns levels level) (map (step_of ns) steps) before
+      → IsBehind (number_in ns) (live_terms ns levels level) (map (step_of ns) (steps ++ origin_steps places n o)) before (origin_place places n o) (clause_in ns e.literals)
   origin_behind id e below (assertion_of k) m marked at steps n long d =
       let live = live_grows levels (suc e.level) (suc level) (omega arith) k m.0 m.1 in
       push grow ns agree levels s order (live_terms ns levels level) steps before (Given k) (clause_in ns e.literals) n long d
@@ -126,7 +128,7 @@ module _ (grow : DerivationsGrow) (ns : List Node) (agree : LiteralsAgree ns) (l
   origin_behind id e below (gate_of t j) m marked at steps n long d =
       push grow ns agree levels s order (live_terms ns levels level) steps before (Gate t j) (clause_in ns e.literals) n long d m.2
   origin_behind id e below (chain_of first ks) m marked at steps n long d =
-      subst (λ c. IsBehind (live_terms ns levels level) (map (step_of ns) (steps ++ chain_steps places n (slice_index places first) ks)) before
+      subst (λ c. IsBehind (number_in ns) (live_terms ns levels level) (map (step_of ns) (steps ++ chain_steps places n (slice_index places first) ks)) before
       (chain_place n (slice_index places first) ks) (clause_in ns c)) (sym m.2)
       (chain_behind grow ns agree levels s order (live_terms ns levels level) places ks steps before (literals_at s first) (slice_index places first) n
       (within_at ns levels s order first (entry_at s first) refl) long d (at first m.0.before marked.0)
@@ -137,7 +139,7 @@ module _ (grow : DerivationsGrow) (ns : List Node) (agree : LiteralsAgree ns) (l
 -- The steps so far derive the marked clauses below a number, each at its place.
 pub record ArePlaced (ns : List Node) (levels : List (List ℕ)) (s : LogState) (level : ℕ) (marks : List Bool) (places : List ℕ) (steps : List Step) (i : ℕ) : Type 0 where
   pub clauses : List Clause
-  pub derivation : IsDerivation (live_terms ns levels level) (map (step_of ns) steps) clauses
+  pub derivation : IsDerivation (number_in ns) (live_terms ns levels level) (map (step_of ns) steps) clauses
   pub at : (j : ℕ) → j < i → is_marked marks j ≡ true → slice_get clauses (slice_index places j) ≡ Some (clause_in ns (literals_at s j))
 
 index_here : (xs : List ℕ) (i v : ℕ) → i < length xs → slice_index (slice_set xs i v) i ≡ v
@@ -156,7 +158,7 @@ module _ (grow : DerivationsGrow) (ns : List Node) (agree : LiteralsAgree ns) (l
     (level : ℕ) (marks : List Bool) (places : List ℕ) (steps : List Step) (i : ℕ) (placed : ArePlaced ns levels s level marks places steps i) where
   -- the steps of the clause of the next number derive it
   next_behind : (e : Entry) → entry_at s i ≡ Some e → e.level ≤ level → AreMarked marks e.origin
-      → IsBehind (live_terms ns levels level) (map (step_of ns) (steps ++ origin_steps places (length steps) e.origin)) placed.clauses
+      → IsBehind (number_in ns) (live_terms ns levels level) (map (step_of ns) (steps ++ origin_steps places (length steps) e.origin)) placed.clauses
       (origin_place places (length steps) e.origin) (clause_in ns e.literals)
   next_behind e at below marked =
       origin_behind grow ns agree levels s order level marks places placed.clauses i e below e.origin (order i e at).made marked placed.at steps (length steps) refl
@@ -169,7 +171,7 @@ module _ (grow : DerivationsGrow) (ns : List Node) (agree : LiteralsAgree ns) (l
       let b = next_behind e at below marked in
       record {
         clauses = b.clauses;
-        derivation = subst (λ rs. IsDerivation (live_terms ns levels level) (map (step_of ns) rs) b.clauses) (sym steps_are) b.derivation;
+        derivation = subst (λ rs. IsDerivation (number_in ns) (live_terms ns levels level) (map (step_of ns) rs) b.clauses) (sym steps_are) b.derivation;
         at = λ j less m.
             elim (same_or_other j i) [
               | inl same ↦
@@ -228,7 +230,7 @@ module _ (grow : DerivationsGrow) (ns : List Node) (agree : LiteralsAgree ns) (l
       let all = steps ++ origin_steps places (length steps) e.origin in
       let asserted = live_terms ns levels (level_at s id) in
       let b = next_behind grow ns agree levels s order (level_at s id) marks places steps id placed e at (omega (arith, same)) marked in
-      let count = lengths asserted (map (step_of ns) all) [] b.clauses b.derivation in
+      let count = lengths (number_in ns) asserted (map (step_of ns) all) [] b.clauses b.derivation in
       let mapped = length-map grow ns agree levels s order asserted all in
       let place = origin_last s id e.level places (length steps) e.origin rests in
       let added = length-append steps (origin_steps places (length steps) e.origin) in
@@ -237,4 +239,4 @@ module _ (grow : DerivationsGrow) (ns : List Node) (agree : LiteralsAgree ns) (l
       let literals : literals_at s id ≡ e.literals = ap (λ o. elim o [ None ↦ [] | Some f ↦ f.literals ]) at in
       subst (λ rs. Derives asserted (map (step_of ns) rs) (clause_in ns (literals_at s id))) (sym steps_are)
       (subst (λ c. Derives asserted (map (step_of ns) all) (clause_in ns c)) (sym literals)
-      (record { front = split.0; derivation = b.derivation ∙ ap Some split.1 }))
+      (record { number = number_in ns; front = split.0; derivation = b.derivation ∙ ap Some split.1 }))

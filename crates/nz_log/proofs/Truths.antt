@@ -12,11 +12,11 @@ use Rattle.nz_spec.specs.Literal.{clause_of, IsClauseTrue, TellsLiterals, Clause
 use Rattle.nz_spec.specs.Gates.{gate_clauses, GatesAreTrue}
 use Rattle.nz_log.specs.declared.lits.Lit.{Lit}
 use Rattle.nz_log.specs.declared.origins.Link.{Link}
-use Rattle.nz_log.specs.Lits.{clause_in, lit_resolvent, literal_of}
+use Rattle.nz_log.specs.Lits.{LiteralsAgree, clause_in, lit_resolvent, literal_of}
 use Rattle.nz_log.specs.Logs.{IsPremise, Origin, assertion_of, gate_of, chain_of, Entry, LogState, entry_at, literals_at, level_at, chained}
 use Rattle.nz_log.specs.Sound.{live_at, live_terms, AreWithin, IsLink, IsMade, IsLog, ClausesAreTrue}
 use Rattle.nz_log.proofs.Members.{each-at, each-resolvent}
-use Rattle.nz_log.proofs.Naming.{LiteralsAgree, literals_agree, resolvent_named}
+use Rattle.nz_log.proofs.Naming.{literals_agree, resolvent_named}
 use Rattle.nz_log.proofs.Soundness.{within_at}
 
 -- what holds of the terms of some levels holds of those of fewer

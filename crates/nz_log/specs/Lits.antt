@@ -1,8 +1,8 @@
 -- Literals and clauses by the numbers of their terms.
-use Rattle.std.specs.Prelude.{ℕ, Bool, true, false, not, ◌&&◌, ◌==◌, List, [], ◌∷◌, ◌++◌, map, All, Contains, Option, Some, None, slice_get}
+use Rattle.std.specs.Prelude.{◌≡◌, ℕ, ◌<◌, Bool, true, false, not, ◌&&◌, ◌==◌, List, [], ◌∷◌, ◌++◌, length, map, All, Contains, Option, Some, None, slice_get}
 use Rattle.nz_spec.specs.Term.{Head, sort_of, is_bool}
-use Rattle.nz_spec.specs.Table.{Node, term_in}
-use Rattle.nz_spec.specs.Literal.{Literal, term_literal, Clause, are_same_sign, once, without}
+use Rattle.nz_spec.specs.Table.{Node, IsTable, term_in}
+use Rattle.nz_spec.specs.Literal.{Literal, term_literal, Clause, are_same_literal, are_same_sign, once, without}
 use Rattle.nz_spec.specs.Gates.{clauses_over}
 use Rattle.nz_log.specs.declared.lits.Lit.{Lit}
 
@@ -46,6 +46,16 @@ is_boolean_at ns i = is_bool (sort_of (term_in ns i))
 -- the clauses of the gate table of the term of a number
 abbrev pub gates_at : List Node → ℕ → List (List Lit)
 gates_at ns t = elim (slice_get ns t) [ None ↦ [] | Some n ↦ clauses_over yes no (is_boolean_at ns) t n.head n.kids ]
+
+-- in this table two literals are one where their numbers and signs are
+abbrev pub LiteralsAgree : List Node → Type 0
+LiteralsAgree ns = (l m : Lit) → l.term < length ns → m.term < length ns → are_same_literal (literal_of ns l) (literal_of ns m) ≡ are_same_lit l m
+
+-- The test of two literals tells whether they are one, and whether they say the same in a table.
+pub record TellsLits : Type 0 where
+  pub same : (l m : Lit) → are_same_lit l m ≡ true → l ≡ m
+  pub one : (l : Lit) → are_same_lit l l ≡ true
+  pub agree : (ns : List Node) → IsTable ns → LiteralsAgree ns
 
 -- the literals of these terms with a sign
 abbrev pub signed : Bool → List ℕ → List Lit

@@ -19,8 +19,8 @@ pub fn gate_count(terms: &Terms, term: TermId) -> usize
     ensures count { result ≡ length (gates_at terms.now term) }
 {
     let node = terms.node(term);
-    let kids = node.kids.as_slice();
-    let Head::Operator(operator) = &node.head else {
+    let kids = node.kids;
+    let Head::Operator(operator) = node.head else {
         return 0;
     };
     match operator {
@@ -66,18 +66,18 @@ pub fn gate_literals(alloc: Global, terms: &Terms, term: TermId, j: usize) -> Re
     ensures clause { IfOk result (λ c. j < length (gates_at terms.now term) → option_map (λ v. v.items) c ≡ slice_get (gates_at terms.now term) j) }
 {
     let node = terms.node(term);
-    clause_over(alloc, &node.head, term, node.kids.as_slice(), j)
+    clause_over(alloc, node.head, term, node.kids, j)
 }
 
 /// The same of the term of this head over these arguments, where each equation is of Boolean terms.
 fn clause_over(
     alloc: Global,
-    head: &Head,
+    head: Head<'_>,
     term: TermId,
     kids: &[TermId],
     j: usize,
 ) -> Result<Gate, Memory>
-    ensures clause { IfOk result (λ c. option_map (λ v. v.items) c ≡ slice_get (gates_over term (head_of head.now) kids.now) j) }
+    ensures clause { IfOk result (λ c. option_map (λ v. v.items) c ≡ slice_get (gates_over term (head_of head.entry) kids.now) j) }
 {
     let Head::Operator(operator) = head else {
         return Ok(None);
@@ -90,7 +90,7 @@ fn clause_over(
         Operator::Or => disjunction_clause(alloc, term, kids, j),
         Operator::Xor => exclusion_clause(alloc, term, kids, j),
         Operator::Equal => equality_clause(alloc, term, kids, j),
-        Operator::Ite(sort) => choice_clause(alloc, *sort, term, kids, j),
+        Operator::Ite(sort) => choice_clause(alloc, sort, term, kids, j),
         _ => Ok(None),
     }
 }

@@ -1,9 +1,18 @@
 //! Laws of logs in order, and of clauses by the numbers of terms.
 ghost use Rattle.nz_log.specs.Leveled.{LogsStayLeveled};
+ghost use Rattle.nz_log.specs.Lits.{TellsLits};
 ghost use Rattle.nz_log.specs.Sound.{ClausesAreTrue, GatesAreNamed, LogsStay};
 
 use nz_spec::derivation::{gates_are_true, resolvent_is_true, tells_literals};
 use nz_spec::table::{one_number, term_of_node, term_stays};
+
+/// Two literals are one where the test says so, and say the same in a table just then.
+pub fn tells_lits()
+    ensures tells { TellsLits }
+{
+    tells_literals();
+    one_number();
+}
 
 /// Each clause of a log in order is true under every assignment that makes the assertions live at its level true.
 pub fn clauses_are_true()

@@ -10,6 +10,7 @@ mod log;
 mod marks;
 mod note;
 mod origins;
+mod resolvent;
 mod sets;
 mod steps;
 mod stop;

@@ -1,10 +1,9 @@
 //! The log of clauses.
-ghost use Rattle.std.specs.Prelude.{◌≡◌, ◌≢◌, ℕ, suc, ◌<◌, List, length, option_map, slice_index_or, take, None, All, Some, OnOk, OnErr, IfOk, IsOkAnd, slice_get};
+ghost use Rattle.std.specs.Prelude.{◌≡◌, ◌≢◌, ℕ, suc, ◌<◌, [], List, length, option_map, slice_index_or, take, None, All, Some, OnOk, OnErr, IfOk, IsOkAnd, slice_get};
 ghost use Rattle.nz_spec.specs.Table.{Node, term_in};
 ghost use Rattle.nz_spec.specs.Gates.{HasBooleanArguments};
 ghost use Rattle.nz_log.specs.Lits.{gates_at};
 ghost use Rattle.nz_log.specs.Logs.{Drops, IsLive, Puts, RestsOn, chain_entry, chained, empty_log, entry_at, gate_entry, given_entry, kept_below, level_at, level_of_links, level_with, literals_at, lowest, resolvent_entry, told_below, told_level, told_of};
-ghost use Rattle.nz_log.specs.Marked.{AreNone};
 ghost use Rattle.nz_log.specs.Sound.{IsLog, live_at};
 ghost use Rattle.nz_log.specs.Spelling.{AreStepsOf};
 ghost use Rattle.nz_log.specs.Stored.{entry_of, origin_of};
@@ -12,15 +11,14 @@ ghost use Rattle.nz_log.specs.Theories.{Grows};
 
 use crate::gates::gate_literals;
 use crate::lits::Lit;
-use crate::marks::Marks;
 use crate::origins::{ClauseId, Link, Origin, Stored};
-use crate::sets::{Literals, add_all, resolve_with, set_of, unmark_all};
+use crate::resolvent::Resolvent;
+use crate::sets::{Literals, set_of};
 use crate::steps::{Step, spelled};
 use nz_base::Memory;
 use nz_spec::derivation::tells_literals;
 use nz_spec::table::{one_number, term_of_node};
 use nz_term::{TermId, Terms};
-use smallvec::SmallVec;
 use std::alloc::Global;
 use std::marker::Model;
 use std::mem::replace;
@@ -32,8 +30,8 @@ pub struct Log {
     clauses: Vec<Option<Stored>>,
     // By the numbers of terms.
     told: Vec<Option<usize>>,
-    // For the literals of a chain while it is made. Between calls none is marked.
-    marks: Marks,
+    // Of a chain while it is made. Between calls it has no literals.
+    resolvent: Resolvent,
 }
 
 impl Model for Log {
@@ -41,12 +39,12 @@ impl Model for Log {
 
     ghost Value = { LogState };
 
-    ghost use Rattle.nz_log.specs.Marked.{AreNone};
+    ghost use Rattle.std.specs.Prelude.{◌≡◌, []};
     ghost use Rattle.nz_log.specs.Stored.{log_of};
 
     ghost view = { λ l. log_of l.clauses.items l.told.items };
 
-    ghost invariant = { λ l. IsOrdered (log_of l.clauses.items l.told.items) × AreNone l.marks };
+    ghost invariant = { λ l. IsOrdered (log_of l.clauses.items l.told.items) × (l.resolvent ≡ []) };
 }
 
 impl Log {
@@ -57,7 +55,7 @@ impl Log {
         Ok(Log {
             clauses: Vec::new(alloc),
             told: Vec::new(alloc),
-            marks: Marks::new(alloc),
+            resolvent: Resolvent::new(alloc),
         })
     }
 
@@ -208,30 +206,28 @@ impl Log {
         greatest
     }
 
-    /// The literals of the last clause of a chain. No literal has a mark before, nor after where there is memory.
+    /// The literals of the last clause of a chain, in a resolvent that has none before, nor after where there is memory.
     fn chained(
         &self,
-        marks: &mut Marks,
+        resolvent: &mut Resolvent,
         first: ClauseId,
         links: &[Link],
     ) -> Result<Literals, Memory>
-        requires none { AreNone marks.old }
+        requires empty { resolvent.old ≡ [] }
         requires first { IsLive self.now first }
         requires live { All (λ k. IsLive self.now k.clause) links.now }
         requires some { 0 < length links.now }
         ensures literals { IfOk result (λ c. c.items ≡ chained self.now (literals_at self.now first) links.now) }
-        ensures none { OnOk result (AreNone marks.new) }
+        ensures empty { OnOk result (resolvent.new ≡ []) }
     {
-        let mut literals = SmallVec::new(*self.clauses.allocator());
-        add_all(&mut literals, marks, self.clause(first))?;
+        resolvent.add_all(self.clause(first))?;
         for link in links {
-            resolve_with(&mut literals, marks, link.literal, self.clause(link.clause))?;
+            resolvent.resolve_with(link.literal, self.clause(link.clause))?;
         }
-        unmark_all(marks, literals.as_slice());
-        Ok(literals)
+        resolvent.take()
     }
 
-    /// The literals of the last clause of a chain, by the marks of the log. Where there is no memory it has new ones.
+    /// The literals of the last clause of a chain, in the resolvent of the log. Where there is no memory it has a new one.
     fn last_of_chain(&mut self, first: ClauseId, links: &[Link]) -> Result<Literals, Memory>
         requires first { IsLive self.old first }
         requires live { All (λ k. IsLive self.old k.clause) links.now }
@@ -239,9 +235,12 @@ impl Log {
         ensures literals { IfOk result (λ c. c.items ≡ chained self.old (literals_at self.old first) links.now) }
         ensures unchanged { self.new ≡ self.old }
     {
-        let mut marks = replace(&mut self.marks, Marks::new(*self.clauses.allocator()));
-        let literals = self.chained(&mut marks, first, links)?;
-        self.marks = marks;
+        let mut resolvent = replace(
+            &mut self.resolvent,
+            Resolvent::new(*self.clauses.allocator()),
+        );
+        let literals = self.chained(&mut resolvent, first, links)?;
+        self.resolvent = resolvent;
         Ok(literals)
     }
 

@@ -1,5 +1,5 @@
 //! Marks of literals, by the numbers of their terms.
-ghost use Rattle.std.specs.Prelude.{◌≡◌, ℕ, ◌==◌, not, ◌&&◌, ◌||◌, OnOk};
+ghost use Rattle.std.specs.Prelude.{◌≡◌, ℕ, ◌==◌, not, ◌&&◌, ◌||◌, OnErr, OnOk};
 ghost use Rattle.nz_log.specs.Lits.{are_same_lit};
 ghost use Rattle.nz_log.specs.Marked.{AreNone, has_mark};
 ghost use Rattle.nz_log.specs.Spelling.{is_marked};
@@ -20,7 +20,7 @@ pub struct Marks {
 impl Marks {
     /// None. Takes no memory.
     pub fn new(alloc: Global) -> Marks
-        ensures none { AreNone result }
+        ensures none { AreNone (has_mark result) }
     {
         Marks {
             holds: Vec::new(alloc),
@@ -42,6 +42,7 @@ impl Marks {
     /// Marks a literal.
     pub fn mark(&mut self, literal: Lit) -> Result<(), Memory>
         ensures marked { OnOk result ((l : Lit) → has_mark self.new l ≡ (are_same_lit l literal || has_mark self.old l)) }
+        ensures unchanged { OnErr result ((l : Lit) → has_mark self.new l ≡ has_mark self.old l) }
     {
         if literal.sign {
             mark_at(&mut self.holds, literal.term)
@@ -75,6 +76,7 @@ fn has_at(marks: &[bool], i: usize) -> bool
 /// Marks a number.
 fn mark_at(marks: &mut Vec<bool>, i: usize) -> Result<(), Memory>
     ensures marked { OnOk result ((k : ℕ) → is_marked marks.new.items k ≡ ((k == i) || is_marked marks.old.items k)) }
+    ensures unchanged { OnErr result (marks.new.items ≡ marks.old.items) }
 {
     let Some(count) = i.checked_add(1) else {
         return Err(Memory);

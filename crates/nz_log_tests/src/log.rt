@@ -18,7 +18,7 @@ fn constant(terms: &mut Terms, alloc: Global, name: &[u8]) -> Result<TermId, Mem
         name: Text::from_slice(alloc, name)?,
         sort: Sort::Bool,
     };
-    terms.make(Head::Constant(constant), &[])
+    terms.make(Head::Constant(&constant), &[])
 }
 
 // The negation of a term, which the gate table has.

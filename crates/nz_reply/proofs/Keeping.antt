@@ -7,7 +7,7 @@ use Rattle.nz_spec.specs.Reply as spec
 use Rattle.nz_spec.specs.Reply.{atom_note}
 use Rattle.nz_spec.specs.Work.{WorkLine, UnitLine, NoteLine, WorkList}
 use Rattle.nz_spec.specs.Transcript as transcript
-use Rattle.nz_sexpr.specs.View.{heard_view}
+use Rattle.nz_sexpr.specs.Packed.{packed_heard_view}
 use Rattle.nz_log.specs.declared.note.Note.{Note}
 use Rattle.nz_log.specs.declared.note.Note.TheVariants.{Atom}
 use Rattle.nz_reply.specs.declared.reply.Cause.{Cause}
@@ -31,11 +31,11 @@ module _ (stays : TermStays) (ns more : List Node) where
 
   cause_within : (c : Cause) → IsCauseWithin ns c → IsCauseWithin (ns ++ more) c
   cause_within cause.Plain h = tt
-  cause_within (cause.Spent list) h = notes_within list.work h
+  cause_within (cause.Spent list) h = notes_within list.value.work h
 
   cause_stays : (c : Cause) → IsCauseWithin ns c → cause_of (ns ++ more) c ≡ cause_of ns c
   cause_stays cause.Plain h = refl
-  cause_stays (cause.Spent list) h = ap (λ ls. let w : WorkList spec.Note = record { lines = ls; limit = list.limit } in spec.spent w) (notes_stay list.work h)
+  cause_stays (cause.Spent list) h = ap (λ ls. let w : WorkList spec.Note = record { lines = ls; limit = list.value.limit } in spec.spent w) (notes_stay list.value.work h)
 
   all_within : (ks : List Kept) → AreKeptWithin ns ks → AreKeptWithin (ns ++ more) ks
   all_within [] h = tt
@@ -43,7 +43,7 @@ module _ (stays : TermStays) (ns more : List Node) where
 
   one_stays : (k : Kept) → IsCauseWithin ns k.cause → kept_of (ns ++ more) k ≡ kept_of ns k
   one_stays k h =
-      let heard = heard_view k.heard in
+      let heard = packed_heard_view k.heard in
       ap (λ c. let r : transcript.Kept = record { heard = heard; reply = reply_of heard.what k.reply; cause = c } in r) (cause_stays k.cause h)
 
   all_stay : (ks : List Kept) → AreKeptWithin ns ks → all_kept (ns ++ more) ks ≡ all_kept ns ks

@@ -7,7 +7,7 @@ use Rattle.nz_spec.specs.Transcript as transcript
 use Rattle.nz_spec.specs.Table.{Node}
 use Rattle.nz_spec.specs.Work.{WorkList}
 use Rattle.nz_base.specs.Errors.{error_of}
-use Rattle.nz_sexpr.specs.View.{heard_view}
+use Rattle.nz_sexpr.specs.Packed.{packed_heard_view}
 use Rattle.nz_reply.specs.Infos.{info_of}
 use Rattle.nz_log.specs.Notes.{noted_line, AreNotedWithin}
 use Rattle.nz_reply.specs.Reasons.{reason_of}
@@ -23,10 +23,10 @@ use Rattle.nz_reply.specs.declared.reply.SpentList.{SpentList}
 abbrev pub reply_of : script.What → Reply → spec.Reply
 reply_of what reply.Quiet = spec.quiet
 reply_of what reply.Success = spec.success
-reply_of what (reply.Sat bindings) = spec.sat bindings
+reply_of what (reply.Sat bindings) = spec.sat bindings.value
 reply_of what reply.Unsat = spec.unsat
 reply_of what (reply.Unknown reason) = spec.unknown (reason_of reason)
-reply_of what (reply.Model bindings) = spec.model bindings
+reply_of what (reply.Model bindings) = spec.model bindings.value
 reply_of what (reply.Values shows) = spec.values (with_shown (asked_trees what) shows)
 reply_of what (reply.Info info) = spec.info (info_of info)
 reply_of what (reply.Levels count) = spec.levels count
@@ -41,10 +41,10 @@ spent_of ns s = record { lines = map (noted_line ns) s.work; limit = s.limit }
 -- what a cause is, where its numbers are those of a table
 abbrev pub cause_of : List Node → Cause → spec.Cause
 cause_of ns cause.Plain = spec.plain
-cause_of ns (cause.Spent list) = spec.spent (spent_of ns list)
+cause_of ns (cause.Spent list) = spec.spent (spent_of ns list.value)
 
 abbrev pub kept_of : List Node → Kept → transcript.Kept
-kept_of ns k = let heard = heard_view k.heard in record { heard = heard; reply = reply_of heard.what k.reply; cause = cause_of ns k.cause }
+kept_of ns k = let heard = packed_heard_view k.heard in record { heard = heard; reply = reply_of heard.what k.reply; cause = cause_of ns k.cause }
 
 abbrev pub all_kept : List Node → List Kept → List transcript.Kept
 all_kept ns ks = map (kept_of ns) ks
@@ -54,7 +54,7 @@ all_kept ns ks = map (kept_of ns) ks
 -- a cause names terms of the table alone
 abbrev pub IsCauseWithin : List Node → Cause → Type 0
 IsCauseWithin ns cause.Plain = ⊤
-IsCauseWithin ns (cause.Spent list) = AreNotedWithin ns list.work
+IsCauseWithin ns (cause.Spent list) = AreNotedWithin ns list.value.work
 
 -- so does that of each thing kept
 abbrev pub AreKeptWithin : List Node → List Kept → Type 0

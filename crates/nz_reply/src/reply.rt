@@ -8,11 +8,12 @@ ghost use Rattle.nz_term.specs.Values.{value_of};
 use nz_base::{Error, Lines, Memory};
 use nz_frac::Wide;
 use nz_log::Note;
-use nz_sexpr::Heard;
+use nz_sexpr::PackedHeard;
 use nz_spec::table::term_stays;
 use nz_term::{Constant, Sort, Value};
 use std::alloc::Global;
 use std::marker::Model;
+use std::rc::Rc;
 
 /// What a constant stands for in a model.
 #[derive(Debug, Drop)]
@@ -80,21 +81,6 @@ impl Bindings {
         ensures entries { map binding_of result.now ≡ self.now }
     {
         self.bindings.as_slice()
-    }
-
-    /// The same bindings once more.
-    pub fn copy(&self, alloc: Global) -> Result<Bindings, Memory>
-        ensures same { IfOk result (λ copy. copy ≡ self.now) }
-    {
-        let mut bindings = Vec::with_capacity(alloc, self.len())?;
-        for binding in &self.bindings {
-            let constant = binding.constant.clone()?;
-            bindings.push(Binding {
-                constant,
-                value: binding.value,
-            })?;
-        }
-        Ok(Bindings { bindings })
     }
 }
 
@@ -183,13 +169,13 @@ pub enum Reply {
     Quiet,
     /// The command was carried out, and has nothing else to tell.
     Success,
-    /// With the model that was found.
-    Sat(Bindings),
+    /// With the model that was found. Its list is shared with the last answer, and with each reply that shows it.
+    Sat(Rc<Bindings>),
     Unsat,
     /// And why.
     Unknown(Reason),
     /// The model of the last answer.
-    Model(Bindings),
+    Model(Rc<Bindings>),
     /// The values of the terms that the command asks for. The terms themselves stand in the command, which is kept
     /// beside the reply.
     Values(Shows),
@@ -217,13 +203,14 @@ pub struct SpentList {
 #[derive(Debug, Drop)]
 pub enum Cause {
     Plain,
-    Spent(SpentList),
+    /// In a box, since few entries have one, and each would be as large as it.
+    Spent(Box<SpentList>),
 }
 
-/// A thing heard, its reply, and the reply's cause.
+/// A thing heard, packed, its reply, and the reply's cause.
 #[derive(Debug, Drop)]
 pub struct Kept {
-    pub heard: Heard,
+    pub heard: PackedHeard,
     pub reply: Reply,
     pub cause: Cause,
 }

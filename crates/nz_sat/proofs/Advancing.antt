@@ -1,18 +1,20 @@
 -- What the steps of a search keep, one after another.
-use Rattle.std.proofs.Common.{ℕ, List, [], ◌++◌, get_or, Option, Some, None, refl, sym, ap, subst, ◌∙◌, append_assoc}
+use Rattle.std.proofs.Common.{◌≡◌, ℕ, List, [], ◌++◌, get_or, Option, Some, None, refl, sym, ap, subst, ◌∙◌, append_assoc}
 use Rattle.std.specs.Prelude.{All, IsSome}
+use Rattle.std.specs.declared.result.Result.{Result}
 use Rattle.std.proofs.lemmas.List.{append-nil}
 use Rattle.nz_spec.specs.Table.{Node}
 use Rattle.nz_spec.specs.Work.{WorkList}
 use Rattle.nz_log.specs.declared.lits.Lit.{Lit}
 use Rattle.nz_log.specs.declared.note.Note.{Note}
+use Rattle.nz_log.specs.declared.stop.Stop.{Stop}
 use Rattle.nz_log.specs.Logs.{Entry, LogState}
 use Rattle.nz_sat.specs.declared.clauses.Held.{Held}
 use Rattle.nz_sat.specs.declared.trail.Assigned.{Assigned}
 use Rattle.nz_sat.specs.Clauses.{IsAssumed}
 use Rattle.nz_log.specs.Theories.{Grows}
 use Rattle.nz_sat.specs.Sats.{AreHeld}
-use Rattle.nz_sat.specs.Searching.{Advances, StaysInOrder}
+use Rattle.nz_sat.specs.Searching.{Advances, StaysInOrder, Steps}
 
 -- ---- Logs that grow
 
@@ -90,3 +92,18 @@ far_advances over over' keeps atoms es es' a b c h h' h'' w w' w'' only p q =
       notes = q.notes ∙ p.notes;
       limit = q.limit ∙ p.limit;
     }
+
+-- what was kept before a step
+pub steps_behind : {over over' over'' : List Node → Type 0} → {has_told : List Lit → Type 0} → {is_feasible : Type 0} → {atoms atoms' : List ℕ} → {es es₁ es' : List Assigned}
+    → {log log₁ log' : LogState} → {held held₁ held' : List Held} → {work work₁ work' : WorkList Note} → {answer : Result (Option ℕ) Stop}
+    → Advances over atoms es log log' held held' work work' → ((ns : List Node) → over ns → over' ns)
+    → Steps over' over'' has_told is_feasible atoms' es₁ es' log₁ log' held₁ held' work₁ work' answer
+    → Steps over over'' has_told is_feasible atoms es es' log log' held held' work work' answer
+steps_behind advances keeps step =
+    record { advances = advances; known = λ ns over. step.known ns (keeps ns over); told = step.told; met = step.met; spent = step.spent }
+
+pub steps_same : {over over' : List Node → Type 0} → {has_told : List Lit → Type 0} → {is_feasible : Type 0} → {atoms : List ℕ} → {es es' : List Assigned} → {log log' : LogState}
+    → {held held' : List Held} → {work work' : WorkList Note} → {answer other : Result (Option ℕ) Stop} → answer ≡ other
+    → Steps over over' has_told is_feasible atoms es es' log log' held held' work work' answer → Steps over over' has_told is_feasible atoms es es' log log' held held' work work' other
+steps_same {over} {over'} {has_told} {is_feasible} {atoms} {es} {es'} {log} {log'} {held} {held'} {work} {work'} same step =
+    subst (Steps over over' has_told is_feasible atoms es es' log log' held held' work work') same step

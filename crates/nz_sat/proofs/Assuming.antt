@@ -7,16 +7,16 @@ use Rattle.std.proofs.lemmas.List.Elements.{All-contains, All-push}
 use Rattle.std.proofs.lemmas.List.Sums.{get_or-le-sum_by, sum_by_push}
 use Rattle.std.proofs.lemmas.Option.{IfSome_then, get_or_from_slice_get, slice_get_within}
 use Rattle.nz_log.specs.declared.lits.Lit.{Lit}
-use Rattle.nz_log.specs.Lits.{are_same_lit, negated_lit}
+use Rattle.nz_log.specs.Lits.{TellsLits, are_same_lit, negated_lit}
 use Rattle.nz_log.specs.Logs.{LogState, literals_at}
 use Rattle.nz_sat.specs.declared.clauses.Held.{Held}
 use Rattle.nz_sat.specs.declared.search.Search.{Search}
 use Rattle.nz_sat.specs.declared.trail.Assigned.{Assigned}
 use Rattle.nz_sat.specs.Trails.{EachBehind, GoesOn, IsFalseOn, IsTrail, IsTrueOn, TrailState, assigned, depth, is_decision, with_entry}
-use Rattle.nz_sat.specs.Clauses.{HasReasonOf, IsAssumed, IsDead, IsImplied, IsOpen, IsReason, IsReasonOf, Waits}
-use Rattle.nz_sat.specs.Conflicts.{IsDeadUnder}
+use Rattle.nz_sat.specs.Clauses.{HasReasonOf, IsAssumed, IsFalsified, IsImplied, IsOpen, IsReason, IsReasonOf, Waits}
+use Rattle.nz_sat.specs.Conflicts.{IsFalsifiedUnder}
 use Rattle.nz_sat.specs.Searching.{AreOpen, Assumes, IsSearch, MayAssume, ids}
-use Rattle.nz_sat.proofs.Clausal.{either_sign, open_grows, other_lit, same_lit, sign_again, truth_found}
+use Rattle.nz_sat.proofs.Clausal.{either_sign, open_grows, other_lit, sign_again, truth_found}
 use Rattle.nz_sat.proofs.Chains.{has_found}
 use Rattle.nz_sat.proofs.Keeping.{goes_assumed, goes_search, goes_true, held_live}
 use Rattle.nz_sat.proofs.Visiting.{goes_depth}
@@ -55,7 +55,7 @@ module _ (log : LogState) (held : List Held) (assumed : List Lit) (l : Lit) (s :
         kept = λ m h. h;
         holds = λ told. ap (option_map (λ (x : Assigned). x.literal.sign)) at ∙ ap (λ (m : Lit). Some m.sign) same;
         all_open = λ told. may.all_open;
-        dead = tt;
+        falsified = tt;
       }
 
   opposite : (e : Assigned) → assigned s.trail.entries l.term ≡ Some e → e.literal ≢ l → e.literal ≡ negated_lit l
@@ -71,19 +71,19 @@ module _ (log : LogState) (held : List Held) (assumed : List Lit) (l : Lit) (s :
       subst (λ (xs : List Assigned). IsFalseOn xs m) (take-append-drop i s.trail.entries)
       (truth_found (take i s.trail.entries) (drop i s.trail.entries) m.term (not m.sign) h)
 
-  reason_dead : (i : ℕ) (e : Assigned) (c : ℕ) → e.literal ≡ negated_lit l → IsReason log (take i s.trail.entries) e.literal c
-      → IsDeadUnder assumed s.trail.entries (literals_at log c)
-  reason_dead i e c turned reason m has =
+  reason_falsified : TellsLits → (i : ℕ) (e : Assigned) (c : ℕ) → e.literal ≡ negated_lit l → IsReason log (take i s.trail.entries) e.literal c
+      → IsFalsifiedUnder assumed s.trail.entries (literals_at log c)
+  reason_falsified tells i e c turned reason m has =
       elim (are_same_lit m e.literal) as (λ b. are_same_lit m e.literal ≡ b → IsFalseOn s.trail.entries m ⊎ Contains assumed (negated_lit m)) [
         | true ↦ λ same.
             let back : negated_lit m ≡ l =
-            ap negated_lit (same_lit m e.literal same ∙ turned) ∙ (λ i. record { term = l.term; sign = sign_again l.sign i }) in
+            ap negated_lit (tells.same m e.literal same ∙ turned) ∙ (λ i. record { term = l.term; sign = sign_again l.sign i }) in
             inr (subst (Contains assumed) (sym back) may.among)
-        | false ↦ λ differ. inl (false_later i m (reason.others m has (other_lit m e.literal differ)))
+        | false ↦ λ differ. inl (false_later i m (reason.others m has (other_lit tells m e.literal differ)))
       ] refl
 
-  pub assume_fails : (e : Assigned) → assigned s.trail.entries l.term ≡ Some e → e.literal ≢ l → Assumes log held assumed l s.trail.entries s e.reason
-  assume_fails e at other =
+  pub assume_fails : TellsLits → (e : Assigned) → assigned s.trail.entries l.term ≡ Some e → e.literal ≢ l → Assumes log held assumed l s.trail.entries s e.reason
+  assume_fails tells e at other =
       let es = s.trail.entries in
       let turned = opposite e at other in
       let place = (assigned_place es l.term e at).1 in
@@ -101,7 +101,7 @@ module _ (log : LogState) (held : List Held) (assumed : List Lit) (l : Lit) (s :
               kept = λ m h. h;
               holds = λ told. cc;
               all_open = λ told. cc;
-              dead = (reason.live, reason_dead place.0 e c turned reason);
+              falsified = (reason.live, reason_falsified tells place.0 e c turned reason);
             }
       ] refl caused
 
@@ -142,9 +142,9 @@ module _ (log : LogState) (held : List Held) (assumed : List Lit) (l : Lit) (s :
         (All-contains (λ (j : ℕ). IsOpen s.trail.entries (literals_at log j)) (ids held) i may.all_open has)
 
     pub assume_goes : (told : Option ℕ) → IsTrail t → EachBehind (IsImplied log) t.entries → All (HasReasonOf (ids held)) t.entries → (told ≡ None → AreOpen log held t.entries)
-        → IfSome told (λ id. Contains (ids held) id × IsDead t.entries (literals_at log id))
+        → IfSome told (λ id. Contains (ids held) id × IsFalsified t.entries (literals_at log id))
         → Assumes log held assumed l s.trail.entries (record s { trail = t }) told
-    assume_goes told order implied reasons all_open dead =
+    assume_goes told order implied reasons all_open falsified =
         record {
           search = goes_search log held (record s { trail = with_entry s.trail entry }) t put_search size order goes implied reasons;
           assumed_only = goes_assumed (s.trail.entries ++ entry ∷ []) t.entries assumed goes
@@ -153,5 +153,5 @@ module _ (log : LogState) (held : List Held) (assumed : List Lit) (l : Lit) (s :
           kept = λ m h. goes_true (s.trail.entries ++ entry ∷ []) t.entries goes m (truth_found s.trail.entries (entry ∷ []) m.term m.sign h);
           holds = λ none. goes_true (s.trail.entries ++ entry ∷ []) t.entries goes l put_true;
           all_open = all_open;
-          dead = IfSome_then told dead (λ id q. (held_live log held may.search.are_held id q.0, λ m has. inl (q.1 m has)));
+          falsified = IfSome_then told falsified (λ id q. (held_live log held may.search.are_held id q.0, λ m has. inl (q.1 m has)));
         }

@@ -19,17 +19,17 @@ use Rattle.nz_sat.proofs.Trailing.{assigned_at, assigned_found, assigned_missing
 -- ---- False literals
 
 false_more : (front more : List Assigned) (l : Lit) → IsFalseOn front l → IsFalseOn (front ++ more) l
-false_more front more l dead =
-    let e = false_entry front l dead in
+false_more front more l falsified =
+    let e = false_entry front l falsified in
     ap (option_map (λ (x : Assigned). x.literal.sign)) (assigned_found front more l.term e.0 e.1) ∙ ap Some e.2
 
 pub false_whole : (es : List Assigned) (n : ℕ) (l : Lit) → IsFalseOn (take n es) l → IsFalseOn es l
-false_whole es n l dead = subst (λ (front : List Assigned). IsFalseOn front l) (take-append-drop n es) (false_more (take n es) (drop n es) l dead)
+false_whole es n l falsified = subst (λ (front : List Assigned). IsFalseOn front l) (take-append-drop n es) (false_more (take n es) (drop n es) l falsified)
 
 -- with one entry more, its negation is false too
 false_push : (front : List Assigned) (e : Assigned) (m : Lit) → IsFalseOn (front ++ e ∷ []) m → (m ≡ negated_lit e.literal) ⊎ IsFalseOn front m
-false_push front e m dead =
-    let x = false_entry (front ++ e ∷ []) m dead in
+false_push front e m falsified =
+    let x = false_entry (front ++ e ∷ []) m falsified in
     elim (assigned front m.term) as (λ o. assigned front m.term ≡ o → (m ≡ negated_lit e.literal) ⊎ IsFalseOn front m) [
       | None ↦ λ none.
           let one = one_found e m.term x.0 (sym (assigned_missing front (e ∷ []) m.term none) ∙ x.1) in
@@ -67,17 +67,17 @@ module _ (size : ℕ) (es : List Assigned) (order : EachBehind (IsNext size) es)
   its_entry = assigned_at es i e at fresh
 
   pub false_cases : (m : Lit) → IsFalseOn (take n es) m → (m ≡ negated_lit e.literal) ⊎ IsFalseOn (take i es) m
-  false_cases m dead = false_push (take i es) e m (subst (λ (front : List Assigned). IsFalseOn front m) front_is dead)
+  false_cases m falsified = false_push (take i es) e m (subst (λ (front : List Assigned). IsFalseOn front m) front_is falsified)
 
   -- its literal isn't false, and those false before are of other terms
   pub not_false : IsFalseOn es e.literal → ⊥
-  not_false dead =
+  not_false falsified =
       not_itself e.literal.sign
-      (same_Some e.literal.sign (not e.literal.sign) (sym (ap (option_map (λ (x : Assigned). x.literal.sign)) its_entry) ∙ dead))
+      (same_Some e.literal.sign (not e.literal.sign) (sym (ap (option_map (λ (x : Assigned). x.literal.sign)) its_entry) ∙ falsified))
 
   pub apart : (m : Lit) → IsFalseOn (take i es) m → m.term ≢ e.literal.term
-  apart m dead same =
-      let x = false_entry (take i es) m dead in
+  apart m falsified same =
+      let x = false_entry (take i es) m falsified in
       let clash : None ≡ Some x.0 = sym fresh ∙ ap (assigned (take i es)) (sym same) ∙ x.1 in
       cc
 

@@ -11,9 +11,8 @@ use Rattle.nz_lists.proofs.Places.{slice_get-push_cases}
 use Rattle.nz_spec.specs.Literal.{with_one, once, without, StandOnce}
 use Rattle.nz_log.specs.declared.lits.Lit.{Lit}
 use Rattle.nz_log.specs.declared.origins.Link.{Link}
-use Rattle.nz_log.specs.Lits.{negated_lit, are_same_lit, lit_resolvent}
+use Rattle.nz_log.specs.Lits.{TellsLits, negated_lit, are_same_lit, lit_resolvent}
 use Rattle.nz_log.specs.Logs.{LogState, chained, literals_at}
-use Rattle.nz_sat.proofs.Clausal.{lit_same, same_lit}
 
 -- ---- Elements of lists
 
@@ -158,39 +157,40 @@ not_true : (b : Bool) → (b ≡ true → ⊥) → not b ≡ true
 not_true true f = absurd (f refl)
 not_true false f = refl
 
-other_lit : (l m : Lit) → l ≢ m → not (are_same_lit l m) ≡ true
-other_lit l m f = not_true (are_same_lit l m) (λ e. f (same_lit l m e))
-
-differ_lit : (l m : Lit) → not (are_same_lit l m) ≡ true → l ≢ m
-differ_lit l m e is = true≢false (sym e ∙ ap not (ap (are_same_lit l) (sym is) ∙ lit_same l))
-
 pub twice_negated : (l : Lit) → negated_lit (negated_lit l) ≡ l
 twice_negated l = ap (λ (b : Bool). record { term = l.term; sign = b }) (not-not l.sign)
 
 -- ---- Resolvents
 
-pub resolvent_first : (l : Lit) (c d : List Lit) (m : Lit) → Contains c m → l ≢ m → Contains (lit_resolvent l c d) m
-resolvent_first l c d m h other =
-    once_has are_same_lit same_lit lit_same (without are_same_lit l c ++ without are_same_lit (negated_lit l) d) m
-    (Contains-append_left (without are_same_lit l c) (without are_same_lit (negated_lit l) d) m
-    (filter_has (λ k. not (are_same_lit l k)) c m h (other_lit l m other)))
+module _ (tells : TellsLits) where
+  other_lit : (l m : Lit) → l ≢ m → not (are_same_lit l m) ≡ true
+  other_lit l m f = not_true (are_same_lit l m) (λ e. f (tells.same l m e))
 
-pub resolvent_second : (l : Lit) (c d : List Lit) (m : Lit) → Contains d m → negated_lit l ≢ m → Contains (lit_resolvent l c d) m
-resolvent_second l c d m h other =
-    once_has are_same_lit same_lit lit_same (without are_same_lit l c ++ without are_same_lit (negated_lit l) d) m
-    (Contains-append_right (without are_same_lit l c) (without are_same_lit (negated_lit l) d) m
-    (filter_has (λ k. not (are_same_lit (negated_lit l) k)) d m h (other_lit (negated_lit l) m other)))
+  differ_lit : (l m : Lit) → not (are_same_lit l m) ≡ true → l ≢ m
+  differ_lit l m e is = true≢false (sym e ∙ ap not (ap (are_same_lit l) (sym is) ∙ tells.one l))
 
-pub resolvent_from : (l : Lit) (c d : List Lit) (m : Lit) → Contains (lit_resolvent l c d) m → (Contains c m × (l ≢ m)) ⊎ (Contains d m × (negated_lit l ≢ m))
-resolvent_from l c d m h =
-    let parts = once_from are_same_lit same_lit lit_same (without are_same_lit l c ++ without are_same_lit (negated_lit l) d) m h in
-    elim (Contains-append_cases (without are_same_lit l c) (without are_same_lit (negated_lit l) d) m parts) [
-      | inl first ↦ let f = filter_from (λ k. not (are_same_lit l k)) c m first in inl (f.0, differ_lit l m f.1)
-      | inr second ↦ let f = filter_from (λ k. not (are_same_lit (negated_lit l) k)) d m second in inr (f.0, differ_lit (negated_lit l) m f.1)
-    ]
+  pub resolvent_first : (l : Lit) (c d : List Lit) (m : Lit) → Contains c m → l ≢ m → Contains (lit_resolvent l c d) m
+  resolvent_first l c d m h other =
+      once_has are_same_lit tells.same tells.one (without are_same_lit l c ++ without are_same_lit (negated_lit l) d) m
+      (Contains-append_left (without are_same_lit l c) (without are_same_lit (negated_lit l) d) m
+      (filter_has (λ k. not (are_same_lit l k)) c m h (other_lit l m other)))
 
-resolvent_once : (l : Lit) (c d : List Lit) → StandOnce (lit_resolvent l c d)
-resolvent_once l c d = once_once are_same_lit same_lit lit_same (without are_same_lit l c ++ without are_same_lit (negated_lit l) d)
+  pub resolvent_second : (l : Lit) (c d : List Lit) (m : Lit) → Contains d m → negated_lit l ≢ m → Contains (lit_resolvent l c d) m
+  resolvent_second l c d m h other =
+      once_has are_same_lit tells.same tells.one (without are_same_lit l c ++ without are_same_lit (negated_lit l) d) m
+      (Contains-append_right (without are_same_lit l c) (without are_same_lit (negated_lit l) d) m
+      (filter_has (λ k. not (are_same_lit (negated_lit l) k)) d m h (other_lit (negated_lit l) m other)))
+
+  pub resolvent_from : (l : Lit) (c d : List Lit) (m : Lit) → Contains (lit_resolvent l c d) m → (Contains c m × (l ≢ m)) ⊎ (Contains d m × (negated_lit l ≢ m))
+  resolvent_from l c d m h =
+      let parts = once_from are_same_lit tells.same tells.one (without are_same_lit l c ++ without are_same_lit (negated_lit l) d) m h in
+      elim (Contains-append_cases (without are_same_lit l c) (without are_same_lit (negated_lit l) d) m parts) [
+        | inl first ↦ let f = filter_from (λ k. not (are_same_lit l k)) c m first in inl (f.0, differ_lit l m f.1)
+        | inr second ↦ let f = filter_from (λ k. not (are_same_lit (negated_lit l) k)) d m second in inr (f.0, differ_lit (negated_lit l) m f.1)
+      ]
+
+  resolvent_once : (l : Lit) (c d : List Lit) → StandOnce (lit_resolvent l c d)
+  resolvent_once l c d = once_once are_same_lit tells.same tells.one (without are_same_lit l c ++ without are_same_lit (negated_lit l) d)
 
 -- ---- Chains
 
@@ -198,13 +198,14 @@ resolvent_once l c d = once_once are_same_lit same_lit lit_same (without are_sam
 pub chained_more : (s : LogState) (c : List Lit) (ks : List Link) (k : Link) → chained s c (ks ++ k ∷ []) ≡ lit_resolvent k.literal (chained s c ks) (literals_at s k.clause)
 chained_more s c ks k = fold-append (λ (d : List Lit) (n : Link). lit_resolvent n.literal d (literals_at s n.clause)) c ks (k ∷ [])
 
-chained_kept : (s : LogState) (c : List Lit) (ks : List Link) → StandOnce c → StandOnce (chained s c ks)
-chained_kept s c [] h = h
-chained_kept s c (k ∷ ks) h =
-    chained_kept s (lit_resolvent k.literal c (literals_at s k.clause)) ks (resolvent_once k.literal c (literals_at s k.clause))
+module _ (tells : TellsLits) where
+  chained_kept : (s : LogState) (c : List Lit) (ks : List Link) → StandOnce c → StandOnce (chained s c ks)
+  chained_kept s c [] h = h
+  chained_kept s c (k ∷ ks) h =
+      chained_kept s (lit_resolvent k.literal c (literals_at s k.clause)) ks (resolvent_once tells k.literal c (literals_at s k.clause))
 
--- where there is a link, each literal stands once
-pub chained_once : (s : LogState) (c : List Lit) (ks : List Link) → 0 < length ks → StandOnce (chained s c ks)
-chained_once s c [] h = absurd (omega arith)
-chained_once s c (k ∷ ks) h =
-    chained_kept s (lit_resolvent k.literal c (literals_at s k.clause)) ks (resolvent_once k.literal c (literals_at s k.clause))
+  -- where there is a link, each literal stands once
+  pub chained_once : (s : LogState) (c : List Lit) (ks : List Link) → 0 < length ks → StandOnce (chained s c ks)
+  chained_once s c [] h = absurd (omega arith)
+  chained_once s c (k ∷ ks) h =
+      chained_kept s (lit_resolvent k.literal c (literals_at s k.clause)) ks (resolvent_once tells k.literal c (literals_at s k.clause))

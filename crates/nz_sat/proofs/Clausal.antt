@@ -1,27 +1,16 @@
 -- Clauses under a trail that grows: what is true stays so, and what is open is open or still to be looked at.
-use Rattle.std.proofs.Common.{◌≡◌, ◌≢◌, ℕ, suc, ◌+◌, ◌≤◌, ◌==◌, ◌&&◌, Bool, true, false, not, List, [], ◌∷◌, ◌++◌, length, Some, None, ◌⊎◌, inl, inr, refl, sym, ap, subst, ◌∙◌, arith, eqb-true}
+use Rattle.std.proofs.Common.{◌≡◌, ◌≢◌, ℕ, suc, ◌+◌, ◌≤◌, Bool, true, false, not, List, [], ◌∷◌, ◌++◌, length, Some, None, ◌⊎◌, inl, inr, refl, sym, ap, subst, ◌∙◌, arith}
 use Rattle.std.specs.Prelude.{Contains, slice_get, option_map}
-use Rattle.std.proofs.lemmas.Bool.{eq-eqb, and_parts}
 use Rattle.std.proofs.lemmas.Option.{same_Some}
-use Rattle.nz_spec.specs.Literal.{are_same_sign}
 use Rattle.nz_lists.proofs.Places.{slice_get_kept}
 use Rattle.nz_log.specs.declared.lits.Lit.{Lit}
-use Rattle.nz_log.specs.Lits.{are_same_lit, negated_lit}
+use Rattle.nz_log.specs.Lits.{TellsLits, are_same_lit, negated_lit}
 use Rattle.nz_sat.specs.declared.trail.Assigned.{Assigned}
 use Rattle.nz_sat.specs.Trails.{IsFreeOn, assigned, truth_on}
 use Rattle.nz_sat.specs.Clauses.{IsOpen, by_true, by_two, Waits}
 use Rattle.nz_sat.proofs.Trailing.{assigned_found, assigned_missing, assigned_place}
 
 -- ---- Literals
-
-pub same_sign : (p q : Bool) → are_same_sign p q ≡ true → p ≡ q
-same_sign true q e = sym e
-same_sign false true e = cc
-same_sign false false e = refl
-
-pub sign_same : (p : Bool) → are_same_sign p p ≡ true
-sign_same true = refl
-sign_same false = refl
 
 pub either_sign : (p q : Bool) → (p ≡ q) ⊎ (p ≡ not q)
 either_sign true true = inl refl
@@ -33,19 +22,10 @@ pub sign_again : (p : Bool) → not (not p) ≡ p
 sign_again true = refl
 sign_again false = refl
 
-pub same_lit : (l m : Lit) → are_same_lit l m ≡ true → l ≡ m
-same_lit l m e =
-    let parts = and_parts (l.term == m.term) (are_same_sign l.sign m.sign) e in
-    let term : l.term ≡ m.term = eqb-true l.term m.term parts.0 in
-    let sign : l.sign ≡ m.sign = same_sign l.sign m.sign parts.1 in
-    λ i. record { term = term i; sign = sign i }
-
-pub lit_same : (l : Lit) → are_same_lit l l ≡ true
-lit_same l = ap (λ (b : Bool). b && are_same_sign l.sign l.sign) (eq-eqb l.term l.term refl) ∙ sign_same l.sign
-
-pub other_lit : (l m : Lit) → are_same_lit l m ≡ false → l ≢ m
-other_lit l m e same =
-    let one : are_same_lit l m ≡ true = ap (are_same_lit l) (sym same) ∙ lit_same l in
+-- the test tells that two are others
+pub other_lit : TellsLits → (l m : Lit) → are_same_lit l m ≡ false → l ≢ m
+other_lit tells l m e same =
+    let one : are_same_lit l m ≡ true = ap (are_same_lit l) (sym same) ∙ tells.one l in
     cc
 
 -- ---- Truths

@@ -1,5 +1,5 @@
 -- What a search knows after the theory was asked.
-use Rattle.std.proofs.Common.{◌≡◌, ℕ, ◌<◌, List, [], length, get_or, inl, inr, Option, None, Some, refl, sym, ap, subst, ◌∙◌, arith}
+use Rattle.std.proofs.Common.{◌≡◌, ℕ, ◌<◌, List, [], length, get_or, inl, inr, Option, None, Some, Ok, refl, sym, ap, subst, ◌∙◌, arith}
 use Rattle.std.specs.Prelude.{IfOk, IfSome}
 use Rattle.std.specs.declared.result.Result.{Result}
 use Rattle.std.proofs.lemmas.List.{append-nil}
@@ -10,48 +10,49 @@ use Rattle.nz_spec.specs.Table.{Node}
 use Rattle.nz_spec.specs.Work.{WorkList}
 use Rattle.nz_log.specs.declared.lits.Lit.{Lit}
 use Rattle.nz_log.specs.declared.note.Note.{Note}
+use Rattle.nz_log.specs.declared.stop.Stop.{Stop}
 use Rattle.nz_log.specs.Logs.{LogState, literals_at}
 use Rattle.nz_log.specs.Theories.{AddsUnits, Grows, IsClash}
 use Rattle.nz_sat.specs.declared.clauses.Held.{Held}
 use Rattle.nz_sat.specs.declared.search.Search.{Search}
 use Rattle.nz_sat.specs.declared.trail.Assigned.{Assigned}
-use Rattle.nz_sat.specs.Conflicts.{GoesBackTo, HasLast, IsDeadUnder, StaysSound}
+use Rattle.nz_sat.specs.Conflicts.{GoesBackTo, HasLast, IsFalsifiedUnder, StaysSound}
 use Rattle.nz_sat.specs.Sats.{IsLegalWork}
-use Rattle.nz_sat.specs.Searching.{Advances, Carries, ComesTo, Follows, IsConflict, IsNoted, IsSearch, Learned, MayFollow, OpenOrConflict, OpenOrDead, Settles, StaysInOrder, Turns, TurnsOn, WasNoted, WereOpen}
+use Rattle.nz_sat.specs.Searching.{Advances, Carries, ComesTo, Follows, IsConflict, IsNoted, IsSearch, Learns, MayFollow, OpenOrConflict, OpenOrFalsified, Settles, StaysInOrder, Steps, Turns, TurnsOn, WasNoted, WereOpen}
 use Rattle.nz_sat.specs.Theories.{IsMet, IsTold, StaysSoundOver}
 use Rattle.nz_sat.specs.Trails.{GoesOn, IsTrueOn, below, depth, literals_on}
-use Rattle.nz_sat.proofs.Advancing.{far_advances, held_on, log_advances}
+use Rattle.nz_sat.proofs.Advancing.{far_advances, held_on, log_advances, steps_behind}
 use Rattle.nz_sat.proofs.Following.{carries_far, goes_first, goes_noted, stays_in_order}
 use Rattle.nz_sat.proofs.Keeping.{goes_assumed, held_live}
 use Rattle.nz_sat.proofs.Levels.{below_twice}
 use Rattle.nz_sat.proofs.Returning.{cut_assumed, cut_conflict, cut_front, cut_last, cut_search, cut_were, grown_noted, grown_open, grown_search, grown_were, units_limit, units_more, units_noted, units_told}
-use Rattle.nz_sat.proofs.Telling.{clash_dead, told_on}
+use Rattle.nz_sat.proofs.Telling.{clash_falsified, told_on}
 
 -- ---- One look for a conflict
 
 pub goes_told : (has_told : List Lit → Type 0) (es es' : List Assigned) → GoesOn es es' → IsTold has_told es → IsTold has_told es'
 goes_told has_told es es' g t = told_on has_told es es' (record { more = g.more; joined = g.joined }) t
 
-dead_conflict : (log : LogState) (held : List Held) (s : Search) (es : List Assigned) (told : Option ℕ) → IsSearch log held s → OpenOrDead log held es told
+falsified_conflict : (log : LogState) (held : List Held) (s : Search) (es : List Assigned) (told : Option ℕ) → IsSearch log held s → OpenOrFalsified log held es told
     → OpenOrConflict log held es told
-dead_conflict log held s es None h open_all = open_all
-dead_conflict log held s es (Some id) h dead = record { live = held_live log held h.are_held id dead.0; dead = dead.1; kind = inl dead.0 }
+falsified_conflict log held s es None h open_all = open_all
+falsified_conflict log held s es (Some id) h falsified = record { live = held_live log held h.are_held id falsified.0; falsified = falsified.1; kind = inl falsified.0 }
 
--- a held clause is dead, or all are open
-pub comes_dead : (log : LogState) (held : List Held) (s s' : Search) (told : Option ℕ) → Follows log held s s' told → ComesTo log held s s' told
-comes_dead log held s s' told f =
+-- a held clause is falsified, or all are open
+pub comes_falsified : (log : LogState) (held : List Held) (s s' : Search) (told : Option ℕ) → Follows log held s s' told → ComesTo log held s s' told
+comes_falsified log held s s' told f =
     record {
       search = f.search;
       were_open = f.were_open;
       goes_on = f.goes_on;
-      told_so = dead_conflict log held s' s'.trail.entries told f.search f.told_so;
+      told_so = falsified_conflict log held s' s'.trail.entries told f.search f.told_so;
     }
 
 module _ (log log' : LogState) (held : List Held) (s s' : Search) (f : Follows log held s s' None) (g : Grows log log') where
   clash_conflict : (o : Option ℕ) → IfSome o (IsClash log' (literals_on s'.trail.entries)) → OpenOrConflict log' held s'.trail.entries o
   clash_conflict None c = grown_open log log' g held s' f.search s'.trail.entries f.told_so
   clash_conflict (Some id) c =
-      record { live = c.live; dead = clash_dead s'.trail.size s'.trail.entries f.search.order log' id c; kind = inr c.once }
+      record { live = c.live; falsified = clash_falsified s'.trail.size s'.trail.entries f.search.order log' id c; kind = inr c.once }
 
   comes_so : (o : Option ℕ) → IfSome o (IsClash log' (literals_on s'.trail.entries)) → ComesTo log' held s s' o
   comes_so o c =
@@ -92,6 +93,13 @@ advances_on {over} {over'} {start} {mid} {log} {log₁} {log₂} {held} {held₁
     far_advances over over' keeps start.atoms start.trail.entries mid.trail.entries log log₁ log₂ held held₁ held₂ work work₁ work₂ carries.assumed_only before
     (subst (λ (us : List ℕ). Advances over' us mid.trail.entries log₁ log₂ held₁ held₂ work₁ work₂) carries.atoms step)
 
+pub steps_on : {over over' over'' : List Node → Type 0} → {has_told : List Lit → Type 0} → {is_feasible : Type 0} → {start mid : Search} → {es : List Assigned}
+    → {log log₁ log₂ : LogState} → {held held₁ held₂ : List Held} → {work work₁ work₂ : WorkList Note} → {answer : Result (Option ℕ) Stop}
+    → Carries start mid work work₁ → Advances over start.atoms start.trail.entries log log₁ held held₁ work work₁ → ((ns : List Node) → over ns → over' ns)
+    → Steps over' over'' has_told is_feasible mid.atoms mid.trail.entries es log₁ log₂ held₁ held₂ work₁ work₂ answer
+    → Steps over over'' has_told is_feasible start.atoms start.trail.entries es log log₂ held held₂ work work₂ answer
+steps_on carries before keeps step = steps_behind (advances_on carries before keeps step.advances) keeps step
+
 -- a look for a conflict
 pub turns_on : {start mid new : Search} → {log log' : LogState} → {held : List Held} → {work work₁ work₂ : WorkList Note} → IsSearch log held mid
     → IsNoted log held mid.atoms mid.trail.entries work₁ → Carries start mid work work₁ → Grows log log' → AddsUnits work₁ work₂ → new.atoms ≡ mid.atoms
@@ -115,12 +123,12 @@ turns_on {start} {mid} {new} {log} {log'} {held} {work} {work₁} {work₂} h no
     }
 
 -- a clause was learned, and the search looks for the next conflict
-pub learned_follows : {log : LogState} → {held : List Held} → {s mid : Search} → {work work₁ : WorkList Note} → {place : ℕ} → Learned log held s mid work work₁ place
+pub learned_follows : {log : LogState} → {held : List Held} → {s mid : Search} → {work work₁ : WorkList Note} → {place : ℕ} → Learns log held s mid work work₁ place
     → MayFollow log held mid place
 learned_follows l = record { search = l.search; were_open = l.were_open; waits = l.waits }
 
 pub turns_learned : {log log' : LogState} → {held : List Held} → {s mid : Search} → (new : Search) → {work work₁ work₂ : WorkList Note} → {place : ℕ}
-    → Learned log held s mid work work₁ place → work₁.limit ≡ work.limit → Grows log log' → AddsUnits work₁ work₂ → new.atoms ≡ mid.atoms
+    → Learns log held s mid work work₁ place → work₁.limit ≡ work.limit → Grows log log' → AddsUnits work₁ work₂ → new.atoms ≡ mid.atoms
     → {E : Type 0} → (r : Result (Option ℕ) E) → IfOk r (ComesTo log' held mid new) → IfOk r (TurnsOn log' held s new work work₂)
 turns_learned {log} {log'} {held} {s} {mid} new {work} {work₁} {work₂} l limit grows units same r c =
     let more = units_more work₁ work₂ units in
@@ -164,7 +172,7 @@ settles_first {s = s} {work = work} {told = told} h noted advances units same co
 module _ {over over' : List Node → Type 0} {has_told : List Lit → Type 0} {is_feasible : Type 0} {start old : Search} {log log' : LogState} {held held' : List Held}
     {work work' : WorkList Note} {conflict : Option ℕ} (t : IsSettling over over' has_told is_feasible start old log log' held held' work work' conflict) where
   -- there is a conflict
-  pub conflict_of : {dead : ℕ} → conflict ≡ Some dead → IsConflict log' held' old.trail.entries dead
+  pub conflict_of : {falsified : ℕ} → conflict ≡ Some falsified → IsConflict log' held' old.trail.entries falsified
   conflict_of is = subst (OpenOrConflict log' held' old.trail.entries) is t.turns.told_so
 
   -- there is none
@@ -181,75 +189,75 @@ module _ {over over' : List Node → Type 0} {has_told : List Lit → Type 0} {i
 -- ---- Back from a conflict
 
 -- A search that went back to the last level of which a conflict has a literal.
-pub record IsBack (over over' : List Node → Type 0) (start cut : Search) (log log' : LogState) (held held' : List Held) (work work' : WorkList Note) (dead : ℕ) : Type 0 where
+pub record IsBack (over over' : List Node → Type 0) (start cut : Search) (log log' : LogState) (held held' : List Held) (work work' : WorkList Note) (falsified : ℕ) : Type 0 where
   pub advances : Advances over start.atoms start.trail.entries log log' held held' work work'
   pub search : IsSearch log' held' cut
-  pub conflict : IsConflict log' held' cut.trail.entries dead
+  pub conflict : IsConflict log' held' cut.trail.entries falsified
   pub were_open : WereOpen log' held' cut.trail.entries
-  pub last : 0 < depth cut.trail.entries → HasLast cut.trail.entries (literals_at log' dead)
+  pub last : 0 < depth cut.trail.entries → HasLast cut.trail.entries (literals_at log' falsified)
   pub noted : WasNoted log' held' cut.atoms cut.trail.entries work'
   pub carries : Carries start cut work work'
   pub keeps : (ns : List Node) → over ns → over' ns
 
-module _ (log : LogState) (held : List Held) (start old cut : Search) (work work' : WorkList Note) (dead : ℕ) (search : IsSearch log held old)
-    (conflict : IsConflict log held old.trail.entries dead) (carries : Carries start old work work') (same : cut.atoms ≡ old.atoms)
-    (b : GoesBackTo (literals_at log dead) old.trail.entries cut.trail.entries) where
+module _ (log : LogState) (held : List Held) (start old cut : Search) (work work' : WorkList Note) (falsified : ℕ) (search : IsSearch log held old)
+    (conflict : IsConflict log held old.trail.entries falsified) (carries : Carries start old work work') (same : cut.atoms ≡ old.atoms)
+    (b : GoesBackTo (literals_at log falsified) old.trail.entries cut.trail.entries) where
   back_carries : Carries start cut work work'
   back_carries = record {
     atoms = same ∙ carries.atoms;
     first = λ l h.
         subst (λ (xs : List Assigned). IsTrueOn xs l) (sym (ap (below 0) b.cut ∙ below_twice 0 b.level (omega arith) old.trail.entries)) (carries.first l h);
     assumed_only = λ assumed only.
-        cut_assumed log held old search dead conflict cut.trail.entries b assumed (carries.assumed_only assumed only);
+        cut_assumed log held old search falsified conflict cut.trail.entries b assumed (carries.assumed_only assumed only);
     units = carries.units;
   }
 
 pub goes_back : {over over' over'' : List Node → Type 0} → {has_told : List Lit → Type 0} → {is_feasible : Type 0} → {start old cut : Search} → {log log' : LogState}
-    → {held held' : List Held} → {work work' : WorkList Note} → {conflict : Option ℕ} → {dead : ℕ}
-    → IsSettling over over' has_told is_feasible start old log log' held held' work work' conflict → conflict ≡ Some dead
+    → {held held' : List Held} → {work work' : WorkList Note} → {conflict : Option ℕ} → {falsified : ℕ}
+    → IsSettling over over' has_told is_feasible start old log log' held held' work work' conflict → conflict ≡ Some falsified
     → cut ≡ record old { trail = cut.trail; order = cut.order } → cut.trail.size ≡ old.trail.size
-    → GoesBackTo (literals_at log' dead) old.trail.entries cut.trail.entries → ((ns : List Node) → over' ns → over'' ns)
-    → IsBack over over'' start cut log log' held held' work work' dead
-goes_back {start = start} {old = old} {cut = cut} {log' = log'} {held' = held'} {work = work} {work' = work'} {dead = dead} t is rest size b more =
+    → GoesBackTo (literals_at log' falsified) old.trail.entries cut.trail.entries → ((ns : List Node) → over' ns → over'' ns)
+    → IsBack over over'' start cut log log' held held' work work' falsified
+goes_back {start = start} {old = old} {cut = cut} {log' = log'} {held' = held'} {work = work} {work' = work'} {falsified = falsified} t is rest size b more =
     let c = conflict_of t is in
     let search = t.turns.search in
     let same : cut.atoms ≡ old.atoms = ap (λ (r : Search). r.atoms) rest in
-    let front = cut_front log' held' old search dead c cut.trail.entries b in
+    let front = cut_front log' held' old search falsified c cut.trail.entries b in
     record {
       advances = t.advances;
       search = cut_search log' held' old cut search rest size front;
-      conflict = cut_conflict log' held' old search dead c cut.trail.entries b;
-      were_open = cut_were log' held' old search dead c cut.trail.entries b t.turns.were_open;
-      last = cut_last log' held' old search dead c cut.trail.entries b;
+      conflict = cut_conflict log' held' old search falsified c cut.trail.entries b;
+      were_open = cut_were log' held' old search falsified c cut.trail.entries b t.turns.were_open;
+      last = cut_last log' held' old search falsified c cut.trail.entries b;
       noted = record {
         all = old.trail.entries;
         front = front;
         noted = subst (λ (us : List ℕ). IsNoted log' held' us old.trail.entries work') (sym same) t.turns.noted;
       };
-      carries = back_carries log' held' start old cut work work' dead search c t.turns.carries same b;
+      carries = back_carries log' held' start old cut work work' falsified search c t.turns.carries same b;
       keeps = λ ns known. more ns (t.keeps ns known);
     }
 
-module _ {over over' : List Node → Type 0} {start cut : Search} {log log' : LogState} {held held' : List Held} {work work' : WorkList Note} {dead : ℕ}
-    (b : IsBack over over' start cut log log' held held' work work' dead) where
+module _ {over over' : List Node → Type 0} {start cut : Search} {log log' : LogState} {held held' : List Held} {work work' : WorkList Note} {falsified : ℕ}
+    (b : IsBack over over' start cut log log' held held' work work' falsified) where
   -- it refutes what is assumed
   pub back_refuted : {new : LogState} → Grows log' new → StaysSound cut.trail.entries log' new → Advances over start.atoms start.trail.entries log new held held' work work'
   back_refuted {new} grows sound =
       advances_on b.carries b.advances b.keeps
       (log_advances over' cut.atoms cut.trail.entries log' new held' work' b.search.are_held grows (stays_in_order over' log' new held' cut b.search sound))
 
-  pub back_dead : (assumed : List Lit) → IsDeadUnder assumed cut.trail.entries (literals_at log' dead)
-  back_dead assumed l has = inl (b.conflict.dead l has)
+  pub back_falsified : (assumed : List Lit) → IsFalsifiedUnder assumed cut.trail.entries (literals_at log' falsified)
+  back_falsified assumed l has = inl (b.conflict.falsified l has)
 
   -- or is learned from
   pub settles_on : {over'' : List Node → Type 0} → {has_told : List Lit → Type 0} → {is_feasible : Type 0} → {new : Search} → {log₁ : LogState} → {held₁ : List Held}
-      → {work₁ : WorkList Note} → {told : Option ℕ} → Advances over' cut.atoms cut.trail.entries log' log₁ held' held₁ work' work₁ → TurnsOn log₁ held₁ cut new work' work₁ told
-      → IsTold has_told new.trail.entries → (told ≡ None → IsMet has_told is_feasible new.trail.entries) → ((ns : List Node) → over' ns → over'' ns)
-      → IsSettling over over'' has_told is_feasible start new log log₁ held held₁ work work₁ told
-  settles_on {new = new} {work₁ = work₁} step on is_told met keeps =
+      → {work₁ : WorkList Note} → {told : Option ℕ}
+      → Steps over' over'' has_told is_feasible cut.atoms cut.trail.entries new.trail.entries log' log₁ held' held₁ work' work₁ (Ok told)
+      → TurnsOn log₁ held₁ cut new work' work₁ told → IsSettling over over'' has_told is_feasible start new log log₁ held held₁ work work₁ told
+  settles_on {new = new} {work₁ = work₁} step on =
       let t = on.turns in
       record {
-        advances = advances_on b.carries b.advances b.keeps step;
+        advances = advances_on b.carries b.advances b.keeps step.advances;
         turns = record {
           search = t.search;
           were_open = t.were_open;
@@ -257,7 +265,7 @@ module _ {over over' : List Node → Type 0} {start cut : Search} {log log' : Lo
           noted = t.noted;
           carries = carries_far start cut new work work' work₁ b.carries t.carries;
         };
-        told = is_told;
-        met = met;
-        keeps = λ ns known. keeps ns (b.keeps ns known);
+        told = step.told;
+        met = step.met;
+        keeps = λ ns known. step.known ns (b.keeps ns known);
       }

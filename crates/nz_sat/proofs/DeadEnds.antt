@@ -1,5 +1,5 @@
 -- Under an assignment that makes the asserted terms, the assumed literals and the decisions true, each literal of the trail is true: where a clause
--- is dead there is none.
+-- is falsified there is none.
 use Rattle.std.proofs.Common.{◌≡◌, ℕ, zero, suc, ◌<◌, ◌||◌, Bool, true, false, not, List, [], ◌∷◌, ◌++◌, length, take, drop, map, Option, Some, None, ◌⊎◌, inl, inr, refl, sym, ap, subst, ◌∙◌, true≢false, arith}
 use Rattle.std.specs.Prelude.{All, Contains, IsTrue, IsSome, filter, nat_lt, slice_get, unwrap_or}
 use Rattle.std.specs.List.{AllByRecursion, list_any}
@@ -17,16 +17,16 @@ use Rattle.nz_spec.specs.Model.{IsAssignment}
 use Rattle.nz_spec.specs.Table.{Node, IsTable, term_in}
 use Rattle.nz_spec.specs.Term.{Term, Assignment, IsTrueUnder, apply, falsum, no_terms, is_true, value_of}
 use Rattle.nz_log.specs.declared.lits.Lit.{Lit}
-use Rattle.nz_log.specs.Lits.{are_same_lit, clause_in, literal_of, negated_lit}
+use Rattle.nz_log.specs.Lits.{TellsLits, are_same_lit, clause_in, literal_of, negated_lit}
 use Rattle.nz_log.specs.Logs.{Entry, LogState, IsLive, entry_at, literals_at}
 use Rattle.nz_log.specs.Sound.{ClausesAreTrue, IsLog, live_terms}
 use Rattle.nz_sat.specs.declared.trail.Assigned.{Assigned}
-use Rattle.nz_sat.specs.Clauses.{IsAssumed, IsDead, IsImplied, IsReason, IsReasonOf}
+use Rattle.nz_sat.specs.Clauses.{IsAssumed, IsFalsified, IsImplied, IsReason, IsReasonOf}
 use Rattle.nz_sat.specs.Numbers.{number_of, numbered}
 use Rattle.nz_sat.specs.Trails.{EachBehind, IsFalseOn, is_decision}
 use Rattle.nz_sat.proofs.Backward.{front_place}
 use Rattle.nz_sat.proofs.Chains.{filter_has, has_first, has_found, has_more, lit_is}
-use Rattle.nz_sat.proofs.Clausal.{other_lit, same_lit}
+use Rattle.nz_sat.proofs.Clausal.{other_lit}
 use Rattle.nz_sat.proofs.Marks.{false_entry}
 use Rattle.nz_sat.proofs.Numbering.{number_place, unnamed}
 use Rattle.nz_sat.proofs.Trailing.{assigned_place}
@@ -117,15 +117,15 @@ module _ (clauses : ClausesAreTrue) (ns : List Node) (table : IsTable ns) (level
 
   -- what is false on a trail on which each literal holds doesn't hold
   false_fails : (es : List Assigned) → ((e : Assigned) → Contains es e → Holds e.literal) → (l : Lit) → IsFalseOn es l → Holds l → ⊥
-  false_fails es each l dead h =
-      let x = false_entry es l dead in
+  false_fails es each l falsified h =
+      let x = false_entry es l falsified in
       let place = assigned_place es l.term x.0 x.1 in
       let turned : x.0.literal ≡ negated_lit l = lit_is x.0.literal (negated_lit l) place.0 x.2 in
       both_hold l h (subst Holds turned (each x.0 (has_found es place.1.0 x.0 place.1.1)))
 
   -- ---- The trail
 
-  module _ (atoms : List ℕ) (assumed : List Lit) (es : List Assigned) (implied : EachBehind (IsImplied log) es)
+  module _ (tells : TellsLits) (atoms : List ℕ) (assumed : List Lit) (es : List Assigned) (implied : EachBehind (IsImplied log) es)
       (on_trail : All (λ (e : Assigned). Contains atoms e.literal.term) es) (only : All (IsAssumed assumed) es)
       (assumed_hold : AreTrueLiterals a (map (literal_of ns) assumed))
       (decided_hold : AreTrueLiterals a (literals_by (map (term_in ns) atoms) (map (λ (e : Assigned). numbered atoms e.literal) (filter is_decision es)))) where
@@ -154,8 +154,8 @@ module _ (clauses : ClausesAreTrue) (ns : List Node) (table : IsTable ns) (level
     reason_holds before each l c reason =
         let w = some_true (is_literal_true a) (literal_of ns) (literals_at log c) (clause_true c reason.live) in
         elim (are_same_lit w.0 l) as (λ b. are_same_lit w.0 l ≡ b → Holds l) [
-          | true ↦ λ same. subst Holds (same_lit w.0 l same) w.2
-          | false ↦ λ differ. absurd (false_fails before each w.0 (reason.others w.0 w.1 (other_lit w.0 l differ)) w.2)
+          | true ↦ λ same. subst Holds (tells.same w.0 l same) w.2
+          | false ↦ λ differ. absurd (false_fails before each w.0 (reason.others w.0 w.1 (other_lit tells w.0 l differ)) w.2)
         ] refl
 
     entry_holds : (i : ℕ) (e : Assigned) → slice_get es i ≡ Some e → ((x : Assigned) → Contains (take i es) x → Holds x.literal) → Holds e.literal
@@ -176,8 +176,8 @@ module _ (clauses : ClausesAreTrue) (ns : List Node) (table : IsTable ns) (level
     trail_holds e has =
         front_holds (length es) has.0 has.1 e (slice_get-get_or es has.0 e has.1 ∙ ap Some has.2)
 
-    -- so no clause of the log is dead
-    pub none_dead : (i : ℕ) → IsLive log i → IsDead es (literals_at log i) → ⊥
-    none_dead i live dead =
+    -- so no clause of the log is falsified
+    pub none_falsified : (i : ℕ) → IsLive log i → IsFalsified es (literals_at log i) → ⊥
+    none_falsified i live falsified =
         let w = some_true (is_literal_true a) (literal_of ns) (literals_at log i) (clause_true i live) in
-        false_fails es trail_holds w.0 (dead w.0 w.1) w.2
+        false_fails es trail_holds w.0 (falsified w.0 w.1) w.2

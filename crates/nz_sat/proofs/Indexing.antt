@@ -6,11 +6,11 @@ use Rattle.std.specs.declared.alloc.Global.{Global}
 use Rattle.std.proofs.lemmas.List.{get_or_default}
 use Rattle.std.proofs.lemmas.List.Elements.{Contains-append_left, Contains-push, Contains-push_cases}
 use Rattle.nz_log.specs.declared.lits.Lit.{Lit}
-use Rattle.nz_log.specs.Lits.{are_same_lit}
+use Rattle.nz_log.specs.Lits.{TellsLits, are_same_lit}
 use Rattle.nz_log.specs.Logs.{LogState, literals_at}
 use Rattle.nz_sat.specs.declared.clauses.Index.{Index}
 use Rattle.nz_sat.specs.Clauses.{Adds, IsSameSize, IsWithin, ids_in, ids_of}
-use Rattle.nz_sat.proofs.Clausal.{other_lit, same_lit}
+use Rattle.nz_sat.proofs.Clausal.{other_lit}
 
 -- a clause was put beside so many of these literals
 pub record IsAdding (id : ℕ) (c : List Lit) (n : ℕ) (old new : Index) : Type 0 where
@@ -22,29 +22,29 @@ pub record IsAdding (id : ℕ) (c : List Lit) (n : ℕ) (old new : Index) : Type
 pub adding_none : (id : ℕ) (c : List Lit) (x : Index) → IsAdding id c 0 x x
 adding_none id c x = record { size = (refl, refl); listed = λ k d below. absurd (omega arith); kept = λ l i h. h; only = λ l i h. inl h }
 
-module _ (id : ℕ) (x y : Index) (l : Lit) (put : ids_of y l ≡ ids_of x l ++ id ∷ []) (others : (m : Lit) → m ≢ l → ids_of y m ≡ ids_of x m) where
+module _ (tells : TellsLits) (id : ℕ) (x y : Index) (l : Lit) (put : ids_of y l ≡ ids_of x l ++ id ∷ []) (others : (m : Lit) → m ≢ l → ids_of y m ≡ ids_of x m) where
   put_kept : (m : Lit) (i : ℕ) → Contains (ids_of x m) i → Contains (ids_of y m) i
   put_kept m i has =
       elim (are_same_lit m l) as (λ b. are_same_lit m l ≡ b → Contains (ids_of y m) i) [
         | true ↦ λ e.
-            let same : m ≡ l = same_lit m l e in
+            let same : m ≡ l = tells.same m l e in
             let old : Contains (ids_of x l) i = subst (λ (n : Lit). Contains (ids_of x n) i) same has in
             subst (λ (n : Lit). Contains (ids_of y n) i) (sym same)
             (subst (λ (ns : List ℕ). Contains ns i) (sym put) (Contains-append_left (ids_of x l) (id ∷ []) i old))
-        | false ↦ λ e. subst (λ (ns : List ℕ). Contains ns i) (sym (others m (other_lit m l e))) has
+        | false ↦ λ e. subst (λ (ns : List ℕ). Contains ns i) (sym (others m (other_lit tells m l e))) has
       ] refl
 
   put_only : (m : Lit) (i : ℕ) → Contains (ids_of y m) i → Contains (ids_of x m) i ⊎ (id ≡ i)
   put_only m i has =
       elim (are_same_lit m l) as (λ b. are_same_lit m l ≡ b → Contains (ids_of x m) i ⊎ (id ≡ i)) [
         | true ↦ λ e.
-            let same : m ≡ l = same_lit m l e in
+            let same : m ≡ l = tells.same m l e in
             let new : Contains (ids_of x l ++ id ∷ []) i = subst (λ (ns : List ℕ). Contains ns i) put (subst (λ (n : Lit). Contains (ids_of y n) i) same has) in
             elim (Contains-push_cases (ids_of x l) id i new) [
               | inl old ↦ inl (subst (λ (n : Lit). Contains (ids_of x n) i) (sym same) old)
               | inr this ↦ inr this
             ]
-        | false ↦ λ e. inl (subst (λ (ns : List ℕ). Contains ns i) (others m (other_lit m l e)) has)
+        | false ↦ λ e. inl (subst (λ (ns : List ℕ). Contains ns i) (others m (other_lit tells m l e)) has)
       ] refl
 
   put_here : Contains (ids_of y l) id

@@ -10,10 +10,10 @@ use Rattle.nz_sat.specs.declared.clauses.Held.{Held}
 use Rattle.nz_sat.specs.declared.search.Search.{Search}
 use Rattle.nz_sat.specs.declared.trail.Assigned.{Assigned}
 use Rattle.nz_sat.specs.Trails.{EachBehind, GoesOn, IsTrail, IsTrueOn, TrailState, below, depth}
-use Rattle.nz_sat.specs.Clauses.{AreUsable, HasReasonOf, IsAssumed, IsDead, IsImplied, IsOfSize, IsReasonOf, IsReasonOneOf, IsUsable, ids_of}
+use Rattle.nz_sat.specs.Clauses.{AreUsable, HasReasonOf, IsAssumed, IsFalsified, IsImplied, IsOfSize, IsReasonOf, IsReasonOneOf, IsUsable, ids_of}
 use Rattle.nz_sat.specs.Conflicts.{AreUnmarked}
 use Rattle.nz_sat.specs.Sats.{AreHeld}
-use Rattle.nz_sat.specs.Searching.{AreOpen, IsSearch, OpenOrDead, WereOpen, ids}
+use Rattle.nz_sat.specs.Searching.{AreOpen, IsSearch, OpenOrFalsified, WereOpen, ids}
 use Rattle.nz_sat.proofs.Chains.{has_found}
 use Rattle.nz_sat.proofs.Clausal.{slice_get_behind, truth_found}
 use Rattle.nz_sat.proofs.Cutting.{below_join, below_none}
@@ -136,7 +136,7 @@ goes_were_open log held es es' g were k less =
     let low : k < depth es = omega arith in
     subst (AreOpen log held) (sym (goes_below es es' g k low)) (were k low)
 
-pub open_or_dead : (log : LogState) (held : List Held) (s : Search) (es : List Assigned) (told : Option ℕ) → IsSearch log held s → (told ≡ None → AreOpen log held es)
-    → IfSome told (λ id. ((l : Lit) × Contains (ids_of s.index l) id) × IsDead es (literals_at log id)) → OpenOrDead log held es told
-open_or_dead log held s es None h all_open dead = all_open refl
-open_or_dead log held s es (Some id) h all_open dead = (h.only dead.0.0 id dead.0.1, dead.1)
+pub open_or_falsified : (log : LogState) (held : List Held) (s : Search) (es : List Assigned) (told : Option ℕ) → IsSearch log held s → (told ≡ None → AreOpen log held es)
+    → IfSome told (λ id. ((l : Lit) × Contains (ids_of s.index l) id) × IsFalsified es (literals_at log id)) → OpenOrFalsified log held es told
+open_or_falsified log held s es None h all_open falsified = all_open refl
+open_or_falsified log held s es (Some id) h all_open falsified = (h.only falsified.0.0 id falsified.0.1, falsified.1)

@@ -12,7 +12,7 @@ use Rattle.nz_sat.specs.Trails.{AreUpTo, DropsLast, EachBehind, IsFalseOn, IsFre
 use Rattle.nz_sat.proofs.Backward.{lower}
 use Rattle.nz_sat.proofs.Clausal.{missing_free, truth_found}
 use Rattle.nz_sat.proofs.Cutting.{above_level, below_all, below_last, front_all}
-use Rattle.nz_sat.proofs.Lessons.{all_from}
+use Rattle.nz_sat.proofs.LearnedClauses.{all_from}
 use Rattle.nz_sat.proofs.Marks.{false_entry, level_found}
 use Rattle.nz_sat.proofs.Trailing.{assigned_found, level_is}
 
@@ -162,14 +162,14 @@ module _ (size : ℕ) (es : List Assigned) (order : EachBehind (IsNext size) es)
 
   -- what is false is so there, or free, by its level
   pub below_false : (k : ℕ) (l : Lit) → IsFalseOn es l → level_on es l.term ≤ k → IsFalseOn (below k es) l
-  below_false k l dead low =
-      let e = false_entry es l dead in
+  below_false k l falsified low =
+      let e = false_entry es l falsified in
       let level = level_found es l.term e.0 e.1 in
       ap (option_map (λ (x : Assigned). x.literal.sign)) (found_below k l.term es e.0 e.1 (omega (arith, level, low))) ∙ ap Some e.2
 
   pub below_free : (k : ℕ) (l : Lit) → IsFalseOn es l → k < level_on es l.term → IsFreeOn (below k es) l
-  below_free k l dead high =
-      let e = false_entry es l dead in
+  below_free k l falsified high =
+      let e = false_entry es l falsified in
       let level = level_found es l.term e.0 e.1 in
       elim (assigned (below k es) l.term) as (λ o. assigned (below k es) l.term ≡ o → IsFreeOn (below k es) l) [
         | None ↦ λ none. missing_free (below k es) l.term none
@@ -181,8 +181,8 @@ module _ (size : ℕ) (es : List Assigned) (order : EachBehind (IsNext size) es)
       ] refl
 
   pub free_high : (k : ℕ) (l : Lit) → IsFalseOn es l → IsFreeOn (below k es) l → k < level_on es l.term
-  free_high k l dead free =
+  free_high k l falsified free =
       elim (leb_tells (level_on es l.term) k) [
-        | inl p ↦ let clash : None ≡ Some (not l.sign) = sym free ∙ below_false k l dead p.1 in cc
+        | inl p ↦ let clash : None ≡ Some (not l.sign) = sym free ∙ below_false k l falsified p.1 in cc
         | inr p ↦ p.1
       ]

@@ -3,6 +3,7 @@ pub mod Assuming
 pub mod Backward
 pub mod Chains
 pub mod Clausal
+pub mod ClauseStatus
 pub mod Consulting
 pub mod Cutting
 pub mod DeadEnds
@@ -10,8 +11,8 @@ pub mod Deciding
 pub mod Following
 pub mod Indexing
 pub mod Keeping
+pub mod LearnedClauses
 pub mod Learning
-pub mod Lessons
 pub mod Levels
 pub mod Marks
 pub mod Newness
@@ -23,7 +24,6 @@ pub mod Retaining
 pub mod Returning
 pub mod Running
 pub mod Solving
-pub mod Standing
 pub mod Telling
 pub mod Trailing
 pub mod Visiting

@@ -60,7 +60,7 @@ module _ (es : List Assigned) (c : List Lit) (l : Lit) (old new : List Bool) whe
   }
 
   marks_set : IsFalseOn es l → l.term < length new → MarksFalse es c old new → MarksFalse es (c ++ l ∷ []) old (slice_set new l.term true)
-  marks_set dead within h = record {
+  marks_set falsified within h = record {
     kept = λ t on. mark_keeps new l.term t within (h.kept t on);
     marked = λ m has false_too.
         elim (Contains-push_cases c l m has) [
@@ -70,7 +70,7 @@ module _ (es : List Assigned) (c : List Lit) (l : Lit) (old new : List Bool) whe
         ];
     only = λ t on.
         elim (marks_cases new l.term t on) [
-          | inl same ↦ inr (l, Contains-push c l, dead, sym same)
+          | inl same ↦ inr (l, Contains-push c l, falsified, sym same)
           | inr before ↦ elim (h.only t before) [ inl o ↦ inl o | inr w ↦ inr (w.0, Contains-append_left c (l ∷ []) w.0 w.1, w.2, w.3) ]
         ];
   }
@@ -225,10 +225,10 @@ not_itself false e = true≢false (sym e)
 
 -- the entry of a literal that is false
 pub false_entry : (es : List Assigned) (l : Lit) → IsFalseOn es l → (e : Assigned) × (assigned es l.term ≡ Some e) × (e.literal.sign ≡ not l.sign)
-false_entry es l dead =
+false_entry es l falsified =
     elim (assigned es l.term) as (λ o. assigned es l.term ≡ o → (e : Assigned) × (assigned es l.term ≡ Some e) × (e.literal.sign ≡ not l.sign)) [
-      | None ↦ λ none. let clash : None ≡ Some (not l.sign) = sym (ap (option_map (λ (e : Assigned). e.literal.sign)) none) ∙ dead in cc
-      | Some e ↦ λ at. (e, at, same_Some e.literal.sign (not l.sign) (sym (ap (option_map (λ (x : Assigned). x.literal.sign)) at) ∙ dead))
+      | None ↦ λ none. let clash : None ≡ Some (not l.sign) = sym (ap (option_map (λ (e : Assigned). e.literal.sign)) none) ∙ falsified in cc
+      | Some e ↦ λ at. (e, at, same_Some e.literal.sign (not l.sign) (sym (ap (option_map (λ (x : Assigned). x.literal.sign)) at) ∙ falsified))
     ] refl
 
 pub found_whole : (es : List Assigned) (n t : ℕ) (x : Assigned) → assigned (take n es) t ≡ Some x → assigned es t ≡ Some x
@@ -237,17 +237,17 @@ found_whole es n t x at =
 
 -- it is below the size of the trail
 pub false_within : (size : ℕ) (es : List Assigned) → EachBehind (IsNext size) es → (l : Lit) → IsFalseOn es l → l.term < size
-false_within size es order l dead =
-    let e = false_entry es l dead in
+false_within size es order l falsified =
+    let e = false_entry es l falsified in
     let p = assigned_place es l.term e.0 e.1 in
     let within = (order p.1.0 e.0 p.1.1).within in
     omega (arith, p.0, within)
 
 -- the table of the trail tells it so
 pub told_false : (es : List Assigned) (l : Lit) (r : Option Bool) → HasValue es l r → IsFalseOn es l → r ≡ Some false
-told_false es l None free dead = let clash : None ≡ Some (not l.sign) = sym free ∙ dead in cc
-told_false es l (Some true) is dead = absurd (not_itself l.sign (same_Some l.sign (not l.sign) (sym is ∙ dead)))
-told_false es l (Some false) is dead = refl
+told_false es l None free falsified = let clash : None ≡ Some (not l.sign) = sym free ∙ falsified in cc
+told_false es l (Some true) is falsified = absurd (not_itself l.sign (same_Some l.sign (not l.sign) (sym is ∙ falsified)))
+told_false es l (Some false) is falsified = refl
 
 pub level_found : (es : List Assigned) (t : ℕ) (x : Assigned) → assigned es t ≡ Some x → level_on es t ≡ x.level
 level_found es t x at = ap (λ (o : Option Assigned). elim o [ None ↦ 0 | Some e ↦ e.level ]) at
@@ -256,7 +256,7 @@ level_found es t x at = ap (λ (o : Option Assigned). elim o [ None ↦ 0 | Some
 
 module _ (es : List Assigned) (c : List Lit) (l : Lit) (level : ℕ) (old new : List Bool) (count : ℕ) where
   fewer : (n : ℕ) → AreFalseIn es (take n es) (c ++ l ∷ []) → AreFalseIn es (take n es) c
-  fewer n within m has dead = within m (Contains-append_left c (l ∷ []) m has) dead
+  fewer n within m has falsified = within m (Contains-append_left c (l ∷ []) m has) falsified
 
   pub counted_same : (IsFalseOn es l → is_marked new l.term ≡ true) → MarksCounted es c level old new count → MarksCounted es (c ++ l ∷ []) level old new count
   counted_same f h = record {
@@ -266,10 +266,10 @@ module _ (es : List Assigned) (c : List Lit) (l : Lit) (level : ℕ) (old new : 
 
   pub counted_set : (size : ℕ) → EachBehind (IsNext size) es → IsFalseOn es l → is_marked new l.term ≡ false → l.term < length new
       → MarksCounted es c level old new count → MarksCounted es (c ++ l ∷ []) level old (slice_set new l.term true) (count + one_at level (level_on es l.term))
-  counted_set size order dead off within h = record {
-    marks = marks_set es c l old new dead within h.marks;
+  counted_set size order falsified off within h = record {
+    marks = marks_set es c l old new falsified within h.marks;
     count = λ n front.
-        let e = false_entry (take n es) l (front l (Contains-push c l) dead) in
+        let e = false_entry (take n es) l (front l (Contains-push c l) falsified) in
         let at : level_on es l.term ≡ e.0.level = level_found es l.term e.0 (found_whole es n l.term e.0 e.1) in
         let one = marked_new size es order new l.term level off within n e.0 e.1 in
         let added : one_at level (level_on es l.term) ≡ one_at level e.0.level = ap (one_at level) at in

@@ -1,4 +1,4 @@
--- A lesson is none that was learned before, and names no atom twice.
+-- A learned clause is none that was learned before, and names no atom twice.
 use Rattle.std.proofs.Common.{◌≡◌, ◌≢◌, ℕ, ◌<◌, ◌≤◌, Bool, true, false, not, List, [], ◌∷◌, length, map, Some, None, inl, inr, refl, sym, ap, subst, ◌∙◌, arith}
 use Rattle.std.specs.Prelude.{Contains, slice_get, option_map, unwrap_or}
 use Rattle.std.proofs.Math.Bool.{not-not}
@@ -8,15 +8,15 @@ use Rattle.nz_spec.specs.Legal.{AreNamed}
 use Rattle.nz_spec.specs.Literal.{AreSameSet, StandOnce}
 use Rattle.nz_spec.specs.Table.{Node, term_in}
 use Rattle.nz_log.specs.declared.lits.Lit.{Lit}
-use Rattle.nz_log.specs.Lits.{are_same_lit}
+use Rattle.nz_log.specs.Lits.{TellsLits, are_same_lit}
 use Rattle.nz_sat.specs.declared.trail.Assigned.{Assigned}
-use Rattle.nz_sat.specs.Clauses.{IsDead, IsOpen, by_true, by_two}
+use Rattle.nz_sat.specs.Clauses.{IsFalsified, IsOpen, by_true, by_two}
 use Rattle.nz_sat.specs.Numbers.{number_of, numbered}
 use Rattle.nz_sat.specs.Trails.{EachBehind, IsFreeOn, IsNext, below, level_on, truth_on}
 use Rattle.nz_sat.proofs.Chains.{has_cases, has_first, has_found, has_more, lit_is}
-use Rattle.nz_sat.proofs.Clausal.{other_lit, same_lit}
+use Rattle.nz_sat.proofs.Clausal.{other_lit}
 use Rattle.nz_sat.proofs.DeadEnds.{number_at}
-use Rattle.nz_sat.proofs.Lessons.{all_from}
+use Rattle.nz_sat.proofs.LearnedClauses.{all_from}
 use Rattle.nz_sat.proofs.Levels.{below_true, free_high}
 use Rattle.nz_sat.proofs.Marks.{not_itself}
 
@@ -70,7 +70,7 @@ module _ (atoms : List ℕ) where
 
   -- ---- Clauses in which each literal is false
 
-  module _ (es : List Assigned) (c : List Lit) (named : (l : Lit) → Contains c l → Contains atoms l.term) (dead : IsDead es c) where
+  module _ (es : List Assigned) (c : List Lit) (named : (l : Lit) → Contains c l → Contains atoms l.term) (falsified : IsFalsified es c) where
     pub numbers_once : StandOnce c → StandOnce (map (λ (p : ℕ × Bool). p.0) (map (numbered atoms) c))
     numbers_once once i j n at_i at_j =
         let ps = map (numbered atoms) c in
@@ -84,26 +84,26 @@ module _ (atoms : List ℕ) where
         let two : unwrap_or (number_of atoms m.0.term) 0 ≡ n = ap (λ (r : ℕ × Bool). r.0) m.2 ∙ q.2 in
         let term : l.0.term ≡ m.0.term = same_term l.0.term m.0.term (named l.0 has_l) (named m.0 has_m) (one ∙ sym two) in
         let turned : not l.0.sign ≡ not m.0.sign =
-        same_Some (not l.0.sign) (not m.0.sign) (sym (dead l.0 has_l) ∙ ap (truth_on es) term ∙ dead m.0 has_m) in
+        same_Some (not l.0.sign) (not m.0.sign) (sym (falsified l.0 has_l) ∙ ap (truth_on es) term ∙ falsified m.0 has_m) in
         let sign : l.0.sign ≡ m.0.sign = sym (not-not l.0.sign) ∙ ap not turned ∙ not-not m.0.sign in
         once i j l.0 l.1 (m.1 ∙ ap Some (sym (lit_is l.0 m.0 term sign)))
 
     -- a clause that was open when the last decision was taken isn't the same as one with one literal of the last level
-    pub open_differs : (size : ℕ) → EachBehind (IsNext size) es → (k : ℕ) (u : Lit) → ((m : Lit) → Contains c m → m ≢ u → level_on es m.term ≤ k)
+    pub open_differs : TellsLits → (size : ℕ) → EachBehind (IsNext size) es → (k : ℕ) (u : Lit) → ((m : Lit) → Contains c m → m ≢ u → level_on es m.term ≤ k)
         → (d : List Lit) → ((l : Lit) → Contains d l → Contains atoms l.term) → IsOpen (below k es) d
         → AreSameSet (map (numbered atoms) d) (map (numbered atoms) c) → ⊥
-    open_differs size order k u others d named_d (by_true l has holds) same =
+    open_differs tells size order k u others d named_d (by_true l has holds) same =
         let there = same_has d c named_d named same l has in
-        not_itself l.sign (same_Some l.sign (not l.sign) (sym (below_true size es order k l.term l.sign holds) ∙ dead l there))
-    open_differs size order k u others d named_d (by_two l m has_l has_m differ free_l free_m) same =
+        not_itself l.sign (same_Some l.sign (not l.sign) (sym (below_true size es order k l.term l.sign holds) ∙ falsified l there))
+    open_differs tells size order k u others d named_d (by_two l m has_l has_m differ free_l free_m) same =
         differ (last l has_l free_l ∙ sym (last m has_m free_m)) where
           last : (x : Lit) → Contains d x → IsFreeOn (below k es) x → x ≡ u
           last x has free =
               elim (are_same_lit x u) as (λ b. are_same_lit x u ≡ b → x ≡ u) [
-                | true ↦ λ is. same_lit x u is
+                | true ↦ λ is. tells.same x u is
                 | false ↦ λ other.
                     let there = same_has d c named_d named same x has in
-                    let high = free_high size es order k x (dead x there) free in
-                    let low = others x there (other_lit x u other) in
+                    let high = free_high size es order k x (falsified x there) free in
+                    let low = others x there (other_lit tells x u other) in
                     absurd (omega (arith, high, low))
               ] refl

@@ -1,4 +1,4 @@
--- What a search knows of a lesson, and that its line may follow.
+-- What a search knows of a learned clause, and that its line may follow.
 use Rattle.std.proofs.Common.{◌≡◌, ℕ, ◌-◌, ◌<◌, ◌≤◌, ◌++◌, Bool, not, List, [], ◌∷◌, length, map, refl, sym, ap, subst, ◌∙◌, arith, inl, inr}
 use Rattle.std.specs.Prelude.{⊤, All, Contains, IsTrue, filter}
 use Rattle.std.specs.List.{AllByRecursion}
@@ -15,33 +15,34 @@ use Rattle.nz_spec.specs.Work.{WorkLine, WorkList, UnitLine, LearnedEntry, with_
 use Rattle.nz_spec.specs.Reply as reply
 use Rattle.nz_log.specs.declared.lits.Lit.{Lit}
 use Rattle.nz_log.specs.declared.note.Note.{Note}
+use Rattle.nz_log.specs.Lits.{TellsLits}
 use Rattle.nz_log.specs.Logs.{LogState, literals_at}
 use Rattle.nz_log.specs.Notes.{noted_line, noted_list}
 use Rattle.nz_log.specs.Sound.{ClausesAreTrue, IsLog}
-use Rattle.nz_sat.specs.declared.analyze.Lesson.{Lesson}
+use Rattle.nz_sat.specs.declared.analyze.Learned.{Learned}
 use Rattle.nz_sat.specs.declared.clauses.Held.{Held}
 use Rattle.nz_sat.specs.declared.search.Search as state
 use Rattle.nz_sat.specs.declared.trail.Assigned.{Assigned}
-use Rattle.nz_sat.specs.Clauses.{IsAssumed, IsDead, IsOpen, by_true, by_two}
+use Rattle.nz_sat.specs.Clauses.{IsAssumed, IsFalsified, IsOpen, by_true, by_two}
 use Rattle.nz_log.specs.Theories.{Grows}
-use Rattle.nz_sat.specs.Conflicts.{HasTwoLast, IsLesson, IsLessonLike, StaysSound}
+use Rattle.nz_sat.specs.Conflicts.{HasTwoLast, IsLearned, IsLearnable, StaysSound}
 use Rattle.nz_sat.specs.Numbers.{numbered}
 use Rattle.nz_sat.specs.Sats.{HoldsMore, IsAsked}
 use Rattle.nz_sat.specs.Searching.{Advances, IsConflict, IsSearch, StaysInOrder, StaysLegal, WasNoted, WereOpen, ids, learned_line}
 use Rattle.nz_sat.specs.Trails.{EachBehind, IsFreeOn, IsFrontOf, IsNext, below, depth, is_decision, level_on}
 use Rattle.nz_sat.proofs.Chains.{has_found}
-use Rattle.nz_sat.proofs.DeadEnds.{clause_true, literals_numbered, none_dead, recursion_left}
+use Rattle.nz_sat.proofs.DeadEnds.{clause_true, literals_numbered, none_falsified, recursion_left}
 use Rattle.nz_sat.proofs.Levels.{below_true, free_high}
 use Rattle.nz_sat.proofs.Marks.{false_entry, level_found, not_itself}
 use Rattle.nz_sat.proofs.Numbering.{unit_noted}
 use Rattle.nz_sat.proofs.Newness.{numbers_once, numbers_within, open_differs}
 use Rattle.nz_sat.proofs.Trailing.{assigned_place, level_within}
 
--- A clause that is dead, and was open when the last decision was taken, has two literals of the last level.
-two_last : (size : ℕ) (es : List Assigned) → EachBehind (IsNext size) es → (c : List Lit) → IsDead es c → IsOpen (below (depth es - 1) es) c → HasTwoLast es c
-two_last size es order c dead (by_true l has holds) =
-    absurd (not_itself l.sign (same_Some l.sign (not l.sign) (sym (below_true size es order (depth es - 1) l.term l.sign holds) ∙ dead l has)))
-two_last size es order c dead (by_two l m has_l has_m differ free_l free_m) =
+-- A clause that is falsified, and was open when the last decision was taken, has two literals of the last level.
+two_last : (size : ℕ) (es : List Assigned) → EachBehind (IsNext size) es → (c : List Lit) → IsFalsified es c → IsOpen (below (depth es - 1) es) c → HasTwoLast es c
+two_last size es order c falsified (by_true l has holds) =
+    absurd (not_itself l.sign (same_Some l.sign (not l.sign) (sym (below_true size es order (depth es - 1) l.term l.sign holds) ∙ falsified l has)))
+two_last size es order c falsified (by_two l m has_l has_m differ free_l free_m) =
     record {
       first = l;
       second = m;
@@ -53,42 +54,42 @@ two_last size es order c dead (by_two l m has_l has_m differ free_l free_m) =
     } where
       last : (x : Lit) → Contains c x → IsFreeOn (below (depth es - 1) es) x → level_on es x.term ≡ depth es
       last x has free =
-          let high = free_high size es order (depth es - 1) x (dead x has) free in
-          let e = false_entry es x (dead x has) in
+          let high = free_high size es order (depth es - 1) x (falsified x has) free in
+          let e = false_entry es x (falsified x has) in
           let place = (assigned_place es x.term e.0 e.1).1 in
           let most = level_within size es order place.0 e.0 place.1 in
           let level = level_found es x.term e.0 e.1 in
           omega (arith, high, most, level)
 
 held_two : (size : ℕ) (es : List Assigned) → EachBehind (IsNext size) es → (log : LogState) (held : List Held) → WereOpen log held es → 0 < depth es
-    → (i : ℕ) → Contains (ids held) i → IsDead es (literals_at log i) → HasTwoLast es (literals_at log i)
-held_two size es order log held were_open decided i has dead =
+    → (i : ℕ) → Contains (ids held) i → IsFalsified es (literals_at log i) → HasTwoLast es (literals_at log i)
+held_two size es order log held were_open decided i has falsified =
     let k = depth es - 1 in
-    two_last size es order (literals_at log i) dead
+    two_last size es order (literals_at log i) falsified
     (All-contains (λ (j : ℕ). IsOpen (below k es) (literals_at log j)) (ids held) i (were_open k (omega arith)) has)
 
--- a conflict may be a lesson itself, or has two literals of the last level
+-- a conflict may be the learned clause itself, or has two literals of the last level
 pub conflict_like : (size : ℕ) (es : List Assigned) → EachBehind (IsNext size) es → (log : LogState) (held : List Held) → WereOpen log held es → 0 < depth es
-    → (i : ℕ) → IsConflict log held es i → IsLessonLike es (literals_at log i)
+    → (i : ℕ) → IsConflict log held es i → IsLearnable es (literals_at log i)
 conflict_like size es order log held were_open decided i c =
-    elim c.kind [ inl has ↦ inl (held_two size es order log held were_open decided i has c.dead) | inr once ↦ inr once ]
+    elim c.kind [ inl has ↦ inl (held_two size es order log held were_open decided i has c.falsified) | inr once ↦ inr once ]
 
--- What is known where a search has a lesson from a clause that is dead.
-pub record IsTaught (log log' : LogState) (held : List Held) (s : state.Search) (work : WorkList Note) (dead : ℕ) (l : Lesson) : Type 0 where
+-- What is known where a search has learned from a clause that is falsified.
+pub record IsTaught (log log' : LogState) (held : List Held) (s : state.Search) (work : WorkList Note) (falsified : ℕ) (l : Learned) : Type 0 where
   pub search : IsSearch log held s
   pub were_open : WereOpen log held s.trail.entries
-  pub conflict : IsConflict log held s.trail.entries dead
+  pub conflict : IsConflict log held s.trail.entries falsified
   pub decided : 0 < depth s.trail.entries
   pub noted : WasNoted log held s.atoms s.trail.entries work
   pub grows : Grows log log'
   pub sound : StaysSound s.trail.entries log log'
-  pub lesson : IsLesson log' s.trail.entries l
+  pub learned : IsLearned log' s.trail.entries l
 
-pub taught : {log log' : LogState} {held : List Held} {s : state.Search} {work : WorkList Note} {l : Lesson} (dead : ℕ) → IsSearch log held s
-    → WereOpen log held s.trail.entries → IsConflict log held s.trail.entries dead → 0 < depth s.trail.entries
-    → WasNoted log held s.atoms s.trail.entries work → Grows log log' → StaysSound s.trail.entries log log' → IsLesson log' s.trail.entries l
-    → IsTaught log log' held s work dead l
-taught dead search were_open conflict decided noted grows sound lesson =
+pub taught : {log log' : LogState} {held : List Held} {s : state.Search} {work : WorkList Note} {l : Learned} (falsified : ℕ) → IsSearch log held s
+    → WereOpen log held s.trail.entries → IsConflict log held s.trail.entries falsified → 0 < depth s.trail.entries
+    → WasNoted log held s.atoms s.trail.entries work → Grows log log' → StaysSound s.trail.entries log log' → IsLearned log' s.trail.entries l
+    → IsTaught log log' held s work falsified l
+taught falsified search were_open conflict decided noted grows sound learned =
     record {
       search = search;
       were_open = were_open;
@@ -97,14 +98,14 @@ taught dead search were_open conflict decided noted grows sound lesson =
       noted = noted;
       grows = grows;
       sound = sound;
-      lesson = lesson;
+      learned = learned;
     }
 
 -- the literals of a false clause are of atoms
-pub false_named : (atoms : List ℕ) (es : List Assigned) → All (λ (e : Assigned). Contains atoms e.literal.term) es → (c : List Lit) → IsDead es c
+pub false_named : (atoms : List ℕ) (es : List Assigned) → All (λ (e : Assigned). Contains atoms e.literal.term) es → (c : List Lit) → IsFalsified es c
     → (l : Lit) → Contains c l → Contains atoms l.term
-false_named atoms es on_trail c dead l has =
-    let x = false_entry es l (dead l has) in
+false_named atoms es on_trail c falsified l has =
+    let x = false_entry es l (falsified l has) in
     let place = assigned_place es l.term x.0 x.1 in
     subst (Contains atoms) place.0 (All-contains (λ (e : Assigned). Contains atoms e.literal.term) es x.0 on_trail (has_found es place.1.0 x.0 place.1.1))
 
@@ -148,30 +149,30 @@ front_decided a ts f es all front hold =
     ∙ map-append (literal_by ts) (map f (filter is_decision es)) (map f (filter is_decision front.more)) in
     recursion_left P mine more (subst (AllByRecursion P) parts hold)
 
-module _ (log log' : LogState) (held : List Held) (s : state.Search) (work : WorkList Note) (dead : ℕ) (l : Lesson) (h : IsTaught log log' held s work dead l) where
+module _ (log log' : LogState) (held : List Held) (s : state.Search) (work : WorkList Note) (falsified : ℕ) (l : Learned) (h : IsTaught log log' held s work falsified l) where
   abbrev es : List Assigned
   es = s.trail.entries
 
   abbrev lits : List Lit
   lits = literals_at log' l.clause
 
-  pub lesson_named : (m : Lit) → Contains lits m → Contains s.atoms m.term
-  lesson_named = false_named s.atoms es h.search.on_trail lits h.lesson.dead
+  pub learned_named : (m : Lit) → Contains lits m → Contains s.atoms m.term
+  learned_named = false_named s.atoms es h.search.on_trail lits h.learned.falsified
 
   pub stays : (over : List Node → Type 0) → StaysInOrder over s.atoms log log'
   stays over = stays_in_order over s.atoms es h.search.on_trail log log' h.sound
 
   -- it isn't the same as a clause that is held
-  lesson_new : (i : ℕ) → Contains (ids held) i → AreSameSet (map (numbered s.atoms) (literals_at log i)) (map (numbered s.atoms) lits) → ⊥
-  lesson_new i has same =
+  learned_new : TellsLits → (i : ℕ) → Contains (ids held) i → AreSameSet (map (numbered s.atoms) (literals_at log i)) (map (numbered s.atoms) lits) → ⊥
+  learned_new tells i has same =
       let k = depth es - 1 in
       let less : k < depth es = omega (arith, h.decided) in
       let opened = All-contains (λ (j : ℕ). IsOpen (below k es) (literals_at log j)) (ids held) i (h.were_open k less) has in
-      open_differs s.atoms es lits lesson_named h.lesson.dead s.trail.size h.search.order k l.literal
-      (λ m there other. let low = h.lesson.others m there other in let earlier = h.lesson.earlier in omega (arith, low, earlier))
+      open_differs s.atoms es lits learned_named h.learned.falsified tells s.trail.size h.search.order k l.literal
+      (λ m there other. let low = h.learned.others m there other in let earlier = h.learned.earlier in omega (arith, low, earlier))
       (literals_at log i) (held_named s.atoms log (ids held) h.search.named i has) opened same
 
-  module _ (clauses : ClausesAreTrue) (ns : List Node) (levels : List (List ℕ)) (assumed : List Lit) (q : Task) (only : All (IsAssumed assumed) es)
+  module _ (tells : TellsLits) (clauses : ClausesAreTrue) (ns : List Node) (levels : List (List ℕ)) (assumed : List Lit) (q : Task) (only : All (IsAssumed assumed) es)
       (asked : IsAsked ns levels log s.atoms assumed q) where
     abbrev at : Search
     at = after_lines at_first (noted_list ns work).lines
@@ -186,16 +187,16 @@ module _ (log log' : LogState) (held : List Held) (s : state.Search) (work : Wor
         let noted = h.noted.noted in
         let named' = subst (λ (ts : List Term). AreTrueLiterals a (literals_by ts at.decided)) (noted.named ns) decided_hold in
         let decided' = subst (λ (ps : List (ℕ × Bool)). AreTrueLiterals a (literals_by (map (term_in ns) s.atoms) ps)) (noted.decided ns) named' in
-        none_dead clauses ns asked.table levels log asked.order a model.sorts hold s.atoms assumed es h.search.implied h.search.on_trail only assumed'
+        none_falsified clauses ns asked.table levels log asked.order a model.sorts hold tells s.atoms assumed es h.search.implied h.search.on_trail only assumed'
         (front_decided a (map (term_in ns) s.atoms) (λ (e : Assigned). numbered s.atoms e.literal) es h.noted.all h.noted.front decided')
-        dead h.conflict.live h.conflict.dead
+        falsified h.conflict.live h.conflict.falsified
 
     follows : (a : Assignment) → IsModel q.asserted [] a → IsClauseTrue a (literals_by at.atoms (map (numbered s.atoms) lits))
     follows a model =
         let hold = subst (AllByRecursion (IsTrueUnder a)) asked.asserted model.asserted_hold in
-        let holds = clause_true clauses ns asked.table levels log' order' a model.sorts hold l.clause h.lesson.live in
+        let holds = clause_true clauses ns asked.table levels log' order' a model.sorts hold l.clause h.learned.live in
         subst (λ (ts : List Term). IsClauseTrue a (literals_by ts (map (numbered s.atoms) lits))) (sym (h.noted.noted.named ns))
-        (subst (IsClauseTrue a) (sym (literals_numbered ns s.atoms lits lesson_named)) holds)
+        (subst (IsClauseTrue a) (sym (literals_numbered ns s.atoms lits learned_named)) holds)
 
     may_learn : MayLearn q at l.level (map (numbered s.atoms) lits)
     may_learn =
@@ -204,37 +205,37 @@ module _ (log log' : LogState) (held : List Held) (s : state.Search) (work : Wor
         let long : length at.decided ≡ depth all =
         ap length (noted.decided ns) ∙ length-map (filter is_decision all) (λ (e : Assigned). numbered s.atoms e.literal) ∙ length-filter is_decision all in
         let deeper = front_depth es all h.noted.front in
-        let earlier = h.lesson.earlier in
+        let earlier = h.learned.earlier in
         record {
           fewer = omega (arith, long, deeper, earlier);
           dead_end = dead_end;
           follows = follows;
           named = subst (λ (ts : List Term). All (λ (p : ℕ × Bool). p.0 < length ts) (map (numbered s.atoms) lits)) (sym (h.noted.noted.named ns))
-              (numbers_within s.atoms ns lits lesson_named);
-          once = numbers_once s.atoms es lits lesson_named h.lesson.dead h.lesson.once;
+              (numbers_within s.atoms ns lits learned_named);
+          once = numbers_once s.atoms es lits learned_named h.learned.falsified h.learned.once;
           new = All-weaker (λ (c : List (ℕ × Bool)). (i : ℕ) × Contains (ids held) i × (map (numbered s.atoms) (literals_at log i) ≡ c))
               (λ (c : List (ℕ × Bool)). AreSameSet c (map (numbered s.atoms) lits) → ⊥)
-              (λ c w same. lesson_new w.0 w.1 (subst (λ (d : List (ℕ × Bool)). AreSameSet d (map (numbered s.atoms) lits)) (sym w.2) same))
+              (λ c w same. learned_new tells w.0 w.1 (subst (λ (d : List (ℕ × Bool)). AreSameSet d (map (numbered s.atoms) lits)) (sym w.2) same))
               at.learned (noted.learned ns);
         }
 
   -- the list stays legal with its line
-  pub line_legal : ClausesAreTrue → LegalWorkGoesOn → (over : List Node → Type 0) → StaysLegal over s.atoms log es work (with_line work (learned_line s.atoms log' l))
-  line_legal clauses goes_on over ns levels assumed q known only asked legal =
+  pub line_legal : TellsLits → ClausesAreTrue → LegalWorkGoesOn → (over : List Node → Type 0) → StaysLegal over s.atoms log es work (with_line work (learned_line s.atoms log' l))
+  line_legal tells clauses goes_on over ns levels assumed q known only asked legal =
       let line : WorkLine reply.Note = UnitLine (LearnedEntry l.level (map (numbered s.atoms) lits)) in
       subst (λ (lines : List (WorkLine reply.Note)). AreLegal q at_first lines) (sym (map-append (noted_line ns) work.lines (learned_line s.atoms log' l ∷ [])))
-      (goes_on q at_first (noted_list ns work).lines line legal (may_learn clauses ns levels assumed q only asked))
+      (goes_on q at_first (noted_list ns work).lines line legal (may_learn tells clauses ns levels assumed q only asked))
 
   -- a step that adds it
-  pub line_advances : ClausesAreTrue → LegalWorkGoesOn → (over : List Node → Type 0) (held' : List Held) → HoldsMore log' held held' → (work' : WorkList Note)
+  pub line_advances : TellsLits → ClausesAreTrue → LegalWorkGoesOn → (over : List Node → Type 0) (held' : List Held) → HoldsMore log' held held' → (work' : WorkList Note)
       → work' ≡ with_line work (learned_line s.atoms log' l) → Advances over s.atoms es log log' held held' work work'
-  line_advances clauses goes_on over held' more work' is =
+  line_advances tells clauses goes_on over held' more work' is =
       subst (Advances over s.atoms es log log' held held' work) (sym is)
       (record {
         grows = h.grows;
         sound = stays over;
         holds_more = more;
-        legal = line_legal clauses goes_on over;
+        legal = line_legal tells clauses goes_on over;
         notes = unit_noted work.lines (LearnedEntry l.level (map (numbered s.atoms) (literals_at log' l.clause)));
         limit = refl;
       })

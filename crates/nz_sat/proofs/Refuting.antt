@@ -5,7 +5,7 @@ use Rattle.std.proofs.lemmas.List.{take_all}
 use Rattle.std.proofs.lemmas.List.Elements.{All-contains}
 use Rattle.nz_log.specs.declared.lits.Lit.{Lit}
 use Rattle.nz_log.specs.declared.origins.Link.{Link}
-use Rattle.nz_log.specs.Lits.{negated_lit}
+use Rattle.nz_log.specs.Lits.{TellsLits, negated_lit}
 use Rattle.nz_log.specs.Logs.{LogState, chained, literals_at}
 use Rattle.nz_sat.specs.declared.trail.Assigned.{Assigned}
 use Rattle.nz_sat.specs.Trails.{EachBehind, IsFalseOn, IsNext, depth}
@@ -16,8 +16,8 @@ use Rattle.nz_sat.proofs.Chains.{has_found, twice_negated}
 use Rattle.nz_sat.proofs.Resolving.{link_of, links_longer, longer_from, no_links}
 use Rattle.nz_sat.proofs.Trailing.{level_within}
 
-module _ (s : LogState) (size : ℕ) (es : List Assigned) (order : EachBehind (IsNext size) es) (dead n i : ℕ) (is : n ≡ i + 1) (e : Assigned) (at : slice_get es i ≡ Some e)
-    (marks : List Bool) (ks : List Link) (way : IsOnWayToAssumed s es dead n marks ks) where
+module _ (s : LogState) (size : ℕ) (es : List Assigned) (order : EachBehind (IsNext size) es) (falsified n i : ℕ) (is : n ≡ i + 1) (e : Assigned) (at : slice_get es i ≡ Some e)
+    (marks : List Bool) (ks : List Link) (way : IsOnWayToAssumed s es falsified n marks ks) where
   -- a literal that is false there is the negation of the entry's, or false before
   earlier : (m : Lit) → IsMarkedBefore es n marks m → (m ≡ negated_lit e.literal) ⊎ IsMarkedBefore es i marks m
   earlier m w =
@@ -26,7 +26,7 @@ module _ (s : LogState) (size : ℕ) (es : List Assigned) (order : EachBehind (I
         | inr before ↦ inr (record { false_before = before; marked = w.marked })
       ]
 
-  pub assumed_past : is_marked marks e.literal.term ≡ false → IsOnWayToAssumed s es dead i marks ks
+  pub assumed_past : is_marked marks e.literal.term ≡ false → IsOnWayToAssumed s es falsified i marks ks
   assumed_past off = record {
     links = way.links;
     each = λ assumed all under m has.
@@ -40,7 +40,7 @@ module _ (s : LogState) (size : ℕ) (es : List Assigned) (order : EachBehind (I
   }
 
   -- an entry without a reason is assumed
-  pub assumed_here : e.reason ≡ None → depth es ≡ 0 → IsOnWayToAssumed s es dead i marks ks
+  pub assumed_here : e.reason ≡ None → depth es ≡ 0 → IsOnWayToAssumed s es falsified i marks ks
   assumed_here none undecided = record {
     links = way.links;
     each = λ assumed all under m has.
@@ -56,14 +56,14 @@ module _ (s : LogState) (size : ℕ) (es : List Assigned) (order : EachBehind (I
         ];
   }
 
-  pub assumed_on : (clause : ℕ) → e.reason ≡ Some clause → IsImplied s (take i es) e → (new : List Bool) → MarksFalse es (literals_at s clause) marks new
-      → IsOnWayToAssumed s es dead i new (ks ++ link_of e clause ∷ [])
-  assumed_on clause reason implied new made =
+  pub assumed_on : TellsLits → (clause : ℕ) → e.reason ≡ Some clause → IsImplied s (take i es) e → (new : List Bool) → MarksFalse es (literals_at s clause) marks new
+      → IsOnWayToAssumed s es falsified i new (ks ++ link_of e clause ∷ [])
+  assumed_on tells clause reason implied new made =
       let why : IsReason s (take i es) e.literal clause = subst (IsReasonOf s (take i es) e.literal) reason implied in
       record {
         links = links_longer s es i e at ks clause why.live way.links;
         each = λ assumed all under m has.
-            elim (longer_from s (literals_at s dead) ks e clause m has) [
+            elim (longer_from tells s (literals_at s falsified) ks e clause m has) [
               | inl old ↦ elim (way.each assumed all under m old.0) [
                 | inl negated ↦ inl negated
                 | inr w ↦ elim (earlier m w) [
@@ -77,9 +77,9 @@ module _ (s : LogState) (size : ℕ) (es : List Assigned) (order : EachBehind (I
             ];
       }
 
-pub assumed_starts : (s : LogState) (es : List Assigned) (dead n : ℕ) → n ≡ length es → (old new : List Bool) → MarksFalse es (literals_at s dead) old new
-    → IsOnWayToAssumed s es dead n new []
-assumed_starts s es dead n all old new made =
+pub assumed_starts : (s : LogState) (es : List Assigned) (falsified n : ℕ) → n ≡ length es → (old new : List Bool) → MarksFalse es (literals_at s falsified) old new
+    → IsOnWayToAssumed s es falsified n new []
+assumed_starts s es falsified n all old new made =
     let whole : take n es ≡ es = take_all n es (omega (arith, all)) in
     record {
       links = no_links s es;
@@ -92,9 +92,9 @@ assumed_starts s es dead n all old new made =
     }
 
 -- nothing is false before the first entry
-pub assumed_ends : (s : LogState) (es : List Assigned) (dead n : ℕ) → n ≡ 0 → (marks : List Bool) (ks : List Link) → IsOnWayToAssumed s es dead n marks ks
-    → RefutesFrom es (literals_at s dead) (chained s (literals_at s dead) ks)
-assumed_ends s es dead n first marks ks way assumed all under m has =
+pub assumed_ends : (s : LogState) (es : List Assigned) (falsified n : ℕ) → n ≡ 0 → (marks : List Bool) (ks : List Link) → IsOnWayToAssumed s es falsified n marks ks
+    → RefutesFrom es (literals_at s falsified) (chained s (literals_at s falsified) ks)
+assumed_ends s es falsified n first marks ks way assumed all under m has =
     elim (way.each assumed all under m has) [
       | inl negated ↦ negated
       | inr w ↦

@@ -8,12 +8,12 @@ use Rattle.std.proofs.lemmas.List.Elements.{All-nil, All-push}
 use Rattle.std.proofs.lemmas.Option.{same_Some}
 use Rattle.nz_log.specs.declared.lits.Lit.{Lit}
 use Rattle.nz_log.specs.declared.origins.Link.{Link}
-use Rattle.nz_log.specs.Lits.{negated_lit, lit_resolvent}
+use Rattle.nz_log.specs.Lits.{TellsLits, negated_lit, lit_resolvent}
 use Rattle.nz_log.specs.Logs.{LogState, IsLive, chained, literals_at}
 use Rattle.nz_sat.specs.declared.analyze.Chain.{Chain}
 use Rattle.nz_sat.specs.declared.trail.Assigned.{Assigned}
 use Rattle.nz_sat.specs.Trails.{EachBehind, IsFalseOn, IsNext, depth, level_on}
-use Rattle.nz_sat.specs.Clauses.{IsDead, IsImplied, IsReason, IsReasonOf}
+use Rattle.nz_sat.specs.Clauses.{IsFalsified, IsImplied, IsReason, IsReasonOf}
 use Rattle.nz_sat.specs.Conflicts.{AreLinks, AreMarked, AreUnmarked, HasTwoLast, IsChain, IsOnWayBack, MarksCounted, is_marked, marked_of}
 use Rattle.nz_sat.proofs.Backward.{apart, false_cases, false_whole, front_counted, fresh, its_entry, none_before_decision, not_false, of_last}
 use Rattle.nz_sat.proofs.Chains.{chained_more, has_found, lit_is, resolvent_first, resolvent_from, resolvent_second, twice_negated}
@@ -24,10 +24,10 @@ abbrev pub link_of : Assigned → ℕ → Link
 link_of e clause = record { clause = clause; literal = negated_lit e.literal }
 
 -- a literal of the clause with one link more is another one of the clause before, or of the reason
-pub longer_from : (s : LogState) (c : List Lit) (ks : List Link) (e : Assigned) (clause : ℕ) (m : Lit) → Contains (chained s c (ks ++ link_of e clause ∷ [])) m
+pub longer_from : TellsLits → (s : LogState) (c : List Lit) (ks : List Link) (e : Assigned) (clause : ℕ) (m : Lit) → Contains (chained s c (ks ++ link_of e clause ∷ [])) m
     → (Contains (chained s c ks) m × (m ≢ negated_lit e.literal)) ⊎ (Contains (literals_at s clause) m × (m ≢ e.literal))
-longer_from s c ks e clause m has =
-    elim (resolvent_from (negated_lit e.literal) (chained s c ks) (literals_at s clause) m
+longer_from tells s c ks e clause m has =
+    elim (resolvent_from tells (negated_lit e.literal) (chained s c ks) (literals_at s clause) m
     (subst (λ (d : List Lit). Contains d m) (chained_more s c ks (link_of e clause)) has)) [
       | inl old ↦ inl (old.0, λ same. old.1 (sym same))
       | inr of_reason ↦ inr (of_reason.0, λ same. of_reason.1 (twice_negated e.literal ∙ sym same))
@@ -46,20 +46,20 @@ no_links s es = All-nil (λ (k : Link). IsLive s k.clause × ((x : Assigned) × 
 uncounted : (marks : List Bool) (level : ℕ) (e : Assigned) → is_marked marks e.literal.term ≡ false → counted marks level e ≡ 0
 uncounted marks level e off = ap (λ (m : Bool). one_if (m && (e.level == level))) off
 
-module _ (s : LogState) (size : ℕ) (es : List Assigned) (order : EachBehind (IsNext size) es) (dead n i : ℕ) (is : n ≡ i + 1) (e : Assigned) (at : slice_get es i ≡ Some e)
-    (marks : List Bool) (ks : List Link) (left : ℕ) (way : IsOnWayBack s es dead n marks ks left) where
+module _ (s : LogState) (size : ℕ) (es : List Assigned) (order : EachBehind (IsNext size) es) (falsified n i : ℕ) (is : n ≡ i + 1) (e : Assigned) (at : slice_get es i ≡ Some e)
+    (marks : List Bool) (ks : List Link) (left : ℕ) (way : IsOnWayBack s es falsified n marks ks left) where
   abbrev so_far : List Lit
-  so_far = chained s (literals_at s dead) ks
+  so_far = chained s (literals_at s falsified) ks
 
   last_level : e.level ≡ depth es
   last_level = of_last size es order n i is e at marks (omega (arith, way.count, way.some))
 
   -- an entry that isn't marked is none of the clause
-  pub way_past : is_marked marks e.literal.term ≡ false → IsOnWayBack s es dead i marks ks left
+  pub way_past : is_marked marks e.literal.term ≡ false → IsOnWayBack s es falsified i marks ks left
   way_past off = record {
     links = way.links;
-    dead_before = λ m has.
-        elim (false_cases size es order n i is e at m (way.dead_before m has)) [
+    falsified_before = λ m has.
+        elim (false_cases size es order n i is e at m (way.falsified_before m has)) [
           | inl same ↦ absurd (true≢false (sym (way.marked.each m has) ∙ ap (λ (k : Lit). is_marked marks k.term) same ∙ off))
           | inr before ↦ before
         ];
@@ -83,14 +83,14 @@ module _ (s : LogState) (size : ℕ) (es : List Assigned) (order : EachBehind (I
     has_negated : Contains so_far (negated_lit e.literal)
     has_negated =
         let w = way.marked.only e.literal.term on in
-        elim (false_cases size es order n i is e at w.0 (way.dead_before w.0 w.1)) [
+        elim (false_cases size es order n i is e at w.0 (way.falsified_before w.0 w.1)) [
           | inl same ↦ subst (Contains so_far) same w.1
           | inr before ↦ absurd (apart size es order n i is e at w.0 before w.2)
         ]
 
     before_here : (m : Lit) → Contains so_far m → m ≢ negated_lit e.literal → IsFalseOn (take i es) m
     before_here m has other =
-        elim (false_cases size es order n i is e at m (way.dead_before m has)) [ inl same ↦ absurd (other same) | inr before ↦ before ]
+        elim (false_cases size es order n i is e at m (way.falsified_before m has)) [ inl same ↦ absurd (other same) | inr before ↦ before ]
 
     earlier : marked_of marks (depth es) (take i es) ≡ 0 → (m : Lit) → Contains so_far m → IsFalseOn (take i es) m → level_on es m.term < depth es
     earlier none m has before =
@@ -108,7 +108,7 @@ module _ (s : LogState) (size : ℕ) (es : List Assigned) (order : EachBehind (I
         ]
 
     -- where no more of the last level is left, this is the end
-    pub way_ends : (c : Chain) → c.links.items ≡ ks → c.literal ≡ negated_lit e.literal → 0 < depth es → (left ≤ 1) ⊎ (e.reason ≡ None) → IsChain s es dead marks c
+    pub way_ends : (c : Chain) → c.links.items ≡ ks → c.literal ≡ negated_lit e.literal → 0 < depth es → (left ≤ 1) ⊎ (e.reason ≡ None) → IsChain s es falsified marks c
     way_ends c links literal above over =
         let none : marked_of marks (depth es) (take i es) ≡ 0 =
         elim over [
@@ -119,19 +119,19 @@ module _ (s : LogState) (size : ℕ) (es : List Assigned) (order : EachBehind (I
         record {
           links = subst (AreLinks s es) (sym links) way.links;
           some = subst (λ (l : List Link). 0 < length l) (sym links) (way.linked one);
-          dead_too = λ m has. false_whole es n m (way.dead_before m (subst (λ (l : List Link). Contains (chained s (literals_at s dead) l) m) links has));
-          has = subst (λ (l : List Link). Contains (chained s (literals_at s dead) l) c.literal) (sym links) (subst (Contains so_far) (sym literal) has_negated);
+          falsified_too = λ m has. false_whole es n m (way.falsified_before m (subst (λ (l : List Link). Contains (chained s (literals_at s falsified) l) m) links has));
+          has = subst (λ (l : List Link). Contains (chained s (literals_at s falsified) l) c.literal) (sym links) (subst (Contains so_far) (sym literal) has_negated);
           last =
               ap (λ (k : Lit). level_on es k.term) literal ∙ level_found es e.literal.term e (its_entry size es order n i is e at) ∙ last_level;
           others = λ m has other.
-              let there = subst (λ (l : List Link). Contains (chained s (literals_at s dead) l) m) links has in
+              let there = subst (λ (l : List Link). Contains (chained s (literals_at s falsified) l) m) links has in
               let before = before_here m there (λ same. other (same ∙ sym literal)) in
               earlier none m there before;
-          marked = subst (λ (l : List Link). AreMarked (chained s (literals_at s dead) l) marks) (sym links) way.marked;
+          marked = subst (λ (l : List Link). AreMarked (chained s (literals_at s falsified) l) marks) (sym links) way.marked;
         }
 
     -- the reason of the entry, its other literals before it
-    module _ (clause : ℕ) (reason : e.reason ≡ Some clause) (implied : IsImplied s (take i es) e) (new : List Bool) (more : ℕ)
+    module _ (tells : TellsLits) (clause : ℕ) (reason : e.reason ≡ Some clause) (implied : IsImplied s (take i es) e) (new : List Bool) (more : ℕ)
         (made : MarksCounted es (literals_at s clause) (depth es) (slice_set marks e.literal.term false) new more) where
       reason_is : IsReason s (take i es) e.literal clause
       reason_is = subst (IsReasonOf s (take i es) e.literal) reason implied
@@ -139,18 +139,18 @@ module _ (s : LogState) (size : ℕ) (es : List Assigned) (order : EachBehind (I
       abbrev longer : List Link
       longer = ks ++ link_of e clause ∷ []
 
-      longer_is : chained s (literals_at s dead) longer ≡ lit_resolvent (negated_lit e.literal) so_far (literals_at s clause)
-      longer_is = chained_more s (literals_at s dead) ks (link_of e clause)
+      longer_is : chained s (literals_at s falsified) longer ≡ lit_resolvent (negated_lit e.literal) so_far (literals_at s clause)
+      longer_is = chained_more s (literals_at s falsified) ks (link_of e clause)
 
-      parts : (m : Lit) → Contains (chained s (literals_at s dead) longer) m
+      parts : (m : Lit) → Contains (chained s (literals_at s falsified) longer) m
           → (Contains so_far m × (m ≢ negated_lit e.literal)) ⊎ (Contains (literals_at s clause) m × (m ≢ e.literal))
-      parts m has = longer_from s (literals_at s dead) ks e clause m has
+      parts m has = longer_from tells s (literals_at s falsified) ks e clause m has
 
-      before_new : (m : Lit) → Contains (chained s (literals_at s dead) longer) m → IsFalseOn (take i es) m
+      before_new : (m : Lit) → Contains (chained s (literals_at s falsified) longer) m → IsFalseOn (take i es) m
       before_new m has =
           elim (parts m has) [ inl old ↦ before_here m old.0 old.1 | inr of_reason ↦ reason_is.others m of_reason.0 of_reason.1 ]
 
-      on_new : (m : Lit) → Contains (chained s (literals_at s dead) longer) m → is_marked new m.term ≡ true
+      on_new : (m : Lit) → Contains (chained s (literals_at s falsified) longer) m → is_marked new m.term ≡ true
       on_new m has =
           elim (parts m has) [
             | inl old ↦
@@ -159,17 +159,17 @@ module _ (s : LogState) (size : ℕ) (es : List Assigned) (order : EachBehind (I
             | inr of_reason ↦ made.marks.marked m of_reason.0 (false_whole es i m (reason_is.others m of_reason.0 of_reason.1))
           ]
 
-      has_old : (m : Lit) → Contains so_far m → m ≢ negated_lit e.literal → Contains (chained s (literals_at s dead) longer) m
+      has_old : (m : Lit) → Contains so_far m → m ≢ negated_lit e.literal → Contains (chained s (literals_at s falsified) longer) m
       has_old m has other =
           subst (λ (c : List Lit). Contains c m) (sym longer_is)
-          (resolvent_first (negated_lit e.literal) so_far (literals_at s clause) m has (λ same. other (sym same)))
+          (resolvent_first tells (negated_lit e.literal) so_far (literals_at s clause) m has (λ same. other (sym same)))
 
-      has_of_reason : (m : Lit) → Contains (literals_at s clause) m → m ≢ e.literal → Contains (chained s (literals_at s dead) longer) m
+      has_of_reason : (m : Lit) → Contains (literals_at s clause) m → m ≢ e.literal → Contains (chained s (literals_at s falsified) longer) m
       has_of_reason m has other =
           subst (λ (c : List Lit). Contains c m) (sym longer_is)
-          (resolvent_second (negated_lit e.literal) so_far (literals_at s clause) m has (λ same. other (sym same ∙ twice_negated e.literal)))
+          (resolvent_second tells (negated_lit e.literal) so_far (literals_at s clause) m has (λ same. other (sym same ∙ twice_negated e.literal)))
 
-      only_new : (t : ℕ) → is_marked new t ≡ true → (m : Lit) × Contains (chained s (literals_at s dead) longer) m × (m.term ≡ t)
+      only_new : (t : ℕ) → is_marked new t ≡ true → (m : Lit) × Contains (chained s (literals_at s falsified) longer) m × (m.term ≡ t)
       only_new t up =
           elim (made.marks.only t up) [
             | inl old ↦
@@ -185,10 +185,10 @@ module _ (s : LogState) (size : ℕ) (es : List Assigned) (order : EachBehind (I
           let step = made.count i (λ m has false_too. reason_is.others m has (λ same. not_false size es order n i is e at (subst (IsFalseOn es) same false_too))) in
           omega (arith, way.count, sum_here, off, step)
 
-      pub way_on : 1 < left → IsOnWayBack s es dead i new longer (left - 1 + more)
+      pub way_on : 1 < left → IsOnWayBack s es falsified i new longer (left - 1 + more)
       way_on many = record {
         links = links_longer s es i e at ks clause reason_is.live way.links;
-        dead_before = before_new;
+        falsified_before = before_new;
         marked = record { each = on_new; only = only_new };
         count = counts_new;
         some = omega (arith, many);
@@ -203,29 +203,29 @@ counted_over es c d level top old new more e f h =
 
 -- ---- The start and the end
 
-pub way_over : (s : LogState) (es : List Assigned) (dead : ℕ) (marks : List Bool) (ks : List Link) (left n : ℕ) → n ≡ 0 → IsOnWayBack s es dead n marks ks left → ⊥
-way_over s es dead marks ks left n none way =
+pub way_over : (s : LogState) (es : List Assigned) (falsified : ℕ) (marks : List Bool) (ks : List Link) (left n : ℕ) → n ≡ 0 → IsOnWayBack s es falsified n marks ks left → ⊥
+way_over s es falsified marks ks left n none way =
     let count : left ≡ 0 = way.count ∙ ap (λ (k : ℕ). marked_of marks (depth es) (take k es)) none in
     omega (arith, count, way.some)
 
-module _ (s : LogState) (size : ℕ) (es : List Assigned) (order : EachBehind (IsNext size) es) (dead : ℕ) (old new : List Bool) (left n : ℕ) (all : n ≡ length es)
-    (falses : IsDead es (literals_at s dead)) (unmarked : AreUnmarked old) (made : MarksCounted es (literals_at s dead) (depth es) old new left) where
+module _ (s : LogState) (size : ℕ) (es : List Assigned) (order : EachBehind (IsNext size) es) (falsified : ℕ) (old new : List Bool) (left n : ℕ) (all : n ≡ length es)
+    (falses : IsFalsified es (literals_at s falsified)) (unmarked : AreUnmarked old) (made : MarksCounted es (literals_at s falsified) (depth es) old new left) where
   whole : take n es ≡ es
   whole = take_all n es (omega (arith, all))
 
   abbrev IsOfLast : Lit → Type 0
   IsOfLast l = (i : ℕ) × (e : Assigned) × (slice_get es i ≡ Some e) × (e.literal.term ≡ l.term) × (e.literal.sign ≡ not l.sign) × (e.level ≡ depth es)
 
-  of_last_level : (l : Lit) → Contains (literals_at s dead) l → level_on es l.term ≡ depth es → IsOfLast l
+  of_last_level : (l : Lit) → Contains (literals_at s falsified) l → level_on es l.term ≡ depth es → IsOfLast l
   of_last_level l has last =
       let e = false_entry es l (falses l has) in
       let p = assigned_place es l.term e.0 e.1 in
       (p.1.0, e.0, p.1.1, p.0, e.2, sym (level_found es l.term e.0 e.1) ∙ last)
 
-  marked_here : (l : Lit) → Contains (literals_at s dead) l → (w : IsOfLast l) → is_marked new w.1.literal.term ≡ true
+  marked_here : (l : Lit) → Contains (literals_at s falsified) l → (w : IsOfLast l) → is_marked new w.1.literal.term ≡ true
   marked_here l has w = ap (is_marked new) w.3 ∙ made.marks.marked l has (falses l has)
 
-  two_left : HasTwoLast es (literals_at s dead) → 2 ≤ marked_of new (depth es) es
+  two_left : HasTwoLast es (literals_at s falsified) → 2 ≤ marked_of new (depth es) es
   two_left two =
       let a = of_last_level two.first two.has_first two.first_last in
       let b = of_last_level two.second two.has_second two.second_last in
@@ -244,7 +244,7 @@ module _ (s : LogState) (size : ℕ) (es : List Assigned) (order : EachBehind (I
             ]
       ]
 
-  pub way_starts : HasTwoLast es (literals_at s dead) → IsOnWayBack s es dead n new [] left
+  pub way_starts : HasTwoLast es (literals_at s falsified) → IsOnWayBack s es falsified n new [] left
   way_starts two =
       let none = none_counted old (depth es) (take n es) (λ x has on last. true≢false (sym on ∙ unmarked x.literal.term)) in
       let step = made.count n (λ l has false_too. subst (λ (front : List Assigned). IsFalseOn front l) (sym whole) false_too) in
@@ -252,7 +252,7 @@ module _ (s : LogState) (size : ℕ) (es : List Assigned) (order : EachBehind (I
       let many : 2 ≤ marked_of new (depth es) (take n es) = subst (λ (front : List Assigned). 2 ≤ marked_of new (depth es) front) (sym whole) (two_left two) in
       record {
         links = no_links s es;
-        dead_before = λ l has. subst (λ (front : List Assigned). IsFalseOn front l) (sym whole) (falses l has);
+        falsified_before = λ l has. subst (λ (front : List Assigned). IsFalseOn front l) (sym whole) (falses l has);
         marked = record {
           each = λ l has. made.marks.marked l has (falses l has);
           only = λ t on. elim (made.marks.only t on) [ inl was ↦ absurd (true≢false (sym was ∙ unmarked t)) | inr w ↦ (w.0, w.1, w.3) ];

@@ -16,7 +16,7 @@ use Rattle.nz_log.specs.Theories.{AddsUnits, Grows}
 use Rattle.nz_sat.specs.declared.clauses.Held.{Held}
 use Rattle.nz_sat.specs.declared.search.Search.{Search}
 use Rattle.nz_sat.specs.declared.trail.Assigned.{Assigned}
-use Rattle.nz_sat.specs.Clauses.{HasReasonOf, IsAssumed, IsDead, IsImplied, IsOpen, ids_of}
+use Rattle.nz_sat.specs.Clauses.{HasReasonOf, IsAssumed, IsFalsified, IsImplied, IsOpen, ids_of}
 use Rattle.nz_sat.specs.Conflicts.{GoesBackTo, HasLast}
 use Rattle.nz_sat.specs.Numbers.{noted_atoms, numbered}
 use Rattle.nz_sat.specs.Searching.{AreOpen, IsConflict, IsNoted, IsSearch, WereOpen, ids}
@@ -24,7 +24,7 @@ use Rattle.nz_sat.specs.Trails.{EachBehind, IsFalseOn, IsFrontOf, IsNext, below,
 use Rattle.nz_sat.proofs.Advancing.{held_on}
 use Rattle.nz_sat.proofs.Keeping.{held_live}
 use Rattle.nz_sat.proofs.Learning.{literals_kept, reason_kept}
-use Rattle.nz_sat.proofs.Lessons.{all_from, false_level}
+use Rattle.nz_sat.proofs.LearnedClauses.{all_from, false_level}
 use Rattle.nz_sat.proofs.Levels.{below_depth, below_false, below_front, below_twice, found_below}
 use Rattle.nz_sat.proofs.Marks.{false_entry, level_found}
 use Rattle.nz_sat.proofs.Trailing.{each_front, each_weaker}
@@ -154,7 +154,7 @@ module _ (log : LogState) (held : List Held) (s : Search) (h : IsSearch log held
       elim (cases_lt 0 b.level) [
         | inl some ↦
             let w = b.greatest.reached some in
-            let most = false_level s.trail.size es h.order w.0 (c.dead w.0 w.1) in
+            let most = false_level s.trail.size es h.order w.0 (c.falsified w.0 w.1) in
             omega (arith, w.2, most)
         | inr none ↦ omega arith
       ]
@@ -162,11 +162,11 @@ module _ (log : LogState) (held : List Held) (s : Search) (h : IsSearch log held
   pub cut_depth : depth es' ≡ b.level
   cut_depth = ap depth b.cut ∙ below_depth s.trail.size es h.order b.level level_inside
 
-  pub cut_dead : IsDead es' lits
-  cut_dead l has = subst (λ (xs : List Assigned). IsFalseOn xs l) (sym b.cut) (below_false s.trail.size es h.order b.level l (c.dead l has) (b.greatest.most l has))
+  pub cut_falsified : IsFalsified es' lits
+  cut_falsified l has = subst (λ (xs : List Assigned). IsFalseOn xs l) (sym b.cut) (below_false s.trail.size es h.order b.level l (c.falsified l has) (b.greatest.most l has))
 
   pub cut_conflict : IsConflict log held es' id
-  cut_conflict = record { live = c.live; dead = cut_dead; kind = c.kind }
+  cut_conflict = record { live = c.live; falsified = cut_falsified; kind = c.kind }
 
   pub cut_were : WereOpen log held es → WereOpen log held es'
   cut_were were k less =
@@ -178,7 +178,7 @@ module _ (log : LogState) (held : List Held) (s : Search) (h : IsSearch log held
   cut_last above =
       let same = cut_depth in
       let w = b.greatest.reached (omega arith) in
-      let e = false_entry es w.0 (c.dead w.0 w.1) in
+      let e = false_entry es w.0 (c.falsified w.0 w.1) in
       let level = level_found es w.0.term e.0 e.1 in
       let there = found_below b.level w.0.term es e.0 e.1 (omega (arith, level, w.2)) in
       let now : level_on es' w.0.term ≡ e.0.level = ap (λ (xs : List Assigned). level_on xs w.0.term) b.cut ∙ level_found (below b.level es) w.0.term e.0 there in

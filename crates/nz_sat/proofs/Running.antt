@@ -12,6 +12,7 @@ use Rattle.nz_spec.specs.Table.{Node}
 use Rattle.nz_spec.specs.Work.{DecisionEntry, UnitLine, WorkLine, WorkList, is_unit, unit_count}
 use Rattle.nz_log.specs.declared.lits.Lit.{Lit}
 use Rattle.nz_log.specs.declared.note.Note.{Note}
+use Rattle.nz_log.specs.declared.stop.Stop.{Stop}
 use Rattle.nz_log.specs.Logs.{LogState, IsLive, literals_at}
 use Rattle.nz_log.specs.Theories.{Grows}
 use Rattle.nz_sat.specs.declared.clauses.Held.{Held}
@@ -20,10 +21,10 @@ use Rattle.nz_sat.specs.declared.trail.Assigned.{Assigned}
 use Rattle.nz_sat.specs.Clauses.{IsAssumed}
 use Rattle.nz_sat.specs.Numbers.{number_of, numbered}
 use Rattle.nz_sat.specs.Conflicts.{Refutes, StaysSound}
-use Rattle.nz_sat.specs.Searching.{Advances, AreOpen, AreWaiting, AssumesAll, Carries, Decides, IsNoted, IsSearch, Runs, Settles, SettlesOn, WereOpen, assumed_entries}
+use Rattle.nz_sat.specs.Searching.{Advances, AreOpen, AreWaiting, AssumesAll, Carries, Decides, IsNoted, IsSearch, Runs, Settles, SettlesOn, Steps, WereOpen, assumed_entries}
 use Rattle.nz_sat.specs.Theories.{IsMet, IsTold}
 use Rattle.nz_sat.specs.Trails.{AreUpTo, EachBehind, IsFrontOf, IsNext, IsTrueOn, TrailState, assigned, below, decided, depth, is_decision, literals_on, with_entry}
-use Rattle.nz_sat.proofs.Advancing.{far_advances, log_advances}
+use Rattle.nz_sat.proofs.Advancing.{far_advances, log_advances, steps_behind}
 use Rattle.nz_sat.proofs.Cutting.{below_all}
 use Rattle.nz_sat.proofs.Deciding.{decided_advances, decided_assumed, decided_first, decided_noted, decided_search, decided_waits, decided_were}
 use Rattle.nz_sat.proofs.Following.{carries_far, stays_in_order}
@@ -228,6 +229,13 @@ run_advances {over} {over'} {assumed} {start} {s} {log} {log'} {log''} {held} {h
     far_advances over over' keeps start.atoms (assumed_entries assumed) s.trail.entries log log' log'' held held' held'' work work' work''
     (λ all only. assumed_wider assumed all only s.trail.entries h.assumed_only) before
     (subst (λ (us : List ℕ). Advances over' us s.trail.entries log' log'' held' held'' work' work'') h.same step)
+
+pub run_steps : {over over' over'' : List Node → Type 0} → {has_told : List Lit → Type 0} → {is_feasible : Type 0} → {assumed : List Lit} → {start s : Search}
+    → {es : List Assigned} → {log log' log'' : LogState} → {held held' held'' : List Held} → {work work' work'' : WorkList Note} → {answer : Result (Option ℕ) Stop}
+    → Advances over start.atoms (assumed_entries assumed) log log' held held' work work' → Runs log' held' assumed start s work' → ((ns : List Node) → over ns → over' ns)
+    → Steps over' over'' has_told is_feasible s.atoms s.trail.entries es log' log'' held' held'' work' work'' answer
+    → Steps over over'' has_told is_feasible start.atoms (assumed_entries assumed) es log log'' held held'' work work'' answer
+run_steps before h keeps step = steps_behind (run_advances before h keeps step.advances) keeps step
 
 -- what the theory met it was told
 pub met_told : {has_told : List Lit → Type 0} → {is_feasible : Type 0} → {es : List Assigned} → IsMet has_told is_feasible es → IsTold has_told es

@@ -27,7 +27,7 @@ use Rattle.nz_sat.specs.Trails.{AreTruthsOn, EachBehind, IsNext, IsTrueOn, assig
 use Rattle.nz_sat.proofs.Chains.{has_found, lit_is}
 use Rattle.nz_sat.proofs.Clausal.{free_missing}
 use Rattle.nz_sat.proofs.Keeping.{held_has}
-use Rattle.nz_sat.proofs.Lessons.{all_from}
+use Rattle.nz_sat.proofs.LearnedClauses.{all_from}
 use Rattle.nz_sat.proofs.Levels.{below_true}
 use Rattle.nz_sat.proofs.Noting.{held_named}
 use Rattle.nz_sat.proofs.Telling.{entry_from}

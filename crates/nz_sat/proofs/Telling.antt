@@ -12,12 +12,12 @@ use Rattle.nz_log.specs.Logs.{LogState, literals_at}
 use Rattle.nz_log.specs.Sound.{AreWithin, IsLog}
 use Rattle.nz_log.specs.Theories.{Grows, IsClash}
 use Rattle.nz_sat.specs.declared.trail.Assigned.{Assigned}
-use Rattle.nz_sat.specs.Clauses.{IsDead}
+use Rattle.nz_sat.specs.Clauses.{IsFalsified}
 use Rattle.nz_sat.specs.Theories.{IsTold, StaysSoundOver}
 use Rattle.nz_sat.specs.Trails.{EachBehind, IsFrontOf, IsNext, assigned, literals_on}
 use Rattle.nz_sat.proofs.Advancing.{grows_far, grows_none}
 use Rattle.nz_sat.proofs.Chains.{has_found}
-use Rattle.nz_sat.proofs.Lessons.{all_from}
+use Rattle.nz_sat.proofs.LearnedClauses.{all_from}
 use Rattle.nz_sat.proofs.Trailing.{assigned_at}
 
 -- ---- Literals of a trail
@@ -118,9 +118,9 @@ tells_clash log es i e at (Some id) c =
 
 -- ---- A clause of negations
 
--- it is dead
-pub clash_dead : (size : ℕ) (es : List Assigned) → EachBehind (IsNext size) es → (log : LogState) (id : ℕ) → IsClash log (literals_on es) id → IsDead es (literals_at log id)
-clash_dead size es order log id c l has =
+-- it is falsified
+pub clash_falsified : (size : ℕ) (es : List Assigned) → EachBehind (IsNext size) es → (log : LogState) (id : ℕ) → IsClash log (literals_on es) id → IsFalsified es (literals_at log id)
+clash_falsified size es order log id c l has =
     let e = entry_from es (negated_lit l) (c.negations l has) in
     let there : assigned es e.1.literal.term ≡ Some e.1 = assigned_at es e.0 e.1 e.2 (order e.0 e.1 e.2).fresh in
     let term : e.1.literal.term ≡ l.term = ap (λ (x : Lit). x.term) e.3 in

@@ -6,12 +6,12 @@ use Rattle.nz_log.specs.declared.lits.Lit.{Lit}
 use Rattle.nz_log.specs.Lits.{negated_lit}
 use Rattle.nz_log.specs.Logs.{LogState, IsLive, literals_at}
 use Rattle.nz_sat.specs.declared.clauses.Index.{Index}
-use Rattle.nz_sat.specs.declared.propagate.Standing.{Standing}
-use Rattle.nz_sat.specs.declared.propagate.Standing.TheVariants.{Open, Unit, Dead}
+use Rattle.nz_sat.specs.declared.propagate.Status.{Status}
+use Rattle.nz_sat.specs.declared.propagate.Status.TheVariants.{Open, Unit, Falsified}
 use Rattle.nz_sat.specs.declared.trail.Assigned.{Assigned}
 use Rattle.nz_sat.specs.Trails.{IsTrueOn, IsFalseOn, IsFreeOn}
 
--- ---- How a clause stands
+-- ---- The status of a clause
 
 -- A clause that is open has a true literal, or two that are undecided.
 pub data IsOpen (es : List Assigned) (c : List Lit) : Type 0 where
@@ -19,8 +19,8 @@ pub data IsOpen (es : List Assigned) (c : List Lit) : Type 0 where
   by_two : (l m : Lit) → Contains c l → Contains c m → l ≢ m → IsFreeOn es l → IsFreeOn es m → IsOpen es c
 
 -- each literal is false
-abbrev pub IsDead : List Assigned → List Lit → Type 0
-IsDead es c = (l : Lit) → Contains c l → IsFalseOn es l
+abbrev pub IsFalsified : List Assigned → List Lit → Type 0
+IsFalsified es c = (l : Lit) → Contains c l → IsFalseOn es l
 
 -- Each literal is false but this one, which is undecided.
 pub record IsUnit (es : List Assigned) (c : List Lit) (l : Lit) : Type 0 where
@@ -28,10 +28,10 @@ pub record IsUnit (es : List Assigned) (c : List Lit) (l : Lit) : Type 0 where
   pub free : IsFreeOn es l
   pub others : (m : Lit) → Contains c m → m ≢ l → IsFalseOn es m
 
-abbrev pub StandsSo : List Assigned → List Lit → Standing → Type 0
-StandsSo es c Open = IsOpen es c
-StandsSo es c (Unit l) = IsUnit es c l
-StandsSo es c Dead = IsDead es c
+abbrev pub HasStatus : List Assigned → List Lit → Status → Type 0
+HasStatus es c Open = IsOpen es c
+HasStatus es c (Unit l) = IsUnit es c l
+HasStatus es c Falsified = IsFalsified es c
 
 -- A literal of the clause is false since a place of the trail at or behind this one.
 pub record IsAhead (es : List Assigned) (head : ℕ) (c : List Lit) : Type 0 where

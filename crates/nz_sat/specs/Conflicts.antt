@@ -8,10 +8,10 @@ use Rattle.nz_log.specs.declared.origins.Link.{Link}
 use Rattle.nz_log.specs.Logs.{LogState, IsLive, chained, literals_at}
 use Rattle.nz_log.specs.Sound.{IsLog}
 use Rattle.nz_sat.specs.declared.analyze.Chain.{Chain}
-use Rattle.nz_sat.specs.declared.analyze.Lesson.{Lesson}
+use Rattle.nz_sat.specs.declared.analyze.Learned.{Learned}
 use Rattle.nz_sat.specs.declared.trail.Assigned.{Assigned}
 use Rattle.nz_sat.specs.Trails.{IsFalseOn, below, depth, level_on}
-use Rattle.nz_sat.specs.Clauses.{IsDead, IsAssumed}
+use Rattle.nz_sat.specs.Clauses.{IsFalsified, IsAssumed}
 
 -- where the trail is over a table, the log stays in order
 abbrev pub StaysSound : List Assigned → LogState → LogState → Type 0
@@ -67,9 +67,9 @@ pub record IsLoneLast (es : List Assigned) (c : List Lit) (l : Lit) : Type 0 whe
   pub last : level_on es l.term ≡ depth es
   pub others : (m : Lit) → Contains c m → m ≢ l → level_on es m.term ≢ depth es
 
--- a clause has two literals of the last level, or has each once, so that it may be a lesson itself
-abbrev pub IsLessonLike : List Assigned → List Lit → Type 0
-IsLessonLike es c = HasTwoLast es c ⊎ StandOnce c
+-- a clause has two literals of the last level, or has each once, so that it may be the learned clause itself
+abbrev pub IsLearnable : List Assigned → List Lit → Type 0
+IsLearnable es c = HasTwoLast es c ⊎ StandOnce c
 
 -- the links rest on live clauses, and resolve on terms of the trail
 abbrev pub AreLinks : LogState → List Assigned → List Link → Type 0
@@ -82,23 +82,23 @@ pub record AreMarked (c : List Lit) (marks : List Bool) : Type 0 where
 
 -- The way back along the trail, down to a place: the chain so far comes to a clause whose literals are false before that place, just
 -- its terms are marked, and so many of them are of the last level. Where one is left, there is a link.
-pub record IsOnWayBack (s : LogState) (es : List Assigned) (dead place : ℕ) (marks : List Bool) (ks : List Link) (left : ℕ) : Type 0 where
+pub record IsOnWayBack (s : LogState) (es : List Assigned) (falsified place : ℕ) (marks : List Bool) (ks : List Link) (left : ℕ) : Type 0 where
   pub links : AreLinks s es ks
-  pub dead_before : IsDead (take place es) (chained s (literals_at s dead) ks)
-  pub marked : AreMarked (chained s (literals_at s dead) ks) marks
+  pub falsified_before : IsFalsified (take place es) (chained s (literals_at s falsified) ks)
+  pub marked : AreMarked (chained s (literals_at s falsified) ks) marks
   pub count : left ≡ marked_of marks (depth es) (take place es)
   pub some : 0 < left
   pub linked : left ≡ 1 → 0 < length ks
 
 -- The chain from a clause comes to one in which each literal is false, and this one alone of the last level; just its terms are marked.
-pub record IsChain (s : LogState) (es : List Assigned) (dead : ℕ) (marks : List Bool) (c : Chain) : Type 0 where
+pub record IsChain (s : LogState) (es : List Assigned) (falsified : ℕ) (marks : List Bool) (c : Chain) : Type 0 where
   pub links : AreLinks s es c.links.items
   pub some : 0 < length c.links.items
-  pub dead_too : IsDead es (chained s (literals_at s dead) c.links.items)
-  pub has : Contains (chained s (literals_at s dead) c.links.items) c.literal
+  pub falsified_too : IsFalsified es (chained s (literals_at s falsified) c.links.items)
+  pub has : Contains (chained s (literals_at s falsified) c.links.items) c.literal
   pub last : level_on es c.literal.term ≡ depth es
-  pub others : (m : Lit) → Contains (chained s (literals_at s dead) c.links.items) m → m ≢ c.literal → level_on es m.term < depth es
-  pub marked : AreMarked (chained s (literals_at s dead) c.links.items) marks
+  pub others : (m : Lit) → Contains (chained s (literals_at s falsified) c.links.items) m → m ≢ c.literal → level_on es m.term < depth es
+  pub marked : AreMarked (chained s (literals_at s falsified) c.links.items) marks
 
 -- A level is the greatest of those of the literals but one.
 pub record IsGreatestBut (es : List Assigned) (but : Lit) (c : List Lit) (level : ℕ) : Type 0 where
@@ -117,10 +117,10 @@ pub record GoesBackTo (c : List Lit) (es es' : List Assigned) : Type 0 where
   pub cut : es' ≡ below level es
 
 -- A clause in which each literal is false, of which one literal is of the last level; the greatest level of the others is told.
-pub record IsLesson (s : LogState) (es : List Assigned) (l : Lesson) : Type 0 where
+pub record IsLearned (s : LogState) (es : List Assigned) (l : Learned) : Type 0 where
   pub live : IsLive s l.clause
   pub once : StandOnce (literals_at s l.clause)
-  pub dead : IsDead es (literals_at s l.clause)
+  pub falsified : IsFalsified es (literals_at s l.clause)
   pub has : Contains (literals_at s l.clause) l.literal
   pub last : level_on es l.literal.term ≡ depth es
   pub earlier : l.level < depth es
@@ -132,8 +132,8 @@ abbrev pub Refutes : List Lit → List Lit → Type 0
 Refutes assumed c = (l : Lit) → Contains c l → Contains assumed (negated_lit l)
 
 -- each literal is false, or the negation of an assumed one
-abbrev pub IsDeadUnder : List Lit → List Assigned → List Lit → Type 0
-IsDeadUnder assumed es c = (l : Lit) → Contains c l → IsFalseOn es l ⊎ Contains assumed (negated_lit l)
+abbrev pub IsFalsifiedUnder : List Lit → List Assigned → List Lit → Type 0
+IsFalsifiedUnder assumed es c = (l : Lit) → Contains c l → IsFalseOn es l ⊎ Contains assumed (negated_lit l)
 
 -- A literal is false before a place of the trail, and its term is marked.
 pub record IsMarkedBefore (es : List Assigned) (place : ℕ) (marks : List Bool) (l : Lit) : Type 0 where
@@ -142,12 +142,12 @@ pub record IsMarkedBefore (es : List Assigned) (place : ℕ) (marks : List Bool)
 
 -- The way back to the assumed literals, down to a place: each literal of the clause so far is the negation of an assumed one, or is false
 -- before that place, and marked.
-pub record IsOnWayToAssumed (s : LogState) (es : List Assigned) (dead place : ℕ) (marks : List Bool) (ks : List Link) : Type 0 where
+pub record IsOnWayToAssumed (s : LogState) (es : List Assigned) (falsified place : ℕ) (marks : List Bool) (ks : List Link) : Type 0 where
   pub links : AreLinks s es ks
-  pub each : (assumed : List Lit) → All (IsAssumed assumed) es → IsDeadUnder assumed es (literals_at s dead) → (l : Lit)
-      → Contains (chained s (literals_at s dead) ks) l → Contains assumed (negated_lit l) ⊎ IsMarkedBefore es place marks l
+  pub each : (assumed : List Lit) → All (IsAssumed assumed) es → IsFalsifiedUnder assumed es (literals_at s falsified) → (l : Lit)
+      → Contains (chained s (literals_at s falsified) ks) l → Contains assumed (negated_lit l) ⊎ IsMarkedBefore es place marks l
 
--- where the trail has no entries without a reason but assumed ones, and a clause is dead but for negations of assumed ones, what comes of it
+-- where the trail has no entries without a reason but assumed ones, and a clause is falsified but for negations of assumed ones, what comes of it
 -- refutes these
 abbrev pub RefutesFrom : List Assigned → (from to : List Lit) → Type 0
-RefutesFrom es from to = (assumed : List Lit) → All (IsAssumed assumed) es → IsDeadUnder assumed es from → Refutes assumed to
+RefutesFrom es from to = (assumed : List Lit) → All (IsAssumed assumed) es → IsFalsifiedUnder assumed es from → Refutes assumed to

@@ -1,25 +1,29 @@
 -- A search under way.
-use Rattle.std.specs.Prelude.{◌≡◌, ℕ, suc, ◌<◌, ◌≤◌, ◌++◌, ◌⊎◌, Bool, All, Contains, List, [], ◌∷◌, length, map, filter, Option, Some, None, IfSome, IsSome, unwrap_or}
+use Rattle.std.specs.Prelude.{◌≡◌, ℕ, suc, ◌<◌, ◌≤◌, ◌++◌, ◌⊎◌, Bool, All, Contains, List, [], ◌∷◌, length, map, filter, Option, Some, None, IfErr, IfOk, IfSome, IsSome, OnOk, unwrap_or}
+use Rattle.std.specs.declared.result.Result.{Result}
 use Rattle.nz_spec.specs.Table.{Node, term_in}
 use Rattle.nz_spec.specs.Literal.{StandOnce}
 use Rattle.nz_spec.specs.Legal.{after_lines, at_first, Task}
-use Rattle.nz_spec.specs.Work.{DecisionEntry, LearnedEntry, UnitLine, WorkLine, WorkList, unit_count, with_line}
+use Rattle.nz_spec.specs.Work.{DecisionEntry, IsSpent, LearnedEntry, UnitLine, WorkLine, WorkList, unit_count, with_line}
 use Rattle.nz_log.specs.declared.lits.Lit.{Lit}
 use Rattle.nz_log.specs.declared.note.Note.{Note}
+use Rattle.nz_log.specs.declared.stop.Stop.{Stop}
+use Rattle.nz_log.specs.declared.stop.Stop.TheVariants.{Spent}
 use Rattle.nz_log.specs.Lits.{AreConsistent}
 use Rattle.nz_log.specs.Logs.{LogState, IsLive, literals_at}
 use Rattle.nz_log.specs.Notes.{noted_list}
 use Rattle.nz_sat.specs.declared.clauses.Held.{Held}
-use Rattle.nz_sat.specs.declared.analyze.Lesson.{Lesson}
+use Rattle.nz_sat.specs.declared.analyze.Learned.{Learned}
 use Rattle.nz_sat.specs.declared.search.Search.{Search}
 use Rattle.nz_sat.specs.declared.trail.Assigned.{Assigned}
 use Rattle.nz_log.specs.Sound.{IsLog}
 use Rattle.nz_sat.specs.Trails.{EachBehind, GoesOn, IsFrontOf, IsTrail, IsTrueOn, assigned, below, decided, depth, implied, is_decision, with_entry}
-use Rattle.nz_sat.specs.Clauses.{HasReasonOf, IsAssumed, IsDead, IsImplied, IsListed, IsOfSize, IsOpen, Waits, ids_of}
+use Rattle.nz_sat.specs.Clauses.{HasReasonOf, IsAssumed, IsFalsified, IsImplied, IsListed, IsOfSize, IsOpen, Waits, ids_of}
 use Rattle.nz_log.specs.Theories.{Grows}
-use Rattle.nz_sat.specs.Conflicts.{AreUnmarked, IsDeadUnder}
+use Rattle.nz_sat.specs.Conflicts.{AreUnmarked, IsFalsifiedUnder}
 use Rattle.nz_sat.specs.Numbers.{noted_atoms, number_of, numbered}
 use Rattle.nz_sat.specs.Sats.{AreHeld, HoldsMore, IsAsked, IsLegalWork}
+use Rattle.nz_sat.specs.Theories.{IsMet, IsTold}
 
 abbrev pub ids : List Held → List ℕ
 ids held = map (λ (h : Held). h.id) held
@@ -66,13 +70,13 @@ pub record WasNoted (log : LogState) (held : List Held) (atoms : List ℕ) (es :
 
 -- ---- Before the first decision
 
--- Nothing is decided, and each clause is open where none is told dead.
+-- Nothing is decided, and each clause is open where none is told falsified.
 pub record Starts (log : LogState) (held : List Held) (s : Search) (told : Option ℕ) : Type 0 where
   pub search : IsSearch log held s
   pub by_reasons : All (λ (e : Assigned). IsSome e.reason) s.trail.entries
   pub undecided : depth s.trail.entries ≡ 0
   pub all_open : told ≡ None → AreOpen log held s.trail.entries
-  pub dead : IfSome told (λ id. Contains (ids held) id × IsDead s.trail.entries (literals_at log id))
+  pub falsified : IfSome told (λ id. Contains (ids held) id × IsFalsified s.trail.entries (literals_at log id))
 
 -- An assumed literal of an atom may be put on the trail of a search whose clauses are open, before the first decision.
 pub record MayAssume (log : LogState) (held : List Held) (assumed : List Lit) (literal : Lit) (s : Search) : Type 0 where
@@ -83,7 +87,7 @@ pub record MayAssume (log : LogState) (held : List Held) (assumed : List Lit) (l
   pub atom : Contains s.atoms literal.term
   pub consistent : AreConsistent assumed
 
--- The same where one more assumed literal is true, or a clause is told that is dead but for negations of assumed literals.
+-- The same where one more assumed literal is true, or a clause is told that is falsified but for negations of assumed literals.
 pub record Assumes (log : LogState) (held : List Held) (assumed : List Lit) (literal : Lit) (es : List Assigned) (s : Search) (told : Option ℕ) : Type 0 where
   pub search : IsSearch log held s
   pub assumed_only : All (IsAssumed assumed) s.trail.entries
@@ -91,7 +95,7 @@ pub record Assumes (log : LogState) (held : List Held) (assumed : List Lit) (lit
   pub kept : (l : Lit) → IsTrueOn es l → IsTrueOn s.trail.entries l
   pub holds : told ≡ None → IsTrueOn s.trail.entries literal
   pub all_open : told ≡ None → AreOpen log held s.trail.entries
-  pub dead : IfSome told (λ id. IsLive log id × IsDeadUnder assumed s.trail.entries (literals_at log id))
+  pub falsified : IfSome told (λ id. IsLive log id × IsFalsifiedUnder assumed s.trail.entries (literals_at log id))
 
 -- The same where each assumed literal is true.
 pub record AssumesAll (log : LogState) (held : List Held) (assumed : List Lit) (s : Search) (told : Option ℕ) : Type 0 where
@@ -100,7 +104,7 @@ pub record AssumesAll (log : LogState) (held : List Held) (assumed : List Lit) (
   pub undecided : depth s.trail.entries ≡ 0
   pub hold : told ≡ None → All (IsTrueOn s.trail.entries) assumed
   pub all_open : told ≡ None → AreOpen log held s.trail.entries
-  pub dead : IfSome told (λ id. IsLive log id × IsDeadUnder assumed s.trail.entries (literals_at log id))
+  pub falsified : IfSome told (λ id. IsLive log id × IsFalsifiedUnder assumed s.trail.entries (literals_at log id))
 
 -- ---- Steps
 
@@ -127,6 +131,16 @@ pub record Advances (over : List Node → Type 0) (atoms : List ℕ) (es : List 
   pub notes : noted_atoms work'.lines ≡ noted_atoms work.lines
   pub limit : work'.limit ≡ work.limit
 
+-- What a step of a search keeps, and its answer: what the theory was told of the trail, the whole of it where no clause is answered, which
+-- some values meet then; and that no unit is left where one more was wanted.
+pub record Steps (over over' : List Node → Type 0) (has_told : List Lit → Type 0) (is_feasible : Type 0) (atoms : List ℕ) (es es' : List Assigned) (log log' : LogState)
+    (held held' : List Held) (work work' : WorkList Note) (answer : Result (Option ℕ) Stop) : Type 0 where
+  pub advances : Advances over atoms es log log' held held' work work'
+  pub known : (ns : List Node) → over ns → over' ns
+  pub told : OnOk answer (IsTold has_told es')
+  pub met : IfOk answer (λ found. found ≡ None → IsMet has_told is_feasible es')
+  pub spent : IfErr answer (λ stop. stop ≡ Spent → IsSpent work')
+
 -- what is true under no decision stays so
 abbrev pub KeepsFirst : (es es' : List Assigned) → Type 0
 KeepsFirst es es' = (l : Lit) → IsTrueOn (below 0 es) l → IsTrueOn (below 0 es') l
@@ -137,22 +151,22 @@ pub record MayFollow (log : LogState) (held : List Held) (s : Search) (place : �
   pub were_open : WereOpen log held s.trail.entries
   pub waits : AreWaiting log held s.trail.entries place
 
--- the clauses are open, or this one is dead
-abbrev pub OpenOrDead : LogState → List Held → List Assigned → Option ℕ → Type 0
-OpenOrDead log held es None = AreOpen log held es
-OpenOrDead log held es (Some id) = Contains (ids held) id × IsDead es (literals_at log id)
+-- the clauses are open, or this one is falsified
+abbrev pub OpenOrFalsified : LogState → List Held → List Assigned → Option ℕ → Type 0
+OpenOrFalsified log held es None = AreOpen log held es
+OpenOrFalsified log held es (Some id) = Contains (ids held) id × IsFalsified es (literals_at log id)
 
--- The trail goes on, up to a dead clause, if one is told.
+-- The trail goes on, up to a falsified clause, if one is told.
 pub record Follows (log : LogState) (held : List Held) (s s' : Search) (told : Option ℕ) : Type 0 where
   pub search : IsSearch log held s'
   pub were_open : WereOpen log held s'.trail.entries
   pub goes_on : GoesOn s.trail.entries s'.trail.entries
-  pub told_so : OpenOrDead log held s'.trail.entries told
+  pub told_so : OpenOrFalsified log held s'.trail.entries told
 
 -- A clause of the log in which each literal is false: it is held, or has each literal once.
 pub record IsConflict (log : LogState) (held : List Held) (es : List Assigned) (id : ℕ) : Type 0 where
   pub live : IsLive log id
-  pub dead : IsDead es (literals_at log id)
+  pub falsified : IsFalsified es (literals_at log id)
   pub kind : Contains (ids held) id ⊎ StandOnce (literals_at log id)
 
 -- the clauses are open, or this one is a conflict
@@ -175,16 +189,16 @@ pub record Carries (s s' : Search) (work work' : WorkList Note) : Type 0 where
   pub assumed_only : (assumed : List Lit) → All (IsAssumed assumed) s.trail.entries → All (IsAssumed assumed) s'.trail.entries
   pub units : unit_count work.lines ≤ unit_count work'.lines
 
--- the line of a lesson
-abbrev pub learned_line : List ℕ → LogState → Lesson → WorkLine Note
+-- the line of a learned clause
+abbrev pub learned_line : List ℕ → LogState → Learned → WorkLine Note
 learned_line atoms log l = UnitLine (LearnedEntry l.level (map (numbered atoms) (literals_at log l.clause)))
 
--- the entries where a lesson makes a literal true
-abbrev pub after_lesson : List Assigned → Lesson → List Assigned
-after_lesson es l = below l.level es ++ implied (below l.level es) l.literal l.clause ∷ []
+-- the entries where a learned clause asserts its literal
+abbrev pub after_learned : List Assigned → Learned → List Assigned
+after_learned es l = below l.level es ++ implied (below l.level es) l.literal l.clause ∷ []
 
 -- A clause was learned and noted, and what it makes true stands at a place of the trail.
-pub record Learned (log : LogState) (held : List Held) (s s' : Search) (work work' : WorkList Note) (place : ℕ) : Type 0 where
+pub record Learns (log : LogState) (held : List Held) (s s' : Search) (work work' : WorkList Note) (place : ℕ) : Type 0 where
   pub search : IsSearch log held s'
   pub were_open : WereOpen log held s'.trail.entries
   pub inside : place ≤ length s'.trail.entries

@@ -1,23 +1,24 @@
-//! Conflict analysis: the clause that a conflict teaches, and the one that refutes the assumed literals.
+//! Conflict analysis: the clause that is learned from a conflict, and the one that refutes the assumed literals.
 ghost use Rattle.std.specs.Prelude.{◌≡◌, ◌≢◌, ℕ, ◌<◌, ◌≤◌, true, false, All, Contains, length, IfOk, MatchOption, OnOk};
 ghost use Rattle.nz_log.specs.declared.lits.Lit.{Lit};
 ghost use Rattle.nz_log.specs.Logs.{IsLive, chained, literals_at};
-ghost use Rattle.nz_sat.specs.Clauses.{IsDead, IsImplied};
+ghost use Rattle.nz_sat.specs.Clauses.{IsFalsified, IsImplied};
 ghost use Rattle.nz_log.specs.Theories.{Grows};
-ghost use Rattle.nz_sat.specs.Conflicts.{AreLinks, AreUnmarked, HasLast, HasTwoLast, IsChain, IsGreatest, IsGreatestBut, IsLesson, IsLessonLike, IsLoneLast, MarksCounted, RefutesFrom, StaysSound, is_marked};
+ghost use Rattle.nz_sat.specs.Conflicts.{AreLinks, AreUnmarked, HasLast, HasTwoLast, IsChain, IsGreatest, IsGreatestBut, IsLearnable, IsLearned, IsLoneLast, MarksCounted, RefutesFrom, StaysSound, is_marked};
 ghost use Rattle.nz_sat.specs.Trails.{EachBehind, IsTrail, depth, level_on};
 
 use crate::order::Order;
 use crate::trail::Trail;
 use nz_base::Memory;
+use nz_log::laws::tells_lits;
 use nz_log::{ClauseId, Link, Lit, Log};
 use std::alloc::Global;
 
-/// What a conflict teaches: a clause in which each literal is false, with one literal of the last level.
+/// A learned clause, in which each literal is false, with the literal that it asserts.
 #[derive(Clone, Copy)]
-pub struct Lesson {
+pub struct Learned {
     pub clause: ClauseId,
-    /// The literal of the last level.
+    /// The only literal of the last level.
     pub literal: Lit,
     /// The greatest level of the others.
     pub level: usize,
@@ -66,7 +67,7 @@ fn unmark(seen: &mut [bool], literals: &[Lit])
     }
 }
 
-/// Goes back over the trail and resolves a dead clause with the reasons of its literals, up to the first literal that is the only
+/// Goes back over the trail and resolves a falsified clause with the reasons of its literals, up to the first literal that is the only
 /// one of the last level.
 fn chain_back(
     alloc: Global,
@@ -74,21 +75,22 @@ fn chain_back(
     trail: &Trail,
     order: &mut Order,
     seen: &mut [bool],
-    dead: ClauseId,
+    falsified: ClauseId,
 ) -> Result<Chain, Memory>
-    requires live { IsLive log.now dead }
-    requires dead { IsDead trail.now.entries (literals_at log.now dead) }
-    requires two { HasTwoLast trail.now.entries (literals_at log.now dead) }
+    requires live { IsLive log.now falsified }
+    requires falsified { IsFalsified trail.now.entries (literals_at log.now falsified) }
+    requires two { HasTwoLast trail.now.entries (literals_at log.now falsified) }
     requires implied { EachBehind (IsImplied log.now) trail.now.entries }
     requires decided { 0 < depth trail.now.entries }
     requires size { length seen.old ≡ trail.now.size }
     requires unmarked { AreUnmarked seen.old }
-    ensures chain { IfOk result (λ c. IsChain log.now trail.now.entries dead seen.new c) }
+    ensures chain { IfOk result (λ c. IsChain log.now trail.now.entries falsified seen.new c) }
 {
+    tells_lits();
     let level = trail.level();
     let count = trail.len();
     let mut links = Vec::new(alloc);
-    let mut left = mark(trail, order, seen, log.clause(dead), level);
+    let mut left = mark(trail, order, seen, log.clause(falsified), level);
     for i in (0..count).rev() {
         let entry = trail.entry(i);
         if seen[entry.literal.term] {
@@ -111,6 +113,7 @@ fn chain_back(
 fn level_but(trail: &Trail, literals: &[Lit], but: Lit) -> usize
     ensures greatest { IsGreatestBut trail.now.entries but literals.now result }
 {
+    tells_lits();
     let mut level = 0;
     for literal in literals {
         if !literal.is(but) {
@@ -136,6 +139,7 @@ fn lone_last(trail: &Trail, literals: &[Lit]) -> Option<Lit>
     requires last { HasLast trail.now.entries literals.now }
     ensures lone { MatchOption result (HasTwoLast trail.now.entries literals.now) (IsLoneLast trail.now.entries literals.now) }
 {
+    tells_lits();
     let last = trail.level();
     let mut lone: Option<Lit> = None;
     for literal in literals {
@@ -160,46 +164,47 @@ fn learn_from(
     trail: &Trail,
     order: &mut Order,
     seen: &mut [bool],
-    dead: ClauseId,
-) -> Result<Lesson, Memory>
-    requires live { IsLive log.old dead }
-    requires dead { IsDead trail.now.entries (literals_at log.old dead) }
-    requires two { HasTwoLast trail.now.entries (literals_at log.old dead) }
+    falsified: ClauseId,
+) -> Result<Learned, Memory>
+    requires live { IsLive log.old falsified }
+    requires falsified { IsFalsified trail.now.entries (literals_at log.old falsified) }
+    requires two { HasTwoLast trail.now.entries (literals_at log.old falsified) }
     requires implied { EachBehind (IsImplied log.old) trail.now.entries }
     requires decided { 0 < depth trail.now.entries }
     requires size { length seen.old ≡ trail.now.size }
     requires unmarked { AreUnmarked seen.old }
     ensures grows { Grows log.old log.new }
     ensures sound { StaysSound trail.now.entries log.old log.new }
-    ensures lesson { IfOk result (λ l. IsLesson log.new trail.now.entries l) }
+    ensures learned { IfOk result (λ l. IsLearned log.new trail.now.entries l) }
     ensures unmarked { OnOk result (AreUnmarked seen.new) }
 {
-    let Chain { links, literal } = chain_back(alloc, log, trail, order, seen, dead)?;
+    tells_lits();
+    let Chain { links, literal } = chain_back(alloc, log, trail, order, seen, falsified)?;
     order.decay();
-    let clause = log.chain(dead, &links)?;
+    let clause = log.chain(falsified, &links)?;
     let literals = log.clause(clause);
     unmark(seen, literals);
     let level = level_but(trail, literals, literal);
-    Ok(Lesson {
+    Ok(Learned {
         clause,
         literal,
         level,
     })
 }
 
-/// What a clause teaches in which each literal is false, one of them of the last level: where just one is, the clause itself.
-pub fn lesson_of(
+/// What is learned from a clause in which each literal is false, one of them of the last level: where just one is, the clause itself.
+pub fn learned_clause(
     alloc: Global,
     log: &mut Log,
     trail: &Trail,
     order: &mut Order,
     seen: &mut [bool],
-    dead: ClauseId,
-) -> Result<Lesson, Memory>
-    requires live { IsLive log.old dead }
-    requires dead { IsDead trail.now.entries (literals_at log.old dead) }
-    requires once { IsLessonLike trail.now.entries (literals_at log.old dead) }
-    requires last { HasLast trail.now.entries (literals_at log.old dead) }
+    falsified: ClauseId,
+) -> Result<Learned, Memory>
+    requires live { IsLive log.old falsified }
+    requires falsified { IsFalsified trail.now.entries (literals_at log.old falsified) }
+    requires once { IsLearnable trail.now.entries (literals_at log.old falsified) }
+    requires last { HasLast trail.now.entries (literals_at log.old falsified) }
     requires order { IsTrail trail.now }
     requires implied { EachBehind (IsImplied log.old) trail.now.entries }
     requires decided { 0 < depth trail.now.entries }
@@ -207,17 +212,17 @@ pub fn lesson_of(
     requires unmarked { AreUnmarked seen.old }
     ensures grows { Grows log.old log.new }
     ensures sound { StaysSound trail.now.entries log.old log.new }
-    ensures lesson { IfOk result (λ l. IsLesson log.new trail.now.entries l) }
+    ensures learned { IfOk result (λ l. IsLearned log.new trail.now.entries l) }
     ensures unmarked { OnOk result (AreUnmarked seen.new) }
 {
-    let literals = log.clause(dead);
+    let literals = log.clause(falsified);
     match lone_last(trail, literals) {
-        Some(literal) => Ok(Lesson {
-            clause: dead,
+        Some(literal) => Ok(Learned {
+            clause: falsified,
             literal,
             level: level_but(trail, literals, literal),
         }),
-        None => learn_from(alloc, log, trail, order, seen, dead),
+        None => learn_from(alloc, log, trail, order, seen, falsified),
     }
 }
 
@@ -228,18 +233,19 @@ fn chain_to_assumed(
     trail: &Trail,
     order: &mut Order,
     seen: &mut [bool],
-    dead: ClauseId,
+    falsified: ClauseId,
 ) -> Result<Vec<Link>, Memory>
-    requires live { IsLive log.now dead }
+    requires live { IsLive log.now falsified }
     requires implied { EachBehind (IsImplied log.now) trail.now.entries }
     requires undecided { depth trail.now.entries ≡ 0 }
     requires size { length seen.old ≡ trail.now.size }
     ensures links { IfOk result (λ v. AreLinks log.now trail.now.entries v.items) }
-    ensures refutes { IfOk result (λ v. RefutesFrom trail.now.entries (literals_at log.now dead) (chained log.now (literals_at log.now dead) v.items)) }
+    ensures refutes { IfOk result (λ v. RefutesFrom trail.now.entries (literals_at log.now falsified) (chained log.now (literals_at log.now falsified) v.items)) }
 {
+    tells_lits();
     let count = trail.len();
     let mut links = Vec::new(alloc);
-    mark(trail, order, seen, log.clause(dead), 0);
+    mark(trail, order, seen, log.clause(falsified), 0);
     for i in (0..count).rev() {
         let entry = trail.entry(i);
         if seen[entry.literal.term] {
@@ -263,20 +269,20 @@ pub fn refutation(
     trail: &Trail,
     order: &mut Order,
     seen: &mut [bool],
-    dead: ClauseId,
+    falsified: ClauseId,
 ) -> Result<ClauseId, Memory>
-    requires live { IsLive log.old dead }
+    requires live { IsLive log.old falsified }
     requires implied { EachBehind (IsImplied log.old) trail.now.entries }
     requires undecided { depth trail.now.entries ≡ 0 }
     requires size { length seen.old ≡ trail.now.size }
     ensures grows { Grows log.old log.new }
     ensures sound { StaysSound trail.now.entries log.old log.new }
     ensures live { IfOk result (IsLive log.new) }
-    ensures refutes { IfOk result (λ id. RefutesFrom trail.now.entries (literals_at log.old dead) (literals_at log.new id)) }
+    ensures refutes { IfOk result (λ id. RefutesFrom trail.now.entries (literals_at log.old falsified) (literals_at log.new id)) }
 {
-    let links = chain_to_assumed(alloc, log, trail, order, seen, dead)?;
+    let links = chain_to_assumed(alloc, log, trail, order, seen, falsified)?;
     if links.is_empty() {
-        return Ok(dead);
+        return Ok(falsified);
     }
-    log.chain(dead, &links)
+    log.chain(falsified, &links)
 }

@@ -5,6 +5,7 @@ ghost use Rattle.nz_log.specs.Logs.{IsLive, literals_at};
 ghost use Rattle.nz_sat.specs.Clauses.{Adds, IsOfSize, IsSameSize, IsWithin, ids_in, ids_of};
 
 use nz_base::Memory;
+use nz_log::laws::tells_lits;
 use nz_log::{ClauseId, Lit, Log};
 use nz_term::TermId;
 use std::alloc::Global;
@@ -74,6 +75,7 @@ impl Index {
         requires within { All (λ l. IsWithin l self.old) (literals_at log.now id) }
         ensures added { OnOk result (Adds log.now id self.old self.new) }
     {
+        tells_lits();
         for literal in log.clause(id) {
             self.put(*literal, id)?;
         }

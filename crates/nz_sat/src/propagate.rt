@@ -2,36 +2,38 @@
 ghost use Rattle.std.specs.Prelude.{◌≡◌, ℕ, ◌≤◌, true, false, All, Contains, List, length, map, IfSome};
 ghost use Rattle.nz_log.specs.declared.lits.Lit.{Lit};
 ghost use Rattle.nz_log.specs.Logs.{literals_at};
-ghost use Rattle.nz_sat.specs.Clauses.{AreUsable, HasReasonOf, IsDead, IsImplied, IsListed, IsOpen, IsUsable, StandsSo, Waits, ids_of};
+ghost use Rattle.nz_sat.specs.Clauses.{AreUsable, HasReasonOf, HasStatus, IsFalsified, IsImplied, IsListed, IsOpen, IsUsable, Waits, ids_of};
 ghost use Rattle.nz_sat.specs.Trails.{EachBehind, GoesOn, IsTrail};
 
 use crate::clauses::{Held, Index};
 use crate::trail::Trail;
+use nz_log::laws::tells_lits;
 use nz_log::{ClauseId, Lit, Log};
 
-/// How a clause stands under a trail.
-enum Standing {
+/// The status of a clause under a trail.
+enum Status {
     /// It has a true literal, or two that are undecided.
     Open,
     /// Each literal is false but this one, which is undecided.
     Unit(Lit),
     /// Each literal is false.
-    Dead,
+    Falsified,
 }
 
-/// How these literals stand under the trail, as a clause.
-fn stands(trail: &Trail, literals: &[Lit]) -> Standing
-    ensures stands { StandsSo trail.now.entries literals.now result }
+/// The status of these literals under the trail, as a clause.
+fn status_of(trail: &Trail, literals: &[Lit]) -> Status
+    ensures status { HasStatus trail.now.entries literals.now result }
 {
+    tells_lits();
     let mut undecided: Option<Lit> = None;
     for literal in literals {
         match trail.value(*literal) {
-            Some(true) => return Standing::Open,
+            Some(true) => return Status::Open,
             Some(false) => {}
             None => match undecided {
                 Some(other) => {
                     if !other.is(*literal) {
-                        return Standing::Open;
+                        return Status::Open;
                     }
                 }
                 None => undecided = Some(*literal),
@@ -39,8 +41,8 @@ fn stands(trail: &Trail, literals: &[Lit]) -> Standing
         }
     }
     match undecided {
-        Some(literal) => Standing::Unit(literal),
-        None => Standing::Dead,
+        Some(literal) => Status::Unit(literal),
+        None => Status::Falsified,
     }
 }
 
@@ -53,15 +55,15 @@ fn visit(log: &Log, trail: &mut Trail, id: ClauseId) -> bool
     ensures implied { EachBehind (IsImplied log.now) trail.old.entries → EachBehind (IsImplied log.now) trail.new.entries }
     ensures reasons { (us : List ℕ) → Contains us id → All (HasReasonOf us) trail.old.entries → All (HasReasonOf us) trail.new.entries }
     ensures all_open { result ≡ true → IsOpen trail.new.entries (literals_at log.now id) }
-    ensures dead { result ≡ false → IsDead trail.new.entries (literals_at log.now id) }
+    ensures falsified { result ≡ false → IsFalsified trail.new.entries (literals_at log.now id) }
 {
-    match stands(trail, log.clause(id)) {
-        Standing::Open => true,
-        Standing::Unit(literal) => {
+    match status_of(trail, log.clause(id)) {
+        Status::Open => true,
+        Status::Unit(literal) => {
             trail.imply(literal, id);
             true
         }
-        Standing::Dead => false,
+        Status::Falsified => false,
     }
 }
 
@@ -75,7 +77,7 @@ pub fn visit_all(log: &Log, trail: &mut Trail, ids: &[ClauseId]) -> Option<Claus
     ensures reasons { (us : List ℕ) → All (Contains us) ids.now → All (HasReasonOf us) trail.old.entries → All (HasReasonOf us) trail.new.entries }
     // What was made true after a clause was looked at is still to be looked at itself.
     ensures waits { result ≡ None → All (λ i. Waits trail.new.entries (length trail.old.entries) (literals_at log.now i)) ids.now }
-    ensures dead { IfSome result (λ id. Contains ids.now id × IsDead trail.new.entries (literals_at log.now id)) }
+    ensures falsified { IfSome result (λ id. Contains ids.now id × IsFalsified trail.new.entries (literals_at log.now id)) }
 {
     for id in ids {
         if !visit(log, trail, *id) {
@@ -94,7 +96,7 @@ pub fn visit_held(log: &Log, trail: &mut Trail, held: &[Held]) -> Option<ClauseI
     ensures implied { EachBehind (IsImplied log.now) trail.old.entries → EachBehind (IsImplied log.now) trail.new.entries }
     ensures reasons { (us : List ℕ) → All (λ h. Contains us h.id) held.now → All (HasReasonOf us) trail.old.entries → All (HasReasonOf us) trail.new.entries }
     ensures waits { result ≡ None → All (λ h. Waits trail.new.entries (length trail.old.entries) (literals_at log.now h.id)) held.now }
-    ensures dead { IfSome result (λ id. Contains (map (λ h. h.id) held.now) id × IsDead trail.new.entries (literals_at log.now id)) }
+    ensures falsified { IfSome result (λ id. Contains (map (λ h. h.id) held.now) id × IsFalsified trail.new.entries (literals_at log.now id)) }
 {
     for clause in held {
         if !visit(log, trail, clause.id) {
@@ -117,15 +119,15 @@ pub fn propagate(log: &Log, index: &Index, trail: &mut Trail, from: usize) -> Op
     ensures reasons { (us : List ℕ) → ((l : Lit) (i : ℕ) → Contains (ids_of index.now l) i → Contains us i) → All (HasReasonOf us) trail.old.entries → All (HasReasonOf us) trail.new.entries }
     // A clause that stands beside each of its literals in the index, and was open or had a literal that was to be looked at, is open.
     ensures all_open { result ≡ None → (i : ℕ) → IsListed log.now index.now i → Waits trail.old.entries from (literals_at log.now i) → IsOpen trail.new.entries (literals_at log.now i) }
-    ensures dead { IfSome result (λ id. ((l : Lit) × Contains (ids_of index.now l) id) × IsDead trail.new.entries (literals_at log.now id)) }
+    ensures falsified { IfSome result (λ id. ((l : Lit) × Contains (ids_of index.now l) id) × IsFalsified trail.new.entries (literals_at log.now id)) }
 {
     let mut head = from;
     while head < trail.len() {
         let literal = trail.entry(head).literal;
         head += 1;
-        let dead = visit_all(log, trail, index.of(literal.not()));
-        if dead.is_some() {
-            return dead;
+        let falsified = visit_all(log, trail, index.of(literal.not()));
+        if falsified.is_some() {
+            return falsified;
         }
     }
     None

@@ -13,11 +13,11 @@ ghost use Rattle.nz_log.specs.Theories.{AddsUnits, Grows};
 ghost use Rattle.nz_sat.specs.Conflicts.{GoesBackTo, HasLast, RefutesFrom, StaysSound};
 ghost use Rattle.nz_sat.specs.Numbers.{noted_atoms, numbered};
 ghost use Rattle.nz_sat.specs.Sats.{AreHeld, HoldsMore, held_of};
-ghost use Rattle.nz_sat.specs.Searching.{Advances, Assumes, AssumesAll, ComesTo, Follows, MayAssume, MayFollow, Starts, Decides, IsConflict, IsSearch, Learned, WasNoted, WereOpen, after_lesson, learned_line};
+ghost use Rattle.nz_sat.specs.Searching.{Advances, Assumes, AssumesAll, ComesTo, Follows, MayAssume, MayFollow, Starts, Decides, IsConflict, IsSearch, Learns, WasNoted, WereOpen, after_learned, learned_line};
 ghost use Rattle.nz_sat.specs.Theories.{IsMet, IsTold};
 ghost use Rattle.nz_sat.specs.Trails.{EachBehind, GoesOn, IsFrontOf, IsTrail, assigned, below, depth};
 
-use crate::analyze::{Lesson, greatest_level, lesson_of, refutation};
+use crate::analyze::{Learned, greatest_level, learned_clause, refutation};
 use crate::atoms::Atoms;
 use crate::clauses::{Held, Index};
 use crate::consult::{consult, take_back};
@@ -25,7 +25,7 @@ use crate::order::Order;
 use crate::propagate::{propagate, visit_held};
 use crate::trail::Trail;
 use nz_base::{Entry, Literals, Memory, Work};
-use nz_log::laws::clauses_are_true;
+use nz_log::laws::{clauses_are_true, tells_lits};
 use nz_log::{ClauseId, Lit, Log, Note, Stop, Theory};
 use nz_spec::work::legal_work_goes_on;
 use nz_term::TermId;
@@ -67,16 +67,16 @@ impl Search {
         })
     }
 
-    /// Puts what the clauses alone make true on the trail. Answers a dead clause.
+    /// Puts what the clauses alone make true on the trail. Answers a falsified clause.
     fn start(&mut self, log: &Log, held: &[Held]) -> Option<ClauseId>
         requires search { IsSearch log.now held.now self.old }
         requires none { self.old.trail.entries ≡ [] }
         ensures rest { self.new ≡ record self.old { trail = self.new.trail } }
         ensures comes { Starts log.now held.now self.new result }
     {
-        let dead = visit_held(log, &mut self.trail, held);
-        if dead.is_some() {
-            return dead;
+        let falsified = visit_held(log, &mut self.trail, held);
+        if falsified.is_some() {
+            return falsified;
         }
         propagate(log, &self.index, &mut self.trail, 0)
     }
@@ -90,6 +90,7 @@ impl Search {
         ensures rest { self.new ≡ record self.old { trail = self.new.trail } }
         ensures comes { (held : List Held) (assumed : List Lit) → MayAssume log.now held assumed literal self.old → Assumes log.now held assumed literal self.old.trail.entries self.new result }
     {
+        tells_lits();
         match self.trail.assigned(literal.term) {
             Some(entry) if entry.literal.is(literal) => None,
             Some(entry) => entry.reason,
@@ -116,27 +117,27 @@ impl Search {
         ensures rest { self.new ≡ record self.old { trail = self.new.trail } }
         ensures comes { AssumesAll log.now held.now assumed.now self.new result }
     {
-        let dead = self.start(log, held);
-        if dead.is_some() {
-            return dead;
+        let falsified = self.start(log, held);
+        if falsified.is_some() {
+            return falsified;
         }
         for literal in assumed {
-            let dead = self.assume(log, *literal);
-            if dead.is_some() {
-                return dead;
+            let falsified = self.assume(log, *literal);
+            if falsified.is_some() {
+                return falsified;
             }
         }
         None
     }
 
-    /// The clause of the log that refutes the assumed literals, from a dead one under no decision.
+    /// The clause of the log that refutes the assumed literals, from a falsified one under no decision.
     pub(crate) fn refute(
         &mut self,
         alloc: Global,
         log: &mut Log,
-        dead: ClauseId,
+        falsified: ClauseId,
     ) -> Result<ClauseId, Memory>
-        requires live { IsLive log.old dead }
+        requires live { IsLive log.old falsified }
         requires implied { EachBehind (IsImplied log.old) self.old.trail.entries }
         requires undecided { depth self.old.trail.entries ≡ 0 }
         requires size { length self.old.seen.items ≡ self.old.trail.size }
@@ -144,7 +145,7 @@ impl Search {
         ensures grows { Grows log.old log.new }
         ensures sound { StaysSound self.old.trail.entries log.old log.new }
         ensures live { IfOk result (IsLive log.new) }
-        ensures refutes { IfOk result (λ id. RefutesFrom self.old.trail.entries (literals_at log.old dead) (literals_at log.new id)) }
+        ensures refutes { IfOk result (λ id. RefutesFrom self.old.trail.entries (literals_at log.old falsified) (literals_at log.new id)) }
     {
         refutation(
             alloc,
@@ -152,7 +153,7 @@ impl Search {
             &self.trail,
             &mut self.order,
             &mut self.seen,
-            dead,
+            falsified,
         )
     }
 
@@ -194,7 +195,7 @@ impl Search {
         self.cut(theory, level);
     }
 
-    /// Makes true what the clauses make true by the literals from a place of the trail on, up to the first dead clause.
+    /// Makes true what the clauses make true by the literals from a place of the trail on, up to the first falsified clause.
     fn follow(&mut self, log: &Log, from: usize) -> Option<ClauseId>
         requires usable { AreUsable log.now self.old.trail.size self.old.index }
         requires from { from ≤ length self.old.trail.entries }
@@ -226,33 +227,33 @@ impl Search {
         ensures over { (ns : List Node) → T.is_over theory.old ns → T.is_over theory.new ns }
         ensures spent { IfErr result (λ e. e ≡ stop.Spent → IsSpent work.new) }
     {
-        let dead = self.follow(log, from);
-        if dead.is_some() {
-            return Ok(dead);
+        let falsified = self.follow(log, from);
+        if falsified.is_some() {
+            return Ok(falsified);
         }
         consult(log, &self.trail, theory, work)
     }
 
-    /// Notes the clause of a lesson.
-    fn note_lesson(
+    /// Notes a learned clause.
+    fn note_learned(
         &self,
         alloc: Global,
         log: &Log,
         work: &mut Work<Note>,
-        lesson: Lesson,
+        learned: Learned,
     ) -> Result<(), Stop>
-        requires live { IsLive log.now lesson.clause }
-        requires named { All (λ l. Contains self.now.atoms l.term) (literals_at log.now lesson.clause) }
-        ensures noted { OnOk result (work.new ≡ with_line work.old (learned_line self.now.atoms log.now lesson)) }
+        requires live { IsLive log.now learned.clause }
+        requires named { All (λ l. Contains self.now.atoms l.term) (literals_at log.now learned.clause) }
+        ensures noted { OnOk result (work.new ≡ with_line work.old (learned_line self.now.atoms log.now learned)) }
         ensures free { OnOk result (unit_count work.old.lines < work.old.limit) }
         ensures err { OnErr result (work.new ≡ work.old) }
         ensures spent { IfErr result (λ e. e ≡ stop.Spent → IsSpent work.new) }
     {
-        let lits = by_numbers(alloc, &self.atoms, log.clause(lesson.clause))?;
+        let lits = by_numbers(alloc, &self.atoms, log.clause(learned.clause))?;
         note(
             work,
             Entry::Learned {
-                keep: lesson.level,
+                keep: learned.level,
                 lits,
             },
         )
@@ -275,22 +276,22 @@ impl Search {
         self.index.add(log, id)
     }
 
-    /// Goes back to where a lesson makes a literal true, and puts that on the trail. Answers its place.
-    fn go_back<T: Theory>(&mut self, theory: &mut T, lesson: Lesson) -> usize
-        requires free { assigned (below lesson.level self.old.trail.entries) lesson.literal.term ≡ None }
-        requires within { lesson.literal.term < self.old.trail.size }
+    /// Goes back to where a learned clause asserts its literal, and puts that on the trail. Answers its place.
+    fn go_back<T: Theory>(&mut self, theory: &mut T, learned: Learned) -> usize
+        requires free { assigned (below learned.level self.old.trail.entries) learned.literal.term ≡ None }
+        requires within { learned.literal.term < self.old.trail.size }
         requires told { IsTold (T.has_told theory.old) self.old.trail.entries }
         ensures rest { self.new ≡ record self.old { trail = self.new.trail; order = self.new.order } }
         ensures size { self.new.trail.size ≡ self.old.trail.size }
         ensures order { IsTrail self.new.trail }
-        ensures place { result ≡ length (below lesson.level self.old.trail.entries) }
-        ensures entries { self.new.trail.entries ≡ after_lesson self.old.trail.entries lesson }
+        ensures place { result ≡ length (below learned.level self.old.trail.entries) }
+        ensures entries { self.new.trail.entries ≡ after_learned self.old.trail.entries learned }
         ensures told { IsTold (T.has_told theory.new) self.new.trail.entries }
         ensures over { (ns : List Node) → T.is_over theory.old ns → T.is_over theory.new ns }
     {
-        self.cut(theory, lesson.level);
+        self.cut(theory, learned.level);
         let place = self.trail.len();
-        self.trail.imply(lesson.literal, lesson.clause);
+        self.trail.imply(learned.literal, learned.clause);
         place
     }
 
@@ -302,35 +303,36 @@ impl Search {
         held: &mut Vec<Held>,
         theory: &mut T,
         work: &mut Work<Note>,
-        dead: ClauseId,
+        falsified: ClauseId,
     ) -> Result<usize, Stop>
         requires search { IsSearch log.old held.old.items self.old }
         requires all_open { WereOpen log.old held.old.items self.old.trail.entries }
-        requires conflict { IsConflict log.old held.old.items self.old.trail.entries dead }
-        requires last { HasLast self.old.trail.entries (literals_at log.old dead) }
+        requires conflict { IsConflict log.old held.old.items self.old.trail.entries falsified }
+        requires last { HasLast self.old.trail.entries (literals_at log.old falsified) }
         requires decided { 0 < depth self.old.trail.entries }
         requires noted { WasNoted log.old held.old.items self.old.atoms self.old.trail.entries work.old }
         requires told { IsTold (T.has_told theory.old) self.old.trail.entries }
         ensures advances { Advances (T.is_over theory.old) self.old.atoms self.old.trail.entries log.old log.new held.old.items held.new.items work.old work.new }
-        ensures learned { IfOk result (λ from. Learned log.new held.new.items self.old self.new work.old work.new from) }
+        ensures learned { IfOk result (λ from. Learns log.new held.new.items self.old self.new work.old work.new from) }
         ensures told { OnOk result (IsTold (T.has_told theory.new) self.new.trail.entries) }
         ensures over { (ns : List Node) → T.is_over theory.old ns → T.is_over theory.new ns }
         ensures spent { IfErr result (λ e. e ≡ stop.Spent → IsSpent work.new) }
     {
+        tells_lits();
         clauses_are_true();
         legal_work_goes_on();
         let alloc = *held.allocator();
-        let lesson = lesson_of(
+        let learned = learned_clause(
             alloc,
             log,
             &self.trail,
             &mut self.order,
             &mut self.seen,
-            dead,
+            falsified,
         )?;
-        self.note_lesson(alloc, log, work, lesson)?;
-        self.hold(log, held, lesson.clause)?;
-        Ok(self.go_back(theory, lesson))
+        self.note_learned(alloc, log, work, learned)?;
+        self.hold(log, held, learned.clause)?;
+        Ok(self.go_back(theory, learned))
     }
 
     /// The undecided atom that took most part in conflicts.

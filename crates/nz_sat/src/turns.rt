@@ -1,15 +1,12 @@
 //! The search from its start to its end.
-ghost use Rattle.std.specs.Prelude.{◌≡◌, ◌<◌, ◌≤◌, [], All, Contains, List, None, length, IfErr, IfOk, IfSome, OnOk};
-ghost use Rattle.nz_spec.specs.Table.{Node};
-ghost use Rattle.nz_spec.specs.Work.{IsSpent};
+ghost use Rattle.std.specs.Prelude.{◌≡◌, ◌<◌, ◌≤◌, [], All, Contains, List, None, length, IfOk, IfSome};
 ghost use Rattle.nz_log.specs.declared.lits.Lit.{Lit};
-ghost use Rattle.nz_log.specs.declared.stop.Stop.TheVariants as stop;
 ghost use Rattle.nz_log.specs.Lits.{AreConsistent};
 ghost use Rattle.nz_log.specs.Logs.{IsLive, literals_at};
 ghost use Rattle.nz_sat.specs.Clauses.{IsAssumed};
 ghost use Rattle.nz_sat.specs.Conflicts.{HasLast, Refutes};
-ghost use Rattle.nz_sat.specs.Searching.{Advances, AreOpen, AreWaiting, IsConflict, IsNoted, IsSearch, Runs, Satisfies, Settles, SettlesOn, TurnsOn, WasNoted, WereOpen, assumed_entries};
-ghost use Rattle.nz_sat.specs.Theories.{IsMet, IsTold};
+ghost use Rattle.nz_sat.specs.Searching.{AreOpen, AreWaiting, IsConflict, IsNoted, IsSearch, Runs, Satisfies, Settles, SettlesOn, Steps, TurnsOn, WasNoted, WereOpen, assumed_entries};
+ghost use Rattle.nz_sat.specs.Theories.{IsTold};
 ghost use Rattle.nz_sat.specs.Trails.{assigned, depth};
 
 use crate::clauses::Held;
@@ -28,23 +25,19 @@ impl Search {
         held: &mut Vec<Held>,
         theory: &mut T,
         work: &mut Work<Note>,
-        dead: ClauseId,
+        falsified: ClauseId,
     ) -> Result<Option<ClauseId>, Stop>
         requires search { IsSearch log.old held.old.items self.old }
         requires all_open { WereOpen log.old held.old.items self.old.trail.entries }
-        requires conflict { IsConflict log.old held.old.items self.old.trail.entries dead }
-        requires last { HasLast self.old.trail.entries (literals_at log.old dead) }
+        requires conflict { IsConflict log.old held.old.items self.old.trail.entries falsified }
+        requires last { HasLast self.old.trail.entries (literals_at log.old falsified) }
         requires decided { 0 < depth self.old.trail.entries }
         requires noted { WasNoted log.old held.old.items self.old.atoms self.old.trail.entries work.old }
         requires told { IsTold (T.has_told theory.old) self.old.trail.entries }
-        ensures advances { Advances (T.is_over theory.old) self.old.atoms self.old.trail.entries log.old log.new held.old.items held.new.items work.old work.new }
+        ensures steps { Steps (T.is_over theory.old) (T.is_over theory.new) (T.has_told theory.new) (T.is_feasible theory.new) self.old.atoms self.old.trail.entries self.new.trail.entries log.old log.new held.old.items held.new.items work.old work.new result }
         ensures turns { IfOk result (TurnsOn log.new held.new.items self.old self.new work.old work.new) }
-        ensures told { OnOk result (IsTold (T.has_told theory.new) self.new.trail.entries) }
-        ensures met { IfOk result (λ r. r ≡ None → IsMet (T.has_told theory.new) (T.is_feasible theory.new) self.new.trail.entries) }
-        ensures over { (ns : List Node) → T.is_over theory.old ns → T.is_over theory.new ns }
-        ensures spent { IfErr result (λ e. e ≡ stop.Spent → IsSpent work.new) }
     {
-        let from = self.learn(log, held, theory, work, dead)?;
+        let from = self.learn(log, held, theory, work, falsified)?;
         self.conflict(log, theory, work, from)
     }
 
@@ -64,21 +57,17 @@ impl Search {
         requires waits { AreWaiting log.old held.old.items self.old.trail.entries from }
         requires noted { IsNoted log.old held.old.items self.old.atoms self.old.trail.entries work.old }
         requires told { IsTold (T.has_told theory.old) self.old.trail.entries }
-        ensures advances { Advances (T.is_over theory.old) self.old.atoms self.old.trail.entries log.old log.new held.old.items held.new.items work.old work.new }
+        ensures steps { Steps (T.is_over theory.old) (T.is_over theory.new) (T.has_told theory.new) (T.is_feasible theory.new) self.old.atoms self.old.trail.entries self.new.trail.entries log.old log.new held.old.items held.new.items work.old work.new result }
         ensures settled { IfOk result (λ r. r ≡ None → Settles log.new held.new.items self.old self.new work.old work.new) }
-        ensures met { IfOk result (λ r. r ≡ None → IsMet (T.has_told theory.new) (T.is_feasible theory.new) self.new.trail.entries) }
-        ensures told { OnOk result (IsTold (T.has_told theory.new) self.new.trail.entries) }
-        ensures over { (ns : List Node) → T.is_over theory.old ns → T.is_over theory.new ns }
         ensures refuted { IfOk result (λ r. IfSome r (λ id. IsLive log.new id × ((assumed : List Lit) → All (IsAssumed assumed) self.old.trail.entries → Refutes assumed (literals_at log.new id)))) }
-        ensures spent { IfErr result (λ e. e ≡ stop.Spent → IsSpent work.new) }
     {
         let mut conflict = self.conflict(log, theory, work, from)?;
-        while let Some(dead) = conflict {
-            self.back_to(log, theory, dead);
+        while let Some(falsified) = conflict {
+            self.back_to(log, theory, falsified);
             if self.trail.level() == 0 {
-                return Ok(Some(self.refute(*held.allocator(), log, dead)?));
+                return Ok(Some(self.refute(*held.allocator(), log, falsified)?));
             }
-            conflict = self.learn_on(log, held, theory, work, dead)?;
+            conflict = self.learn_on(log, held, theory, work, falsified)?;
         }
         Ok(None)
     }
@@ -99,13 +88,9 @@ impl Search {
         requires told { IsTold (T.has_told theory.old) self.old.trail.entries }
         requires free { assigned self.old.trail.entries term ≡ None }
         requires named { Contains self.old.atoms term }
-        ensures advances { Advances (T.is_over theory.old) self.old.atoms self.old.trail.entries log.old log.new held.old.items held.new.items work.old work.new }
+        ensures steps { Steps (T.is_over theory.old) (T.is_over theory.new) (T.has_told theory.new) (T.is_feasible theory.new) self.old.atoms self.old.trail.entries self.new.trail.entries log.old log.new held.old.items held.new.items work.old work.new result }
         ensures settled { IfOk result (λ r. r ≡ None → SettlesOn log.new held.new.items self.old self.new work.old work.new) }
-        ensures met { IfOk result (λ r. r ≡ None → IsMet (T.has_told theory.new) (T.is_feasible theory.new) self.new.trail.entries) }
-        ensures told { OnOk result (IsTold (T.has_told theory.new) self.new.trail.entries) }
-        ensures over { (ns : List Node) → T.is_over theory.old ns → T.is_over theory.new ns }
         ensures refuted { IfOk result (λ r. IfSome r (λ id. IsLive log.new id × ((assumed : List Lit) → All (IsAssumed assumed) self.old.trail.entries → Refutes assumed (literals_at log.new id)))) }
-        ensures spent { IfErr result (λ e. e ≡ stop.Spent → IsSpent work.new) }
     {
         legal_work_goes_on();
         let from = self.decide(work, term)?;
@@ -127,16 +112,12 @@ impl Search {
         requires consistent { AreConsistent assumed.now }
         requires noted { IsNoted log.old held.old.items self.old.atoms [] work.old }
         requires told { T.has_told theory.old [] }
-        ensures advances { Advances (T.is_over theory.old) self.old.atoms (assumed_entries assumed.now) log.old log.new held.old.items held.new.items work.old work.new }
+        ensures steps { Steps (T.is_over theory.old) (T.is_over theory.new) (T.has_told theory.new) (T.is_feasible theory.new) self.old.atoms (assumed_entries assumed.now) self.new.trail.entries log.old log.new held.old.items held.new.items work.old work.new result }
         ensures runs { IfOk result (λ r. r ≡ None → Runs log.new held.new.items assumed.now self.old self.new work.new) }
-        ensures met { IfOk result (λ r. r ≡ None → IsMet (T.has_told theory.new) (T.is_feasible theory.new) self.new.trail.entries) }
-        ensures told { OnOk result (IsTold (T.has_told theory.new) self.new.trail.entries) }
-        ensures over { (ns : List Node) → T.is_over theory.old ns → T.is_over theory.new ns }
         ensures refuted { IfOk result (λ r. IfSome r (λ id. IsLive log.new id × Refutes assumed.now (literals_at log.new id))) }
-        ensures spent { IfErr result (λ e. e ≡ stop.Spent → IsSpent work.new) }
     {
-        if let Some(dead) = self.assume_all(log, held, assumed) {
-            return Ok(Some(self.refute(*held.allocator(), log, dead)?));
+        if let Some(falsified) = self.assume_all(log, held, assumed) {
+            return Ok(Some(self.refute(*held.allocator(), log, falsified)?));
         }
         let from = self.trail.len();
         self.settle(log, held, theory, work, from)
@@ -158,13 +139,9 @@ impl Search {
         requires consistent { AreConsistent assumed.now }
         requires noted { IsNoted log.old held.old.items self.old.atoms [] work.old }
         requires told { T.has_told theory.old [] }
-        ensures advances { Advances (T.is_over theory.old) self.old.atoms (assumed_entries assumed.now) log.old log.new held.old.items held.new.items work.old work.new }
+        ensures steps { Steps (T.is_over theory.old) (T.is_over theory.new) (T.has_told theory.new) (T.is_feasible theory.new) self.old.atoms (assumed_entries assumed.now) self.new.trail.entries log.old log.new held.old.items held.new.items work.old work.new result }
         ensures satisfied { IfOk result (λ r. r ≡ None → Satisfies log.new held.new.items assumed.now self.old.atoms self.new) }
-        ensures met { IfOk result (λ r. r ≡ None → IsMet (T.has_told theory.new) (T.is_feasible theory.new) self.new.trail.entries) }
-        ensures told { OnOk result (IsTold (T.has_told theory.new) self.new.trail.entries) }
-        ensures over { (ns : List Node) → T.is_over theory.old ns → T.is_over theory.new ns }
         ensures refuted { IfOk result (λ r. IfSome r (λ id. IsLive log.new id × Refutes assumed.now (literals_at log.new id))) }
-        ensures spent { IfErr result (λ e. e ≡ stop.Spent → IsSpent work.new) }
     {
         if let Some(refuted) = self.begin(log, held, theory, assumed, work)? {
             return Ok(Some(refuted));

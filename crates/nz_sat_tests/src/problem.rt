@@ -63,7 +63,7 @@ impl Problem {
     }
 
     /// The term of this head over these.
-    fn make(&mut self, head: Head, kids: &[TermId]) -> Result<TermId, Memory>
+    fn make(&mut self, head: Head<'_>, kids: &[TermId]) -> Result<TermId, Memory>
         requires fits { IsTrue (head_fits (head_of head)) }
         requires leaves { HasItsArguments (head_of head) kids.now }
         ensures within { IfOk result (λ id. id < length self.new) }
@@ -82,7 +82,7 @@ impl Problem {
             name: Text::from_slice(self.alloc, name.as_bytes())?,
             sort: Sort::Bool,
         };
-        self.make(Head::Constant(constant), &[])
+        self.make(Head::Constant(&constant), &[])
     }
 
     /// The term of this operator over these, with its clauses of the gate table.

@@ -43,7 +43,7 @@ fn either_way(problem: &mut Problem) -> Result<TermId, Memory> {
 fn a_conflict_teaches(rt: HostRuntime) -> Result<(), Fail> {
     let mut problem = Problem::new(rt.alloc(), 10)?;
     let p = either_way(&mut problem)?;
-    // The first decision is that `p` is false, and both clauses are dead then.
+    // The first decision is that `p` is false, and both clauses are falsified then.
     assert!(rt; problem.holds(&[])?);
     assert_eq!(rt; problem.truth(Lit::holds(p)), Some(true));
     Ok(())

@@ -2,8 +2,8 @@
 use Rattle.std.proofs.Common.{◌≡◌, ℕ, true, false, List, [], ◌∷◌, ◌++◌, length, drop, Option, refl, sym, ap, ◌∙◌, subst, append-nil, take-append-drop}
 use Rattle.std.proofs.lemmas.List.{map-append}
 use Rattle.std.specs.Io.KnownBytes.{Appends}
-use Rattle.nz_sexpr.specs.declared.heard.Heard.{Heard}
-use Rattle.nz_sexpr.specs.View.{heard_view, what_view}
+use Rattle.nz_sexpr.specs.declared.packed.PackedHeard.{PackedHeard}
+use Rattle.nz_sexpr.specs.Packed.{packed_heard_view}
 use Rattle.nz_spec.specs.Text as spec
 use Rattle.nz_spec.specs.Table.{Node}
 use Rattle.nz_spec.specs.Decide.{IsFrontOfTable}
@@ -21,7 +21,7 @@ use Rattle.nz_session.specs.Desk.{Holds, IsAnswer, table_of}
 use Rattle.nz_session.specs.Serve.{Answers, AnswersInPart, IsGoing, kept_at}
 
 -- what is kept of an answer
-abbrev pub kept_answer : Heard → Answer → code.Kept
+abbrev pub kept_answer : PackedHeard → Answer → code.Kept
 kept_answer h a = record { heard = h; reply = a.reply; cause = a.cause }
 
 within-append : (ns : List Node) (ks : List code.Kept) (k : code.Kept) → AreKeptWithin ns ks → IsCauseWithin ns k.cause → AreKeptWithin ns (ks ++ k ∷ [])
@@ -30,7 +30,7 @@ within-append ns (j ∷ js) k w i = (w.0, within-append ns js k w.1 i)
 
 -- ---- What was kept, by a table that has grown, with one answer more
 
-module _ (stay : KeptStay) (ns ms : List Node) (front : IsFrontOfTable ns ms) (ks : List code.Kept) (within : AreKeptWithin ns ks) (h : Heard) (a : Answer) where
+module _ (stay : KeptStay) (ns ms : List Node) (front : IsFrontOfTable ns ms) (ks : List code.Kept) (within : AreKeptWithin ns ks) (h : PackedHeard) (a : Answer) where
   whole : ns ++ drop (length ns) ms ≡ ms
   whole = ap (λ l. l ++ drop (length ns) ms) (sym front) ∙ take-append-drop (length ns) ms
 
@@ -46,24 +46,37 @@ module _ (stay : KeptStay) (ns ms : List Node) (front : IsFrontOfTable ns ms) (k
   within_after named = within-append ms ks (kept_answer h a) (subst (λ (l : List Node). AreKeptWithin l ks) whole stayed.within) named
 
   -- the reply was kept, and its text was written
-  pub answered : (b c : Option (List ℕ)) → Appends b c (reply_text (reply_of (what_view h.what) a.reply))
-      → Answers (heard_view h) (all_kept ns ks) (all_kept ms (ks ++ kept_answer h a ∷ [])) b c
-  answered b c w = record { one = kept_of ms (kept_answer h a); kept = kept_after; heard = refl; written = w }
+  pub answered : (thing : spec.Heard) → packed_heard_view h ≡ thing → (b c : Option (List ℕ)) → Appends b c (reply_text (reply_of thing.what a.reply))
+      → Answers thing (all_kept ns ks) (all_kept ms (ks ++ kept_answer h a ∷ [])) b c
+  answered thing same b c w =
+      record {
+        one = kept_of ms (kept_answer h a);
+        kept = kept_after;
+        heard = same;
+        written = subst (λ (t : spec.Heard). Appends b c (reply_text (reply_of t.what a.reply))) (sym same) w;
+      }
 
-  -- the reply was kept, and a front of its text was written
-  pub answered_in_part : (b c : Option (List ℕ)) → AddsFrontOf b c (reply_text (reply_of (what_view h.what) a.reply))
-      → AnswersInPart (heard_view h) (all_kept ns ks) (all_kept ms (ks ++ kept_answer h a ∷ [])) b c
-  answered_in_part b c f =
+  -- the reply to the thing that was packed was kept, and a front of its text was written
+  packed_in_part : (b c : Option (List ℕ)) → AddsFrontOf b c (reply_text (reply_of (packed_heard_view h).what a.reply))
+      → AnswersInPart (packed_heard_view h) (all_kept ns ks) (all_kept ms (ks ++ kept_answer h a ∷ [])) b c
+  packed_in_part b c f =
       let new : List Kept = all_kept ms (ks ++ kept_answer h a ∷ []) in
-      let things : things_of new ≡ things_of (all_kept ns ks) ++ heard_view h ∷ [] =
+      let things : things_of new ≡ things_of (all_kept ns ks) ++ packed_heard_view h ∷ [] =
       ap things_of kept_after ∙ map-append (λ (k : Kept). k.heard) (all_kept ns ks) (kept_of ms (kept_answer h a) ∷ []) in
       record {
         later = [];
         heard = sym (append-nil (things_of new) ∙ things);
-        text = reply_text (reply_of (what_view h.what) a.reply);
+        text = reply_text (reply_of (packed_heard_view h).what a.reply);
         begins = last_reply (kept_of ms (kept_answer h a)) kept_after refl;
         written = f;
       }
+
+  -- so of the thing heard
+  pub answered_in_part : (thing : spec.Heard) → packed_heard_view h ≡ thing → (b c : Option (List ℕ)) → AddsFrontOf b c (reply_text (reply_of thing.what a.reply))
+      → AnswersInPart thing (all_kept ns ks) (all_kept ms (ks ++ kept_answer h a ∷ [])) b c
+  answered_in_part thing same b c f =
+      subst (λ (t : spec.Heard). AnswersInPart t (all_kept ns ks) (all_kept ms (ks ++ kept_answer h a ∷ [])) b c) same
+      (packed_in_part b c (subst (λ (t : spec.Heard). AddsFrontOf b c (reply_text (reply_of t.what a.reply))) (sym same) f))
 
 -- nothing was kept, and a front of the line for want of memory was written
 pub cut_in_part : (thing : spec.Heard) (ks : List Kept) (b c : Option (List ℕ)) → AddsFrontOf b c (reply_text (error out_of_memory)) → AnswersInPart thing ks ks b c
@@ -72,8 +85,11 @@ cut_in_part thing ks b c f = record { later = thing ∷ []; heard = refl; text =
 -- ---- Right replies, with one more
 
 module _ {E : Type 0} (levels : E → List (List ℕ)) (table : E → List Node) (stay : KeptStay) (grows : TranscriptGrows) (limit : ℕ) (old new : Desk E)
-    (front : IsFrontOfTable (table_of old) (table_of new)) (ks : List code.Kept) (h : Heard) (a : Answer) (going : IsGoing levels table limit old ks)
-    (answer : IsAnswer levels table (context_of (beginning limit) (kept_at old ks)) (what_view h.what) a new) where
+    (front : IsFrontOfTable (table_of old) (table_of new)) (ks : List code.Kept) (h : PackedHeard) (a : Answer) (going : IsGoing levels table limit old ks)
+    (thing : spec.Heard) (same : packed_heard_view h ≡ thing) (told : IsAnswer levels table (context_of (beginning limit) (kept_at old ks)) thing.what a new) where
+  answer : IsAnswer levels table (context_of (beginning limit) (kept_at old ks)) (packed_heard_view h).what a new
+  answer = subst (λ (t : spec.Heard). IsAnswer levels table (context_of (beginning limit) (kept_at old ks)) t.what a new) (sym same) told
+
   abbrev one : Kept
   one = kept_of (table_of new) (kept_answer h a)
 

@@ -1,6 +1,7 @@
 //! The session: pieces of a script in, replies out, and all of it kept.
-ghost use Rattle.std.specs.Prelude.{◌≡◌, ℕ, List, [], ◌++◌, true, false, IfOk, OnOk, OnErr, is_err, ◌⊎◌};
+ghost use Rattle.std.specs.Prelude.{◌≡◌, ◌≤◌, ◌+◌, ℕ, List, [], ◌++◌, true, false, IfOk, IfSome, OnOk, OnErr, is_err, ◌⊎◌, vec_len, vec_capacity};
 ghost use Rattle.std.specs.Io.KnownBytes.{Appends};
+ghost use Rattle.nz_sexpr.specs.Packed.{packed_heard_view};
 ghost use Rattle.nz_sexpr.specs.View.{heard_view, what_view};
 ghost use Rattle.nz_spec.specs.Outside.{AddsFrontOf, counted};
 ghost use Rattle.nz_spec.specs.Error.{out_of_memory};
@@ -15,7 +16,7 @@ use crate::desk::{Answer, Desk};
 use nz_base::{Error, Memory, Sink};
 use nz_log::Decide;
 use nz_reply::{Journal, Kept, Reply, WriteFault, kept_stay, write_reply};
-use nz_sexpr::{Heard, Limits, Reader, What};
+use nz_sexpr::{Heard, Limits, PackedHeard, Reader, What};
 use nz_spec::text::{one_reading, reading_tells_first};
 use nz_spec::transcript::transcript_grows;
 use nz_term::Terms;
@@ -78,6 +79,21 @@ fn cut<K: Sink>(sink: &mut K) -> Fed
     }
 }
 
+/// Makes room for one thing more, and packs what was heard for it; `None` where there is no memory.
+fn room_for(kept: &mut Vec<Kept>, heard: &Heard) -> Option<PackedHeard>
+    ensures packed { IfSome result (λ p. packed_heard_view p ≡ heard_view heard.now) }
+    ensures room { IfSome result (λ _. vec_len kept.new + 1 ≤ vec_capacity kept.new) }
+    ensures same { kept.new.items ≡ kept.old.items }
+{
+    if kept.reserve(1).is_err() {
+        return None;
+    }
+    match PackedHeard::new(*kept.allocator(), heard) {
+        Ok(packed) => Some(packed),
+        Err(Memory) => None,
+    }
+}
+
 /// Answers one thing heard: the reply is written and kept.
 fn serve<E: Decide, K: Sink>(
     desk: &mut Desk<E>,
@@ -97,9 +113,11 @@ fn serve<E: Decide, K: Sink>(
     ensures faults { K.faults sink.new ≡ counted K.last (is_sink_fault result) (K.faults sink.old) }
     ensures handed { (result ≡ Fed.SinkFault → ⊥) → K.handed sink.new ≡ K.held sink.new }
 {
-    if kept.reserve(1).is_err() {
-        return cut(sink);
-    }
+    // What is kept of it has its room before it is carried out.
+    let packed = match room_for(kept, &heard) {
+        Some(packed) => packed,
+        None => return cut(sink),
+    };
     let Answer {
         reply,
         cause,
@@ -107,7 +125,7 @@ fn serve<E: Decide, K: Sink>(
     } = desk.answer(&heard.what);
     let shown = show(sink, &heard.what, &reply);
     kept.push(Kept {
-        heard,
+        heard: packed,
         reply,
         cause,
     })

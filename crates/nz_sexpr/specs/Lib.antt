@@ -1,6 +1,7 @@
 pub mod Bytes
 pub mod Fits
 pub mod Matches
+pub mod Packed
 pub mod Part
 pub mod Sizes
 pub mod Store

@@ -3,6 +3,7 @@
 
 mod bytes;
 mod heard;
+mod packed;
 mod part;
 mod reader;
 mod scan;
@@ -11,6 +12,7 @@ mod tree;
 mod words;
 
 pub use heard::{Heard, Limits, What};
+pub use packed::{Packed, PackedHeard, PackedWhat};
 pub use reader::Reader;
 pub use tree::{Token, Tree, TreeList};
 pub use words::is_simple_symbol;

@@ -1,5 +1,5 @@
 -- Terms whose values are asked for: the rules on them, and what asking leaves.
-use Rattle.std.proofs.Common.{◌&&◌, ◌≡◌, ℕ, List, [], ◌∷◌, Option, None, Some, Ok, true, false, Bool, refl, sym, ap, ◌∙◌, subst}
+use Rattle.std.proofs.Common.{◌&&◌, ◌≡◌, List, [], ◌∷◌, Option, None, Some, Ok, true, false, Bool, refl, sym, ap, ◌∙◌, subst}
 use Rattle.std.specs.List.{list_all}
 use Rattle.nz_spec.specs.Term.{Terms, no_terms, terms}
 use Rattle.nz_spec.specs.Normal.{normal_of}

@@ -1,5 +1,5 @@
 -- Declarations: the rules on one, and what it leaves.
-use Rattle.std.proofs.Common.{◌||◌, ◌+◌, ◌-◌, ◌≡◌, ◌⊎◌, inl, inr, ℕ, ◌<◌, List, [], ◌∷◌, ◌++◌, length, map, take, None, Some, is_some, Ok, Bool, true, false, nat_eq, slice_get, refl, sym, ap, ◌∙◌, append-nil, subst}
+use Rattle.std.proofs.Common.{◌||◌, ◌≡◌, ◌⊎◌, inl, inr, ℕ, ◌<◌, List, [], ◌∷◌, ◌++◌, length, map, take, None, Some, Ok, true, false, nat_eq, slice_get, refl, sym, ap, ◌∙◌, append-nil, subst}
 use Rattle.std.specs.List.{list_any}
 use Rattle.std.proofs.lemmas.Grind.{flat_map-append}
 use Rattle.std.proofs.lemmas.Option.{slice_get_within}

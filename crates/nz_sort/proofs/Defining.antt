@@ -1,5 +1,5 @@
 -- Definitions: the rules on one, and what it leaves.
-use Rattle.std.proofs.Common.{◌||◌, ◌&&◌, ◌+◌, ◌-◌, option_and_then, ◌≡◌, ℕ, suc, List, [], ◌∷◌, ◌++◌, length, map, take, Option, None, Some, Ok, Bool, true, false, cond, slice_get, refl, sym, ap, ◌∙◌, append-nil, subst, arith}
+use Rattle.std.proofs.Common.{◌||◌, ◌&&◌, ◌+◌, option_and_then, ◌≡◌, ℕ, suc, List, [], ◌∷◌, ◌++◌, length, map, take, Option, None, Some, IfSome, Result, Ok, Err, IfOk, Bool, true, false, cond, slice_get, refl, sym, ap, ◌∙◌, append-nil, subst, arith}
 use Rattle.std.specs.List.{AllByRecursion}
 use Rattle.nz_spec.specs.Term.{Sort, int_sort, real_sort, to_real, Term, no_terms, terms, apply, are_same_sort}
 use Rattle.nz_spec.specs.Normal.{normal_of}
@@ -15,13 +15,16 @@ use Rattle.nz_spec.specs.Command.{define, Outcome, refused}
 use Rattle.nz_spec.specs.Error.{unknown_symbol, wrong_sort, not_linear, already_declared}
 use Rattle.nz_spec.specs.Scoping.{clash, has_clash}
 use Rattle.nz_term.specs.Constants.{sort_of}
-use Rattle.nz_elaborate.specs.declared.typed.Typed.{Typed}
 use Rattle.nz_elaborate.specs.declared.names.Definition as code
+use Rattle.nz_elaborate.specs.declared.faults.ElaborateError.{ElaborateError}
+use Rattle.nz_elaborate.specs.declared.faults.ElaborateError.TheVariants as errors
+use Rattle.nz_elaborate.specs.Faults.{refusal_by}
 use Rattle.nz_elaborate.specs.Names.{IsDefined}
 use Rattle.nz_elaborate.specs.Definitions.{definition_unknown, definition_clash, body_term, definition_term, HasBody}
 use Rattle.nz_elaborate.specs.Elaborate.{ClashesFirst, IsWellNamed}
 use Rattle.nz_elaborate.specs.Typed.{Grows, IsTyped}
 use Rattle.nz_sort.specs.declared.acts.Act.TheVariants as acts
+use Rattle.nz_sort.specs.Acts.{rule_of, redeclared_by}
 use Rattle.nz_sort.specs.Live.{Standing, IsLive}
 use Rattle.nz_sort.specs.Changes.{Comes, Defines, with_definition}
 use Rattle.nz_sort.proofs.Accepting.{stand_longer, has_definition}
@@ -122,18 +125,18 @@ either false x y e = e
 abbrev by_sorts : State → List ℕ → List Parameter → WrittenSort → Expression → Outcome
 by_sorts s name parameters sort body = definition_by s name (parameter_names parameters) (sorts_written (parameter_sorts parameters)) (sort_written sort) body
 
-pub unknown_definition : (s : State) (name : List ℕ) (parameters : List Parameter) (sort : WrittenSort) (body : Expression) → definition_unknown (scope_of s) parameters sort body ≡ true
+unknown_definition : (s : State) (name : List ℕ) (parameters : List Parameter) (sort : WrittenSort) (body : Expression) → definition_unknown (scope_of s) parameters sort body ≡ true
     → definition_of s name parameters sort body ≡ refused unknown_symbol
 unknown_definition s name parameters sort body e =
     unknown_first (definition_unknown (scope_of s) parameters sort body) (is_live_name s name || clash (parameter_names parameters) || has_clash body) (by_sorts s name parameters sort body) e
 
-pub declared_definition : (s : State) (name : List ℕ) (parameters : List Parameter) (sort : WrittenSort) (body : Expression) → definition_unknown (scope_of s) parameters sort body ≡ false
+declared_definition : (s : State) (name : List ℕ) (parameters : List Parameter) (sort : WrittenSort) (body : Expression) → definition_unknown (scope_of s) parameters sort body ≡ false
     → is_live_name s name ≡ true → definition_of s name parameters sort body ≡ refused already_declared
 declared_definition s name parameters sort body known live =
     clash_next (definition_unknown (scope_of s) parameters sort body) (is_live_name s name || clash (parameter_names parameters) || has_clash body) (by_sorts s name parameters sort body) known
     (ap (λ b. b || clash (parameter_names parameters) || has_clash body) live)
 
-pub clashing_definition : (s : State) (name : List ℕ) (parameters : List Parameter) (sort : WrittenSort) (body : Expression)
+clashing_definition : (s : State) (name : List ℕ) (parameters : List Parameter) (sort : WrittenSort) (body : Expression)
     → ClashesFirst (definition_unknown (scope_of s) parameters sort body) (definition_clash parameters body) → definition_of s name parameters sort body ≡ refused already_declared
 clashing_definition s name parameters sort body h =
     clash_next (definition_unknown (scope_of s) parameters sort body) (is_live_name s name || clash (parameter_names parameters) || has_clash body) (by_sorts s name parameters sort body) h.known
@@ -166,12 +169,37 @@ by_body s name names (Some others) (Some sort) body sorts t same e =
     let alike : others ≡ sorts = cc in
     ap (body_outcome name others) e ∙ ap (λ l. linear_outcome (is_linear (normal_of t)) (define (record { name = name; parameters = l; body = t }))) alike
 
-pub unsorted_definition : (s : State) (name : List ℕ) (parameters : List Parameter) (sort : WrittenSort) (body : Expression) → is_live_name s name ≡ false
+unsorted_definition : (s : State) (name : List ℕ) (parameters : List Parameter) (sort : WrittenSort) (body : Expression) → is_live_name s name ≡ false
     → IsWellNamed (definition_unknown (scope_of s) parameters sort body) (definition_clash parameters body) (definition_term (scope_of s) parameters sort body ≡ None)
     → definition_of s name parameters sort body ≡ refused wrong_sort
 unsorted_definition s name parameters sort body fresh h =
     past s name parameters sort body h.known fresh h.distinct
     ∙ no_body s name (parameter_names parameters) (sorts_written (parameter_sorts parameters)) (sort_written sort) body h.holds
+
+-- what is refused where nothing is made of a definition whose name is new
+pub unmade_definition : (s : State) (name : List ℕ) (parameters : List Parameter) (sort : WrittenSort) (body : Expression) (error : ElaborateError) → is_live_name s name ≡ false
+    → (error ≡ errors.Unknown → definition_unknown (scope_of s) parameters sort body ≡ true)
+    → (error ≡ errors.Clash → ClashesFirst (definition_unknown (scope_of s) parameters sort body) (definition_clash parameters body))
+    → (error ≡ errors.Sort → IsWellNamed (definition_unknown (scope_of s) parameters sort body) (definition_clash parameters body) (definition_term (scope_of s) parameters sort body ≡ None))
+    → IfSome (rule_of (refusal_by error)) (λ e. definition_of s name parameters sort body ≡ refused e)
+unmade_definition s name parameters sort body errors.Unknown fresh unknown clashes unfit = unknown_definition s name parameters sort body (unknown refl)
+unmade_definition s name parameters sort body errors.Clash fresh unknown clashes unfit = clashing_definition s name parameters sort body (clashes refl)
+unmade_definition s name parameters sort body errors.Sort fresh unknown clashes unfit = unsorted_definition s name parameters sort body fresh (unfit refl)
+unmade_definition s name parameters sort body errors.Memory fresh unknown clashes unfit = tt
+
+-- what is refused where a name is defined that is declared already, whatever was made of it
+pub redeclared_definition : (s : State) (name : List ℕ) (parameters : List Parameter) (sort : WrittenSort) (body : Expression) (ns : List Node) (made : Result code.Definition ElaborateError)
+    → is_live_name s name ≡ true
+    → (made ≡ Err errors.Unknown → definition_unknown (scope_of s) parameters sort body ≡ true)
+    → (made ≡ Err errors.Clash → ClashesFirst (definition_unknown (scope_of s) parameters sort body) (definition_clash parameters body))
+    → IfOk made (λ d. IsWellNamed (definition_unknown (scope_of s) parameters sort body) (definition_clash parameters body) (HasBody (scope_of s) parameters sort body ns d))
+    → (made ≡ Err errors.Sort → IsWellNamed (definition_unknown (scope_of s) parameters sort body) (definition_clash parameters body) (definition_term (scope_of s) parameters sort body ≡ None))
+    → IfSome (rule_of (redeclared_by made)) (λ e. definition_of s name parameters sort body ≡ refused e)
+redeclared_definition s name parameters sort body ns (Ok d) live unknown clashes fits unfit = declared_definition s name parameters sort body fits.known live
+redeclared_definition s name parameters sort body ns (Err errors.Unknown) live unknown clashes fits unfit = unknown_definition s name parameters sort body (unknown refl)
+redeclared_definition s name parameters sort body ns (Err errors.Clash) live unknown clashes fits unfit = clashing_definition s name parameters sort body (clashes refl)
+redeclared_definition s name parameters sort body ns (Err errors.Sort) live unknown clashes fits unfit = declared_definition s name parameters sort body (unfit refl).known live
+redeclared_definition s name parameters sort body ns (Err errors.Memory) live unknown clashes fits unfit = tt
 
 of_linear : (s : State) (name : List ℕ) (parameters : List Parameter) (sort : WrittenSort) (body : Expression) (ns : List Node) (d : code.Definition) (linear : Bool) → is_live_name s name ≡ false
     → (h : IsWellNamed (definition_unknown (scope_of s) parameters sort body) (definition_clash parameters body) (HasBody (scope_of s) parameters sort body ns d))

@@ -1,5 +1,5 @@
 -- The live state after commands.
-use Rattle.std.proofs.Common.{◌||◌, ◌+◌, ◌-◌, ◌≤◌, ◌≡◌, ◌⊎◌, inl, inr, ℕ, zero, suc, ◌<◌, List, [], ◌∷◌, ◌++◌, length, map, take, All, Option, None, Some, IfSome, IfNone, is_some, true, false, cond, bytes_eq, slice_get, refl, sym, ap, ◌∙◌, append_assoc, append-nil, length-append, subst, arith}
+use Rattle.std.proofs.Common.{◌+◌, ◌-◌, ◌≤◌, ◌≡◌, ◌⊎◌, inl, inr, ℕ, zero, suc, ◌<◌, List, [], ◌∷◌, ◌++◌, length, map, take, All, Option, None, Some, IfSome, IfNone, is_some, true, false, cond, bytes_eq, slice_get, refl, sym, ap, ◌∙◌, append_assoc, append-nil, length-append, subst, arith}
 use Rattle.std.proofs.lemmas.Grind.{flat_map-append}
 use Rattle.std.proofs.lemmas.List.{length-map}
 use Rattle.std.proofs.lemmas.List.Elements.{All-cons, All-nil}
@@ -170,24 +170,10 @@ kept_with_one old new n (inr e) = ap (take (length old)) e ∙ take_front old (n
 pub cut_back : (old new cut : List Node) (mark : ℕ) → mark ≡ length old → cut ≡ take mark new → take (length old) new ≡ old → cut ≡ old
 cut_back old new cut mark m c kept = c ∙ ap (λ n. take n new) m ∙ kept
 
--- ---- Tables that grow twice
-
-operators-append : (xs ys : List Node) → AllByRecursion (λ (n : Node). IsOperator n.head) xs → AllByRecursion (λ (n : Node). IsOperator n.head) ys
-    → AllByRecursion (λ (n : Node). IsOperator n.head) (xs ++ ys)
-operators-append [] ys a b = b
-operators-append (x ∷ xs) ys a b = (a.0, operators-append xs ys a.1 b)
+-- ---- Tables that grow
 
 longer : (old new : List Node) → Grows old new → length old ≤ length new
 longer old new g = omega (arith, simp length-append at (ap length g.all))
-
-pub grows_more : (old mid new : List Node) → Grows old mid → Grows mid new → Grows old new
-grows_more old mid new g h =
-    record {
-      more = g.more ++ h.more;
-      all = h.all ∙ ap (λ l. l ++ h.more) g.all ∙ append_assoc old g.more h.more;
-      operators = operators-append g.more h.more g.operators h.operators;
-      stays = λ i below. h.stays i (let long = longer old mid g in omega arith) ∙ g.stays i below;
-    }
 
 pub typed_kept : (old new : List Node) → Grows old new → (x : Typed) (t : Term) → IsTyped old x t → IsTyped new x t
 typed_kept old new g x t h = record { within = omega (arith, h.within, longer old new g); normal = g.stays x.id h.within ∙ h.normal; sort = h.sort }

@@ -1,5 +1,5 @@
 -- Names and what they stand for, one of them more.
-use Rattle.std.proofs.Common.{◌||◌, ◌≡◌, ℕ, ◌<◌, List, [], ◌∷◌, ◌++◌, length, Option, None, Some, is_some, Bool, true, false, cond, bytes_eq, refl, sym, ap, ◌∙◌, append-nil, length-append, subst, arith}
+use Rattle.std.proofs.Common.{◌||◌, ◌≡◌, ℕ, List, [], ◌∷◌, ◌++◌, Option, None, Some, is_some, Bool, true, false, cond, bytes_eq, refl, sym, ap, ◌∙◌, length-append, subst, arith}
 use Rattle.std.specs.Cmp.Lexicographic.{nat_list_eq_equiv}
 use Rattle.std.specs.List.{AllByRecursion}
 use Rattle.nz_spec.specs.Term.{Constant, constant, Term, no_terms, apply}

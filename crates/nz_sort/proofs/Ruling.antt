@@ -1,5 +1,5 @@
 -- What becomes of a command, by the rules in their order.
-use Rattle.std.proofs.Common.{◌≡◌, ◌||◌, ◌-◌, ℕ, List, [], ◌∷◌, ◌++◌, length, take, Option, Some, None, IfSome, Result, Ok, Err, Bool, true, false, cond, refl, sym, ap, ◌∙◌, subst}
+use Rattle.std.proofs.Common.{◌≡◌, ◌||◌, List, [], ◌∷◌, length, take, Option, Some, None, IfSome, IfErr, IsErrAnd, Result, Ok, Err, Bool, true, false, cond, refl, sym, ap, ◌∙◌, subst}
 use Rattle.nz_spec.specs.Tree.{Tree}
 use Rattle.nz_spec.specs.Bounds.{has_token, is_wide_token, is_long_decimal}
 use Rattle.nz_spec.specs.Table.{Node}
@@ -17,8 +17,9 @@ use Rattle.nz_base.specs.declared.reply_errors.Error.{Error}
 use Rattle.nz_elaborate.specs.declared.faults.ElaborateError.{ElaborateError}
 use Rattle.nz_elaborate.specs.declared.faults.ElaborateError.TheVariants as errors
 use Rattle.nz_elaborate.specs.Elaborate.{ClashesFirst, IsWellNamed}
+use Rattle.nz_elaborate.specs.Faults.{refusal_by}
 use Rattle.nz_sort.specs.declared.acts.Act.{Act}
-use Rattle.nz_sort.specs.Acts.{asked, rule_of, refusal_by, is_check, AsksBy}
+use Rattle.nz_sort.specs.Acts.{asked, rule_of, is_check, AsksBy}
 use Rattle.nz_sort.specs.Changes.{Comes, ComesBy}
 use Rattle.nz_sort.specs.Live.{Standing, IsLive, IsCarriedOut, Leaves, Ask, Asks, changed, check, show_model, show_values, show_reason, show_info, show_levels, print_success, nothing, echo, leave, unsupported}
 use Rattle.nz_sort.proofs.Living.{leaves_asked, leaves_by, if_skipped, kept_where_same}
@@ -49,7 +50,7 @@ pub past_names : (unknown clashes : Bool) (o : Outcome) → unknown ≡ false �
 past_names unknown clashes o e f = ap (λ b. cond b (refused unknown_symbol) (cond clashes (refused already_declared) o)) e ∙ ap (λ b. cond b (refused already_declared) o) f
 
 -- a term that isn't elaborated breaks the rule of its error
-refused_by : (error : ElaborateError) (unknown clashes : Bool) (o : Outcome)
+pub refused_by : (error : ElaborateError) (unknown clashes : Bool) (o : Outcome)
     → (error ≡ errors.Unknown → unknown ≡ true) → (error ≡ errors.Clash → ClashesFirst unknown clashes) → (error ≡ errors.Sort → IsWellNamed unknown clashes (o ≡ refused wrong_sort))
     → IfSome (rule_of (refusal_by error)) (λ e. named_first unknown clashes o ≡ refused e)
 refused_by errors.Unknown unknown clashes o a b c = unknown_first unknown clashes o (a refl)
@@ -57,10 +58,13 @@ refused_by errors.Clash unknown clashes o a b c = let h = b refl in clash_next u
 refused_by errors.Sort unknown clashes o a b c = let h = c refl in past_names unknown clashes o h.known h.distinct ∙ h.holds
 refused_by errors.Memory unknown clashes o a b c = tt
 
-pub refused_by_error : (error : ElaborateError) (refusal : Error) (unknown clashes : Bool) (o : Outcome) → refusal ≡ refusal_by error
-    → (error ≡ errors.Unknown → unknown ≡ true) → (error ≡ errors.Clash → ClashesFirst unknown clashes) → (error ≡ errors.Sort → IsWellNamed unknown clashes (o ≡ refused wrong_sort))
-    → IfSome (rule_of refusal) (λ e. named_first unknown clashes o ≡ refused e)
-refused_by_error error refusal unknown clashes o r a b c = subst (λ x. IfSome (rule_of x) (λ e. named_first unknown clashes o ≡ refused e)) (sym r) (refused_by error unknown clashes o a b c)
+-- a `?` hands on its error as that of the command
+pub broken_by : {T : Type 0} (ns : List Node) (standing : Standing) (becomes : State → Outcome) (error : ElaborateError) (result : Result T Error)
+    → IsErrAnd result (λ refusal. refusal ≡ refusal_by error) → ((s : State) → IsLive ns standing s → IfSome (rule_of (refusal_by error)) (λ e. becomes s ≡ refused e))
+    → IfErr result (λ refusal. IfSome (rule_of refusal) (λ e. (s : State) → IsLive ns standing s → becomes s ≡ refused e))
+broken_by ns standing becomes error (Err refusal) is f =
+    broken_in_each ns standing becomes (rule_of refusal) (λ s live. subst (λ x. IfSome (rule_of x) (λ e. becomes s ≡ refused e)) (sym is) (f s live))
+broken_by ns standing becomes error (Ok x) is f = absurd is
 
 -- ---- The rules before them
 

@@ -1,5 +1,5 @@
 -- What the acts of the code ask, and the errors by which it refuses.
-use Rattle.std.specs.Prelude.{◌≡◌, Bool, true, false, List, Option, Some, None}
+use Rattle.std.specs.Prelude.{◌≡◌, Bool, true, false, List, Option, Some, None, Result, Ok, Err}
 use Rattle.nz_spec.specs.Table.{Node}
 use Rattle.nz_spec.specs.Request.{Request}
 use Rattle.nz_spec.specs.Live.{State}
@@ -14,6 +14,7 @@ use Rattle.nz_base.specs.declared.reply_errors.Error.TheVariants as code
 use Rattle.nz_sort.specs.Live.{Ask, Asks, changed, check, show_model, show_values, show_reason, show_info, show_levels, print_success, nothing, echo, leave, unsupported}
 use Rattle.nz_elaborate.specs.declared.faults.ElaborateError.{ElaborateError}
 use Rattle.nz_elaborate.specs.declared.faults.ElaborateError.TheVariants as errors
+use Rattle.nz_elaborate.specs.declared.names.Definition.{Definition}
 use Rattle.nz_sort.specs.declared.acts.Act.{Act}
 use Rattle.nz_sort.specs.declared.acts.Act.TheVariants.{Changed, Check, ShowModel, ShowValues, ShowReason, ShowInfo, ShowLevels, PrintSuccess, Nothing, Echo, Leave, Unsupported}
 use Rattle.nz_sort.specs.declared.acts.Info.{Info}
@@ -61,9 +62,10 @@ abbrev pub rule_of : Error → Option spec.Error
 rule_of code.OutOfMemory = None
 rule_of e = Some (error_of e)
 
--- that of the rule that a term breaks
-abbrev pub refusal_by : ElaborateError → Error
-refusal_by errors.Unknown = code.UnknownSymbol
-refusal_by errors.Clash = code.AlreadyDeclared
-refusal_by errors.Sort = code.Sort
-refusal_by errors.Memory = code.OutOfMemory
+-- that of a definition whose name is declared already: only an unknown symbol comes before
+abbrev pub redeclared_by : Result Definition ElaborateError → Error
+redeclared_by (Err errors.Unknown) = code.UnknownSymbol
+redeclared_by (Err errors.Memory) = code.OutOfMemory
+redeclared_by (Err errors.Clash) = code.AlreadyDeclared
+redeclared_by (Err errors.Sort) = code.AlreadyDeclared
+redeclared_by (Ok definition) = code.AlreadyDeclared

@@ -20,7 +20,7 @@ ghost use Rattle.nz_elaborate.specs.Names.{named_by};
 ghost use Rattle.nz_elaborate.specs.Typed.{Grows, AreTyped};
 ghost use Rattle.nz_sort.specs.Items.{table_numbers};
 ghost use Rattle.nz_sort.specs.Live.{IsLive, IsCarriedOut, IfSkipped, standing_of, check, unsupported};
-ghost use Rattle.nz_sort.specs.Acts.{asked, rule_of, refusal_by};
+ghost use Rattle.nz_sort.specs.Acts.{asked, rule_of, redeclared_by};
 ghost use Rattle.nz_sort.specs.Changes.{Comes, ComesBy, Defines, Asserts, Shows, HasAdded, constant_of, with_constant, with_definition, with_assertion};
 
 use crate::acts::{Act, info_act, setting_act};
@@ -35,7 +35,7 @@ use nz_elaborate::{
 use nz_sexpr::Tree;
 use nz_spec::elaboration::terms_fit;
 use nz_spec::table::term_stays;
-use nz_term::{Constant, Head, Sort, TermId, Terms, add_companions, listing_order};
+use nz_term::{Constant, Head, Sort, TermId, Terms, add_companions, grows_twice, listing_order};
 use std::alloc::Global;
 use std::marker::Model;
 
@@ -251,13 +251,9 @@ impl Live {
         ensures comes { Comes terms.old terms.new self.old self.new (requests.declares name.now (map sort_view sorts.now) (sort_view sort.now)) (λ s. declaration_of s name.now (map sort_view sorts.now) (sort_view sort.now)) result }
     {
         term_stays();
-        match self.declared_sort(name, sorts, sort) {
-            Err(refusal) => Err(refusal),
-            Ok(sort) => match self.add_constant(terms, name, sort) {
-                Ok(()) => Ok(Act::Changed),
-                Err(Memory) => Err(Error::OutOfMemory),
-            },
-        }
+        let sort = self.declared_sort(name, sorts, sort)?;
+        self.add_constant(terms, name, sort)?;
+        Ok(Act::Changed)
     }
 
     /// The sort of a constant of this name, where it is declared.
@@ -299,7 +295,7 @@ impl Live {
             sort,
         };
         let key = Text::from_slice(self.alloc, name.as_bytes())?;
-        let id = terms.make(Head::Constant(constant), &[])?;
+        let id = terms.make(Head::Constant(&constant), &[])?;
         self.keep_constant(key, Typed { id, sort })
     }
 
@@ -339,13 +335,9 @@ impl Live {
         ensures comes { Comes terms.old terms.new self.old self.new (requests.defines name.now (map parameter_view parameters.now) (sort_view sort.now) (written body.now)) (λ s. definition_of s name.now (map parameter_view parameters.now) (sort_view sort.now) (written body.now)) result }
     {
         term_stays();
-        match self.definition(terms, name, parameters, sort, body) {
-            Err(refusal) => Err(refusal),
-            Ok(definition) => match self.add_definition(name, definition) {
-                Ok(()) => Ok(Act::Changed),
-                Err(Memory) => Err(Error::OutOfMemory),
-            },
-        }
+        let definition = self.definition(terms, name, parameters, sort, body)?;
+        self.add_definition(name, definition)?;
+        Ok(Act::Changed)
     }
 
     /// What is to stand for the name that is defined, and the rules on it, with the companions of what is made.
@@ -364,31 +356,19 @@ impl Live {
         ensures accepted { IfOk result (λ d. (s : State) → IsLive terms.old self.now s → Defines name.now (definition_of s name.now (map parameter_view parameters.now) (sort_view sort.now) (written body.now)) terms.new d) }
         ensures refused { IfErr result (λ refusal. IfSome (rule_of refusal) (λ e. (s : State) → IsLive terms.old self.now s → definition_of s name.now (map parameter_view parameters.now) (sort_view sort.now) (written body.now) ≡ refused e)) }
     {
+        grows_twice();
         terms_fit();
-        let is_declared = self.names.get(name).is_some();
         let mark = terms.mark();
-        match elaborate_body(self.alloc, &self.names, terms, parameters, sort, body) {
-            Err(ElaborateError::Sort) => {
-                if is_declared {
-                    Err(Error::AlreadyDeclared)
-                } else {
-                    Err(Error::Sort)
-                }
-            }
-            Err(ElaborateError::Unknown) => Err(Error::UnknownSymbol),
-            Err(ElaborateError::Clash) => Err(Error::AlreadyDeclared),
-            Err(ElaborateError::Memory) => Err(Error::OutOfMemory),
-            Ok(definition) => {
-                if is_declared {
-                    return Err(Error::AlreadyDeclared);
-                }
-                if !terms.is_linear(definition.body.id) {
-                    return Err(Error::NotLinear);
-                }
-                add_companions(self.alloc, terms, mark)?;
-                Ok(definition)
-            }
+        let made = elaborate_body(self.alloc, &self.names, terms, parameters, sort, body);
+        if self.names.get(name).is_some() {
+            return Err(redeclared(made));
         }
+        let definition = made?;
+        if !terms.is_linear(definition.body.id) {
+            return Err(Error::NotLinear);
+        }
+        add_companions(self.alloc, terms, mark)?;
+        Ok(definition)
     }
 
     /// Adds a definition of a name that isn't there yet to what stands.
@@ -421,13 +401,9 @@ impl Live {
         ensures comes { Comes terms.old terms.new self.old self.new (requests.asserts (written term.now)) (λ s. assertion_of s (written term.now)) result }
     {
         term_stays();
-        match self.assertion(terms, term) {
-            Err(refusal) => Err(refusal),
-            Ok(id) => match self.keep_assertion(id, terms.holds_number(id)) {
-                Ok(()) => Ok(Act::Changed),
-                Err(Memory) => Err(Error::OutOfMemory),
-            },
-        }
+        let id = self.assertion(terms, term)?;
+        self.keep_assertion(id, terms.holds_number(id))?;
+        Ok(Act::Changed)
     }
 
     /// The normal term of what may be asserted, and the rules on it, with the companions of what is made.
@@ -439,20 +415,17 @@ impl Live {
         ensures accepted { IfOk result (λ id. (s : State) → IsLive terms.old self.now s → Asserts (assertion_of s (written term.now)) terms.new id) }
         ensures refused { IfErr result (λ refusal. IfSome (rule_of refusal) (λ e. (s : State) → IsLive terms.old self.now s → assertion_of s (written term.now) ≡ refused e)) }
     {
+        grows_twice();
         let mark = terms.mark();
-        match elaborate(self.alloc, &self.names, terms, term) {
-            Err(error) => Err(refusal_of(error)),
-            Ok(made) => {
-                if made.sort != Sort::Bool {
-                    return Err(Error::Sort);
-                }
-                if !terms.is_linear(made.id) {
-                    return Err(Error::NotLinear);
-                }
-                add_companions(self.alloc, terms, mark)?;
-                Ok(made.id)
-            }
+        let made = elaborate(self.alloc, &self.names, terms, term)?;
+        if made.sort != Sort::Bool {
+            return Err(Error::Sort);
         }
+        if !terms.is_linear(made.id) {
+            return Err(Error::NotLinear);
+        }
+        add_companions(self.alloc, terms, mark)?;
+        Ok(made.id)
     }
 
     /// Keeps the assertion of a term, which holds a number or doesn't.
@@ -478,10 +451,8 @@ impl Live {
         ensures comes { Comes terms.old terms.new self.now self.now (requests.shows_values (map question_view questions.now)) (λ s. values_asked s (map question_view questions.now)) result }
     {
         term_stays();
-        match self.values(terms, questions) {
-            Ok(values) => Ok(Act::ShowValues(values)),
-            Err(refusal) => Err(refusal),
-        }
+        let values = self.values(terms, questions)?;
+        Ok(Act::ShowValues(values))
     }
 
     /// The normal terms of what may be asked for, and the rules on them, with the companions of what is made.
@@ -493,28 +464,23 @@ impl Live {
         ensures refused { IfErr result (λ refusal. IfSome (rule_of refusal) (λ e. (s : State) → IsLive terms.old self.now s → values_asked s (map question_view questions.now) ≡ refused e)) }
     {
         let mark = terms.mark();
-        match elaborate_all(self.alloc, &self.names, terms, questions) {
-            Err(error) => Err(refusal_of(error)),
-            Ok(values) => {
-                if !are_linear(terms, values.as_slice()) {
-                    return Err(Error::NotLinear);
-                }
-                add_companions(self.alloc, terms, mark)?;
-                Ok(values)
-            }
+        let values = elaborate_all(self.alloc, &self.names, terms, questions)?;
+        if !are_linear(terms, values.as_slice()) {
+            return Err(Error::NotLinear);
         }
+        add_companions(self.alloc, terms, mark)?;
+        Ok(values)
     }
 }
 
-/// The error of the rule that a term breaks.
-fn refusal_of(error: ElaborateError) -> Error
-    ensures refusal { result ≡ refusal_by error }
+/// The error of a definition whose name is declared already, whatever was made of its body: only an unknown symbol comes before.
+fn redeclared(made: Result<Definition, ElaborateError>) -> Error
+    ensures refusal { result ≡ redeclared_by made }
 {
-    match error {
-        ElaborateError::Unknown => Error::UnknownSymbol,
-        ElaborateError::Clash => Error::AlreadyDeclared,
-        ElaborateError::Sort => Error::Sort,
-        ElaborateError::Memory => Error::OutOfMemory,
+    match made {
+        Err(ElaborateError::Unknown) => Error::UnknownSymbol,
+        Err(ElaborateError::Memory) => Error::OutOfMemory,
+        Err(ElaborateError::Clash) | Err(ElaborateError::Sort) | Ok(_) => Error::AlreadyDeclared,
     }
 }
 

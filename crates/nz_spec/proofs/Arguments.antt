@@ -1,15 +1,15 @@
 -- What a reply shows of its command stands in the command's argument.
-use Rattle.std.proofs.Common.{◌≡◌, ℕ, Bool, true, false, List, [], ◌∷◌, map, Option, Some, None, option_map, refl, sym, ap, ◌∙◌, subst, true≢false, bytes_eq}
-use Rattle.std.specs.Prelude.{option_and_then, if◌then◌else◌, ⊤, codes}
+use Rattle.std.proofs.Common.{◌≡◌, ℕ, true, false, List, [], ◌∷◌, map, Option, Some, None, option_map, refl, ap, subst, bytes_eq}
+use Rattle.std.specs.Prelude.{option_and_then, if◌then◌else◌, ⊤}
 use Rattle.nz_spec.specs.Request.{greatest, least}
 use Rattle.nz_spec.specs.Parse.{keyword_of, assumption_of, setting_of, info_key, parameter_of}
 use Rattle.std.specs.List.{AllByRecursion}
-use Rattle.nz_spec.specs.Tree.{Token, literal, Tree, leaf, node, Trees, no_trees, trees}
+use Rattle.nz_spec.specs.Tree.{literal, Tree, leaf, node, Trees, no_trees, trees}
 use Rattle.nz_spec.specs.Reading.{trees_from}
 use Rattle.nz_spec.specs.Expression.{Expression}
-use Rattle.nz_spec.specs.Request.{WrittenSort, Parameter, Question, Request, declares, defines, asserts, wishes, seeks, checks, checks_assuming, pushes, pops, resets, resets_assertions, shows_model, shows_values, shows_objectives, shows_info, sets_option, sets_nothing, echoes, exits, other_request}
+use Rattle.nz_spec.specs.Request.{Question, Request, declares, defines, asserts, wishes, seeks, checks, checks_assuming, pushes, pops, resets, resets_assertions, shows_model, shows_values, shows_objectives, shows_info, sets_option, sets_nothing, echoes, exits, other_request}
 use Rattle.nz_spec.specs.Argument.{argument_in, argument_of, Tells, ArgumentTells}
-use Rattle.nz_spec.specs.Parse.{name_of, one, first, none, within, cons_onto, each, expression_of, written_sort, question_of, some_questions, literal_of, level_count, wish_of, attributes_onto, info_of, is_attribute_value, function_of, written_definition, listed_with, commands, request_named, request_of}
+use Rattle.nz_spec.specs.Parse.{name_of, one, first, none, within, cons_onto, each, expression_of, written_sort, question_of, some_questions, literal_of, level_count, wish_of, attributes_onto, info_of, is_attribute_value, function_of, written_definition, listed_with, commands, request_named}
 
 -- of these arguments
 abbrev only_tree : Trees → Option Tree

@@ -8,7 +8,7 @@ use Rattle.std.proofs.lemmas.List.Elements.{Contains-append_left, Contains-appen
 use Rattle.nz_lists.proofs.Elements.{AllByRecursion-weaker}
 use Rattle.nz_spec.specs.Term.{Sort, bool_sort, Head, constant, verum, falsum, negation, conjunction, disjunction, exclusion, equality, choice, Term, apply, Terms, no_terms, terms, Value, truth, Assignment, is_true, are_equal, excluded, all_true, some_true, head_sort, sort_of, is_bool, is_numeric, holds_number, hold_number, value_of, values_of}
 use Rattle.nz_spec.specs.Order.{post_order, post_orders}
-use Rattle.nz_spec.specs.Literal.{Literal, term_literal, Clause}
+use Rattle.nz_spec.specs.Literal.{Literal, term_literal, is_at_most, is_below, Clause}
 use Rattle.nz_spec.specs.Gates.{list_of, holds, fails, gate_clauses, IsRow, IsGated, AreGated, HasTrueLiteral, MeetsGates, IsTruthBy, IsTruthAt, GatesDecide, NumberedGatesDecide}
 
 -- a term of the table is of sort Bool
@@ -66,6 +66,8 @@ module _ (a : Assignment) (HasTruth : Term → Bool → Type 0) (consistent : (t
 
   abbrev Says : Literal → Type 0
   Says (term_literal t sign) = HasTruth t sign
+  Says (is_at_most ps b) = ⊥
+  Says (is_below ps b) = ⊥
 
   abbrev SaysOne : Clause → Type 0
   SaysOne [] = ⊥

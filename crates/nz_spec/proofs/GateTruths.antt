@@ -46,7 +46,7 @@ all-append P [] x h k = (k, tt)
 all-append P (y ∷ ys) x h k = (h.0, all-append P ys x h.1 k)
 
 -- one follows from the other
-implies : (b c : Bool) → (b ≡ true → c ≡ true) → (not b || (c || false)) ≡ true
+pub implies : (b c : Bool) → (b ≡ true → c ≡ true) → (not b || (c || false)) ≡ true
 implies true c h = or-false c ∙ h refl
 implies false c h = refl
 

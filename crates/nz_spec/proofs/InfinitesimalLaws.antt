@@ -11,10 +11,10 @@ use Rattle.nz_spec.proofs.FractionArithmetic.{own_parts, sum_parts, product_part
 
 -- ---- what one comparison says of another
 
-lt-carried : (p q p' q' : Fraction) → fraction_cmp p q ≡ fraction_cmp p' q' → p <ℚ q → p' <ℚ q'
+pub lt-carried : (p q p' q' : Fraction) → fraction_cmp p q ≡ fraction_cmp p' q' → p <ℚ q → p' <ℚ q'
 lt-carried p q p' q' e h = fraction_ranked p' q' Less (fraction_cmp_is p q Less h ∙ e)
 
-le-carried : (p q p' q' : Fraction) → fraction_cmp p q ≡ fraction_cmp p' q' → p ≤ℚ q → p' ≤ℚ q'
+pub le-carried : (p q p' q' : Fraction) → fraction_cmp p q ≡ fraction_cmp p' q' → p ≤ℚ q → p' ≤ℚ q'
 le-carried p q p' q' e h = by_order (fraction_cmp p' q') refl
   where
     by_order : (o : Ordering) → o ≡ fraction_cmp p' q' → p' ≤ℚ q'
@@ -22,14 +22,14 @@ le-carried p q p' q' e h = by_order (fraction_cmp p' q') refl
     by_order Equal f = ≤ℚ-from_eq (fraction_ranked p' q' Equal f)
     by_order Greater f = absurd (<ℚ_irrefl (fraction_ranked p q Greater (f ∙ sym e)) h)
 
-moved : (p q r : Fraction) → p ≤ℚ q → (p +ℚ r) ≤ℚ (q +ℚ r)
+pub moved : (p q r : Fraction) → p ≤ℚ q → (p +ℚ r) ≤ℚ (q +ℚ r)
 moved p q r h = le-carried p q (p +ℚ r) (q +ℚ r) (sym (cmp-+ℚ p q r)) h
 
-moved_right : (r p q : Fraction) → p ≤ℚ q → (r +ℚ p) ≤ℚ (r +ℚ q)
+pub moved_right : (r p q : Fraction) → p ≤ℚ q → (r +ℚ p) ≤ℚ (r +ℚ q)
 moved_right r p q h =
     ≤ℚ_trans (≤ℚ-from_eq (+ℚ_comm r p)) (≤ℚ_trans (moved p q r h) (≤ℚ-from_eq (+ℚ_comm q r)))
 
-scaled : (p q r : Fraction) → whole (pos 0) <ℚ r → p ≤ℚ q → (p *ℚ r) ≤ℚ (q *ℚ r)
+pub scaled : (p q r : Fraction) → whole (pos 0) <ℚ r → p ≤ℚ q → (p *ℚ r) ≤ℚ (q *ℚ r)
 scaled p q r z h = le-carried p q (p *ℚ r) (q *ℚ r) (sym (cmp-*ℚ_pos p q r z)) h
 
 -- a difference is above 0 where the first is the greater

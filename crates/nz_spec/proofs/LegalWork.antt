@@ -1,9 +1,8 @@
 -- Legal lists of work: how they go on, and that they repeat nothing.
-use Rattle.std.proofs.Common.{◌≡◌, ℕ, zero, suc, ◌<◌, ◌≢◌, ◌⊎◌, inl, inr, Bool, true, List, [], ◌∷◌, ◌++◌, All, Contains, length, map, take, fold, slice_get, slice_index_or, Some, refl, sym, ap, subst, ◌∙◌, arith}
+use Rattle.std.proofs.Common.{◌≡◌, ℕ, zero, suc, ◌<◌, ◌≢◌, inl, inr, Bool, true, List, [], ◌∷◌, ◌++◌, All, Contains, length, map, take, slice_get, slice_index_or, Some, refl, sym, ap, subst, ◌∙◌}
 use Rattle.std.proofs.lemmas.Option.{slice_get_within, get_or_from_slice_get}
 use Rattle.std.proofs.lemmas.List.{take-map, map-append, length-map}
 use Rattle.nz_lists.proofs.Places.{slice_get-push_cases, slice_index_or-map}
-use Rattle.nz_spec.specs.Term.{Term}
 use Rattle.nz_spec.specs.Literal.{AreSameSet, StandOnce}
 use Rattle.nz_spec.specs.Work.{DecisionEntry, LearnedEntry, WorkLine, UnitLine, NoteLine}
 use Rattle.nz_spec.specs.Reply.{Note, atom_note}

@@ -1,81 +1,18 @@
--- Which terms and literals are one, and clauses as sets.
-use Rattle.std.proofs.Common.{◌≡◌, ℕ, zero, suc, Bool, true, false, not, ◌||◌, List, [], ◌∷◌, ◌++◌, ◌⊎◌, inl, inr, refl, sym, ap, ◌∙◌, true≢false}
-use Rattle.std.specs.Prelude.{slice_index_or, fold, if◌then◌else◌}
+-- Which literals are one, and clauses as sets.
+use Rattle.std.proofs.Common.{◌≡◌, Bool, true, false, not, ◌||◌, List, [], ◌∷◌, ◌++◌, ◌⊎◌, inl, inr, map, refl, sym, ap, ap₂, ◌∙◌, true≢false}
+use Rattle.std.specs.Prelude.{fold, if◌then◌else◌, ◌&&◌}
 use Rattle.std.specs.List.{list_any}
-use Rattle.std.proofs.lemmas.Slice.Eq.{bytes_eq-Decides}
 use Rattle.std.proofs.Math.Bool.{or_assoc, or-false}
-use Rattle.std.proofs.lemmas.List.Folds.{list_any-append}
-use Rattle.nz_spec.specs.Elaboration.{numbers_at}
-use Rattle.nz_spec.specs.Term.{Sort, bool_sort, int_sort, real_sort, NumberSort, over_int, over_real, sort_over, Head, constant, parameter, integer, decimal_number, verum, falsum, negation, conjunction, disjunction, implication, exclusion, equality, distinction, choice, less, at_most, greater, at_least, sum, difference, product, quotient, integer_quotient, modulus, magnitude, to_real, to_int, is_int, Term, apply, Terms, no_terms, terms, Assignment, is_true, value_of}
-use Rattle.nz_spec.specs.Literal.{sort_number, TellsHeads, head_numbers, are_same_head, are_same_term, are_same_terms, Literal, term_literal, negation_of, are_same_sign, are_same_literal, is_literal_true, with_one, once, without, Clause, is_clause_true, ResolventIsTrue, ClauseIsTrueTogether, TellsLiterals}
 use Rattle.std.proofs.lemmas.Bool.{and_from, and_parts}
-
--- ---- A head from its numbers
-
-abbrev sort_numbered : ℕ → Sort
-sort_numbered zero = bool_sort
-sort_numbered (suc zero) = int_sort
-sort_numbered (suc (suc n)) = real_sort
-
-sort_back : (s : Sort) → sort_numbered (sort_number s) ≡ s
-sort_back bool_sort = refl
-sort_back int_sort = refl
-sort_back real_sort = refl
-
-numbers_back : (s : NumberSort) → numbers_at (sort_numbered (sort_number (sort_over s))) ≡ s
-numbers_back over_int = refl
-numbers_back over_real = refl
-
--- the heads by their kinds
-abbrev picked : ℕ → Sort → ℕ → ℕ → List ℕ → Head
-picked k s n p name =
-    slice_index_or
-    (constant (record { name = name; sort = s }) ∷ parameter p s ∷ integer n ∷ decimal_number n p ∷ verum ∷ falsum ∷ negation ∷ conjunction ∷ disjunction ∷ exclusion ∷ equality ∷ choice s
-    ∷ less ∷ at_most ∷ sum (numbers_at s) ∷ difference (numbers_at s) ∷ product (numbers_at s) ∷ quotient ∷ integer_quotient ∷ modulus ∷ magnitude ∷ to_real ∷ to_int ∷ is_int ∷ implication ∷ distinction ∷ greater ∷ at_least ∷ [])
-    k falsum
-
-abbrev built : List ℕ → Head
-built (k ∷ s ∷ n ∷ p ∷ name) = picked k (sort_numbered s) n p name
-built ns = falsum
-
-head_back : (h : Head) → built (head_numbers h) ≡ h
-head_back (constant c) = ap (λ s. constant (record { name = c.name; sort = s })) (sort_back c.sort)
-head_back (parameter i s) = ap (parameter i) (sort_back s)
-head_back (choice s) = ap choice (sort_back s)
-head_back (sum s) = ap sum (numbers_back s)
-head_back (difference s) = ap difference (numbers_back s)
-head_back (product s) = ap product (numbers_back s)
-head_back h = refl
-
-pub same_head : TellsHeads
-same_head g h e = sym (head_back g) ∙ ap built ((bytes_eq-Decides (head_numbers g) (head_numbers h)).0 e) ∙ head_back h
-
-one_head : (h : Head) → are_same_head h h ≡ true
-one_head h = (bytes_eq-Decides (head_numbers h) (head_numbers h)).1 refl
-
--- ---- Terms
-
-mutual
-  pub same_term : (t u : Term) → are_same_term t u ≡ true → t ≡ u
-  same_term (apply g ts) (apply h us) e =
-      ap (λ f. apply f ts) (same_head g h ((and_parts (are_same_head g h) (are_same_terms ts us) e).0))
-      ∙ ap (apply h) (same_terms ts us ((and_parts (are_same_head g h) (are_same_terms ts us) e).1))
-
-  same_terms : (ts us : Terms) → are_same_terms ts us ≡ true → ts ≡ us
-  same_terms no_terms no_terms e = refl
-  same_terms no_terms (terms u us) e = absurd (true≢false (sym e))
-  same_terms (terms t ts) no_terms e = absurd (true≢false (sym e))
-  same_terms (terms t ts) (terms u us) e =
-      ap (λ v. terms v ts) (same_term t u ((and_parts (are_same_term t u) (are_same_terms ts us) e).0))
-      ∙ ap (terms u) (same_terms ts us ((and_parts (are_same_term t u) (are_same_terms ts us) e).1))
-
-mutual
-  pub one_term : (t : Term) → are_same_term t t ≡ true
-  one_term (apply h ts) = and_from (are_same_head h h) (are_same_terms ts ts) (one_head h) (one_terms ts)
-
-  one_terms : (ts : Terms) → are_same_terms ts ts ≡ true
-  one_terms no_terms = refl
-  one_terms (terms t ts) = and_from (are_same_term t t) (are_same_terms ts ts) (one_term t) (one_terms ts)
+use Rattle.std.proofs.lemmas.List.Folds.{list_any-append}
+use Rattle.nz_spec.specs.Fraction.{Fraction}
+use Rattle.nz_spec.specs.Term.{Term, Assignment, is_true, value_of}
+use Rattle.nz_spec.specs.Same.{are_same_fraction, are_same_term}
+use Rattle.nz_spec.specs.Form.{Part, negated_part, parts_value}
+use Rattle.nz_spec.specs.Literal.{Literal, term_literal, is_at_most, is_below, negation_of, are_same_sign, are_same_parts, are_same_literal, is_literal_true, with_one, once, without, Clause, is_clause_true, NegationIsOther, ResolventIsTrue, ClauseIsTrueTogether, TellsLiterals}
+use Rattle.nz_spec.proofs.Same.{same_fraction, one_fraction, same_term, one_term}
+use Rattle.nz_spec.proofs.FormValues.{parts-negated}
+use Rattle.nz_spec.proofs.LinearLiterals.{at_most_turned, below_turned}
 
 -- ---- Literals
 
@@ -89,13 +26,50 @@ one_sign : (p : Bool) → are_same_sign p p ≡ true
 one_sign true = refl
 one_sign false = refl
 
+same_part : (p q : Part) → are_same_fraction p.coefficient q.coefficient ≡ true → are_same_term p.unit q.unit ≡ true → p ≡ q
+same_part p q e f =
+    ap₂ (λ (c : Fraction) (u : Term). let r : Part = record { coefficient = c; unit = u } in r)
+    (same_fraction p.coefficient q.coefficient e) (same_term p.unit q.unit f)
+
+same_parts : (ps qs : List Part) → are_same_parts ps qs ≡ true → ps ≡ qs
+same_parts [] [] e = refl
+same_parts [] (q ∷ qs) e = absurd (true≢false (sym e))
+same_parts (p ∷ ps) [] e = absurd (true≢false (sym e))
+same_parts (p ∷ ps) (q ∷ qs) e =
+    let first = are_same_fraction p.coefficient q.coefficient && are_same_term p.unit q.unit in
+    let both = and_parts first (are_same_parts ps qs) e in
+    let head = and_parts (are_same_fraction p.coefficient q.coefficient) (are_same_term p.unit q.unit) both.0 in
+    ap₂ (λ (r : Part) (rs : List Part). r ∷ rs) (same_part p q head.0 head.1) (same_parts ps qs both.1)
+
+one_parts : (ps : List Part) → are_same_parts ps ps ≡ true
+one_parts [] = refl
+one_parts (p ∷ ps) =
+    and_from (are_same_fraction p.coefficient p.coefficient && are_same_term p.unit p.unit) (are_same_parts ps ps)
+    (and_from (are_same_fraction p.coefficient p.coefficient) (are_same_term p.unit p.unit) (one_fraction p.coefficient) (one_term p.unit))
+    (one_parts ps)
+
+same_bound : (make : List Part → Fraction → Literal) (ps qs : List Part) (b c : Fraction) → (are_same_parts ps qs && are_same_fraction b c) ≡ true → make ps b ≡ make qs c
+same_bound make ps qs b c e =
+    let both = and_parts (are_same_parts ps qs) (are_same_fraction b c) e in
+    ap₂ make (same_parts ps qs both.0) (same_fraction b c both.1)
+
 pub same_literal : (l m : Literal) → are_same_literal l m ≡ true → l ≡ m
 same_literal (term_literal t p) (term_literal u q) e =
     ap (λ v. term_literal v p) (same_term t u ((and_parts (are_same_term t u) (are_same_sign p q) e).0))
     ∙ ap (term_literal u) (same_sign p q ((and_parts (are_same_term t u) (are_same_sign p q) e).1))
+same_literal (is_at_most ps b) (is_at_most qs c) e = same_bound is_at_most ps qs b c e
+same_literal (is_below ps b) (is_below qs c) e = same_bound is_below ps qs b c e
+same_literal (term_literal t p) (is_at_most qs c) e = absurd (true≢false (sym e))
+same_literal (term_literal t p) (is_below qs c) e = absurd (true≢false (sym e))
+same_literal (is_at_most ps b) (term_literal u q) e = absurd (true≢false (sym e))
+same_literal (is_at_most ps b) (is_below qs c) e = absurd (true≢false (sym e))
+same_literal (is_below ps b) (term_literal u q) e = absurd (true≢false (sym e))
+same_literal (is_below ps b) (is_at_most qs c) e = absurd (true≢false (sym e))
 
 pub one_literal : (l : Literal) → are_same_literal l l ≡ true
 one_literal (term_literal t p) = and_from (are_same_term t t) (are_same_sign p p) (one_term t) (one_sign p)
+one_literal (is_at_most ps b) = and_from (are_same_parts ps ps) (are_same_fraction b b) (one_parts ps) (one_fraction b)
+one_literal (is_below ps b) = and_from (are_same_parts ps ps) (are_same_fraction b b) (one_parts ps) (one_fraction b)
 
 -- of a literal and its negation just one is true
 turned_sign : (p v : Bool) → are_same_sign (not p) v ≡ not (are_same_sign p v)
@@ -104,8 +78,10 @@ turned_sign true false = refl
 turned_sign false true = refl
 turned_sign false false = refl
 
-pub negation_is : (a : Assignment) (l : Literal) → is_literal_true a (negation_of l) ≡ not (is_literal_true a l)
+pub negation_is : NegationIsOther
 negation_is a (term_literal t p) = turned_sign p (is_true (value_of a t))
+negation_is a (is_at_most ps b) = at_most_turned (parts_value a (map negated_part ps)) (parts_value a ps) b (parts-negated (λ t. 0) a ps)
+negation_is a (is_below ps b) = below_turned (parts_value a (map negated_part ps)) (parts_value a ps) b (parts-negated (λ t. 0) a ps)
 
 -- ---- Sets as lists
 

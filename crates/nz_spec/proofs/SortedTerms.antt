@@ -14,7 +14,7 @@ use Rattle.nz_spec.proofs.WrittenTerms.{IsConstant, StaysSo, IsScope, term_found
 
 -- ---- Terms of the same sorts
 
-abbrev SameSorts : Terms → Terms → Type 0
+abbrev pub SameSorts : Terms → Terms → Type 0
 SameSorts no_terms no_terms = ⊤
 SameSorts no_terms (terms u us) = ⊥
 SameSorts (terms t ts) no_terms = ⊥
@@ -43,7 +43,7 @@ operands_same branches s no_terms us h e = absurd e
 operands_same branches s (terms c ts) no_terms h e = absurd h
 operands_same branches s (terms c ts) (terms d us) h e = (ap (are_same_sort bool_sort) h.0 ∙ e.0, all_same s ts us h.1 ∙ e.1)
 
-applied_same : (h : Head) (ts us : Terms) → SameSorts ts us → IsApplied h ts → IsApplied h us
+pub applied_same : (h : Head) (ts us : Terms) → SameSorts ts us → IsApplied h ts → IsApplied h us
 applied_same h ts us same i =
     record {
       operator = i.operator;

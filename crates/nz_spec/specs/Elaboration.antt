@@ -1,9 +1,9 @@
 -- The terms that are written (SMT-LIB 2.6, sections 3.6 and 4.2.3, and the theories Core and Reals_Ints): names in scope,
 -- sorts, `let` in parallel, and definitions by their bodies.
-use Rattle.std.specs.Prelude.{◌≡◌, ℕ, zero, suc, ◌&&◌, ◌||◌, ◌==◌, nat_lt, Bool, true, List, [], ◌∷◌, ◌++◌, length, Option, Some, None, option_map, option_and_then, is_some, unwrap_or, slice_get, ⊤, codes, bytes_eq, if◌then◌else◌}
+use Rattle.std.specs.Prelude.{◌≡◌, ℕ, zero, suc, ◌&&◌, ◌||◌, ◌==◌, nat_lt, Bool, true, List, [], ◌∷◌, ◌++◌, Option, Some, None, option_map, option_and_then, is_some, unwrap_or, slice_get, ⊤, codes, bytes_eq, if◌then◌else◌}
 use Rattle.std.specs.List.{AllByRecursion}
 use Rattle.nz_spec.specs.Expression.{Numeric, numeric_head, Expression, written_number, written_name, written_use, written_let, Expressions, no_expressions, expressions, Locals, no_locals, locals}
-use Rattle.nz_spec.specs.Term.{Sort, bool_sort, int_sort, real_sort, sort_of, head_fits, NumberSort, over_int, over_real, are_same_sort, Constant, Head, constant, parameter, integer, decimal_number, verum, falsum, negation, conjunction, disjunction, implication, exclusion, equality, distinction, choice, less, at_most, greater, at_least, sum, difference, product, quotient, integer_quotient, modulus, magnitude, to_real, to_int, is_int, Term, apply, Terms, no_terms, terms, Value, Assignment, default_value, head_value, value_of, values_of}
+use Rattle.nz_spec.specs.Term.{Sort, bool_sort, int_sort, real_sort, sort_of, head_fits, NumberSort, over_int, over_real, are_same_sort, Constant, Head, constant, parameter, verum, falsum, negation, conjunction, disjunction, implication, exclusion, equality, distinction, choice, less, at_most, greater, at_least, sum, difference, product, quotient, integer_quotient, modulus, magnitude, to_real, to_int, is_int, Term, apply, Terms, no_terms, terms, Value, Assignment, default_value, head_value, value_of, values_of}
 use Rattle.nz_spec.specs.Normal.{normal_of, normals_of}
 
 -- ---- Operators

@@ -1,10 +1,10 @@
 -- The gate table: the clauses that tie a Boolean operator to its arguments (Tseitin 1968), as a function of the term.
 use Rattle.std.specs.Prelude.{◌≡◌, ℕ, ◌<◌, Bool, true, false, ⊤, List, [], ◌∷◌, ◌++◌, length, map, Contains, Option, Some, if◌then◌else◌}
 use Rattle.std.specs.List.{AllByRecursion}
-use Rattle.nz_spec.specs.Term.{Constant, Head, bool_sort, constant, verum, falsum, negation, conjunction, disjunction, exclusion, equality, choice, Term, apply, Terms, no_terms, terms, Assignment, truth, value_of, sort_of, is_bool, IsOfSort, holds_number}
+use Rattle.nz_spec.specs.Term.{Constant, Head, bool_sort, constant, verum, falsum, negation, conjunction, disjunction, exclusion, equality, choice, Term, apply, Terms, no_terms, terms, Assignment, truth, value_of, sort_of, is_bool, holds_number}
 use Rattle.nz_spec.specs.Table.{Node, term_in, HasOneNumberEach}
 use Rattle.nz_spec.specs.Order.{post_order}
-use Rattle.nz_spec.specs.Model.{IsAssignment}
+use Rattle.nz_spec.specs.Model.{IsAssignment, HasSort}
 use Rattle.nz_spec.specs.Literal.{Literal, term_literal, Clause, IsClauseTrue}
 
 -- ---- The table, over terms that are named in any way, by what it is that one is true, or false, and whether one is Boolean
@@ -103,7 +103,7 @@ IsTruthAt ns truths t sign = (i : ℕ) × (i < length ns) × (term_in ns i ≡ t
 
 -- The term has a truth under each assignment.
 abbrev pub IsBoolean : Term → Type 0
-IsBoolean t = (a : Assignment) → IsAssignment a → IsOfSort bool_sort (value_of a t)
+IsBoolean t = HasSort bool_sort t
 
 abbrev pub HasBooleanArguments : Term → Type 0
 HasBooleanArguments (apply h ts) = AllByRecursion IsBoolean (list_of ts)

@@ -1,6 +1,5 @@
 -- Legal work: what the next line of a search's list may be, where the search stands (clause learning: Marques-Silva and Sakallah 1999).
-use Rattle.std.specs.Prelude.{◌≡◌, ℕ, ◌<◌, ◌≢◌, Bool, true, false, ⊤, List, [], ◌∷◌, ◌++◌, length, map, take, fold, All, Contains, Some, slice_get, slice_index_or}
-use Rattle.std.specs.List.{AllByRecursion}
+use Rattle.std.specs.Prelude.{◌≡◌, ℕ, ◌<◌, ◌≢◌, Bool, true, ⊤, List, [], ◌∷◌, ◌++◌, length, map, take, fold, All, Contains, Some, slice_get, slice_index_or}
 use Rattle.nz_spec.specs.Term.{Term, apply, falsum, no_terms, Assignment}
 use Rattle.nz_spec.specs.Model.{IsModel}
 use Rattle.nz_spec.specs.Literal.{Literal, term_literal, AreTrueLiterals, IsClauseTrue, AreSameSet, StandOnce}

@@ -1,98 +1,49 @@
 -- Literals and clauses. A clause is a set of literals, written as a list that has each of them once.
-use Rattle.std.specs.Prelude.{◌≡◌, ℕ, bytes_eq, Bool, true, false, not, ◌&&◌, IsTrue, List, [], ◌∷◌, ◌++◌, Contains, ◌↔◌, filter, fold, if◌then◌else◌, Some, slice_get}
+-- Sources: SMT-LIB 2.6, theories Core and Reals_Ints (<=, <); Dutertre and de Moura, A Fast Linear-Arithmetic Solver for DPLL(T),
+-- CAV 2006, sections 3 and 5 (bounds on sums of variables, strict ones too).
+use Rattle.std.specs.Prelude.{◌≡◌, ℕ, Bool, true, false, not, ◌&&◌, IsTrue, List, [], ◌∷◌, ◌++◌, map, Contains, ◌↔◌, filter, fold, if◌then◌else◌, Some, slice_get}
 use Rattle.std.specs.List.{list_any, AllByRecursion}
-use Rattle.nz_spec.specs.Term.{Sort, bool_sort, int_sort, real_sort, head_sort, Head, constant, parameter, integer, decimal_number, verum, falsum, negation, conjunction, disjunction, implication, exclusion, equality, distinction, choice, less, at_most, greater, at_least, sum, difference, product, quotient, integer_quotient, modulus, magnitude, to_real, to_int, is_int, Term, apply, Terms, no_terms, terms, Assignment, is_true, value_of}
-
--- ---- Which terms are one
-
-abbrev pub sort_number : Sort → ℕ
-sort_number bool_sort = 0
-sort_number int_sort = 1
-sort_number real_sort = 2
-
--- which head it is, whatever it holds
-abbrev pub head_kind : Head → ℕ
-head_kind (constant c) = 0
-head_kind (parameter i s) = 1
-head_kind (integer n) = 2
-head_kind (decimal_number n places) = 3
-head_kind verum = 4
-head_kind falsum = 5
-head_kind negation = 6
-head_kind conjunction = 7
-head_kind disjunction = 8
-head_kind exclusion = 9
-head_kind equality = 10
-head_kind (choice s) = 11
-head_kind less = 12
-head_kind at_most = 13
-head_kind (sum s) = 14
-head_kind (difference s) = 15
-head_kind (product s) = 16
-head_kind quotient = 17
-head_kind integer_quotient = 18
-head_kind modulus = 19
-head_kind magnitude = 20
-head_kind to_real = 21
-head_kind to_int = 22
-head_kind is_int = 23
-head_kind implication = 24
-head_kind distinction = 25
-head_kind greater = 26
-head_kind at_least = 27
-
--- the digits of a number; 0 of another head
-abbrev pub head_digits : Head → ℕ
-head_digits (integer n) = n
-head_digits (decimal_number n places) = n
-head_digits h = 0
-
--- the place of a parameter, or how many digits of a decimal stand after the point; 0 of another head
-abbrev pub head_place : Head → ℕ
-head_place (parameter i s) = i
-head_place (decimal_number n places) = places
-head_place h = 0
-
--- the name of a constant; none of another head
-abbrev pub head_name : Head → List ℕ
-head_name (constant c) = c.name
-head_name h = []
-
--- Two heads are one where they are of one kind and of one sort, and hold the same (`TellsHeads`).
-abbrev pub head_numbers : Head → List ℕ
-head_numbers h = head_kind h ∷ sort_number (head_sort h) ∷ head_digits h ∷ head_place h ∷ head_name h
-
-abbrev pub are_same_head : Head → Head → Bool
-are_same_head g h = bytes_eq (head_numbers g) (head_numbers h)
-
-abbrev mutual
-  pub are_same_term : Term → Term → Bool
-  are_same_term (apply g ts) (apply h us) = are_same_head g h && are_same_terms ts us
-
-  pub are_same_terms : Terms → Terms → Bool
-  are_same_terms no_terms no_terms = true
-  are_same_terms no_terms (terms u us) = false
-  are_same_terms (terms t ts) no_terms = false
-  are_same_terms (terms t ts) (terms u us) = are_same_term t u && are_same_terms ts us
+use Rattle.nz_spec.specs.Fraction.{Fraction, neg_ℚ, fraction_le, fraction_lt}
+use Rattle.nz_spec.specs.Term.{Term, Assignment, is_true, value_of}
+unfoldable pub use Rattle.nz_spec.specs.Same.{sort_number, head_kind, head_digits, head_place, head_name, head_numbers, are_same_head, are_same_term, are_same_terms, TellsHeads}
+use Rattle.nz_spec.specs.Same.{are_same_fraction}
+use Rattle.nz_spec.specs.Form.{Part, negated_part, parts_value}
 
 -- ---- Literals
 
--- A term is true, or with the sign `false` it is false.
+-- A term is true, or with the sign `false` it is false; a sum of units is at most a bound, or below it.
 pub data Literal : Type 0 where
   term_literal : (term : Term) (sign : Bool) → Literal
+  is_at_most : (parts : List Part) (bound : Fraction) → Literal
+  is_below : (parts : List Part) (bound : Fraction) → Literal
 
+-- A sum is above a bound where the sum with the other signs is below the other bound.
 abbrev pub negation_of : Literal → Literal
 negation_of (term_literal t sign) = term_literal t (not sign)
+negation_of (is_at_most ps b) = is_below (map negated_part ps) (neg_ℚ b)
+negation_of (is_below ps b) = is_at_most (map negated_part ps) (neg_ℚ b)
 
 abbrev pub are_same_sign : Bool → Bool → Bool
 are_same_sign true sign = sign
 are_same_sign false sign = not sign
 
+-- the same units with the same coefficients, in the same order
+abbrev pub are_same_parts : List Part → List Part → Bool
+are_same_parts [] [] = true
+are_same_parts [] (q ∷ qs) = false
+are_same_parts (p ∷ ps) [] = false
+are_same_parts (p ∷ ps) (q ∷ qs) = are_same_fraction p.coefficient q.coefficient && are_same_term p.unit q.unit && are_same_parts ps qs
+
 abbrev pub are_same_literal : Literal → Literal → Bool
 are_same_literal (term_literal t p) (term_literal u q) = are_same_term t u && are_same_sign p q
+are_same_literal (is_at_most ps b) (is_at_most qs c) = are_same_parts ps qs && are_same_fraction b c
+are_same_literal (is_below ps b) (is_below qs c) = are_same_parts ps qs && are_same_fraction b c
+are_same_literal l m = false
 
 abbrev pub is_literal_true : Assignment → Literal → Bool
 is_literal_true a (term_literal t sign) = are_same_sign sign (is_true (value_of a t))
+is_literal_true a (is_at_most ps b) = fraction_le (parts_value a ps) b
+is_literal_true a (is_below ps b) = fraction_lt (parts_value a ps) b
 
 -- each of them is true
 abbrev pub AreTrueLiterals : Assignment → List Literal → Type 0
@@ -143,14 +94,14 @@ resolvent l c d = clause_of (without are_same_literal l c ++ without are_same_li
 
 -- ---- Laws
 
--- The test says which heads are one.
-abbrev pub TellsHeads : Type 0
-TellsHeads = (g h : Head) → IsTrue (are_same_head g h) → g ≡ h
-
 -- The test says which literals are one.
 pub record TellsLiterals : Type 0 where
   pub same : (l m : Literal) → IsTrue (are_same_literal l m) → l ≡ m
   pub one : (l : Literal) → IsTrue (are_same_literal l l)
+
+-- Of a literal and its negation just one is true.
+abbrev pub NegationIsOther : Type 0
+NegationIsOther = (a : Assignment) (l : Literal) → is_literal_true a (negation_of l) ≡ not (is_literal_true a l)
 
 -- A list of literals and its clause are true together.
 abbrev pub ClauseIsTrueTogether : Type 0

@@ -1,9 +1,14 @@
 -- Well sorted terms (SMT-LIB 2.6, section 3.6): each operator has as many arguments as it takes, of the sorts that it takes.
-use Rattle.std.specs.Prelude.{◌≡◌, ◌&&◌, not, Bool, true, false, List, [], Some, slice_get, ⊤}
+use Rattle.std.specs.Prelude.{◌≡◌, ◌&&◌, not, Bool, true, false, IsTrue, List, [], Some, slice_get, ⊤}
 use Rattle.nz_spec.specs.Term.{Sort, bool_sort, int_sort, real_sort, is_bool, Head, constant, parameter, integer, decimal_number, Term, apply, Terms, no_terms, terms, sort_of, holds_number}
 use Rattle.nz_spec.specs.Normal.{normal_of}
 use Rattle.nz_spec.specs.Elaboration.{has_sort, all_terms, term_count, Operator, takes, Operands, bools, ints, reals, numbers, alike, branches, operands_of, operator_head, Definition}
 use Rattle.nz_spec.specs.Gates.{IsGated}
+use Rattle.nz_spec.specs.Linear.{is_linear}
+use Rattle.nz_spec.specs.Form.{Numbering}
+use Rattle.nz_spec.specs.FormOf.{form_of}
+use Rattle.nz_spec.specs.LinearLiteral.{HaveSortedUnits}
+use Rattle.nz_spec.specs.Links.{IsArithmetic}
 
 -- numbers of this sort
 abbrev pub are_numbers : Sort → Terms → Bool
@@ -57,3 +62,13 @@ IsSortedAssertion t = IsWellSorted [] t × (sort_of t ≡ bool_sort)
 -- The normal term of a well sorted term without parameters is one of the gate table, where it holds no number.
 abbrev pub NormalTermsAreGated : Type 0
 NormalTermsAreGated = (t : Term) → IsWellSorted [] t → holds_number (normal_of t) ≡ false → IsGated (normal_of t)
+
+-- The normal term of a well sorted term is well sorted, and of its sort.
+abbrev pub NormalStaysSorted : Type 0
+NormalStaysSorted = (ss : List Sort) (t : Term) → IsWellSorted ss t → IsWellSorted ss (normal_of t) × (sort_of (normal_of t) ≡ sort_of t)
+
+-- What linear arithmetic asks of terms is so of well sorted terms without parameters: the tables' rows are true of linear ones, and
+-- the units of their forms have values of their sorts.
+pub record SortedTermsAreArithmetic : Type 0 where
+  pub tables : (t : Term) → IsWellSorted [] t → IsTrue (is_linear t) → IsArithmetic t
+  pub units : (number : Numbering) (t : Term) → IsWellSorted [] t → HaveSortedUnits (form_of number t).result.parts

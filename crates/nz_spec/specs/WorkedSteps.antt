@@ -73,4 +73,4 @@ refuting_clauses =
 
 -- The last step gives the empty clause.
 abbrev pub HasRefutation : Type 0
-HasRefutation = IsDerivation opposites refuting_steps (refuting_clauses ++ [] ∷ [])
+HasRefutation = IsDerivation (λ t. 0) opposites refuting_steps (refuting_clauses ++ [] ∷ [])

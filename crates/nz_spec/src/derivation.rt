@@ -1,5 +1,5 @@
 //! Laws of literals, clauses, gates and derivations.
-ghost use Rattle.nz_spec.specs.Literal.{ClauseIsTrueTogether, ResolventIsTrue, TellsLiterals};
+ghost use Rattle.nz_spec.specs.Literal.{ClauseIsTrueTogether, NegationIsOther, ResolventIsTrue, TellsLiterals};
 ghost use Rattle.nz_spec.specs.Gates.{GatedTermsArePlain, GatesAreTrue, GatesDecide, NumberedGatesDecide, PlainTermsAreBoolean};
 ghost use Rattle.nz_spec.specs.Steps.{DerivationsGrow, DerivedClausesAreTrue, EmptyClauseRefutes};
 ghost use Rattle.nz_spec.specs.WorkedSteps.{HasGateTable, HasRefutation, HasResolvents};
@@ -7,6 +7,11 @@ ghost use Rattle.nz_spec.specs.WorkedSteps.{HasGateTable, HasRefutation, HasReso
 /// Two literals are one where the test says so.
 pub fn tells_literals()
     ensures tells { TellsLiterals }
+{}
+
+/// Of a literal and its negation just one is true.
+pub fn negation_is_other()
+    ensures other { NegationIsOther }
 {}
 
 /// Literals are true together as a list and as a clause, and a resolvent is true where both clauses are.

@@ -3,9 +3,12 @@
 //! A definition stands in `specs/`, over plain data. A law is the contract of a function with no body to run.
 #![tactic(auto)]
 
+pub mod arithmetic;
+pub mod basis;
 pub mod derivation;
 pub mod elaboration;
 pub mod example;
+pub mod form;
 pub mod fraction;
 pub mod reply;
 pub mod script;

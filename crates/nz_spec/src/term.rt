@@ -1,10 +1,10 @@
 //! Laws of terms.
 ghost use Rattle.nz_spec.specs.Term.{DecimalsAreNumbers, Divides, DividesOnce};
-ghost use Rattle.nz_spec.specs.Literal.{TellsHeads};
+ghost use Rattle.nz_spec.specs.Same.{TellsHeads};
 ghost use Rattle.nz_spec.specs.Numerals.{NumeralsAreWhole};
 ghost use Rattle.nz_spec.specs.Normal.{NormalKeepsValue};
 ghost use Rattle.nz_spec.specs.Elaboration.{InstanceKeepsNormal};
-ghost use Rattle.nz_spec.specs.WellSorted.{NormalTermsAreGated};
+ghost use Rattle.nz_spec.specs.WellSorted.{NormalStaysSorted, NormalTermsAreGated};
 ghost use Rattle.nz_spec.specs.TruthTables.{HasNormalTerms, HasPairs, HasTriples};
 ghost use Rattle.nz_spec.specs.WorkedLinear.{HasConstants, HasLinearTerms};
 ghost use Rattle.nz_spec.specs.WorkedListings.{HasListings};
@@ -24,6 +24,11 @@ pub fn instance_keeps_normal()
 /// A normal term that holds no number is one of the gate table.
 pub fn normal_terms_are_gated()
     ensures gated { NormalTermsAreGated }
+{}
+
+/// The normal term of a well sorted term is well sorted, and of its sort.
+pub fn normal_stays_sorted()
+    ensures stays { NormalStaysSorted }
 {}
 
 /// `div` and `mod` compute the quotient and the remainder of integers, and no other two numbers are so.

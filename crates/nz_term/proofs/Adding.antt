@@ -1,15 +1,43 @@
 -- Companions that are made, one term after another in a table that grows.
-use Rattle.std.proofs.Common.{◌≡◌, inl, inr, ℕ, ◌+◌, ◌<◌, ◌≤◌, List, [], length, take, drop, sym, ap, subst, ◌∙◌, arith, length-take}
+use Rattle.std.proofs.Common.{◌≡◌, inl, inr, ℕ, ◌+◌, ◌<◌, ◌≤◌, List, [], ◌∷◌, ◌++◌, length, take, drop, Some, slice_get, refl, sym, ap, subst, ◌∙◌, arith, length-take}
 use Rattle.std.specs.List.{AllByRecursion}
 use Rattle.std.proofs.lemmas.Bool.{cases_lt}
 use Rattle.std.proofs.lemmas.Bool.Decides.{eqb_tells}
 use Rattle.std.proofs.lemmas.List.{take-append-drop}
 use Rattle.nz_lists.proofs.Elements.{AllByRecursion-weaker}
-use Rattle.nz_spec.specs.Term.{Term}
+use Rattle.nz_spec.specs.Term.{Head, Term, Terms, apply, integer_quotient, modulus, to_int, is_int}
 use Rattle.nz_spec.specs.Table.{Node, TermStays, term_in}
 use Rattle.nz_spec.specs.Order.{companions_of, HasCompanions, IsInTable}
 use Rattle.nz_term.specs.Growth.{Grows, KeepsTerms}
+use Rattle.nz_term.specs.Listings.{companion_head}
 use Rattle.nz_term.proofs.Instancing.{grows_longer, grows_not, grows_on, term_kept}
+
+-- ---- The companion of a term, by its head
+
+pub companion_of : (h g : Head) (ts : Terms) → Some g ≡ companion_head h → companions_of (apply h ts) ≡ apply g ts ∷ []
+companion_of modulus g ts e =
+    let same : g ≡ integer_quotient = cc in
+    ap (λ k. apply k ts ∷ []) (sym same)
+companion_of is_int g ts e =
+    let same : g ≡ to_int = cc in
+    ap (λ k. apply k ts ∷ []) (sym same)
+companion_of h g ts e = cc
+
+-- it has none itself
+pub no_further : (h g : Head) (ts : Terms) → Some g ≡ companion_head h → companions_of (apply g ts) ≡ []
+no_further modulus g ts e =
+    let same : g ≡ integer_quotient = cc in
+    ap (λ k. companions_of (apply k ts)) same
+no_further is_int g ts e =
+    let same : g ≡ to_int = cc in
+    ap (λ k. companions_of (apply k ts)) same
+no_further h g ts e = cc
+
+pub last_node : (ns : List Node) (n : Node) → slice_get (ns ++ n ∷ []) (length ns) ≡ Some n
+last_node [] n = refl
+last_node (m ∷ ns) n = last_node ns n
+
+-- ---- Tables that have them
 
 -- the table has the companions of this term
 abbrev Has : List Node → Term → Type 0

@@ -1,8 +1,8 @@
 -- What is known of terms, as tables grow and are cut.
-use Rattle.std.proofs.Common.{◌≡◌, inl, inr, ℕ, ◌+◌, ◌<◌, ◌≤◌, ◌&&◌, ◌||◌, Bool, List, [], ◌∷◌, ◌++◌, length, map, take, drop, get_or, Option, Some, None, refl, sym, ap, ◌∙◌, arith, append_assoc, append-nil, length-append, length-take}
+use Rattle.std.proofs.Common.{◌≡◌, inl, inr, ℕ, ◌+◌, ◌≤◌, ◌&&◌, ◌||◌, Bool, List, [], ◌∷◌, ◌++◌, length, map, take, drop, Option, refl, sym, ap, ◌∙◌, arith, append_assoc, append-nil, length-append, length-take}
 use Rattle.std.specs.Prelude.{fold}
 use Rattle.std.proofs.lemmas.Bool.{cases_lt}
-use Rattle.std.proofs.lemmas.List.{get_or_read, map-append, length-map, take-map, take-append-drop, take_all, take_at}
+use Rattle.std.proofs.lemmas.List.{map-append, length-map, take-map, take-append-drop, take_all, take_at}
 use Rattle.std.proofs.lemmas.List.Sums.{fold-append}
 use Rattle.nz_lists.proofs.Places.{slice_index_or-map}
 use Rattle.nz_spec.specs.Fraction.{Fraction}
@@ -10,29 +10,19 @@ use Rattle.nz_spec.specs.Term.{Head, falsum, is_numeric, Term, apply, no_terms, 
 use Rattle.nz_spec.specs.Linear.{constant_value, constant_values, head_constant, is_linear_node, is_linear, are_linear}
 use Rattle.nz_spec.specs.Table.{Node, terms_at, listed_term, with_term, term_in}
 use Rattle.nz_term.specs.declared.facts.Fact.{Fact}
-use Rattle.nz_term.specs.Facts.{fact_with, fact_of, constant_in, fact_at, constants_at, are_linear_at, hold_number_at, IsKnown}
+use Rattle.nz_term.specs.Facts.{fact_with, fact_of, fact_at, constants_at, are_linear_at, hold_number_at, IsKnown}
 use Rattle.nz_term.specs.Growth.{GoesOn}
 use Rattle.nz_term.proofs.Tables.{front_table}
 
--- ---- What is slice_index_or-map for a number
+-- ---- What is known of the terms of numbers
 
 pub fact_listed : (ts : List Term) (i : ℕ) → fact_at (map fact_of ts) i ≡ fact_of (listed_term ts i)
 fact_listed ts i = slice_index_or-map fact_of ts i (apply falsum no_terms)
 
--- the value of a constant is kept
-pub constant_kept : (c : Option Fraction) (linear number : Bool) → constant_in (fact_with c linear number) ≡ c
-constant_kept None linear number = refl
-constant_kept (Some q) linear number = refl
-
-constant_listed : (ts : List Term) (i : ℕ) → constant_in (fact_at (map fact_of ts) i) ≡ constant_value (listed_term ts i)
-constant_listed ts i =
-    let t = listed_term ts i in
-    ap constant_in (fact_listed ts i) ∙ constant_kept (constant_value t) (fact_of t).is_linear (fact_of t).holds_number
-
 constants_listed : (ts : List Term) (is : List ℕ) → constants_at (map fact_of ts) is ≡ constant_values (terms_at (listed_term ts) is)
 constants_listed ts [] = refl
 constants_listed ts (i ∷ is) =
-    ap (λ c. c ∷ constants_at (map fact_of ts) is) (constant_listed ts i) ∙ ap (λ cs. constant_value (listed_term ts i) ∷ cs) (constants_listed ts is)
+    ap (λ c. c ∷ constants_at (map fact_of ts) is) (ap (λ (f : Fact). f.constant) (fact_listed ts i)) ∙ ap (λ cs. constant_value (listed_term ts i) ∷ cs) (constants_listed ts is)
 
 linear_listed : (ts : List Term) (is : List ℕ) → are_linear_at (map fact_of ts) is ≡ are_linear (terms_at (listed_term ts) is)
 linear_listed ts [] = refl
@@ -134,14 +124,7 @@ front_known ns fs m k =
       facts = ap (take m) k.facts ∙ take-map fact_of m (fold with_term [] ns) ∙ ap (map fact_of) (front_terms ns m);
     }
 
--- what is read at a number is what is known of its term
-pub known : (ns : List Node) (fs : List Fact) → IsKnown ns fs → (i : ℕ) (x : Fact) → i < length ns → x ≡ get_or fs i x → x ≡ fact_of (term_in ns i)
+-- what is known at a number is what is known of its term
+pub known : (ns : List Node) (fs : List Fact) → IsKnown ns fs → (i : ℕ) → fact_at fs i ≡ fact_of (term_in ns i)
 unfolding term_in
-known ns fs k i x below read =
-    let long = length-known ns fs k in
-    get_or_read fs i x (omega arith) read (fact_of (apply falsum no_terms)) ∙ ap (λ l. fact_at l i) k.facts ∙ fact_listed (fold with_term [] ns) i
-
-pub known_constant : (ns : List Node) (fs : List Fact) → IsKnown ns fs → (i : ℕ) (x : Fact) → i < length ns → x ≡ get_or fs i x → constant_in x ≡ constant_value (term_in ns i)
-known_constant ns fs k i x below read =
-    let t = term_in ns i in
-    ap constant_in (known ns fs k i x below read) ∙ constant_kept (constant_value t) (is_linear t) (holds_number t)
+known ns fs k i = ap (λ l. fact_at l i) k.facts ∙ fact_listed (fold with_term [] ns) i

@@ -4,8 +4,10 @@ pub mod Firsts
 pub mod Instancing
 pub mod Keys
 pub mod Knowledge
+pub mod Leafing
 pub mod Listed
 pub mod ListedTerms
+pub mod Marking
 pub mod Numbers
 pub mod Operators
 pub mod Places

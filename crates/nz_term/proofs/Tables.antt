@@ -1,23 +1,28 @@
 -- Tables that grow by a node, and that are cut.
-use Rattle.std.proofs.Common.{◌≡◌, ℕ, zero, suc, ◌<◌, inl, inr, Bool, true, false, cond, List, [], ◌∷◌, ◌++◌, length, map, take, drop, get_or, Option, Some, None, All, slice_get, refl, sym, ap, subst, ◌∙◌, arith, true≢false}
+use Rattle.std.proofs.Common.{◌≡◌, ℕ, zero, suc, ◌<◌, inl, inr, Bool, true, false, cond, List, [], ◌∷◌, ◌++◌, length, take, drop, get_or, Option, Some, None, All, slice_get, refl, sym, ap, subst, ◌∙◌, arith, true≢false}
 use Rattle.std.proofs.lemmas.List.{map-append, take-append-drop}
 use Rattle.std.proofs.lemmas.List.Elements.{All-head, All-tail, All-weaker}
 use Rattle.std.proofs.lemmas.List.Quantifiers.{position-Some}
 use Rattle.std.proofs.lemmas.Option.{slice_get-map, slice_get-get_or, slice_get_within}
-use Rattle.std.specs.Prelude.{is_some, option_map, position, IsTrue}
-use Rattle.std.specs.List.{IsDistinct, list_any}
+use Rattle.std.specs.Prelude.{◌⊎◌, is_some, option_map, position, IsTrue}
+use Rattle.std.specs.List.{AllByRecursion, IsDistinct, list_any}
 use Rattle.indexmap.specs.IndexSet.{insert_key}
 use Rattle.std.proofs.lemmas.Bool.{or_parts}
+use Rattle.nz_lists.proofs.Elements.{AllByRecursion-append}
 use Rattle.nz_lists.proofs.Places.{slice_get-push_cases, slice_get_kept}
-use Rattle.nz_spec.specs.Term.{apply, head_fits}
+use Rattle.nz_spec.specs.Order.{IsInTable}
+use Rattle.nz_spec.specs.Term.{Head, Terms, apply, head_fits}
 use Rattle.nz_spec.specs.Literal.{TellsHeads}
 use Rattle.nz_spec.specs.Table as table
 use Rattle.nz_spec.specs.Table.{HasItsArguments, HasOneNumberEach, IsTable, OneNumber, TermOfNode, TermStays, TermsStay, term_in, terms_at}
-use Rattle.nz_term.specs.declared.nodes.Node.{Node}
+use Rattle.nz_term.specs.declared.leaves.Leaf.{Leaf}
+use Rattle.nz_term.specs.declared.nodes.Stored.{Stored}
 use Rattle.nz_term.specs.Found.{IsFound}
 use Rattle.nz_term.specs.Growth.{GoesOn, KeepsTerms}
-use Rattle.nz_term.specs.Nodes.{node_of}
-use Rattle.nz_term.specs.contracts.nodes.NodePartialEq.TheImpl as nodes
+use Rattle.nz_term.specs.Leaves.{AreDistinctLeaves}
+use Rattle.nz_term.specs.Stored.{AreStored, node_in, nodes_in}
+use Rattle.nz_term.specs.Symbols.{HasLeaf, IsFoundSymbol}
+use Rattle.nz_term.specs.contracts.nodes.StoredPartialEq.TheImpl as stored
 use Rattle.nz_term.proofs.Equality.{same_node, tells_nodes}
 use Rattle.nz_term.proofs.Keys.{once}
 
@@ -75,42 +80,59 @@ made_term of_node stay ns n new id t grown within at =
 
 -- ---- Keys
 
-abbrev node_eq : Node → Node → Bool
-node_eq = nodes.eq-value.it
+abbrev node_eq : Stored → Stored → Bool
+node_eq = stored.eq-value.it
+
+-- the leaf of each node is there
+abbrev pub HaveLeaves : List Leaf → List Stored → Type 0
+HaveLeaves ls ns = AllByRecursion (λ (n : Stored). HasLeaf ls n.symbol) ns
+
+-- what a key that is inserted leaves, by whether one was equal to it
+inserted : (ks : List Stored) (k : Stored) (new : List Stored) → new ≡ insert_key node_eq ks k → (new ≡ ks) ⊎ (new ≡ ks ++ k ∷ [])
+inserted ks k new e = by (list_any (node_eq k) ks) refl
+  where
+    by : (b : Bool) → list_any (node_eq k) ks ≡ b → (new ≡ ks) ⊎ (new ≡ ks ++ k ∷ [])
+    by true there = inl (e ∙ ap (λ c. cond c ks (ks ++ k ∷ [])) there)
+    by false gone = inr (e ∙ ap (λ c. cond c ks (ks ++ k ∷ [])) gone)
+
+pub leaves_made : (ls : List Leaf) (ks : List Stored) (k : Stored) (new : List Stored) → new ≡ insert_key node_eq ks k → HaveLeaves ls ks → HasLeaf ls k.symbol → HaveLeaves ls new
+leaves_made ls ks k new e all own = elim (inserted ks k new e) [
+  | inl same ↦ subst (HaveLeaves ls) (sym same) all
+  | inr more ↦ subst (HaveLeaves ls) (sym more) (AllByRecursion-append (λ (n : Stored). HasLeaf ls n.symbol) ks (k ∷ []) all (own, tt))
+]
 
 -- the nodes after a key is inserted
-pub made_grown : (ks : List Node) (k : Node) (new : List Node) → new ≡ insert_key node_eq ks k → GoesOn (map node_of ks) (node_of k) (map node_of new)
-made_grown ks k new e = by (list_any (node_eq k) ks) refl
-  where
-    by : (b : Bool) → list_any (node_eq k) ks ≡ b → GoesOn (map node_of ks) (node_of k) (map node_of new)
-    by true there = inl (ap (map node_of) (e ∙ ap (λ c. cond c ks (ks ++ k ∷ [])) there))
-    by false gone = inr (ap (map node_of) (e ∙ ap (λ c. cond c ks (ks ++ k ∷ [])) gone) ∙ map-append node_of ks (k ∷ []))
+pub made_grown : (ls : List Leaf) (ks : List Stored) (k : Stored) (new : List Stored) → new ≡ insert_key node_eq ks k → GoesOn (nodes_in ls ks) (node_in ls k) (nodes_in ls new)
+made_grown ls ks k new e = elim (inserted ks k new e) [
+  | inl same ↦ inl (ap (nodes_in ls) same)
+  | inr more ↦ inr (ap (nodes_in ls) more ∙ map-append (node_in ls) ks (k ∷ []))
+]
 
-pub made_table : (ks : List Node) (k : Node) (new : List Node) → new ≡ insert_key node_eq ks k → IsDistinct node_eq new
-    → IsTable (map node_of ks) → All (λ i. i < length (map node_of ks)) k.kids → IsTrue (head_fits (node_of k).head)
-    → HasItsArguments (node_of k).head (node_of k).kids → IsTable (map node_of new)
-made_table ks k new e distinct t within fits leaf =
+pub made_table : (ls : List Leaf) → AreDistinctLeaves ls → (ks : List Stored) (k : Stored) (new : List Stored) → HaveLeaves ls new → IsDistinct node_eq new
+    → GoesOn (nodes_in ls ks) (node_in ls k) (nodes_in ls new) → IsTable (nodes_in ls ks) → All (λ i. i < length (nodes_in ls ks)) k.kids
+    → IsTrue (head_fits (node_in ls k).head) → HasItsArguments (node_in ls k).head k.kids → IsTable (nodes_in ls new)
+made_table ls leaves ks k new all distinct grown t within fits leaf =
     record {
-      before = elim (made_grown ks k new e) [
+      before = elim grown [
         | inl same ↦ subst (λ l. (i : ℕ) (m : table.Node) → slice_get l i ≡ Some m → All (λ j. j < i) m.kids) (sym same) t.before
-        | inr more ↦ subst (λ l. (i : ℕ) (m : table.Node) → slice_get l i ≡ Some m → All (λ j. j < i) m.kids) (sym more) (grown_before (map node_of ks) (node_of k) t within)
+        | inr more ↦ subst (λ l. (i : ℕ) (m : table.Node) → slice_get l i ≡ Some m → All (λ j. j < i) m.kids) (sym more) (grown_before (nodes_in ls ks) (node_in ls k) t within)
       ];
-      once = once node_eq node_of tells_nodes new distinct;
-      fits = elim (made_grown ks k new e) [
+      once = once node_eq (node_in ls) (λ (n : Stored). HasLeaf ls n.symbol) (tells_nodes ls leaves) new all distinct;
+      fits = elim grown [
         | inl same ↦ subst (λ l. (i : ℕ) (m : table.Node) → slice_get l i ≡ Some m → IsTrue (head_fits m.head)) (sym same) t.fits
-        | inr more ↦ subst (λ l. (i : ℕ) (m : table.Node) → slice_get l i ≡ Some m → IsTrue (head_fits m.head)) (sym more) (grown_fits (map node_of ks) (node_of k) t fits)
+        | inr more ↦ subst (λ l. (i : ℕ) (m : table.Node) → slice_get l i ≡ Some m → IsTrue (head_fits m.head)) (sym more) (grown_fits (nodes_in ls ks) (node_in ls k) t fits)
       ];
-      leaves = elim (made_grown ks k new e) [
+      leaves = elim grown [
         | inl same ↦ subst (λ l. (i : ℕ) (m : table.Node) → slice_get l i ≡ Some m → HasItsArguments m.head m.kids) (sym same) t.leaves
-        | inr more ↦ subst (λ l. (i : ℕ) (m : table.Node) → slice_get l i ≡ Some m → HasItsArguments m.head m.kids) (sym more) (grown_leaves (map node_of ks) (node_of k) t leaf)
+        | inr more ↦ subst (λ l. (i : ℕ) (m : table.Node) → slice_get l i ≡ Some m → HasItsArguments m.head m.kids) (sym more) (grown_leaves (nodes_in ls ks) (node_in ls k) t leaf)
       ];
     }
 
 -- the node at the place where a key equal to it stands
-pub made_node : TellsHeads → (new : List Node) (k : Node) (id : ℕ) → (stored : Node) × (slice_get new id ≡ Some stored) × (node_eq k stored ≡ true)
-    → slice_get (map node_of new) id ≡ Some (node_of k)
-made_node tells new k id found =
-    slice_get-map node_of new id ∙ ap (option_map node_of) found.1 ∙ ap Some (sym (same_node tells k found.0 found.2))
+pub made_node : TellsHeads → (ls : List Leaf) (new : List Stored) (k : Stored) (id : ℕ) → (other : Stored) × (slice_get new id ≡ Some other) × (node_eq k other ≡ true)
+    → slice_get (nodes_in ls new) id ≡ Some (node_in ls k)
+made_node tells ls new k id found =
+    slice_get-map (node_in ls) new id ∙ ap (option_map (node_in ls)) found.1 ∙ ap Some (sym (same_node tells ls k found.0 found.2))
 
 -- numbers of the same terms are the same
 same_numbers : (ns : List table.Node) → HasOneNumberEach ns → (is js : List ℕ) → All (λ i. i < length ns) is → All (λ j. j < length ns) js
@@ -125,34 +147,62 @@ same_numbers ns one (i ∷ is) (j ∷ js) h k e =
     ap (λ l. i ∷ l) (same_numbers ns one is js (All-tail below i is h) (All-tail below j js k) rest)
     ∙ ap (λ n. n ∷ js) (one i j (All-head below i is h) (All-head below j js k) first)
 
--- a key that no key is equal to is at no place
-missing : (ks : List Node) (k : Node) → list_any (node_eq k) ks ≡ false → (i : ℕ) → slice_get (map node_of ks) i ≡ Some (node_of k) → ⊥
-missing [] k gone i at = cc
-missing (y ∷ ys) k gone zero at =
-    let same : node_of y ≡ node_of k = cc in
-    true≢false (sym (tells_nodes k y (sym same)) ∙ (or_parts (node_eq k y) (list_any (node_eq k) ys) gone).0)
-missing (y ∷ ys) k gone (suc i) at = missing ys k (or_parts (node_eq k y) (list_any (node_eq k) ys) gone).1 i at
-
--- where a key is looked up, its term is found
-pub found : TellsHeads → OneNumber → TermOfNode → (ks : List Node) (k : Node) (o : Option ℕ) → o ≡ position (node_eq k) ks → is_some o ≡ list_any (node_eq k) ks
-    → IsTable (map node_of ks) → All (λ i. i < length (map node_of ks)) k.kids
-    → IsFound (map node_of ks) (apply (node_of k).head (terms_at (term_in (map node_of ks)) k.kids)) o
-found tells one_number of_node ks k (Some i) at any t within =
-    let ns = map node_of ks in
-    let place = position-Some (node_eq k) ks i k (sym at) in
-    let there : slice_get ns i ≡ Some (node_of k) = made_node tells ks k i (get_or ks i k, slice_get-get_or ks i k place.0, place.1) in
-    (slice_get_within ns i (node_of k) there, of_node ns t i (node_of k) there)
-found tells one_number of_node ks k None at any t within =
-    λ there.
-    let ns = map node_of ks in
+-- the node of a term that is in a table
+stands_for : OneNumber → TermOfNode → (ns : List table.Node) (k : table.Node) → IsTable ns → All (λ i. i < length ns) k.kids → IsInTable ns (apply k.head (terms_at (term_in ns) k.kids))
+    → (i : ℕ) × (slice_get ns i ≡ Some k)
+stands_for one_number of_node ns k t within there =
     let i = there.0 in
-    let n = get_or ns i (node_of k) in
-    let stands : slice_get ns i ≡ Some n = slice_get-get_or ns i (node_of k) there.1 in
-    let term : apply n.head (terms_at (term_in ns) n.kids) ≡ apply (node_of k).head (terms_at (term_in ns) k.kids) = sym (of_node ns t i n stands) ∙ there.2 in
-    let head : n.head ≡ (node_of k).head = cc in
+    let n = get_or ns i k in
+    let stands : slice_get ns i ≡ Some n = slice_get-get_or ns i k there.1 in
+    let term : apply n.head (terms_at (term_in ns) n.kids) ≡ apply k.head (terms_at (term_in ns) k.kids) = sym (of_node ns t i n stands) ∙ there.2 in
+    let head : n.head ≡ k.head = cc in
     let arguments : terms_at (term_in ns) n.kids ≡ terms_at (term_in ns) k.kids = cc in
     let inside : i < length ns = there.1 in
     let below = All-weaker (λ j. j < i) (λ j. j < length ns) (λ j small. omega arith) n.kids (t.before i n stands) in
     let kids : n.kids ≡ k.kids = same_numbers ns (one_number ns t) n.kids k.kids below within arguments in
-    let same : n ≡ node_of k = λ j. record { head = head j; kids = kids j } in
-    missing ks k (sym any) i (stands ∙ ap Some same)
+    let same : n ≡ k = λ j. record { head = head j; kids = kids j } in
+    (i, stands ∙ ap Some same)
+
+-- no node is of a head that has no symbol
+no_head : (ls : List Leaf) (h : Head) → IsFoundSymbol ls h None → (ks : List Stored) → HaveLeaves ls ks → (i : ℕ) (n : table.Node) → slice_get (nodes_in ls ks) i ≡ Some n → n.head ≡ h → ⊥
+no_head ls h none [] all i n at e = cc
+no_head ls h none (k ∷ ks) all zero n at e =
+    let same : node_in ls k ≡ n = cc in
+    none k.symbol all.0 (ap (λ (m : table.Node). m.head) same ∙ e)
+no_head ls h none (k ∷ ks) all (suc i) n at e = no_head ls h none ks all.1 i n at e
+
+-- a key that no key is equal to is at no place
+missing : (ls : List Leaf) → AreDistinctLeaves ls → (ks : List Stored) (k : Stored) → HaveLeaves ls ks → HasLeaf ls k.symbol → list_any (node_eq k) ks ≡ false
+    → (i : ℕ) → slice_get (nodes_in ls ks) i ≡ Some (node_in ls k) → ⊥
+missing ls leaves [] k all own gone i at = cc
+missing ls leaves (y ∷ ys) k all own gone zero at =
+    let same : node_in ls y ≡ node_in ls k = cc in
+    true≢false (sym (tells_nodes ls leaves k y own all.0 (sym same)) ∙ (or_parts (node_eq k y) (list_any (node_eq k) ys) gone).0)
+missing ls leaves (y ∷ ys) k all own gone (suc i) at = missing ls leaves ys k all.1 own (or_parts (node_eq k y) (list_any (node_eq k) ys) gone).1 i at
+
+-- where a key is looked up, its term is found
+pub found : TellsHeads → OneNumber → TermOfNode → (ls : List Leaf) (ks : List Stored) (k : Stored) (o : Option ℕ) → o ≡ position (node_eq k) ks
+    → is_some o ≡ list_any (node_eq k) ks → AreStored ls ks → HasLeaf ls k.symbol
+    → IsTable (nodes_in ls ks) → All (λ i. i < length (nodes_in ls ks)) k.kids
+    → IsFound (nodes_in ls ks) (apply (node_in ls k).head (terms_at (term_in (nodes_in ls ks)) k.kids)) o
+found tells one_number of_node ls ks k (Some i) at any w own t within =
+    let ns = nodes_in ls ks in
+    let place = position-Some (node_eq k) ks i k (sym at) in
+    let there : slice_get ns i ≡ Some (node_in ls k) = made_node tells ls ks k i (get_or ks i k, slice_get-get_or ks i k place.0, place.1) in
+    (slice_get_within ns i (node_in ls k) there, of_node ns t i (node_in ls k) there)
+found tells one_number of_node ls ks k None at any w own t within =
+    λ there.
+    let place = stands_for one_number of_node (nodes_in ls ks) (node_in ls k) t within there in
+    missing ls w.distinct ks k w.within own (sym any) place.0 place.1
+
+-- where no node is of the head, no term is
+pub headless : TermOfNode → (ls : List Leaf) (ks : List Stored) (h : Head) (ts : Terms) → IsTable (nodes_in ls ks) → HaveLeaves ls ks → IsFoundSymbol ls h None
+    → IsFound (nodes_in ls ks) (apply h ts) None
+headless of_node ls ks h ts t all none there =
+    let ns = nodes_in ls ks in
+    let i = there.0 in
+    let n = get_or ns i (record { head = h; kids = [] }) in
+    let stands : slice_get ns i ≡ Some n = slice_get-get_or ns i (record { head = h; kids = [] }) there.1 in
+    let term : apply n.head (terms_at (term_in ns) n.kids) ≡ apply h ts = sym (of_node ns t i n stands) ∙ there.2 in
+    let head : n.head ≡ h = cc in
+    no_head ls h none ks all i n stands head

@@ -1,30 +1,26 @@
 -- What a table knows of its terms.
-use Rattle.std.specs.Prelude.{◌≡◌, ℕ, List, [], ◌∷◌, map, fold, Bool, false, not, Option, Some, None, is_some, unwrap_or, slice_index_or, pos, if◌then◌else◌}
+use Rattle.std.specs.Prelude.{◌≡◌, ℕ, List, [], ◌∷◌, map, fold, Bool, false, not, Option, Some, None, slice_index_or}
 use Rattle.std.specs.List.{list_all, list_any}
-use Rattle.nz_spec.specs.Fraction.{Fraction, whole, Arithmetic}
+use Rattle.nz_spec.specs.Fraction.{Fraction, Arithmetic}
 use Rattle.nz_spec.specs.Term.{Term, apply, no_terms, falsum, is_zero, holds_number}
 use Rattle.nz_spec.specs.Table.{Node, IsTable, with_term}
 use Rattle.nz_spec.specs.Linear.{constant_value, folded, is_linear}
 use Rattle.nz_term.specs.declared.facts.Fact.{Fact}
 
--- what is known by these three answers; the value of a term that isn't constant is 0
+-- what is known by these three answers
 abbrev pub fact_with : Option Fraction → Bool → Bool → Fact
-fact_with c linear number = record { value = unwrap_or c (whole (pos 0)); is_constant = is_some c; is_linear = linear; holds_number = number }
+fact_with c linear number = record { constant = c; is_linear = linear; holds_number = number }
 
 -- what is known of a term
 abbrev pub fact_of : Term → Fact
 fact_of t = fact_with (constant_value t) (is_linear t) (holds_number t)
-
--- the value of the term, where it is constant
-abbrev pub constant_in : Fact → Option Fraction
-constant_in f = if f.is_constant then Some f.value else None
 
 -- what is listed for the term of a number; a number past the end stands for `false`
 abbrev pub fact_at : List Fact → ℕ → Fact
 fact_at fs i = slice_index_or fs i (fact_of (apply falsum no_terms))
 
 abbrev pub constants_at : List Fact → List ℕ → List (Option Fraction)
-constants_at fs is = map (λ i. constant_in (fact_at fs i)) is
+constants_at fs is = map (λ i. (fact_at fs i).constant) is
 
 -- each of these terms is linear
 abbrev pub are_linear_at : List Fact → List ℕ → Bool

@@ -22,3 +22,7 @@ pub record Grows (old new : List Node) : Type 0 where
   pub all : new ≡ old ++ more
   pub operators : AllByRecursion (λ (n : Node). IsOperator n.head) more
   pub stays : KeepsTerms old new
+
+-- A table that has grown twice has grown.
+abbrev pub GrowsTwice : Type 0
+GrowsTwice = (old mid new : List Node) → Grows old mid → Grows mid new → Grows old new

@@ -30,7 +30,7 @@ operator_of ToInt = to_int
 operator_of IsInt = is_int
 
 abbrev pub head_of : Head → spec.Head
-head_of (Constant c) = constant (constant_of c)
+head_of (Constant c) = constant (constant_of c.now)
 head_of (Parameter i s) = parameter i (sort_of s)
 head_of (Integer n) = integer n
 head_of (Decimal n places) = decimal_number n places

@@ -4,8 +4,12 @@ pub mod Found
 pub mod Growth
 pub mod Heads
 pub mod Instances
+pub mod Leaves
 pub mod Listings
+pub mod Marks
 pub mod Nodes
 pub mod Numbers
 pub mod Steps
+pub mod Stored
+pub mod Symbols
 pub mod Values

@@ -10,4 +10,4 @@ abbrev pub node_with : Head → List ℕ → table.Node
 node_with h ks = record { head = head_of h; kids = ks }
 
 abbrev pub node_of : Node → table.Node
-node_of n = node_with n.head n.kids
+node_of n = node_with n.head n.kids.now

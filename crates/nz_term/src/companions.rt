@@ -35,18 +35,18 @@ fn make_companion(alloc: Global, terms: &mut Terms, id: TermId) -> Result<(), Me
     ensures alone { (i : ℕ) → length terms.old ≤ i → i < length terms.new → companions_of (term_in terms.new i) ≡ [] }
 {
     let node = terms.node(id);
-    let head = match companion_head(&node.head) {
+    let head = match companion_head(node.head) {
         Some(head) => head,
         None => return Ok(()),
     };
-    let kids = Vec::from_slice(alloc, node.kids.as_slice())?;
+    let kids = Vec::from_slice(alloc, node.kids)?;
     terms.make(head, kids.as_slice())?;
     Ok(())
 }
 
 /// The head of what a term list has just before a term of this head.
-pub fn companion_head(head: &Head) -> Option<Head>
-    ensures companion { option_map head_of result ≡ companion_head (head_of head.now) }
+pub(crate) fn companion_head(head: Head<'_>) -> Option<Head<'static>>
+    ensures companion { option_map head_of result ≡ companion_head (head_of head.entry) }
 {
     match head {
         Head::Operator(Operator::Mod) => Some(Head::Operator(Operator::Div)),

@@ -5,107 +5,61 @@ ghost use Rattle.nz_spec.specs.Fraction.{exceeds, whole};
 ghost use Rattle.nz_spec.specs.Linear.{are_divisors, divides_by_constants, folded, folded_step, head_constant, is_linear_node, variable_count};
 ghost use Rattle.nz_spec.specs.Table.{listed_term, terms_at};
 ghost use Rattle.nz_spec.specs.Term.{Term, apply, decimal_number, difference, head_fits, is_numeric, over_int, decimal_value};
-ghost use Rattle.nz_term.specs.Facts.{are_linear_at, constant_in, constants_at, fact_at, fact_of, fact_with, folded_all, hold_number_at, is_divisor};
+ghost use Rattle.nz_term.specs.Facts.{are_linear_at, constants_at, fact_of, folded_all, hold_number_at, is_divisor};
 ghost use Rattle.nz_frac.specs.Operations.{operator_of as arithmetic_of};
 ghost use Rattle.nz_term.specs.Heads.{head_of, operator_of};
 
+use crate::fact_table::Facts;
 use crate::heads::{Head, Operator};
 use crate::nodes::TermId;
 use nz_frac::{Frac, Op};
 use nz_spec::term::{decimals_are_numbers, numerals_are_whole};
 
-/// What is known of a term. It takes 48 bytes.
+/// What is known of a term.
 #[derive(Clone, Copy, Debug)]
-pub struct Fact {
-    // Of a constant term; else 0, so that none takes the room of an `Option`.
-    value: Frac,
-    is_constant: bool,
-    is_linear: bool,
-    holds_number: bool,
-}
-
-impl Fact {
-    /// What is known of a term with these answers.
-    fn new(constant: Option<Frac>, is_linear: bool, holds_number: bool) -> Fact
-        ensures fact { result ≡ fact_with constant is_linear holds_number }
-    {
-        Fact {
-            value: constant.unwrap_or(Frac::whole(0)),
-            is_constant: constant.is_some(),
-            is_linear,
-            holds_number,
-        }
-    }
-
-    /// The value of a constant term; none for another.
-    pub fn constant(&self) -> Option<Frac>
-        ensures constant { result ≡ constant_in self.now }
-    {
-        if self.is_constant {
-            Some(self.value)
-        } else {
-            None
-        }
-    }
-
-    /// Whether the term is linear.
-    pub fn is_linear(&self) -> bool
-        ensures linear { result ≡ self.now.is_linear }
-    {
-        self.is_linear
-    }
-
+pub(crate) struct Fact {
+    /// The value of a constant term; none of another.
+    pub(crate) constant: Option<Frac>,
+    pub(crate) is_linear: bool,
     /// Whether the term, or one that it is made of, is of sort `Int` or `Real`.
-    pub fn holds_number(&self) -> bool
-        ensures holds { result ≡ self.now.holds_number }
-    {
-        self.holds_number
-    }
+    pub(crate) holds_number: bool,
 }
 
 /// What is known of the term of this head over the terms of these numbers, where this is known of all terms.
-pub fn fact_over(facts: &[Fact], head: &Head, kids: &[TermId]) -> Fact
+pub(crate) fn fact_over(facts: &Facts, head: Head<'_>, kids: &[TermId]) -> Fact
     requires within { All (λ k. k < length facts.now) kids.now }
-    requires fits { IsTrue (head_fits (head_of head.now)) }
-    ensures fact { (ts : List Term) → facts.now ≡ map fact_of ts → result ≡ fact_of (apply (head_of head.now) (terms_at (listed_term ts) kids.now)) }
+    requires fits { IsTrue (head_fits (head_of head)) }
+    ensures fact { (ts : List Term) → facts.now ≡ map fact_of ts → result ≡ fact_of (apply (head_of head.entry) (terms_at (listed_term ts) kids.now)) }
 {
-    Fact::new(
-        constant_over(facts, head, kids),
-        is_linear_over(facts, head, kids),
-        holds_number_over(facts, head, kids),
-    )
-}
-
-/// What is known of the term of a number.
-fn known(facts: &[Fact], id: TermId) -> Fact
-    requires within { id < length facts.now }
-    ensures known { result ≡ fact_at facts.now id }
-{
-    facts[id]
+    Fact {
+        constant: constant_over(facts, head, kids),
+        is_linear: is_linear_over(facts, head, kids),
+        holds_number: holds_number_over(facts, head, kids),
+    }
 }
 
 /// The value of a head over these terms, where it is a constant term.
-fn constant_over(facts: &[Fact], head: &Head, kids: &[TermId]) -> Option<Frac>
+fn constant_over(facts: &Facts, head: Head<'_>, kids: &[TermId]) -> Option<Frac>
     requires within { All (λ k. k < length facts.now) kids.now }
-    requires fits { IsTrue (head_fits (head_of head.now)) }
-    ensures constant { result ≡ head_constant (head_of head.now) (constants_at facts.now kids.now) }
+    requires fits { IsTrue (head_fits (head_of head)) }
+    ensures constant { result ≡ head_constant (head_of head.entry) (constants_at facts.now kids.now) }
 {
     match head {
-        Head::Integer(n) => integer(*n),
-        Head::Decimal(digits, places) => decimal(*digits, *places),
+        Head::Integer(n) => integer(n),
+        Head::Decimal(digits, places) => decimal(digits, places),
         Head::Constant(_) | Head::Parameter(_, _) => None,
-        Head::Operator(operator) => operated(facts, *operator, kids),
+        Head::Operator(operator) => operated(facts, operator, kids),
     }
 }
 
 /// The value of an operator over these terms, where it is a constant term.
-fn operated(facts: &[Fact], operator: Operator, kids: &[TermId]) -> Option<Frac>
+fn operated(facts: &Facts, operator: Operator, kids: &[TermId]) -> Option<Frac>
     requires within { All (λ k. k < length facts.now) kids.now }
     ensures constant { result ≡ head_constant (operator_of operator) (constants_at facts.now kids.now) }
 {
     match operator {
         Operator::ToReal => match kids {
-            [kid] => known(facts, *kid).constant(),
+            [kid] => facts.constant(*kid),
             _ => None,
         },
         Operator::Sum(_) => folded(Op::Add, facts, kids),
@@ -152,35 +106,35 @@ fn power_of_ten(places: usize) -> i128
 }
 
 /// The negation of one constant, or the difference of several, from the left.
-fn difference(facts: &[Fact], kids: &[TermId]) -> Option<Frac>
+fn difference(facts: &Facts, kids: &[TermId]) -> Option<Frac>
     requires within { All (λ k. k < length facts.now) kids.now }
     ensures difference { result ≡ head_constant (difference over_int) (constants_at facts.now kids.now) }
 {
     match kids {
-        [kid] => Some(known(facts, *kid).constant()?.neg()),
+        [kid] => Some(facts.constant(*kid)?.neg()),
         _ => folded(Op::Sub, facts, kids),
     }
 }
 
 /// An operation over the constants of these terms, from the left; none where there are no terms, or one is no constant.
-fn folded(op: Op, facts: &[Fact], kids: &[TermId]) -> Option<Frac>
+fn folded(op: Op, facts: &Facts, kids: &[TermId]) -> Option<Frac>
     requires within { All (λ k. k < length facts.now) kids.now }
     ensures folded { result ≡ folded_all (arithmetic_of op) (constants_at facts.now kids.now) }
 {
     match kids.split_first() {
-        Some((first, others)) => folded_on(op, known(facts, *first).constant(), facts, others),
+        Some((first, others)) => folded_on(op, facts.constant(*first), facts, others),
         None => None,
     }
 }
 
 /// An operation over a constant and those of these terms, from the left; none where one is no constant.
-fn folded_on(op: Op, first: Option<Frac>, facts: &[Fact], kids: &[TermId]) -> Option<Frac>
+fn folded_on(op: Op, first: Option<Frac>, facts: &Facts, kids: &[TermId]) -> Option<Frac>
     requires within { All (λ k. k < length facts.now) kids.now }
     ensures folded { result ≡ folded (arithmetic_of op) first (constants_at facts.now kids.now) }
 {
     let mut value = first;
     for kid in kids {
-        value = step(op, value, known(facts, *kid).constant());
+        value = step(op, value, facts.constant(*kid));
     }
     value
 }
@@ -209,26 +163,26 @@ fn operation(op: Op, left: Frac, right: Frac) -> Option<Frac>
 }
 
 /// Whether the term of this head over these terms is linear.
-fn is_linear_over(facts: &[Fact], head: &Head, kids: &[TermId]) -> bool
+fn is_linear_over(facts: &Facts, head: Head<'_>, kids: &[TermId]) -> bool
     requires within { All (λ k. k < length facts.now) kids.now }
-    ensures linear { result ≡ (is_linear_node (head_of head.now) (constants_at facts.now kids.now) && are_linear_at facts.now kids.now) }
+    ensures linear { result ≡ (is_linear_node (head_of head.entry) (constants_at facts.now kids.now) && are_linear_at facts.now kids.now) }
 {
     is_linear_head(facts, head, kids) && are_linear(facts, kids)
 }
 
 /// Whether a head is linear over these terms, apart from what they are made of.
-fn is_linear_head(facts: &[Fact], head: &Head, kids: &[TermId]) -> bool
+fn is_linear_head(facts: &Facts, head: Head<'_>, kids: &[TermId]) -> bool
     requires within { All (λ k. k < length facts.now) kids.now }
-    ensures linear { result ≡ is_linear_node (head_of head.now) (constants_at facts.now kids.now) }
+    ensures linear { result ≡ is_linear_node (head_of head.entry) (constants_at facts.now kids.now) }
 {
     match head {
-        Head::Operator(operator) => is_linear_operator(facts, *operator, kids),
+        Head::Operator(operator) => is_linear_operator(facts, operator, kids),
         _ => true,
     }
 }
 
 /// Whether an operator is linear over these terms, apart from what they are made of.
-fn is_linear_operator(facts: &[Fact], operator: Operator, kids: &[TermId]) -> bool
+fn is_linear_operator(facts: &Facts, operator: Operator, kids: &[TermId]) -> bool
     requires within { All (λ k. k < length facts.now) kids.now }
     ensures linear { result ≡ is_linear_node (operator_of operator) (constants_at facts.now kids.now) }
 {
@@ -240,13 +194,13 @@ fn is_linear_operator(facts: &[Fact], operator: Operator, kids: &[TermId]) -> bo
 }
 
 /// How many of these terms are no constants.
-fn variables(facts: &[Fact], kids: &[TermId]) -> usize
+fn variables(facts: &Facts, kids: &[TermId]) -> usize
     requires within { All (λ k. k < length facts.now) kids.now }
     ensures count { result ≡ variable_count (constants_at facts.now kids.now) }
 {
     let mut count: usize = 0;
     for kid in kids {
-        if known(facts, *kid).constant().is_none() {
+        if facts.constant(*kid).is_none() {
             count += 1;
         }
     }
@@ -254,7 +208,7 @@ fn variables(facts: &[Fact], kids: &[TermId]) -> usize
 }
 
 /// Whether each of these terms but the first is a constant other than zero.
-fn divides_by_constants(facts: &[Fact], kids: &[TermId]) -> bool
+fn divides_by_constants(facts: &Facts, kids: &[TermId]) -> bool
     requires within { All (λ k. k < length facts.now) kids.now }
     ensures divisors { result ≡ divides_by_constants (constants_at facts.now kids.now) }
 {
@@ -265,35 +219,35 @@ fn divides_by_constants(facts: &[Fact], kids: &[TermId]) -> bool
 }
 
 /// Whether each of these terms is a constant other than zero.
-fn are_divisors(facts: &[Fact], kids: &[TermId]) -> bool
+fn are_divisors(facts: &Facts, kids: &[TermId]) -> bool
     requires within { All (λ k. k < length facts.now) kids.now }
     ensures divisors { result ≡ are_divisors (constants_at facts.now kids.now) }
 {
     for kid in kids {
-        if !is_divisor(known(facts, *kid)) {
+        if !is_divisor(facts.constant(*kid)) {
             return false;
         }
     }
     true
 }
 
-/// Whether the term is a constant other than zero.
-fn is_divisor(fact: Fact) -> bool
-    ensures divisor { result ≡ is_divisor (constant_in fact) }
+/// Whether a constant is one other than zero.
+fn is_divisor(constant: Option<Frac>) -> bool
+    ensures divisor { result ≡ is_divisor constant }
 {
-    match fact.constant() {
+    match constant {
         Some(value) => !value.is_zero(),
         None => false,
     }
 }
 
 /// Whether each of these terms is linear.
-fn are_linear(facts: &[Fact], kids: &[TermId]) -> bool
+fn are_linear(facts: &Facts, kids: &[TermId]) -> bool
     requires within { All (λ k. k < length facts.now) kids.now }
     ensures linear { result ≡ are_linear_at facts.now kids.now }
 {
     for kid in kids {
-        if !known(facts, *kid).is_linear {
+        if !facts.is_linear(*kid) {
             return false;
         }
     }
@@ -301,20 +255,20 @@ fn are_linear(facts: &[Fact], kids: &[TermId]) -> bool
 }
 
 /// Whether the term of this head over these terms, or one that it is made of, is numeric.
-fn holds_number_over(facts: &[Fact], head: &Head, kids: &[TermId]) -> bool
+fn holds_number_over(facts: &Facts, head: Head<'_>, kids: &[TermId]) -> bool
     requires within { All (λ k. k < length facts.now) kids.now }
-    ensures holds { result ≡ (is_numeric (head_of head.now) || hold_number_at facts.now kids.now) }
+    ensures holds { result ≡ (is_numeric (head_of head.entry) || hold_number_at facts.now kids.now) }
 {
     head.is_numeric() || hold_number(facts, kids)
 }
 
 /// Whether one of these terms is numeric, or made of one that is.
-fn hold_number(facts: &[Fact], kids: &[TermId]) -> bool
+fn hold_number(facts: &Facts, kids: &[TermId]) -> bool
     requires within { All (λ k. k < length facts.now) kids.now }
     ensures hold { result ≡ hold_number_at facts.now kids.now }
 {
     for kid in kids {
-        if known(facts, *kid).holds_number {
+        if facts.holds_number(*kid) {
             return true;
         }
     }

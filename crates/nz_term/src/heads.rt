@@ -1,8 +1,5 @@
 //! What a term is of: an operator of the theories Core and Reals_Ints (SMT-LIB 2.6), a declared constant, or a number.
-ghost use Rattle.std.specs.Prelude.{◌≡◌, ℕ, List, IsTrue};
-ghost use Rattle.std.specs.Cmp.{on_equiv, on_per, partial_equiv_from_equiv};
-ghost use Rattle.std.specs.Cmp.Lexicographic.{bytes_decides, nat_list_eq_equiv};
-ghost use Rattle.std.specs.Hash.{on_Alike, same_Alike};
+ghost use Rattle.std.specs.Prelude.{◌≡◌, ℕ, List, IsTrue, IfSome, IfNone};
 ghost use Rattle.nz_spec.specs.Elaboration.{numbers_at};
 ghost use Rattle.nz_spec.specs.Literal.{are_same_head, head_digits, head_kind, head_name, head_place, sort_number};
 ghost use Rattle.nz_spec.specs.Table.{HasItsArguments};
@@ -10,11 +7,9 @@ ghost use Rattle.nz_spec.specs.Term.{head_fits, head_sort, is_numeric, sort_over
 ghost use Rattle.nz_term.specs.Constants.{number_sort_of, sort_of};
 ghost use Rattle.nz_term.specs.Growth.{IsOperator};
 ghost use Rattle.nz_term.specs.Heads.{head_of, operator_of};
-ghost use Rattle.nz_term.specs.Numbers.{fed_of, numbers_of};
 
 use nz_base::Text;
 use std::alloc::AllocError;
-use std::hash::{Hash, Hasher};
 
 /// The greatest number that a numeral, or the digits of a decimal, may spell.
 const LARGEST: u128 = 0x7fff_ffff_ffff_ffff_ffff_ffff_ffff_ffff;
@@ -32,7 +27,7 @@ pub enum Sort {
 
 impl Sort {
     /// A number that tells sorts apart.
-    fn number(self) -> u8
+    pub(crate) fn number(self) -> u8
         ensures number { result ≡ sort_number (sort_of self) }
     {
         match self {
@@ -152,7 +147,7 @@ impl Operator {
     }
 
     /// A number that tells operators apart, whatever they are over, and from the leaves.
-    fn kind(self) -> u8
+    pub(crate) fn kind(self) -> u8
         ensures kind { result ≡ head_kind (operator_of self) }
     {
         match self {
@@ -187,11 +182,11 @@ pub fn operators_are_no_leaves()
     ensures takes { (o : Operator) (kids : List ℕ) → HasItsArguments (operator_of o) kids }
 {}
 
-/// The head of a normal term: a leaf, which has no arguments, or an operator.
-#[derive(Debug, Drop)]
-pub enum Head {
+/// The head of a normal term: a leaf, which has no arguments, or an operator. It borrows a constant, and is copied.
+#[derive(Clone, Copy, Debug)]
+pub enum Head<'a> {
     /// A constant.
-    Constant(Constant),
+    Constant(&'a Constant),
     /// A parameter of a definition, by its place. It stands in the definition's body alone.
     Parameter(usize, Sort),
     /// A numeral.
@@ -201,14 +196,14 @@ pub enum Head {
     Operator(Operator),
 }
 
-impl Head {
+impl<'a> Head<'a> {
     /// The sort of a term of this head.
-    pub fn sort(&self) -> Sort
-        ensures sort { sort_of result ≡ head_sort (head_of self.now) }
+    pub fn sort(self) -> Sort
+        ensures sort { sort_of result ≡ head_sort (head_of self.entry) }
     {
         match self {
             Head::Constant(constant) => constant.sort,
-            Head::Parameter(_, sort) => *sort,
+            Head::Parameter(_, sort) => sort,
             Head::Integer(_) => Sort::Int,
             Head::Decimal(_, _) => Sort::Real,
             Head::Operator(operator) => operator.sort(),
@@ -217,19 +212,30 @@ impl Head {
 
     /// Whether what is spelled as a number is one: a numeral is at most 2^127 - 1, and so are the digits of a decimal, of which at
     /// most 38 stand after the point. Every other head fits.
-    pub fn fits(&self) -> bool
-        ensures fits { result ≡ head_fits (head_of self.now) }
+    pub fn fits(self) -> bool
+        ensures fits { result ≡ head_fits (head_of self.entry) }
     {
         match self {
-            Head::Integer(number) => *number <= LARGEST,
-            Head::Decimal(digits, places) => *digits <= LARGEST && *places <= PLACE_LIMIT,
+            Head::Integer(number) => number <= LARGEST,
+            Head::Decimal(digits, places) => digits <= LARGEST && places <= PLACE_LIMIT,
             Head::Constant(_) | Head::Parameter(_, _) | Head::Operator(_) => true,
         }
     }
 
+    /// Whether the two are the same head.
+    pub fn is(self, other: Head<'_>) -> bool
+        ensures same { result ≡ are_same_head (head_of self.entry) (head_of other.entry) }
+    {
+        self.kind() == other.kind()
+            && self.sort().number() == other.sort().number()
+            && self.digits() == other.digits()
+            && self.place() == other.place()
+            && self.name() == other.name()
+    }
+
     /// Whether a term of this head is of sort `Int` or `Real`, or asks something of one that is.
-    pub(crate) fn is_numeric(&self) -> bool
-        ensures numeric { result ≡ is_numeric (head_of self.now) }
+    pub(crate) fn is_numeric(self) -> bool
+        ensures numeric { result ≡ is_numeric (head_of self.entry) }
     {
         match self {
             Head::Operator(operator) => operator.is_numeric(),
@@ -237,9 +243,23 @@ impl Head {
         }
     }
 
+    /// The same head, which borrows nothing; none of a constant.
+    pub(crate) fn detached(self) -> Option<Head<'static>>
+        ensures same { IfSome result (λ head. head_of head ≡ head_of self.entry) }
+        ensures constant { IfNone result (IsOperator (head_of self.entry) → ⊥) }
+    {
+        match self {
+            Head::Constant(_) => None,
+            Head::Parameter(place, sort) => Some(Head::Parameter(place, sort)),
+            Head::Integer(digits) => Some(Head::Integer(digits)),
+            Head::Decimal(digits, places) => Some(Head::Decimal(digits, places)),
+            Head::Operator(operator) => Some(Head::Operator(operator)),
+        }
+    }
+
     /// A number that tells heads apart, whatever they hold.
-    fn kind(&self) -> u8
-        ensures kind { result ≡ head_kind (head_of self.now) }
+    pub(crate) fn kind(self) -> u8
+        ensures kind { result ≡ head_kind (head_of self.entry) }
     {
         match self {
             Head::Constant(_) => 0,
@@ -251,79 +271,32 @@ impl Head {
     }
 
     /// The digits of a number; 0 for another head.
-    fn digits(&self) -> u128
-        ensures digits { result ≡ head_digits (head_of self.now) }
+    pub(crate) fn digits(self) -> u128
+        ensures digits { result ≡ head_digits (head_of self.entry) }
     {
         match self {
-            Head::Integer(digits) | Head::Decimal(digits, _) => *digits,
+            Head::Integer(digits) | Head::Decimal(digits, _) => digits,
             _ => 0,
         }
     }
 
     /// The place of a parameter, or how many digits of a decimal stand after the point; 0 for another head.
-    fn place(&self) -> usize
-        ensures place { result ≡ head_place (head_of self.now) }
+    pub(crate) fn place(self) -> usize
+        ensures place { result ≡ head_place (head_of self.entry) }
     {
         match self {
-            Head::Parameter(place, _) | Head::Decimal(_, place) => *place,
+            Head::Parameter(place, _) | Head::Decimal(_, place) => place,
             _ => 0,
         }
     }
 
     /// The name of a constant; nothing for another head.
-    fn name(&self) -> &[u8]
-        ensures name { result.now ≡ head_name (head_of self.now) }
+    pub(crate) fn name(self) -> &'a [u8]
+        ensures name { result.now ≡ head_name (head_of self.entry) }
     {
         match self {
             Head::Constant(constant) => constant.name.as_bytes(),
             _ => &[],
         }
-    }
-}
-
-// By hand, since a derived one says what a clone is by a case for each two variants, and not that it is the head.
-impl Clone for Head {
-    ghost is_clone = { λ head copy. copy ≡ head };
-
-    fn clone(&self) -> Result<Head, AllocError> {
-        Ok(match self {
-            Head::Constant(constant) => Head::Constant(constant.clone()?),
-            Head::Parameter(place, sort) => Head::Parameter(*place, *sort),
-            Head::Integer(digits) => Head::Integer(*digits),
-            Head::Decimal(digits, places) => Head::Decimal(*digits, *places),
-            Head::Operator(operator) => Head::Operator(*operator),
-        })
-    }
-}
-
-// By hand, since that of operators is told by their numbers: a derived one is a case for each two of them in a proof.
-impl PartialEq for Head {
-    ghost eq = { λ a b. are_same_head (head_of a) (head_of b) };
-
-    ghost laws = { on_per numbers_of (partial_equiv_from_equiv nat_list_eq_equiv) };
-
-    fn eq(&self, other: &Head) -> bool {
-        self.kind() == other.kind()
-            && self.sort().number() == other.sort().number()
-            && self.digits() == other.digits()
-            && self.place() == other.place()
-            && self.name() == other.name()
-    }
-}
-
-impl Eq for Head {
-    ghost laws = { on_equiv numbers_of nat_list_eq_equiv };
-}
-
-impl Hash for Head {
-    ghost hash_input = { λ h. fed_of (numbers_of h) };
-
-    ghost respects_eq = { (on_Alike numbers_of (same_Alike fed_of bytes_decides)).fed };
-
-    fn hash<H: Hasher>(&self, state: &mut H) {
-        state.write_u8(self.kind());
-        self.digits().hash(state);
-        self.place().hash(state);
-        self.name().hash(state);
     }
 }

@@ -57,24 +57,27 @@ fn node_instance(
     ensures made { IfOk result (λ made. IsInstance terms.new arguments.now id made) }
 {
     let node = terms.node(id);
-    if let Some(argument) = argument(&node.head, arguments) {
+    if let Some(argument) = argument(node.head, arguments) {
         return Ok(argument);
     }
-    let kids = node.kids.as_slice();
-    let instances = listed(alloc, made, kids)?;
-    if instances.as_slice() == kids {
+    let instances = listed(alloc, made, node.kids)?;
+    if instances.as_slice() == node.kids {
         return Ok(id);
     }
-    let head = node.head.clone()?;
+
+    // A constant has no arguments.
+    let Some(head) = node.head.detached() else {
+        return Ok(id);
+    };
     terms.make(head, instances.as_slice())
 }
 
 /// What is put for a parameter that isn't past the end; nothing for another head.
-fn argument(head: &Head, arguments: &[TermId]) -> Option<TermId>
-    ensures argument { result ≡ argument_of (head_of head.now) arguments.now }
+fn argument(head: Head<'_>, arguments: &[TermId]) -> Option<TermId>
+    ensures argument { result ≡ argument_of (head_of head.entry) arguments.now }
 {
     match head {
-        Head::Parameter(place, _) => arguments.get(*place).copied(),
+        Head::Parameter(place, _) => arguments.get(place).copied(),
         _ => None,
     }
 }

@@ -6,12 +6,15 @@
 
 mod assign;
 mod companions;
+mod fact_table;
 mod facts;
 mod heads;
 mod instances;
+mod leaves;
 mod listings;
 mod nodes;
 mod order;
+mod symbols;
 mod terms;
 
 pub use assign::{Assign, Value};
@@ -19,6 +22,6 @@ pub use companions::add_companions;
 pub use heads::{Constant, Head, NumberSort, Operator, Sort, operators_are_no_leaves};
 pub use instances::instance;
 pub use listings::listing_order;
-pub use nodes::{Ids, Node, TermId};
+pub use nodes::{Node, TermId};
 pub use order::post_order;
-pub use terms::{Terms, known_table};
+pub use terms::{Terms, grows_twice, known_table};

@@ -90,8 +90,8 @@ fn companion(terms: &Terms, id: TermId) -> Result<Option<TermId>, Memory>
     ensures companion { IfOk result (AreCompanions terms.now (term_in terms.now id)) }
 {
     let node = terms.node(id);
-    match companion_head(&node.head) {
-        Some(head) => terms.find(head, node.kids.as_slice()),
+    match companion_head(node.head) {
+        Some(head) => terms.find(head, node.kids),
         None => Ok(None),
     }
 }

@@ -35,7 +35,7 @@ fn enter_arguments(steps: &mut Vec<Step>, terms: &Terms, id: TermId) -> Result<(
     requires within { id < length terms.now }
     ensures entered { OnOk result (EntersArguments terms.now id steps.old.items steps.new.items) }
 {
-    enter_each(steps, terms.node(id).kids.as_slice())
+    enter_each(steps, terms.node(id).kids)
 }
 
 /// The terms of these roots with all that they are made of, each once, in post-order: arguments come before, from the left.

@@ -1,45 +1,43 @@
 //! The table of shared terms.
-ghost use Rattle.std.specs.Prelude.{◌≡◌, ℕ, ◌<◌, ◌==◌, ◌⊎◌, [], ◌∷◌, ◌++◌, length, map, take, All, Some, IsTrue, IfOk, OnOk, OnErr, IsOkAnd, option_map, slice_get};
+ghost use Rattle.std.specs.Prelude.{◌≡◌, ℕ, ◌<◌, ◌==◌, ◌⊎◌, [], ◌∷◌, ◌++◌, length, take, All, Some, IsTrue, IfOk, OnOk, OnErr, IsOkAnd, option_map, slice_get};
 ghost use Rattle.nz_spec.specs.Linear.{constant_value, is_linear};
 ghost use Rattle.nz_spec.specs.Term.{apply, head_fits, holds_number};
 ghost use Rattle.nz_spec.specs.Table.{HasItsArguments, HasOneNumberEach, IsTable, term_in, terms_at};
 ghost use Rattle.nz_term.specs.Facts.{fact_of};
 ghost use Rattle.nz_term.specs.Found.{IsFound};
-ghost use Rattle.nz_term.specs.Growth.{GoesOn, KeepsTerms};
+ghost use Rattle.nz_term.specs.Growth.{GrowsTwice, KeepsTerms};
 ghost use Rattle.nz_term.specs.Heads.{head_of};
 ghost use Rattle.nz_term.specs.Nodes.{node_of, node_with};
 
+use crate::fact_table::Facts;
 use crate::facts::{Fact, fact_over};
 use crate::heads::Head;
-use crate::nodes::{Ids, Node, TermId};
-use indexmap::IndexSet;
+use crate::nodes::{Node, Nodes, TermId};
 use nz_base::Memory;
 use nz_frac::Frac;
 use nz_spec::table::{one_number, term_of_node, term_stays, terms_stay};
-use nz_spec::term::tells_heads;
 use std::alloc::Global;
 use std::marker::Model;
 
 /// A table of shared terms. A contract sees it as the list of its nodes, the oldest first.
 #[derive(Debug, Drop)]
 pub struct Terms {
-    nodes: IndexSet<Node>,
+    nodes: Nodes,
     // What is known of each term, in order.
-    facts: Vec<Fact>,
+    facts: Facts,
 }
 
 impl Model for Terms {
-    ghost use Rattle.std.specs.Prelude.{List, map};
+    ghost use Rattle.std.specs.Prelude.{List};
     ghost use Rattle.nz_spec.specs.Table.{Node};
 
     ghost Value = { List Node };
 
     ghost use Rattle.nz_term.specs.Facts.{IsKnown};
-    ghost use Rattle.nz_term.specs.Nodes.{node_of};
 
-    ghost view = { λ t. map node_of t.nodes.keys };
+    ghost view = { λ t. t.nodes };
 
-    ghost invariant = { λ t. IsKnown (map node_of t.nodes.keys) t.facts.items };
+    ghost invariant = { λ t. IsKnown t.nodes t.facts };
 }
 
 impl Terms {
@@ -48,20 +46,20 @@ impl Terms {
         ensures empty { IsOkAnd result (λ t. t ≡ []) }
     {
         Ok(Terms {
-            nodes: IndexSet::new(alloc),
-            facts: Vec::new(alloc),
+            nodes: Nodes::new(alloc),
+            facts: Facts::new(alloc),
         })
     }
 
     /// The number of the term of this head over the terms of these numbers. A term that is there already has the number
     /// that it had. A numeral or decimal must be a number, and a constant has no arguments.
-    pub fn make(&mut self, head: Head, kids: &[TermId]) -> Result<TermId, Memory>
+    pub fn make(&mut self, head: Head<'_>, kids: &[TermId]) -> Result<TermId, Memory>
         requires within { All (λ k. k < length self.old) kids.now }
         requires fits { IsTrue (head_fits (head_of head)) }
         requires leaves { HasItsArguments (head_of head) kids.now }
-        ensures node { IfOk result (λ id. slice_get self.new id ≡ Some (node_with head kids.now)) }
-        ensures term { IfOk result (λ id. term_in self.new id ≡ apply (head_of head) (terms_at (term_in self.old) kids.now)) }
-        ensures grown { OnOk result ((self.new ≡ self.old) ⊎ (self.new ≡ self.old ++ node_with head kids.now ∷ [])) }
+        ensures node { IfOk result (λ id. slice_get self.new id ≡ Some (node_with head.entry kids.now)) }
+        ensures term { IfOk result (λ id. term_in self.new id ≡ apply (head_of head.entry) (terms_at (term_in self.old) kids.now)) }
+        ensures grown { OnOk result ((self.new ≡ self.old) ⊎ (self.new ≡ self.old ++ node_with head.entry kids.now ∷ [])) }
         ensures stays { KeepsTerms self.old self.new }
 
         // Equal terms have equal numbers, here and before.
@@ -73,10 +71,9 @@ impl Terms {
         term_of_node();
         term_stays();
         terms_stay();
-        let fact = self.known(&head, kids);
-        let kids = Ids::from_slice(*self.nodes.allocator(), kids)?;
+        let fact = self.known(head, kids);
         self.facts.push(fact)?;
-        let made = put(&mut self.nodes, Node { head, kids });
+        let made = self.nodes.put(head, kids);
 
         // Where no node was put last, nor does the fact stay.
         self.facts.truncate(self.nodes.len());
@@ -84,49 +81,42 @@ impl Terms {
     }
 
     /// What is known of the term of this head over the terms of these numbers.
-    fn known(&self, head: &Head, kids: &[TermId]) -> Fact
+    fn known(&self, head: Head<'_>, kids: &[TermId]) -> Fact
         requires within { All (λ k. k < length self.now) kids.now }
-        requires fits { IsTrue (head_fits (head_of head.now)) }
-        ensures known { result ≡ fact_of (apply (head_of head.now) (terms_at (term_in self.now) kids.now)) }
+        requires fits { IsTrue (head_fits (head_of head)) }
+        ensures known { result ≡ fact_of (apply (head_of head.entry) (terms_at (term_in self.now) kids.now)) }
     {
-        fact_over(self.facts.as_slice(), head, kids)
+        fact_over(&self.facts, head, kids)
     }
 
     /// The number of the term of this head over the terms of these numbers, where the table has it. The memory is for the
     /// key that it is looked up by.
-    pub fn find(&self, head: Head, kids: &[TermId]) -> Result<Option<TermId>, Memory>
+    pub fn find(&self, head: Head<'_>, kids: &[TermId]) -> Result<Option<TermId>, Memory>
         requires within { All (λ k. k < length self.now) kids.now }
-        ensures found { IfOk result (IsFound self.now (apply (head_of head) (terms_at (term_in self.now) kids.now))) }
+        ensures found { IfOk result (IsFound self.now (apply (head_of head.entry) (terms_at (term_in self.now) kids.now))) }
     {
-        tells_heads();
-        one_number();
-        term_of_node();
-        let key = Node {
-            head,
-            kids: Ids::from_slice(*self.nodes.allocator(), kids)?,
-        };
-        Ok(self.nodes.get_index_of(&key))
+        self.nodes.find(head, kids)
     }
 
     /// The node of a number.
-    pub fn node(&self, id: TermId) -> &Node
+    pub fn node(&self, id: TermId) -> Node<'_>
         requires { id < length self.now }
-        ensures node { slice_get self.now id ≡ Some (node_of result.now) }
-        ensures term { term_in self.now id ≡ apply (head_of result.now.head) (terms_at (term_in self.now) result.now.kids) }
-        ensures before { All (λ k. k < id) result.now.kids }
-        ensures fits { IsTrue (head_fits (head_of result.now.head)) }
-        ensures leaves { HasItsArguments (head_of result.now.head) result.now.kids }
+        ensures node { slice_get self.now id ≡ Some (node_of result) }
+        ensures term { term_in self.now id ≡ apply (head_of result.head) (terms_at (term_in self.now) result.kids.now) }
+        ensures before { All (λ k. k < id) result.kids.now }
+        ensures fits { IsTrue (head_fits (head_of result.head)) }
+        ensures leaves { HasItsArguments (head_of result.head) result.kids.now }
     {
         term_of_node();
-        &self.nodes.as_slice()[id]
+        self.nodes.get(id)
     }
 
     /// The head of the term of a number.
-    pub fn head(&self, id: TermId) -> &Head
+    pub fn head(&self, id: TermId) -> Head<'_>
         requires { id < length self.now }
-        ensures head { option_map (λ n. n.head) (slice_get self.now id) ≡ Some (head_of result.now) }
+        ensures head { option_map (λ n. n.head) (slice_get self.now id) ≡ Some (head_of result) }
     {
-        &self.node(id).head
+        self.node(id).head
     }
 
     /// The numbers of the arguments of the term of a number. Each is below it.
@@ -135,7 +125,7 @@ impl Terms {
         ensures kids { option_map (λ n. n.kids) (slice_get self.now id) ≡ Some result.now }
         ensures before { All (λ k. k < id) result.now }
     {
-        self.node(id).kids.as_slice()
+        self.node(id).kids
     }
 
     /// How many terms there are. Their numbers are those below it.
@@ -143,7 +133,7 @@ impl Terms {
         ensures len { result ≡ length self.now }
         ensures table { IsTable self.now }
     {
-        self.facts.len()
+        self.nodes.len()
     }
 
     /// Whether there is no term.
@@ -174,7 +164,7 @@ impl Terms {
         requires within { id < length self.now }
         ensures constant { result ≡ constant_value (term_in self.now id) }
     {
-        self.facts[id].constant()
+        self.facts.constant(id)
     }
 
     /// Whether the term is linear.
@@ -182,7 +172,7 @@ impl Terms {
         requires within { id < length self.now }
         ensures linear { result ≡ is_linear (term_in self.now id) }
     {
-        self.facts[id].is_linear()
+        self.facts.is_linear(id)
     }
 
     /// Whether the term, or one that it is made of, is of sort `Int` or `Real`.
@@ -190,24 +180,8 @@ impl Terms {
         requires within { id < length self.now }
         ensures holds { result ≡ holds_number (term_in self.now id) }
     {
-        self.facts[id].holds_number()
+        self.facts.holds_number(id)
     }
-}
-
-/// The number of a node, which is put last where it isn't there.
-fn put(nodes: &mut IndexSet<Node>, node: Node) -> Result<TermId, Memory>
-    requires table { IsTable (map node_of nodes.old.keys) }
-    requires within { All (λ k. k < length (map node_of nodes.old.keys)) node.kids }
-    requires fits { IsTrue (head_fits (head_of node.head)) }
-    requires leaves { HasItsArguments (head_of node.head) node.kids }
-    ensures goes_on { GoesOn (map node_of nodes.old.keys) (node_of node) (map node_of nodes.new.keys) }
-    ensures table { IsTable (map node_of nodes.new.keys) }
-    ensures node { IfOk result (λ id. slice_get (map node_of nodes.new.keys) id ≡ Some (node_of node)) }
-    ensures unchanged { OnErr result (nodes.new.keys ≡ nodes.old.keys) }
-{
-    tells_heads();
-    let (id, _) = nodes.insert_full(node)?;
-    Ok(id)
 }
 
 /// Says that the nodes of a table are one.
@@ -216,3 +190,8 @@ pub fn known_table(terms: &Terms)
 {
     terms.len();
 }
+
+/// A table that has grown twice has grown.
+pub fn grows_twice()
+    ensures twice { GrowsTwice }
+{}

@@ -1,11 +1,7 @@
-//! Tests of the crates of terms, by public calls alone: a crate that has its tests inside is proved twice.
+//! Tests of `nz_term`, by public calls alone: a crate that has its tests inside is proved twice.
 #![tactic(auto)]
 
 #[cfg(test)]
-mod elaborate;
-#[cfg(test)]
-mod sort;
+mod making;
 #[cfg(test)]
 mod term;
-#[cfg(test)]
-mod truth;

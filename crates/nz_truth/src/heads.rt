@@ -18,15 +18,15 @@ use nz_term::{Head, Operator, Sort, Value};
 
 /// What a head comes to; a constant and a number have the value that is given.
 #[tactic(auto, unfolding(nz_spec::specs::Fraction::first_wide))]
-pub(crate) fn outcome_over(head: &Head, given: Value, args: &[Value]) -> Outcome
-    ensures outcome { (a : Assignment) → IsGiven a (head_of head.now) (value_of given) → IsOutcomeOf (head_operations (head_of head.now) (map value_of args.now)) (head_value a (head_of head.now) (map value_of args.now)) result }
+pub(crate) fn outcome_over(head: Head<'_>, given: Value, args: &[Value]) -> Outcome
+    ensures outcome { (a : Assignment) → IsGiven a (head_of head.entry) (value_of given) → IsOutcomeOf (head_operations (head_of head.entry) (map value_of args.now)) (head_value a (head_of head.entry) (map value_of args.now)) result }
 {
     match head {
         Head::Constant(_) => Outcome::Value(given),
-        Head::Parameter(_, sort) => Outcome::Value(default_value(*sort)),
+        Head::Parameter(_, sort) => Outcome::Value(default_value(sort)),
         Head::Integer(_) => Outcome::Value(given),
         Head::Decimal(_, _) => Outcome::Value(given),
-        Head::Operator(operator) => outcome_of(*operator, args),
+        Head::Operator(operator) => outcome_of(operator, args),
     }
 }
 

@@ -97,9 +97,9 @@ fn node_outcome(
     ensures outcome { IfOk result (λ o. (a : Assignment) → AreGiven terms.now a assign.now → HasEvaluatedKids terms.now a id (outcome_in outcomes.now) → IsOutcome a (term_in terms.now id) o) }
 {
     let node = terms.node(id);
-    match gather(node.kids.as_slice(), outcomes, args)? {
+    match gather(node.kids, outcomes, args)? {
         Some(wide) => Ok(Outcome::Wide(wide)),
-        None => Ok(outcome_over(&node.head, leaf(terms, id, assign), args)),
+        None => Ok(outcome_over(node.head, leaf(terms, id, assign), args)),
     }
 }
 

@@ -5,7 +5,6 @@ use Rattle.nz_spec.specs.Elaboration.{takes, operator_head}
 use Rattle.nz_term.specs.Constants.{sort_of}
 use Rattle.nz_elaborate.specs.Typed.{StandsFor}
 use Rattle.nz_elaborate.specs.Operators.{operator_meaning, operands_meaning}
-use Rattle.nz_elaborate.proofs.Growing.{grows_more}
 use Rattle.nz_elaborate.proofs.Applying.{refused_count, refused_operands, applied_to}
 use Rattle.nz_elaborate.proofs.apply.apply.Goals as goal
 
@@ -21,10 +20,10 @@ returns-in_default-clause-refused c = λ err ts typed.
     (c.in_default.ensures.sort c.args.terms.now ts typed) typed
 
 pub returns-in_err-id-clause-grows : goal.returns-in_err-id-clause-grows
-returns-in_err-id-clause-grows c = grows_more _ _ _ c.in_ok-kids.ensures.grows c.in_err-id.ensures.grows
+returns-in_err-id-clause-grows c = c.grows_twice.ensures.twice _ _ _ c.in_ok-kids.ensures.grows c.in_err-id.ensures.grows
 
 pub returns-clause-grows : goal.returns-clause-grows
-returns-clause-grows c = grows_more _ _ _ c.in_ok-kids.ensures.grows c.in_ok-id.ensures.grows
+returns-clause-grows c = c.grows_twice.ensures.twice _ _ _ c.in_ok-kids.ensures.grows c.in_ok-id.ensures.grows
 
 pub returns-clause-applied : goal.returns-clause-applied
 returns-clause-applied c = λ ts typed.

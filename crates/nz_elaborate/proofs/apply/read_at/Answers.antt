@@ -1,6 +1,6 @@
 use Rattle.std.proofs.Common.{◌≤◌, length, refl, arith}
 use Rattle.nz_term.specs.Constants.{sort_of}
-use Rattle.nz_elaborate.proofs.Growing.{grows_more, push_within}
+use Rattle.nz_elaborate.proofs.Growing.{push_within}
 use Rattle.nz_elaborate.proofs.Applying.{reading_next, reading_ends}
 use Rattle.nz_elaborate.proofs.apply.read_at.Goals as goal
 
@@ -12,7 +12,7 @@ loop-argument-preserved c =
     let here = c.in_ok-id.ensures in
     let items = c.in_ok-push.ensures.items in
     record {
-      grown = grows_more _ _ _ before.grown here.grows;
+      grown = c.grows_twice.ensures.twice _ _ _ before.grown here.grows;
       within = push_within _ _ c.loop-argument.ids.items _ c.in_ok-id.id here.grows before.within here.within items;
       reading = λ ts typed.
           reading_next (sort_of c.args.sort) old c.loop-argument.terms c.read_one.new.terms _ _ c.args.arguments.now c.loop-argument.ids.items _ i c.in_ok-id.id ts
@@ -20,7 +20,7 @@ loop-argument-preserved c =
     }
 
 pub returns-in_err-id-clause-grows : goal.returns-in_err-id-clause-grows
-returns-in_err-id-clause-grows c = grows_more _ _ _ c.loop-argument.invariant.grown c.in_err-id.ensures.grows
+returns-in_err-id-clause-grows c = c.grows_twice.ensures.twice _ _ _ c.loop-argument.invariant.grown c.in_err-id.ensures.grows
 
 pub returns-clause-read : goal.returns-clause-read
 returns-clause-read c = λ ts typed.

@@ -8,7 +8,7 @@ use Rattle.nz_spec.specs.Script.{is_unknown_sort, parameter_names, parameter_sor
 use Rattle.nz_term.specs.Constants.{sort_of}
 use Rattle.nz_elaborate.specs.Names.{named_by, is_operator_entry}
 use Rattle.nz_elaborate.specs.Faults.{fault_in, term_in_found}
-use Rattle.nz_elaborate.proofs.Growing.{grows_none, grows_more}
+use Rattle.nz_elaborate.proofs.Growing.{grows_none}
 use Rattle.nz_elaborate.proofs.Telling.{settles_none}
 use Rattle.nz_elaborate.proofs.Scoping.{BindLeads, empty_within, has_none, has_next, leads_start, bind_next, frame_within, found_bound_within}
 use Rattle.nz_elaborate.proofs.Defining.{parameters_start, parameters_next, parameters_end, parameters_turn}
@@ -44,7 +44,7 @@ loop-place-preserved c =
     let more : List Parameter = map parameter_view (drop (i + 1) ps) in
     let turn : rest ≡ record { name = p.name.now; sort = sort_view p.sort } ∷ more = parameters_turn ps i p c.loop-place-test.true c.index-parameters-place.is in
     record {
-      grown = grows_more _ _ _ before.grown here.grows;
+      grown = c.grows_twice.ensures.twice _ _ _ before.grown here.grows;
       within = frame_within c.loop-place.terms c.parameter_term.new.terms frame later p.name.now (term_in_found found) here.grows before.within
           (found_bound_within c.parameter_term.new.terms found here.within) more_bound;
       binds = has_next (parameter_names all) (parameter_names rest) (parameter_names more) frame later p.name.now (term_in_found found) (ap parameter_names turn) more_bound before.binds;

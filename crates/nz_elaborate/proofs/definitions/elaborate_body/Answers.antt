@@ -13,7 +13,6 @@ use Rattle.nz_elaborate.specs.Definitions.{definition_unknown, definition_clash,
 use Rattle.nz_elaborate.proofs.Telling.{told_unknown, told_clash, ok_each}
 use Rattle.nz_elaborate.proofs.Scoping.{within_of_scope, within_kept, within_push, pushed}
 use Rattle.nz_elaborate.proofs.Answering.{no_term_answered}
-use Rattle.nz_elaborate.proofs.Growing.{grows_more}
 use Rattle.nz_elaborate.proofs.Defining.{definition_told, definition_is, parameters_sorted, body_answered}
 use Rattle.nz_elaborate.proofs.definitions.elaborate_body.Goals as goal
 
@@ -82,10 +81,10 @@ returns-clause-found c =
     c.in_ok-bound.ensures.names c.in_ok-bound.ensures.found))
 
 pub returns-in_err-found-clause-grows : goal.returns-in_err-found-clause-grows
-returns-in_err-found-clause-grows c = grows_more _ _ _ c.in_ok-bound.ensures.grows c.in_err-found.ensures.grows
+returns-in_err-found-clause-grows c = c.grows_twice.ensures.twice _ _ _ c.in_ok-bound.ensures.grows c.in_err-found.ensures.grows
 
 pub returns-in_err-found-2-clause-grows : goal.returns-in_err-found-2-clause-grows
-returns-in_err-found-2-clause-grows c = grows_more _ _ _ c.in_ok-bound.ensures.grows (grows_more _ _ _ c.in_ok-found.ensures.grows c.in_err-found-2.ensures.grows)
+returns-in_err-found-2-clause-grows c = c.grows_twice.ensures.twice _ _ _ c.in_ok-bound.ensures.grows (c.grows_twice.ensures.twice _ _ _ c.in_ok-found.ensures.grows c.in_err-found-2.ensures.grows)
 
 pub returns-clause-grows : goal.returns-clause-grows
-returns-clause-grows c = grows_more _ _ _ c.in_ok-bound.ensures.grows (grows_more _ _ _ c.in_ok-found.ensures.grows c.in_ok-found-2.ensures.grows)
+returns-clause-grows c = c.grows_twice.ensures.twice _ _ _ c.in_ok-bound.ensures.grows (c.grows_twice.ensures.twice _ _ _ c.in_ok-found.ensures.grows c.in_ok-found-2.ensures.grows)

@@ -9,7 +9,7 @@ use Rattle.nz_spec.specs.Elaboration.{term_of, terms_of, bindings_of}
 use Rattle.nz_elaborate.specs.Names.{named_by, bound_in, first_of, is_operator_entry}
 use Rattle.nz_elaborate.specs.Elaborate.{application_of, StandAs}
 use Rattle.nz_elaborate.specs.Faults.{joined, clash_fault, fault_in, term_in_found, TellsNames, Settles}
-use Rattle.nz_elaborate.proofs.Growing.{grows_none, grows_more}
+use Rattle.nz_elaborate.proofs.Growing.{grows_none}
 use Rattle.nz_elaborate.proofs.Sizes.{expression_size, expressions_size, locals_size, item_smaller, local_smaller}
 use Rattle.nz_elaborate.proofs.Telling.{Leads, leads_next, leads_none, settles_none, tells_both, tells_use}
 use Rattle.nz_elaborate.proofs.Scoping.{BindLeads, within_here, within_kept, within_push, names_push, pushed, has_none, has_next, leads_start, bind_next, frame_within, empty_within, found_bound_within}
@@ -25,7 +25,7 @@ expression_terms-loop-expression-preserved t c =
     let found = c.in_ok-found.found in
     let turn : seen (drop i es) ≡ expressions (view c.expression-item.result) (seen (drop (i + 1) es)) = seen_turn view es i c.expression-item.result c.loop-expression-test.true c.expression-item.is in
     record {
-      grown = grows_more _ _ _ before.grown here.grows;
+      grown = c.grows_twice.ensures.twice _ _ _ before.grown here.grows;
       frames = here.frames ∙ before.frames;
       within = all_within c.loop-expression.terms c.expression_term.new.terms c.loop-expression.all.terms.items c.add.new.self.terms.items found here.grows before.within here.within
           c.in_ok-add.ensures.terms;
@@ -164,7 +164,7 @@ bind_all-expression_term-requires t c =
     )
 
 pub bind_all-returns-in_err-found-clause-grows : goal.bind_all-returns-in_err-found-clause-grows
-bind_all-returns-in_err-found-clause-grows t c = grows_more _ _ _ c.loop-local.invariant.grown c.in_err-found.ensures.grows
+bind_all-returns-in_err-found-clause-grows t c = c.grows_twice.ensures.twice _ _ _ c.loop-local.invariant.grown c.in_err-found.ensures.grows
 
 pub bind_all-loop-local-preserved : goal.bind_all-loop-local-preserved
 bind_all-loop-local-preserved t c =
@@ -184,7 +184,7 @@ bind_all-loop-local-preserved t c =
     let shape : local_view local ≡ (local.name.now, view local.term) = search (rules, the_lemmas, fold-roll-Expression, fold_out-Expression, fold-roll-Local, fold_out-Local) in
     let turn : seen_locals (drop i ls) ≡ locals local.name.now (view local.term) rest = locals_turn ls i local local.name.now (view local.term) c.loop-local-test.true c.local-item.is shape in
     record {
-      grown = grows_more _ _ _ before.grown here.grows;
+      grown = c.grows_twice.ensures.twice _ _ _ before.grown here.grows;
       frames = here.frames ∙ before.frames;
       within = frame_within c.loop-local.terms c.expression_term.new.terms frame later local.name.now (term_in_found found) here.grows before.within
           (found_bound_within c.expression_term.new.terms found here.within) bound_more;
@@ -220,7 +220,7 @@ expression_term-returns-in-Let-clause-found t c =
     rw shape c.let_term.ensures.found
 
 pub let_term-returns-in_err-found-clause-grows : goal.let_term-returns-in_err-found-clause-grows
-let_term-returns-in_err-found-clause-grows t c = grows_more _ _ _ c.in_ok-frame.ensures.grows c.in_err-found.ensures.grows
+let_term-returns-in_err-found-clause-grows t c = c.grows_twice.ensures.twice _ _ _ c.in_ok-frame.ensures.grows c.in_err-found.ensures.grows
 
 pub let_term-returns-clause-grows : goal.let_term-returns-clause-grows
-let_term-returns-clause-grows t c = grows_more _ _ _ c.in_ok-frame.ensures.grows c.in_ok-found.ensures.grows
+let_term-returns-clause-grows t c = c.grows_twice.ensures.twice _ _ _ c.in_ok-frame.ensures.grows c.in_ok-found.ensures.grows

@@ -10,7 +10,7 @@ use Rattle.nz_elaborate.specs.declared.typed.Typed.{Typed}
 use Rattle.nz_elaborate.specs.Names.{IsScope}
 use Rattle.nz_elaborate.specs.Elaborate.{StandAs, IsWellNamed, are_unknown_in}
 use Rattle.nz_elaborate.specs.Faults.{fault_in}
-use Rattle.nz_elaborate.proofs.Growing.{grows_none, grows_more}
+use Rattle.nz_elaborate.proofs.Growing.{grows_none}
 use Rattle.nz_elaborate.proofs.Telling.{Leads, leads_none, leads_next, settles_none, told_unknown, told_clash, told_sort, told_fine, ok_each}
 use Rattle.nz_elaborate.proofs.Scoping.{within_of_scope, within_here}
 use Rattle.nz_elaborate.proofs.Elaborating.{question_term, names_here, seen_turn, terms_start, terms_next, scope_here}
@@ -48,7 +48,7 @@ loop-question-preserved c =
     let more : Expressions = expressions_from (map question_term (drop (i + 1) qs)) in
     let turn : rest ≡ expressions e more = seen_turn question_term qs i c.question-item.result c.loop-question-test.true c.question-item.is in
     record {
-      grown = grows_more _ _ _ before.grown here.grows;
+      grown = c.grows_twice.ensures.twice _ _ _ before.grown here.grows;
       frames = here.frames ∙ before.frames;
       names = λ is_live bound k.
           leads_next c.loop-question.all.fault (fault_in found) c.add.new.self.fault (has_unknown is_live bound e) (has_clash e) (have_unknown is_live bound more) (have_clash more)

@@ -1,6 +1,6 @@
 use Rattle.std.proofs.Common.{arith}
 use Rattle.std.proofs.lemmas.Result.{err_from_is_err_and}
-use Rattle.nz_elaborate.proofs.Growing.{grows_more, push_within}
+use Rattle.nz_elaborate.proofs.Growing.{push_within}
 use Rattle.nz_elaborate.proofs.Expanding.{placed_next, placed_none, placed_all, placed_count}
 use Rattle.nz_elaborate.proofs.meanings.place_all.Goals as goal
 
@@ -16,7 +16,7 @@ pub loop-i-preserved : goal.loop-i-preserved
 loop-i-preserved c =
     let before = c.loop-i.invariant in
     record {
-      grown = grows_more _ _ _ before.grown c.in_ok-id.ensures.grows;
+      grown = c.grows_twice.ensures.twice _ _ _ before.grown c.in_ok-id.ensures.grows;
       within = push_within c.loop-i.terms c.place.new.terms c.loop-i.ids.items c.push.new.self.items c.in_ok-id.id c.in_ok-id.ensures.grows before.within c.in_ok-id.ensures.within c.in_ok-push.ensures.items;
       placed = placed_next c.args.terms.now c.loop-i.terms c.place.new.terms c.args.sorts.now c.args.arguments.now c.loop-i.i c.in_ok-id.id _ _ c.loop-i.ids.items c.push.new.self.items
           before.grown c.in_ok-id.ensures.grows (omega arith) (omega arith) c.in_ok-push.ensures.items before.placed c.in_ok-id.ensures.placed;

@@ -5,7 +5,7 @@ use Rattle.nz_spec.specs.Normal.{neighbours_of, joined_by}
 use Rattle.nz_spec.specs.Table.{term_in, terms_at}
 use Rattle.nz_elaborate.specs.Typed.{StandsFor}
 use Rattle.nz_elaborate.specs.Links.{link_pair}
-use Rattle.nz_elaborate.proofs.Growing.{grows_more, push_within}
+use Rattle.nz_elaborate.proofs.Growing.{push_within}
 use Rattle.nz_elaborate.proofs.Normalizing.{neighbours_next, neighbours_all}
 use Rattle.nz_elaborate.proofs.normal.chained.Goals as goal
 
@@ -20,7 +20,7 @@ loop-i-preserved c =
     let first : get_or kids i 0 < length old = All-get_or (λ k. k < length old) kids i 0 (omega arith) c.requires.within in
     let second : get_or kids (suc i) 0 < length old = All-get_or (λ k. k < length old) kids (suc i) 0 below c.requires.within in
     record {
-      grown = grows_more _ _ _ c.loop-i.invariant.grown here.grows;
+      grown = c.grows_twice.ensures.twice _ _ _ c.loop-i.invariant.grown here.grows;
       within = push_within _ _ c.loop-i.links.items _ c.in_ok-made.made here.grows c.loop-i.invariant.within here.made.within items;
       made = neighbours_next (link_pair c.args.link) old c.loop-i.terms c.linked.new.terms kids c.loop-i.links.items _ i c.in_ok-made.made c.loop-i.invariant.grown here.grows below first second
           c.loop-i.invariant.within here.made items

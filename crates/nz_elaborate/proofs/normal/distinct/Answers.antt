@@ -4,7 +4,6 @@ use Rattle.nz_spec.specs.Term.{conjunction}
 use Rattle.nz_spec.specs.Normal.{disequations_onto, disequations_of, joined_by}
 use Rattle.nz_spec.specs.Table.{term_in, terms_at}
 use Rattle.nz_elaborate.specs.Typed.{StandsFor, terms_before}
-use Rattle.nz_elaborate.proofs.Growing.{grows_more}
 use Rattle.nz_elaborate.proofs.Normalizing.{disequations_next, disequations_all}
 use Rattle.nz_elaborate.proofs.normal.distinct.Goals as goal
 
@@ -19,7 +18,7 @@ loop-i-preserved c =
     let range : take (length kids - (i + 1)) (drop (i + 1) kids) ≡ drop (i + 1) kids = take_rest kids (i + 1) in
     let here = c.in_ok-add_disequations.ensures in
     record {
-      grown = grows_more _ _ _ c.loop-i.invariant.grown here.grows;
+      grown = c.grows_twice.ensures.twice _ _ _ c.loop-i.invariant.grown here.grows;
       within = here.within;
       made = disequations_next c.args.terms.now mid new kids ids items i c.loop-i.invariant.grown (omega arith) c.requires.within
           (λ more. here.added more ∙ ap (λ l. terms_before (term_in mid) ids (disequations_onto (term_in mid (get_or kids i 0)) (terms_at (term_in mid) l) more)) range)

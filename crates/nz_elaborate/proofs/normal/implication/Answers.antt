@@ -3,7 +3,6 @@ use Rattle.std.proofs.lemmas.List.Elements.{All-get_or}
 use Rattle.nz_spec.specs.Normal.{implication_of}
 use Rattle.nz_spec.specs.Table.{term_in, terms_at}
 use Rattle.nz_elaborate.specs.Typed.{StandsFor}
-use Rattle.nz_elaborate.proofs.Growing.{grows_more}
 use Rattle.nz_elaborate.proofs.Normalizing.{implication_next}
 use Rattle.nz_elaborate.proofs.normal.implication.Goals as goal
 
@@ -20,7 +19,7 @@ loop-i-preserved c =
     let then : StandsFor c.loop-i.terms c.loop-i.conclusion (implication_of (terms_at (term_in old) (drop (suc i) kids))) =
     subst (λ n. StandsFor c.loop-i.terms c.loop-i.conclusion (implication_of (terms_at (term_in old) (drop n kids)))) next c.loop-i.invariant.made in
     record {
-      grown = grows_more _ _ _ (grows_more _ _ _ c.loop-i.invariant.grown first.grows) second.grows;
+      grown = c.grows_twice.ensures.twice _ _ _ (c.grows_twice.ensures.twice _ _ _ c.loop-i.invariant.grown first.grows) second.grows;
       made = implication_next old c.loop-i.terms c.make-in-loop-i.new.terms c.make-in-loop-i-2.new.terms kids i c.in_ok-denied.denied c.loop-i.conclusion c.in_ok-conclusion.conclusion
           c.loop-i.invariant.grown first.grows below within first.made then second.made;
     }

@@ -1,9 +1,10 @@
-use Rattle.std.proofs.Common.{◌≡◌, sym, ap, ◌∙◌}
+use Rattle.std.proofs.Common.{◌≡◌, ◌==◌, sym, ap, ◌∙◌}
+use Rattle.nz_spec.specs.Outside.{counted}
 use Rattle.nz_spec.specs.Run.{status_of}
 use Rattle.nz_reply.specs.Journals.{journal_of}
 use Rattle.nz_session.specs.Serve.{kept_by}
 use Rattle.nz_run.specs.Ending.{is_cut, status_by}
-use Rattle.nz_run.proofs.Endings.{answered, broken_off, interrupted, reads_told}
+use Rattle.nz_run.proofs.Endings.{answered, broken_off, interrupted, read_status, reads_told, write_status}
 use Rattle.nz_run.proofs.Turning.{begins}
 use Rattle.nz_run.proofs.program.run.Goals as goal
 
@@ -40,3 +41,17 @@ pub returns-clause-reads : goal.returns-clause-reads
 returns-clause-reads g c =
     λ e. (let ks = journal_of c.into_kept-journal.result.1 c.into_kept-journal.result.0 in
     c.serve-end.ensures.reads (reads_told c.serve-end.result ks (sym (c.status_at-status.ensures.status c.into_kept-journal.result.1) ∙ e)))
+
+pub returns-clause-input_faults : goal.returns-clause-input_faults
+returns-clause-input_faults g c =
+    let ks = journal_of c.into_kept-journal.result.1 c.into_kept-journal.result.0 in
+    let status : c.status_at-status.result ≡ status_by c.serve-end.result ks = c.status_at-status.ensures.status c.into_kept-journal.result.1 in
+    c.serve-end.ensures.input_faults
+    ∙ ap (λ b. counted g.S.Source.last b (g.S.Source.faults c.args.input.now)) (sym (ap (λ n. n == 3) status ∙ read_status c.serve-end.result ks))
+
+pub returns-clause-output_faults : goal.returns-clause-output_faults
+returns-clause-output_faults g c =
+    let ks = journal_of c.into_kept-journal.result.1 c.into_kept-journal.result.0 in
+    let status : c.status_at-status.result ≡ status_by c.serve-end.result ks = c.status_at-status.ensures.status c.into_kept-journal.result.1 in
+    c.serve-end.ensures.output_faults
+    ∙ ap (λ b. counted g.K.Sink.last b (g.K.Sink.faults c.args.out.now)) (sym (ap (λ n. n == 4) status ∙ write_status c.serve-end.result ks))

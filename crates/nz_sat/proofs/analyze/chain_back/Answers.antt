@@ -19,10 +19,10 @@ pub loop-i-init : goal.loop-i-init
 loop-i-init c =
     let s = c.args.log.now in
     let es = c.args.trail.now.entries in
-    let made = counted_over es _ (literals_at s c.args.dead) _ (depth es) _ _ _ c.clause.ensures.literals c.level-level.ensures.level c.mark-left.ensures.marks in
-    subst (λ (ks : List Link). IsOnWayBack s es c.args.dead c.len-count.result c.mark-left.new.seen ks c.mark-left.result) (sym c.new-links.ensures.items)
-    (way_starts s c.args.trail.now.size es c.len-count.ensures.trail c.args.dead c.args.seen.now c.mark-left.new.seen c.mark-left.result c.len-count.result
-    c.len-count.ensures.count c.requires.dead c.requires.unmarked made c.requires.two)
+    let made = counted_over es _ (literals_at s c.args.falsified) _ (depth es) _ _ _ c.clause.ensures.literals c.level-level.ensures.level c.mark-left.ensures.marks in
+    subst (λ (ks : List Link). IsOnWayBack s es c.args.falsified c.len-count.result c.mark-left.new.seen ks c.mark-left.result) (sym c.new-links.ensures.items)
+    (way_starts s c.args.trail.now.size es c.len-count.ensures.trail c.args.falsified c.args.seen.now c.mark-left.new.seen c.mark-left.result c.len-count.result
+    c.len-count.ensures.count c.requires.falsified c.requires.unmarked made c.requires.two)
 
 pub bounds-seen-entry : goal.bounds-seen-entry
 bounds-seen-entry c =
@@ -37,8 +37,8 @@ overflow_add-left c =
     let e = c.entry-entry.result in
     let reason : e.reason ≡ Some c.in-Some.clause = search rules in
     let made = counted_over es _ (literals_at s c.in-Some.clause) _ (depth es) _ _ _ c.clause-in-Some.ensures.literals c.level-level.ensures.level c.mark-left-in-Some.ensures.marks in
-    let next = way_on s c.args.trail.now.size es c.len-count.ensures.trail c.args.dead c.loop-i.i (c.loop-i.i - 1) (omega arith) e c.entry-entry.ensures.entry
-    c.loop-i.seen c.loop-i.links.items c.loop-i.left c.loop-i.invariant c.if-seen-entry.true c.in-Some.clause reason
+    let next = way_on s c.args.trail.now.size es c.len-count.ensures.trail c.args.falsified c.loop-i.i (c.loop-i.i - 1) (omega arith) e c.entry-entry.ensures.entry
+    c.loop-i.seen c.loop-i.links.items c.loop-i.left c.loop-i.invariant c.if-seen-entry.true c.tells_lits.ensures.tells c.in-Some.clause reason
     (c.requires.implied (c.loop-i.i - 1) e c.entry-entry.ensures.entry) c.mark-left-in-Some.new.seen c.mark-left-in-Some.result made c.if-left-gt1.true in
     let n = c.loop-i.i - 1 in
     let less = count_by-le-length (is_marked_of c.mark-left-in-Some.new.seen (depth es)) (take n es) in
@@ -51,17 +51,17 @@ loop-i-preserved-then-left-gt1 c =
     let e = c.entry-entry.result in
     let reason : e.reason ≡ Some c.in-Some.clause = search rules in
     let made = counted_over es _ (literals_at s c.in-Some.clause) _ (depth es) _ _ _ c.clause-in-Some.ensures.literals c.level-level.ensures.level c.mark-left-in-Some.ensures.marks in
-    let next = way_on s c.args.trail.now.size es c.len-count.ensures.trail c.args.dead c.loop-i.i (c.loop-i.i - 1) (omega arith) e c.entry-entry.ensures.entry
-    c.loop-i.seen c.loop-i.links.items c.loop-i.left c.loop-i.invariant c.if-seen-entry.true c.in-Some.clause reason
+    let next = way_on s c.args.trail.now.size es c.len-count.ensures.trail c.args.falsified c.loop-i.i (c.loop-i.i - 1) (omega arith) e c.entry-entry.ensures.entry
+    c.loop-i.seen c.loop-i.links.items c.loop-i.left c.loop-i.invariant c.if-seen-entry.true c.tells_lits.ensures.tells c.in-Some.clause reason
     (c.requires.implied (c.loop-i.i - 1) e c.entry-entry.ensures.entry) c.mark-left-in-Some.new.seen c.mark-left-in-Some.result made c.if-left-gt1.true in
     let longer : c.push.new.self.items ≡ c.loop-i.links.items ++ link_of e c.in-Some.clause ∷ [] =
     c.in_ok-push-in-Some.ensures.items ∙ ap (λ (l : Lit). c.loop-i.links.items ++ record { clause = c.in-Some.clause; literal = l } ∷ []) c.not-literal.ensures.negation in
-    subst (λ (ks : List Link). IsOnWayBack s es c.args.dead (c.loop-i.i - 1) c.mark-left-in-Some.new.seen ks (c.loop-i.left - 1 + c.mark-left-in-Some.result))
+    subst (λ (ks : List Link). IsOnWayBack s es c.args.falsified (c.loop-i.i - 1) c.mark-left-in-Some.new.seen ks (c.loop-i.left - 1 + c.mark-left-in-Some.result))
     (sym longer) next
 
 pub returns-in_default : goal.returns-in_default
 returns-in_default c =
-    let ends = way_ends c.args.log.now c.args.trail.now.size c.args.trail.now.entries c.len-count.ensures.trail c.args.dead c.loop-i.i (c.loop-i.i - 1) (omega arith) c.entry-entry.result
+    let ends = way_ends c.args.log.now c.args.trail.now.size c.args.trail.now.entries c.len-count.ensures.trail c.args.falsified c.loop-i.i (c.loop-i.i - 1) (omega arith) c.entry-entry.result
     c.entry-entry.ensures.entry c.loop-i.seen c.loop-i.links.items c.loop-i.left c.loop-i.invariant c.if-seen-entry.true (record { links = c.loop-i.links; literal = c.not-literal.result })
     refl c.not-literal.ensures.negation c.requires.decided in
     record {
@@ -74,9 +74,9 @@ returns-in_default c =
 
 pub loop-i-preserved : goal.loop-i-preserved
 loop-i-preserved c =
-    way_past c.args.log.now c.args.trail.now.size c.args.trail.now.entries c.len-count.ensures.trail c.args.dead c.loop-i.i (c.loop-i.i - 1) (omega arith) c.entry-entry.result
+    way_past c.args.log.now c.args.trail.now.size c.args.trail.now.entries c.len-count.ensures.trail c.args.falsified c.loop-i.i (c.loop-i.i - 1) (omega arith) c.entry-entry.result
     c.entry-entry.ensures.entry c.loop-i.seen c.loop-i.links.items c.loop-i.left c.loop-i.invariant c.if-seen-entry.false
 
 pub unreachable-requires : goal.unreachable-requires
 unreachable-requires c =
-    way_over c.args.log.now c.args.trail.now.entries c.args.dead c.loop-i.seen c.loop-i.links.items c.loop-i.left c.loop-i.i (omega arith) c.loop-i.invariant
+    way_over c.args.log.now c.args.trail.now.entries c.args.falsified c.loop-i.seen c.loop-i.links.items c.loop-i.left c.loop-i.i (omega arith) c.loop-i.invariant

@@ -12,10 +12,10 @@ loop-i-init c =
     let s = c.args.log.now in
     let es = c.args.trail.now.entries in
     let new = c.mark.new.seen in
-    let made : MarksFalse es (literals_at s c.args.dead) c.args.seen.now new =
+    let made : MarksFalse es (literals_at s c.args.falsified) c.args.seen.now new =
     subst (λ (l : List Lit). MarksFalse es l c.args.seen.now new) c.clause.ensures.literals c.mark.ensures.marks.marks in
-    subst (IsOnWayToAssumed s es c.args.dead c.len-count.result new) (sym c.new-links.ensures.items)
-    (assumed_starts s es c.args.dead c.len-count.result c.len-count.ensures.count c.args.seen.now new made)
+    subst (IsOnWayToAssumed s es c.args.falsified c.len-count.result new) (sym c.new-links.ensures.items)
+    (assumed_starts s es c.args.falsified c.len-count.result c.len-count.ensures.count c.args.seen.now new made)
 
 pub bounds-seen-entry : goal.bounds-seen-entry
 bounds-seen-entry c =
@@ -34,20 +34,20 @@ loop-i-preserved-in-Continue-1 c =
     subst (λ (l : List Lit). MarksFalse es l c.loop-i.seen new) c.clause-in-Some.ensures.literals c.mark-in-Some.ensures.marks.marks in
     let longer : c.push.new.self.items ≡ c.loop-i.links.items ++ link_of e c.in-Some.clause ∷ [] =
     c.in_ok-push.ensures.items ∙ ap (λ (l : Lit). c.loop-i.links.items ++ record { clause = c.in-Some.clause; literal = l } ∷ []) c.not.ensures.negation in
-    subst (IsOnWayToAssumed s es c.args.dead i new) (sym longer)
-    (assumed_on s c.args.trail.now.size es c.len-count.ensures.trail c.args.dead c.loop-i.i i (omega arith) e c.entry-entry.ensures.entry c.loop-i.seen c.loop-i.links.items
-    c.loop-i.invariant c.in-Some.clause reason (c.requires.implied i e c.entry-entry.ensures.entry) new made)
+    subst (IsOnWayToAssumed s es c.args.falsified i new) (sym longer)
+    (assumed_on s c.args.trail.now.size es c.len-count.ensures.trail c.args.falsified c.loop-i.i i (omega arith) e c.entry-entry.ensures.entry c.loop-i.seen c.loop-i.links.items
+    c.loop-i.invariant c.tells_lits.ensures.tells c.in-Some.clause reason (c.requires.implied i e c.entry-entry.ensures.entry) new made)
 
 pub loop-i-preserved-in_default : goal.loop-i-preserved-in_default
 loop-i-preserved-in_default c =
-    assumed_here c.args.log.now c.args.trail.now.size c.args.trail.now.entries c.len-count.ensures.trail c.args.dead c.loop-i.i (c.loop-i.i - 1) (omega arith)
+    assumed_here c.args.log.now c.args.trail.now.size c.args.trail.now.entries c.len-count.ensures.trail c.args.falsified c.loop-i.i (c.loop-i.i - 1) (omega arith)
     c.entry-entry.result c.entry-entry.ensures.entry c.loop-i.seen c.loop-i.links.items c.loop-i.invariant c.in_default.is c.requires.undecided
 
 pub loop-i-preserved : goal.loop-i-preserved
 loop-i-preserved c =
-    assumed_past c.args.log.now c.args.trail.now.size c.args.trail.now.entries c.len-count.ensures.trail c.args.dead c.loop-i.i (c.loop-i.i - 1) (omega arith)
+    assumed_past c.args.log.now c.args.trail.now.size c.args.trail.now.entries c.len-count.ensures.trail c.args.falsified c.loop-i.i (c.loop-i.i - 1) (omega arith)
     c.entry-entry.result c.entry-entry.ensures.entry c.loop-i.seen c.loop-i.links.items c.loop-i.invariant c.if-seen-entry.false
 
 pub returns-clause-refutes : goal.returns-clause-refutes
 returns-clause-refutes c =
-    assumed_ends c.args.log.now c.args.trail.now.entries c.args.dead c.loop-i.i (omega arith) c.loop-i.seen c.loop-i.links.items c.loop-i.invariant
+    assumed_ends c.args.log.now c.args.trail.now.entries c.args.falsified c.loop-i.i (omega arith) c.loop-i.seen c.loop-i.links.items c.loop-i.invariant

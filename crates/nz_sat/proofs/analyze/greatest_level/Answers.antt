@@ -4,7 +4,7 @@ use Rattle.std.proofs.lemmas.List.{take_more}
 use Rattle.nz_log.specs.declared.lits.Lit.{Lit}
 use Rattle.nz_sat.specs.Conflicts.{IsGreatest}
 use Rattle.nz_sat.specs.Trails.{level_on}
-use Rattle.nz_sat.proofs.Lessons.{greater_of, greatest_grown}
+use Rattle.nz_sat.proofs.LearnedClauses.{greater_of, greatest_grown}
 use Rattle.nz_sat.proofs.analyze.greatest_level.Goals as goal
 
 pub loop-literal-preserved : goal.loop-literal-preserved

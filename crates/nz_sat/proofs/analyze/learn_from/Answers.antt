@@ -1,11 +1,11 @@
--- The clause of the chain is in the log, and is the lesson.
+-- The clause of the chain is in the log, and is the learned one.
 use Rattle.std.proofs.Common.{◌<◌, List, length, subst, sym, ◌∙◌}
 use Rattle.std.specs.Prelude.{All, Contains}
 use Rattle.nz_log.specs.declared.lits.Lit.{Lit}
 use Rattle.nz_log.specs.declared.origins.Link.{Link}
 use Rattle.nz_log.specs.Logs.{Puts, chain_entry}
 use Rattle.nz_sat.specs.Conflicts.{IsGreatestBut}
-use Rattle.nz_sat.proofs.Lessons.{all_from, links_within, literals_are, literals_within, taught}
+use Rattle.nz_sat.proofs.LearnedClauses.{all_from, links_within, literals_are, literals_within, taught}
 use Rattle.nz_sat.proofs.analyze.learn_from.Goals as goal
 
 pub unmark-requires : goal.unmark-requires
@@ -15,12 +15,12 @@ unmark-requires c =
     let es = c.args.trail.now.entries in
     let marks = c.chain_back.new.seen in
     let chain = c.in_ok-links.field-0 in
-    let puts : Puts old c.in_ok-clause.clause (chain_entry old c.args.dead chain.links.items) new =
-    subst (λ (ks : List Link). Puts old c.in_ok-clause.clause (chain_entry old c.args.dead ks) new) c.deref.ensures.value c.in_ok-clause.ensures.made in
-    let is = c.clause-literals.ensures.literals ∙ literals_are old new es c.args.dead marks chain c.in_ok-links.ensures.chain c.in_ok-clause.clause puts in
+    let puts : Puts old c.in_ok-clause.clause (chain_entry old c.args.falsified chain.links.items) new =
+    subst (λ (ks : List Link). Puts old c.in_ok-clause.clause (chain_entry old c.args.falsified ks) new) c.deref.ensures.value c.in_ok-clause.ensures.made in
+    let is = c.clause-literals.ensures.literals ∙ literals_are old new es c.args.falsified marks chain c.in_ok-links.ensures.chain c.in_ok-clause.clause puts in
     record {
       within = all_from (λ (m : Lit). m.term < length marks) c.clause-literals.result.now
-          (λ m has. literals_within old new es c.args.dead marks chain c.in_ok-links.ensures.chain m (subst (λ (l : List Lit). Contains l m) is has));
+          (λ m has. literals_within old new es c.args.falsified marks chain c.in_ok-links.ensures.chain m (subst (λ (l : List Lit). Contains l m) is has));
     }
 
 pub returns-clause-sound : goal.returns-clause-sound
@@ -31,14 +31,14 @@ returns-clause-sound c ns levels within order =
     (links_within c.args.log.now c.args.trail.now.entries (length ns) chain.links.items within c.in_ok-links.ensures.chain.links))
     order
 
-pub returns-clause-lesson : goal.returns-clause-lesson
-returns-clause-lesson c =
+pub returns-clause-learned : goal.returns-clause-learned
+returns-clause-learned c =
     let old = c.args.log.now in
     let new = c.chain.new.self in
     let es = c.args.trail.now.entries in
     let marks = c.chain_back.new.seen in
     let chain = c.in_ok-links.field-0 in
-    let puts : Puts old c.in_ok-clause.clause (chain_entry old c.args.dead chain.links.items) new =
-    subst (λ (ks : List Link). Puts old c.in_ok-clause.clause (chain_entry old c.args.dead ks) new) c.deref.ensures.value c.in_ok-clause.ensures.made in
+    let puts : Puts old c.in_ok-clause.clause (chain_entry old c.args.falsified chain.links.items) new =
+    subst (λ (ks : List Link). Puts old c.in_ok-clause.clause (chain_entry old c.args.falsified ks) new) c.deref.ensures.value c.in_ok-clause.ensures.made in
     let greatest = subst (λ (l : List Lit). IsGreatestBut es chain.literal l c.level_but-level.result) c.clause-literals.ensures.literals c.level_but-level.ensures.greatest in
-    taught old new es c.args.dead marks chain c.in_ok-links.ensures.chain c.in_ok-clause.clause puts c.level_but-level.result c.requires.decided greatest
+    taught old new es c.args.falsified marks chain c.in_ok-links.ensures.chain c.in_ok-clause.clause puts c.tells_lits.ensures.tells c.level_but-level.result c.requires.decided greatest

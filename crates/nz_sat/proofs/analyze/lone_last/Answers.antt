@@ -5,8 +5,8 @@ use Rattle.std.proofs.lemmas.List.Elements.{Contains-get_or}
 use Rattle.nz_log.specs.declared.lits.Lit.{Lit}
 use Rattle.nz_log.specs.Lits.{are_same_lit}
 use Rattle.nz_sat.specs.Trails.{depth, level_on}
-use Rattle.nz_sat.proofs.Clausal.{other_lit, same_lit}
-use Rattle.nz_sat.proofs.Lessons.{IsLone, lone_again, lone_end, lone_first, lone_low, lone_other}
+use Rattle.nz_sat.proofs.Clausal.{other_lit}
+use Rattle.nz_sat.proofs.LearnedClauses.{IsLone, lone_again, lone_end, lone_first, lone_low, lone_other}
 use Rattle.nz_sat.proofs.analyze.lone_last.Goals as goal
 use Rattle.nz_sat.proofs.analyze.lone_last.Goals.{then-level_of-last+in-Some+else-not-is, then-level_of-last+in-None, else-level_of-last}
 
@@ -23,7 +23,7 @@ returns-then-not-is c =
     let lone : IsLone es (take i cs) (Some other) = subst (IsLone es (take i cs)) c.in-Some.is c.loop-literal.invariant in
     let differ : are_same_lit other lit ≡ false = search rules in
     let last : level_on es lit.term ≡ depth es = sym c.level_of.ensures.level ∙ c.if-level_of-last.true ∙ c.level-last.ensures.level in
-    record { lone = lone_other es cs i other lit lone (Contains-get_or cs i blank (omega arith)) last (other_lit other lit differ) }
+    record { lone = lone_other es cs i other lit lone (Contains-get_or cs i blank (omega arith)) last (other_lit c.tells_lits.ensures.tells other lit differ) }
 
 pub loop-literal-preserved : goal.loop-literal-preserved
 loop-literal-preserved c =
@@ -40,7 +40,7 @@ loop-literal-preserved c =
           let other = w.in-Some.other in
           let lone : IsLone es before (Some other) = subst (IsLone es before) w.in-Some.is c.loop-literal.invariant in
           let same : are_same_lit other lit ≡ true = search rules in
-          subst P (sym w.lone-is) (lone_again es before lit other (same_lit other lit same) lone)
+          subst P (sym w.lone-is) (lone_again es before lit other (c.tells_lits.ensures.tells.same other lit same) lone)
       | then-level_of-last+in-None w ↦
           let lone : IsLone es before None = subst (IsLone es before) w.in-None.is c.loop-literal.invariant in
           let last : level_on es lit.term ≡ depth es = sym c.level_of.ensures.level ∙ w.if-level_of-last.true ∙ c.level-last.ensures.level in

@@ -13,16 +13,16 @@ pub bounds-seen-literal : goal.bounds-seen-literal
 bounds-seen-literal c =
     let l = get_or c.args.literals.now c.loop-literal.literal-index (record { term = 0; sign = false }) in
     let is : c.value.result ≡ Some false = search rules in
-    let dead : IsFalseOn c.args.trail.now.entries l = subst (HasValue c.args.trail.now.entries l) is c.value.ensures.value in
-    let within = false_within c.args.trail.now.size c.args.trail.now.entries c.requires.trail l dead in
+    let falsified : IsFalseOn c.args.trail.now.entries l = subst (HasValue c.args.trail.now.entries l) is c.value.ensures.value in
+    let within = false_within c.args.trail.now.size c.args.trail.now.entries c.requires.trail l falsified in
     omega (arith, within, c.requires.size)
 
 pub bounds-seen-literal-then-not-seen-literal : goal.bounds-seen-literal-then-not-seen-literal
 bounds-seen-literal-then-not-seen-literal c =
     let l = get_or c.args.literals.now c.loop-literal.literal-index (record { term = 0; sign = false }) in
     let is : c.value.result ≡ Some false = search rules in
-    let dead : IsFalseOn c.args.trail.now.entries l = subst (HasValue c.args.trail.now.entries l) is c.value.ensures.value in
-    let within = false_within c.args.trail.now.size c.args.trail.now.entries c.requires.trail l dead in
+    let falsified : IsFalseOn c.args.trail.now.entries l = subst (HasValue c.args.trail.now.entries l) is c.value.ensures.value in
+    let within = false_within c.args.trail.now.size c.args.trail.now.entries c.requires.trail l falsified in
     omega (arith, within, c.requires.size)
 
 pub loop-literal-preserved : goal.loop-literal-preserved
@@ -40,16 +40,16 @@ loop-literal-preserved c =
     elim c.if-eq.branch [
       | then-eq+then-not-seen-literal+then-level_of-level w ↦
           let is : c.value.result ≡ Some false = search rules in
-          let dead : IsFalseOn es l = subst (HasValue es l) is c.value.ensures.value in
-          let within = false_within c.args.trail.now.size es c.requires.trail l dead in
-          let set = counted_set es before l level old seen count c.args.trail.now.size c.requires.trail dead w.if-not-seen-literal.true (omega (arith, within, c.requires.size)) so_far in
+          let falsified : IsFalseOn es l = subst (HasValue es l) is c.value.ensures.value in
+          let within = false_within c.args.trail.now.size es c.requires.trail l falsified in
+          let set = counted_set es before l level old seen count c.args.trail.now.size c.requires.trail falsified w.if-not-seen-literal.true (omega (arith, within, c.requires.size)) so_far in
           let one : one_at level (level_on es l.term) ≡ 1 = ap one_if (eq-eqb _ level (sym w.level_of.ensures.level ∙ w.if-level_of-level.true)) in
           (omega (arith, c.loop-literal.invariant.0), counted_as es (take (i + 1) c.args.literals.now) (before ++ l ∷ []) level old c.if-eq.seen _ c.if-eq.count _ more w.seen-is (w.count-is ∙ ap (λ (n : ℕ). count + n) (sym one)) set)
       | then-eq+then-not-seen-literal+else-level_of-level w ↦
           let is : c.value.result ≡ Some false = search rules in
-          let dead : IsFalseOn es l = subst (HasValue es l) is c.value.ensures.value in
-          let within = false_within c.args.trail.now.size es c.requires.trail l dead in
-          let set = counted_set es before l level old seen count c.args.trail.now.size c.requires.trail dead w.if-not-seen-literal.true (omega (arith, within, c.requires.size)) so_far in
+          let falsified : IsFalseOn es l = subst (HasValue es l) is c.value.ensures.value in
+          let within = false_within c.args.trail.now.size es c.requires.trail l falsified in
+          let set = counted_set es before l level old seen count c.args.trail.now.size c.requires.trail falsified w.if-not-seen-literal.true (omega (arith, within, c.requires.size)) so_far in
           let none : one_at level (level_on es l.term) ≡ 0 = ap one_if (ne_eqb _ level (λ same. w.if-level_of-level.false (w.level_of.ensures.level ∙ same))) in
           let zero_more : c.if-eq.count ≡ count + 0 = omega (arith, w.count-is) in
           (omega (arith, c.loop-literal.invariant.0), counted_as es (take (i + 1) c.args.literals.now) (before ++ l ∷ []) level old c.if-eq.seen _ c.if-eq.count _ more w.seen-is (zero_more ∙ ap (λ (n : ℕ). count + n) (sym none)) set)
@@ -57,13 +57,13 @@ loop-literal-preserved c =
           elim w.else-eq.branch [
             | else-eq-via-then-eq+else-not-seen-literal u ↦ (
               omega (arith, c.loop-literal.invariant.0),
-              counted_as es (take (i + 1) c.args.literals.now) (before ++ l ∷ []) level old c.if-eq.seen _ c.if-eq.count _ more w.seen-is w.count-is (counted_same es before l level old seen count (λ dead. u.if-not-seen-literal.false) so_far),
+              counted_as es (take (i + 1) c.args.literals.now) (before ++ l ∷ []) level old c.if-eq.seen _ c.if-eq.count _ more w.seen-is w.count-is (counted_same es before l level old seen count (λ falsified. u.if-not-seen-literal.false) so_far),
             )
             | else-eq-via-else-eq u ↦
                 let other : c.value.result ≡ Some false → false ≡ true = λ is. u.if-eq.ensures ∙ ap (λ o. option_eq beq o (Some false)) is in (
                   omega (arith, c.loop-literal.invariant.0),
                   counted_as es (take (i + 1) c.args.literals.now) (before ++ l ∷ []) level old c.if-eq.seen _ c.if-eq.count _ more w.seen-is w.count-is
-                      (counted_same es before l level old seen count (λ dead. absurd (true≢false (sym (other (told_false es l c.value.result c.value.ensures.value dead))))) so_far),
+                      (counted_same es before l level old seen count (λ falsified. absurd (true≢false (sym (other (told_false es l c.value.result c.value.ensures.value falsified))))) so_far),
                 )
           ]
     ]

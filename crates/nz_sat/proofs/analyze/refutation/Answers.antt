@@ -5,7 +5,7 @@ use Rattle.std.proofs.lemmas.List.{nil_from_length}
 use Rattle.nz_log.specs.declared.origins.Link.{Link}
 use Rattle.nz_log.specs.Logs.{chained, literals_at}
 use Rattle.nz_sat.specs.Conflicts.{RefutesFrom}
-use Rattle.nz_sat.proofs.Lessons.{links_within}
+use Rattle.nz_sat.proofs.LearnedClauses.{links_within}
 use Rattle.nz_sat.proofs.analyze.refutation.Goals as goal
 
 pub returns-then-is_empty-clause-refutes : goal.returns-then-is_empty-clause-refutes
@@ -13,7 +13,7 @@ returns-then-is_empty-clause-refutes c =
     let s = c.args.log.now in
     let es = c.args.trail.now.entries in
     let none : length c.in_ok-links.links.items ≡ 0 = search rules in
-    subst (λ (ks : List Link). RefutesFrom es (literals_at s c.args.dead) (chained s (literals_at s c.args.dead) ks)) (nil_from_length c.in_ok-links.links.items none)
+    subst (λ (ks : List Link). RefutesFrom es (literals_at s c.args.falsified) (chained s (literals_at s c.args.falsified) ks)) (nil_from_length c.in_ok-links.links.items none)
     c.in_ok-links.ensures.refutes
 
 pub returns-clause-sound : goal.returns-clause-sound

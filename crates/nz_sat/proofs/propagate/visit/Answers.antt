@@ -1,4 +1,4 @@
--- A clause by how it stands.
+-- A clause by its status.
 use Rattle.std.proofs.Common.{List, refl, sym, subst}
 use Rattle.std.specs.Prelude.{All}
 use Rattle.std.proofs.lemmas.List.Elements.{All-push}
@@ -11,7 +11,7 @@ use Rattle.nz_sat.proofs.Visiting.{goes_one, goes_same, unit_implied, unit_open}
 use Rattle.nz_sat.proofs.propagate.visit.Goals as goal
 
 unit_left : (c : goal.After-imply-arg-1) → IsUnit c.args.trail.now.entries (literals_at c.args.log.now c.args.id) c.in-Unit.literal
-unit_left c = subst (λ (xs : List Lit). IsUnit c.args.trail.now.entries xs c.in-Unit.literal) c.clause.ensures.literals c.in-Unit.ensures.stands
+unit_left c = subst (λ (xs : List Lit). IsUnit c.args.trail.now.entries xs c.in-Unit.literal) c.clause.ensures.literals c.in-Unit.ensures.status
 
 pub imply-requires : goal.imply-requires
 imply-requires c =
@@ -22,14 +22,14 @@ imply-requires c =
     }
 
 pub returns-in-Open-clause-all_open : goal.returns-in-Open-clause-all_open
-returns-in-Open-clause-all_open c e = subst (IsOpen c.args.trail.now.entries) c.clause.ensures.literals c.in-Open.ensures.stands
+returns-in-Open-clause-all_open c e = subst (IsOpen c.args.trail.now.entries) c.clause.ensures.literals c.in-Open.ensures.status
 
 pub returns-in-Unit-clause-implied : goal.returns-in-Unit-clause-implied
 returns-in-Unit-clause-implied c before =
     let s = c.args.log.now in
     let es = c.args.trail.now.entries in
     let l = c.in-Unit.literal in
-    let unit : IsUnit es (literals_at s c.args.id) l = subst (λ (xs : List Lit). IsUnit es xs l) c.clause.ensures.literals c.in-Unit.ensures.stands in
+    let unit : IsUnit es (literals_at s c.args.id) l = subst (λ (xs : List Lit). IsUnit es xs l) c.clause.ensures.literals c.in-Unit.ensures.status in
     subst (λ (t : TrailState). EachBehind (IsImplied s) t.entries) (sym c.imply.ensures.put)
     (unit_implied s es c.args.trail.now.size c.args.id c.requires.usable l unit before)
 
@@ -38,7 +38,7 @@ returns-in-Unit-clause-all_open c e =
     let s = c.args.log.now in
     let es = c.args.trail.now.entries in
     let l = c.in-Unit.literal in
-    let unit : IsUnit es (literals_at s c.args.id) l = subst (λ (xs : List Lit). IsUnit es xs l) c.clause.ensures.literals c.in-Unit.ensures.stands in
+    let unit : IsUnit es (literals_at s c.args.id) l = subst (λ (xs : List Lit). IsUnit es xs l) c.clause.ensures.literals c.in-Unit.ensures.status in
     subst (λ (t : TrailState). IsOpen t.entries (literals_at s c.args.id)) (sym c.imply.ensures.put)
     (unit_open s es c.args.trail.now.size c.args.id c.requires.usable l unit)
 
@@ -55,5 +55,5 @@ returns-in-Unit-clause-goes_on c =
 pub returns-in-Open-clause-goes_on : goal.returns-in-Open-clause-goes_on
 returns-in-Open-clause-goes_on c = goes_same c.args.trail.now.entries
 
-pub returns-in-Dead-clause-goes_on : goal.returns-in-Dead-clause-goes_on
-returns-in-Dead-clause-goes_on c = goes_same c.args.trail.now.entries
+pub returns-in-Falsified-clause-goes_on : goal.returns-in-Falsified-clause-goes_on
+returns-in-Falsified-clause-goes_on c = goes_same c.args.trail.now.entries

@@ -16,7 +16,7 @@ returns c =
     let ns = c.args.terms.now in
     let id = c.args.id in
     let k = c.in_ok-constant.constant in
-    let copied : k ≡ c.in-Constant.constant = c.in_ok-constant.ensures.cases in
+    let copied : k ≡ c.in-Constant.constant.now = c.in_ok-constant.ensures.cases in
     let head : option_map (λ (n : Node). n.head) (slice_get ns id) ≡ Some (constant (constant_of k)) =
     c.head.ensures.head ∙ ap (λ h. Some (head_of h)) c.in-Constant.is ∙ ap (λ x. Some (constant (constant_of x))) (sym copied) in
     record {

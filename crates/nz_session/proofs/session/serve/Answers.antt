@@ -10,48 +10,48 @@ use Rattle.nz_session.proofs.session.serve.Goals as goal
 pub returns-in-Ok-clause-exited : goal.returns-in-Ok-clause-exited
 returns-in-Ok-clause-exited g c =
     λ _ limit going.
-    rw (c.push.ensures.items, c.unwrap.ensures, c.reserve.ensures.items)
+    rw (c.push.ensures.items, c.unwrap.ensures, c.room_for.ensures.same)
     (exits_on g.E.Decide.levels g.E.Decide.table c.kept_stay.ensures.stay c.transcript_grows.ensures.grows limit _ _ c.answer-reply.ensures.front
-    c.args.kept.now.items c.args.heard c.answer-reply.result going (c.answer-reply.ensures.right _ going.holds) c.if-exits.true)
+    c.args.kept.now.items c.in-Some.packed c.answer-reply.result going (heard_view c.args.heard) c.in-Some.ensures.packed (c.answer-reply.ensures.right _ going.holds) c.if-exits.true)
 
-pub returns-in-Ok-2-clause-going : goal.returns-in-Ok-2-clause-going
-returns-in-Ok-2-clause-going g c =
+pub returns-clause-going : goal.returns-clause-going
+returns-clause-going g c =
     λ _ limit going.
-    rw (c.push.ensures.items, c.unwrap.ensures, c.reserve.ensures.items)
+    rw (c.push.ensures.items, c.unwrap.ensures, c.room_for.ensures.same)
     (going_on g.E.Decide.levels g.E.Decide.table c.kept_stay.ensures.stay c.transcript_grows.ensures.grows limit _ _ c.answer-reply.ensures.front
-    c.args.kept.now.items c.args.heard c.answer-reply.result going (c.answer-reply.ensures.right _ going.holds) c.if-exits.false)
+    c.args.kept.now.items c.in-Some.packed c.answer-reply.result going (heard_view c.args.heard) c.in-Some.ensures.packed (c.answer-reply.ensures.right _ going.holds) c.if-exits.false)
 
 pub returns-in-Err-clause-broken_off : goal.returns-in-Err-clause-broken_off
 returns-in-Err-clause-broken_off g c =
     λ _ limit going.
-    rw (c.push.ensures.items, c.unwrap.ensures, c.reserve.ensures.items)
+    rw (c.push.ensures.items, c.unwrap.ensures, c.room_for.ensures.same)
     (right_on g.E.Decide.levels g.E.Decide.table c.kept_stay.ensures.stay c.transcript_grows.ensures.grows limit _ _ c.answer-reply.ensures.front
-    c.args.kept.now.items c.args.heard c.answer-reply.result going (c.answer-reply.ensures.right _ going.holds))
+    c.args.kept.now.items c.in-Some.packed c.answer-reply.result going (heard_view c.args.heard) c.in-Some.ensures.packed (c.answer-reply.ensures.right _ going.holds))
 
 pub returns-in-Ok-clause-answered : goal.returns-in-Ok-clause-answered
 returns-in-Ok-clause-answered g c =
     λ _.
-    rw (c.push.ensures.items, c.unwrap.ensures, c.reserve.ensures.items)
+    rw (c.push.ensures.items, c.unwrap.ensures, c.room_for.ensures.same)
     (answered c.kept_stay.ensures.stay (table_of c.args.desk.now) (table_of c.answer-reply.new.self) c.answer-reply.ensures.front c.args.kept.now.items c.requires.1.within
-    c.args.heard c.answer-reply.result _ _ c.in-Ok.ensures.whole)
+    c.in-Some.packed c.answer-reply.result (heard_view c.args.heard) c.in-Some.ensures.packed _ _ c.in-Ok.ensures.whole)
 
-pub returns-in-Ok-2-clause-answered : goal.returns-in-Ok-2-clause-answered
-returns-in-Ok-2-clause-answered g c =
+pub returns-clause-answered : goal.returns-clause-answered
+returns-clause-answered g c =
     λ _.
-    rw (c.push.ensures.items, c.unwrap.ensures, c.reserve.ensures.items)
+    rw (c.push.ensures.items, c.unwrap.ensures, c.room_for.ensures.same)
     (answered c.kept_stay.ensures.stay (table_of c.args.desk.now) (table_of c.answer-reply.new.self) c.answer-reply.ensures.front c.args.kept.now.items c.requires.1.within
-    c.args.heard c.answer-reply.result _ _ c.in-Ok.ensures.whole)
+    c.in-Some.packed c.answer-reply.result (heard_view c.args.heard) c.in-Some.ensures.packed _ _ c.in-Ok.ensures.whole)
 
 pub returns-in-Err-clause-broken_off_written : goal.returns-in-Err-clause-broken_off_written
 returns-in-Err-clause-broken_off_written g c =
     λ _.
-    rw (c.push.ensures.items, c.unwrap.ensures, c.reserve.ensures.items)
+    rw (c.push.ensures.items, c.unwrap.ensures, c.room_for.ensures.same)
     (answered_in_part c.kept_stay.ensures.stay (table_of c.args.desk.now) (table_of c.answer-reply.new.self) c.answer-reply.ensures.front c.args.kept.now.items c.requires.1.within
-    c.args.heard c.answer-reply.result _ _ c.in-Err.ensures.front)
+    c.in-Some.packed c.answer-reply.result (heard_view c.args.heard) c.in-Some.ensures.packed _ _ c.in-Err.ensures.front)
 
-pub returns-then-is_err-clause-broken_off_written : goal.returns-then-is_err-clause-broken_off_written
-returns-then-is_err-clause-broken_off_written g c =
+pub returns-in-None-clause-broken_off_written : goal.returns-in-None-clause-broken_off_written
+returns-in-None-clause-broken_off_written g c =
     λ e.
     let P : List code.Kept → Type 0 =
     λ l. AnswersInPart (heard_view c.args.heard) (kept_at c.args.desk.now c.args.kept.now.items) (kept_at c.args.desk.now l) (g.K.Sink.held c.args.sink.now) (g.K.Sink.held c.cut.new.sink) in
-    subst P (sym {A = List code.Kept} c.reserve.ensures.items) (cut_in_part (heard_view c.args.heard) (kept_at c.args.desk.now c.args.kept.now.items) _ _ (c.cut.ensures.front e))
+    subst P (sym {A = List code.Kept} c.room_for.ensures.same) (cut_in_part (heard_view c.args.heard) (kept_at c.args.desk.now c.args.kept.now.items) _ _ (c.cut.ensures.front e))

@@ -1,5 +1,5 @@
 -- The law, as it is proved over plain data.
-use Rattle.nz_spec.proofs.Literals as laws
+use Rattle.nz_spec.proofs.Same as laws
 use Rattle.nz_spec.proofs.term.tells_heads.Goals as goal
 
 pub returns : goal.returns

@@ -1,5 +1,4 @@
 -- What is known by the three answers.
-use Rattle.std.proofs.Common.{◌∙◌}
 use Rattle.nz_term.specs.Heads.{head_of}
 use Rattle.nz_term.proofs.Knowledge.{fact_is}
 use Rattle.nz_term.proofs.facts.fact_over.Goals as goal
@@ -7,7 +6,6 @@ use Rattle.nz_term.proofs.facts.fact_over.Goals as goal
 pub returns : goal.returns
 returns c = record {
   fact = λ ts known.
-      c.new.ensures.fact
-      ∙ fact_is ts c.args.facts.now (head_of c.args.head.now) c.args.kids.now c.constant_over.result c.is_linear_over.result c.holds_number_over.result known
+      fact_is ts c.args.facts.now (head_of c.args.head) c.args.kids.now c.constant_over.result c.is_linear_over.result c.holds_number_over.result known
       c.constant_over.ensures.constant c.is_linear_over.ensures.linear c.holds_number_over.ensures.holds;
 }

@@ -31,7 +31,7 @@ returns-in-None c =
     let d = c.default_value.result in
     record {
       given = λ a given n at ts term.
-          let same : n.head ≡ head_of c.head.result.now = same_Some n.head (head_of c.head.result.now) (sym (ap (option_map (λ (m : Node). m.head)) at) ∙ c.head.ensures.head) in
+          let same : n.head ≡ head_of c.head.result = same_Some n.head (head_of c.head.result) (sym (ap (option_map (λ (m : Node). m.head)) at) ∙ c.head.ensures.head) in
           let default : value_of d ≡ default_value (head_sort n.head) = c.default_value.ensures.default ∙ ap default_value (c.sort.ensures.sort ∙ ap head_sort (sym same)) in
           let none : None ≡ constant_value (apply n.head ts) = sym c.in-None.is ∙ c.constant.ensures.constant ∙ ap constant_value term in
           by_head a c.unwrap_or.result ts n.head none (λ k e.

@@ -1,5 +1,5 @@
 -- The stack leads from one term to what it is made of.
-use Rattle.std.proofs.Common.{ℕ, ◌<◌, List, [], ◌∷◌, ◌++◌, Some, None, ap, sym, subst, ◌∙◌}
+use Rattle.std.proofs.Common.{◌<◌, [], ◌∷◌, ◌++◌, Some, None, ap, sym, subst, ◌∙◌}
 use Rattle.nz_spec.specs.Table.{term_in}
 use Rattle.nz_term.specs.Heads.{head_of}
 use Rattle.nz_cform.specs.Forms.{covered_at}
@@ -35,22 +35,22 @@ returns-in_err-cover-clause-made_of c =
 pub loop-term-smaller-in-Continue-branch-3 : goal.loop-term-smaller-in-Continue-branch-3
 loop-term-smaller-in-Continue-branch-3 c =
     let term = term_in c.args.terms.now in
-    let after = c.in_ok-extend_from_slice.ensures.items ∙ ap (λ (l : List ℕ). c.pop.new.self.items ++ l) c.as_slice.ensures.ids in
+    let after = c.in_ok-extend_from_slice.ensures.items in
     subst (λ l. total term c.extend_from_slice.new.self.items < total term l) (sym c.in-Some.ensures.items)
     (subst (λ l. total term l < total term (c.pop.new.self.items ++ c.in-Some.term ∷ [])) (sym after)
-    (less_opened term c.pop.new.self.items c.node-node.result.now.kids c.in-Some.term (head_of c.node-node.result.now.head) c.node-node.ensures.term))
+    (less_opened term c.pop.new.self.items c.node-node.result.kids.now c.in-Some.term (head_of c.node-node.result.head) c.node-node.ensures.term))
 
 pub loop-term-preserved-in-Continue-branch-3 : goal.loop-term-preserved-in-Continue-branch-3
 loop-term-preserved-in-Continue-branch-3 c =
     let ns = c.args.terms.now in
     let P = IsUnderway ns c.args.id c.args.level c.args.log.now c.args.self.now c.loop-term.log c.loop-term.self c.loop-term.clauses.items in
     let did = c.in_ok-cover.ensures in
-    let after = c.in_ok-extend_from_slice.ensures.items ∙ ap (λ (l : List ℕ). c.pop.new.self.items ++ l) c.as_slice.ensures.ids in
+    let after = c.in_ok-extend_from_slice.ensures.items in
     subst (IsUnderway ns c.args.id c.args.level c.args.log.now c.args.self.now c.cover.new.log c.cover.new.self c.cover.new.clauses.items) (sym after)
     (cover_on ns c.args.id c.args.level c.args.log.now c.args.self.now c.loop-term.log c.loop-term.self c.loop-term.clauses.items
     c.pop.new.self.items c.in-Some.term (subst P c.in-Some.ensures.items c.loop-term.invariant) c.gates_are_true.ensures.plain c.cover.new.log did.sound
     c.cover.new.self c.cover.new.clauses.items did.taken did.grown did.kept did.gates did.added did.told
-    (head_of c.node-node.result.now.head) c.node-node.result.now.kids (ap (λ o. elim o [ None ↦ [] | Some n ↦ n.kids ]) c.node-node.ensures.node) c.node-node.ensures.term c.node-node.ensures.before did.only)
+    (head_of c.node-node.result.head) c.node-node.result.kids.now (ap (λ o. elim o [ None ↦ [] | Some n ↦ n.kids ]) c.node-node.ensures.node) c.node-node.ensures.term c.node-node.ensures.before did.only)
 
 pub returns-in_err-extend_from_slice-clause-grown : goal.returns-in_err-extend_from_slice-clause-grown
 returns-in_err-extend_from_slice-clause-grown c =

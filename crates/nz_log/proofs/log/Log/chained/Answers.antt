@@ -13,11 +13,10 @@ pub loop-link-init : goal.loop-link-init
 loop-link-init c =
     let s = c.args.self.now in
     let ls = literals_at s c.args.first in
-    let is : c.add_all.new.set.items ≡ once are_same_lit ls = search rules in
+    let is : c.add_all.new.self ≡ once are_same_lit ls = search rules in
     record {
-      left = chained_of_set s ls c.add_all.new.set.items c.args.links.now c.requires.some is;
+      left = chained_of_set s ls c.add_all.new.self c.args.links.now c.requires.some is;
       set = ap (once are_same_lit) is ∙ set_of_set ls ∙ sym is;
-      marks = c.in_ok-add_all.ensures.marks;
     }
 
 pub loop-link-preserved : goal.loop-link-preserved
@@ -26,13 +25,12 @@ loop-link-preserved c =
     let ks = c.args.links.now in
     let d : Link = record { clause = 0; literal = record { term = 0; sign = false } } in
     let k = get_or ks c.loop-link.link-index d in
-    let old = c.loop-link.literals.items in
-    let new = c.resolve_with.new.set.items in
+    let old = c.loop-link.resolvent in
+    let new = c.resolve_with.new.self in
     let is : new ≡ lit_resolvent k.literal old (literals_at s k.clause) =
     c.in_ok-resolve_with.ensures.resolvent old (sym c.loop-link.invariant.set)
     ∙ ap (λ (ls : List Lit). lit_resolvent k.literal old ls) c.clause-in-loop-link.ensures.literals in
     record {
       left = chained_next s old new ks c.loop-link.link-index d c.loop-link-test.true is ∙ c.loop-link.invariant.left;
       set = resolvent_set k.literal old (literals_at s k.clause) new is;
-      marks = c.in_ok-resolve_with.ensures.marks;
     }

@@ -32,7 +32,7 @@ loop-literal-preserved c =
     let same : length c.clause-literal-items.result.now ≡ length cs = ap length c.clause-literal-items.ensures.literals in
     let read : l ≡ get_or cs i blank = ap (λ (xs : List Lit). get_or xs i blank) c.clause-literal-items.ensures.literals in
     let inside : i < length cs = omega arith in
-    adding_more c.args.id c.loop-literal.self c.put.new.self l c.in_ok-put.ensures.put c.in_ok-put.ensures.others cs i blank c.args.self.now inside read
+    adding_more c.tells_lits.ensures.tells c.args.id c.loop-literal.self c.put.new.self l c.in_ok-put.ensures.put c.in_ok-put.ensures.others cs i blank c.args.self.now inside read
     c.in_ok-put.ensures.size c.loop-literal.invariant
 
 pub returns : goal.returns

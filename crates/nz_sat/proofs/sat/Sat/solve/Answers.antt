@@ -36,27 +36,27 @@ pub returns-in_err-refuted-clause-sound : goal.returns-in_err-refuted-clause-sou
 returns-in_err-refuted-clause-sound g c =
     stays_sound (g.T.Theory.is_over c.args.self.now.theory) (g.T.Theory.is_over c.take_back.new.theory)
     (λ ns known. c.take_back.ensures.over ns (subst (λ (s : SatState g.row.T.Denot). g.T.Theory.is_over s.theory ns) (sym c.self.view_is) known))
-    c.in_ok-search.search.atoms (noted_atoms c.args.work.now.lines) c.in_ok-search.ensures.atoms c.args.log.now c.run.new.log c.run.ensures.advances.sound
+    c.in_ok-search.search.atoms (noted_atoms c.args.work.now.lines) c.in_ok-search.ensures.atoms c.args.log.now c.run.new.log c.run.ensures.steps.advances.sound
 
 pub returns-in_err-refuted-clause-legal : goal.returns-in_err-refuted-clause-legal
 returns-in_err-refuted-clause-legal g c =
     stays_legal (g.T.Theory.is_over c.args.self.now.theory) (g.T.Theory.is_over c.take_back.new.theory)
     (λ ns known. c.take_back.ensures.over ns (subst (λ (s : SatState g.row.T.Denot). g.T.Theory.is_over s.theory ns) (sym c.self.view_is) known))
     c.in_ok-search.search.atoms (noted_atoms c.args.work.now.lines) c.in_ok-search.ensures.atoms c.args.log.now c.args.assumed.now c.args.work.now c.run.new.work
-    c.run.ensures.advances.legal
+    c.run.ensures.steps.advances.legal
 
 pub returns-in_err-self-inside-clause-sound : goal.returns-in_err-self-inside-clause-sound
 returns-in_err-self-inside-clause-sound g c =
     stays_sound (g.T.Theory.is_over c.args.self.now.theory) (g.T.Theory.is_over c.take_back.new.theory)
     (λ ns known. c.take_back.ensures.over ns (subst (λ (s : SatState g.row.T.Denot). g.T.Theory.is_over s.theory ns) (sym c.self.view_is) known))
-    c.in_ok-search.search.atoms (noted_atoms c.args.work.now.lines) c.in_ok-search.ensures.atoms c.args.log.now c.run.new.log c.run.ensures.advances.sound
+    c.in_ok-search.search.atoms (noted_atoms c.args.work.now.lines) c.in_ok-search.ensures.atoms c.args.log.now c.run.new.log c.run.ensures.steps.advances.sound
 
 pub returns-in_err-self-inside-clause-legal : goal.returns-in_err-self-inside-clause-legal
 returns-in_err-self-inside-clause-legal g c =
     stays_legal (g.T.Theory.is_over c.args.self.now.theory) (g.T.Theory.is_over c.take_back.new.theory)
     (λ ns known. c.take_back.ensures.over ns (subst (λ (s : SatState g.row.T.Denot). g.T.Theory.is_over s.theory ns) (sym c.self.view_is) known))
     c.in_ok-search.search.atoms (noted_atoms c.args.work.now.lines) c.in_ok-search.ensures.atoms c.args.log.now c.args.assumed.now c.args.work.now c.run.new.work
-    c.run.ensures.advances.legal
+    c.run.ensures.steps.advances.legal
 
 pub returns-clause-satisfied : goal.returns-clause-satisfied
 returns-clause-satisfied g c none =
@@ -83,7 +83,7 @@ returns-clause-feasible g c none =
     let es = s.trail.entries in
     let atoms = noted_atoms c.args.work.now.lines in
     let order = (c.in_ok-refuted.ensures.satisfied none).search.order in
-    let met = c.in_ok-refuted.ensures.met none in
+    let met = c.in_ok-refuted.ensures.steps.met none in
     let P : SatState g.row.T.Denot → Type 0 = λ t. IsTheoryMet (g.T.Theory.has_told t.theory) (g.T.Theory.is_feasible t.theory) t atoms in
     elim c.if-is_none.branch [
       | then-is_none+in_ok-self-inside w ↦
@@ -97,7 +97,7 @@ returns-clause-feasible g c none =
 
 pub returns-clause-told : goal.returns-clause-told
 returns-clause-told g c =
-    let told = c.in_ok-refuted.ensures.told in
+    let told = c.in_ok-refuted.ensures.steps.told in
     let P : SatState g.row.T.Denot → Type 0 = λ t. (ls : List Lit) × g.T.Theory.has_told t.theory ls in
     let there : (ls : List Lit) × g.T.Theory.has_told c.run.new.theory ls = (literals_on (take told.count c.run.new.self.trail.entries), told.told) in
     elim c.if-is_none.branch [
@@ -109,11 +109,11 @@ pub returns-clause-sound : goal.returns-clause-sound
 returns-clause-sound g c =
     stays_sound (g.T.Theory.is_over c.args.self.now.theory) (g.T.Theory.is_over c.take_back.new.theory)
     (λ ns known. c.take_back.ensures.over ns (subst (λ (s : SatState g.row.T.Denot). g.T.Theory.is_over s.theory ns) (sym c.self.view_is) known))
-    c.in_ok-search.search.atoms (noted_atoms c.args.work.now.lines) c.in_ok-search.ensures.atoms c.args.log.now c.run.new.log c.run.ensures.advances.sound
+    c.in_ok-search.search.atoms (noted_atoms c.args.work.now.lines) c.in_ok-search.ensures.atoms c.args.log.now c.run.new.log c.run.ensures.steps.advances.sound
 
 pub returns-clause-legal : goal.returns-clause-legal
 returns-clause-legal g c =
     stays_legal (g.T.Theory.is_over c.args.self.now.theory) (g.T.Theory.is_over c.take_back.new.theory)
     (λ ns known. c.take_back.ensures.over ns (subst (λ (s : SatState g.row.T.Denot). g.T.Theory.is_over s.theory ns) (sym c.self.view_is) known))
     c.in_ok-search.search.atoms (noted_atoms c.args.work.now.lines) c.in_ok-search.ensures.atoms c.args.log.now c.args.assumed.now c.args.work.now c.run.new.work
-    c.run.ensures.advances.legal
+    c.run.ensures.steps.advances.legal

@@ -20,8 +20,8 @@ pub returns-in-Some-2-clause-comes : goal.returns-in-Some-2-clause-comes
 returns-in-Some-2-clause-comes c held assumed may =
     let e = c.in-Some.entry in
     let differ : are_same_lit e.literal c.args.literal ≡ false = search rules in
-    assume_fails c.args.log.now held assumed c.args.literal c.args.self.now may c.requires.undecided e (sym c.in-Some.ensures.assigned)
-    (other_lit e.literal c.args.literal differ)
+    assume_fails c.args.log.now held assumed c.args.literal c.args.self.now may c.requires.undecided c.tells_lits.ensures.tells e (sym c.in-Some.ensures.assigned)
+    (other_lit c.tells_lits.ensures.tells e.literal c.args.literal differ)
 
 pub returns-in-None-clause-comes : goal.returns-in-None-clause-comes
 returns-in-None-clause-comes c held assumed may =
@@ -50,4 +50,4 @@ returns-in-None-clause-comes c held assumed may =
     (p.reasons (ids held) h.only (subst R (sym put) before.reasons))
     (λ told k d inside.
     p.all_open told (get_or (ids held) k d) (h.listed k d inside) (waits (get_or (ids held) k d) (Contains-get_or (ids held) k d inside)))
-    (IfSome_then c.propagate.result p.dead (λ id q. (h.only q.0.0 id q.0.1, q.1)))
+    (IfSome_then c.propagate.result p.falsified (λ id q. (h.only q.0.0 id q.0.1, q.1)))

@@ -22,25 +22,25 @@ pub returns-then-is_some-clause-comes : goal.returns-then-is_some-clause-comes
 returns-then-is_some-clause-comes c =
     let log = c.args.log.now in
     let held = c.args.held.now in
-    let st = c.start-dead.ensures.comes in
-    let some : is_some c.start-dead.result ≡ true = search rules in
+    let st = c.start-falsified.ensures.comes in
+    let some : is_some c.start-falsified.result ≡ true = search rules in
     record {
       search = st.search;
-      assumed_only = reasons_assumed c.start-dead.new.self.trail.entries c.args.assumed.now st.by_reasons;
+      assumed_only = reasons_assumed c.start-falsified.new.self.trail.entries c.args.assumed.now st.by_reasons;
       undecided = st.undecided;
-      hold = λ none. absurd (none_told c.start-dead.result some none);
+      hold = λ none. absurd (none_told c.start-falsified.result some none);
       all_open = st.all_open;
-      dead = IfSome_then c.start-dead.result st.dead (λ id q. (held_live log held st.search.are_held id q.0, λ m has. inl (q.1 m has)));
+      falsified = IfSome_then c.start-falsified.result st.falsified (λ id q. (held_live log held st.search.are_held id q.0, λ m has. inl (q.1 m has)));
     }
 
 pub loop-literal-init : goal.loop-literal-init
 loop-literal-init c =
-    let st = c.start-dead.ensures.comes in
-    let none : c.start-dead.result ≡ None = search rules in
+    let st = c.start-falsified.ensures.comes in
+    let none : c.start-falsified.result ≡ None = search rules in
     record {
-      rest = c.start-dead.ensures.rest;
+      rest = c.start-falsified.ensures.rest;
       search = st.search;
-      assumed_only = reasons_assumed c.start-dead.new.self.trail.entries c.args.assumed.now st.by_reasons;
+      assumed_only = reasons_assumed c.start-falsified.new.self.trail.entries c.args.assumed.now st.by_reasons;
       undecided = st.undecided;
       hold = λ k d below. absurd (omega arith);
       all_open = st.all_open none;
@@ -67,8 +67,8 @@ atom_named c =
     subst (λ (us : List ℕ). Contains us (get_or c.args.assumed.now c.loop-literal.literal-index blank).term) (sym (ap (λ (s : Search). s.atoms) c.loop-literal.invariant.rest))
     (c.requires.named c.loop-literal.literal-index blank inside)
 
-pub assume-dead-requires : goal.assume-dead-requires
-assume-dead-requires c =
+pub assume-falsified-requires : goal.assume-falsified-requires
+assume-falsified-requires c =
     let s = c.loop-literal.self in
     let before = c.loop-literal.invariant in
     record {
@@ -81,13 +81,13 @@ pub loop-literal-preserved : goal.loop-literal-preserved
 loop-literal-preserved c =
     let assumed = c.args.assumed.now in
     let i = c.loop-literal.literal-index in
-    let new = c.assume-dead.new.self in
+    let new = c.assume-falsified.new.self in
     let before = c.loop-literal.invariant in
     let inside : i < length assumed = omega arith in
-    let comes = c.assume-dead.ensures.comes c.args.held.now assumed (may_assume c.args.log.now c.args.held.now c.args.assumed.now c.loop-literal.self c.args.self.now c.loop-literal.literal-index (omega arith) c.loop-literal.invariant.rest c.loop-literal.invariant.search c.loop-literal.invariant.all_open c.loop-literal.invariant.assumed_only c.requires.named c.requires.consistent) in
-    let none : c.assume-dead.result ≡ None = search rules in
+    let comes = c.assume-falsified.ensures.comes c.args.held.now assumed (may_assume c.args.log.now c.args.held.now c.args.assumed.now c.loop-literal.self c.args.self.now c.loop-literal.literal-index (omega arith) c.loop-literal.invariant.rest c.loop-literal.invariant.search c.loop-literal.invariant.all_open c.loop-literal.invariant.assumed_only c.requires.named c.requires.consistent) in
+    let none : c.assume-falsified.result ≡ None = search rules in
     record {
-      rest = c.assume-dead.ensures.rest ∙ ap (λ (s : Search). record s { trail = new.trail }) before.rest;
+      rest = c.assume-falsified.ensures.rest ∙ ap (λ (s : Search). record s { trail = new.trail }) before.rest;
       search = comes.search;
       assumed_only = comes.assumed_only;
       undecided = comes.undecided;
@@ -101,15 +101,15 @@ loop-literal-preserved c =
 
 pub returns-then-is_some-2-clause-comes : goal.returns-then-is_some-2-clause-comes
 returns-then-is_some-2-clause-comes c =
-    let comes = c.assume-dead.ensures.comes c.args.held.now c.args.assumed.now (may_assume c.args.log.now c.args.held.now c.args.assumed.now c.loop-literal.self c.args.self.now c.loop-literal.literal-index (omega arith) c.loop-literal.invariant.rest c.loop-literal.invariant.search c.loop-literal.invariant.all_open c.loop-literal.invariant.assumed_only c.requires.named c.requires.consistent) in
-    let some : is_some c.assume-dead.result ≡ true = search rules in
+    let comes = c.assume-falsified.ensures.comes c.args.held.now c.args.assumed.now (may_assume c.args.log.now c.args.held.now c.args.assumed.now c.loop-literal.self c.args.self.now c.loop-literal.literal-index (omega arith) c.loop-literal.invariant.rest c.loop-literal.invariant.search c.loop-literal.invariant.all_open c.loop-literal.invariant.assumed_only c.requires.named c.requires.consistent) in
+    let some : is_some c.assume-falsified.result ≡ true = search rules in
     record {
       search = comes.search;
       assumed_only = comes.assumed_only;
       undecided = comes.undecided;
-      hold = λ none. absurd (none_told c.assume-dead.result some none);
+      hold = λ none. absurd (none_told c.assume-falsified.result some none);
       all_open = comes.all_open;
-      dead = comes.dead;
+      falsified = comes.falsified;
     }
 
 pub returns-clause-comes : goal.returns-clause-comes
@@ -121,5 +121,5 @@ returns-clause-comes c =
       undecided = before.undecided;
       hold = λ told k d inside. before.hold k d (omega arith);
       all_open = λ told. before.all_open;
-      dead = tt;
+      falsified = tt;
     }

@@ -3,21 +3,31 @@ use Rattle.std.proofs.Common.{◌≡◌, ℕ, List, Option, None, subst, rules}
 use Rattle.std.proofs.lemmas.Result.{IfOk-weaker}
 use Rattle.nz_sat.specs.declared.clauses.Held.{Held}
 use Rattle.nz_sat.specs.Searching.{AssumesAll, Runs, Settles}
+use Rattle.nz_sat.proofs.Advancing.{steps_behind}
 use Rattle.nz_sat.proofs.Running.{first_advances, first_noted, first_refuted, first_waits, first_were, none_told, refutes_assumed, runs_first}
 use Rattle.nz_sat.proofs.search.Search.begin.Goals as goal
 
-pub returns-in_err-refute-clause-advances : goal.returns-in_err-refute-clause-advances
-returns-in_err-refute-clause-advances g c =
+pub returns-in_err-refute-clause-steps : goal.returns-in_err-refute-clause-steps
+returns-in_err-refute-clause-steps g c =
     let a = subst (λ (held : List Held). AssumesAll c.args.log.now held c.args.assumed.now c.assume_all.new.self c.assume_all.result) c.deref.ensures.value c.assume_all.ensures.comes in
-    first_refuted (g.T.Theory.is_over c.args.theory.now) c.args.self.now c.args.work.now c.assume_all.ensures.rest a c.refute.ensures.grows c.refute.ensures.sound
+    record {
+      advances = first_refuted (g.T.Theory.is_over c.args.theory.now) c.args.self.now c.args.work.now c.assume_all.ensures.rest a c.refute.ensures.grows c.refute.ensures.sound;
+      known = λ ns known. known;
+      told = search rules;
+      met = search rules;
+      spent = search rules;
+    }
 
-pub returns-in-Some-clause-advances : goal.returns-in-Some-clause-advances
-returns-in-Some-clause-advances g c =
+pub returns-in-Some-clause-steps : goal.returns-in-Some-clause-steps
+returns-in-Some-clause-steps g c =
     let a = subst (λ (held : List Held). AssumesAll c.args.log.now held c.args.assumed.now c.assume_all.new.self c.assume_all.result) c.deref.ensures.value c.assume_all.ensures.comes in
-    first_refuted (g.T.Theory.is_over c.args.theory.now) c.args.self.now c.args.work.now c.assume_all.ensures.rest a c.refute.ensures.grows c.refute.ensures.sound
-
-pub returns-in-Some-clause-told : goal.returns-in-Some-clause-told
-returns-in-Some-clause-told g c = none_told c.refute.new.self.trail.entries c.requires.told
+    record {
+      advances = first_refuted (g.T.Theory.is_over c.args.theory.now) c.args.self.now c.args.work.now c.assume_all.ensures.rest a c.refute.ensures.grows c.refute.ensures.sound;
+      known = λ ns known. known;
+      told = none_told c.refute.new.self.trail.entries c.requires.told;
+      met = search rules;
+      spent = search rules;
+    }
 
 pub settle-requires-clause-search : goal.settle-requires-clause-search
 settle-requires-clause-search g c =
@@ -43,10 +53,10 @@ settle-requires-clause-noted g c =
 pub settle-requires-clause-told : goal.settle-requires-clause-told
 settle-requires-clause-told g c = none_told c.assume_all.new.self.trail.entries c.requires.told
 
-pub returns-clause-advances : goal.returns-clause-advances
-returns-clause-advances g c =
+pub returns-clause-steps : goal.returns-clause-steps
+returns-clause-steps g c =
     let a = subst (λ (held : List Held). AssumesAll c.args.log.now held c.args.assumed.now c.assume_all.new.self c.assume_all.result) c.deref.ensures.value c.assume_all.ensures.comes in
-    first_advances c.args.self.now c.assume_all.ensures.rest a c.settle.ensures.advances
+    steps_behind (first_advances c.args.self.now c.assume_all.ensures.rest a c.settle.ensures.steps.advances) (λ ns known. known) c.settle.ensures.steps
 
 pub returns-clause-runs : goal.returns-clause-runs
 returns-clause-runs g c =

@@ -1,7 +1,7 @@
 -- What propagation tells of the clauses that are held.
 use Rattle.std.proofs.Common.{get_or}
 use Rattle.nz_sat.specs.Searching.{ids}
-use Rattle.nz_sat.proofs.Keeping.{goes_search, goes_were_open, open_or_dead}
+use Rattle.nz_sat.proofs.Keeping.{goes_search, goes_were_open, open_or_falsified}
 use Rattle.nz_sat.proofs.search.Search.follow.Goals as goal
 
 pub returns-clause-comes : goal.returns-clause-comes
@@ -15,6 +15,6 @@ returns-clause-comes c held may =
       search = goes_search log held s t h p.size (p.order h.order) p.goes_on (p.implied h.implied) (p.reasons (ids held) h.only h.reasons);
       were_open = goes_were_open log held s.trail.entries t.entries p.goes_on may.were_open;
       goes_on = p.goes_on;
-      told_so = open_or_dead log held s t.entries c.propagate.result h
-          (λ none k d inside. p.all_open none (get_or (ids held) k d) (h.listed k d inside) (may.waits k d inside)) p.dead;
+      told_so = open_or_falsified log held s t.entries c.propagate.result h
+          (λ none k d inside. p.all_open none (get_or (ids held) k d) (h.listed k d inside) (may.waits k d inside)) p.falsified;
     }

@@ -8,5 +8,5 @@ pub returns-clause-told : goal.returns-clause-told
 returns-clause-told g c =
     let es = c.cut.new.self.trail.entries in
     told_on (g.T.Theory.has_told c.cut.new.theory) es c.imply.new.self.entries
-    (record { more = implied es c.args.lesson.literal c.args.lesson.clause ∷ []; joined = ap (λ (t : TrailState). t.entries) c.imply.ensures.put })
+    (record { more = implied es c.args.learned.literal c.args.learned.clause ∷ []; joined = ap (λ (t : TrailState). t.entries) c.imply.ensures.put })
     (c.cut.ensures.told c.requires.told)

@@ -1,4 +1,4 @@
--- The lesson is noted and added, and its literal is true where the search goes back to.
+-- The learned clause is noted and added, and its literal is true where the search goes back to.
 use Rattle.std.proofs.Common.{◌≡◌, ◌<◌, ◌++◌, ◌∷◌, [], List, None, length, take, drop, vec_len, sym, ap, subst, ◌∙◌, arith, rules}
 use Rattle.std.proofs.lemmas.List.{take_all, take-append-le}
 use Rattle.std.specs.Prelude.{Contains}
@@ -11,106 +11,106 @@ use Rattle.nz_sat.specs.declared.search.Search.{Search}
 use Rattle.nz_sat.specs.Clauses.{Adds}
 use Rattle.nz_sat.specs.Conflicts.{AreUnmarked}
 use Rattle.nz_sat.specs.Sats.{AreHeld, held_of}
-use Rattle.nz_sat.specs.Searching.{Advances, Learned, after_lesson}
+use Rattle.nz_sat.specs.Searching.{Advances, Learns, after_learned}
 use Rattle.nz_sat.specs.Trails.{assigned, below}
 use Rattle.nz_sat.proofs.Advancing.{log_advances}
 use Rattle.nz_sat.proofs.Learning.{learned, literal_missing, literal_within, literals_within}
-use Rattle.nz_sat.proofs.Lessons.{all_from}
-use Rattle.nz_sat.proofs.Noting.{conflict_like, lesson_named, line_advances, stays_in_order, taught}
+use Rattle.nz_sat.proofs.LearnedClauses.{all_from}
+use Rattle.nz_sat.proofs.Noting.{conflict_like, learned_named, line_advances, stays_in_order, taught}
 use Rattle.nz_sat.proofs.search.Search.learn.Goals as goal
 
-pub lesson_of-requires-clause-live : goal.lesson_of-requires-clause-live
-lesson_of-requires-clause-live g c = c.requires.conflict.live
+pub learned_clause-requires-clause-live : goal.learned_clause-requires-clause-live
+learned_clause-requires-clause-live g c = c.requires.conflict.live
 
-pub lesson_of-requires-clause-dead : goal.lesson_of-requires-clause-dead
-lesson_of-requires-clause-dead g c = c.requires.conflict.dead
+pub learned_clause-requires-clause-falsified : goal.learned_clause-requires-clause-falsified
+learned_clause-requires-clause-falsified g c = c.requires.conflict.falsified
 
-pub lesson_of-requires-clause-once : goal.lesson_of-requires-clause-once
-lesson_of-requires-clause-once g c =
-    conflict_like c.args.self.now.trail.size c.args.self.now.trail.entries c.requires.search.order c.args.log.now c.args.held.now.items c.requires.all_open c.requires.decided c.args.dead
+pub learned_clause-requires-clause-once : goal.learned_clause-requires-clause-once
+learned_clause-requires-clause-once g c =
+    conflict_like c.args.self.now.trail.size c.args.self.now.trail.entries c.requires.search.order c.args.log.now c.args.held.now.items c.requires.all_open c.requires.decided c.args.falsified
     c.requires.conflict
 
-pub returns-in_err-lesson-clause-advances : goal.returns-in_err-lesson-clause-advances
-returns-in_err-lesson-clause-advances g c =
+pub returns-in_err-learned-clause-advances : goal.returns-in_err-learned-clause-advances
+returns-in_err-learned-clause-advances g c =
     let atoms = c.args.self.now.atoms in
     let es = c.args.self.now.trail.entries in
-    log_advances (g.T.Theory.is_over c.args.theory.now) atoms es c.args.log.now c.lesson_of.new.log c.args.held.now.items c.args.work.now c.requires.search.are_held c.lesson_of.ensures.grows
-    (stays_in_order (g.T.Theory.is_over c.args.theory.now) atoms es c.requires.search.on_trail c.args.log.now c.lesson_of.new.log c.lesson_of.ensures.sound)
+    log_advances (g.T.Theory.is_over c.args.theory.now) atoms es c.args.log.now c.learned_clause.new.log c.args.held.now.items c.args.work.now c.requires.search.are_held c.learned_clause.ensures.grows
+    (stays_in_order (g.T.Theory.is_over c.args.theory.now) atoms es c.requires.search.on_trail c.args.log.now c.learned_clause.new.log c.learned_clause.ensures.sound)
 
-pub note_lesson-requires-clause-named : goal.note_lesson-requires-clause-named
-note_lesson-requires-clause-named g c =
-    all_from (λ (m : Lit). Contains c.args.self.now.atoms m.term) (literals_at c.lesson_of.new.log c.in_ok-lesson.lesson.clause)
-    (lesson_named c.args.log.now c.lesson_of.new.log c.args.held.now.items c.args.self.now c.args.work.now c.args.dead c.in_ok-lesson.lesson
-    (taught c.args.dead c.requires.search c.requires.all_open c.requires.conflict c.requires.decided c.requires.noted c.lesson_of.ensures.grows
-    c.lesson_of.ensures.sound c.in_ok-lesson.ensures.lesson))
+pub note_learned-requires-clause-named : goal.note_learned-requires-clause-named
+note_learned-requires-clause-named g c =
+    all_from (λ (m : Lit). Contains c.args.self.now.atoms m.term) (literals_at c.learned_clause.new.log c.in_ok-learned.learned.clause)
+    (learned_named c.args.log.now c.learned_clause.new.log c.args.held.now.items c.args.self.now c.args.work.now c.args.falsified c.in_ok-learned.learned
+    (taught c.args.falsified c.requires.search c.requires.all_open c.requires.conflict c.requires.decided c.requires.noted c.learned_clause.ensures.grows
+    c.learned_clause.ensures.sound c.in_ok-learned.ensures.learned))
 
-pub returns-in_err-note_lesson-clause-advances : goal.returns-in_err-note_lesson-clause-advances
-returns-in_err-note_lesson-clause-advances g c =
+pub returns-in_err-note_learned-clause-advances : goal.returns-in_err-note_learned-clause-advances
+returns-in_err-note_learned-clause-advances g c =
     let atoms = c.args.self.now.atoms in
     let es = c.args.self.now.trail.entries in
     let held = c.args.held.now.items in
-    subst (Advances (g.T.Theory.is_over c.args.theory.now) atoms es c.args.log.now c.lesson_of.new.log held held c.args.work.now) (sym c.in_err-note_lesson.ensures.err)
-    (log_advances (g.T.Theory.is_over c.args.theory.now) atoms es c.args.log.now c.lesson_of.new.log held c.args.work.now c.requires.search.are_held c.lesson_of.ensures.grows
-    (stays_in_order (g.T.Theory.is_over c.args.theory.now) atoms es c.requires.search.on_trail c.args.log.now c.lesson_of.new.log c.lesson_of.ensures.sound))
+    subst (Advances (g.T.Theory.is_over c.args.theory.now) atoms es c.args.log.now c.learned_clause.new.log held held c.args.work.now) (sym c.in_err-note_learned.ensures.err)
+    (log_advances (g.T.Theory.is_over c.args.theory.now) atoms es c.args.log.now c.learned_clause.new.log held c.args.work.now c.requires.search.are_held c.learned_clause.ensures.grows
+    (stays_in_order (g.T.Theory.is_over c.args.theory.now) atoms es c.requires.search.on_trail c.args.log.now c.learned_clause.new.log c.learned_clause.ensures.sound))
 
 pub hold-requires-clause-within : goal.hold-requires-clause-within
 hold-requires-clause-within g c =
-    literals_within c.args.log.now c.lesson_of.new.log c.args.held.now.items c.args.self.now c.args.work.now c.args.dead c.in_ok-lesson.lesson
-    (taught c.args.dead c.requires.search c.requires.all_open c.requires.conflict c.requires.decided c.requires.noted c.lesson_of.ensures.grows
-    c.lesson_of.ensures.sound c.in_ok-lesson.ensures.lesson)
+    literals_within c.args.log.now c.learned_clause.new.log c.args.held.now.items c.args.self.now c.args.work.now c.args.falsified c.in_ok-learned.learned
+    (taught c.args.falsified c.requires.search c.requires.all_open c.requires.conflict c.requires.decided c.requires.noted c.learned_clause.ensures.grows
+    c.learned_clause.ensures.sound c.in_ok-learned.ensures.learned)
 
 pub returns-in_err-hold-clause-advances : goal.returns-in_err-hold-clause-advances
 returns-in_err-hold-clause-advances g c =
-    line_advances c.args.log.now c.lesson_of.new.log c.args.held.now.items c.args.self.now c.args.work.now c.args.dead c.in_ok-lesson.lesson
-    (taught c.args.dead c.requires.search c.requires.all_open c.requires.conflict c.requires.decided c.requires.noted c.lesson_of.ensures.grows
-    c.lesson_of.ensures.sound c.in_ok-lesson.ensures.lesson)
-    c.clauses_are_true.ensures.clauses c.legal_work_goes_on.ensures.goes_on (g.T.Theory.is_over c.args.theory.now) c.hold.new.held.items c.hold.ensures.more c.note_lesson.new.work c.in_ok-note_lesson.ensures.noted
+    line_advances c.args.log.now c.learned_clause.new.log c.args.held.now.items c.args.self.now c.args.work.now c.args.falsified c.in_ok-learned.learned
+    (taught c.args.falsified c.requires.search c.requires.all_open c.requires.conflict c.requires.decided c.requires.noted c.learned_clause.ensures.grows
+    c.learned_clause.ensures.sound c.in_ok-learned.ensures.learned)
+    c.tells_lits.ensures.tells c.clauses_are_true.ensures.clauses c.legal_work_goes_on.ensures.goes_on (g.T.Theory.is_over c.args.theory.now) c.hold.new.held.items c.hold.ensures.more c.note_learned.new.work c.in_ok-note_learned.ensures.noted
 
 pub go_back-requires-clause-free : goal.go_back-requires-clause-free
 go_back-requires-clause-free g c =
-    let l = c.in_ok-lesson.lesson in
+    let l = c.in_ok-learned.learned in
     subst (λ (x : Search). assigned (below l.level x.trail.entries) l.literal.term ≡ None) (sym c.hold.ensures.rest)
-    (literal_missing c.args.log.now c.lesson_of.new.log c.args.held.now.items c.args.self.now c.args.work.now c.args.dead c.in_ok-lesson.lesson
-    (taught c.args.dead c.requires.search c.requires.all_open c.requires.conflict c.requires.decided c.requires.noted c.lesson_of.ensures.grows
-    c.lesson_of.ensures.sound c.in_ok-lesson.ensures.lesson))
+    (literal_missing c.args.log.now c.learned_clause.new.log c.args.held.now.items c.args.self.now c.args.work.now c.args.falsified c.in_ok-learned.learned
+    (taught c.args.falsified c.requires.search c.requires.all_open c.requires.conflict c.requires.decided c.requires.noted c.learned_clause.ensures.grows
+    c.learned_clause.ensures.sound c.in_ok-learned.ensures.learned))
 
 pub go_back-requires-clause-within : goal.go_back-requires-clause-within
 go_back-requires-clause-within g c =
-    subst (λ (x : Search). c.in_ok-lesson.lesson.literal.term < x.trail.size) (sym c.hold.ensures.rest)
-    (literal_within c.args.log.now c.lesson_of.new.log c.args.held.now.items c.args.self.now c.args.work.now c.args.dead c.in_ok-lesson.lesson
-    (taught c.args.dead c.requires.search c.requires.all_open c.requires.conflict c.requires.decided c.requires.noted c.lesson_of.ensures.grows
-    c.lesson_of.ensures.sound c.in_ok-lesson.ensures.lesson))
+    subst (λ (x : Search). c.in_ok-learned.learned.literal.term < x.trail.size) (sym c.hold.ensures.rest)
+    (literal_within c.args.log.now c.learned_clause.new.log c.args.held.now.items c.args.self.now c.args.work.now c.args.falsified c.in_ok-learned.learned
+    (taught c.args.falsified c.requires.search c.requires.all_open c.requires.conflict c.requires.decided c.requires.noted c.learned_clause.ensures.grows
+    c.learned_clause.ensures.sound c.in_ok-learned.ensures.learned))
 
 pub returns-clause-advances : goal.returns-clause-advances
 returns-clause-advances g c =
-    line_advances c.args.log.now c.lesson_of.new.log c.args.held.now.items c.args.self.now c.args.work.now c.args.dead c.in_ok-lesson.lesson
-    (taught c.args.dead c.requires.search c.requires.all_open c.requires.conflict c.requires.decided c.requires.noted c.lesson_of.ensures.grows
-    c.lesson_of.ensures.sound c.in_ok-lesson.ensures.lesson)
-    c.clauses_are_true.ensures.clauses c.legal_work_goes_on.ensures.goes_on (g.T.Theory.is_over c.args.theory.now) c.hold.new.held.items c.hold.ensures.more c.note_lesson.new.work c.in_ok-note_lesson.ensures.noted
+    line_advances c.args.log.now c.learned_clause.new.log c.args.held.now.items c.args.self.now c.args.work.now c.args.falsified c.in_ok-learned.learned
+    (taught c.args.falsified c.requires.search c.requires.all_open c.requires.conflict c.requires.decided c.requires.noted c.learned_clause.ensures.grows
+    c.learned_clause.ensures.sound c.in_ok-learned.ensures.learned)
+    c.tells_lits.ensures.tells c.clauses_are_true.ensures.clauses c.legal_work_goes_on.ensures.goes_on (g.T.Theory.is_over c.args.theory.now) c.hold.new.held.items c.hold.ensures.more c.note_learned.new.work c.in_ok-note_learned.ensures.noted
 
 pub returns-clause-learned : goal.returns-clause-learned
 returns-clause-learned g c =
     let s = c.args.self.now in
-    let l = c.in_ok-lesson.lesson in
-    let log = c.lesson_of.new.log in
+    let l = c.in_ok-learned.learned in
+    let log = c.learned_clause.new.log in
     let held = c.args.held.now.items ++ held_of log l.clause ∷ [] in
     let after = c.hold.ensures.rest in
     let back = c.go_back.ensures.rest in
     let place = c.go_back.result in
     let lengths : length c.hold.new.self.seen.items ≡ length s.seen.items = ap (λ (x : Search). length x.seen.items) after ∙ search rules in
-    let marks = c.lesson_of.new.seen in
+    let marks = c.learned_clause.new.seen in
     let rest = drop (length marks) s.seen.items in
     let long : vec_len s.seen ≡ length marks = search rules in
     let same : take (vec_len s.seen) (marks ++ rest) ≡ marks = take-append-le (vec_len s.seen) marks rest (omega arith) ∙ take_all (vec_len s.seen) marks (omega arith) in
     let unmarked : AreUnmarked c.hold.new.self.seen.items =
-    subst (λ (x : Search). AreUnmarked x.seen.items) (sym after) (subst AreUnmarked (sym same) c.in_ok-lesson.ensures.unmarked) in
-    let there = learned c.args.log.now c.lesson_of.new.log c.args.held.now.items c.args.self.now c.args.work.now c.args.dead c.in_ok-lesson.lesson
-    (taught c.args.dead c.requires.search c.requires.all_open c.requires.conflict c.requires.decided c.requires.noted c.lesson_of.ensures.grows
-    c.lesson_of.ensures.sound c.in_ok-lesson.ensures.lesson)
+    subst (λ (x : Search). AreUnmarked x.seen.items) (sym after) (subst AreUnmarked (sym same) c.in_ok-learned.ensures.unmarked) in
+    let there = learned c.args.log.now c.learned_clause.new.log c.args.held.now.items c.args.self.now c.args.work.now c.args.falsified c.in_ok-learned.learned
+    (taught c.args.falsified c.requires.search c.requires.all_open c.requires.conflict c.requires.decided c.requires.noted c.learned_clause.ensures.grows
+    c.learned_clause.ensures.sound c.in_ok-learned.ensures.learned)
     c.go_back.new.self (ap (λ (x : Search). x.atoms) back ∙ ap (λ (x : Search). x.atoms) after) (c.go_back.ensures.size ∙ ap (λ (x : Search). x.trail.size) after)
-    (c.go_back.ensures.entries ∙ ap (λ (x : Search). after_lesson x.trail.entries l) after)
+    (c.go_back.ensures.entries ∙ ap (λ (x : Search). after_learned x.trail.entries l) after)
     (subst (λ (x : Search). Adds log l.clause s.index x.index) (sym back) c.in_ok-hold.ensures.added)
     (ap (λ (x : Search). length x.seen.items) back ∙ lengths) (subst (λ (x : Search). AreUnmarked x.seen.items) (sym back) unmarked)
-    (subst (AreHeld log) c.in_ok-hold.ensures.held c.hold.ensures.more.held) c.go_back.ensures.order c.in_ok-note_lesson.ensures.free place (c.go_back.ensures.place ∙ ap (λ (x : Search). length (below l.level x.trail.entries)) after) in
-    subst (λ (hs : List Held). Learned log hs s c.go_back.new.self c.args.work.now c.note_lesson.new.work place) (sym c.in_ok-hold.ensures.held)
-    (subst (λ (w : WorkList Note). Learned log held s c.go_back.new.self c.args.work.now w place) (sym c.in_ok-note_lesson.ensures.noted) there)
+    (subst (AreHeld log) c.in_ok-hold.ensures.held c.hold.ensures.more.held) c.go_back.ensures.order c.in_ok-note_learned.ensures.free place (c.go_back.ensures.place ∙ ap (λ (x : Search). length (below l.level x.trail.entries)) after) in
+    subst (λ (hs : List Held). Learns log hs s c.go_back.new.self c.args.work.now c.note_learned.new.work place) (sym c.in_ok-hold.ensures.held)
+    (subst (λ (w : WorkList Note). Learns log held s c.go_back.new.self c.args.work.now w place) (sym c.in_ok-note_learned.ensures.noted) there)

@@ -1,5 +1,5 @@
 -- One decision more, with what is learned from its conflicts.
-use Rattle.std.proofs.Common.{◌≡◌, ℕ, List, Option, None, sym, subst, arith, rules}
+use Rattle.std.proofs.Common.{◌≡◌, ℕ, Err, List, Ok, Option, None, ap, sym, subst, arith, rules}
 use Rattle.std.specs.Prelude.{All, IfSome}
 use Rattle.nz_log.specs.declared.lits.Lit.{Lit}
 use Rattle.nz_log.specs.Logs.{IsLive, literals_at}
@@ -7,17 +7,18 @@ use Rattle.nz_sat.specs.declared.search.Search.{Search}
 use Rattle.nz_sat.specs.Clauses.{IsAssumed}
 use Rattle.nz_sat.specs.Conflicts.{Refutes}
 use Rattle.nz_sat.specs.Theories.{IsMet, IsTold}
-use Rattle.nz_sat.proofs.Running.{met_told, run_advances, runs_on, runs_ordered}
+use Rattle.nz_sat.proofs.Advancing.{steps_same}
+use Rattle.nz_sat.proofs.Running.{met_told, run_advances, run_steps, runs_on, runs_ordered}
 use Rattle.nz_sat.proofs.search.Search.run.Goals as goal
 
 pub loop-term-init : goal.loop-term-init
 loop-term-init g c =
     let none : c.in_ok-refuted.field-0 ≡ None = search rules in
     record {
-      advances = c.begin.ensures.advances;
+      advances = c.begin.ensures.steps.advances;
       runs = c.in_ok-refuted.ensures.runs none;
-      met = c.in_ok-refuted.ensures.met none;
-      keeps = c.begin.ensures.over;
+      met = c.in_ok-refuted.ensures.steps.met none;
+      keeps = c.begin.ensures.steps.known;
     }
 
 pub turn-requires-clause-search : goal.turn-requires-clause-search
@@ -36,13 +37,16 @@ pub turn-requires-clause-told : goal.turn-requires-clause-told
 turn-requires-clause-told g c =
     subst (λ (s : Search). IsTold (g.T.Theory.has_told c.loop-term.theory) s.trail.entries) (sym c.next.ensures.rest) (met_told c.loop-term.invariant.met)
 
-pub returns-in_err-found-clause-advances : goal.returns-in_err-found-clause-advances
-returns-in_err-found-clause-advances g c =
-    run_advances c.loop-term.invariant.advances (runs_ordered c.loop-term.invariant.runs c.next.ensures.rest) c.loop-term.invariant.keeps c.turn.ensures.advances
+pub returns-in_err-found-clause-steps : goal.returns-in_err-found-clause-steps
+returns-in_err-found-clause-steps g c =
+    let same : Err c.in_err-found.field-0.0 ≡ c.from_residual-in_err-found.result = search rules in
+    steps_same same
+    (run_steps c.loop-term.invariant.advances (runs_ordered c.loop-term.invariant.runs c.next.ensures.rest) c.loop-term.invariant.keeps c.in_err-found.ensures.steps)
 
-pub returns-in-Some-2-clause-advances : goal.returns-in-Some-2-clause-advances
-returns-in-Some-2-clause-advances g c =
-    run_advances c.loop-term.invariant.advances (runs_ordered c.loop-term.invariant.runs c.next.ensures.rest) c.loop-term.invariant.keeps c.turn.ensures.advances
+pub returns-in-Some-2-clause-steps : goal.returns-in-Some-2-clause-steps
+returns-in-Some-2-clause-steps g c =
+    steps_same (ap Ok c.in-Some-2.is)
+    (run_steps c.loop-term.invariant.advances (runs_ordered c.loop-term.invariant.runs c.next.ensures.rest) c.loop-term.invariant.keeps c.in_ok-found.ensures.steps)
 
 pub returns-in-Some-2-clause-refuted : goal.returns-in-Some-2-clause-refuted
 returns-in-Some-2-clause-refuted g c =
@@ -57,7 +61,7 @@ loop-term-smaller g c =
     let settled = c.in_ok-found.ensures.settled none in
     let more = settled.more in
     let free = settled.free in
-    let limit = c.turn.ensures.advances.limit in
+    let limit = c.turn.ensures.steps.advances.limit in
     omega arith
 
 pub loop-term-preserved : goal.loop-term-preserved
@@ -66,27 +70,20 @@ loop-term-preserved g c =
     let settled = c.in_ok-found.ensures.settled none in
     let runs = runs_ordered c.loop-term.invariant.runs c.next.ensures.rest in
     record {
-      advances = run_advances c.loop-term.invariant.advances runs c.loop-term.invariant.keeps c.turn.ensures.advances;
+      advances = run_advances c.loop-term.invariant.advances runs c.loop-term.invariant.keeps c.turn.ensures.steps.advances;
       runs = runs_on runs settled.settles;
-      met = c.in_ok-found.ensures.met none;
-      keeps = λ ns known. c.turn.ensures.over ns (c.loop-term.invariant.keeps ns known);
+      met = c.in_ok-found.ensures.steps.met none;
+      keeps = λ ns known. c.turn.ensures.steps.known ns (c.loop-term.invariant.keeps ns known);
     }
 
-pub returns-clause-advances : goal.returns-clause-advances
-returns-clause-advances g c = c.loop-term.invariant.advances
+pub returns-clause-steps : goal.returns-clause-steps
+returns-clause-steps g c =
+    let t = c.loop-term.invariant in
+    let met = subst (λ (s : Search). IsMet (g.T.Theory.has_told c.loop-term.theory) (g.T.Theory.is_feasible c.loop-term.theory) s.trail.entries) (sym c.next.ensures.rest) t.met in
+    record { advances = t.advances; known = t.keeps; told = met_told met; met = λ none. met; spent = search rules }
 
 pub returns-clause-satisfied : goal.returns-clause-satisfied
 returns-clause-satisfied g c =
     let h = runs_ordered c.loop-term.invariant.runs c.next.ensures.rest in
     let none : c.next.result ≡ None = search rules in
     λ told. record { search = h.search; all_open = h.all_open; same = h.same; hold = h.hold; all_decided = c.next.ensures.none none }
-
-pub returns-clause-met : goal.returns-clause-met
-returns-clause-met g c =
-    let met = subst (λ (s : Search). IsMet (g.T.Theory.has_told c.loop-term.theory) (g.T.Theory.is_feasible c.loop-term.theory) s.trail.entries) (sym c.next.ensures.rest)
-    c.loop-term.invariant.met in
-    λ none. met
-
-pub returns-clause-told : goal.returns-clause-told
-returns-clause-told g c =
-    subst (λ (s : Search). IsTold (g.T.Theory.has_told c.loop-term.theory) s.trail.entries) (sym c.next.ensures.rest) (met_told c.loop-term.invariant.met)

@@ -1,18 +1,25 @@
 -- One conflict more is learned from.
-use Rattle.std.proofs.Common.{◌≡◌, None, ap, sym, subst, arith, rules}
+use Rattle.std.proofs.Common.{◌≡◌, Err, None, ap, sym, subst, arith, rules}
 use Rattle.nz_sat.specs.declared.search.Search.{Search}
 use Rattle.nz_sat.specs.Searching.{MayFollow}
 use Rattle.nz_sat.specs.Theories.{IsTold}
-use Rattle.nz_sat.proofs.Consulting.{advances_on, back_dead, back_refuted, conflict_of, goes_back, settles_first, settles_on, settles_open}
+use Rattle.nz_sat.proofs.Advancing.{steps_same}
+use Rattle.nz_sat.proofs.Consulting.{back_falsified, back_refuted, conflict_of, goes_back, settles_first, settles_on, settles_open, steps_on}
 use Rattle.nz_sat.proofs.Keeping.{search_usable}
 use Rattle.nz_sat.proofs.search.Search.settle.Goals as goal
 
 pub conflict-requires-clause-usable : goal.conflict-requires-clause-usable
 conflict-requires-clause-usable g c = search_usable c.args.log.now c.args.held.now.items c.args.self.now c.requires.search
 
-pub returns-in_err-conflict-clause-advances : goal.returns-in_err-conflict-clause-advances
-returns-in_err-conflict-clause-advances g c =
-    c.conflict.ensures.advances c.args.held.now.items (record { search = c.requires.search; were_open = c.requires.all_open; waits = c.requires.waits })
+pub returns-in_err-conflict-clause-steps : goal.returns-in_err-conflict-clause-steps
+returns-in_err-conflict-clause-steps g c =
+    record {
+      advances = c.conflict.ensures.advances c.args.held.now.items (record { search = c.requires.search; were_open = c.requires.all_open; waits = c.requires.waits });
+      known = c.conflict.ensures.over;
+      told = search rules;
+      met = search rules;
+      spent = search rules;
+    }
 
 pub loop-conflict-init : goal.loop-conflict-init
 loop-conflict-init g c =
@@ -36,25 +43,23 @@ pub refute-requires-clause-size : goal.refute-requires-clause-size
 refute-requires-clause-size g c =
     (goes_back c.loop-conflict.invariant c.in-Some.is c.back_to.ensures.rest c.back_to.ensures.size c.back_to.ensures.back c.back_to.ensures.over).search.marks
 
-pub returns-in_err-refute-clause-advances : goal.returns-in_err-refute-clause-advances
-returns-in_err-refute-clause-advances g c =
-    back_refuted (goes_back c.loop-conflict.invariant c.in-Some.is c.back_to.ensures.rest c.back_to.ensures.size c.back_to.ensures.back c.back_to.ensures.over)
-    c.refute.ensures.grows c.refute.ensures.sound
+pub returns-in_err-refute-clause-steps : goal.returns-in_err-refute-clause-steps
+returns-in_err-refute-clause-steps g c =
+    let b = goes_back c.loop-conflict.invariant c.in-Some.is c.back_to.ensures.rest c.back_to.ensures.size c.back_to.ensures.back c.back_to.ensures.over in
+    record { advances = back_refuted b c.refute.ensures.grows c.refute.ensures.sound; known = b.keeps; told = search rules; met = search rules; spent = search rules }
 
-pub returns-then-level-eq0-clause-advances : goal.returns-then-level-eq0-clause-advances
-returns-then-level-eq0-clause-advances g c =
-    back_refuted (goes_back c.loop-conflict.invariant c.in-Some.is c.back_to.ensures.rest c.back_to.ensures.size c.back_to.ensures.back c.back_to.ensures.over)
-    c.refute.ensures.grows c.refute.ensures.sound
-
-pub returns-then-level-eq0-clause-told : goal.returns-then-level-eq0-clause-told
-returns-then-level-eq0-clause-told g c =
-    subst (λ (s : Search). IsTold (g.T.Theory.has_told c.back_to.new.theory) s.trail.entries) (sym c.refute.ensures.rest) (c.back_to.ensures.told c.loop-conflict.invariant.told)
+pub returns-then-level-eq0-clause-steps : goal.returns-then-level-eq0-clause-steps
+returns-then-level-eq0-clause-steps g c =
+    let b = goes_back c.loop-conflict.invariant c.in-Some.is c.back_to.ensures.rest c.back_to.ensures.size c.back_to.ensures.back c.back_to.ensures.over in
+    let told = subst (λ (s : Search). IsTold (g.T.Theory.has_told c.back_to.new.theory) s.trail.entries) (sym c.refute.ensures.rest)
+    (c.back_to.ensures.told c.loop-conflict.invariant.told) in
+    record { advances = back_refuted b c.refute.ensures.grows c.refute.ensures.sound; known = b.keeps; told = told; met = search rules; spent = search rules }
 
 pub returns-then-level-eq0-clause-refuted : goal.returns-then-level-eq0-clause-refuted
 returns-then-level-eq0-clause-refuted g c =
     let b = goes_back c.loop-conflict.invariant c.in-Some.is c.back_to.ensures.rest c.back_to.ensures.size c.back_to.ensures.back c.back_to.ensures.over in (
       c.in_ok-refute.ensures.live,
-      λ assumed only. c.in_ok-refute.ensures.refutes assumed (b.carries.assumed_only assumed only) (back_dead b assumed),
+      λ assumed only. c.in_ok-refute.ensures.refutes assumed (b.carries.assumed_only assumed only) (back_falsified b assumed),
     )
 
 pub learn_on-requires-clause-search : goal.learn_on-requires-clause-search
@@ -82,25 +87,29 @@ learn_on-requires-clause-noted g c =
 pub learn_on-requires-clause-told : goal.learn_on-requires-clause-told
 learn_on-requires-clause-told g c = c.back_to.ensures.told c.loop-conflict.invariant.told
 
-pub returns-in_err-conflict-2-clause-advances : goal.returns-in_err-conflict-2-clause-advances
-returns-in_err-conflict-2-clause-advances g c =
+pub returns-in_err-conflict-2-clause-steps : goal.returns-in_err-conflict-2-clause-steps
+returns-in_err-conflict-2-clause-steps g c =
     let b = goes_back c.loop-conflict.invariant c.in-Some.is c.back_to.ensures.rest c.back_to.ensures.size c.back_to.ensures.back c.back_to.ensures.over in
-    advances_on b.carries b.advances b.keeps c.learn_on.ensures.advances
+    let same : Err c.in_err-conflict-2.field-0.0 ≡ c.from_residual-in_err-conflict-2.result = search rules in
+    steps_same same (steps_on b.carries b.advances b.keeps c.in_err-conflict-2.ensures.steps)
 
 pub loop-conflict-preserved : goal.loop-conflict-preserved
 loop-conflict-preserved g c =
     settles_on (goes_back c.loop-conflict.invariant c.in-Some.is c.back_to.ensures.rest c.back_to.ensures.size c.back_to.ensures.back c.back_to.ensures.over)
-    c.learn_on.ensures.advances c.in_ok-conflict-2.ensures.turns c.in_ok-conflict-2.ensures.told c.in_ok-conflict-2.ensures.met c.learn_on.ensures.over
+    c.in_ok-conflict-2.ensures.steps c.in_ok-conflict-2.ensures.turns
 
 pub loop-conflict-smaller : goal.loop-conflict-smaller
 loop-conflict-smaller g c =
     let more = c.in_ok-conflict-2.ensures.turns.more in
     let free = c.in_ok-conflict-2.ensures.turns.free in
-    let limit = c.learn_on.ensures.advances.limit in
+    let limit = c.learn_on.ensures.steps.advances.limit in
     omega arith
 
-pub returns-clause-advances : goal.returns-clause-advances
-returns-clause-advances g c = c.loop-conflict.invariant.advances
+pub returns-clause-steps : goal.returns-clause-steps
+returns-clause-steps g c =
+    let t = c.loop-conflict.invariant in
+    let open_all : c.loop-conflict.conflict ≡ None = search rules in
+    record { advances = t.advances; known = t.keeps; told = t.told; met = λ none. t.met open_all; spent = search rules }
 
 pub returns-clause-settled : goal.returns-clause-settled
 returns-clause-settled g c none =

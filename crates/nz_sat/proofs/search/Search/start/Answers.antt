@@ -12,30 +12,30 @@ use Rattle.nz_sat.proofs.Keeping.{goes_reasons, goes_search, held_has, held_usab
 use Rattle.nz_sat.proofs.Visiting.{goes_depth, goes_far, waits_less}
 use Rattle.nz_sat.proofs.search.Search.start.Goals as goal
 
-pub visit_held-dead-requires : goal.visit_held-dead-requires
-visit_held-dead-requires c = record { usable = held_usable c.args.log.now c.args.held.now c.args.self.now c.requires.search }
+pub visit_held-falsified-requires : goal.visit_held-falsified-requires
+visit_held-falsified-requires c = record { usable = held_usable c.args.log.now c.args.held.now c.args.self.now c.requires.search }
 
 pub returns-then-is_some-clause-comes : goal.returns-then-is_some-clause-comes
 returns-then-is_some-clause-comes c =
     let s = c.args.self.now in
     let held = c.args.held.now in
-    let v = c.visit_held-dead.ensures in
-    let t = c.visit_held-dead.new.trail in
+    let v = c.visit_held-falsified.ensures in
+    let t = c.visit_held-falsified.new.trail in
     let h = c.requires.search in
-    let some : is_some c.visit_held-dead.result ≡ true = search rules in
+    let some : is_some c.visit_held-falsified.result ≡ true = search rules in
     record {
       search = goes_search c.args.log.now held s t h v.size (v.order h.order) v.goes_on (v.implied h.implied) (v.reasons (ids held) (held_has held) h.reasons);
       by_reasons = goes_reasons s.trail.entries t.entries c.requires.none v.goes_on;
       undecided = goes_depth s.trail.entries t.entries v.goes_on ∙ ap depth c.requires.none;
-      all_open = λ none. absurd (none_told c.visit_held-dead.result some none);
-      dead = v.dead;
+      all_open = λ none. absurd (none_told c.visit_held-falsified.result some none);
+      falsified = v.falsified;
     }
 
 pub propagate-requires : goal.propagate-requires
 propagate-requires c =
     let s = c.args.self.now in
     record {
-      usable = subst (λ (n : ℕ). AreUsable c.args.log.now n s.index) (sym c.visit_held-dead.ensures.size) (search_usable c.args.log.now c.args.held.now s c.requires.search);
+      usable = subst (λ (n : ℕ). AreUsable c.args.log.now n s.index) (sym c.visit_held-falsified.ensures.size) (search_usable c.args.log.now c.args.held.now s c.requires.search);
       «from» = omega arith;
     }
 
@@ -44,12 +44,12 @@ returns-clause-comes c =
     let s = c.args.self.now in
     let log = c.args.log.now in
     let held = c.args.held.now in
-    let v = c.visit_held-dead.ensures in
+    let v = c.visit_held-falsified.ensures in
     let p = c.propagate.ensures in
-    let t = c.visit_held-dead.new.trail in
+    let t = c.visit_held-falsified.new.trail in
     let u = c.propagate.new.trail in
     let h = c.requires.search in
-    let none : c.visit_held-dead.result ≡ None = search rules in
+    let none : c.visit_held-falsified.result ≡ None = search rules in
     let goes = goes_far s.trail.entries t.entries u.entries v.goes_on p.goes_on in
     let W : ℕ → Type 0 = λ i. Waits t.entries 0 (literals_at log i) in
     let waits : All W (ids held) =
@@ -61,5 +61,5 @@ returns-clause-comes c =
       by_reasons = goes_reasons s.trail.entries u.entries c.requires.none goes;
       undecided = goes_depth s.trail.entries u.entries goes ∙ ap depth c.requires.none;
       all_open = λ told k d inside. p.all_open told (get_or (ids held) k d) (h.listed k d inside) (waits k d inside);
-      dead = IfSome_then c.propagate.result p.dead (λ id q. (h.only q.0.0 id q.0.1, q.1));
+      falsified = IfSome_then c.propagate.result p.falsified (λ id q. (h.only q.0.0 id q.0.1, q.1));
     }

@@ -1,11 +1,11 @@
 -- What comes of a decision.
-use Rattle.std.proofs.Common.{◌≡◌, ℕ, ◌<◌, ◌∙◌, length, Option, None, ap, sym, subst, arith}
+use Rattle.std.proofs.Common.{◌≡◌, ℕ, ◌<◌, ◌∙◌, length, Option, None, ap, sym, subst, arith, rules}
 use Rattle.std.proofs.lemmas.List.{length-append}
 use Rattle.std.proofs.lemmas.List.Elements.{All-contains}
 use Rattle.std.proofs.lemmas.Result.{IfOk-weaker}
 use Rattle.nz_sat.specs.Searching.{Advances, AreWaiting, Settles, SettlesOn}
 use Rattle.nz_sat.proofs.Advancing.{none_advances}
-use Rattle.nz_sat.proofs.Consulting.{advances_on}
+use Rattle.nz_sat.proofs.Consulting.{steps_on}
 use Rattle.nz_sat.proofs.Running.{has_decided, refutes_far, settles_far}
 use Rattle.nz_sat.proofs.Telling.{told_on}
 use Rattle.nz_sat.proofs.search.Search.turn.Goals as goal
@@ -14,14 +14,20 @@ pub decide-requires-clause-within : goal.decide-requires-clause-within
 decide-requires-clause-within g c =
     All-contains (λ (t : ℕ). t < c.args.self.now.trail.size) c.args.self.now.atoms c.args.term c.requires.search.within c.requires.named
 
-pub returns-in_err-from-clause-advances : goal.returns-in_err-from-clause-advances
-returns-in_err-from-clause-advances g c =
+pub returns-in_err-from-clause-steps : goal.returns-in_err-from-clause-steps
+returns-in_err-from-clause-steps g c =
     let s = c.args.self.now in
     let log = c.args.log.now in
     let held = c.args.held.now.items in
     let over = g.T.Theory.is_over c.args.theory.now in
-    subst (Advances over s.atoms s.trail.entries log log held held c.args.work.now) (sym c.in_err-from.ensures.err)
-    (none_advances over s.atoms s.trail.entries log held c.args.work.now c.requires.search.are_held)
+    record {
+      advances = subst (Advances over s.atoms s.trail.entries log log held held c.args.work.now) (sym c.in_err-from.ensures.err)
+          (none_advances over s.atoms s.trail.entries log held c.args.work.now c.requires.search.are_held);
+      known = λ ns known. known;
+      told = search rules;
+      met = search rules;
+      spent = search rules;
+    }
 
 pub settle-requires-clause-search : goal.settle-requires-clause-search
 settle-requires-clause-search g c =
@@ -58,11 +64,11 @@ settle-requires-clause-told g c =
     c.requires.free c.requires.named c.in_ok-from.ensures.rest c.in_ok-from.ensures.decides in
     told_on (g.T.Theory.has_told c.args.theory.now) c.args.self.now.trail.entries c.decide.new.self.trail.entries d.front c.requires.told
 
-pub returns-clause-advances : goal.returns-clause-advances
-returns-clause-advances g c =
+pub returns-clause-steps : goal.returns-clause-steps
+returns-clause-steps g c =
     let d = has_decided c.legal_work_goes_on.ensures.goes_on (g.T.Theory.is_over c.args.theory.now) c.args.term c.requires.search c.requires.all_open c.requires.were_open c.requires.noted
     c.requires.free c.requires.named c.in_ok-from.ensures.rest c.in_ok-from.ensures.decides in
-    advances_on d.carries d.advances (λ ns known. known) c.settle.ensures.advances
+    steps_on d.carries d.advances (λ ns known. known) c.settle.ensures.steps
 
 pub returns-clause-settled : goal.returns-clause-settled
 returns-clause-settled g c =

@@ -7,7 +7,9 @@ use Rattle.nz_log.specs.Notes.{noted_line, AreNotedWithin}
 use Rattle.nz_log.specs.declared.stop.Stop.TheVariants.{Spent}
 use Rattle.nz_spec.specs.Gates.{IsGated}
 use Rattle.nz_spec.specs.Table.{term_in}
+use Rattle.nz_reply.specs.Replies.{spent_of}
 use Rattle.nz_reply.specs.declared.reply.Reply.TheVariants as code
+use Rattle.nz_reply.specs.declared.reply.SpentList.{SpentList}
 use Rattle.nz_session.proofs.Answering.{checked, checked_answer}
 use Rattle.nz_session.proofs.LegalWork.{told_spent}
 use Rattle.nz_session.proofs.Assigning.{no_live_model}
@@ -28,8 +30,8 @@ returns-in-Ok-Unsat-clause-right g c x t h e =
     checked g.E.Decide.levels g.E.Decide.table x t code.Unsat c.said.result _ c.args.self.now.last c.said.ensures.said
     (record { live = h.live; sorted = h.sorted; told = told; front = c.decide-decided.ensures.front; last = h.last; bound = h.bound; values = h.values; success = h.success; bounded = h.bounded }) e refl (none, refl) tt
 
-pub returns-in-Err-Spent-clause-right : goal.returns-in-Err-Spent-clause-right
-returns-in-Err-Spent-clause-right g c x t h e =
+pub returns-in-Ok-clause-right : goal.returns-in-Ok-clause-right
+returns-in-Ok-clause-right g c x t h e =
     let ns = c.args.self.now.terms in
     let told = rw c.assertions.ensures.terms at c.decide-decided.ensures.told in
     let stop : c.decide-decided.result ≡ Err Spent = search rules in
@@ -37,7 +39,13 @@ returns-in-Err-Spent-clause-right g c x t h e =
     let limit = rw stop at c.decide-decided.ensures.limit in
     let within = rw stop at c.decide-decided.ensures.within in
     let live = told_spent c.normal_keeps_value.ensures.keeps ns c.args.self.now.live x.state c.decide-decided.new.work c.take.result x.limit h.live c.take.ensures.lines (limit ∙ h.bounded) spent in
+    -- the list in the box is that of the check
+    let boxed =
+    subst (λ (s : SpentList). (s.limit ≡ x.limit) × IsSpentLegally (task_of x.state []) (spent_of ns s) × AreNotedWithin ns s.work) (sym c.in-Ok.ensures.ok) (
+      h.bounded,
+      subst (λ n. IsSpentLegally (task_of x.state []) (record { lines = map (noted_line ns) c.take.result; limit = n })) (sym h.bounded) live,
+      subst (AreNotedWithin ns) (sym c.take.ensures.lines) within,
+    ) in
     checked_answer g.E.Decide.levels g.E.Decide.table x t _ _ c.args.self.now.last
     (record { live = h.live; sorted = h.sorted; told = told; front = c.decide-decided.ensures.front; last = h.last; bound = h.bound; values = h.values; success = h.success; bounded = h.bounded }) refl e refl
-    (ap units_spent h.bounded, h.bounded, subst (λ n. IsSpentLegally (task_of x.state []) (record { lines = map (noted_line ns) c.take.result; limit = n })) (sym h.bounded) live)
-    (subst (AreNotedWithin ns) (sym c.take.ensures.lines) within) tt
+    (ap units_spent h.bounded, boxed.0, boxed.1) boxed.2 tt

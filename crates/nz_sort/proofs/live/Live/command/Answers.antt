@@ -1,7 +1,6 @@
 use Rattle.std.proofs.Common.{Ok, Err, refl}
 use Rattle.nz_sexpr.specs.View.{view}
 use Rattle.nz_spec.specs.Parse.{request_of}
-use Rattle.nz_sort.proofs.Living.{cut_back}
 use Rattle.nz_sort.proofs.Ruling.{carried, broken, some_comes}
 use Rattle.nz_sort.proofs.live.Live.command.Goals as goal
 

@@ -1,4 +1,4 @@
-use Rattle.std.proofs.Common.{◌≡◌, ◌∙◌, ◌||◌, [], map, is_some, true, false, ap, sym, rules}
+use Rattle.std.proofs.Common.{◌≡◌, ◌∙◌, ◌||◌, map, is_some, true, false, ap, sym, rules}
 use Rattle.std.specs.List.{list_any}
 use Rattle.nz_spec.specs.Script.{is_unknown_sort}
 use Rattle.nz_command.specs.Requests.{sort_view}

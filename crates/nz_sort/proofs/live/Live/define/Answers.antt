@@ -4,9 +4,9 @@ use Rattle.nz_command.specs.Requests.{sort_view, parameter_view}
 use Rattle.nz_sort.proofs.Defining.{comes_defined}
 use Rattle.nz_sort.proofs.live.Live.define.Goals as goal
 
-pub returns-in-Ok-add_definition : goal.returns-in-Ok-add_definition
-returns-in-Ok-add_definition c =
+pub returns : goal.returns
+returns c =
     record {
-      comes = comes_defined c.term_stays.ensures.stays _ _ _ _ c.args.name.now (map parameter_view c.args.parameters.now) (sort_view c.args.sort.now) (written c.args.body.now) c.in-Ok.definition
-          c.in-Ok.ensures.grows c.in-Ok.ensures.companions c.in-Ok.ensures.accepted c.in-Ok-add_definition.ensures.added;
+      comes = comes_defined c.term_stays.ensures.stays _ _ _ _ c.args.name.now (map parameter_view c.args.parameters.now) (sort_view c.args.sort.now) (written c.args.body.now) c.in_ok-definition.definition
+          c.in_ok-definition.ensures.grows c.in_ok-definition.ensures.companions c.in_ok-definition.ensures.accepted c.in_ok-add_definition.ensures.added;
     }

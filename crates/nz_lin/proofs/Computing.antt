@@ -1,0 +1,89 @@
+-- Computations one after another, up to the first operation that leaves the numbers.
+use Rattle.std.proofs.Common.{◌≡◌, Bool, true, false, List, [], ◌∷◌, ◌++◌, Some, None, Result, Ok, Err, refl, sym, ap, subst, ◌∙◌, if◌then◌else◌}
+use Rattle.nz_spec.specs.Fraction.{Operation, first_wide, is_wide}
+use Rattle.nz_spec.specs.Computation.{Computation, at_once, turned_into, and_then}
+use Rattle.nz_spec.specs.Form as spec
+use Rattle.nz_spec.specs.Table.{Node}
+use Rattle.nz_frac.specs.Operations.{operation_of}
+use Rattle.nz_lin.specs.declared.form.LinStop.{LinStop}
+use Rattle.nz_lin.specs.declared.form.LinStop.TheVariants.{Wide, Memory}
+use Rattle.nz_lin.specs.Stops.{IsStopAt}
+use Rattle.nz_lin.specs.Forms.{Numbered}
+use Rattle.nz_lin.specs.Comes.{IsDone, IsFormed}
+
+-- ---- The first operation of two lists
+
+append_none : (x : Operation) (b : Bool) (xs ys : List Operation) → (first_wide xs ≡ None → first_wide (xs ++ ys) ≡ first_wide ys)
+    → (if b then Some x else first_wide xs) ≡ None → (if b then Some x else first_wide (xs ++ ys)) ≡ first_wide ys
+append_none x true xs ys rest e = cc
+append_none x false xs ys rest e = rest e
+
+append_some : (x w : Operation) (b : Bool) (xs ys : List Operation) → (first_wide xs ≡ Some w → first_wide (xs ++ ys) ≡ Some w)
+    → (if b then Some x else first_wide xs) ≡ Some w → (if b then Some x else first_wide (xs ++ ys)) ≡ Some w
+append_some x w true xs ys rest e = e
+append_some x w false xs ys rest e = rest e
+
+-- where no operation of the first list is wide, the second decides
+pub first_wide-none : (xs ys : List Operation) → first_wide xs ≡ None → first_wide (xs ++ ys) ≡ first_wide ys
+unfolding first_wide
+first_wide-none [] ys e = refl
+first_wide-none (x ∷ xs) ys e = append_none x (is_wide x.operator x.left x.right) xs ys (first_wide-none xs ys) e
+
+-- else the first list does
+pub first_wide-some : (xs ys : List Operation) (w : Operation) → first_wide xs ≡ Some w → first_wide (xs ++ ys) ≡ Some w
+unfolding first_wide
+first_wide-some [] ys w e = cc
+first_wide-some (x ∷ xs) ys w e = append_some x w (is_wide x.operator x.left x.right) xs ys (first_wide-some xs ys w) e
+
+pub no_operation : first_wide [] ≡ None
+unfolding first_wide
+no_operation = refl
+
+-- ---- Computations that are one
+
+-- they come to the same, and stop at the same
+pub record IsSame {A : Type 0} (c d : Computation A) : Type 0 where
+  pub result : c.result ≡ d.result
+  pub stop : first_wide c.operations ≡ first_wide d.operations
+
+pub same_itself : {A : Type 0} (c : Computation A) → IsSame c c
+same_itself c = record { result = refl; stop = refl }
+
+pub same_more : {A : Type 0} (c d e : Computation A) → IsSame c d → IsSame d e → IsSame c e
+same_more c d e s t = record { result = s.result ∙ t.result; stop = s.stop ∙ t.stop }
+
+pub same_done : {A : Type 0} (c d : Computation A) (x : A) → IsSame c d → IsDone c x → IsDone d x
+same_done c d x s h = record { result = h.result ∙ s.result; fits = sym s.stop ∙ h.fits }
+
+pub same_stop : {A : Type 0} (c d : Computation A) (s : LinStop) → IsSame c d → IsStopAt (first_wide c.operations) s → IsStopAt (first_wide d.operations) s
+same_stop c d s e h = subst (λ o. IsStopAt o s) e.stop h
+
+pub same_formed : (ns : List Node) (c d : Computation spec.Form) (r : Result Numbered LinStop) → IsSame c d → IsFormed ns c r → IsFormed ns d r
+same_formed ns c d (Ok f) s h = (same_done c d _ s h.0, h.1)
+same_formed ns c d (Err e) s h = same_stop c d e s h
+
+-- what needs no operation
+pub at_once_done : {A : Type 0} (x : A) → IsDone (at_once x) x
+at_once_done x = record { result = refl; fits = no_operation }
+
+module _ {A B : Type 0} where
+  pub turned_done : (f : A → B) (c : Computation A) (x : A) → IsDone c x → IsDone (turned_into f c) (f x)
+  turned_done f c x h = record { result = ap f h.result; fits = h.fits }
+
+  module _ (c : Computation A) (f : A → Computation B) where
+    -- where the first is done, the second is left
+    pub one_step : (x : A) → IsDone c x → IsSame (f x) (and_then c f)
+    one_step x h = record {
+      result = ap (λ y. (f y).result) h.result;
+      stop = ap (λ y. first_wide (f y).operations) h.result ∙ sym (first_wide-none c.operations (f c.result).operations h.fits);
+    }
+
+    pub done_both : (x : A) (y : B) → IsDone c x → IsDone (f x) y → IsDone (and_then c f) y
+    done_both x y h k = same_done (f x) (and_then c f) y (one_step x h) k
+
+    pub stop_second : (x : A) (s : LinStop) → IsDone c x → IsStopAt (first_wide (f x).operations) s → IsStopAt (first_wide (and_then c f).operations) s
+    stop_second x s h k = same_stop (f x) (and_then c f) s (one_step x h) k
+
+    pub stop_first : (s : LinStop) → IsStopAt (first_wide c.operations) s → IsStopAt (first_wide (and_then c f).operations) s
+    stop_first (Wide w) h = first_wide-some c.operations (f c.result).operations (operation_of w) h
+    stop_first Memory h = tt

@@ -1,0 +1,9 @@
+pub mod Adding
+pub mod Computing
+pub mod Joining
+pub mod Making
+pub mod Operators
+pub mod Scaling
+pub mod Sizes
+pub mod Units
+pub mod Walking

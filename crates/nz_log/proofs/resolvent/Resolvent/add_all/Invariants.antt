@@ -1,0 +1,9 @@
+use Rattle.std.proofs.Common.{◌≡◌, drop}
+use Rattle.std.specs.Prelude.{fold}
+use Rattle.nz_spec.specs.Literal.{with_one}
+use Rattle.nz_log.specs.Lits.{are_same_lit}
+use Rattle.nz_log.proofs.resolvent.Resolvent.add_all.Given as goal
+
+-- the set, with those that are left, is what is wanted
+abbrev pub invariant-loop-literal : goal.invariant-loop-literal
+invariant-loop-literal l = fold (with_one are_same_lit) l.self (drop l.literal-index l.literals) ≡ fold (with_one are_same_lit) l.fn.self l.literals

@@ -1,0 +1,50 @@
+-- The tests of order, and how the other sign turns them.
+use Rattle.std.proofs.Common.{◌≡◌, true, false, not, inl, inr, [], ◌∷◌, pos, ◌*ℤ◌, neg_ℤ, refl, sym, ap, ◌∙◌, arith}
+use Rattle.std.proofs.lemmas.Int.{ints}
+use Rattle.nz_ints.proofs.Ring.{Atom, ◌⊗◌, Minus, solve}
+use Rattle.nz_spec.specs.Fraction.{Fraction, denominator, neg_ℚ, ◌=ℚ◌, ◌≤ℚ◌, ◌<ℚ◌, fraction_le, fraction_lt}
+use Rattle.nz_spec.proofs.FractionLaws.{=ℚ_sym, ≤ℚ-from_eq, ≤ℚ_trans, <ℚ-≤ℚ_trans, ≤ℚ-<ℚ_trans, ≤ℚ_total}
+
+-- ---- The tests
+
+pub lt_is : (p q : Fraction) → p <ℚ q → fraction_lt p q ≡ true
+unfolding fraction_lt
+lt_is p q h = let e : true ≡ fraction_lt p q = omega (arith, ints, h.cross) in sym e
+
+pub lt_is_not : (p q : Fraction) → q ≤ℚ p → fraction_lt p q ≡ false
+unfolding fraction_lt
+lt_is_not p q h = let e : false ≡ fraction_lt p q = omega (arith, ints, h.cross) in sym e
+
+pub le_is : (p q : Fraction) → p ≤ℚ q → fraction_le p q ≡ true
+unfolding fraction_le
+le_is p q h = let e : true ≡ fraction_le p q = omega (arith, ints, h.cross) in sym e
+
+pub le_is_not : (p q : Fraction) → q <ℚ p → fraction_le p q ≡ false
+unfolding fraction_le
+le_is_not p q h = let e : false ≡ fraction_le p q = omega (arith, ints, h.cross) in sym e
+
+-- ---- The other sign turns the order
+
+crossed : (p q : Fraction) → (neg_ℚ p).numerator *ℤ pos (denominator (neg_ℚ q)) ≡ neg_ℤ (p.numerator *ℤ pos (denominator q))
+unfolding neg_ℚ denominator
+crossed p q = solve (p.numerator ∷ pos (denominator q) ∷ []) (Minus (Atom 0) ⊗ Atom 1) (Minus (Atom 0 ⊗ Atom 1)) refl
+
+turned_le : (p q : Fraction) → p ≤ℚ q → neg_ℚ q ≤ℚ neg_ℚ p
+turned_le p q h = record { cross = omega (arith, ints, h.cross, crossed p q, crossed q p) }
+
+turned_lt : (p q : Fraction) → p <ℚ q → neg_ℚ q <ℚ neg_ℚ p
+turned_lt p q h = record { cross = omega (arith, ints, h.cross, crossed p q, crossed q p) }
+
+pub at_most_turned : (x p b : Fraction) → x =ℚ neg_ℚ p → fraction_lt x (neg_ℚ b) ≡ not (fraction_le p b)
+at_most_turned x p b e =
+    elim (≤ℚ_total p b) [
+      | inl h ↦ lt_is_not x (neg_ℚ b) (≤ℚ_trans (turned_le p b h) (≤ℚ-from_eq (=ℚ_sym e))) ∙ sym (ap not (le_is p b h))
+      | inr h ↦ lt_is x (neg_ℚ b) (≤ℚ-<ℚ_trans (≤ℚ-from_eq e) (turned_lt b p h)) ∙ sym (ap not (le_is_not p b h))
+    ]
+
+pub below_turned : (x p b : Fraction) → x =ℚ neg_ℚ p → fraction_le x (neg_ℚ b) ≡ not (fraction_lt p b)
+below_turned x p b e =
+    elim (≤ℚ_total b p) [
+      | inl h ↦ le_is x (neg_ℚ b) (≤ℚ_trans (≤ℚ-from_eq e) (turned_le b p h)) ∙ sym (ap not (lt_is_not p b h))
+      | inr h ↦ le_is_not x (neg_ℚ b) (<ℚ-≤ℚ_trans (turned_lt p b h) (≤ℚ-from_eq (=ℚ_sym e))) ∙ sym (ap not (lt_is p b h))
+    ]

@@ -1,0 +1,23 @@
+//! Laws of linear forms.
+ghost use Rattle.nz_spec.specs.FormOf.{FormHasValue, FormsAreSums, TermHasItsNumber};
+ghost use Rattle.nz_spec.specs.FormPlace.{JoinsAtItsPlace};
+
+/// The form of a linear term has the value of the term.
+pub fn form_has_value()
+    ensures value { FormHasValue }
+{}
+
+/// In the form of a term each unit stands once, in order, with a coefficient other than 0.
+pub fn forms_are_sums()
+    ensures sums { FormsAreSums }
+{}
+
+/// The number of a term in a table is the one by which it is found there.
+pub fn term_has_its_number()
+    ensures number { TermHasItsNumber }
+{}
+
+/// A part joins a sum at the place of its unit.
+pub fn joins_at_its_place()
+    ensures place { JoinsAtItsPlace }
+{}

@@ -1,0 +1,414 @@
+//! Values of terms: of each kind of operator, of roots that share terms, where pairs are missing or too many, of constants of
+//! one name, and at the edges of the numbers.
+ghost use Rattle.std.specs.Prelude.{◌≡◌, ◌<◌, ◌≤◌, None, length, IfOk, IsTrue, OnOk};
+ghost use Rattle.std.specs.List.{AllByRecursion};
+ghost use Rattle.nz_spec.specs.Term.{constant_of, head_fits};
+ghost use Rattle.nz_term.specs.Heads.{head_of};
+
+use nz_base::{Memory, Text};
+use nz_frac::{Op, Wide};
+use nz_term::{Assign, Constant, Head, NumberSort, Operator, Sort, TermId, Terms, Value};
+use nz_truth::{EvalStop, Outcome, Values, eval, outcomes};
+use std::alloc::Global;
+use std::test::Fail;
+
+// M, the greatest number.
+const GREATEST: u128 = 170141183460469231731687303715884105727;
+
+// The number of the constant p of this sort.
+fn constant(alloc: Global, terms: &mut Terms, sort: Sort) -> Result<TermId, Memory>
+    ensures within { IfOk result (λ id. id < length terms.new) }
+{
+    let p = Constant {
+        name: Text::from_slice(alloc, b"p")?,
+        sort,
+    };
+    let id = terms.make(Head::Constant(&p), &[])?;
+    Ok(id)
+}
+
+// A table of the constant p alone, of sort `Bool`, and its number.
+fn one_constant(alloc: Global) -> Result<(Terms, TermId), Memory>
+    ensures within { IfOk result (λ t. t.1 < length t.0) }
+{
+    let mut terms = Terms::new(alloc)?;
+    let p = constant(alloc, &mut terms, Sort::Bool)?;
+    Ok((terms, p))
+}
+
+// One term more, which is no constant.
+fn operation(terms: &mut Terms, head: Head<'_>, kids: &[TermId]) -> Result<TermId, Memory>
+    requires known { AllByRecursion (λ k. k < length terms.old) kids.now }
+    requires operator { constant_of (head_of head) ≡ None }
+    requires fits { IsTrue (head_fits (head_of head)) }
+    ensures longer { OnOk result (length terms.old ≤ length terms.new) }
+    ensures within { IfOk result (λ id. id < length terms.new) }
+{
+    let id = terms.make(head, kids)?;
+    Ok(id)
+}
+
+// The table of p, `(not p)`, `(or p (not p))`, `(and p (not p))`, `(ite p (not p) p)` and `(= p (not p))`, in this order.
+fn operations(alloc: Global) -> Result<Terms, Memory> {
+    let (mut terms, p) = one_constant(alloc)?;
+    let not_p = operation(&mut terms, Head::Operator(Operator::Not), &[p])?;
+    operation(&mut terms, Head::Operator(Operator::Or), &[p, not_p])?;
+    operation(&mut terms, Head::Operator(Operator::And), &[p, not_p])?;
+    operation(
+        &mut terms,
+        Head::Operator(Operator::Ite(Sort::Bool)),
+        &[p, not_p, p],
+    )?;
+    operation(&mut terms, Head::Operator(Operator::Equal), &[p, not_p])?;
+    Ok(terms)
+}
+
+// The negation of the negation .. of p, and its number.
+fn negations(alloc: Global, count: usize) -> Result<(Terms, TermId), Memory>
+    ensures within { IfOk result (λ t. t.1 < length t.0) }
+{
+    let (mut terms, mut last) = one_constant(alloc)?;
+    for _ in 0..count {
+        last = operation(&mut terms, Head::Operator(Operator::Not), &[last])?;
+    }
+    Ok((terms, last))
+}
+
+// The sum of a sum .. of 1 with itself, and its number.
+fn doublings(alloc: Global, count: usize) -> Result<(Terms, TermId), Memory>
+    ensures within { IfOk result (λ t. t.1 < length t.0) }
+{
+    let mut terms = Terms::new(alloc)?;
+    let mut last = operation(&mut terms, Head::Integer(1), &[])?;
+    for _ in 0..count {
+        last = operation(
+            &mut terms,
+            Head::Operator(Operator::Sum(NumberSort::Int)),
+            &[last, last],
+        )?;
+    }
+    Ok((terms, last))
+}
+
+// The term of an integer.
+fn integer(terms: &mut Terms, n: i64) -> Result<TermId, Memory>
+    ensures longer { OnOk result (length terms.old ≤ length terms.new) }
+    ensures within { IfOk result (λ id. id < length terms.new) }
+{
+    let size = operation(terms, Head::Integer(n.unsigned_abs() as u128), &[])?;
+    if n < 0 {
+        operation(
+            terms,
+            Head::Operator(Operator::Difference(NumberSort::Int)),
+            &[size],
+        )
+    } else {
+        Ok(size)
+    }
+}
+
+// Whether an operator over two integers comes to the integer that is expected.
+fn is_of_integers(
+    alloc: Global,
+    head: Head<'_>,
+    m: i64,
+    n: i64,
+    expected: i128,
+) -> Result<bool, Memory>
+    requires operator { constant_of (head_of head) ≡ None }
+    requires fits { IsTrue (head_fits (head_of head)) }
+{
+    let mut terms = Terms::new(alloc)?;
+    let left = integer(&mut terms, m)?;
+    let right = integer(&mut terms, n)?;
+    let id = operation(&mut terms, head, &[left, right])?;
+    comes_to(alloc, &terms, id, expected)
+}
+
+// The term of an operator over the quotient of two integers.
+fn of_quotient(alloc: Global, head: Head<'_>, m: i64, n: i64) -> Result<(Terms, TermId), Memory>
+    requires operator { constant_of (head_of head) ≡ None }
+    requires fits { IsTrue (head_fits (head_of head)) }
+    ensures within { IfOk result (λ t. t.1 < length t.0) }
+{
+    let mut terms = Terms::new(alloc)?;
+    let left = integer(&mut terms, m)?;
+    let right = integer(&mut terms, n)?;
+    let quotient = operation(
+        &mut terms,
+        Head::Operator(Operator::Quotient),
+        &[left, right],
+    )?;
+    let id = operation(&mut terms, head, &[quotient])?;
+    Ok((terms, id))
+}
+
+// Whether `to_int` of the quotient of two integers comes to the integer that is expected.
+fn rounds_to(alloc: Global, m: i64, n: i64, expected: i128) -> Result<bool, Memory> {
+    let (terms, id) = of_quotient(alloc, Head::Operator(Operator::ToInt), m, n)?;
+    comes_to(alloc, &terms, id, expected)
+}
+
+// Whether `is_int` of the quotient of two integers comes to the truth that is expected.
+fn is_whole(alloc: Global, m: i64, n: i64, expected: bool) -> Result<bool, Memory> {
+    let (terms, id) = of_quotient(alloc, Head::Operator(Operator::IsInt), m, n)?;
+    let values = evaluated(alloc, &terms, &[id], &[])?;
+    Ok(are(&values, &[expected]))
+}
+
+// The table of M, 1, `(+ M 1)`, `(* M M)`, `(= 1 1)`, and `(ite (= 1 1) 1 (+ M 1))`, in this order.
+fn wide_operations(alloc: Global) -> Result<Terms, Memory> {
+    let mut terms = Terms::new(alloc)?;
+    let most = operation(&mut terms, Head::Integer(GREATEST), &[])?;
+    let one = operation(&mut terms, Head::Integer(1), &[])?;
+    let sum = operation(
+        &mut terms,
+        Head::Operator(Operator::Sum(NumberSort::Int)),
+        &[most, one],
+    )?;
+    operation(
+        &mut terms,
+        Head::Operator(Operator::Product(NumberSort::Int)),
+        &[most, most],
+    )?;
+    let same = operation(&mut terms, Head::Operator(Operator::Equal), &[one, one])?;
+    operation(
+        &mut terms,
+        Head::Operator(Operator::Ite(Sort::Int)),
+        &[same, one, sum],
+    )?;
+    Ok(terms)
+}
+
+// The assignment of these pairs.
+fn assignment(alloc: Global, pairs: &[(TermId, bool)]) -> Result<Assign, Memory> {
+    let mut assign = Assign::new(alloc)?;
+    for (id, truth) in pairs {
+        assign.push(*id, Value::Truth(*truth))?;
+    }
+    Ok(assign)
+}
+
+// The values of these roots by an assignment of these pairs; none where an operation leaves the numbers.
+fn evaluated(
+    alloc: Global,
+    terms: &Terms,
+    roots: &[TermId],
+    pairs: &[(TermId, bool)],
+) -> Result<Option<Values>, Memory>
+    requires known { AllByRecursion (λ i. i < length terms.now) roots.now }
+{
+    let assign = assignment(alloc, pairs)?;
+    match eval(alloc, terms, roots, &assign) {
+        Ok(values) => Ok(Some(values)),
+        Err(EvalStop::Wide(_)) => Ok(None),
+        Err(EvalStop::Memory) => Err(Memory),
+    }
+}
+
+// The operation that is the first of these roots to leave the numbers.
+fn stop(alloc: Global, terms: &Terms, roots: &[TermId]) -> Result<Option<Wide>, Memory>
+    requires known { AllByRecursion (λ i. i < length terms.now) roots.now }
+{
+    let assign = Assign::new(alloc)?;
+    match eval(alloc, terms, roots, &assign) {
+        Ok(_) => Ok(None),
+        Err(EvalStop::Wide(wide)) => Ok(Some(wide)),
+        Err(EvalStop::Memory) => Err(Memory),
+    }
+}
+
+// Whether a term comes to the integer that is expected, where nothing is assigned.
+fn comes_to(alloc: Global, terms: &Terms, root: TermId, expected: i128) -> Result<bool, Memory>
+    requires known { root < length terms.now }
+{
+    let assign = Assign::new(alloc)?;
+    let found = outcomes(alloc, terms, &[root], &assign)?;
+    match found.first() {
+        Some(outcome) => Ok(is(outcome, expected)),
+        None => Ok(false),
+    }
+}
+
+// Whether these are truth values, and the ones that are expected.
+fn are(values: &Option<Values>, expected: &[bool]) -> bool {
+    match values {
+        Some(values) => are_truths(values.as_slice(), expected),
+        None => false,
+    }
+}
+
+fn are_truths(values: &[Value], expected: &[bool]) -> bool {
+    values.len() == expected.len()
+        && values
+            .iter()
+            .zip(expected)
+            .all(|(value, truth)| *value == Value::Truth(*truth))
+}
+
+// Whether this is an integer, and the one that is expected.
+fn is(outcome: &Outcome, expected: i128) -> bool {
+    match outcome {
+        Outcome::Value(Value::Number(number)) => number.num() == expected && number.den() == 1,
+        _ => false,
+    }
+}
+
+// Whether this is an operation on M and this number.
+fn is_wide(stop: &Option<Wide>, op: Op, right: i128) -> bool {
+    match stop {
+        Some(wide) => { wide.op == op && wide.a.num() == GREATEST as i128 && wide.b.num() == right }
+        None => false,
+    }
+}
+
+#[test]
+fn operators_have_their_values(rt: HostRuntime) -> Result<(), Fail> {
+    let terms = operations(rt.alloc())?;
+    assert_eq!(rt; terms.len(), 6);
+    let roots = [0, 1, 2, 3, 4, 5];
+    let where_true = evaluated(rt.alloc(), &terms, &roots, &[(0, true)])?;
+    assert!(rt; are(&where_true, &[true, false, true, false, false, false]));
+    let where_false = evaluated(rt.alloc(), &terms, &roots, &[(0, false)])?;
+    assert!(rt; are(&where_false, &[false, true, true, false, false, false]));
+    Ok(())
+}
+
+#[test]
+fn roots_have_their_values_in_order(rt: HostRuntime) -> Result<(), Fail> {
+    let terms = operations(rt.alloc())?;
+    assert_eq!(rt; terms.len(), 6);
+    let values = evaluated(rt.alloc(), &terms, &[2, 1, 2], &[(0, true)])?;
+    assert!(rt; are(&values, &[true, false, true]));
+    let none = evaluated(rt.alloc(), &terms, &[], &[(0, true)])?;
+    assert!(rt; are(&none, &[]));
+    Ok(())
+}
+
+#[test]
+fn the_first_pair_of_a_constant_counts(rt: HostRuntime) -> Result<(), Fail> {
+    let terms = operations(rt.alloc())?;
+    assert_eq!(rt; terms.len(), 6);
+    // Past the table, of an operation, and then the constant twice.
+    let pairs = [(70, false), (1, true), (0, true), (0, false)];
+    let values = evaluated(rt.alloc(), &terms, &[0, 1], &pairs)?;
+    assert!(rt; are(&values, &[true, false]));
+    let unlisted = evaluated(rt.alloc(), &terms, &[0, 1], &[])?;
+    assert!(rt; are(&unlisted, &[false, true]));
+    Ok(())
+}
+
+#[test]
+fn constants_of_one_name_differ_by_sort(rt: HostRuntime) -> Result<(), Fail> {
+    let mut terms = Terms::new(rt.alloc())?;
+    constant(rt.alloc(), &mut terms, Sort::Bool)?;
+    constant(rt.alloc(), &mut terms, Sort::Int)?;
+    assert_eq!(rt; terms.len(), 2);
+    let values = evaluated(rt.alloc(), &terms, &[0], &[(0, true)])?;
+    assert!(rt; are(&values, &[true]));
+    // No value is given for the second, which has the default of its sort.
+    let unlisted = comes_to(rt.alloc(), &terms, 1, 0)?;
+    assert!(rt; unlisted);
+    Ok(())
+}
+
+#[test]
+fn a_long_chain_is_evaluated(rt: HostRuntime) -> Result<(), Fail> {
+    let (terms, last) = negations(rt.alloc(), 100_000)?;
+    let values = evaluated(rt.alloc(), &terms, &[last], &[(0, true)])?;
+    assert!(rt; are(&values, &[true]));
+    Ok(())
+}
+
+#[test]
+fn shared_sums_are_evaluated_once(rt: HostRuntime) -> Result<(), Fail> {
+    let (terms, last) = doublings(rt.alloc(), 100)?;
+    let is_power = comes_to(
+        rt.alloc(),
+        &terms,
+        last,
+        1_267_650_600_228_229_401_496_703_205_376,
+    )?;
+    assert!(rt; is_power);
+    Ok(())
+}
+
+#[test]
+fn div_leaves_no_remainder_below_zero(rt: HostRuntime) -> Result<(), Fail> {
+    let above = is_of_integers(rt.alloc(), Head::Operator(Operator::Div), 7, 2, 3)?;
+    assert!(rt; above);
+    let left = is_of_integers(rt.alloc(), Head::Operator(Operator::Div), -7, 2, -4)?;
+    assert!(rt; left);
+    let right = is_of_integers(rt.alloc(), Head::Operator(Operator::Div), 7, -2, -3)?;
+    assert!(rt; right);
+    let both = is_of_integers(rt.alloc(), Head::Operator(Operator::Div), -7, -2, 4)?;
+    assert!(rt; both);
+    Ok(())
+}
+
+#[test]
+fn mod_is_never_below_zero(rt: HostRuntime) -> Result<(), Fail> {
+    let left = is_of_integers(rt.alloc(), Head::Operator(Operator::Mod), -7, 3, 2)?;
+    assert!(rt; left);
+    let right = is_of_integers(rt.alloc(), Head::Operator(Operator::Mod), 7, -3, 1)?;
+    assert!(rt; right);
+    let both = is_of_integers(rt.alloc(), Head::Operator(Operator::Mod), -7, -3, 2)?;
+    assert!(rt; both);
+    Ok(())
+}
+
+#[test]
+fn by_zero_the_definition_is_computed(rt: HostRuntime) -> Result<(), Fail> {
+    let div = is_of_integers(rt.alloc(), Head::Operator(Operator::Div), -7, 0, -1)?;
+    assert!(rt; div);
+    let rest = is_of_integers(rt.alloc(), Head::Operator(Operator::Mod), -7, 0, -7)?;
+    assert!(rt; rest);
+    let quotient = is_of_integers(rt.alloc(), Head::Operator(Operator::Quotient), -7, 0, 0)?;
+    assert!(rt; quotient);
+    Ok(())
+}
+
+#[test]
+fn to_int_rounds_down(rt: HostRuntime) -> Result<(), Fail> {
+    let below = rounds_to(rt.alloc(), -1, 2, -1)?;
+    assert!(rt; below);
+    let above = rounds_to(rt.alloc(), 5, 3, 1)?;
+    assert!(rt; above);
+    Ok(())
+}
+
+#[test]
+fn integers_are_told_from_fractions(rt: HostRuntime) -> Result<(), Fail> {
+    let whole = is_whole(rt.alloc(), 6, 3, true)?;
+    assert!(rt; whole);
+    let half = is_whole(rt.alloc(), -1, 2, false)?;
+    assert!(rt; half);
+    Ok(())
+}
+
+#[test]
+fn a_wide_sum_names_its_operands(rt: HostRuntime) -> Result<(), Fail> {
+    let terms = wide_operations(rt.alloc())?;
+    assert_eq!(rt; terms.len(), 6);
+    let sum = stop(rt.alloc(), &terms, &[2])?;
+    assert!(rt; is_wide(&sum, Op::Add, 1));
+    Ok(())
+}
+
+#[test]
+fn a_branch_that_is_not_taken_counts(rt: HostRuntime) -> Result<(), Fail> {
+    let terms = wide_operations(rt.alloc())?;
+    assert_eq!(rt; terms.len(), 6);
+    let branch = stop(rt.alloc(), &terms, &[5])?;
+    assert!(rt; is_wide(&branch, Op::Add, 1));
+    Ok(())
+}
+
+#[test]
+fn the_first_wide_operation_is_named(rt: HostRuntime) -> Result<(), Fail> {
+    let terms = wide_operations(rt.alloc())?;
+    assert_eq!(rt; terms.len(), 6);
+    let product = stop(rt.alloc(), &terms, &[1, 3, 2])?;
+    assert!(rt; is_wide(&product, Op::Mul, GREATEST as i128));
+    Ok(())
+}
