@@ -13,7 +13,7 @@ use Rattle.nz_spec.specs.Form.{Numbering, unit_value, parts_value, form_value}
 use Rattle.nz_spec.specs.FormOf.{form_of}
 use Rattle.nz_spec.specs.Literal.{is_literal_true, Clause, IsClauseTrue}
 use Rattle.nz_spec.specs.Gates.{holds, fails, is_boolean_term}
-use Rattle.nz_spec.specs.Links.{difference_of, at_most_literal, below_literal, link_clauses, IsArithmetic, LinksAreTrue}
+use Rattle.nz_spec.specs.Links.{minus, at_most_literal, below_literal, link_clauses, IsArithmetic, LinksAreTrue}
 use Rattle.nz_spec.proofs.FractionLaws.{=ℚ_sym, =ℚ_trans, ≤ℚ-from_eq, ≤ℚ-from_lt, ≤ℚ_antisymm, ≤ℚ_total, <ℚ_irrefl}
 use Rattle.nz_spec.proofs.FractionOrder.{fraction_ranked, fraction_cmp_is, same-fraction_eq, fraction_eq-same}
 use Rattle.nz_spec.proofs.FractionArithmetic.{+ℚ_comm, +ℚ-neg, +ℚ-same, neg_ℚ-same, cmp-same, cmp-+ℚ}
@@ -87,7 +87,7 @@ moved_over p o x y e =
     ∙ cmp-+ℚ x y (neg_ℚ y)
 
 module _ (numbering : Numbering) (a : Assignment) where
-  difference_value : (t u : Term) → is_linear t ≡ true → is_linear u ≡ true → form_value a (difference_of numbering t u).result =ℚ (unit_value a t +ℚ neg_ℚ (unit_value a u))
+  difference_value : (t u : Term) → is_linear t ≡ true → is_linear u ≡ true → form_value a (minus numbering (form_of numbering t) (form_of numbering u)).result =ℚ (unit_value a t +ℚ neg_ℚ (unit_value a u))
   difference_value t u h k =
       =ℚ_trans (form-joined numbering a Difference by_difference (form_of numbering t).result (form_of numbering u).result)
       (+ℚ-same (form_has_value numbering a t h) (neg_ℚ-same (form_has_value numbering a u k)))
@@ -95,14 +95,14 @@ module _ (numbering : Numbering) (a : Assignment) where
   pub at_most_is : (t u : Term) → is_linear t ≡ true → is_linear u ≡ true
       → is_literal_true a (at_most_literal numbering t u).result ≡ fraction_le (unit_value a t) (unit_value a u)
   at_most_is t u h k =
-      let f = (difference_of numbering t u).result in
+      let f = (minus numbering (form_of numbering t) (form_of numbering u)).result in
       le_alike (parts_value a f.parts) (neg_ℚ f.offset) (unit_value a t) (unit_value a u)
       (moved_over (parts_value a f.parts) f.offset (unit_value a t) (unit_value a u) (difference_value t u h k))
 
   pub below_is : (t u : Term) → is_linear t ≡ true → is_linear u ≡ true
       → is_literal_true a (below_literal numbering t u).result ≡ fraction_lt (unit_value a t) (unit_value a u)
   below_is t u h k =
-      let f = (difference_of numbering t u).result in
+      let f = (minus numbering (form_of numbering t) (form_of numbering u)).result in
       lt_alike (parts_value a f.parts) (neg_ℚ f.offset) (unit_value a t) (unit_value a u)
       (moved_over (parts_value a f.parts) f.offset (unit_value a t) (unit_value a u) (difference_value t u h k))
 

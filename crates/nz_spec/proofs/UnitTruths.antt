@@ -6,7 +6,7 @@ use Rattle.std.proofs.Math.Bool.{or-false}
 use Rattle.std.proofs.lemmas.Bool.{and_parts}
 use Rattle.std.proofs.lemmas.Int.{ints}
 use Rattle.nz_spec.specs.Fraction.{Fraction, whole, ◌=ℚ◌, ◌≤ℚ◌, ◌<ℚ◌, ◌+ℚ◌, neg_ℚ, ◌*ℚ◌, fraction_cmp, fraction_le, fraction_lt, floor, outcome, Sum, Difference}
-use Rattle.nz_spec.specs.Computation.{Computation, at_once, turned_into, and_then, in_turn}
+use Rattle.nz_spec.specs.Computation.{Computation, at_once, in_turn}
 use Rattle.nz_spec.specs.Term.{int_sort, real_sort, Head, choice, integer_quotient, modulus, magnitude, to_int, Term, apply, Terms, no_terms, terms, Value, Assignment, is_true, number_of, value_of, is_zero, div_of, mod_of, IsDivision, integer_of, IsOfSort}
 use Rattle.nz_spec.specs.Linear.{constant_value, are_divisors, is_linear}
 use Rattle.nz_spec.specs.Model.{IsAssignment}
@@ -15,8 +15,8 @@ use Rattle.nz_spec.specs.FormOf.{form_of}
 use Rattle.nz_spec.specs.Literal.{is_literal_true, Clause, IsClauseTrue}
 use Rattle.nz_spec.specs.LinearLiteral.{is_at_most_zero}
 use Rattle.nz_spec.specs.Gates.{holds, fails}
-use Rattle.nz_spec.specs.Links.{at_most_literal, IsArithmetic}
-use Rattle.nz_spec.specs.Units.{at_most_number, below_number, times_unit, greatest_remainder, quotient_rows, remainder_rows, unit_clauses, UnitsAreTrue}
+use Rattle.nz_spec.specs.Links.{minus, at_most_literal, IsArithmetic}
+use Rattle.nz_spec.specs.Units.{at_most_number, below_number, times_unit, greatest_remainder, quotient_rows, remainder_rows, magnitude_rows, unit_clauses, UnitsAreTrue}
 use Rattle.nz_spec.proofs.Divisions.{divides}
 use Rattle.nz_spec.proofs.FractionLaws.{=ℚ_refl, =ℚ_sym, =ℚ_trans, =ℚ-from_same, ≤ℚ-from_eq, ≤ℚ_refl, ≤ℚ_trans, <ℚ-≤ℚ_trans, ≤ℚ-<ℚ_trans}
 use Rattle.nz_spec.proofs.FractionOrder.{fraction_eq-same}
@@ -68,13 +68,15 @@ module _ (a : Assignment) where
   zero_is : (f : Form) (x y : Fraction) → form_value a f =ℚ (x +ℚ neg_ℚ y) → is_literal_true a (is_at_most_zero f) ≡ fraction_le x y
   zero_is f x y e = le_alike (parts_value a f.parts) (neg_ℚ f.offset) x y (moved_over (parts_value a f.parts) f.offset x y e)
 
-  at_most_number_is : (f : Form) (v b : Fraction) → form_value a f =ℚ v → is_literal_true a (at_most_number b f).result ≡ fraction_le v b
-  at_most_number_is f v b e =
+  at_most_number_is : (c : Computation Form) (v b : Fraction) → form_value a c.result =ℚ v → is_literal_true a (at_most_number b c).result ≡ fraction_le v b
+  at_most_number_is c v b e =
+      let f = c.result in
       le_alike (parts_value a f.parts) (outcome Difference b f.offset) v b
       (moved_offset (parts_value a f.parts) f.offset v b (outcome Difference b f.offset) e (outcome-difference b f.offset))
 
-  below_number_is : (f : Form) (v b : Fraction) → form_value a f =ℚ v → is_literal_true a (below_number b f).result ≡ fraction_lt v b
-  below_number_is f v b e =
+  below_number_is : (c : Computation Form) (v b : Fraction) → form_value a c.result =ℚ v → is_literal_true a (below_number b c).result ≡ fraction_lt v b
+  below_number_is c v b e =
+      let f = c.result in
       lt_alike (parts_value a f.parts) (outcome Difference b f.offset) v b
       (moved_offset (parts_value a f.parts) f.offset v b (outcome Difference b f.offset) e (outcome-difference b f.offset))
 
@@ -172,7 +174,7 @@ module _ (a : Assignment) where
                 ∙ le_is (whole (j *ℤ d)) (whole n) (whole_le (j *ℤ d) n (within n (j *ℤ d) r v.division.whole_of v.division.at_least_zero))),
             (
               alone _
-                  (at_most_number_is (joined numbering Difference f (times_unit k q)).result (whole r) (greatest_remainder k)
+                  (at_most_number_is (joined numbering Difference f (times_unit k q)) (whole r) (greatest_remainder k)
                   (=ℚ_trans (less-value f (times_unit k q) (whole n) (whole (j *ℤ d)) dividend_is multiple_is) rest_is)
                   ∙ le_is (whole r) (greatest_remainder k) (remainder_bound k j r v.is v.division.below)),
               tt,
@@ -275,11 +277,9 @@ module _ (a : Assignment) where
     size_either (pos n) = or_first _ _ (le_is (whole (pos n)) (whole (pos n)) (≤ℚ_refl (whole (pos n))))
     size_either (negsuc n) = or_second _ _ (or_first _ false (le_is (whole (pos (suc n))) (whole (pos (suc n))) (≤ℚ_refl (whole (pos (suc n))))))
 
-    magnitude_rows : (u x : Term) (n : ℤ) → is_linear u ≡ true → is_linear x ≡ true → unit_value a x =ℚ whole n → unit_value a u ≡ whole (pos (unsigned_abs n))
-        → AreTrue (in_turn (at_most_literal numbering x u ∷ [])
-        ∷ in_turn (and_then (form_of numbering x) (λ f. turned_into is_at_most_zero (joined numbering Difference (negated_form f) (unit_form u))) ∷ [])
-        ∷ in_turn (at_most_literal numbering u x ∷ and_then (form_of numbering x) (λ f. turned_into is_at_most_zero (joined numbering Sum (unit_form u) f)) ∷ []) ∷ [])
-    magnitude_rows u x n h i e is =
+    magnitude_true : (u x : Term) (n : ℤ) → is_linear u ≡ true → is_linear x ≡ true → unit_value a x =ℚ whole n → unit_value a u ≡ whole (pos (unsigned_abs n))
+        → AreTrue (map in_turn (magnitude_rows numbering u x))
+    magnitude_true u x n h i e is =
         let f = (form_of numbering x).result in
         let size = pos (unsigned_abs n) in
         let own : form_value a (unit_form u) =ℚ whole size = =ℚ_trans (unit-value numbering a u) (=ℚ-from_same is) in
@@ -310,7 +310,7 @@ module _ (a : Assignment) where
 
     floor_rows : (u x : Term) → is_linear u ≡ true → is_linear x ≡ true → unit_value a u ≡ whole (floor (unit_value a x))
         → AreTrue (in_turn (at_most_literal numbering u x ∷ [])
-        ∷ in_turn (and_then (form_of numbering x) (λ f. and_then (joined numbering Difference f (unit_form u)) (below_number (whole (pos 1)))) ∷ []) ∷ [])
+        ∷ in_turn (below_number (whole (pos 1)) (minus numbering (form_of numbering x) (at_once (unit_form u))) ∷ []) ∷ [])
     floor_rows u x h i is =
         let p = unit_value a x in
         let n = floor p in
@@ -326,7 +326,7 @@ module _ (a : Assignment) where
           alone _ (at_most_is numbering a u x h i ∙ ap (λ (q : Fraction). fraction_le q p) is ∙ le_is (whole n) p (rounds p).0.at_most),
           (
             alone _
-                (below_number_is (joined numbering Difference f (unit_form u)).result (p +ℚ neg_ℚ (whole n)) (whole (pos 1)) (less-value f (unit_form u) p (whole n) (form_has_value numbering a x i) own)
+                (below_number_is (joined numbering Difference f (unit_form u)) (p +ℚ neg_ℚ (whole n)) (whole (pos 1)) (less-value f (unit_form u) p (whole n) (form_has_value numbering a x i) own)
                 ∙ lt_is (p +ℚ neg_ℚ (whole n)) (whole (pos 1)) (<ℚ-≤ℚ_trans below (≤ℚ-from_eq one))),
             tt,
           ),
@@ -359,7 +359,7 @@ module _ (a : Assignment) where
           remainder_by x w (apply integer_quotient (terms x (terms w no_terms))) (apply modulus (terms x (terms w no_terms))) (constant_value w) refl both.0 both.1
           (r.arguments.0 a good) (r.arguments.1.0 a good) refl refl
       unit_rows magnitude (terms x no_terms) r =
-          magnitude_rows (apply magnitude (terms x no_terms)) x (integer_of (value_of a x)) r.linear (and_parts (is_linear x) true r.linear).0 (integer_is (value_of a x) (r.arguments.0 a good)) refl
+          magnitude_true (apply magnitude (terms x no_terms)) x (integer_of (value_of a x)) r.linear (and_parts (is_linear x) true r.linear).0 (integer_is (value_of a x) (r.arguments.0 a good)) refl
       unit_rows to_int (terms x no_terms) r =
           floor_rows (apply to_int (terms x no_terms)) x r.linear (and_parts (is_linear x) true r.linear).0 refl
       unit_rows h ts r = tt

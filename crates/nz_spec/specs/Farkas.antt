@@ -25,7 +25,7 @@ pub record Bound : Type 0 where
 abbrev pub empty_bound : Bound
 empty_bound = record { parts = []; limit = whole (pos 0); is_strict = false }
 
--- what a linear literal says
+-- what a linear literal says; one on a term says nothing of a sum
 abbrev pub bound_of : Literal → Bound
 bound_of (term_literal t sign) = empty_bound
 bound_of (is_at_most ps b) = record { parts = ps; limit = b; is_strict = false }

@@ -3,7 +3,7 @@
 -- DPLL(T), CAV 2006, section 3 (an atom is a bound on a sum of variables). The clauses' order is this solver's own.
 use Rattle.std.specs.Prelude.{List, [], ◌∷◌, map, if◌then◌else◌, IsTrue, ⊤}
 use Rattle.std.specs.List.{AllByRecursion}
-use Rattle.nz_spec.specs.Fraction.{Difference}
+use Rattle.nz_spec.specs.Fraction.{Sum, Difference}
 use Rattle.nz_spec.specs.Computation.{Computation, at_once, turned_into, and_then, in_turn}
 use Rattle.nz_spec.specs.Term.{int_sort, sort_of, Head, equality, less, at_most, integer_quotient, modulus, magnitude, to_int, is_int, Term, apply, no_terms, terms, Assignment}
 use Rattle.nz_spec.specs.Linear.{is_linear}
@@ -15,16 +15,19 @@ use Rattle.nz_spec.specs.LinearLiteral.{is_at_most_zero, is_below_zero}
 use Rattle.nz_spec.specs.Gates.{holds, fails, list_of, is_boolean_term}
 
 module _ (number : Numbering) where
-  -- the form of a term less that of another
-  abbrev pub difference_of : Term → Term → Computation Form
-  difference_of t u = and_then (form_of number t) (λ f. and_then (form_of number u) (λ g. joined number Difference f g))
+  -- a form, another, and then their sum, or the first less the second
+  abbrev pub plus : Computation Form → Computation Form → Computation Form
+  plus c d = and_then c (λ f. and_then d (λ g. joined number Sum f g))
+
+  abbrev pub minus : Computation Form → Computation Form → Computation Form
+  minus c d = and_then c (λ f. and_then d (λ g. joined number Difference f g))
 
   -- the first is at most the second, and below it
   abbrev pub at_most_literal : Term → Term → Computation Literal
-  at_most_literal t u = turned_into is_at_most_zero (difference_of t u)
+  at_most_literal t u = turned_into is_at_most_zero (minus (form_of number t) (form_of number u))
 
   abbrev pub below_literal : Term → Term → Computation Literal
-  below_literal t u = turned_into is_below_zero (difference_of t u)
+  below_literal t u = turned_into is_below_zero (minus (form_of number t) (form_of number u))
 
   -- the rows of a term t of this head over these arguments
   abbrev pub links_over : Term → Head → List Term → List (List (Computation Literal))

@@ -2,24 +2,27 @@
 -- Sources: SMT-LIB 2.6, theories Core (ite) and Ints (div, mod and abs) and Reals_Ints (to_int). The clauses' order is this solver's own.
 use Rattle.std.specs.Prelude.{List, [], ◌∷◌, map, Option, Some, None, pos, negsuc, ◌+ℤ◌, unsigned_abs}
 use Rattle.std.specs.List.{AllByRecursion}
-use Rattle.nz_spec.specs.Fraction.{Fraction, whole, floor, Sum, Difference}
+use Rattle.nz_spec.specs.Fraction.{Fraction, whole, floor, Difference}
 use Rattle.nz_spec.specs.Computation.{Computation, operated, at_once, turned_into, and_then, in_turn}
 use Rattle.nz_spec.specs.Term.{bool_sort, Head, choice, integer_quotient, modulus, magnitude, to_int, Term, apply, no_terms, terms, Assignment}
 use Rattle.nz_spec.specs.Linear.{constant_value}
 use Rattle.nz_spec.specs.Model.{IsAssignment}
-use Rattle.nz_spec.specs.Form.{Numbering, Form, unit_form, negated_form, joined, all_joined}
+use Rattle.nz_spec.specs.Form.{Numbering, Form, unit_form, negated_form}
 use Rattle.nz_spec.specs.FormOf.{form_of}
 use Rattle.nz_spec.specs.Literal.{Literal, is_at_most, is_below, Clause, IsClauseTrue}
 use Rattle.nz_spec.specs.LinearLiteral.{is_at_most_zero}
 use Rattle.nz_spec.specs.Gates.{holds, fails, list_of}
-use Rattle.nz_spec.specs.Links.{at_most_literal, IsArithmetic}
+use Rattle.nz_spec.specs.Links.{plus, minus, at_most_literal, IsArithmetic}
 
--- a form is at most a number, or below it: what it adds goes to the other side
-abbrev pub at_most_number : Fraction → Form → Computation Literal
-at_most_number b f = turned_into (λ c. is_at_most f.parts c) (operated Difference b f.offset)
+-- a form is at most 0, at most a number, or below it: what it adds goes to the other side
+abbrev pub at_most_zero : Computation Form → Computation Literal
+at_most_zero c = turned_into is_at_most_zero c
 
-abbrev pub below_number : Fraction → Form → Computation Literal
-below_number b f = turned_into (λ c. is_below f.parts c) (operated Difference b f.offset)
+abbrev pub at_most_number : Fraction → Computation Form → Computation Literal
+at_most_number b c = and_then c (λ f. turned_into (λ l. is_at_most f.parts l) (operated Difference b f.offset))
+
+abbrev pub below_number : Fraction → Computation Form → Computation Literal
+below_number b c = and_then c (λ f. turned_into (λ l. is_below f.parts l) (operated Difference b f.offset))
 
 -- a number of times a unit
 abbrev pub times_unit : Fraction → Term → Form
@@ -34,19 +37,33 @@ module _ (number : Numbering) where
   abbrev pub quotient_rows : Term → Term → Option Fraction → List (List (Computation Literal))
   quotient_rows u a None = []
   quotient_rows u a (Some k) =
-      (and_then (form_of number a) (λ f. turned_into is_at_most_zero (joined number Difference (times_unit k u) f)) ∷ [])
-      ∷ (and_then (form_of number a) (λ f. and_then (joined number Difference f (times_unit k u)) (at_most_number (greatest_remainder k))) ∷ [])
+      let f = form_of number a in
+      let multiple = at_once (times_unit k u) in
+      (at_most_zero (minus number multiple f) ∷ [])
+      ∷ (at_most_number (greatest_remainder k) (minus number f multiple) ∷ [])
       ∷ []
 
   -- the rows of a remainder u of a by k, where q is the quotient
   abbrev pub remainder_rows : Term → Term → Term → Option Fraction → List (List (Computation Literal))
   remainder_rows u q a None = []
   remainder_rows u q a (Some k) =
-      (and_then (form_of number a) (λ f. turned_into is_at_most_zero (all_joined number Difference f (times_unit k q ∷ unit_form u ∷ []))) ∷ [])
-      ∷ (and_then (joined number Sum (unit_form u) (times_unit k q))
-      (λ g. and_then (form_of number a) (λ f. turned_into is_at_most_zero (joined number Difference g f))) ∷ [])
-      ∷ (at_once (is_at_most_zero (negated_form (unit_form u))) ∷ [])
+      let f = form_of number a in
+      let own = at_once (unit_form u) in
+      let multiple = at_once (times_unit k q) in
+      (at_most_zero (minus number (minus number f multiple) own) ∷ [])
+      ∷ (at_most_zero (minus number (plus number own multiple) f) ∷ [])
+      ∷ (at_most_zero (turned_into negated_form own) ∷ [])
       ∷ (at_once (is_at_most (unit_form u).parts (greatest_remainder k)) ∷ [])
+      ∷ []
+
+  -- the rows of the size u of a
+  abbrev pub magnitude_rows : Term → Term → List (List (Computation Literal))
+  magnitude_rows u a =
+      let f = form_of number a in
+      let own = at_once (unit_form u) in
+      (at_most_literal number a u ∷ [])
+      ∷ (at_most_zero (minus number (turned_into negated_form f) own) ∷ [])
+      ∷ (at_most_literal number u a ∷ at_most_zero (plus number own f) ∷ [])
       ∷ []
 
   -- the rows of a unit u of this head over these arguments
@@ -58,14 +75,10 @@ module _ (number : Numbering) where
   units_over u integer_quotient (a ∷ k ∷ []) = quotient_rows u a (constant_value k)
   units_over u modulus (a ∷ k ∷ []) =
       remainder_rows u (apply integer_quotient (terms a (terms k no_terms))) a (constant_value k)
-  units_over u magnitude (a ∷ []) =
-      (at_most_literal number a u ∷ [])
-      ∷ (and_then (form_of number a) (λ f. turned_into is_at_most_zero (joined number Difference (negated_form f) (unit_form u))) ∷ [])
-      ∷ (at_most_literal number u a ∷ and_then (form_of number a) (λ f. turned_into is_at_most_zero (joined number Sum (unit_form u) f)) ∷ [])
-      ∷ []
+  units_over u magnitude (a ∷ []) = magnitude_rows u a
   units_over u to_int (a ∷ []) =
       (at_most_literal number u a ∷ [])
-      ∷ (and_then (form_of number a) (λ f. and_then (joined number Difference f (unit_form u)) (below_number (whole (pos 1)))) ∷ [])
+      ∷ (below_number (whole (pos 1)) (minus number (form_of number a) (at_once (unit_form u))) ∷ [])
       ∷ []
   units_over u h args = []
 
