@@ -1,5 +1,4 @@
 pub mod Arguments
-pub mod Copying
 pub mod Keeping
 pub mod Models
 pub mod Numerals

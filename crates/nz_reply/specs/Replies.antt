@@ -23,10 +23,10 @@ use Rattle.nz_reply.specs.declared.reply.SpentList.{SpentList}
 abbrev pub reply_of : script.What → Reply → spec.Reply
 reply_of what reply.Quiet = spec.quiet
 reply_of what reply.Success = spec.success
-reply_of what (reply.Sat bindings) = spec.sat bindings
+reply_of what (reply.Sat bindings) = spec.sat bindings.value
 reply_of what reply.Unsat = spec.unsat
 reply_of what (reply.Unknown reason) = spec.unknown (reason_of reason)
-reply_of what (reply.Model bindings) = spec.model bindings
+reply_of what (reply.Model bindings) = spec.model bindings.value
 reply_of what (reply.Values shows) = spec.values (with_shown (asked_trees what) shows)
 reply_of what (reply.Info info) = spec.info (info_of info)
 reply_of what (reply.Levels count) = spec.levels count

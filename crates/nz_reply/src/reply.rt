@@ -13,6 +13,7 @@ use nz_spec::table::term_stays;
 use nz_term::{Constant, Sort, Value};
 use std::alloc::Global;
 use std::marker::Model;
+use std::rc::Rc;
 
 /// What a constant stands for in a model.
 #[derive(Debug, Drop)]
@@ -80,21 +81,6 @@ impl Bindings {
         ensures entries { map binding_of result.now ≡ self.now }
     {
         self.bindings.as_slice()
-    }
-
-    /// The same bindings once more.
-    pub fn copy(&self, alloc: Global) -> Result<Bindings, Memory>
-        ensures same { IfOk result (λ copy. copy ≡ self.now) }
-    {
-        let mut bindings = Vec::with_capacity(alloc, self.len())?;
-        for binding in &self.bindings {
-            let constant = binding.constant.clone()?;
-            bindings.push(Binding {
-                constant,
-                value: binding.value,
-            })?;
-        }
-        Ok(Bindings { bindings })
     }
 }
 
@@ -183,13 +169,13 @@ pub enum Reply {
     Quiet,
     /// The command was carried out, and has nothing else to tell.
     Success,
-    /// With the model that was found.
-    Sat(Bindings),
+    /// With the model that was found. Its list is shared with the last answer, and with each reply that shows it.
+    Sat(Rc<Bindings>),
     Unsat,
     /// And why.
     Unknown(Reason),
     /// The model of the last answer.
-    Model(Bindings),
+    Model(Rc<Bindings>),
     /// The values of the terms that the command asks for. The terms themselves stand in the command, which is kept
     /// beside the reply.
     Values(Shows),

@@ -97,13 +97,13 @@ pub values_answer : {E : Type 0} (levels : E → List (List ℕ)) (table : E →
     → IsAnswer levels table c (intact t) answer desk
 values_answer levels table tells c t r k xs shows m answer desk is h kept parsed e q shown =
     let ns = desk.terms in
-    let last : c.state.last ≡ Some (model_found m.bindings) = sym h.last ∙ ap (option_map last_of) kept in
-    let values : AreValuesOf ns m.bindings m.values = subst (KeepsValues ns) kept h.values in
-    let list : shows ≡ terms_shown (assignment_of m.bindings) q.terms = shown q.terms q.typed ∙ ap (λ a. terms_shown a q.terms) values.assigns in
+    let last : c.state.last ≡ Some (model_found m.bindings.value) = sym h.last ∙ ap (option_map last_of) kept in
+    let values : AreValuesOf ns m.bindings.value m.values = subst (KeepsValues ns) kept h.values in
+    let list : shows ≡ terms_shown (assignment_of m.bindings.value) q.terms = shown q.terms q.typed ∙ ap (λ a. terms_shown a q.terms) values.assigns in
     let asks : List Asked = asked_of q.questions q.terms in
-    let told : List (Tree × Shown) = map (shown_under (assignment_of m.bindings)) asks in
+    let told : List (Tree × Shown) = map (shown_under (assignment_of m.bindings.value)) asks in
     let tells : reply_of (intact t) (code.Values shows) ≡ values_reply told =
-    ap values_reply (ap (λ ts. with_shown ts shows) (values_told tells t r q.questions parsed q.request) ∙ ap (with_shown (trees_from (question_trees q.questions))) list ∙ told_trees (assignment_of m.bindings) q.questions q.terms) in
+    ap values_reply (ap (λ ts. with_shown ts shows) (values_told tells t r q.questions parsed q.request) ∙ ap (with_shown (trees_from (question_trees q.questions))) list ∙ told_trees (assignment_of m.bindings.value) q.questions q.terms) in
     let right : AreRightValues c.state.last asks (values_reply told) = subst (λ (o : Option LastAnswer). AreRightValues o asks (values_reply told)) (sym last) refl in
     told_answer levels table c t (get_value asks) (code.Values shows) (values_reply told) answer desk is tells tt (e ∙ ap accepted q.is) (right, refl)
     (holds_next levels table desk c h) (λ x. cc)

@@ -29,7 +29,7 @@ asserted_in desk = map (term_in desk.terms) desk.live.asserted
 
 -- what the last answer was
 abbrev pub last_of : LastAnswer → live_state.LastAnswer
-last_of (Model m) = live_state.model_found m.bindings
+last_of (Model m) = live_state.model_found m.bindings.value
 last_of Refutation = live_state.refutation
 last_of (Undecided reason) = live_state.undecided (reason_of reason)
 
@@ -45,7 +45,7 @@ pub record AreValuesOf (ns : List Node) (bs : List Binding) (ps : List (ℕ × V
 
 -- the values that are kept of a model are those that it binds
 abbrev pub KeepsValues : List Node → Option LastAnswer → Type 0
-KeepsValues ns (Some (Model m)) = AreValuesOf ns m.bindings m.values
+KeepsValues ns (Some (Model m)) = AreValuesOf ns m.bindings.value m.values
 KeepsValues ns last = ⊤
 
 -- The desk holds what a context says; what its engine was told stands in its table.

@@ -38,7 +38,8 @@ use nz_spec::term::{decimals_are_numbers, normal_keeps_value, numerals_are_whole
 use nz_spec::transcript::{assertions_are_gated, states_stay_sorted};
 use nz_term::{Assign, Head, TermId, Terms, known_table};
 use nz_truth::default_value;
-use std::alloc::Global;
+use std::alloc::{AllocError, Global};
+use std::rc::Rc;
 
 /// What is said to a thing heard.
 #[derive(Debug, Drop)]
@@ -75,8 +76,8 @@ pub enum LastAnswer {
 /// A model that was found.
 #[derive(Debug, Drop)]
 pub struct FoundModel {
-    /// What it binds the live constants to, in their order.
-    bindings: Bindings,
+    /// What it binds the live constants to, in their order; one list, shared with the replies that hold the model.
+    bindings: Rc<Bindings>,
     /// The values of the constants by their numbers, for the terms that are asked for.
     values: Assign,
 }
@@ -208,12 +209,8 @@ impl<E: Decide> Desk<E> {
         normal_keeps_value();
         decimals_are_numbers();
         numerals_are_whole();
-        match bindings_twice(self.alloc, &self.terms, self.live.constants(), &assign) {
-            Ok((shown, kept)) => {
-                let model = FoundModel {
-                    bindings: kept,
-                    values: assign,
-                };
+        match found_model(self.alloc, &self.terms, self.live.constants(), assign) {
+            Ok((model, shown)) => {
                 self.last = Some(LastAnswer::Model(model));
                 said(Reply::Sat(shown))
             }
@@ -226,9 +223,9 @@ impl<E: Decide> Desk<E> {
         ensures right { (c : Context) (tree : script.Tree) → Holds E.levels E.table self.now c → outcome_of c.state tree ≡ accepted get_model → IsAnswer E.levels E.table c (intact tree) result self.now }
     {
         match &self.last {
-            Some(LastAnswer::Model(model)) => match model.bindings.copy(self.alloc) {
+            Some(LastAnswer::Model(model)) => match model.bindings.clone() {
                 Ok(shown) => said(Reply::Model(shown)),
-                Err(Memory) => said(Reply::Error(Error::OutOfMemory)),
+                Err(AllocError) => said(Reply::Error(Error::OutOfMemory)),
             },
             _ => said(Reply::Error(Error::NothingToShow)),
         }
@@ -371,19 +368,25 @@ fn decide<E: Decide>(
     engine.check(terms, &[], work)
 }
 
-/// The bindings of these constants by an assignment, twice: to be shown, and to be kept.
-fn bindings_twice(
+/// The model that an assignment makes of these constants, and its bindings to be shown: they are one list with those of
+/// the model.
+fn found_model(
     alloc: Global,
     terms: &Terms,
     constants: &[Accepted],
-    assign: &Assign,
-) -> Result<(Bindings, Bindings), Memory>
-    ensures shown { IfOk result (λ p. p.0 ≡ completed terms.now assign.now (table_numbers constants.now)) }
-    ensures kept { IfOk result (λ p. p.1 ≡ completed terms.now assign.now (table_numbers constants.now)) }
+    assign: Assign,
+) -> Result<(FoundModel, Rc<Bindings>), Memory>
+    ensures kept { IfOk result (λ p. p.0.bindings.value ≡ completed terms.now assign (table_numbers constants.now)) }
+    ensures values { IfOk result (λ p. p.0.values ≡ assign) }
+    ensures shown { IfOk result (λ p. p.1.value ≡ completed terms.now assign (table_numbers constants.now)) }
 {
-    let shown = bindings_of(alloc, terms, constants, assign)?;
-    let kept = shown.copy(alloc)?;
-    Ok((shown, kept))
+    let bindings = Rc::new(alloc, bindings_of(alloc, terms, constants, &assign)?)?;
+    let shown = bindings.clone()?;
+    let model = FoundModel {
+        bindings,
+        values: assign,
+    };
+    Ok((model, shown))
 }
 
 /// The bindings of these constants: each with the value that the assignment gives it, or else the default of its sort.

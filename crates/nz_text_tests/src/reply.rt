@@ -8,6 +8,7 @@ use nz_reply::{
 use nz_sexpr::{Heard, Limits, Reader, What};
 use nz_term::{Constant, Sort, Value};
 use std::alloc::Global;
+use std::rc::Rc;
 use std::test::Fail;
 
 /// How many bytes the replies of a test may have.
@@ -126,8 +127,8 @@ fn a_model_is_told(rt: HostRuntime) -> Result<(), Fail> {
         constant: constant(rt.alloc(), b"x", Sort::Real)?,
         value: Value::Number(number(-1, 3)),
     })?;
-    let copy = Reply::Model(bindings.copy(rt.alloc())?);
-    let sink = written(rt.alloc(), &What::Unread, &copy)?;
+    let model = Reply::Model(Rc::new(rt.alloc(), bindings)?);
+    let sink = written(rt.alloc(), &What::Unread, &model)?;
     let text = b"(\n(define-fun |p q| () Bool false)\n(define-fun x () Real (- (/ 1.0 3.0)))\n)\n";
     assert_eq!(rt; sink.bytes(), text.as_slice());
     Ok(())

@@ -13,16 +13,19 @@ use Rattle.nz_session.proofs.desk.Desk.found.Goals as goal
 pub returns-in-Ok-clause-right : goal.returns-in-Ok-clause-right
 returns-in-Ok-clause-right g c x t h e v =
     let desk = c.args.self.now in
+    let model = c.in-Ok.model in
     let live = live_model c.decimals_are_numbers.ensures.numbers c.numerals_are_whole.ensures.whole c.normal_keeps_value.ensures.keeps c.term_of_node.ensures.node
     desk.terms c.known_table.ensures.table desk.live x.state c.args.assign h.live v in
-    let shown : c.in-Ok.shown ≡ completed desk.terms c.args.assign (table_numbers desk.live.constants) =
+    let all : List Binding = completed desk.terms c.args.assign (table_numbers desk.live.constants) in
+    let shown : c.in-Ok.shown.value ≡ all =
     c.in-Ok.ensures.shown ∙ ap (λ items. completed desk.terms c.args.assign (table_numbers items)) c.constants.ensures.constants in
-    let model : AreModel (constants_of x.state) (assertions_of x.state) [] c.in-Ok.shown = subst (AreModel (constants_of x.state) (assertions_of x.state) []) (sym shown) live in
-    let kept : c.in-Ok.kept ≡ completed desk.terms c.args.assign (table_numbers desk.live.constants) =
+    let right : AreModel (constants_of x.state) (assertions_of x.state) [] c.in-Ok.shown.value = subst (AreModel (constants_of x.state) (assertions_of x.state) []) (sym shown) live in
+    let kept : model.bindings.value ≡ all =
     c.in-Ok.ensures.kept ∙ ap (λ items. completed desk.terms c.args.assign (table_numbers items)) c.constants.ensures.constants in
-    let values : AreValuesOf desk.terms c.in-Ok.kept c.args.assign = record {
+    let assigned : AreValuesOf desk.terms model.bindings.value c.args.assign = record {
       within = values_within desk.terms c.args.assign v.values;
       assigns = live_values c.term_of_node.ensures.node desk.terms c.known_table.ensures.table desk.live x.state c.args.assign h.live ∙ ap assignment_of (sym kept);
     } in
+    let values : AreValuesOf desk.terms model.bindings.value model.values = subst (AreValuesOf desk.terms model.bindings.value) (sym c.in-Ok.ensures.values) assigned in
     checked g.E.Decide.levels g.E.Decide.table x t (code.Sat c.in-Ok.shown) c.said.result _ desk.last c.said.ensures.said h e
-    (ap (λ (bs : List Binding). Some (model_found bs)) (c.in-Ok.ensures.kept ∙ sym c.in-Ok.ensures.shown)) (model, refl) values
+    (ap (λ (bs : List Binding). Some (model_found bs)) (kept ∙ sym shown)) (right, refl) values
