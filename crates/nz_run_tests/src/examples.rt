@@ -51,6 +51,31 @@ const EXAMPLES: &[Example] = &[
             )\n",
     },
     Example {
+        name: "levels",
+        script: b"(declare-const open Bool)\n\
+            (declare-const paid Bool)\n\
+            (assert (or open paid))\n\
+            (push 1)\n\
+            (assert (not open))\n\
+            (declare-const late Bool)\n\
+            (assert (=> paid late))\n\
+            (check-sat)\n\
+            (get-value (paid late))\n\
+            (check-sat-assuming ((not late)))\n\
+            (pop 1)\n\
+            (declare-fun late () Int)\n\
+            (check-sat-assuming (open (not open)))\n\
+            (reset-assertions)\n\
+            (get-info :assertion-stack-levels)\n\
+            (check-sat)\n",
+        replies: b"sat\n\
+            ((paid true) (late true))\n\
+            unsat\n\
+            unsupported\n\
+            (:assertion-stack-levels 0)\n\
+            sat\n",
+    },
+    Example {
         name: "terms",
         script: b"(declare-const express Bool)\n\
             (define-fun price ((weight Int)) Int (ite express (+ 5 (* 3 weight)) (+ 2 weight)))\n\

@@ -265,3 +265,44 @@ fn numbers_are_defined_and_not_checked(rt: HostRuntime) -> Result<(), Fail> {
     assert_eq!(rt; sink.bytes(), wanted.as_slice());
     Ok(())
 }
+
+#[test]
+fn what_is_assumed_is_for_one_check(rt: HostRuntime) -> Result<(), Fail> {
+    let mut sink = PlainSink::new(rt.alloc(), ROOM)?;
+    let script = b"(declare-const p Bool)(declare-const q Bool)(assert (or p q))
+        (check-sat-assuming ((not p)))(get-value (p q))(check-sat-assuming ((not p) (not q)))
+        (check-sat-assuming (p (not p)))(get-model)(check-sat)";
+    let ended = run_engine(rt.alloc(), script, &mut sink)?;
+    assert_eq!(rt; ended.ended, Fed::Going);
+    let wanted = b"sat\n((p false) (q true))\nunsat\nunsat\n\
+        (error \"7 no answer to show\")\nsat\n";
+    assert_eq!(rt; sink.bytes(), wanted.as_slice());
+    Ok(())
+}
+
+#[test]
+fn what_is_asserted_goes_with_its_level(rt: HostRuntime) -> Result<(), Fail> {
+    let mut sink = PlainSink::new(rt.alloc(), ROOM)?;
+    let script = b"(declare-const p Bool)(push)(assert p)(check-sat)(push)(assert (not p))
+        (check-sat)(pop)(check-sat)(get-model)(pop)(get-model)(assert (not p))(check-sat)(get-model)";
+    let ended = run_engine(rt.alloc(), script, &mut sink)?;
+    assert_eq!(rt; ended.ended, Fed::Going);
+    let wanted = b"sat\nunsat\nsat\n(\n(define-fun p () Bool true)\n)\n\
+        (error \"7 no answer to show\")\nsat\n(\n(define-fun p () Bool false)\n)\n";
+    assert_eq!(rt; sink.bytes(), wanted.as_slice());
+    Ok(())
+}
+
+#[test]
+fn resets_forget_what_is_live(rt: HostRuntime) -> Result<(), Fail> {
+    let mut sink = PlainSink::new(rt.alloc(), ROOM)?;
+    let script = b"(set-option :print-success true)(declare-const p Bool)(push 3)(assert false)
+        (check-sat)(reset-assertions)(get-info :assertion-stack-levels)(assert p)(check-sat)
+        (reset)(declare-const p Bool)(assert p)(check-sat)";
+    let ended = run_engine(rt.alloc(), script, &mut sink)?;
+    assert_eq!(rt; ended.ended, Fed::Going);
+    let wanted = b"success\nsuccess\nsuccess\nsuccess\nunsat\nsuccess\n\
+        (:assertion-stack-levels 0)\n(error \"2 unknown symbol\")\nsat\nsat\n";
+    assert_eq!(rt; sink.bytes(), wanted.as_slice());
+    Ok(())
+}

@@ -8,9 +8,13 @@ use Rattle.nz_lists.proofs.Elements.{AllByRecursion-map}
 use Rattle.nz_spec.specs.Term.{constant, Term, apply, no_terms, holds_number}
 use Rattle.nz_spec.specs.Gates.{IsGated}
 use Rattle.nz_spec.specs.Normal.{normal_of}
-use Rattle.nz_spec.specs.Sorts.{IsSortedState, AssertionsAreGated}
+use Rattle.nz_spec.specs.Sorts.{IsSortedState, AssertionsAreGated, IsAssumable}
 use Rattle.nz_spec.specs.Table.{Node, term_in}
-use Rattle.nz_sort.specs.Live.{Standing, IsLive}
+use Rattle.nz_spec.specs.Decide.{asserted_numbers}
+use Rattle.nz_spec.specs.Literal.{Literal, term_literal}
+use Rattle.nz_log.specs.declared.lits.Lit.{Lit}
+use Rattle.nz_sort.specs.Live.{Standing, asserted_by, IsLive}
+use Rattle.nz_session.specs.Assumed.{IsLitOf, AreLitsOf}
 use Rattle.nz_spec.specs.Live.{State, Item, declared, defined, asserted, sought, wished, items_of, item_terms, items_hold_numbers, cost_of, assertions_in, assertions_of}
 
 -- the first item of one term, and the others
@@ -34,8 +38,22 @@ each_gated (t ∷ ts) g h = (g.0 h.0, each_gated ts g.1 h.1)
 
 -- the assertions of a live state are of the gate table
 pub live_gated : AssertionsAreGated → (ns : List Node) (l : Standing) (s : State) → IsLive ns l s → IsSortedState s → items_hold_numbers (items_of s.levels) ≡ false
-    → All (λ i. IsGated (term_in ns i)) l.asserted
+    → All (λ i. IsGated (term_in ns i)) (asserted_numbers (asserted_by l))
 live_gated gated ns l s h sorted e =
-    let terms : AllByRecursion IsGated (map (term_in ns) l.asserted) =
+    let ids = asserted_numbers (asserted_by l) in
+    let terms : AllByRecursion IsGated (map (term_in ns) ids) =
     subst (AllByRecursion IsGated) (sym h.terms) (each_gated (map normal_of (assertions_of s)) (gated s sorted) (numberless_assertions (items_of s.levels) e)) in
-    All-from_recursion (λ i. IsGated (term_in ns i)) l.asserted (AllByRecursion-map IsGated (term_in ns) l.asserted terms)
+    All-from_recursion (λ i. IsGated (term_in ns i)) ids (AllByRecursion-map IsGated (term_in ns) ids terms)
+
+gated_lit : (ns : List Node) (s : State) (l : Lit) (m : Literal) → IsLitOf ns l m → IsAssumable s m → IsGated (term_in ns l.term)
+gated_lit ns s l (term_literal t sign) h k = subst IsGated (sym h.1) k.1
+
+gated_lits : (ns : List Node) (s : State) (ls : List Lit) (ms : List Literal) → AreLitsOf ns ls ms → AllByRecursion (IsAssumable s) ms → AllByRecursion (λ (l : Lit). IsGated (term_in ns l.term)) ls
+gated_lits ns s [] [] h k = tt
+gated_lits ns s [] (m ∷ ms) h k = absurd h
+gated_lits ns s (l ∷ ls) [] h k = absurd h
+gated_lits ns s (l ∷ ls) (m ∷ ms) h k = (gated_lit ns s l m h.0 k.0, gated_lits ns s ls ms h.1 k.1)
+
+-- what is assumed is of the gate table
+pub assumed_gated : (ns : List Node) (s : State) (ls : List Lit) (ms : List Literal) → AreLitsOf ns ls ms → AllByRecursion (IsAssumable s) ms → All (λ (l : Lit). IsGated (term_in ns l.term)) ls
+assumed_gated ns s ls ms h k = All-from_recursion (λ (l : Lit). IsGated (term_in ns l.term)) ls (gated_lits ns s ls ms h k)

@@ -5,5 +5,6 @@ pub mod Feeding
 pub mod Fronts
 pub mod LegalWork
 pub mod Serving
+pub mod Telling
 pub mod ValuesKept
 pub mod Valuing

@@ -47,6 +47,7 @@ pub mod Literals
 pub mod Normal
 pub mod NormalGates
 pub mod NormalSorts
+pub mod OverConstants
 pub mod Pieces
 pub mod Placed
 pub mod PositionMovesKeep

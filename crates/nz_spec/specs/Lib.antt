@@ -33,6 +33,7 @@ pub mod Numerals
 pub mod Operations
 pub mod Order
 pub mod Outside
+pub mod OverConstants
 pub mod Parse
 pub mod PositionMoves
 pub mod Reading

@@ -1,7 +1,9 @@
 -- Models: which assignments make terms true (SMT-LIB 2.6, sections 4.1.5 and 5.3: satisfiability).
-use Rattle.std.specs.Prelude.{◌≡◌, List, [], ◌∷◌, map, if◌then◌else◌}
+use Rattle.std.specs.Prelude.{◌≡◌, true, false, List, [], ◌∷◌, map, if◌then◌else◌}
 use Rattle.std.specs.List.{AllByRecursion}
 use Rattle.nz_spec.specs.Term.{Sort, Constant, are_same_constant, Term, Value, Assignment, default_value, value_of, IsOfSort, ValueFits, IsTrueUnder}
+use Rattle.nz_spec.specs.Normal.{negated}
+use Rattle.nz_spec.specs.Literal.{Literal, term_literal}
 
 -- what a constant stands for in a model
 pub record Binding : Type 0 where
@@ -20,6 +22,11 @@ IsAssignment a = (c : Constant) → IsOfSort c.sort (a c)
 -- Under each such assignment the term has a value of this sort.
 abbrev pub HasSort : Sort → Term → Type 0
 HasSort s t = (a : Assignment) → IsAssignment a → IsOfSort s (value_of a t)
+
+-- what an assumed literal says
+abbrev pub literal_term : Literal → Term
+literal_term (term_literal t true) = t
+literal_term (term_literal t false) = negated t
 
 -- The assignment makes each of the asserted and of the assumed terms true.
 pub record IsModel (asserted assumed : List Term) (a : Assignment) : Type 0 where

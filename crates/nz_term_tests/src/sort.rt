@@ -174,12 +174,12 @@ fn items_of_all_kinds_share_one_order(rt: HostRuntime) -> Result<(), Fail> {
         Accepted { number: 0, term: 0 },
         Accepted { number: 2, term: 1 },
     ];
-    assert_eq!(rt; live.constants(), constants.as_slice());
+    assert_eq!(rt; live.top().constants(), constants.as_slice());
     let assertions = [
         Accepted { number: 1, term: 0 },
         Accepted { number: 3, term: 3 },
     ];
-    assert_eq!(rt; live.assertions(), assertions.as_slice());
+    assert_eq!(rt; live.top().assertions(), assertions.as_slice());
     Ok(())
 }
 
@@ -198,8 +198,9 @@ fn a_term_list_has_companions(rt: HostRuntime) -> Result<(), Fail> {
 #[test]
 fn nothing_is_sought_or_wished_yet(rt: HostRuntime) -> Result<(), Fail> {
     let (live, _) = after(rt.alloc(), &["declare-const p Bool", "assert p"])?;
-    assert!(rt; live.goals().is_empty());
-    assert!(rt; live.wishes().is_empty());
+    assert!(rt; live.top().goals().is_empty());
+    assert!(rt; live.top().wishes().is_empty());
+    assert!(rt; live.below().is_empty());
     assert_eq!(rt; live.levels(), 0);
     Ok(())
 }
@@ -219,7 +220,10 @@ fn outcomes(alloc: Global, commands: &[&str]) -> Result<Vec<&'static str>, Fail>
 fn word_of(outcome: &Result<Act, Error>) -> &'static str {
     match outcome {
         Ok(Act::Changed) => "changed",
-        Ok(Act::Check) => "check",
+        Ok(Act::Popped) => "popped",
+        Ok(Act::Cleared) => "cleared",
+        Ok(Act::Reset) => "reset",
+        Ok(Act::Check(_)) => "check",
         Ok(Act::ShowModel) => "model",
         Ok(Act::ShowValues(_)) => "values",
         Ok(Act::ShowReason) => "reason",
@@ -237,6 +241,7 @@ fn word_of(outcome: &Result<Act, Error>) -> &'static str {
         Err(Error::NotLinear) => "4",
         Err(Error::TooWide) => "5",
         Err(Error::Limit) => "6",
+        Err(Error::BelowZero) => "8",
         Err(Error::AlreadyDeclared) => "9",
         Err(_) => "another error",
     }
@@ -354,7 +359,6 @@ fn asks_of_the_session(rt: HostRuntime) -> Result<(), Fail> {
         "get-value ( x )",
         "get-model",
         "echo \"a",
-        "push 1",
         "check-sat",
         "exit",
         "exit now",
@@ -368,7 +372,6 @@ fn asks_of_the_session(rt: HostRuntime) -> Result<(), Fail> {
         "2",
         "model",
         "echo",
-        "unsupported",
         "check",
         "leave",
         "1",
@@ -377,5 +380,140 @@ fn asks_of_the_session(rt: HostRuntime) -> Result<(), Fail> {
         outcomes(rt.alloc(), &commands)?.as_slice(),
         want.as_slice()
     );
+    Ok(())
+}
+
+#[test]
+fn levels_are_counted(rt: HostRuntime) -> Result<(), Fail> {
+    let commands = [
+        "push 0",
+        "push 1000",
+        "push",
+        "pop 1001",
+        "pop 999",
+        "pop",
+        "pop",
+        "pop 170141183460469231731687303715884105728",
+        "push 170141183460469231731687303715884105728",
+        "reset-assertions",
+        "reset",
+    ];
+    let want = [
+        "changed", "changed", "6", "8", "popped", "popped", "8", "5", "6", "cleared", "reset",
+    ];
+    assert_eq!(rt;
+        outcomes(rt.alloc(), &commands)?.as_slice(),
+        want.as_slice()
+    );
+    Ok(())
+}
+
+#[test]
+fn a_name_lives_in_its_level(rt: HostRuntime) -> Result<(), Fail> {
+    let commands = [
+        "push",
+        "declare-const x Bool",
+        "define-fun y ( ) Bool x",
+        "declare-const x Int",
+        "pop",
+        "assert x",
+        "assert y",
+        "declare-const y Bool",
+        "declare-const x Int",
+        "assert ( < x 1 )",
+        "reset-assertions",
+        "assert y",
+        "declare-const x Real",
+    ];
+    let want = [
+        "changed", "changed", "changed", "9", "popped", "2", "2", "changed", "changed", "changed",
+        "cleared", "2", "changed",
+    ];
+    assert_eq!(rt;
+        outcomes(rt.alloc(), &commands)?.as_slice(),
+        want.as_slice()
+    );
+    Ok(())
+}
+
+#[test]
+fn names_of_sort_bool_are_assumed(rt: HostRuntime) -> Result<(), Fail> {
+    let commands = [
+        "declare-const p Bool",
+        "define-fun q ( ) Bool ( and p p )",
+        "define-fun f ( ( x Bool ) ) Bool x",
+        "check-sat-assuming ( p ( not q ) true ( not false ) )",
+        "check-sat-assuming ( )",
+        "check-sat-assuming ( p z )",
+        "check-sat-assuming ( f )",
+        "check-sat-assuming ( and )",
+        "define-fun n ( ) Bool ( < 1 2 )",
+        "check-sat-assuming ( z n )",
+        "push",
+        "declare-const x Int",
+        "check-sat-assuming ( z )",
+        "pop",
+        "check-sat-assuming ( p )",
+    ];
+    let want = [
+        "changed",
+        "changed",
+        "changed",
+        "check",
+        "check",
+        "2",
+        "3",
+        "3",
+        "changed",
+        "unsupported",
+        "changed",
+        "changed",
+        "unsupported",
+        "popped",
+        "check",
+    ];
+    assert_eq!(rt;
+        outcomes(rt.alloc(), &commands)?.as_slice(),
+        want.as_slice()
+    );
+    Ok(())
+}
+
+#[test]
+fn numbers_of_items_go_on_until_all_are_forgotten(rt: HostRuntime) -> Result<(), Fail> {
+    let commands = [
+        "declare-const p Bool",
+        "push",
+        "declare-const q Bool",
+        "assert q",
+        "pop",
+        "assert p",
+    ];
+    let (live, _) = after(rt.alloc(), &commands)?;
+    let assertions = [Accepted { number: 3, term: 0 }];
+    assert_eq!(rt; live.top().assertions(), assertions.as_slice());
+
+    let commands = ["push", "declare-const p Bool", "reset-assertions", "declare-const q Bool"];
+    let (live, _) = after(rt.alloc(), &commands)?;
+    let constants = [Accepted { number: 0, term: 1 }];
+    assert_eq!(rt; live.top().constants(), constants.as_slice());
+    assert_eq!(rt; live.levels(), 0);
+    Ok(())
+}
+
+#[test]
+fn a_term_list_is_of_all_levels(rt: HostRuntime) -> Result<(), Fail> {
+    let commands = [
+        "declare-const p Bool",
+        "push 2",
+        "declare-const q Bool",
+        "assert ( and p q )",
+        "push",
+        "assert ( not p )",
+    ];
+    let (live, terms) = after(rt.alloc(), &commands)?;
+    assert_eq!(rt; live.levels(), 3);
+    let ids = live.term_list(rt.alloc(), &terms, &[])?;
+    assert_eq!(rt; ids.as_slice(), [0, 1, 2, 3].as_slice());
     Ok(())
 }

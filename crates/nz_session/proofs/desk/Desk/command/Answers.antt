@@ -11,58 +11,32 @@ use Rattle.nz_sort.specs.Live as asks
 use Rattle.nz_sort.specs.Acts.{info_meaning}
 use Rattle.nz_elaborate.specs.declared.typed.Typed.{Typed}
 use Rattle.nz_reply.specs.declared.reply.Reply.TheVariants as code
-use Rattle.nz_session.proofs.Answering.{GoesOn, accepted_as, kept_after, no_change, goes_on_after_echo, goes_on_after_info, goes_on_after_levels, goes_on_after_nothing, goes_on_after_setting, holds_next, holds_set, changed_answer, done_answer, told_answer, exit_answer, tells_done}
+use Rattle.nz_session.proofs.Answering.{Continues, accepted_as, kept_after, still_as, goes_on_after_echo, goes_on_after_info, goes_on_after_levels, goes_on_after_nothing, goes_on_after_setting, holds_next, holds_set, changed_answer, done_answer, told_answer, exit_answer, tells_done}
 use Rattle.nz_session.proofs.Valuing.{echo_told}
 use Rattle.nz_session.proofs.desk.Desk.command.Goals as goal
-
-pub check-requires : goal.check-requires
-check-requires g c =
-    let x = c.requires.0 in
-    let h = c.requires.1 in
-    let t = view c.args.tree.now in
-    let on : GoesOn c.args.self.now c.command.new.terms c.command.new.self = record { terms = c.command.ensures.kept; asserted = c.command.ensures.front } in
-    let carried = rw c.in-Ok-Check.field-0-is at c.in-Ok-Check.ensures.accepted in
-    let r : IsCarriedOut x.state t check c.command.new.terms c.command.new.self = carried x.state h.live in
-    let k = r.leaves.0 in (
-      x,
-      kept_after g.E.Decide.levels g.E.Decide.table c.args.self.now x c.command.new.terms c.command.new.self k.command (no_change k.command (check_sat []) k.asks (λ y. y)) h on k.live,
-      r.leaves.1,
-    )
 
 pub returns-in-Ok-Changed-clause-right : goal.returns-in-Ok-Changed-clause-right
 returns-in-Ok-Changed-clause-right g c x h =
     let t = view c.args.tree.now in
     let ns = c.command.new.terms in
     let l = c.command.new.self in
-    let on : GoesOn c.args.self.now ns l = record { terms = c.command.ensures.kept; asserted = c.command.ensures.front } in
+    let on : Continues c.args.self.now ns l = record { terms = c.command.ensures.kept; asserted = rw c.in-Ok-Changed.field-0-is at c.in-Ok-Changed.ensures.moves } in
     let carried = rw c.in-Ok-Changed.field-0-is at c.in-Ok-Changed.ensures.accepted in
     let r : IsCarriedOut x.state t changed ns l = carried x.state h.live in
     let k = r.leaves in
     changed_answer g.E.Decide.levels g.E.Decide.table c.states_stay_sorted.ensures.stay x t k.command c.done.result c.said-in-Ok-Changed.result c.args.self.now ns l c.said-in-Ok-Changed.ensures.said
     (c.done.ensures.done (intact t)) h on k.is k.asks k.live
 
-pub returns-in-Ok-Check-clause-right : goal.returns-in-Ok-Check-clause-right
-returns-in-Ok-Check-clause-right g c x h =
-    let t = view c.args.tree.now in
-    let ns = c.command.new.terms in
-    let l = c.command.new.self in
-    let on : GoesOn c.args.self.now ns l = record { terms = c.command.ensures.kept; asserted = c.command.ensures.front } in
-    let carried = rw c.in-Ok-Check.field-0-is at c.in-Ok-Check.ensures.accepted in
-    let r : IsCarriedOut x.state t check ns l = carried x.state h.live in
-    let k = r.leaves.0 in
-    let kept = kept_after g.E.Decide.levels g.E.Decide.table c.args.self.now x ns l k.command (no_change k.command (check_sat []) k.asks (λ y. y)) h on k.live in
-    c.check.ensures.right x t kept (accepted_as x.state t k.command (check_sat []) k.is k.asks)
-
 pub returns-in-Ok-ShowModel-clause-right : goal.returns-in-Ok-ShowModel-clause-right
 returns-in-Ok-ShowModel-clause-right g c x h =
     let t = view c.args.tree.now in
     let ns = c.command.new.terms in
     let l = c.command.new.self in
-    let on : GoesOn c.args.self.now ns l = record { terms = c.command.ensures.kept; asserted = c.command.ensures.front } in
+    let on : Continues c.args.self.now ns l = record { terms = c.command.ensures.kept; asserted = rw c.in-Ok-ShowModel.field-0-is at c.in-Ok-ShowModel.ensures.moves } in
     let carried = rw c.in-Ok-ShowModel.field-0-is at c.in-Ok-ShowModel.ensures.accepted in
     let r : IsCarriedOut x.state t show_model ns l = carried x.state h.live in
     let k = r.leaves in
-    let kept = kept_after g.E.Decide.levels g.E.Decide.table c.args.self.now x ns l k.command (no_change k.command get_model k.asks (λ y. y)) h on k.live in
+    let kept = kept_after g.E.Decide.levels g.E.Decide.table c.args.self.now x ns l k.command (still_as k.command get_model k.asks tt) h on k.live in
     c.show_model.ensures.right x t kept (accepted_as x.state t k.command get_model k.is k.asks)
 
 pub returns-in-Ok-ShowReason-clause-right : goal.returns-in-Ok-ShowReason-clause-right
@@ -70,11 +44,11 @@ returns-in-Ok-ShowReason-clause-right g c x h =
     let t = view c.args.tree.now in
     let ns = c.command.new.terms in
     let l = c.command.new.self in
-    let on : GoesOn c.args.self.now ns l = record { terms = c.command.ensures.kept; asserted = c.command.ensures.front } in
+    let on : Continues c.args.self.now ns l = record { terms = c.command.ensures.kept; asserted = rw c.in-Ok-ShowReason.field-0-is at c.in-Ok-ShowReason.ensures.moves } in
     let carried = rw c.in-Ok-ShowReason.field-0-is at c.in-Ok-ShowReason.ensures.accepted in
     let r : IsCarriedOut x.state t show_reason ns l = carried x.state h.live in
     let k = r.leaves in
-    let kept = kept_after g.E.Decide.levels g.E.Decide.table c.args.self.now x ns l k.command (no_change k.command get_reason k.asks (λ y. y)) h on k.live in
+    let kept = kept_after g.E.Decide.levels g.E.Decide.table c.args.self.now x ns l k.command (still_as k.command get_reason k.asks tt) h on k.live in
     c.show_reason.ensures.right x t kept (accepted_as x.state t k.command get_reason k.is k.asks)
 
 pub returns-in-Ok-ShowValues-clause-right : goal.returns-in-Ok-ShowValues-clause-right
@@ -82,11 +56,11 @@ returns-in-Ok-ShowValues-clause-right g c x h =
     let t = view c.args.tree.now in
     let ns = c.command.new.terms in
     let l = c.command.new.self in
-    let on : GoesOn c.args.self.now ns l = record { terms = c.command.ensures.kept; asserted = c.command.ensures.front } in
+    let on : Continues c.args.self.now ns l = record { terms = c.command.ensures.kept; asserted = rw c.in-Ok-ShowValues.field-0-is at c.in-Ok-ShowValues.ensures.moves } in
     let carried = rw c.in-Ok-ShowValues.field-0-is at c.in-Ok-ShowValues.ensures.accepted in
     let r : IsCarriedOut x.state t (show_values c.in-Ok-ShowValues.asked.items) ns l = carried x.state h.live in
     let k = r.leaves in
-    let kept = kept_after g.E.Decide.levels g.E.Decide.table c.args.self.now x ns l k.command (no_change k.command (get_value (asked_of k.asks.questions k.asks.terms)) k.asks.is (λ y. y)) h on k.live in
+    let kept = kept_after g.E.Decide.levels g.E.Decide.table c.args.self.now x ns l k.command (still_as k.command (get_value (asked_of k.asks.questions k.asks.terms)) k.asks.is tt) h on k.live in
     c.show_values.ensures.right x t r.request k.command kept r.parsed k.is (subst (λ (xs : List Typed). AsksValues ns xs r.request k.command) (sym c.deref.ensures.value) k.asks)
 
 pub returns-in-Ok-ShowInfo-clause-right : goal.returns-in-Ok-ShowInfo-clause-right
@@ -95,11 +69,11 @@ returns-in-Ok-ShowInfo-clause-right g c x h =
     let ns = c.command.new.terms in
     let l = c.command.new.self in
     let i = info_meaning c.in-Ok-ShowInfo.info in
-    let on : GoesOn c.args.self.now ns l = record { terms = c.command.ensures.kept; asserted = c.command.ensures.front } in
+    let on : Continues c.args.self.now ns l = record { terms = c.command.ensures.kept; asserted = rw c.in-Ok-ShowInfo.field-0-is at c.in-Ok-ShowInfo.ensures.moves } in
     let carried = rw c.in-Ok-ShowInfo.field-0-is at c.in-Ok-ShowInfo.ensures.accepted in
     let r : IsCarriedOut x.state t (show_info i) ns l = carried x.state h.live in
     let k = r.leaves in
-    let kept = kept_after g.E.Decide.levels g.E.Decide.table c.args.self.now x ns l k.command (no_change k.command (get_info i) k.asks (λ y. y)) h on k.live in
+    let kept = kept_after g.E.Decide.levels g.E.Decide.table c.args.self.now x ns l k.command (still_as k.command (get_info i) k.asks tt) h on k.live in
     told_answer g.E.Decide.levels g.E.Decide.table x t (get_info i) (code.Info c.info_told.result) (info i) c.said-in-Ok-ShowInfo.result _ c.said-in-Ok-ShowInfo.ensures.said
     (ap info c.info_told.ensures.info) tt (accepted_as x.state t k.command (get_info i) k.is k.asks) (refl, refl)
     (holds_next g.E.Decide.levels g.E.Decide.table _ x kept) (goes_on_after_info i)
@@ -109,12 +83,12 @@ returns-in-Ok-Echo-clause-right g c x h =
     let t = view c.args.tree.now in
     let ns = c.command.new.terms in
     let l = c.command.new.self in
-    let on : GoesOn c.args.self.now ns l = record { terms = c.command.ensures.kept; asserted = c.command.ensures.front } in
+    let on : Continues c.args.self.now ns l = record { terms = c.command.ensures.kept; asserted = rw c.in-Ok-Echo.field-0-is at c.in-Ok-Echo.ensures.moves } in
     let carried = rw c.in-Ok-Echo.field-0-is at c.in-Ok-Echo.ensures.accepted in
     let r : IsCarriedOut x.state t asks.echo ns l = carried x.state h.live in
     let k = r.leaves in
     let bytes = k.asks.text in
-    let kept = kept_after g.E.Decide.levels g.E.Decide.table c.args.self.now x ns l k.command (no_change k.command (echo bytes) k.asks.is (λ y. y)) h on k.live in
+    let kept = kept_after g.E.Decide.levels g.E.Decide.table c.args.self.now x ns l k.command (still_as k.command (echo bytes) k.asks.is tt) h on k.live in
     told_answer g.E.Decide.levels g.E.Decide.table x t (echo bytes) code.Echo (echoed bytes) c.said-in-Ok-Echo.result _ c.said-in-Ok-Echo.ensures.said
     (ap echoed (echo_told c.argument_tells.ensures.tells t r.request bytes r.parsed k.asks.request)) tt (accepted_as x.state t k.command (echo bytes) k.is k.asks.is) (refl, refl)
     (holds_next g.E.Decide.levels g.E.Decide.table _ x kept) (goes_on_after_echo bytes)
@@ -124,11 +98,11 @@ returns-in-Ok-ShowLevels-clause-right g c x h =
     let t = view c.args.tree.now in
     let ns = c.command.new.terms in
     let l = c.command.new.self in
-    let on : GoesOn c.args.self.now ns l = record { terms = c.command.ensures.kept; asserted = c.command.ensures.front } in
+    let on : Continues c.args.self.now ns l = record { terms = c.command.ensures.kept; asserted = rw c.in-Ok-ShowLevels.field-0-is at c.in-Ok-ShowLevels.ensures.moves } in
     let carried = rw c.in-Ok-ShowLevels.field-0-is at c.in-Ok-ShowLevels.ensures.accepted in
     let r : IsCarriedOut x.state t show_levels ns l = carried x.state h.live in
     let k = r.leaves in
-    let kept = kept_after g.E.Decide.levels g.E.Decide.table c.args.self.now x ns l k.command (no_change k.command get_levels k.asks (λ y. y)) h on k.live in
+    let kept = kept_after g.E.Decide.levels g.E.Decide.table c.args.self.now x ns l k.command (still_as k.command get_levels k.asks tt) h on k.live in
     told_answer g.E.Decide.levels g.E.Decide.table x t get_levels (code.Levels c.levels.result) (levels (pushed_levels x.state)) c.said-in-Ok-ShowLevels.result _ c.said-in-Ok-ShowLevels.ensures.said
     (ap levels (c.levels.ensures.levels ns x.state kept.live)) tt (accepted_as x.state t k.command get_levels k.is k.asks) (refl, refl)
     (holds_next g.E.Decide.levels g.E.Decide.table _ x kept) goes_on_after_levels
@@ -138,7 +112,7 @@ returns-in-Ok-PrintSuccess-clause-right g c x h =
     let t = view c.args.tree.now in
     let ns = c.command.new.terms in
     let l = c.command.new.self in
-    let on : GoesOn c.args.self.now ns l = record { terms = c.command.ensures.kept; asserted = c.command.ensures.front } in
+    let on : Continues c.args.self.now ns l = record { terms = c.command.ensures.kept; asserted = rw c.in-Ok-PrintSuccess.field-0-is at c.in-Ok-PrintSuccess.ensures.moves } in
     let carried = rw c.in-Ok-PrintSuccess.field-0-is at c.in-Ok-PrintSuccess.ensures.accepted in
     let r : IsCarriedOut x.state t (print_success c.in-Ok-PrintSuccess.prints) ns l = carried x.state h.live in
     let k = r.leaves in
@@ -154,11 +128,11 @@ returns-in-Ok-Nothing-clause-right g c x h =
     let t = view c.args.tree.now in
     let ns = c.command.new.terms in
     let l = c.command.new.self in
-    let on : GoesOn c.args.self.now ns l = record { terms = c.command.ensures.kept; asserted = c.command.ensures.front } in
+    let on : Continues c.args.self.now ns l = record { terms = c.command.ensures.kept; asserted = rw c.in-Ok-Nothing.field-0-is at c.in-Ok-Nothing.ensures.moves } in
     let carried = rw c.in-Ok-Nothing.field-0-is at c.in-Ok-Nothing.ensures.accepted in
     let r : IsCarriedOut x.state t nothing ns l = carried x.state h.live in
     let k = r.leaves in
-    let kept = kept_after g.E.Decide.levels g.E.Decide.table c.args.self.now x ns l k.command (no_change k.command no_effect k.asks (λ y. y)) h on k.live in
+    let kept = kept_after g.E.Decide.levels g.E.Decide.table c.args.self.now x ns l k.command (still_as k.command no_effect k.asks tt) h on k.live in
     done_answer g.E.Decide.levels g.E.Decide.table x t no_effect x.state.options c.done-in-Ok-Nothing.result c.said-in-Ok-Nothing.result _ c.said-in-Ok-Nothing.ensures.said
     (tells_done x.state t c.args.self.now.prints_success c.done-in-Ok-Nothing.result (c.done-in-Ok-Nothing.ensures.done (intact t)) h.success)
     (accepted_as x.state t k.command no_effect k.is k.asks) (refl, refl) (holds_next g.E.Decide.levels g.E.Decide.table _ x kept) goes_on_after_nothing
@@ -168,11 +142,11 @@ returns-in-Ok-Leave-clause-right g c x h =
     let t = view c.args.tree.now in
     let ns = c.command.new.terms in
     let l = c.command.new.self in
-    let on : GoesOn c.args.self.now ns l = record { terms = c.command.ensures.kept; asserted = c.command.ensures.front } in
+    let on : Continues c.args.self.now ns l = record { terms = c.command.ensures.kept; asserted = rw c.in-Ok-Leave.field-0-is at c.in-Ok-Leave.ensures.moves } in
     let carried = rw c.in-Ok-Leave.field-0-is at c.in-Ok-Leave.ensures.accepted in
     let r : IsCarriedOut x.state t leave ns l = carried x.state h.live in
     let k = r.leaves in
-    let kept = kept_after g.E.Decide.levels g.E.Decide.table c.args.self.now x ns l k.command (no_change k.command exit k.asks (λ y. y)) h on k.live in
+    let kept = kept_after g.E.Decide.levels g.E.Decide.table c.args.self.now x ns l k.command (still_as k.command exit k.asks tt) h on k.live in
     exit_answer g.E.Decide.levels g.E.Decide.table x t c.done-in-Ok-Leave.result _
     (tells_done x.state t c.args.self.now.prints_success c.done-in-Ok-Leave.result (c.done-in-Ok-Leave.ensures.done (intact t)) h.success)
     (accepted_as x.state t k.command exit k.is k.asks) kept

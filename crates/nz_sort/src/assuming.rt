@@ -1,0 +1,122 @@
+//! What a check assumes: names of sort Bool, to be true or to be false.
+ghost use Rattle.std.specs.Prelude.{◌≡◌, ◌||◌, true, [], ◌∷◌, ◌++◌, map, IfOk, OnOk};
+ghost use Rattle.nz_command.specs.Requests.{assumption_view};
+ghost use Rattle.nz_spec.specs.Live.{State};
+ghost use Rattle.nz_spec.specs.Script.{scope_of};
+ghost use Rattle.nz_elaborate.specs.Names.{IsScope};
+ghost use Rattle.nz_elaborate.specs.Typed.{Grows};
+ghost use Rattle.nz_sort.specs.Found.{HasFound, IsFoundAs, IsWithOne};
+
+use crate::acts::Assumed;
+use nz_base::Memory;
+use nz_command::{Assumption, Expression};
+use nz_elaborate::{ElaborateError, Names, elaborate};
+use nz_spec::table::term_stays;
+use nz_term::{Sort, Terms, grows_twice};
+use std::alloc::Global;
+
+/// What is found of assumptions.
+#[derive(Drop)]
+pub(crate) struct FoundAssumptions {
+    /// What they assume, one for one, where none is missorted.
+    pub literals: Vec<Assumed>,
+    /// A name isn't in scope.
+    pub is_unknown: bool,
+    /// A name isn't in scope, or stands for no term of sort Bool.
+    pub is_missorted: bool,
+    /// A name stands for a term that holds a number.
+    pub holds_number: bool,
+}
+
+impl FoundAssumptions {
+    /// What is found of one more.
+    fn add(&mut self, one: FoundAssumption) -> Result<(), Memory>
+        ensures added { OnOk result (IsWithOne self.old one self.new) }
+    {
+        self.is_unknown = self.is_unknown || one.is_unknown;
+        self.holds_number = self.holds_number || one.holds_number;
+        match one.literal {
+            Some(literal) => self.literals.push(literal)?,
+            None => self.is_missorted = true,
+        }
+        Ok(())
+    }
+}
+
+/// What is found of one assumption.
+#[derive(Clone, Copy)]
+pub(crate) struct FoundAssumption {
+    /// What it assumes, where its name stands for a term of sort Bool.
+    pub literal: Option<Assumed>,
+    /// The name isn't in scope.
+    pub is_unknown: bool,
+    /// The name stands for a term that holds a number.
+    pub holds_number: bool,
+}
+
+/// What is found of these assumptions, where these names are live. After an error the table may have grown.
+pub(crate) fn assumed(
+    alloc: Global,
+    names: &Names,
+    terms: &mut Terms,
+    assumptions: &[Assumption],
+) -> Result<FoundAssumptions, Memory>
+    requires scope { (s : State) × IsScope terms.old names.now [] (scope_of s) }
+    ensures grows { Grows terms.old terms.new }
+    ensures found { IfOk result (λ f. (s : State) → IsScope terms.old names.now [] (scope_of s) → HasFound s (map assumption_view assumptions.now) terms.new f) }
+{
+    grows_twice();
+    term_stays();
+    let mut found = FoundAssumptions {
+        literals: Vec::with_capacity(alloc, assumptions.len())?,
+        is_unknown: false,
+        is_missorted: false,
+        holds_number: false,
+    };
+    for assumption in assumptions {
+        let one = assumed_term(alloc, names, terms, assumption)?;
+        found.add(one)?;
+    }
+    Ok(found)
+}
+
+/// What is found of an assumption, where these names are live. After an error the table may have grown.
+fn assumed_term(
+    alloc: Global,
+    names: &Names,
+    terms: &mut Terms,
+    assumption: &Assumption,
+) -> Result<FoundAssumption, Memory>
+    requires scope { (s : State) × IsScope terms.old names.now [] (scope_of s) }
+    ensures grows { Grows terms.old terms.new }
+    ensures found { IfOk result (λ f. (s : State) → IsScope terms.old names.now [] (scope_of s) → IsFoundAs s (assumption_view assumption.now) terms.new f) }
+{
+    match elaborate(alloc, names, terms, &Expression::Name(assumption.name)) {
+        Err(ElaborateError::Memory) => Err(Memory),
+        Err(ElaborateError::Unknown) => Ok(FoundAssumption {
+            literal: None,
+            is_unknown: true,
+            holds_number: false,
+        }),
+        Err(_) => Ok(FoundAssumption {
+            literal: None,
+            is_unknown: false,
+            holds_number: false,
+        }),
+        Ok(made) => {
+            let literal = Assumed {
+                term: made.id,
+                is_true: assumption.is_true,
+            };
+            Ok(FoundAssumption {
+                literal: if made.sort == Sort::Bool {
+                    Some(literal)
+                } else {
+                    None
+                },
+                is_unknown: false,
+                holds_number: terms.holds_number(made.id),
+            })
+        }
+    }
+}
