@@ -1,5 +1,5 @@
 -- The model of the live constants that is made of the values that a search gave.
-use Rattle.std.proofs.Common.{◌≡◌, ℕ, zero, suc, ◌+◌, ◌<◌, ◌≤◌, Bool, true, false, not, ◌||◌, IsTrue, List, [], ◌∷◌, ◌++◌, length, map, drop, Option, Some, None, option_map, refl, sym, ap, ◌∙◌, subst, get_or, true≢false, add-one, append-nil, append_assoc}
+use Rattle.std.proofs.Common.{◌≡◌, ℕ, zero, suc, ◌+◌, ◌<◌, ◌≤◌, Bool, true, false, ◌||◌, IsTrue, List, [], ◌∷◌, ◌++◌, length, map, drop, Option, Some, None, option_map, refl, sym, ap, ◌∙◌, subst, get_or, true≢false, add-one, append-nil, append_assoc}
 use Rattle.std.specs.Prelude.{Contains, slice_get, bytes_eq, pos, unwrap_or, if◌then◌else◌}
 use Rattle.std.specs.List.{AllByRecursion, list_any}
 use Rattle.std.specs.Cmp.Lexicographic.{nat_list_eq_equiv}
@@ -13,13 +13,13 @@ use Rattle.std.proofs.lemmas.Bool.{and_from, and_parts}
 use Rattle.nz_spec.specs.Fraction.{IsNumber, whole}
 use Rattle.nz_spec.specs.Term.{Sort, bool_sort, int_sort, real_sort, are_same_sort, Constant, are_same_constant, Head, constant, falsum, constant_of, Term, apply, no_terms, Value, Assignment, default_value, IsOfSort, ValueFits, DecimalsAreNumbers, IsTrueUnder, is_true}
 use Rattle.nz_spec.specs.Numerals.{NumeralsAreWhole}
-use Rattle.nz_spec.specs.Literal.{Literal, term_literal, is_literal_true, AreTrueLiterals}
+use Rattle.nz_spec.specs.Literal.{Literal, term_literal, is_at_most, is_below, are_same_sign, is_literal_true, AreTrueLiterals}
 use Rattle.nz_spec.specs.Table.{Node, IsTable, TermOfNode, AssignsByNumber, term_in, is_node_of, listed_value, assignment_by}
 use Rattle.nz_spec.specs.Decide.{constants_of_head, asserted_terms, IsValueOf, AreModelValues}
 use Rattle.nz_spec.specs.Legal.{at_first, IsDeadEnd}
 use Rattle.nz_spec.specs.Normal.{normal_of, NormalKeepsValue}
 use Rattle.nz_spec.specs.OverConstants.{IsOver, AgreeOn, ConstantsTellValues}
-use Rattle.nz_spec.specs.Model.{Binding, assignment_of, literal_term, ValuesFit, IsAssignment, IsModel, AreModel, IsUnsatisfiable}
+use Rattle.nz_spec.specs.Model.{Binding, assignment_of, ValuesFit, IsAssignment, IsModel, AreModel, IsUnsatisfiable}
 use Rattle.nz_spec.specs.Live.{State, constants_of, assertions_of}
 use Rattle.nz_spec.specs.Sorts.{IsAssumable}
 use Rattle.nz_log.specs.declared.lits.Lit.{Lit}
@@ -155,17 +155,6 @@ completed_constants ns ps law table (i ∷ is) (c ∷ cs) within e =
     ap (λ bs. bs ++ completed ns ps is) (bound_node ns ps law table i c within.0 first)
     ∙ ap (λ bs. bound_by (assignment_by ns ps) c ∷ bs) (completed_constants ns ps law table is cs within.1 rest)
 
--- ---- Assumed literals
-
--- a literal whose term is true is true
-held_literal : (a : Assignment) (m : Literal) → IsTrueUnder a (literal_term m) → IsTrue (is_literal_true a m)
-held_literal a (term_literal t true) h = h
-held_literal a (term_literal t false) h = h
-
-held_literals : (a : Assignment) (ms : List Literal) → AllByRecursion (IsTrueUnder a) (map literal_term ms) → AreTrueLiterals a ms
-held_literals a [] h = tt
-held_literals a (m ∷ ms) h = (held_literal a m h.0, held_literals a ms h.1)
-
 -- ---- Normal terms
 
 true_normals : NormalKeepsValue → (a : Assignment) (ts : List Term) → AllByRecursion (IsTrueUnder a) (map normal_of ts) → AllByRecursion (IsTrueUnder a) ts
@@ -177,10 +166,10 @@ normals_true law a [] h = tt
 normals_true law a (t ∷ ts) h = (subst (λ v. IsTrue (is_true v)) (sym (law a t)) h.0, normals_true law a ts h.1)
 
 -- what makes the normal terms true makes the terms true
-model_of_normals : NormalKeepsValue → (a : Assignment) (ts assumed : List Term) → IsModel (map normal_of ts) assumed a → IsModel ts assumed a
+model_of_normals : NormalKeepsValue → (a : Assignment) (ts : List Term) (assumed : List Literal) → IsModel (map normal_of ts) assumed a → IsModel ts assumed a
 model_of_normals law a ts assumed m = record { sorts = m.sorts; asserted_hold = true_normals law a ts m.asserted_hold; assumed_hold = m.assumed_hold }
 
-pub normals_of_model : NormalKeepsValue → (a : Assignment) (ts assumed : List Term) → IsModel ts assumed a → IsModel (map normal_of ts) assumed a
+pub normals_of_model : NormalKeepsValue → (a : Assignment) (ts : List Term) (assumed : List Literal) → IsModel ts assumed a → IsModel (map normal_of ts) assumed a
 normals_of_model law a ts assumed m = record { sorts = m.sorts; asserted_hold = normals_true law a ts m.asserted_hold; assumed_hold = m.assumed_hold }
 
 -- ---- Truths under assignments that agree
@@ -190,11 +179,12 @@ module _ (tell : ConstantsTellValues) (cs : List Constant) (a b : Assignment) (a
   terms_agree [] over h = tt
   terms_agree (t ∷ ts) over h = (subst (λ v. IsTrue (is_true v)) (sym (tell cs b a t agree over.0)) h.0, terms_agree ts over.1 h.1)
 
-  literal_holds : (s : State) (m : Literal) → constants_of s ≡ cs → IsAssumable s m → IsTrue (is_literal_true a m) → IsTrueUnder b (literal_term m)
-  literal_holds s (term_literal t true) e k h = subst (λ v. IsTrue (is_true v)) (sym (tell cs b a t agree (subst (λ ds. IsOver ds t) e k.0))) h
-  literal_holds s (term_literal t false) e k h = subst (λ v. IsTrue (not (is_true v))) (sym (tell cs b a t agree (subst (λ ds. IsOver ds t) e k.0))) h
+  literal_holds : (s : State) (m : Literal) → constants_of s ≡ cs → IsAssumable s m → IsTrue (is_literal_true a m) → IsTrue (is_literal_true b m)
+  literal_holds s (term_literal t sign) e k h = subst (λ v. IsTrue (are_same_sign sign (is_true v))) (sym (tell cs b a t agree (subst (λ ds. IsOver ds t) e k.0))) h
+  literal_holds s (is_at_most ps c) e k h = absurd k
+  literal_holds s (is_below ps c) e k h = absurd k
 
-  literals_hold : (s : State) (ms : List Literal) → constants_of s ≡ cs → AllByRecursion (IsAssumable s) ms → AreTrueLiterals a ms → AllByRecursion (IsTrueUnder b) (map literal_term ms)
+  literals_hold : (s : State) (ms : List Literal) → constants_of s ≡ cs → AllByRecursion (IsAssumable s) ms → AreTrueLiterals a ms → AreTrueLiterals b ms
   literals_hold s [] e k h = tt
   literals_hold s (m ∷ ms) e k h = (literal_holds s m e k.0 h.0, literals_hold s ms e k.1 h.1)
 
@@ -203,7 +193,7 @@ module _ (tell : ConstantsTellValues) (cs : List Constant) (a b : Assignment) (a
 -- what a search gave for the table makes a model of the live constants
 pub live_model : DecimalsAreNumbers → NumeralsAreWhole → NormalKeepsValue → ConstantsTellValues → TermOfNode → (ns : List Node) → IsTable ns → (l : Standing) (s : State) (ps : List (ℕ × Value)) (ms : List Literal)
     → IsLive ns l s → AllByRecursion (IsOver (constants_of s)) (assertions_of s) → AllByRecursion (IsAssumable s) ms → AreModelValues ns (asserted_terms ns (asserted_by l)) [] ps
-    → AreTrueLiterals (assignment_by ns ps) ms → AreModel (constants_of s) (assertions_of s) (map literal_term ms) (completed ns ps (constants_by l))
+    → AreTrueLiterals (assignment_by ns ps) ms → AreModel (constants_of s) (assertions_of s) ms (completed ns ps (constants_by l))
 live_model decimals numerals keeps tell law ns table l s ps ms h over assumable v holds =
     let a : Assignment = assignment_by ns ps in
     let cs = constants_of s in
@@ -214,7 +204,7 @@ live_model decimals numerals keeps tell law ns table l s ps ms h over assumable 
     record {
       constants = ap (map (λ (x : Binding). x.constant)) bound ∙ bound_constants a cs;
       numbers = subst ValuesFit (sym bound) (bound_fit a cs (λ c. value_fits decimals numerals ns ps c v.values));
-      makes = subst (IsModel (assertions_of s) (map literal_term ms)) (sym (ap assignment_of bound)) (record {
+      makes = subst (IsModel (assertions_of s) ms) (sym (ap assignment_of bound)) (record {
         sorts = bound_assigns a model.sorts cs;
         asserted_hold = terms_agree tell cs a b (bound_agrees a cs) (assertions_of s) over model.asserted_hold;
         assumed_hold = literals_hold tell cs a b (bound_agrees a cs) s ms refl assumable holds;
@@ -276,10 +266,10 @@ values_in ns ps (i ∷ is) h =
 
 -- a dead end of a search before any decision is one of the live state, under what is assumed
 pub no_live_model : NormalKeepsValue → (ns : List Node) (l : Standing) (s : State) (ls : List Lit) (ms : List Literal) → IsLive ns l s → ((a : Assignment) → AreTrueLiterals a ms → AreTrueLiterals a (map (literal_of ns) ls))
-    → IsDeadEnd (task_in ns (asserted_by l) ls) at_first → IsUnsatisfiable (assertions_of s) (map literal_term ms)
+    → IsDeadEnd (task_in ns (asserted_by l) ls) at_first → IsUnsatisfiable (assertions_of s) ms
 no_live_model keeps ns l s ls ms h told dead a m =
     dead a (subst (λ ts. IsModel ts [] a) (sym h.terms) (normals_of_model keeps a (assertions_of s) [] (record { sorts = m.sorts; asserted_hold = m.asserted_hold; assumed_hold = tt })))
-    (told a (held_literals a ms m.assumed_hold)) tt
+    (told a m.assumed_hold) tt
 
 -- ---- Bindings, one after another
 

@@ -11,7 +11,7 @@ use Rattle.nz_spec.specs.Normal.{normal_of}
 use Rattle.nz_spec.specs.Sorts.{IsSortedState, AssertionsAreGated, IsAssumable}
 use Rattle.nz_spec.specs.Table.{Node, term_in}
 use Rattle.nz_spec.specs.Decide.{asserted_numbers}
-use Rattle.nz_spec.specs.Literal.{Literal, term_literal}
+use Rattle.nz_spec.specs.Literal.{Literal, term_literal, is_at_most, is_below}
 use Rattle.nz_log.specs.declared.lits.Lit.{Lit}
 use Rattle.nz_sort.specs.Live.{Standing, asserted_by, IsLive}
 use Rattle.nz_session.specs.Assumed.{IsLitOf, AreLitsOf}
@@ -47,6 +47,8 @@ live_gated gated ns l s h sorted e =
 
 gated_lit : (ns : List Node) (s : State) (l : Lit) (m : Literal) → IsLitOf ns l m → IsAssumable s m → IsGated (term_in ns l.term)
 gated_lit ns s l (term_literal t sign) h k = subst IsGated (sym h.1) k.1
+gated_lit ns s l (is_at_most ps b) h k = absurd h
+gated_lit ns s l (is_below ps b) h k = absurd h
 
 gated_lits : (ns : List Node) (s : State) (ls : List Lit) (ms : List Literal) → AreLitsOf ns ls ms → AllByRecursion (IsAssumable s) ms → AllByRecursion (λ (l : Lit). IsGated (term_in ns l.term)) ls
 gated_lits ns s [] [] h k = tt

@@ -7,14 +7,14 @@ use Rattle.nz_spec.specs.Term.{Term, apply, constant, no_terms, Assignment, is_t
 use Rattle.nz_spec.specs.Normal.{normal_of, NormalKeepsValue}
 use Rattle.nz_spec.specs.Table.{Node, term_in}
 use Rattle.nz_spec.specs.Order.{listing_order}
-use Rattle.nz_spec.specs.Literal.{Literal, term_literal, are_same_sign, is_literal_true, AreTrueLiterals}
+use Rattle.nz_spec.specs.Literal.{Literal, term_literal, is_at_most, is_below, are_same_sign, is_literal_true, AreTrueLiterals}
 use Rattle.nz_spec.specs.Model.{IsModel}
 use Rattle.nz_spec.specs.Live.{State, Item, declared, defined, asserted, sought, wished, cost_of, items_of, item_terms, assertions_in, assertions_of}
 use Rattle.nz_spec.specs.Work.{DecisionEntry, LearnedEntry, WorkLine, UnitLine, NoteLine, WorkList, is_unit, unit_count, IsSpent}
 use Rattle.nz_spec.specs.Reply.{atom_note}
 use Rattle.nz_spec.specs.Reply as reply
 use Rattle.nz_spec.specs.Legal.{Task, Search, at_first, MayFollow, after_line, AreLegal, IsSpentLegally}
-use Rattle.nz_spec.specs.Right.{normal_in, task_of}
+use Rattle.nz_spec.specs.Right.{normals_in, task_of}
 use Rattle.std.proofs.lemmas.Grind.{flat_map-append}
 use Rattle.nz_sort.specs.Live.{Standing, asserted_by, IsLive}
 use Rattle.nz_log.specs.declared.lits.Lit.{Lit}
@@ -87,6 +87,8 @@ all_listed items us t h =
 lit_true : NormalKeepsValue → (ns : List Node) (a : Assignment) (l : Lit) (m : Literal) → IsLitOf ns l m → is_literal_true a (literal_of ns l) ≡ is_literal_true a m
 lit_true keeps ns a l (term_literal t sign) h =
     ap (λ u. are_same_sign l.sign (is_true (value_of a u))) h.1 ∙ ap (λ v. are_same_sign l.sign (is_true v)) (keeps a t) ∙ ap (λ b. are_same_sign b (is_true (value_of a t))) h.2
+lit_true keeps ns a l (is_at_most ps b) h = absurd h
+lit_true keeps ns a l (is_below ps b) h = absurd h
 
 pub lits_true : NormalKeepsValue → (ns : List Node) (a : Assignment) (ls : List Lit) (ms : List Literal) → AreLitsOf ns ls ms → AreTrueLiterals a ms → AreTrueLiterals a (map (literal_of ns) ls)
 lits_true keeps ns a [] [] h k = tt
@@ -100,14 +102,16 @@ literals_true keeps ns a [] (m ∷ ms) h k = absurd h
 literals_true keeps ns a (l ∷ ls) [] h k = absurd h
 literals_true keeps ns a (l ∷ ls) (m ∷ ms) h k = (subst IsTrue (lit_true keeps ns a l m h.0) k.0, literals_true keeps ns a ls ms h.1 k.1)
 
-lit_term : (ns : List Node) (l : Lit) (m : Literal) → IsLitOf ns l m → term_in ns l.term ≡ normal_in m
-lit_term ns l (term_literal t sign) h = h.1
+lit_term : (ns : List Node) (l : Lit) (m : Literal) → IsLitOf ns l m → term_in ns l.term ∷ [] ≡ normals_in m
+lit_term ns l (term_literal t sign) h = ap (λ u. u ∷ []) h.1
+lit_term ns l (is_at_most ps b) h = absurd h
+lit_term ns l (is_below ps b) h = absurd h
 
-lit_terms : (ns : List Node) (ls : List Lit) (ms : List Literal) → AreLitsOf ns ls ms → map (λ (l : Lit). term_in ns l.term) ls ≡ map normal_in ms
+lit_terms : (ns : List Node) (ls : List Lit) (ms : List Literal) → AreLitsOf ns ls ms → map (λ (l : Lit). term_in ns l.term) ls ≡ flat_map normals_in ms
 lit_terms ns [] [] h = refl
 lit_terms ns [] (m ∷ ms) h = absurd h
 lit_terms ns (l ∷ ls) [] h = absurd h
-lit_terms ns (l ∷ ls) (m ∷ ms) h = ap (λ t. t ∷ map (λ (k : Lit). term_in ns k.term) ls) (lit_term ns l m h.0) ∙ ap (λ ts. normal_in m ∷ ts) (lit_terms ns ls ms h.1)
+lit_terms ns (l ∷ ls) (m ∷ ms) h = ap (λ ts. ts ++ map (λ (k : Lit). term_in ns k.term) ls) (lit_term ns l m h.0) ∙ ap (λ ts. normals_in m ++ ts) (lit_terms ns ls ms h.1)
 
 asks_that : NormalKeepsValue → (ns : List Node) (l : Standing) (s : State) (ls : List Lit) (ms : List Literal) → IsLive ns l s → AreLitsOf ns ls ms
     → AsksThat (task_in ns (asserted_by l) ls) (task_of s ms)

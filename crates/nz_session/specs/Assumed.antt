@@ -11,9 +11,10 @@ use Rattle.nz_sort.specs.declared.acts.Assumed.{Assumed}
 abbrev pub lit_of : Assumed → Lit
 lit_of x = record { term = x.term; sign = x.is_true }
 
--- It is that of the literal's normal term, with its sign.
+-- It is that of the normal term of a literal of a term, with its sign.
 abbrev pub IsLitOf : List Node → Lit → Literal → Type 0
 IsLitOf ns l (term_literal t sign) = (l.term < length ns) × (term_in ns l.term ≡ normal_of t) × (l.sign ≡ sign)
+IsLitOf ns l m = ⊥
 
 -- likewise, one for one
 abbrev pub AreLitsOf : List Node → List Lit → List Literal → Type 0

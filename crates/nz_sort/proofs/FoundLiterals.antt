@@ -6,7 +6,7 @@ use Rattle.std.proofs.lemmas.List.Folds.{list_any-append}
 use Rattle.std.proofs.Math.Bool.{or-false}
 use Rattle.nz_spec.specs.Term.{bool_sort, Term, holds_number, are_same_sort}
 use Rattle.nz_spec.specs.Normal.{normal_of}
-use Rattle.nz_spec.specs.Literal.{Literal, term_literal}
+use Rattle.nz_spec.specs.Literal.{Literal, term_literal, is_at_most, is_below}
 use Rattle.nz_spec.specs.Table.{Node, TermStays}
 use Rattle.nz_spec.specs.Order.{HasCompanions}
 use Rattle.nz_spec.specs.Request.{Assumption, checks_assuming}
@@ -76,6 +76,8 @@ assumed_longer : TermStays → (old new : List Node) → Grows old new → (x : 
 assumed_longer stays old new g x (term_literal t sign) h =
     let kept = stands_kept old new g x.term h.0.within in
     (record { within = kept.within; term = kept.term ∙ h.0.term }, h.1)
+assumed_longer stays old new g x (is_at_most ps b) h = absurd h
+assumed_longer stays old new g x (is_below ps b) h = absurd h
 
 all_longer : TermStays → (old new : List Node) → Grows old new → (xs : List Assumed) (ls : List Literal) → AreAssumed old xs ls → AreAssumed new xs ls
 all_longer stays old new g [] [] h = tt

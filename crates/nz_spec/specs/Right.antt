@@ -1,13 +1,14 @@
 -- Which reply to a thing heard is right, and what it leaves (SMT-LIB 2.6, section 4.2).
-use Rattle.std.specs.Prelude.{◌≡◌, ℕ, List, [], ◌∷◌, ◌++◌, map, drop, Option, Some, None, ◌⊎◌, if◌then◌else◌}
+use Rattle.std.specs.Prelude.{◌≡◌, ℕ, List, [], ◌∷◌, ◌++◌, map, flat_map, drop, Option, Some, None, ◌⊎◌, if◌then◌else◌}
 use Rattle.std.specs.List.{repeat}
 use Rattle.nz_spec.specs.Tree.{Tree}
 use Rattle.nz_spec.specs.Term.{Term, Assignment}
 use Rattle.nz_spec.specs.Normal.{normal_of}
-use Rattle.nz_spec.specs.Literal.{Literal, term_literal}
+use Rattle.nz_spec.specs.Literal.{Literal, term_literal, is_at_most, is_below}
+use Rattle.nz_spec.specs.Form.{Part}
 use Rattle.nz_spec.specs.Text.{What, intact, faulty, unclosed, unread}
 use Rattle.nz_spec.specs.Error.{nothing_to_show, incomplete, out_of_memory}
-use Rattle.nz_spec.specs.Model.{assignment_of, literal_term, AreModel, IsUnsatisfiable}
+use Rattle.nz_spec.specs.Model.{assignment_of, AreModel, IsUnsatisfiable}
 use Rattle.nz_spec.specs.Live.{units_spent, declared, defined, asserted, LastAnswer, model_found, refutation, undecided, Options, State, start, constants_of, assertions_of, grown, pushed_levels}
 use Rattle.nz_spec.specs.Command.{Asked, Command, declare_const, define, assert_term, push_levels, pop_levels, reset, reset_assertions, check_sat, get_model, get_value, get_info, get_levels, get_reason, set_print_success, echo, exit, Outcome, accepted, refused, not_taken}
 use Rattle.nz_spec.specs.Script.{outcome_of}
@@ -26,18 +27,20 @@ pub record Context : Type 0 where
 abbrev pub beginning : ℕ → Context
 beginning limit = record { limit = limit; before = []; state = start }
 
--- the normal term of a literal
-abbrev pub normal_in : Literal → Term
-normal_in (term_literal t sign) = normal_of t
+-- the normal terms that a literal is of: its term, or the units of its sum
+abbrev pub normals_in : Literal → List Term
+normals_in (term_literal t sign) = normal_of t ∷ []
+normals_in (is_at_most ps b) = map (λ (p : Part). normal_of p.unit) ps
+normals_in (is_below ps b) = map (λ (p : Part). normal_of p.unit) ps
 
 -- what a check under these assumed literals asks a search
 abbrev pub task_of : State → List Literal → Task
-task_of s assumed = record { asserted = assertions_of s; assumed = assumed; listed = terms_added s (map normal_in assumed) }
+task_of s assumed = record { asserted = assertions_of s; assumed = assumed; listed = terms_added s (flat_map normals_in assumed) }
 
 -- An answer to a check under these assumed literals.
 abbrev pub IsRightCheck : Context → List Literal → Reply → Cause → Type 0
-IsRightCheck c assumed (sat bs) cause = AreModel (constants_of c.state) (assertions_of c.state) (map literal_term assumed) bs × (cause ≡ plain)
-IsRightCheck c assumed unsat cause = IsUnsatisfiable (assertions_of c.state) (map literal_term assumed) × (cause ≡ plain)
+IsRightCheck c assumed (sat bs) cause = AreModel (constants_of c.state) (assertions_of c.state) assumed bs × (cause ≡ plain)
+IsRightCheck c assumed unsat cause = IsUnsatisfiable (assertions_of c.state) assumed × (cause ≡ plain)
 -- Each unit of the limit was used, step by step as a search may.
 IsRightCheck c assumed (unknown r) plain = ⊥
 IsRightCheck c assumed (unknown r) (spent list) =

@@ -58,9 +58,10 @@ AssertionsAreGated = (s : State) → IsSortedState s → AllByRecursion (λ (t :
 abbrev pub AssertionsAreOver : Type 0
 AssertionsAreOver = (s : State) → IsSortedState s → AllByRecursion (IsOver (constants_of s)) (assertions_of s)
 
--- The term of an assumed literal is over the live constants, and its normal term is one of the gate table.
+-- The literal is of a term over the live constants, and its normal term is one of the gate table.
 abbrev pub IsAssumable : State → Literal → Type 0
 IsAssumable s (term_literal t sign) = IsOver (constants_of s) t × IsGated (normal_of t)
+IsAssumable s l = ⊥
 
 -- So it is of each literal that an accepted check assumes.
 abbrev pub AssumptionsAreGated : Type 0
