@@ -1,18 +1,18 @@
 -- What is found of assumptions, one after another, and what becomes of a check under them.
-use Rattle.std.proofs.Common.{◌≡◌, ◌||◌, ℕ, List, [], ◌∷◌, ◌++◌, length, take, Option, Some, None, Ok, Bool, true, false, cond, refl, sym, ap, ◌∙◌, subst, append-nil}
+use Rattle.std.proofs.Common.{◌≡◌, ◌||◌, ℕ, List, [], ◌∷◌, ◌++◌, length, take, Option, Some, None, Ok, Err, Bool, true, false, not, is_some, cond, refl, sym, ap, ◌∙◌, subst, append-nil}
 use Rattle.std.specs.Prelude.{option_and_then}
 use Rattle.std.specs.List.{list_any}
 use Rattle.std.proofs.lemmas.List.Folds.{list_any-append}
 use Rattle.std.proofs.Math.Bool.{or-false}
-use Rattle.nz_spec.specs.Term.{bool_sort, Term, holds_number, are_same_sort}
+use Rattle.nz_spec.specs.Term.{bool_sort, Constant, constant, Term, apply, no_terms, holds_number, are_same_sort}
 use Rattle.nz_spec.specs.Normal.{normal_of}
 use Rattle.nz_spec.specs.Literal.{Literal, term_literal, is_at_most, is_below}
 use Rattle.nz_spec.specs.Table.{Node, TermStays}
 use Rattle.nz_spec.specs.Order.{HasCompanions}
 use Rattle.nz_spec.specs.Request.{Assumption, checks_assuming}
 use Rattle.nz_spec.specs.Parse.{cons_onto}
-use Rattle.nz_spec.specs.Elaboration.{has_sort}
-use Rattle.nz_spec.specs.Live.{State, items_of, items_hold_numbers}
+use Rattle.nz_spec.specs.Elaboration.{has_sort, Operator, operator_named, applied, Definition, expansion, constant_named, definition_named}
+use Rattle.nz_spec.specs.Live.{State, items_of, items_hold_numbers, constants_of, definitions_of}
 use Rattle.nz_spec.specs.Command.{check_sat, Outcome, accepted, refused, not_taken}
 use Rattle.nz_spec.specs.Error.{unknown_symbol, wrong_sort}
 use Rattle.nz_spec.specs.Script.{assumed_term, assumes_unknown, assumes_number, assumed_literal, assumed_literals, check_under}
@@ -29,7 +29,9 @@ use Rattle.nz_sort.specs.Acts.{asked}
 use Rattle.nz_sort.specs.Changes.{Comes}
 use Rattle.nz_sort.specs.Found.{IsFoundLiteral, IsFoundAs, AreFoundLiterals, HasFound, IsWithLiteral, IsWithOne}
 use Rattle.nz_sort.specs.Live.{Standing, asserted_by, IsLive, Leaves, IfSkipped, Moves, check, unsupported}
+use Rattle.nz_base.specs.declared.reply_errors.Error.TheVariants as errors
 use Rattle.nz_sort.proofs.Leveling.{goes_on_same}
+use Rattle.nz_sort.proofs.Ruling.{comes_refused}
 use Rattle.nz_sort.proofs.Living.{kept_where_grown, kept_where_same, live_grown, live_numbers, stands_kept}
 
 -- ---- One assumption
@@ -46,6 +48,18 @@ none_assumed s x e = ap (assumed_by x.is_true) e
 
 none_holds : (s : State) (x : Assumption) → assumed_term s x ≡ None → assumes_number s x ≡ false
 none_holds s x e = ap (λ (o : Option Term). elim o [ Some t ↦ holds_number (normal_of t) | None ↦ false ]) e
+
+-- without an operator, a constant and a definition of a name it has no term
+unknown_by : (o : Option Operator) (c : Option Constant) (d : Option Definition) → not (is_some o || is_some c || is_some d) ≡ true
+    → elim o [ Some p ↦ applied p no_terms | None ↦ (elim c [ Some k ↦ Some (apply (constant k) no_terms) | None ↦ option_and_then (λ e. expansion e no_terms) d ]) ] ≡ None
+unknown_by (Some o) c d e = cc
+unknown_by None (Some c) d e = cc
+unknown_by None None (Some d) e = cc
+unknown_by None None None e = refl
+
+-- an unknown name stands for no term
+pub unknown_none : (s : State) (x : Assumption) → assumes_unknown s x ≡ true → assumed_term s x ≡ None
+unknown_none s x e = unknown_by (operator_named x.name) (constant_named (constants_of s) x.name) (definition_named (definitions_of s) x.name) e
 
 -- nothing is assumed by a name without a term
 pub found_none : (s : State) (x : Assumption) (ns : List Node) (unknown : Bool) → assumes_unknown s x ≡ unknown → assumed_term s x ≡ None
@@ -222,3 +236,14 @@ comes_of_numbers old new standing xs mid f act a same found e =
       skipped = subst (λ ask. IfSkipped ask (standing ≡ standing)) (sym a) refl;
       moves = subst (λ ask. Moves ask (asserted_by standing) (asserted_by standing)) (sym a) (goes_on_same (asserted_by standing));
     }
+
+-- a rule that the check breaks
+pub comes_of_unknown : (old new : List Node) (standing : Standing) (xs : List Assumption) (f : FoundAssumptions) → Grows old new → ((s : State) → IsLive old standing s → HasFound s xs new f)
+    → (standing.top.holds_numbers || f.holds_number) ≡ false → f.is_unknown ≡ true → Comes old new standing standing (checks_assuming xs) (λ s. check_under s xs) (Err errors.UnknownSymbol)
+comes_of_unknown old new standing xs f g found e u =
+    comes_refused old new standing standing (checks_assuming xs) (λ s. check_under s xs) errors.UnknownSymbol (λ s live. under_unknown old standing s xs new f live (found s live) e u) (kept_where_grown old new g) refl
+
+pub comes_of_sort : (old new : List Node) (standing : Standing) (xs : List Assumption) (f : FoundAssumptions) → Grows old new → ((s : State) → IsLive old standing s → HasFound s xs new f)
+    → (standing.top.holds_numbers || f.holds_number) ≡ false → f.is_unknown ≡ false → f.is_missorted ≡ true → Comes old new standing standing (checks_assuming xs) (λ s. check_under s xs) (Err errors.Sort)
+comes_of_sort old new standing xs f g found e u m =
+    comes_refused old new standing standing (checks_assuming xs) (λ s. check_under s xs) errors.Sort (λ s live. under_missorted old standing s xs new f live (found s live) e u m) (kept_where_grown old new g) refl

@@ -1,5 +1,5 @@
 -- Levels: what holds of all of them, and what their changes leave.
-use Rattle.std.proofs.Common.{◌||◌, ◌+◌, ◌-◌, ◌≤◌, ◌≡◌, ℕ, zero, suc, ◌<◌, List, [], ◌∷◌, ◌++◌, length, map, take, drop, All, Bool, false, refl, sym, ap, ◌∙◌, append_assoc, append-nil, length-append, subst, arith}
+use Rattle.std.proofs.Common.{◌||◌, ◌+◌, ◌-◌, ◌≤◌, ◌≡◌, ℕ, zero, suc, ◌<◌, List, [], ◌∷◌, ◌++◌, length, map, take, drop, All, Bool, false, refl, sym, ap, ◌∙◌, append_assoc, append-nil, length-append, add-one, subst, arith}
 use Rattle.std.specs.Prelude.{flat_map, reverse}
 use Rattle.std.specs.List.{repeat}
 use Rattle.std.proofs.lemmas.Grind.{flat_map-append}
@@ -15,8 +15,9 @@ use Rattle.nz_elaborate.specs.declared.names.Named as naming
 use Rattle.nz_elaborate.specs.Names.{IsScope, nothing_declared}
 use Rattle.nz_sort.specs.declared.items.Accepted.{Accepted}
 use Rattle.nz_sort.specs.Items.{table_numbers, items_in, StandForAll}
-use Rattle.nz_sort.specs.Layers.{Layer, empty_layer}
-use Rattle.nz_sort.specs.Live.{Standing, layers_of, asserted_by, constants_by, accepted_by, HasItems, scope_in, IsLevel, AreLevels, IsLive, GoesOn, IsCutBack}
+use Rattle.nz_sort.specs.declared.levels.Level.{Level}
+use Rattle.nz_sort.specs.Layers.{Layer, layer_of, empty_layer}
+use Rattle.nz_sort.specs.Live.{Standing, standing_of, layers_of, asserted_by, constants_by, accepted_by, HasItems, scope_in, IsLevel, AreLevels, IsLive, GoesOn, IsCutBack}
 use Rattle.nz_sort.specs.Changes.{fresh_layer, with_level, with_levels, Drops, DropsMany, IsCleared}
 use Rattle.nz_sort.proofs.Accepting.{constants_in-append, assertions_in-append, items_kept}
 use Rattle.nz_sort.proofs.Naming.{scope_stays}
@@ -218,6 +219,18 @@ pub levels_more : (ns : List Node) (standing : Standing) (n : ℕ) (levels : Lis
 levels_more ns standing zero levels h = h
 levels_more ns standing (suc n) levels h = level_more ns (with_levels n standing) (repeat n ([] ∷ []) ++ levels) (levels_more ns standing n levels h)
 
+-- one level more, as it is begun
+pub level_begun : (names : List (List ℕ × naming.Named)) (next n before : ℕ) (start : Standing) (top fresh : Level) (below after : List Level) → length names ≡ before
+    → layer_of fresh ≡ empty_layer before top.constant_count top.holds_numbers → after ≡ below ++ top ∷ [] → standing_of names top below next ≡ with_levels n start
+    → standing_of names fresh after next ≡ with_levels (n + 1) start
+level_begun names next n before start top fresh below after e f g h =
+    let first : layer_of fresh ≡ empty_layer (length names) top.constant_count top.holds_numbers = f ∙ ap (λ k. empty_layer k top.constant_count top.holds_numbers) (sym e) in
+    let others : map layer_of after ≡ map layer_of below ++ layer_of top ∷ [] = ap (map layer_of) g ∙ map-append layer_of below (top ∷ []) in
+    ap (λ l. let st : Standing = record { names = names; top = l; below = map layer_of after; next = next } in st) first
+    ∙ ap (λ ls. let st : Standing = record { names = names; top = empty_layer (length names) top.constant_count top.holds_numbers; below = ls; next = next } in st) others
+    ∙ ap with_level h
+    ∙ ap (λ k. with_levels k start) (sym (add-one n))
+
 pub next_with_levels : (n : ℕ) (standing : Standing) → (with_levels n standing).next ≡ standing.next
 next_with_levels zero standing = refl
 next_with_levels (suc n) standing = next_with_levels n standing
@@ -261,7 +274,7 @@ left_below (suc n) before after d =
 
 -- ---- The first level anew
 
-nothing_below : (ls : List Layer) → length ls ≡ 0 → ls ≡ []
+pub nothing_below : (ls : List Layer) → length ls ≡ 0 → ls ≡ []
 nothing_below [] e = refl
 nothing_below (l ∷ ls) e = absurd (omega (arith, e))
 

@@ -1,12 +1,14 @@
 -- The live state after commands.
-use Rattle.std.proofs.Common.{◌||◌, ◌+◌, ◌-◌, ◌≤◌, ◌≡◌, ◌⊎◌, inl, inr, ℕ, suc, ◌<◌, List, [], ◌∷◌, ◌++◌, length, take, All, Option, None, Some, IfSome, IfNone, is_some, true, false, slice_get, refl, sym, ap, ◌∙◌, append_assoc, append-nil, length-append, subst, arith}
-use Rattle.std.specs.Prelude.{reverse}
+use Rattle.std.proofs.Common.{◌||◌, ◌+◌, ◌-◌, ◌≤◌, ◌≡◌, ◌⊎◌, inl, inr, ℕ, suc, ◌<◌, List, [], ◌∷◌, ◌++◌, length, map, take, All, Option, None, Some, IfSome, IfNone, is_some, true, false, slice_get, refl, sym, ap, ◌∙◌, append_assoc, append-nil, length-append, subst, arith}
+use Rattle.std.specs.Prelude.{flat_map, reverse}
 use Rattle.std.proofs.lemmas.List.Elements.{All-cons, All-nil}
 use Rattle.std.specs.List.{AllByRecursion}
 use Rattle.std.proofs.lemmas.Bool.{cases_lt}
 use Rattle.nz_spec.specs.Term.{Constant, constant, Term, apply, Terms, no_terms, terms}
 use Rattle.nz_spec.specs.Table.{Node, term_in, TermStays, IsTable}
-use Rattle.nz_spec.specs.Order.{companions_of, IsInTable, HasCompanions}
+use Rattle.nz_spec.specs.Order.{listing_order, companions_of, AreFirst, IsInTable, HasCompanions}
+use Rattle.nz_spec.specs.TermList.{IsTermList}
+use Rattle.std.proofs.lemmas.List.{map-append}
 use Rattle.nz_spec.specs.Live.{State, LiveItem, numbered_items, items_of, items_hold_numbers, constants_in, definitions_in, constants_of, with_item, start}
 use Rattle.std.specs.Borrow.{Bor}
 use Rattle.nz_spec.specs.Script.{scope_of, is_live_name}
@@ -20,7 +22,7 @@ use Rattle.nz_elaborate.specs.declared.typed.Typed.{Typed}
 use Rattle.nz_elaborate.specs.Typed.{IsOperator, Grows, StandsFor, IsTyped, AreTyped}
 use Rattle.nz_sort.specs.Items.{items_in}
 use Rattle.nz_sort.specs.Layers.{Layer, empty_layer}
-use Rattle.nz_sort.specs.Live.{Standing, AreLevels, IsLive, IsAccepted, Leaves, IfSkipped, Ask, Asks, changed, popped, cleared, reset, check, show_model, show_values, show_reason, show_info, show_levels, print_success, nothing, echo, leave, unsupported}
+use Rattle.nz_sort.specs.Live.{Standing, accepted_by, AreLevels, IsLive, IsAccepted, Leaves, IfSkipped, Ask, Asks, changed, popped, cleared, reset, check, show_model, show_values, show_reason, show_info, show_levels, print_success, nothing, echo, leave, unsupported}
 use Rattle.nz_sort.specs.Acts.{is_plain}
 use Rattle.nz_sort.proofs.Lists.{take_front}
 use Rattle.nz_sort.proofs.Naming.{are_live}
@@ -192,6 +194,15 @@ if_skipped nothing p = tt
 if_skipped echo p = tt
 if_skipped leave p = tt
 if_skipped unsupported p = p
+
+-- ---- The term list
+
+-- the order of these roots is that of the terms of the live items and the assumed ones
+pub listed_terms : (ns : List Node) (standing : Standing) (s : State) (assumed roots list : List ℕ) → roots ≡ accepted_by standing ++ assumed → IsLive ns standing s
+    → AreFirst [] (flat_map listing_order (map (term_in ns) roots)) (map (term_in ns) list) → IsTermList s (map (term_in ns) assumed) (map (term_in ns) list)
+listed_terms ns standing s assumed roots list e live first =
+    subst (λ ts. AreFirst [] (flat_map listing_order ts) (map (term_in ns) list))
+    (ap (map (term_in ns)) e ∙ map-append (term_in ns) (accepted_by standing) assumed ∙ ap (λ ts. ts ++ map (term_in ns) assumed) live.accepted.terms) first
 
 -- ---- The scope of the live names
 

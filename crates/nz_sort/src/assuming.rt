@@ -1,5 +1,7 @@
 //! What a check assumes: names of sort Bool, to be true or to be false.
-ghost use Rattle.std.specs.Prelude.{◌≡◌, ◌||◌, true, [], ◌∷◌, ◌++◌, map, IfOk, OnOk};
+ghost use Rattle.std.specs.Prelude.{◌≡◌, false, [], map, cond, Some, None, IfOk, OnOk};
+ghost use Rattle.nz_spec.specs.Term.{bool_sort, are_same_sort};
+ghost use Rattle.nz_term.specs.Constants.{sort_of};
 ghost use Rattle.nz_command.specs.Requests.{assumption_view};
 ghost use Rattle.nz_spec.specs.Live.{State};
 ghost use Rattle.nz_spec.specs.Script.{scope_of};
@@ -10,7 +12,7 @@ ghost use Rattle.nz_sort.specs.Found.{HasFound, IsFoundAs, IsWithOne};
 use crate::acts::Assumed;
 use nz_base::Memory;
 use nz_command::{Assumption, Expression};
-use nz_elaborate::{ElaborateError, Names, elaborate};
+use nz_elaborate::{ElaborateError, Names, Typed, elaborate};
 use nz_spec::table::term_stays;
 use nz_term::{Sort, Terms, grows_twice};
 use std::alloc::Global;
@@ -35,10 +37,11 @@ impl FoundAssumptions {
     {
         self.is_unknown = self.is_unknown || one.is_unknown;
         self.holds_number = self.holds_number || one.holds_number;
-        match one.literal {
-            Some(literal) => self.literals.push(literal)?,
-            None => self.is_missorted = true,
-        }
+        let Some(literal) = one.literal else {
+            self.is_missorted = true;
+            return Ok(());
+        };
+        self.literals.push(literal)?;
         Ok(())
     }
 }
@@ -52,6 +55,19 @@ pub(crate) struct FoundAssumption {
     pub is_unknown: bool,
     /// The name stands for a term that holds a number.
     pub holds_number: bool,
+}
+
+impl FoundAssumption {
+    /// What is found of a name that stands for no term, and is unknown or isn't.
+    fn without_term(is_unknown: bool) -> FoundAssumption
+        ensures found { result ≡ record { literal = None; is_unknown = is_unknown; holds_number = false } }
+    {
+        FoundAssumption {
+            literal: None,
+            is_unknown,
+            holds_number: false,
+        }
+    }
 }
 
 /// What is found of these assumptions, where these names are live. After an error the table may have grown.
@@ -93,30 +109,27 @@ fn assumed_term(
 {
     match elaborate(alloc, names, terms, &Expression::Name(assumption.name)) {
         Err(ElaborateError::Memory) => Err(Memory),
-        Err(ElaborateError::Unknown) => Ok(FoundAssumption {
-            literal: None,
-            is_unknown: true,
-            holds_number: false,
-        }),
-        Err(_) => Ok(FoundAssumption {
-            literal: None,
+        Err(ElaborateError::Unknown) => Ok(FoundAssumption::without_term(true)),
+        Err(ElaborateError::Clash) => Ok(FoundAssumption::without_term(false)),
+        Err(ElaborateError::Sort) => Ok(FoundAssumption::without_term(false)),
+        Ok(made) => Ok(FoundAssumption {
+            literal: literal_of(made, assumption.is_true),
             is_unknown: false,
-            holds_number: false,
+            holds_number: terms.holds_number(made.id),
         }),
-        Ok(made) => {
-            let literal = Assumed {
-                term: made.id,
-                is_true: assumption.is_true,
-            };
-            Ok(FoundAssumption {
-                literal: if made.sort == Sort::Bool {
-                    Some(literal)
-                } else {
-                    None
-                },
-                is_unknown: false,
-                holds_number: terms.holds_number(made.id),
-            })
-        }
+    }
+}
+
+/// What a term is assumed by, to be true or to be false, where it is of sort Bool.
+fn literal_of(made: Typed, is_true: bool) -> Option<Assumed>
+    ensures literal { result ≡ cond (are_same_sort bool_sort (sort_of made.sort)) (Some (record { term = made.id; is_true = is_true })) None }
+{
+    if made.sort == Sort::Bool {
+        Some(Assumed {
+            term: made.id,
+            is_true,
+        })
+    } else {
+        None
     }
 }

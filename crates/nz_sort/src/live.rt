@@ -1,5 +1,5 @@
 //! The live state: what becomes of a command, and what it leaves.
-ghost use Rattle.std.specs.Prelude.{◌≡◌, All, ◌<◌, ◌≤◌, ◌+◌, vec_len, vec_capacity, ℕ, List, [], ◌∷◌, length, map, take, OnOk, OnErr, IfOk, IfErr, IfSome, Some, None, ◌||◌, false, if◌then◌else◌};
+ghost use Rattle.std.specs.Prelude.{◌≡◌, All, ◌<◌, ◌≤◌, ◌+◌, vec_len, vec_capacity, ℕ, List, [], ◌∷◌, ◌++◌, length, map, flat_map, take, OnOk, OnErr, IfOk, IfErr, IfSome, Some, None, ◌||◌, false, if◌then◌else◌};
 ghost use Rattle.std.specs.List.{list_any};
 ghost use Rattle.nz_sexpr.specs.View.{view};
 ghost use Rattle.nz_spec.specs.Bounds.{has_token, is_long_decimal};
@@ -18,14 +18,14 @@ ghost use Rattle.nz_command.specs.View.{view as written};
 ghost use Rattle.nz_command.specs.Requests.{request, sort_view, parameter_view, question_view, assumption_view, count_view};
 ghost use Rattle.nz_elaborate.specs.Names.{named_by};
 ghost use Rattle.nz_elaborate.specs.Typed.{Grows, AreTyped};
-ghost use Rattle.nz_sort.specs.Layers.{layer_of};
-ghost use Rattle.nz_sort.specs.Live.{IsLive, IsCarriedOut, IfSkipped, Moves, asserted_by, standing_of, check, unsupported};
+ghost use Rattle.nz_sort.specs.Layers.{Layer, layer_of, empty_layer};
+ghost use Rattle.nz_sort.specs.Live.{IsLive, IsCarriedOut, IfSkipped, Moves, accepted_by, asserted_by, standing_of, check, unsupported};
 ghost use Rattle.nz_elaborate.specs.declared.names.Named.{Named};
 ghost use Rattle.nz_sort.specs.Acts.{asked, rule_of, redeclared_by};
 ghost use Rattle.nz_sort.specs.Changes.{Comes, ComesBy, Defines, Asserts, Shows, HasAdded, IsCleared, Drops, DropsMany, constant_of, with_constant, with_definition, with_assertion, with_levels};
 
 use crate::acts::{Act, info_act, setting_act};
-use crate::assuming::assumed;
+use crate::assuming::{FoundAssumptions, assumed};
 use crate::items::Accepted;
 use crate::levels::Level;
 use crate::limits::passes_limit;
@@ -129,13 +129,18 @@ impl Live {
         ensures list { IfOk result (λ ids. (s : State) → IsLive terms.now self.now s → IsTermList s (map (term_in terms.now) assumed.now) (map (term_in terms.now) ids.items)) }
         ensures within { IfOk result (λ ids. All (λ i. i < length terms.now) ids.items) }
     {
-        let mut roots = Vec::new(alloc);
-        for level in &self.below {
-            roots.extend_from_slice(level.accepted.as_slice())?;
-        }
+        let roots = self.roots(alloc, assumed)?;
+        listing_order(alloc, terms, roots.as_slice())
+    }
+
+    /// The terms of the items, in the order of acceptance, and then the assumed ones.
+    fn roots(&self, alloc: Global, assumed: &[TermId]) -> Result<Vec<TermId>, Memory>
+        ensures roots { IfOk result (λ ids. ids.items ≡ accepted_by self.now ++ assumed.now) }
+    {
+        let mut roots = accepted_in(alloc, self.below.as_slice())?;
         roots.extend_from_slice(self.top.accepted.as_slice())?;
         roots.extend_from_slice(assumed)?;
-        listing_order(alloc, terms, roots.as_slice())
+        Ok(roots)
     }
 
     /// Carries out what a command changes in the live state, and answers what it asks. Whether the last answer has a model or a
@@ -299,7 +304,18 @@ impl Live {
     fn clear(&mut self)
         ensures cleared { IsCleared self.old self.new }
     {
-        self.pop(self.below.len());
+        let count = self.below.len();
+        self.pop(count);
+        self.begin_anew();
+    }
+
+    /// Takes all that was accepted off the newest level, with its names, and numbers items anew.
+    fn begin_anew(&mut self)
+        ensures names { self.new.names ≡ take self.old.top.names_before self.old.names }
+        ensures top { self.new.top ≡ empty_layer (length self.new.names) 0 false }
+        ensures below { self.new.below ≡ self.old.below }
+        ensures next { self.new.next ≡ 0 }
+    {
         self.names.truncate(self.top.names_before);
         self.top = Level::new(self.alloc, self.names.count(), 0, false);
         self.next = 0;
@@ -327,7 +343,7 @@ impl Live {
         term_stays();
         let mark = terms.mark();
         let found = assumed(self.alloc, &self.names, terms, assumptions)?;
-        if self.top.holds_numbers || found.holds_number {
+        if self.holds_number_with(&found) {
             terms.cut(mark);
             return Ok(Act::Unsupported);
         }
@@ -339,6 +355,13 @@ impl Live {
         }
         add_companions(self.alloc, terms, mark)?;
         Ok(Act::Check(found.literals))
+    }
+
+    /// A live term, or one that is assumed, holds a number.
+    fn holds_number_with(&self, found: &FoundAssumptions) -> bool
+        ensures holds { result ≡ (self.now.top.holds_numbers || found.now.holds_number) }
+    {
+        self.top.holds_numbers || found.holds_number
     }
 
     // ---- Declarations
@@ -576,6 +599,17 @@ impl Live {
         add_companions(self.alloc, terms, mark)?;
         Ok(values)
     }
+}
+
+/// The terms of the items of these levels.
+fn accepted_in(alloc: Global, levels: &[Level]) -> Result<Vec<TermId>, Memory>
+    ensures accepted { IfOk result (λ ids. ids.items ≡ flat_map (λ (l : Layer). l.accepted) (map layer_of levels.now)) }
+{
+    let mut terms = Vec::new(alloc);
+    for level in levels {
+        terms.extend_from_slice(level.accepted.as_slice())?;
+    }
+    Ok(terms)
 }
 
 /// Puts so many levels above these, for which there is room, each without items and above the names of all of them.

@@ -5,8 +5,8 @@ use Rattle.nz_sort.specs.Changes.{with_levels}
 use Rattle.nz_sort.proofs.live.begin_levels.Given as goal
 
 -- so many levels were put, and there is room for the others
-abbrev pub invariant-loop-counter : goal.invariant-loop-counter
-invariant-loop-counter l = record {
+abbrev pub invariant-loop : goal.invariant-loop
+invariant-loop l = record {
   begun : (names : List (List ℕ × Named)) (next : ℕ) → length names ≡ l.names_before → standing_of names l.top l.below.items next ≡ with_levels l.counter (standing_of names l.fn.top l.fn.below.items next);
   room : vec_len l.below + l.count ≤ vec_capacity l.below + l.counter;
 }

@@ -1,8 +1,0 @@
-use Rattle.std.proofs.Common.{◌≡◌, take}
-use Rattle.std.specs.Prelude.{flat_map}
-use Rattle.nz_sort.specs.declared.levels.Level.{Level}
-use Rattle.nz_sort.proofs.live.Live.term_list.Given as goal
-
--- the roots of the levels so far
-abbrev pub invariant-loop-level : goal.invariant-loop-level
-invariant-loop-level l = l.roots.items ≡ flat_map (λ (k : Level). k.accepted.items) (take l.level-index l.level-items)
