@@ -1,5 +1,5 @@
 -- Live items that hold no term over numbers.
-use Rattle.std.proofs.Common.{◌≡◌, false, List, [], ◌∷◌, map, sym, subst}
+use Rattle.std.proofs.Common.{◌≡◌, ◌<◌, false, List, [], ◌∷◌, length, map, sym, subst}
 use Rattle.std.specs.Prelude.{All, flat_map}
 use Rattle.std.specs.List.{AllByRecursion, list_any}
 use Rattle.std.proofs.lemmas.List.Elements.{All-from_recursion}
@@ -13,6 +13,7 @@ use Rattle.nz_spec.specs.Table.{Node, term_in}
 use Rattle.nz_spec.specs.Decide.{asserted_numbers}
 use Rattle.nz_spec.specs.Literal.{Literal, term_literal, is_at_most, is_below}
 use Rattle.nz_log.specs.declared.lits.Lit.{Lit}
+use Rattle.nz_log.specs.Sound.{AreWithin}
 use Rattle.nz_sort.specs.Live.{Standing, asserted_by, IsLive}
 use Rattle.nz_session.specs.Assumed.{IsLitOf, AreLitsOf}
 use Rattle.nz_spec.specs.Live.{State, Item, declared, defined, asserted, sought, wished, items_of, item_terms, items_hold_numbers, cost_of, assertions_in, assertions_of}
@@ -59,3 +60,15 @@ gated_lits ns s (l ∷ ls) (m ∷ ms) h k = (gated_lit ns s l m h.0 k.0, gated_l
 -- what is assumed is of the gate table
 pub assumed_gated : (ns : List Node) (s : State) (ls : List Lit) (ms : List Literal) → AreLitsOf ns ls ms → AllByRecursion (IsAssumable s) ms → All (λ (l : Lit). IsGated (term_in ns l.term)) ls
 assumed_gated ns s ls ms h k = All-from_recursion (λ (l : Lit). IsGated (term_in ns l.term)) ls (gated_lits ns s ls ms h k)
+
+lit_within : (ns : List Node) (l : Lit) (m : Literal) → IsLitOf ns l m → l.term < length ns
+lit_within ns l (term_literal t sign) h = h.0
+lit_within ns l (is_at_most ps b) h = absurd h
+lit_within ns l (is_below ps b) h = absurd h
+
+-- and in the table
+pub assumed_within : (ns : List Node) (ls : List Lit) (ms : List Literal) → AreLitsOf ns ls ms → AreWithin ns ls
+assumed_within ns [] [] h = tt
+assumed_within ns [] (m ∷ ms) h = absurd h
+assumed_within ns (l ∷ ls) [] h = absurd h
+assumed_within ns (l ∷ ls) (m ∷ ms) h = (lit_within ns l m h.0, assumed_within ns ls ms h.1)

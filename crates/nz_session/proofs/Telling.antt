@@ -1,7 +1,15 @@
 -- What the engine was told, where the live assertions change.
-use Rattle.std.proofs.Common.{◌≡◌, ◌⊎◌, inl, inr, ℕ, zero, suc, ◌+◌, ◌<◌, ◌≤◌, List, [], ◌∷◌, ◌++◌, length, take, refl, sym, ap, ◌∙◌, subst, arith, length-append, length-take, append-nil}
-use Rattle.std.proofs.lemmas.List.{take-take, take-append-le, take_all}
-use Rattle.nz_sort.specs.Live.{GoesOn, IsCutBack}
+use Rattle.std.proofs.Common.{◌≡◌, ◌⊎◌, inl, inr, ℕ, zero, suc, ◌+◌, ◌<◌, ◌≤◌, ◌-◌, List, [], ◌∷◌, ◌++◌, length, map, take, get_or, Some, refl, sym, ap, ◌∙◌, subst, arith, length-append, length-take, append_assoc, add-one}
+use Rattle.std.proofs.lemmas.List.{map-append, length-map, take-take, take-append-le, take_all}
+use Rattle.std.specs.Prelude.{slice_get}
+use Rattle.std.proofs.Math.Seq.{take-suc}
+use Rattle.std.proofs.Math.ListN.{get_or-map}
+use Rattle.nz_spec.specs.Decide.{with_number}
+use Rattle.nz_sort.specs.declared.items.Accepted.{Accepted}
+use Rattle.nz_sort.specs.declared.levels.Level.{Level}
+use Rattle.nz_sort.specs.Items.{table_numbers}
+use Rattle.nz_sort.specs.Layers.{Layer, layer_of}
+use Rattle.nz_sort.specs.Live.{Standing, layers_of, asserted_by, GoesOn, IsCutBack}
 use Rattle.nz_session.specs.declared.desk.Told.{Told}
 use Rattle.nz_session.specs.Told.{IsToldNothing, IsToldFirst, IsTold}
 
@@ -96,3 +104,108 @@ told_whole levels before newest t e f g =
       within = omega (arith, g);
       count = f;
     })
+
+-- ---- All that is asserted
+
+-- how many levels are live
+pub asserted_count : (l : Standing) (below : List Level) → map layer_of below ≡ l.below → length (asserted_by l) ≡ length below + 1
+asserted_count l below e =
+    let count : length l.below ≡ length below = sym (ap length e) ∙ length-map below layer_of in
+    let more : length (layers_of l) ≡ length l.below + 1 = length-append l.below (l.top ∷ []) in
+    let each : length (asserted_by l) ≡ length (layers_of l) = length-map (layers_of l) (λ (k : Layer). table_numbers k.assertions) in
+    omega (arith, count, more, each)
+
+-- the engine's levels are all that is asserted
+pub told_all : (levels : List (List ℕ)) (l : Standing) (t : Told) → levels ≡ asserted_by l → t.levels ≡ length l.below + 1 → t.last ≡ length l.top.assertions → IsTold levels t (asserted_by l)
+told_all levels l t e f g =
+    let asserted : Layer → List ℕ = λ k. table_numbers k.assertions in
+    let parts : asserted_by l ≡ map asserted l.below ++ asserted l.top ∷ [] = map-append asserted l.below (l.top ∷ []) in
+    subst (IsTold levels t) (sym parts)
+    (told_whole levels (map asserted l.below) (asserted l.top) t (e ∙ parts) (f ∙ ap (λ n. n + 1) (sym (length-map l.below asserted))) (g ∙ sym (length-map l.top.assertions (λ (a : Accepted). a.term))))
+
+-- after as many levels were taken off the engine as are live no more
+pub told_popped : (levels after : List (List ℕ)) (t u : Told) (old : List (List ℕ)) (l : Standing) → IsCutBack old (asserted_by l) → IsTold levels t old → length (asserted_by l) < t.levels
+    → after ≡ take (length levels - (t.levels - length (asserted_by l))) levels → u.levels ≡ length l.below + 1 → u.last ≡ length l.top.assertions → IsTold after u (asserted_by l)
+told_popped levels after t u old l cut h less e f g =
+    let many = told_count levels t old h in
+    let left : length levels - (t.levels - length (asserted_by l)) ≡ length (asserted_by l) = omega (arith, many, less) in
+    told_all after l u (e ∙ ap (λ k. take k levels) left ∙ told_left levels t old (asserted_by l) cut less h) f g
+
+-- ---- One assertion more, or one level
+
+-- in the last of some levels
+pub number_last : (ls : List (List ℕ)) (l : List ℕ) (i : ℕ) → with_number (ls ++ l ∷ []) i ≡ ls ++ (l ++ i ∷ []) ∷ []
+number_last [] l i = refl
+number_last (k ∷ []) l i = refl
+number_last (k ∷ m ∷ ls) l i = ap (λ xs. k ∷ xs) (number_last (m ∷ ls) l i)
+
+-- the terms of one item more
+pub numbers_more : (items : List Accepted) (n : ℕ) (d : Accepted) → n < length items → take n (table_numbers items) ++ (get_or items n d).term ∷ [] ≡ take (n + 1) (table_numbers items)
+numbers_more items n d below =
+    let same : length (table_numbers items) ≡ length items = length-map items (λ (a : Accepted). a.term) in
+    let inside : n < length (table_numbers items) = omega (arith, same, below) in
+    sym (ap (λ k. take k (table_numbers items)) (add-one n) ∙ take-suc (table_numbers items) n d.term inside
+    ∙ ap (λ i. take n (table_numbers items) ++ i ∷ []) (get_or-map (λ (a : Accepted). a.term) items n d))
+
+-- the first level, where the engine had none
+pub told_first : (levels after : List (List ℕ)) (t u : Told) (asserted : List (List ℕ)) → 0 < length asserted → IsTold levels t asserted → t.levels ≡ 0 → after ≡ levels ++ [] ∷ [] → u.levels ≡ t.levels + 1
+    → u.last ≡ 0 → IsTold after u asserted
+told_first levels after t u [] some h none e f g = absurd (omega (arith, some))
+told_first levels after t u (l ∷ ls) some (inr h) none e f g = absurd (let count = h.count in omega (arith, count, none))
+told_first levels after t u (l ∷ ls) some (inl h) none e f g =
+    let first : 0 ≤ length l = omega arith in
+    inr (record {
+      before = [];
+      newest = l;
+      later = ls;
+      are = refl;
+      has = e ∙ ap (λ ms. ms ++ [] ∷ []) h.none ∙ ap (λ n. take n l ∷ []) (sym g);
+      within = subst (λ n. n ≤ length l) (sym g) first;
+      count = f ∙ ap (λ n. n + 1) none;
+    })
+
+at_place : (before : List (List ℕ)) (newest : List ℕ) (later : List (List ℕ)) → slice_get (before ++ newest ∷ later) (length before) ≡ Some newest
+at_place [] newest later = refl
+at_place (x ∷ before) newest later = at_place before newest later
+
+-- the last level that was told is the one at this place
+pub told_at : (levels : List (List ℕ)) (t : Told) (asserted : List (List ℕ)) (place : ℕ) (level : List ℕ) → t.levels ≡ place + 1 → slice_get asserted place ≡ Some level → IsTold levels t asserted
+    → (h : IsToldFirst levels t asserted) × (h.newest ≡ level) × (place ≡ length h.before)
+told_at levels t asserted place level n at (inl h) = absurd (let count = h.count in omega (arith, count, n))
+told_at levels t asserted place level n at (inr h) =
+    let here : place ≡ length h.before = (let count = h.count in omega (arith, count, n)) in
+    let same : Some h.newest ≡ Some level = sym (at_place h.before h.newest h.later) ∙ ap (λ ls. slice_get ls (length h.before)) (sym h.are) ∙ ap (slice_get asserted) (sym here) ∙ at in
+    (h, cc, here)
+
+-- more of the last level was told
+pub told_more : (levels after : List (List ℕ)) (t u : Told) (asserted : List (List ℕ)) (h : IsToldFirst levels t asserted) → after ≡ h.before ++ take u.last h.newest ∷ [] → u.last ≤ length h.newest
+    → u.levels ≡ t.levels → IsTold after u asserted
+told_more levels after t u asserted h has within count =
+    inr (record { before = h.before; newest = h.newest; later = h.later; are = h.are; has = has; within = within; count = count ∙ h.count })
+
+next_begun : (after : List (List ℕ)) (v : Told) (asserted before : List (List ℕ)) (newest : List ℕ) (later : List (List ℕ)) → asserted ≡ before ++ newest ∷ later → length before + 1 < length asserted
+    → after ≡ (before ++ newest ∷ []) ++ [] ∷ [] → v.levels ≡ (length before + 1) + 1 → v.last ≡ 0 → IsTold after v asserted
+next_begun after v asserted before newest [] are more has count last =
+    let long : length asserted ≡ length before + 1 = ap length are ∙ length-append before (newest ∷ []) in
+    absurd (omega (arith, long, more))
+next_begun after v asserted before newest (k ∷ ks) are more has count last =
+    let first : 0 ≤ length k = omega arith in
+    let long : length (before ++ newest ∷ []) ≡ length before + 1 = length-append before (newest ∷ []) in
+    inr (record {
+      before = before ++ newest ∷ [];
+      newest = k;
+      later = ks;
+      are = are ∙ sym (append_assoc before (newest ∷ []) (k ∷ ks));
+      has = has ∙ ap (λ n. (before ++ newest ∷ []) ++ take n k ∷ []) (sym last);
+      within = subst (λ n. n ≤ length k) (sym last) first;
+      count = omega (arith, count, long);
+    })
+
+-- the last level was told whole, and the next one begun
+pub told_begun : (levels mid after : List (List ℕ)) (t u v : Told) (asserted : List (List ℕ)) (h : IsToldFirst levels t asserted) → t.levels < length asserted → mid ≡ h.before ++ take u.last h.newest ∷ []
+    → u.last ≡ length h.newest → u.levels ≡ t.levels → after ≡ mid ++ [] ∷ [] → v.levels ≡ u.levels + 1 → v.last ≡ 0 → IsTold after v asserted
+told_begun levels mid after t u v asserted h more whole last same begun count zero_last =
+    let long : length h.newest ≤ length h.newest = omega arith in
+    let all : mid ≡ h.before ++ h.newest ∷ [] = whole ∙ ap (λ n. h.before ++ take n h.newest ∷ []) last ∙ ap (λ l. h.before ++ l ∷ []) (take_all (length h.newest) h.newest long) in
+    let levels_told = h.count in
+    next_begun after v asserted h.before h.newest h.later h.are (omega (arith, levels_told, more)) (begun ∙ ap (λ ms. ms ++ [] ∷ []) all) (omega (arith, count, same, levels_told)) zero_last

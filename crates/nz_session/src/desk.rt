@@ -429,13 +429,14 @@ fn pop_told<E: Decide>(engine: &mut E, told: &mut Told, live: &Live)
     ensures table { E.table engine.new ≡ E.table engine.old }
 {
     let count = live.below().len() + 1;
-    if told.levels > count {
-        engine.pop(told.levels - count);
-        *told = Told {
-            levels: count,
-            last: live.top().assertions().len(),
-        };
+    if told.levels <= count {
+        return;
     }
+    engine.pop(told.levels - count);
+    *told = Told {
+        levels: count,
+        last: live.top().assertions().len(),
+    };
 }
 
 /// Tells the engine the levels and the assertions that it hasn't been told.
@@ -445,15 +446,25 @@ fn tell<E: Decide>(engine: &mut E, told: &mut Told, live: &Live) -> Result<(), M
     ensures all { OnOk result (E.levels engine.new ≡ asserted_by live.now) }
     ensures table { E.table engine.new ≡ E.table engine.old }
 {
-    if told.levels == 0 {
-        begin_level(engine, told)?;
-    }
+    begin_first(engine, told)?;
     let below = live.below();
     for place in told.levels - 1..below.len() {
         tell_last(engine, told, below[place].assertions())?;
         begin_level(engine, told)?;
     }
     tell_last(engine, told, live.top().assertions())
+}
+
+/// Begins the first level in the engine, where it has none.
+fn begin_first<E: Decide>(engine: &mut E, told: &mut Told) -> Result<(), Memory>
+    ensures told { (asserted : List (List ℕ)) → 0 < length asserted → IsTold (E.levels engine.old) told.old asserted → IsTold (E.levels engine.new) told.new asserted }
+    ensures some { OnOk result (0 < told.new.levels) }
+    ensures table { E.table engine.new ≡ E.table engine.old }
+{
+    if told.levels > 0 {
+        return Ok(());
+    }
+    begin_level(engine, told)
 }
 
 /// Begins a level in the engine.
