@@ -22,6 +22,7 @@ const DECLARATIONS: &str = "(declare-const a Bool)(declare-const b Bool)(declare
     (declare-const d Bool)(declare-const e Bool)";
 
 /// A row of numbers that looks like chance.
+#[derive(Drop)]
 struct Chance(u64);
 
 impl Chance {
@@ -47,6 +48,7 @@ impl Chance {
 }
 
 /// A script so far, with what is live of it by level, and the replies that are right.
+#[derive(Drop)]
 struct Script {
     text: String,
     levels: Vec<String>,
@@ -160,7 +162,12 @@ fn a_thousand_levels_are_pushed_and_popped(rt: HostRuntime) -> Result<(), Fail> 
 fn levels_come_and_go(rt: HostRuntime) -> Result<(), Fail> {
     let mut script = String::from_str(rt.alloc(), DECLARATIONS)?;
     let turn = "(push)(assert (and a (not b)))(check-sat)(pop)";
-    let turns = repeated(rt.alloc(), 200, turn, "(push 2)(assert (and a (not a)))(check-sat)(pop 2)")?;
+    let turns = repeated(
+        rt.alloc(),
+        200,
+        turn,
+        "(push 2)(assert (and a (not a)))(check-sat)(pop 2)",
+    )?;
     script.push_str(&turns)?;
     let told = replies(rt.alloc(), &script)?;
     let wanted = repeated(rt.alloc(), 200, "sat\n", "unsat\n")?;

@@ -303,15 +303,51 @@ value_chosen : (o : Option own.Value) (d : own.Value) → value_of (unwrap_or o 
 value_chosen None d = refl
 value_chosen (Some v) d = refl
 
+-- the value of a constant that has one by its number, or else the default of its sort
+given_value : AssignsByNumber → (ns : List Node) → IsTable ns → (ps : List (ℕ × Value)) (id : ℕ) (k : Constant) (o : Option own.Value) (d v : own.Value)
+    → option_map (λ (n : Node). n.head) (slice_get ns id) ≡ Some (constant k) → option_map value_of o ≡ listed_value ps id → value_of d ≡ default_value k.sort → v ≡ unwrap_or o d
+    → value_of v ≡ assignment_by ns ps k
+given_value law ns table ps id k o d v head at none is =
+    let n = head_node (constant k) (slice_get ns id) head in
+    ap value_of is ∙ value_chosen o d ∙ ap (λ m. unwrap_or m (value_of d)) at ∙ ap (unwrap_or (listed_value ps id)) none ∙ sym (law ns table ps id n.0 k n.1 n.2)
+
+valued_by_head : (ns : List Node) (ps : List (ℕ × Value)) (id : ℕ) (o : Option Node) (h : Head) → option_map (λ (n : Node). n.head) o ≡ Some h
+    → valued_at ns ps id o ≡ map (λ (c : Constant). (id, assignment_by ns ps c)) (constants_of_head h)
+valued_by_head ns ps id None h e = cc
+valued_by_head ns ps id (Some n) h e =
+    let same : n.head ≡ h = cc in
+    ap (λ x. map (λ (c : Constant). (id, assignment_by ns ps c)) (constants_of_head x)) same
+
+-- one value more by number
+pub given_pair : AssignsByNumber → (ns : List Node) → IsTable ns → (ps : List (ℕ × Value)) (id : ℕ) (k : Constant) (o : Option own.Value) (d v : own.Value) (old new : List (ℕ × Value))
+    → option_map (λ (n : Node). n.head) (slice_get ns id) ≡ Some (constant k) → option_map value_of o ≡ listed_value ps id → value_of d ≡ default_value k.sort → v ≡ unwrap_or o d
+    → new ≡ old ++ (id, value_of v) ∷ []
+    → new ≡ old ++ valued_at ns ps id (slice_get ns id)
+given_pair law ns table ps id k o d v old new head at none is grown =
+    grown
+    ∙ ap (λ w. old ++ (id, w) ∷ []) (given_value law ns table ps id k o d v head at none is)
+    ∙ ap (λ bs. old ++ bs) (sym (valued_by_head ns ps id (slice_get ns id) (constant k) head))
+
+-- a number past the table has no value
+pub valued_past : (ns : List Node) (ps : List (ℕ × Value)) (i : ℕ) (qs : List (ℕ × Value)) → length ns ≤ i → qs ≡ qs ++ valued_at ns ps i (slice_get ns i)
+valued_past ns ps i qs past = sym (ap (λ o. qs ++ valued_at ns ps i o) (slice_get_past ns i past) ∙ append-nil qs)
+
+-- those of one number more
+pub valued_more : (ns : List Node) (ps : List (ℕ × Value)) (items : List Accepted) (k : ℕ) (d : Accepted) (old new total : List (ℕ × Value)) → k < length items
+    → new ≡ old ++ valued_at ns ps (get_or items k d).term (slice_get ns (get_or items k d).term) → old ++ completed_values ns ps (table_numbers (drop k items)) ≡ total
+    → new ++ completed_values ns ps (table_numbers (drop (k + 1) items)) ≡ total
+valued_more ns ps items k d old new total below grown h =
+    let first = valued_at ns ps (get_or items k d).term (slice_get ns (get_or items k d).term) in
+    let rest = completed_values ns ps (table_numbers (drop (suc k) items)) in
+    let step : completed_values ns ps (table_numbers (drop k items)) ≡ first ++ rest = ap (λ l. completed_values ns ps (table_numbers l)) (drop-cons items k d below) in
+    ap (λ m. new ++ completed_values ns ps (table_numbers (drop m items))) (add-one k) ∙ ap (λ bs. bs ++ rest) grown ∙ append_assoc old first rest ∙ ap (λ bs. old ++ bs) (sym step) ∙ h
+
 -- one binding more, of a constant that has a value or else the default of its sort
 pub given_binding : AssignsByNumber → (ns : List Node) → IsTable ns → (ps : List (ℕ × Value)) (id : ℕ) (k : Constant) (o : Option own.Value) (d v : own.Value) (old new : List Binding)
     → option_map (λ (n : Node). n.head) (slice_get ns id) ≡ Some (constant k) → option_map value_of o ≡ listed_value ps id → value_of d ≡ default_value k.sort → v ≡ unwrap_or o d
     → new ≡ old ++ record { constant = k; value = value_of v } ∷ []
     → new ≡ old ++ bound_at ns ps (slice_get ns id)
 given_binding law ns table ps id k o d v old new head at none is grown =
-    let n = head_node (constant k) (slice_get ns id) head in
-    let chosen : value_of v ≡ assignment_by ns ps k =
-    ap value_of is ∙ value_chosen o d ∙ ap (λ m. unwrap_or m (value_of d)) at ∙ ap (unwrap_or (listed_value ps id)) none ∙ sym (law ns table ps id n.0 k n.1 n.2) in
     grown
-    ∙ ap (λ w. let b : Binding = record { constant = k; value = w } in old ++ b ∷ []) chosen
+    ∙ ap (λ w. let b : Binding = record { constant = k; value = w } in old ++ b ∷ []) (given_value law ns table ps id k o d v head at none is)
     ∙ ap (λ bs. old ++ bs) (sym (bound_by_head ns ps (slice_get ns id) (constant k) head))

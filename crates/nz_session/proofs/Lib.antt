@@ -1,6 +1,7 @@
 pub mod Answering
 pub mod Assigning
 pub mod Checking
+pub mod Denying
 pub mod Feeding
 pub mod Fronts
 pub mod LegalWork

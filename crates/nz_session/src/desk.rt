@@ -193,11 +193,11 @@ impl<E: Decide> Desk<E> {
 
     /// The answer to a check under what is assumed.
     fn check_under(&mut self, assumed: &[Assumed]) -> Answer
-        requires holds { (c : Context) × Holds E.levels E.table self.old c × (items_hold_numbers (items_of c.state.levels) ≡ false) }
-        requires within { All (λ x. x.term < length self.old.terms) assumed.now }
+        requires holds { (c : Context) × (tree : script.Tree) × (ls : List Literal) × Holds E.levels E.table self.old c × (items_hold_numbers (items_of c.state.levels) ≡ false) × (outcome_of c.state tree ≡ accepted (check_sat ls)) × AreAssumed self.old.terms assumed.now ls }
         ensures right { (c : Context) (tree : script.Tree) (ls : List Literal) → Holds E.levels E.table self.old c → outcome_of c.state tree ≡ accepted (check_sat ls) → AreAssumed self.old.terms assumed.now ls → IsAnswer E.levels E.table c (intact tree) result self.new }
         ensures terms { table_of self.new ≡ table_of self.old }
     {
+        normal_keeps_value();
         let literals = match literals_of(self.alloc, assumed) {
             Ok(literals) => literals,
             Err(Memory) => return said(Reply::Error(Error::OutOfMemory)),
@@ -380,13 +380,15 @@ fn info_told(info: InfoAsked) -> Info
 fn literals_of(alloc: Global, assumed: &[Assumed]) -> Result<Vec<Lit>, Memory>
     ensures literals { IfOk result (λ ls. ls.items ≡ map lit_of assumed.now) }
 {
-    Ok(assumed
-        .iter()
-        .map(|one| Lit {
-            term: one.term,
-            sign: one.is_true,
-        })
-        .collect(alloc)?)
+    Ok(
+        assumed
+            .iter()
+            .map(|one| Lit {
+                term: one.term,
+                sign: one.is_true,
+            })
+            .collect(alloc)?,
+    )
 }
 
 /// None of these literals, which are of the table, is the negation of another.
@@ -568,7 +570,13 @@ fn bindings_of(
     for level in live.below() {
         bind_all(&mut bindings, &mut values, terms, level.constants(), assign)?;
     }
-    bind_all(&mut bindings, &mut values, terms, live.top().constants(), assign)?;
+    bind_all(
+        &mut bindings,
+        &mut values,
+        terms,
+        live.top().constants(),
+        assign,
+    )?;
     Ok((bindings, values))
 }
 

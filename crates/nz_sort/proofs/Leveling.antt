@@ -352,13 +352,12 @@ less_asserted : (n : ℕ) (before after : Standing) → DropsMany n before after
 less_asserted zero before after e = ([], ap asserted_by (sym e) ∙ sym (append-nil (asserted_by after)))
 less_asserted (suc n) before after d =
     let h = less_asserted n d.0 after d.2 in
-    let top = table_numbers before.top.assertions in
-    (
+    let top = table_numbers before.top.assertions in (
       h.0 ++ top ∷ [],
       asserted_append before.below (before.top ∷ [])
-      ∙ ap (λ ls. map (λ (l : Layer). table_numbers l.assertions) ls ++ top ∷ []) d.1.0
-      ∙ ap (λ ls. ls ++ top ∷ []) h.1
-      ∙ append_assoc (asserted_by after) h.0 (top ∷ []),
+          ∙ ap (λ ls. map (λ (l : Layer). table_numbers l.assertions) ls ++ top ∷ []) d.1.0
+          ∙ ap (λ ls. ls ++ top ∷ []) h.1
+          ∙ append_assoc (asserted_by after) h.0 (top ∷ []),
     )
 
 pub cut_back_by : (n : ℕ) (before after : Standing) → DropsMany n before after → IsCutBack (asserted_by before) (asserted_by after)

@@ -169,7 +169,7 @@ leaves_checked ns standing s act false e a live =
     subst (λ ask. Leaves s checks (outcome_by s checks) ask ns standing) (sym a)
     ((
       leaves_asked ns standing s checks (outcome_by s checks) (check []) (check_sat []) (ap (λ b. cond b not_taken (accepted (check_sat []))) none)
-      (record { literals = []; assumes = tt; is = refl }) (λ reply. refl) (λ reply. refl) live,
+          (record { literals = []; assumes = tt; is = refl }) (λ reply. refl) (λ reply. refl) live,
       none,
     ))
 

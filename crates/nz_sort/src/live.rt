@@ -31,7 +31,8 @@ use crate::levels::Level;
 use crate::limits::passes_limit;
 use nz_base::{Error, Memory, Text};
 use nz_command::{
-    Assumption, Command, Expression, LevelCount, Parameter, Question, WrittenSort, number_faults, parse,
+    Assumption, Command, Expression, LevelCount, Parameter, Question, WrittenSort, number_faults,
+    parse,
 };
 use nz_elaborate::{
     Definition, ElaborateError, Named, Names, Typed, elaborate, elaborate_all, elaborate_body,
@@ -260,7 +261,13 @@ impl Live {
     {
         self.below.reserve(count)?;
         let names_before = self.names.count();
-        begin_levels(self.alloc, names_before, &mut self.top, &mut self.below, count);
+        begin_levels(
+            self.alloc,
+            names_before,
+            &mut self.top,
+            &mut self.below,
+            count,
+        );
         Ok(())
     }
 

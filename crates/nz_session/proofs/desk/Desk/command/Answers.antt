@@ -1,17 +1,19 @@
-use Rattle.std.proofs.Common.{List, [], refl, ap, sym, subst}
+use Rattle.std.proofs.Common.{List, refl, ap, sym, subst}
 use Rattle.nz_sexpr.specs.View.{view}
 use Rattle.nz_spec.specs.Live.{Options, pushed_levels}
-use Rattle.nz_spec.specs.Command.{Command, check_sat, get_model, get_reason, get_value, get_info, get_levels, set_print_success, no_effect, echo, exit}
+use Rattle.nz_spec.specs.Command.{Command, pop_levels, check_sat, get_model, get_reason, get_value, get_info, get_levels, set_print_success, no_effect, echo, exit}
 use Rattle.nz_spec.specs.Script.{asked_of}
 use Rattle.nz_spec.specs.Text.{intact}
 use Rattle.nz_spec.specs.Reply.{echoed, info, levels}
 use Rattle.nz_spec.specs.Right.{done, effect}
-use Rattle.nz_sort.specs.Live.{IsLive, IsCarriedOut, AsksValues, changed, check, show_model, show_values, show_reason, show_info, show_levels, print_success, nothing, leave}
+use Rattle.nz_sort.specs.Live.{IsLive, IsCarriedOut, AsksValues, asserted_by, changed, popped, check, show_model, show_values, show_reason, show_info, show_levels, print_success, nothing, leave}
 use Rattle.nz_sort.specs.Live as asks
+use Rattle.nz_sort.specs.declared.acts.Assumed.{Assumed}
+use Rattle.nz_sort.specs.Assuming.{AreAssumed}
 use Rattle.nz_sort.specs.Acts.{info_meaning}
 use Rattle.nz_elaborate.specs.declared.typed.Typed.{Typed}
 use Rattle.nz_reply.specs.declared.reply.Reply.TheVariants as code
-use Rattle.nz_session.proofs.Answering.{Continues, accepted_as, kept_after, still_as, goes_on_after_echo, goes_on_after_info, goes_on_after_levels, goes_on_after_nothing, goes_on_after_setting, holds_next, holds_set, changed_answer, done_answer, told_answer, exit_answer, tells_done}
+use Rattle.nz_session.proofs.Answering.{Continues, accepted_as, kept_after, still_as, goes_on_after_echo, goes_on_after_info, goes_on_after_levels, goes_on_after_nothing, goes_on_after_setting, holds_next, holds_set, changed_answer, popped_answer, done_answer, told_answer, exit_answer, tells_done}
 use Rattle.nz_session.proofs.Valuing.{echo_told}
 use Rattle.nz_session.proofs.desk.Desk.command.Goals as goal
 
@@ -150,3 +152,49 @@ returns-in-Ok-Leave-clause-right g c x h =
     exit_answer g.E.Decide.levels g.E.Decide.table x t c.done-in-Ok-Leave.result _
     (tells_done x.state t c.args.self.now.prints_success c.done-in-Ok-Leave.result (c.done-in-Ok-Leave.ensures.done (intact t)) h.success)
     (accepted_as x.state t k.command exit k.is k.asks) kept
+
+pub pop_told-requires : goal.pop_told-requires
+pop_told-requires g c = record { told = (asserted_by c.args.self.now.live, c.requires.1.told, rw c.in-Ok-Popped.field-0-is at c.in-Ok-Popped.ensures.moves) }
+
+pub returns-in-Ok-Popped-clause-right : goal.returns-in-Ok-Popped-clause-right
+returns-in-Ok-Popped-clause-right g c x h =
+    let t = view c.args.tree.now in
+    let ns = c.command.new.terms in
+    let l = c.command.new.self in
+    let carried = rw c.in-Ok-Popped.field-0-is at c.in-Ok-Popped.ensures.accepted in
+    let r : IsCarriedOut x.state t popped ns l = carried x.state h.live in
+    let k = r.leaves in
+    let n = k.asks.0 in
+    popped_answer g.E.Decide.levels g.E.Decide.table c.states_stay_sorted.ensures.stay x t n c.done-in-Ok-Popped.result c.said-in-Ok-Popped.result c.args.self.now ns l c.pop_told.new.engine c.pop_told.new.told
+    c.said-in-Ok-Popped.ensures.said (c.done-in-Ok-Popped.ensures.done (intact t)) h c.command.ensures.kept c.pop_told.ensures.told c.pop_told.ensures.table
+    (accepted_as x.state t k.command (pop_levels n) k.is k.asks.1) (λ q. subst (λ (d : Command). IsLive ns l (effect x.state d q)) k.asks.1 (k.live q))
+
+pub check_under-requires : goal.check_under-requires
+check_under-requires g c =
+    let x = c.requires.0 in
+    let h = c.requires.1 in
+    let t = view c.args.tree.now in
+    let ns = c.command.new.terms in
+    let l = c.command.new.self in
+    let on : Continues c.args.self.now ns l = record { terms = c.command.ensures.kept; asserted = rw c.in-Ok-Check.field-0-is at c.in-Ok-Check.ensures.moves } in
+    let carried = rw c.in-Ok-Check.field-0-is at c.in-Ok-Check.ensures.accepted in
+    let r : IsCarriedOut x.state t (check c.in-Ok-Check.assumed.items) ns l = carried x.state h.live in
+    let k = r.leaves.0 in
+    let kept = kept_after g.E.Decide.levels g.E.Decide.table c.args.self.now x ns l k.command (still_as k.command (check_sat k.asks.literals) k.asks.is tt) h on k.live in
+    let ls = k.asks.literals in
+    record {
+      holds = (x, t, ls, kept, r.leaves.1, accepted_as x.state t k.command (check_sat ls) k.is k.asks.is, subst (λ (xs : List Assumed). AreAssumed ns xs ls) (sym c.deref.ensures.value) k.asks.assumes);
+    }
+
+pub returns-in-Ok-Check-clause-right : goal.returns-in-Ok-Check-clause-right
+returns-in-Ok-Check-clause-right g c x h =
+    let t = view c.args.tree.now in
+    let ns = c.command.new.terms in
+    let l = c.command.new.self in
+    let on : Continues c.args.self.now ns l = record { terms = c.command.ensures.kept; asserted = rw c.in-Ok-Check.field-0-is at c.in-Ok-Check.ensures.moves } in
+    let carried = rw c.in-Ok-Check.field-0-is at c.in-Ok-Check.ensures.accepted in
+    let r : IsCarriedOut x.state t (check c.in-Ok-Check.assumed.items) ns l = carried x.state h.live in
+    let k = r.leaves.0 in
+    let ls = k.asks.literals in
+    let kept = kept_after g.E.Decide.levels g.E.Decide.table c.args.self.now x ns l k.command (still_as k.command (check_sat ls) k.asks.is tt) h on k.live in
+    c.check_under.ensures.right x t ls kept (accepted_as x.state t k.command (check_sat ls) k.is k.asks.is) (subst (λ (xs : List Assumed). AreAssumed ns xs ls) (sym c.deref.ensures.value) k.asks.assumes)
