@@ -209,3 +209,72 @@ told_begun levels mid after t u v asserted h more whole last same begun count ze
     let all : mid ≡ h.before ++ h.newest ∷ [] = whole ∙ ap (λ n. h.before ++ take n h.newest ∷ []) last ∙ ap (λ l. h.before ++ l ∷ []) (take_all (length h.newest) h.newest long) in
     let levels_told = h.count in
     next_begun after v asserted h.before h.newest h.later h.are (omega (arith, levels_told, more)) (begun ∙ ap (λ ms. ms ++ [] ∷ []) all) (omega (arith, count, same, levels_told)) zero_last
+
+-- ---- The level at a place
+
+level_in : (f : Layer → List ℕ) (ks : List Level) (more : List Layer) (i : ℕ) (x : Level) → i < length ks → x ≡ get_or ks i x → slice_get (map f (map layer_of ks ++ more)) i ≡ Some (f (layer_of x))
+level_in f [] more i x below is = absurd (omega (arith, below))
+level_in f (k ∷ ks) more zero x below is = ap (λ (y : Level). Some (f (layer_of y))) (sym is)
+level_in f (k ∷ ks) more (suc i) x below is = level_in f ks more i x (omega (arith, below)) is
+
+pub level_at : (l : Standing) (below : List Level) (place : ℕ) (x : Level) → map layer_of below ≡ l.below → place < length below → x ≡ get_or below place x
+    → slice_get (asserted_by l) place ≡ Some (table_numbers (layer_of x).assertions)
+level_at l below place x e inside is =
+    let asserted : Layer → List ℕ = λ k. table_numbers k.assertions in
+    ap (λ ls. slice_get (map asserted (ls ++ l.top ∷ [])) place) (sym e) ∙ level_in asserted below (l.top ∷ []) place x inside is
+
+pub top_at : (l : Standing) → slice_get (asserted_by l) (length l.below) ≡ Some (table_numbers l.top.assertions)
+top_at l =
+    let asserted : Layer → List ℕ = λ k. table_numbers k.assertions in
+    ap (λ ls. slice_get ls (length l.below)) (map-append asserted l.below (l.top ∷ []))
+    ∙ ap (slice_get (map asserted l.below ++ asserted l.top ∷ [])) (sym (length-map l.below asserted))
+    ∙ at_place (map asserted l.below) (asserted l.top) []
+
+module _ (levels : List (List ℕ)) (t : Told) (asserted : List (List ℕ)) (place : ℕ) (items : List Accepted) (n : t.levels ≡ place + 1) (at : slice_get asserted place ≡ Some (table_numbers items))
+    (told : IsTold levels t asserted) where
+  -- what the engine has of it is a front of it
+  pub tells_from : (before : List (List ℕ)) × (levels ≡ before ++ take t.last (table_numbers items) ∷ []) × (t.last ≤ length items)
+  tells_from =
+      let h = told_at levels t asserted place (table_numbers items) n at told in
+      let long : length h.0.newest ≡ length items = ap length h.1 ∙ length-map items (λ (a : Accepted). a.term) in
+      let within = h.0.within in
+      (h.0.before, h.0.has ∙ ap (λ l. h.0.before ++ take t.last l ∷ []) h.1, omega (arith, within, long))
+
+  -- and has more of it
+  pub tells_more : (after : List (List ℕ)) (u : Told)
+      → ((before : List (List ℕ)) → levels ≡ before ++ take t.last (table_numbers items) ∷ [] → after ≡ before ++ take u.last (table_numbers items) ∷ [])
+      → u.last ≤ length items → u.levels ≡ t.levels → IsTold after u asserted
+  tells_more after u more within count =
+      let h = told_at levels t asserted place (table_numbers items) n at told in
+      let long : length h.0.newest ≡ length items = ap length h.1 ∙ length-map items (λ (a : Accepted). a.term) in
+      let grown = more h.0.before (h.0.has ∙ ap (λ l. h.0.before ++ take t.last l ∷ []) h.1) in
+      told_more levels after t u asserted h.0 (grown ∙ ap (λ l. h.0.before ++ take u.last l ∷ []) (sym h.1)) (omega (arith, within, long)) count
+
+  -- or all of it, and the next one is begun
+  pub tells_next : (mid after : List (List ℕ)) (u v : Told)
+      → ((before : List (List ℕ)) → levels ≡ before ++ take t.last (table_numbers items) ∷ [] → mid ≡ before ++ take u.last (table_numbers items) ∷ [])
+      → u.last ≡ length items → u.levels ≡ t.levels → place + 1 < length asserted → after ≡ mid ++ [] ∷ [] → v.levels ≡ u.levels + 1 → v.last ≡ 0 → IsTold after v asserted
+  tells_next mid after u v more whole same far begun count none =
+      let h = told_at levels t asserted place (table_numbers items) n at told in
+      let long : length h.0.newest ≡ length items = ap length h.1 ∙ length-map items (λ (a : Accepted). a.term) in
+      let grown = more h.0.before (h.0.has ∙ ap (λ l. h.0.before ++ take t.last l ∷ []) h.1) in
+      told_begun levels mid after t u v asserted h.0 (omega (arith, n, far)) (grown ∙ ap (λ l. h.0.before ++ take u.last l ∷ []) (sym h.1)) (whole ∙ sym long) same begun count none
+
+-- what is told whole is all that is asserted
+pub tells_all : (levels after : List (List ℕ)) (t u : Told) (l : Standing) (n : t.levels ≡ length l.below + 1) (told : IsTold levels t (asserted_by l))
+    → ((before : List (List ℕ)) → levels ≡ before ++ take t.last (table_numbers l.top.assertions) ∷ [] → after ≡ before ++ take u.last (table_numbers l.top.assertions) ∷ [])
+    → u.last ≡ length l.top.assertions → after ≡ asserted_by l
+tells_all levels after t u l n told more whole =
+    let asserted : Layer → List ℕ = λ k. table_numbers k.assertions in
+    let h = told_at levels t (asserted_by l) (length l.below) (asserted l.top) n (top_at l) told in
+    let parts : asserted_by l ≡ map asserted l.below ++ asserted l.top ∷ [] = map-append asserted l.below (l.top ∷ []) in
+    let count : length (map asserted l.below) ≡ length h.0.before = length-map l.below asserted ∙ h.2 in
+    let front : map asserted l.below ≡ h.0.before =
+    sym (take-append-le (length h.0.before) (map asserted l.below) (asserted l.top ∷ []) (omega (arith, count)) ∙ take_all (length h.0.before) (map asserted l.below) (omega (arith, count)))
+    ∙ ap (take (length h.0.before)) (sym parts ∙ h.0.are) ∙ take-append-le (length h.0.before) h.0.before (h.0.newest ∷ h.0.later) (omega arith)
+    ∙ take_all (length h.0.before) h.0.before (omega arith) in
+    let long : length (asserted l.top) ≤ u.last = (let same = length-map l.top.assertions (λ (a : Accepted). a.term) in omega (arith, same, whole)) in
+    more h.0.before (h.0.has ∙ ap (λ m. h.0.before ++ take t.last m ∷ []) h.1)
+    ∙ ap (λ m. h.0.before ++ m ∷ []) (take_all u.last (asserted l.top) long)
+    ∙ ap (λ ms. ms ++ asserted l.top ∷ []) (sym front)
+    ∙ sym parts
