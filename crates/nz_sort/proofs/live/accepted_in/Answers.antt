@@ -1,4 +1,4 @@
-use Rattle.std.proofs.Common.{◌≡◌, ◌∙◌, ◌++◌, ap, sym}
+use Rattle.std.proofs.Common.{◌∙◌, ◌++◌, ℕ, List, ap, sym}
 use Rattle.std.specs.Prelude.{flat_map}
 use Rattle.std.proofs.lemmas.List.{take_all}
 use Rattle.nz_sort.specs.declared.levels.Level.{Level}
@@ -9,8 +9,8 @@ use Rattle.nz_sort.proofs.live.accepted_in.Goals as goal
 pub loop-level-preserved : goal.loop-level-preserved
 loop-level-preserved c =
     let before = c.loop-level.terms.items in
-    let accepted : Level → _ = λ (k : Level). k.accepted.items in
-    c.extend_from_slice.ensures.items ∙ ap (λ ts. before ++ ts) c.as_slice.ensures.value ∙ ap (λ ts. ts ++ c.level-item.result.accepted.items) c.loop-level.invariant
+    let accepted : Level → List ℕ = λ k. k.accepted.items in
+    c.in_ok-extend_from_slice.ensures.items ∙ ap (λ ts. before ++ ts) c.as_slice.ensures.value ∙ ap (λ ts. ts ++ c.level-item.result.accepted.items) c.loop-level.invariant
     ∙ sym (flat_map_more accepted c.args.levels.now c.loop-level.level-index c.level-item.result c.loop-level-test.true c.level-item.is)
 
 pub returns : goal.returns

@@ -2,6 +2,7 @@ use Rattle.std.proofs.Common.{◌≡◌, ◌<◌, ◌∙◌, List, length, map, 
 use Rattle.std.proofs.lemmas.List.Elements.{All-map}
 use Rattle.nz_spec.specs.Live.{assertions_of}
 use Rattle.nz_log.specs.declared.lits.Lit.{Lit}
+use Rattle.nz_log.specs.Lits.{AreConsistent}
 use Rattle.nz_reply.specs.declared.reply.Reply.TheVariants as code
 use Rattle.nz_session.specs.Assumed.{lit_of, AreLitsOf, DenyEachOther}
 use Rattle.nz_session.proofs.Answering.{checked}
@@ -25,7 +26,7 @@ check-requires g c =
     let same = c.deref-2.ensures.value ∙ sym c.deref.ensures.value in
     record {
       holds = (known.0, known.1, known.2, known.3, known.4, known.5, subst (λ (ls : List Lit). AreLitsOf ns ls known.2) (sym items) (lits_are ns c.args.assumed.now known.2 known.6));
-      consistent = ?;
+      consistent = subst AreConsistent (sym same) ((rw c.in-Ok-true.field-0-is at c.in-Ok-true.ensures.yes) refl);
     }
 
 pub returns-in-Ok-true-clause-right : goal.returns-in-Ok-true-clause-right
@@ -39,6 +40,6 @@ returns-in-Ok-false-clause-right g c x t ls h e k =
     let desk = c.args.self.now in
     let ns = desk.terms in
     let items = c.deref.ensures.value ∙ c.in-Ok.ensures.literals in
-    let denied : DenyEachOther c.deref.result.now = ? in
+    let denied : DenyEachOther c.deref.result.now = (rw c.in-Ok-false.field-0-is at c.in-Ok-false.ensures.no) refl in
     let none = no_model_denied c.normal_keeps_value.ensures.keeps ns (assertions_of x.state) c.deref.result.now ls (subst (λ (ms : List Lit). AreLitsOf ns ms ls) (sym items) (lits_are ns c.args.assumed.now ls k)) denied in
     checked g.E.Decide.levels g.E.Decide.table x t ls code.Unsat c.said.result _ desk.last c.said.ensures.said h e refl (none, refl) tt

@@ -1,7 +1,7 @@
-use Rattle.std.proofs.Common.{List, refl, ap, sym, subst}
+use Rattle.std.proofs.Common.{◌∙◌, false, inl, List, refl, ap, sym, subst}
 use Rattle.nz_sexpr.specs.View.{view}
 use Rattle.nz_spec.specs.Live.{Options, pushed_levels}
-use Rattle.nz_spec.specs.Command.{Command, pop_levels, check_sat, get_model, get_reason, get_value, get_info, get_levels, set_print_success, no_effect, echo, exit}
+use Rattle.nz_spec.specs.Command.{Command, pop_levels, reset, reset_assertions, check_sat, get_model, get_reason, get_value, get_info, get_levels, set_print_success, no_effect, echo, exit}
 use Rattle.nz_spec.specs.Script.{asked_of}
 use Rattle.nz_spec.specs.Text.{intact}
 use Rattle.nz_spec.specs.Reply.{echoed, info, levels}
@@ -13,7 +13,11 @@ use Rattle.nz_sort.specs.Assuming.{AreAssumed}
 use Rattle.nz_sort.specs.Acts.{info_meaning}
 use Rattle.nz_elaborate.specs.declared.typed.Typed.{Typed}
 use Rattle.nz_reply.specs.declared.reply.Reply.TheVariants as code
-use Rattle.nz_session.proofs.Answering.{Continues, accepted_as, kept_after, still_as, goes_on_after_echo, goes_on_after_info, goes_on_after_levels, goes_on_after_nothing, goes_on_after_setting, holds_next, holds_set, changed_answer, popped_answer, done_answer, told_answer, exit_answer, tells_done}
+use Rattle.nz_session.proofs.Answering.{Continues, accepted_as, kept_after, still_as, goes_on_after_echo, goes_on_after_info, goes_on_after_levels, goes_on_after_nothing, goes_on_after_setting, holds_next, holds_set, changed_answer, popped_answer, cleared_answer, reset_answer, done_answer, told_answer, exit_answer, tells_done}
+use Rattle.nz_session.specs.declared.desk.Desk.{Desk}
+use Rattle.nz_session.specs.Desk.{IsAnswer}
+use Rattle.nz_session.specs.Told.{IsTold}
+use Rattle.nz_session.proofs.Telling.{told_count}
 use Rattle.nz_session.proofs.Valuing.{echo_told}
 use Rattle.nz_session.proofs.desk.Desk.command.Goals as goal
 
@@ -198,3 +202,40 @@ returns-in-Ok-Check-clause-right g c x h =
     let ls = k.asks.literals in
     let kept = kept_after g.E.Decide.levels g.E.Decide.table c.args.self.now x ns l k.command (still_as k.command (check_sat ls) k.asks.is tt) h on k.live in
     c.check_under.ensures.right x t ls kept (accepted_as x.state t k.command (check_sat ls) k.is k.asks.is) (subst (λ (xs : List Assumed). AreAssumed ns xs ls) (sym c.deref.ensures.value) k.asks.assumes)
+
+pub forget-requires : goal.forget-requires
+forget-requires g c = record { told = told_count (g.E.Decide.levels c.args.self.now.engine) c.args.self.now.told (asserted_by c.args.self.now.live) c.requires.1.told }
+
+pub forget-requires-2 : goal.forget-requires-2
+forget-requires-2 g c = record { told = told_count (g.E.Decide.levels c.args.self.now.engine) c.args.self.now.told (asserted_by c.args.self.now.live) c.requires.1.told }
+
+pub returns-in-Ok-Cleared-clause-right : goal.returns-in-Ok-Cleared-clause-right
+returns-in-Ok-Cleared-clause-right g c x h =
+    let t = view c.args.tree.now in
+    let ns = c.command.new.terms in
+    let l = c.command.new.self in
+    let carried = rw c.in-Ok-Cleared.field-0-is at c.in-Ok-Cleared.ensures.accepted in
+    let r : IsCarriedOut x.state t asks.cleared ns l = carried x.state h.live in
+    let k = r.leaves in
+    let desk = c.forget.new.self in
+    let told : IsTold (g.E.Decide.levels desk.engine) desk.told (asserted_by l) = inl (record { none = c.forget.ensures.told; count = c.forget.ensures.count }) in
+    let success = ap (λ (d : Desk _). d.prints_success) c.forget.ensures.rest in
+    subst (IsAnswer g.E.Decide.levels g.E.Decide.table x (intact t) c.said-in-Ok-Cleared.result) (sym c.forget.ensures.rest)
+    (cleared_answer g.E.Decide.levels g.E.Decide.table c.states_stay_sorted.ensures.stay x t c.done-in-Ok-Cleared.result c.said-in-Ok-Cleared.result c.args.self.now ns l desk.engine desk.told
+    c.said-in-Ok-Cleared.ensures.said (c.done-in-Ok-Cleared.ensures.done (intact t) ∙ ap (λ b. done (record { prints_success = b })) success) h c.command.ensures.kept told c.forget.ensures.table
+    (accepted_as x.state t k.command reset_assertions k.is k.asks) (λ q. subst (λ (d : Command). IsLive ns l (effect x.state d q)) k.asks (k.live q)))
+
+pub returns-in-Ok-Reset-clause-right : goal.returns-in-Ok-Reset-clause-right
+returns-in-Ok-Reset-clause-right g c x h =
+    let t = view c.args.tree.now in
+    let ns = c.command.new.terms in
+    let l = c.command.new.self in
+    let carried = rw c.in-Ok-Reset.field-0-is at c.in-Ok-Reset.ensures.accepted in
+    let r : IsCarriedOut x.state t asks.reset ns l = carried x.state h.live in
+    let k = r.leaves in
+    let desk = c.forget-in-Ok-Reset.new.self in
+    let told : IsTold (g.E.Decide.levels desk.engine) desk.told (asserted_by l) = inl (record { none = c.forget-in-Ok-Reset.ensures.told; count = c.forget-in-Ok-Reset.ensures.count }) in
+    subst (λ (d : Desk _). IsAnswer g.E.Decide.levels g.E.Decide.table x (intact t) c.said-in-Ok-Reset.result (record d { prints_success = false })) (sym c.forget-in-Ok-Reset.ensures.rest)
+    (reset_answer g.E.Decide.levels g.E.Decide.table c.states_stay_sorted.ensures.stay x t c.said-in-Ok-Reset.result c.args.self.now ns l desk.engine desk.told
+    c.said-in-Ok-Reset.ensures.said h c.command.ensures.kept told c.forget-in-Ok-Reset.ensures.table
+    (accepted_as x.state t k.command reset k.is k.asks) (λ q. subst (λ (d : Command). IsLive ns l (effect x.state d q)) k.asks (k.live q)))
