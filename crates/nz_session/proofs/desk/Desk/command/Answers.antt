@@ -219,7 +219,7 @@ returns-in-Ok-Cleared-clause-right g c x h =
     let k = r.leaves in
     let desk = c.forget.new.self in
     let told : IsTold (g.E.Decide.levels desk.engine) desk.told (asserted_by l) = inl (record { none = c.forget.ensures.told; count = c.forget.ensures.count }) in
-    let success = ap (λ (d : Desk _). d.prints_success) c.forget.ensures.rest in
+    let success = ap (λ (d : Desk g.row.E). d.prints_success) c.forget.ensures.rest in
     subst (IsAnswer g.E.Decide.levels g.E.Decide.table x (intact t) c.said-in-Ok-Cleared.result) (sym c.forget.ensures.rest)
     (cleared_answer g.E.Decide.levels g.E.Decide.table c.states_stay_sorted.ensures.stay x t c.done-in-Ok-Cleared.result c.said-in-Ok-Cleared.result c.args.self.now ns l desk.engine desk.told
     c.said-in-Ok-Cleared.ensures.said (c.done-in-Ok-Cleared.ensures.done (intact t) ∙ ap (λ b. done (record { prints_success = b })) success) h c.command.ensures.kept told c.forget.ensures.table
@@ -235,7 +235,7 @@ returns-in-Ok-Reset-clause-right g c x h =
     let k = r.leaves in
     let desk = c.forget-in-Ok-Reset.new.self in
     let told : IsTold (g.E.Decide.levels desk.engine) desk.told (asserted_by l) = inl (record { none = c.forget-in-Ok-Reset.ensures.told; count = c.forget-in-Ok-Reset.ensures.count }) in
-    subst (λ (d : Desk _). IsAnswer g.E.Decide.levels g.E.Decide.table x (intact t) c.said-in-Ok-Reset.result (record d { prints_success = false })) (sym c.forget-in-Ok-Reset.ensures.rest)
+    subst (λ (d : Desk g.row.E). IsAnswer g.E.Decide.levels g.E.Decide.table x (intact t) c.said-in-Ok-Reset.result (record d { prints_success = false })) (sym c.forget-in-Ok-Reset.ensures.rest)
     (reset_answer g.E.Decide.levels g.E.Decide.table c.states_stay_sorted.ensures.stay x t c.said-in-Ok-Reset.result c.args.self.now ns l desk.engine desk.told
     c.said-in-Ok-Reset.ensures.said h c.command.ensures.kept told c.forget-in-Ok-Reset.ensures.table
     (accepted_as x.state t k.command reset k.is k.asks) (λ q. subst (λ (d : Command). IsLive ns l (effect x.state d q)) k.asks (k.live q)))
