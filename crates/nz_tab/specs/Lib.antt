@@ -1,0 +1,5 @@
+pub mod Changes
+pub mod Comes
+pub mod Lists
+pub mod Stored
+pub mod Tables
