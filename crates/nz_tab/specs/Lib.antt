@@ -1,5 +1,6 @@
-pub mod Changes
 pub mod Comes
-pub mod Lists
-pub mod Stored
+pub mod Each
+pub mod Exchanges
+pub mod Joins
+pub mod Rows
 pub mod Tables

@@ -4,9 +4,10 @@
 //! the others, which are basic, has a [`Row`]: the sum of nonbasic forms that it is.
 #![tactic(auto)]
 
-mod change;
-mod joining;
+mod exchange;
+mod row;
 mod rows;
 mod tab;
 
-pub use tab::{Row, Tab, TabStop, Var};
+pub use row::{Row, Var};
+pub use tab::{Tab, TabStop};

@@ -78,7 +78,6 @@ fn two_forms_and_an_exchange(rt: HostRuntime) -> Result<(), Fail> {
     assert!(rt; larger == Some(2));
     let smaller = added(alloc, &mut terms, &mut tab, &[x, y]);
     assert!(rt; smaller == Some(3));
-    assert!(rt; added(alloc, &mut terms, &mut tab, &[thrice, twice]) == Some(2));
     assert!(rt; added(alloc, &mut terms, &mut tab, &[y]) == Some(1));
     assert_eq!(rt; tab.len(), 4);
     assert!(rt; has(&tab, 2, 0, 2, 1));

@@ -1,0 +1,1 @@
+-- Forms that join a table.
