@@ -1,12 +1,12 @@
 -- Computations one after another, whose lists stand one behind another.
-use Rattle.std.proofs.Common.{◌≡◌, ℕ, List, [], ◌∷◌, ◌++◌, flat_map, Some, None, refl, sym, ap, ◌∙◌}
+use Rattle.std.proofs.Common.{◌≡◌, ℕ, ◌+◌, ◌<◌, ◌≤◌, List, [], ◌∷◌, ◌++◌, length, take, drop, get_or, flat_map, Some, None, refl, sym, ap, subst, ◌∙◌}
 use Rattle.std.proofs.lemmas.Grind.{flat_map-append}
-use Rattle.std.proofs.lemmas.List.{append-nil, append_assoc}
+use Rattle.std.proofs.lemmas.List.{append-nil, append_assoc, take_more, drop_more, take_all, take-append-drop}
 use Rattle.nz_spec.specs.Fraction.{Fraction, Operation, first_wide}
 use Rattle.nz_spec.specs.Computation.{Computation}
 use Rattle.nz_lin.proofs.Computing.{first_wide-none, first_wide-some, no_operation}
 use Rattle.nz_tab.specs.Comes.{IsDone}
-use Rattle.nz_tab.specs.Each.{behind, each}
+use Rattle.nz_tab.specs.Each.{alone, behind, each}
 
 -- nothing yet
 pub each_none : (f : ℕ → Computation (List Fraction)) (old : List Fraction) → IsDone (behind old (each f [])) old
@@ -38,3 +38,26 @@ module _ (f : ℕ → Computation (List Fraction)) (old : List Fraction) (ks : L
       ap first_wide (operations_more rest)
       ∙ first_wide-none (each f ks).operations ((f k).operations ++ flat_map (λ m. (f m).operations) rest) done.fits
       ∙ first_wide-some (f k).operations (flat_map (λ m. (f m).operations) rest) w stop
+
+-- one number more
+pub one_done : (c : Computation Fraction) (now : List Fraction) (x : Fraction) → IsDone c x → IsDone (behind now (alone c)) (now ++ x ∷ [])
+one_done c now x h = record { result = ap (λ (y : Fraction). now ++ y ∷ []) h.result; fits = h.fits }
+
+-- ---- A loop over the numbers of a list
+
+split_at : (ks : List ℕ) (i : ℕ) → i < length ks → ks ≡ take i ks ++ get_or ks i 0 ∷ drop (i + 1) ks
+split_at ks i inside = sym (take-append-drop i ks) ∙ ap (λ (l : List ℕ). take i ks ++ l) (drop_more ks i 0 inside)
+
+module _ (f : ℕ → Computation (List Fraction)) (old : List Fraction) (ks : List ℕ) (i : ℕ) (now : List Fraction) (done : IsDone (behind old (each f (take i ks))) now) where
+  pub turn : i < length ks → (later : List Fraction) → IsDone (behind now (f (get_or ks i 0))) later → IsDone (behind old (each f (take (i + 1) ks))) later
+  turn inside later more =
+      subst (λ (l : List ℕ). IsDone (behind old (each f l)) later) (sym (take_more ks i 0 inside))
+      (each_more f old (take i ks) now done (get_or ks i 0) later more)
+
+  pub turn_stop : i < length ks → (w : Operation) → first_wide (f (get_or ks i 0)).operations ≡ Some w → first_wide (each f ks).operations ≡ Some w
+  turn_stop inside w stop =
+      ap (λ (l : List ℕ). first_wide (each f l).operations) (split_at ks i inside)
+      ∙ each_stop f old (take i ks) now done (get_or ks i 0) (drop (i + 1) ks) w stop
+
+  pub turned_all : length ks ≤ i → IsDone (behind old (each f ks)) now
+  turned_all past = subst (λ (l : List ℕ). IsDone (behind old (each f l)) now) (take_all i ks past) done

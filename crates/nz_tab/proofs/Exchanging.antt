@@ -11,7 +11,7 @@ use Rattle.nz_spec.specs.Basis.{Coefficients}
 use Rattle.nz_spec.specs.BasisMoves.{numbers, Rows, plus_multiple, exchanged, solved, replaced}
 use Rattle.nz_spec.proofs.BasisRows.{equal-number, other-number, same-number}
 use Rattle.nz_tab.specs.Each.{alone, each, with_multiple}
-use Rattle.nz_tab.specs.Exchanges.{solved_part, solved_row, replaced_row, row_after}
+use Rattle.nz_tab.specs.Exchanges.{solved_part, solved_row, sum_row, replaced_row, row_after}
 use Rattle.nz_tab.specs.Rows.{basic, counted}
 use Rattle.nz_tab.proofs.Numbers.{all_pass, flat_numbers, flat-same, flat_all, where_passes}
 
@@ -35,14 +35,14 @@ without_enters f i j apart n =
 -- ---- The row of the form that enters
 
 module _ (f : ℕ → Bool) (i j : ℕ) (a : Coefficients) (leaves : f i ≡ false) (enters : f j ≡ true) where
-  inverse : Fraction
+  abbrev pub inverse : Fraction
   inverse = outcome Quotient (whole (pos 1)) (a j)
 
-  quotient_of : ℕ → Operation
+  abbrev pub quotient_of : ℕ → Operation
   quotient_of k = record { operator = Quotient; left = a k; right = a j }
 
   one_quotient : (k : ℕ) (b c d : Bool) → (b ≡ true → d ≡ false)
-      → (if (if b then true else if c then false else d) then (if b then at_once (inverse ∷ []) else turned_into (λ x. neg_ℚ x ∷ []) (operated Quotient (a k) (a j))).operations else [])
+      → (if (if b then true else if c then false else d) then (if b then at_once inverse else turned_into neg_ℚ (operated Quotient (a k) (a j))).operations else [])
       ≡ (if d && not c then quotient_of k ∷ [] else [])
   one_quotient k true c true h = absurd (true≢false (h refl))
   one_quotient k true c false h = refl
@@ -51,11 +51,11 @@ module _ (f : ℕ → Bool) (i j : ℕ) (a : Coefficients) (leaves : f i ≡ fal
   one_quotient k false false true h = refl
   one_quotient k false false false h = refl
 
-  pub quotients_same : (n : ℕ) → flat_map (λ k. (solved_part i j a inverse k).operations) (numbers n (exchanged f i j)) ≡ map quotient_of (numbers n (λ k. f k && not (k == j)))
+  pub quotients_same : (n : ℕ) → flat_map (λ k. (alone (solved_part i (a j) inverse a k)).operations) (numbers n (exchanged f i j)) ≡ map quotient_of (numbers n (λ k. f k && not (k == j)))
   quotients_same n =
-      flat_numbers (λ k. (solved_part i j a inverse k).operations) (exchanged f i j) n
+      flat_numbers (λ k. (alone (solved_part i (a j) inverse a k)).operations) (exchanged f i j) n
       ∙ flat_all
-      (where_passes (λ k. (solved_part i j a inverse k).operations) (exchanged f i j))
+      (where_passes (λ k. (alone (solved_part i (a j) inverse a k)).operations) (exchanged f i j))
       (where_passes (λ k. quotient_of k ∷ []) (λ k. f k && not (k == j)))
       (λ k. one_quotient k (k == i) (k == j) (f k) (λ e. ap f (same-number k i e) ∙ leaves))
       (counted n)
@@ -63,10 +63,15 @@ module _ (f : ℕ → Bool) (i j : ℕ) (a : Coefficients) (leaves : f i ≡ fal
       ∙ flat_map_single quotient_of (numbers n (λ k. f k && not (k == j)))
 
   one_solved : (x : Fraction) (b c d : Bool) → (if b then true else if c then false else d) ≡ true
-      → (if b then at_once (inverse ∷ []) else turned_into (λ y. neg_ℚ y ∷ []) (record { result = x; operations = [] })).result ≡ (if b then inverse else if c then whole (pos 0) else neg_ℚ x) ∷ []
+      → (if b then at_once inverse else at_once (neg_ℚ x)).result ∷ [] ≡ (if b then inverse else if c then whole (pos 0) else neg_ℚ x) ∷ []
   one_solved x true c d e = refl
   one_solved x false true d e = absurd (true≢false (sym e))
   one_solved x false false d e = refl
+
+  result_of : (x : Fraction) (b : Bool) (k : ℕ) → x ≡ outcome Quotient (a k) (a j)
+      → (if b then at_once inverse else turned_into neg_ℚ (operated Quotient (a k) (a j))).result ∷ [] ≡ (if b then at_once inverse else at_once (neg_ℚ x)).result ∷ []
+  result_of x true k e = refl
+  result_of x false k e = ap (λ (y : Fraction). neg_ℚ y ∷ []) (sym e)
 
   -- the definition's coefficients of the form that enters
   abbrev pub entering : ℕ → Coefficients
@@ -75,10 +80,10 @@ module _ (f : ℕ → Bool) (i j : ℕ) (a : Coefficients) (leaves : f i ≡ fal
   pub solved_same : (n : ℕ) → (solved_row (numbers n (exchanged f i j)) i j a).result ≡ map (entering n) (numbers n (exchanged f i j))
   solved_same n =
       flat-same
-      (λ k. (solved_part i j a inverse k).result)
+      (λ k. (alone (solved_part i (a j) inverse a k)).result)
       (λ k. entering n k ∷ [])
       (λ k. exchanged f i j k ≡ true)
-      (λ k e. one_solved (outcome Quotient (a k) (a j)) (k == i) (k == j) (f k) e)
+      (λ k e. result_of (outcome Quotient (a k) (a j)) (k == i) k refl ∙ one_solved (outcome Quotient (a k) (a j)) (k == i) (k == j) (f k) e)
       (numbers n (exchanged f i j)) (all_pass (exchanged f i j) n)
       ∙ flat_map_single (entering n) (numbers n (exchanged f i j))
 
@@ -101,14 +106,14 @@ module _ (j : ℕ) (q c : Coefficients) (ks : List ℕ) (without : AllByRecursio
   left_there : (k : ℕ) → k ≢ j → c k ≡ left k
   left_there k e = ap (λ (b : Bool). if b then whole (pos 0) else c k) (sym (other-number k j e))
 
-  pub sums_same : (s : Fraction) → (each (λ k. alone (with_multiple s q c k)) ks).result ≡ map (plus_multiple ks left s q).result ks
+  pub sums_same : (s : Fraction) → (sum_row ks s q c).result ≡ map (plus_multiple ks left s q).result ks
   sums_same s =
       flat-same (λ k. (alone (with_multiple s q c k)).result) (λ k. outcome Sum (left k) (outcome Product s (q k)) ∷ []) (λ k. k ≢ j)
       (λ k e. ap (λ (x : Fraction). outcome Sum x (outcome Product s (q k)) ∷ []) (left_there k e))
       ks without
       ∙ flat_map_single (plus_multiple ks left s q).result ks
 
-  pub sum_operations : (s : Fraction) → (each (λ k. alone (with_multiple s q c k)) ks).operations ≡ (plus_multiple ks left s q).operations
+  pub sum_operations : (s : Fraction) → (sum_row ks s q c).operations ≡ (plus_multiple ks left s q).operations
   sum_operations s =
       flat-same (λ k. (alone (with_multiple s q c k)).operations)
       (λ k. record { operator = Product; left = s; right = q k } ∷ record { operator = Sum; left = left k; right = outcome Product s (q k) } ∷ [])

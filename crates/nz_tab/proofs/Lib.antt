@@ -1,2 +1,5 @@
+pub mod Blocks
 pub mod Each
+pub mod Exchanging
 pub mod Numbers
+pub mod Tableau

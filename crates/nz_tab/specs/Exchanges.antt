@@ -4,21 +4,27 @@ use Rattle.nz_spec.specs.Fraction.{Fraction, whole, neg_ℚ, outcome, Quotient}
 use Rattle.nz_spec.specs.Computation.{Computation, operated, at_once, turned_into, and_then}
 use Rattle.nz_spec.specs.Basis.{Coefficients}
 use Rattle.nz_spec.specs.BasisMoves.{Rows, exchange, exchanged, replaced}
-use Rattle.nz_tab.specs.Each.{alone, each}
+use Rattle.nz_tab.specs.Each.{alone, each, with_multiple}
 use Rattle.nz_tab.specs.Rows.{Grid}
 
 -- ---- The row of the form that enters
 
 -- the coefficient at a form, where that at the form that leaves is known
-abbrev pub solved_part : ℕ → ℕ → Coefficients → Fraction → ℕ → Computation (List Fraction)
-solved_part i j a inverse k =
-    if k == i then at_once (inverse ∷ [])
-    else turned_into (λ x. neg_ℚ x ∷ []) (operated Quotient (a k) (a j))
+abbrev pub solved_part : ℕ → Fraction → Fraction → Coefficients → ℕ → Computation Fraction
+solved_part i divisor inverse a k = if k == i then at_once inverse else turned_into neg_ℚ (operated Quotient (a k) divisor)
+
+-- the coefficients at these forms
+abbrev pub solved_parts : List ℕ → ℕ → Fraction → Fraction → Coefficients → Computation (List Fraction)
+solved_parts ks i divisor inverse a = each (λ k. alone (solved_part i divisor inverse a k)) ks
 
 abbrev pub solved_row : List ℕ → ℕ → ℕ → Coefficients → Computation (List Fraction)
-solved_row ks i j a = and_then (operated Quotient (whole (pos 1)) (a j)) (λ inverse. each (solved_part i j a inverse) ks)
+solved_row ks i j a = and_then (operated Quotient (whole (pos 1)) (a j)) (λ inverse. solved_parts ks i (a j) inverse a)
 
 -- ---- The other rows
+
+-- the sum of a row and a multiple of another, over these forms
+abbrev pub sum_row : List ℕ → Fraction → Coefficients → Coefficients → Computation (List Fraction)
+sum_row ks s d c = each (λ k. alone (with_multiple s d c k)) ks
 
 -- a row without the form that enters, over these forms
 abbrev pub replaced_row : List ℕ → ℕ → Coefficients → Coefficients → Computation (List Fraction)
@@ -33,9 +39,10 @@ row_after nonbasic rows ks i j q r =
 
 -- ---- What an exchange leaves
 
--- The same forms with i and j exchanged, and at the nonbasic ones the coefficients that are computed.
+-- As many forms with i and j exchanged. At the nonbasic ones each row has the coefficients that are computed, and at the others none.
 pub record IsExchanged (old new : Grid) (i j : ℕ) : Type 0 where
   pub count : new.count ≡ old.count
   pub nonbasic : (k : ℕ) → new.nonbasic k ≡ exchanged old.nonbasic i j k
   pub rows : (r k : ℕ) → r < old.count → k < old.count → new.nonbasic r ≡ false → new.nonbasic k ≡ true
       → new.rows r k ≡ (exchange old.count old.nonbasic old.rows i j).result r k
+  pub zeros : (r k : ℕ) → new.nonbasic k ≡ false → new.rows r k ≡ whole (pos 0)

@@ -43,6 +43,10 @@ coefficients_of nonbasic places row k = if is_marked nonbasic k then slice_index
 abbrev pub row_in : List Fraction → ℕ → ℕ → List Fraction
 row_in block width place = take width (drop (place * width) block)
 
+-- the coefficient of a basic form at a nonbasic one, in a block of the rows of all
+abbrev pub coefficient_in : List Fraction → ℕ → (ℕ → Bool) → ℕ → ℕ → Fraction
+coefficient_in block n nonbasic r k = slice_index_or (row_in block (length (numbers n nonbasic)) (length (numbers r (basic nonbasic)))) (length (numbers k nonbasic)) (whole (pos 0))
+
 abbrev pub grid_of : List Bool → List ℕ → ℕ → List Fraction → Grid
 grid_of nonbasic places width block = record {
   count = length nonbasic;

@@ -1,10 +1,12 @@
 //! What an exchange makes of rows, coefficient by coefficient by rising numbers of the nonbasic forms.
-ghost use Rattle.std.specs.Prelude.{◌≡◌, ◌<◌, ◌≤◌, ◌+◌, ◌++◌, ◌≢◌, All, false, length, map, vec_len, vec_capacity};
+ghost use Rattle.std.specs.Prelude.{◌≡◌, ◌<◌, ◌≤◌, ◌+◌, ◌++◌, ◌≢◌, All, pos, false, length, map, vec_len, vec_capacity};
 ghost use Rattle.nz_spec.specs.Basis.{Coefficients};
+ghost use Rattle.nz_spec.specs.Computation.{and_then, operated};
+ghost use Rattle.nz_spec.specs.Fraction.{Product, Sum};
 ghost use Rattle.nz_spec.specs.Term.{is_zero};
-ghost use Rattle.nz_tab.specs.Comes.{Comes};
-ghost use Rattle.nz_tab.specs.Each.{alone, behind, each, with_multiple};
-ghost use Rattle.nz_tab.specs.Exchanges.{replaced_row, solved_row};
+ghost use Rattle.nz_tab.specs.Comes.{Comes, IsOperated};
+ghost use Rattle.nz_tab.specs.Each.{behind};
+ghost use Rattle.nz_tab.specs.Exchanges.{replaced_row, solved_part, solved_parts, solved_row, sum_row};
 
 use crate::row::{Row, Var};
 use nz_frac::{Frac, Wide};
@@ -28,14 +30,44 @@ pub(crate) fn solve(
     let divisor = row.at(enters);
     prove!(!divisor.is_zero());
     let inverse = Frac::whole(1).div(divisor)?;
+    put_solved(solved, row, columns, leaves, divisor, inverse)
+}
+
+/// Puts the coefficients of the form that enters behind others.
+fn put_solved(
+    solved: &mut Vec<Frac>,
+    row: &Row<'_>,
+    columns: &[Var],
+    leaves: Var,
+    divisor: Frac,
+    inverse: Frac,
+) -> Result<(), Wide>
+    requires room { vec_len solved.old + length columns.now ≤ vec_capacity solved.old }
+    requires nonzero { divisor.numerator ≢ pos 0 }
+    ensures put { Comes (behind solved.old.items (solved_parts columns.now leaves divisor inverse row.now)) solved.new.items result }
+    ensures capacity { vec_capacity solved.new ≡ vec_capacity solved.old }
+{
     for column in columns {
-        if *column == leaves {
-            solved.push_reserved(inverse);
-        } else {
-            solved.push_reserved(row.at(*column).div(divisor)?.neg());
-        }
+        solved.push_reserved(solved_part(row, leaves, divisor, inverse, *column)?);
     }
     Ok(())
+}
+
+/// The coefficient of the form that enters at one column.
+fn solved_part(
+    row: &Row<'_>,
+    leaves: Var,
+    divisor: Frac,
+    inverse: Frac,
+    column: Var,
+) -> Result<Frac, Wide>
+    requires nonzero { divisor.numerator ≢ pos 0 }
+    ensures part { IsOperated (solved_part leaves divisor inverse row.now column) result }
+{
+    if column == leaves {
+        return Ok(inverse);
+    }
+    Ok(row.at(column).div(divisor)?.neg())
 }
 
 /// Puts a row behind others, with what the form that enters was solved to in place of it.
@@ -81,12 +113,19 @@ fn put_sum(
 ) -> Result<(), Wide>
     requires width { length other.now ≡ length columns.now }
     requires room { vec_len rows.old + length columns.now ≤ vec_capacity rows.old }
-    ensures put { (d : Coefficients) → other.now ≡ map d columns.now → Comes (behind rows.old.items (each (λ k. alone (with_multiple factor d row.now k)) columns.now)) rows.new.items result }
+    ensures put { (d : Coefficients) → other.now ≡ map d columns.now → Comes (behind rows.old.items (sum_row columns.now factor d row.now)) rows.new.items result }
     ensures capacity { vec_capacity rows.new ≡ vec_capacity rows.old }
 {
     for place in 0..columns.len() {
-        let product = factor.mul(other[place])?;
-        rows.push_reserved(row.at(columns[place]).add(product)?);
+        rows.push_reserved(with_multiple(row.at(columns[place]), factor, other[place])?);
     }
     Ok(())
+}
+
+/// A number and a multiple of another one.
+fn with_multiple(number: Frac, factor: Frac, other: Frac) -> Result<Frac, Wide>
+    ensures sum { IsOperated (and_then (operated Product factor other) (λ p. operated Sum number p)) result }
+{
+    let product = factor.mul(other)?;
+    number.add(product)
 }

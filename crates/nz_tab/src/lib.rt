@@ -10,4 +10,4 @@ mod rows;
 mod tab;
 
 pub use row::{Row, Var};
-pub use tab::{Tab, TabStop};
+pub use tab::{Tab, TabStop, known_tableau};

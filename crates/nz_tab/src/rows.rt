@@ -1,12 +1,13 @@
 //! The rows of all basic forms, in one block.
-ghost use Rattle.std.specs.Prelude.{◌≡◌, ◌<◌, ◌≤◌, ◌+◌, ◌*◌, ◌++◌, ◌≢◌, not, All, List, OnOk, OnErr, false, true, length, map, vec_len, vec_capacity};
+ghost use Rattle.std.specs.Prelude.{◌≡◌, ◌<◌, ◌≤◌, ◌+◌, ◌*◌, ◌++◌, ◌≢◌, not, All, OnOk, OnErr, ℕ, false, pos, true, length, map, vec_len, vec_capacity};
 ghost use Rattle.nz_spec.specs.Basis.{Coefficients};
 ghost use Rattle.nz_spec.specs.BasisMoves.{exchange, exchanged, numbers};
+ghost use Rattle.nz_spec.specs.Fraction.{whole};
 ghost use Rattle.nz_spec.specs.Term.{is_zero};
 ghost use Rattle.nz_tab.specs.Comes.{Comes, Stops};
 ghost use Rattle.nz_tab.specs.Each.{behind, each};
 ghost use Rattle.nz_tab.specs.Exchanges.{IsExchanged, row_after};
-ghost use Rattle.nz_tab.specs.Rows.{HasRoom, counted, empty_grid, is_marked, place_of, row_in, size_of};
+ghost use Rattle.nz_tab.specs.Rows.{HasRoom, coefficient_in, counted, empty_grid, is_marked, place_of, row_in, size_of};
 
 use crate::exchange::{put_replaced, solve};
 use crate::row::{Row, Var};
@@ -210,7 +211,17 @@ impl Rows {
     }
 
     /// Takes the block of an exchange, and leaves the one before it.
-    fn replace(&mut self, block: &mut Vec<Frac>, leaves: Var, enters: Var) {
+    fn replace(&mut self, block: &mut Vec<Frac>, leaves: Var, enters: Var)
+        requires listed { leaves < self.old.count }
+        requires basic { self.old.nonbasic leaves ≡ false }
+        requires nonbasic { self.old.nonbasic enters ≡ true }
+        requires block { length block.old.items ≡ size_of self.old.count self.old.nonbasic }
+        ensures count { self.new.count ≡ self.old.count }
+        ensures nonbasic { (k : ℕ) → self.new.nonbasic k ≡ exchanged self.old.nonbasic leaves enters k }
+        ensures rows { (r k : ℕ) → r < self.old.count → k < self.old.count → self.new.nonbasic r ≡ false → self.new.nonbasic k ≡ true → self.new.rows r k ≡ coefficient_in block.old.items self.old.count (exchanged self.old.nonbasic leaves enters) r k }
+        ensures zeros { (r k : ℕ) → self.new.nonbasic k ≡ false → self.new.rows r k ≡ whole (pos 0) }
+        ensures room { size_of self.old.count self.old.nonbasic ≤ vec_capacity block.new }
+    {
         mem::swap(&mut self.block, block);
         self.nonbasic[leaves] = true;
         self.nonbasic[enters] = false;

@@ -1,16 +1,16 @@
 //! The table of forms.
-ghost use Rattle.std.specs.Prelude.{◌≡◌, ◌<◌, OnOk, OnErr, IfOk, false, length, slice_index_or, true};
+ghost use Rattle.std.specs.Prelude.{◌≡◌, ◌<◌, [], OnOk, OnErr, false, length, not, slice_index_or, true};
 ghost use Rattle.nz_spec.specs.BasisMoves.{exchange};
 ghost use Rattle.nz_spec.specs.Term.{is_zero};
 ghost use Rattle.nz_tab.specs.Comes.{Stops};
-ghost use Rattle.nz_tab.specs.Exchanges.{IsExchanged};
-ghost use Rattle.nz_tab.specs.Tables.{IsTableau, empty_table};
+ghost use Rattle.nz_tab.specs.Tables.{IsPivoted, IsTableau, empty_table};
 
 use crate::row::{Row, Var};
 use crate::rows::{Room, Rows};
 use nz_base::Memory;
 use nz_frac::{Frac, Wide};
 use nz_lin::{Form, Part};
+use nz_spec::basis::{exchange_keeps_basis, joins_keep_basis};
 use nz_term::TermId;
 use std::alloc::{AllocError, AllocFailed, Global};
 use std::collections::HashMap;
@@ -77,9 +77,23 @@ pub struct Tab {
     room: Room,
 }
 
+impl Model for Tab {
+    ghost use Rattle.std.specs.Prelude.{map, vec_capacity};
+    ghost use Rattle.nz_tab.specs.Tables.{IsStored, Table, table_of};
+
+    ghost Value = { Table };
+
+    ghost view = { λ t. table_of (map (λ v. v.items) t.forms.items) t.rows };
+
+    ghost invariant = { λ t. IsStored (map (λ v. v.items) t.forms.items) t.rows (vec_capacity t.room.columns) (vec_capacity t.room.solved) (vec_capacity t.room.spare) };
+}
+
 impl Tab {
     /// A table without forms. Takes no memory.
-    pub fn new(alloc: Global) -> Tab {
+    pub fn new(alloc: Global) -> Tab
+        ensures empty { result ≡ empty_table }
+    {
+        joins_keep_basis();
         Tab {
             forms: Vec::new(alloc),
             units: HashMap::new(alloc),
@@ -89,22 +103,34 @@ impl Tab {
     }
 
     /// How many forms there are.
-    pub fn len(&self) -> usize {
+    pub fn len(&self) -> usize
+        ensures count { result ≡ length self.now.forms }
+    {
         self.forms.len()
     }
 
     /// The parts of a form.
-    pub fn form(&self, var: Var) -> &[Part] {
+    pub fn form(&self, var: Var) -> &[Part]
+        requires known { var < length self.now.forms }
+        ensures form { result.now ≡ slice_index_or self.now.forms var [] }
+    {
         self.forms[var].as_slice()
     }
 
     /// Whether a form is basic.
-    pub fn is_basic(&self, var: Var) -> bool {
+    pub fn is_basic(&self, var: Var) -> bool
+        requires known { var < length self.now.forms }
+        ensures basic { result ≡ not (self.now.nonbasic var) }
+    {
         !self.rows.is_nonbasic(var)
     }
 
     /// The row of a basic form.
-    pub fn row(&self, i: Var) -> Row<'_> {
+    pub fn row(&self, i: Var) -> Row<'_>
+        requires known { i < length self.now.forms }
+        requires basic { self.now.nonbasic i ≡ false }
+        ensures row { result ≡ self.now.rows i }
+    {
         self.rows.row(i)
     }
 
@@ -115,7 +141,16 @@ impl Tab {
     /// # Errors
     ///
     /// The first operation that leaves the numbers. Then the table is as before.
-    pub fn pivot(&mut self, i: Var, j: Var) -> Result<(), Wide> {
+    pub fn pivot(&mut self, i: Var, j: Var) -> Result<(), Wide>
+        requires leaves { i < length self.old.forms }
+        requires basic { self.old.nonbasic i ≡ false }
+        requires enters { self.old.nonbasic j ≡ true }
+        requires nonzero { is_zero (self.old.rows i j) ≡ false }
+        ensures pivoted { OnOk result (IsPivoted self.old self.new i j) }
+        ensures stops { Stops (exchange (length self.old.forms) self.old.nonbasic self.old.rows i j) result }
+        ensures unchanged { OnErr result (self.new ≡ self.old) }
+    {
+        exchange_keeps_basis();
         self.rows.exchange(&mut self.room, i, j)
     }
 
@@ -216,4 +251,11 @@ fn is_unit(parts: &[Part]) -> bool {
         [part] => part.coefficient.num() == 1 && part.coefficient.den() == 1,
         _ => false,
     }
+}
+
+/// Says that each form of a table is just one sum of the nonbasic ones, and that its row is this sum.
+pub fn known_tableau(tab: &Tab)
+    ensures tableau { IsTableau tab.now }
+{
+    tab.len();
 }

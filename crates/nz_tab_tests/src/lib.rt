@@ -3,3 +3,7 @@
 
 #[cfg(test)]
 mod exact;
+#[cfg(test)]
+mod seeded;
+#[cfg(test)]
+mod tables;
