@@ -1,5 +1,6 @@
 pub mod Blocks
 pub mod Each
+pub mod Exchanged
 pub mod Exchanging
 pub mod Numbers
 pub mod Tableau

@@ -54,6 +54,7 @@ fn put_solved(
 }
 
 /// The coefficient of the form that enters at one column.
+#[tactic(auto, unfolding(nz_spec::specs::Fraction::first_wide))]
 fn solved_part(
     row: &Row<'_>,
     leaves: Var,
@@ -123,6 +124,7 @@ fn put_sum(
 }
 
 /// A number and a multiple of another one.
+#[tactic(auto, unfolding(nz_spec::specs::Fraction::first_wide))]
 fn with_multiple(number: Frac, factor: Frac, other: Frac) -> Result<Frac, Wide>
     ensures sum { IsOperated (and_then (operated Product factor other) (λ p. operated Sum number p)) result }
 {

@@ -1,5 +1,5 @@
 //! The rows of all basic forms, in one block.
-ghost use Rattle.std.specs.Prelude.{◌≡◌, ◌<◌, ◌≤◌, ◌+◌, ◌*◌, ◌++◌, ◌≢◌, not, All, OnOk, OnErr, ℕ, false, pos, true, length, map, vec_len, vec_capacity};
+ghost use Rattle.std.specs.Prelude.{◌≡◌, ◌<◌, ◌≤◌, ◌+◌, ◌-◌, ◌*◌, ◌^◌, ◌++◌, if◌then◌else◌, ◌≢◌, not, All, OnOk, OnErr, ℕ, false, pos, true, length, map, vec_len, vec_capacity};
 ghost use Rattle.nz_spec.specs.Basis.{Coefficients};
 ghost use Rattle.nz_spec.specs.BasisMoves.{exchange, exchanged, numbers};
 ghost use Rattle.nz_spec.specs.Fraction.{whole};
@@ -364,12 +364,24 @@ fn number_places(places: &mut Vec<usize>, nonbasic: &[bool])
 {
     places.clear();
     let mut columns = 0;
-    for (var, nonbasic) in nonbasic.iter().enumerate() {
-        if *nonbasic {
-            places.push_reserved(columns);
-            columns += 1;
-        } else {
-            places.push_reserved(var - columns);
-        }
+    for (var, mark) in nonbasic.iter().enumerate() {
+        places.push_reserved(place_after(*mark, columns, var));
+        columns = count_after(*mark, columns);
     }
+}
+
+/// The place of a form, where so many forms before it are nonbasic.
+fn place_after(nonbasic: bool, columns: usize, var: Var) -> usize
+    requires within { columns ≤ var }
+    ensures place { result ≡ (if nonbasic then columns else var - columns) }
+{
+    if nonbasic { columns } else { var - columns }
+}
+
+/// How many forms are nonbasic with one form more.
+fn count_after(nonbasic: bool, columns: usize) -> usize
+    requires fits { columns + 1 < 2 ^ 64 }
+    ensures count { result ≡ (if nonbasic then columns + 1 else columns) }
+{
+    if nonbasic { columns + 1 } else { columns }
 }

@@ -1,8 +1,11 @@
 //! The table of forms.
-ghost use Rattle.std.specs.Prelude.{◌≡◌, ◌<◌, [], OnOk, OnErr, false, length, not, slice_index_or, true};
+ghost use Rattle.std.specs.Prelude.{◌≡◌, ◌<◌, [], List, OnOk, OnErr, false, length, not, slice_index_or, true};
 ghost use Rattle.nz_spec.specs.BasisMoves.{exchange};
+ghost use Rattle.nz_spec.specs.Table.{IsTable, Node};
 ghost use Rattle.nz_spec.specs.Term.{is_zero};
 ghost use Rattle.nz_tab.specs.Comes.{Stops};
+ghost use Rattle.nz_lin.specs.Forms.{AreUnits};
+ghost use Rattle.nz_tab.specs.Joins.{Joins, UnitJoins, is_unit_form};
 ghost use Rattle.nz_tab.specs.Tables.{IsPivoted, IsTableau, empty_table};
 
 use crate::row::{Row, Var};
@@ -79,7 +82,9 @@ pub struct Tab {
 
 impl Model for Tab {
     ghost use Rattle.std.specs.Prelude.{map, vec_capacity};
-    ghost use Rattle.nz_tab.specs.Tables.{IsStored, Table, table_of};
+    ghost use Rattle.nz_lin.specs.Forms.{AreUnits};
+ghost use Rattle.nz_tab.specs.Joins.{Joins, UnitJoins, is_unit_form};
+ghost use Rattle.nz_tab.specs.Tables.{IsStored, Table, table_of};
 
     ghost Value = { Table };
 
@@ -162,7 +167,11 @@ impl Tab {
     /// # Errors
     ///
     /// `Wide` with the first operation on the new row that leaves the numbers; `Memory`. Then the table is as before.
-    pub fn add_form(&mut self, form: &Form) -> Result<Var, TabStop> {
+    pub fn add_form(&mut self, form: &Form) -> Result<Var, TabStop>
+        ensures unit { is_unit_form form.now.parts ≡ true → UnitJoins self.old self.new form.now.parts result }
+        ensures joins { is_unit_form form.now.parts ≡ false → (ns : List Node) → IsTable ns → AreUnits ns form.now.parts → Joins ns self.old self.new form.now.parts result }
+        ensures unchanged { OnErr result (self.new ≡ self.old) }
+    {
         let parts = form.parts();
         let units = self.new_units(parts)?;
         if is_unit(parts) {
