@@ -1,10 +1,10 @@
 -- What an exchange of rows comes to as a whole, and how large it is.
 use Rattle.std.proofs.Common.{◌≡◌, ℕ, suc, ◌+◌, ◌*◌, ◌<◌, ◌≤◌, Bool, true, false, ◌⊎◌, inl, inr, List, [], ◌∷◌, ◌++◌, length, map, flat_map, Some, None, Result, Ok, Err, pos, refl, sym, ap, ◌∙◌, subst, true≢false, arith}
-use Rattle.std.specs.Prelude.{◌==◌, if◌then◌else◌, not, ◌≢◌, slice_index_or}
+use Rattle.std.specs.Prelude.{◌==◌, ◌&&◌, if◌then◌else◌, not, ◌≢◌, slice_index_or}
 use Rattle.std.proofs.lemmas.List.{get_or_past}
 use Rattle.nz_spec.specs.Fraction.{Fraction, Operation, first_wide, whole}
 use Rattle.nz_spec.specs.Basis.{Coefficients}
-use Rattle.nz_spec.specs.BasisMoves.{Rows, exchange, exchanged, numbers}
+use Rattle.nz_spec.specs.BasisMoves.{Rows, exchange, exchanged, numbers, replaced, solved}
 use Rattle.nz_spec.proofs.BasisRows.{equal-number, other-number, same-number}
 use Rattle.nz_lin.proofs.Computing.{first_wide-none, first_wide-some}
 use Rattle.nz_tab.specs.Comes.{IsDone}
@@ -60,25 +60,34 @@ module _ (f : ℕ → Bool) (i j : ℕ) (leaves : f i ≡ false) (enters : f j �
 
   -- ---- The whole exchange
 
-  module _ (rows : Rows) (n : ℕ) (solved : List Fraction) where
-    pub solved_list : IsDone (solved_row (numbers n (exchanged f i j)) i j (rows i)) solved → solved ≡ map (entering f i j (rows i) leaves enters n) (numbers n (exchanged f i j))
+  module _ (rows : Rows) (n : ℕ) (row : List Fraction) where
+    pub solved_list : IsDone (solved_row (numbers n (exchanged f i j)) i j (rows i)) row → row ≡ map (entering f i j (rows i) leaves enters n) (numbers n (exchanged f i j))
     solved_list h = h.result ∙ solved_same f i j (rows i) leaves enters n
 
-    solved_fits : IsDone (solved_row (numbers n (exchanged f i j)) i j (rows i)) solved → first_wide (exchange n f rows i j).operations
+    -- the operations of the definition: those of the form that enters, and then those of each other row
+    abbrev first_operations : List Operation
+    first_operations = (solved (numbers n (λ k. f k && not (k == j))) i j (rows i)).operations
+
+    abbrev later_operations : List Operation
+    later_operations =
+        flat_map (λ r. (replaced (numbers n (exchanged f i j)) j (entering f i j (rows i) leaves enters n) (rows r)).operations)
+        (numbers n (λ r. not (f r) && not (r == i)))
+
+    solved_fits : IsDone (solved_row (numbers n (exchanged f i j)) i j (rows i)) row → first_wide (exchange n f rows i j).operations
         ≡ first_wide (each (row_after f rows (numbers n (exchanged f i j)) i j (entering f i j (rows i) leaves enters n)) (counted n)).operations
     solved_fits h =
-        first_wide-none _ _ (ap first_wide (sym (solved_operations f i j (rows i) leaves enters n)) ∙ h.fits)
+        first_wide-none first_operations later_operations (ap first_wide (sym (solved_operations f i j (rows i) leaves enters n)) ∙ h.fits)
         ∙ ap first_wide (sym (rows_operations f rows (numbers n (exchanged f i j)) i j (entering f i j (rows i) leaves enters n) enters n))
 
     pub exchange_stops_first : (w : Operation) → first_wide (solved_row (numbers n (exchanged f i j)) i j (rows i)).operations ≡ Some w → first_wide (exchange n f rows i j).operations ≡ Some w
-    exchange_stops_first w stop = first_wide-some _ _ w (ap first_wide (sym (solved_operations f i j (rows i) leaves enters n)) ∙ stop)
+    exchange_stops_first w stop = first_wide-some first_operations later_operations w (ap first_wide (sym (solved_operations f i j (rows i) leaves enters n)) ∙ stop)
 
-    pub exchange_stops_later : IsDone (solved_row (numbers n (exchanged f i j)) i j (rows i)) solved → (w : Operation)
+    pub exchange_stops_later : IsDone (solved_row (numbers n (exchanged f i j)) i j (rows i)) row → (w : Operation)
         → first_wide (each (row_after f rows (numbers n (exchanged f i j)) i j (entering f i j (rows i) leaves enters n)) (counted n)).operations ≡ Some w
         → first_wide (exchange n f rows i j).operations ≡ Some w
     exchange_stops_later h w stop = solved_fits h ∙ stop
 
-    pub exchange_fits : IsDone (solved_row (numbers n (exchanged f i j)) i j (rows i)) solved → (block : List Fraction)
+    pub exchange_fits : IsDone (solved_row (numbers n (exchanged f i j)) i j (rows i)) row → (block : List Fraction)
         → IsDone (each (row_after f rows (numbers n (exchanged f i j)) i j (entering f i j (rows i) leaves enters n)) (counted n)) block
         → first_wide (exchange n f rows i j).operations ≡ None
     exchange_fits h block d = solved_fits h ∙ d.fits

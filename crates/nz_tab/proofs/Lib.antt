@@ -3,4 +3,5 @@ pub mod Each
 pub mod Exchanged
 pub mod Exchanging
 pub mod Numbers
+pub mod Solving
 pub mod Tableau

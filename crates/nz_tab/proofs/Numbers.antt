@@ -76,15 +76,16 @@ module _ {A : Type 0} (h : ℕ → List A) (f : ℕ → Bool) where
 
   pub flat_numbers : (n : ℕ) → flat_map h (numbers n f) ≡ flat_map where_passes (counted n)
   flat_numbers zero = refl
-  flat_numbers (suc n) = by_test (f n) refl ∙ sym (flat_map-append where_passes (counted n) (n ∷ []))
+  flat_numbers (suc n) = by_test (f n) refl (flat_numbers n) ∙ sym (flat_map-append where_passes (counted n) (n ∷ []))
     where
-      by_test : (b : Bool) → f n ≡ b → flat_map h (if b then numbers n f ++ n ∷ [] else numbers n f) ≡ flat_map where_passes (counted n) ++ ((if f n then h n else []) ++ [])
-      by_test true e =
+      by_test : (b : Bool) → f n ≡ b → flat_map h (numbers n f) ≡ flat_map where_passes (counted n)
+          → flat_map h (if b then numbers n f ++ n ∷ [] else numbers n f) ≡ flat_map where_passes (counted n) ++ ((if f n then h n else []) ++ [])
+      by_test true e before =
           flat_map-append h (numbers n f) (n ∷ [])
-          ∙ ap (λ (l : List A). l ++ (h n ++ [])) (flat_numbers n)
+          ∙ ap (λ (l : List A). l ++ (h n ++ [])) before
           ∙ ap (λ (b : Bool). flat_map where_passes (counted n) ++ ((if b then h n else []) ++ [])) (sym e)
-      by_test false e =
-          flat_numbers n
+      by_test false e before =
+          before
           ∙ sym (append-nil (flat_map where_passes (counted n)))
           ∙ ap (λ (b : Bool). flat_map where_passes (counted n) ++ ((if b then h n else []) ++ [])) (sym e)
 
@@ -103,28 +104,30 @@ module _ (f g : ℕ → Bool) (p : ℕ) (less : f p ≡ false) (more : g p ≡ t
   count_before zero h = refl
   count_before (suc n) h =
       ap (λ (b : Bool). length (if b then numbers n f ++ n ∷ [] else numbers n f)) (same n (λ e. omega (arith, e, h)))
-      ∙ by_test (g n)
+      ∙ by_test (g n) (count_before n (omega (arith, h)))
     where
-      by_test : (b : Bool) → length (if b then numbers n f ++ n ∷ [] else numbers n f) ≡ length (if b then numbers n g ++ n ∷ [] else numbers n g)
-      by_test true = length_push (numbers n f) n ∙ ap (λ (m : ℕ). m + 1) (count_before n (omega (arith, h))) ∙ sym (length_push (numbers n g) n)
-      by_test false = count_before n (omega (arith, h))
+      by_test : (b : Bool) → length (numbers n f) ≡ length (numbers n g)
+          → length (if b then numbers n f ++ n ∷ [] else numbers n f) ≡ length (if b then numbers n g ++ n ∷ [] else numbers n g)
+      by_test true before = length_push (numbers n f) n ∙ ap (λ (m : ℕ). m + 1) before ∙ sym (length_push (numbers n g) n)
+      by_test false before = before
 
   -- one more, where they differ at one number alone
   pub count_more : (n : ℕ) → p < n → length (numbers n g) ≡ suc (length (numbers n f))
   count_more zero h = absurd (omega (arith, h))
-  count_more (suc n) h = by_place (same_or_below p n h)
+  count_more (suc n) h = by_place (same_or_below p n h) (count_more n)
     where
-      by_test : (b : Bool) → p < n → length (if b then numbers n g ++ n ∷ [] else numbers n g) ≡ suc (length (if b then numbers n f ++ n ∷ [] else numbers n f))
-      by_test true below = length_push (numbers n g) n ∙ ap (λ (m : ℕ). m + 1) (count_more n below) ∙ omega (arith, length_push (numbers n f) n)
-      by_test false below = count_more n below
+      by_test : (b : Bool) → length (numbers n g) ≡ suc (length (numbers n f))
+          → length (if b then numbers n g ++ n ∷ [] else numbers n g) ≡ suc (length (if b then numbers n f ++ n ∷ [] else numbers n f))
+      by_test true before = length_push (numbers n g) n ∙ ap (λ (m : ℕ). m + 1) before ∙ omega (arith, length_push (numbers n f) n)
+      by_test false before = before
 
-      by_place : (p ≡ n) ⊎ (p < n) → length (numbers (suc n) g) ≡ suc (length (numbers (suc n) f))
-      by_place (inl e) =
+      by_place : (p ≡ n) ⊎ (p < n) → (p < n → length (numbers n g) ≡ suc (length (numbers n f))) → length (numbers (suc n) g) ≡ suc (length (numbers (suc n) f))
+      by_place (inl e) before =
           ap length (one_passes g n (subst (λ (m : ℕ). g m ≡ true) e more))
           ∙ length_push (numbers n g) n
           ∙ omega (arith, count_before n (omega (arith, e)), ap length (one_fails f n (subst (λ (m : ℕ). f m ≡ false) e less)))
-      by_place (inr below) =
-          by_test (g n) below
+      by_place (inr below) before =
+          by_test (g n) (before below)
           ∙ ap (λ (b : Bool). suc (length (if b then numbers n f ++ n ∷ [] else numbers n f))) (sym (same n (λ e. omega (arith, e, below))))
 
 -- each number passes one of two opposite tests
