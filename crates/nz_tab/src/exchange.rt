@@ -1,5 +1,5 @@
 //! What an exchange makes of rows, coefficient by coefficient by rising numbers of the nonbasic forms.
-ghost use Rattle.std.specs.Prelude.{◌≡◌, ◌<◌, ◌≤◌, ◌+◌, ◌++◌, ◌≢◌, All, pos, false, length, map, vec_len, vec_capacity};
+ghost use Rattle.std.specs.Prelude.{◌≡◌, ◌<◌, ◌≤◌, ◌+◌, ◌++◌, ◌≢◌, All, OnOk, pos, false, length, map, vec_len, vec_capacity};
 ghost use Rattle.nz_spec.specs.Basis.{Coefficients};
 ghost use Rattle.nz_spec.specs.Computation.{and_then, operated};
 ghost use Rattle.nz_spec.specs.Fraction.{Product, Sum};
@@ -83,6 +83,7 @@ pub(crate) fn put_replaced(
     requires without { All (λ k. k ≢ enters) columns.now }
     requires room { vec_len rows.old + length columns.now ≤ vec_capacity rows.old }
     ensures put { (q : Coefficients) → solved.now ≡ map q columns.now → Comes (behind rows.old.items (replaced_row columns.now enters q row.now)) rows.new.items result }
+    ensures long { OnOk result (vec_len rows.new ≡ vec_len rows.old + length columns.now) }
     ensures capacity { vec_capacity rows.new ≡ vec_capacity rows.old }
 {
     let factor = row.at(enters);
@@ -97,6 +98,7 @@ pub(crate) fn put_replaced(
 fn put_row(rows: &mut Vec<Frac>, row: &Row<'_>, columns: &[Var])
     requires room { vec_len rows.old + length columns.now ≤ vec_capacity rows.old }
     ensures put { rows.new.items ≡ rows.old.items ++ map row.now columns.now }
+    ensures long { vec_len rows.new ≡ vec_len rows.old + length columns.now }
     ensures capacity { vec_capacity rows.new ≡ vec_capacity rows.old }
 {
     for column in columns {
@@ -115,6 +117,7 @@ fn put_sum(
     requires width { length other.now ≡ length columns.now }
     requires room { vec_len rows.old + length columns.now ≤ vec_capacity rows.old }
     ensures put { (d : Coefficients) → other.now ≡ map d columns.now → Comes (behind rows.old.items (sum_row columns.now factor d row.now)) rows.new.items result }
+    ensures long { OnOk result (vec_len rows.new ≡ vec_len rows.old + length columns.now) }
     ensures capacity { vec_capacity rows.new ≡ vec_capacity rows.old }
 {
     for place in 0..columns.len() {

@@ -198,6 +198,7 @@ impl Rows {
         requires without { All (λ k. k ≢ enters) columns.now }
         requires room { exchanged self.now.nonbasic leaves enters var ≡ false → vec_len rows.old + length columns.now ≤ vec_capacity rows.old }
         ensures put { (q : Coefficients) → solved.now ≡ map q columns.now → Comes (behind rows.old.items (row_after self.now.nonbasic self.now.rows columns.now leaves enters q var)) rows.new.items result }
+        ensures long { OnOk result (vec_len rows.new ≡ vec_len rows.old + (if exchanged self.now.nonbasic leaves enters var then 0 else length columns.now)) }
         ensures capacity { vec_capacity rows.new ≡ vec_capacity rows.old }
     {
         if self.is_nonbasic_after(leaves, enters, var) {
@@ -349,6 +350,7 @@ fn row_at(block: &[Frac], width: usize, place: usize) -> &[Frac]
 fn put_all(rows: &mut Vec<Frac>, row: &[Frac])
     requires room { vec_len rows.old + length row.now ≤ vec_capacity rows.old }
     ensures put { rows.new.items ≡ rows.old.items ++ row.now }
+    ensures long { vec_len rows.new ≡ vec_len rows.old + length row.now }
     ensures capacity { vec_capacity rows.new ≡ vec_capacity rows.old }
 {
     for coefficient in row {

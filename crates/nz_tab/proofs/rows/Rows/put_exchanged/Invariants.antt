@@ -1,5 +1,5 @@
 use Rattle.std.proofs.Common.{◌≡◌, ◌*◌, List, [], length, map}
-use Rattle.std.specs.Prelude.{vec_capacity}
+use Rattle.std.specs.Prelude.{vec_capacity, vec_len}
 use Rattle.nz_spec.specs.Basis.{Coefficients}
 use Rattle.nz_spec.specs.BasisMoves.{exchanged, numbers}
 use Rattle.nz_tab.specs.Comes.{IsDone}
@@ -12,6 +12,6 @@ use Rattle.nz_tab.proofs.rows.Rows.put_exchanged.Given as goal
 abbrev pub invariant-loop-var : goal.invariant-loop-var
 invariant-loop-var l = record {
   done : (q : Coefficients) → l.solved ≡ map q l.columns → IsDone (behind [] (each (row_after l.self.nonbasic l.self.rows l.columns l.leaves l.enters q) (counted l.var))) l.rows.items;
-  long : length l.rows.items ≡ length (numbers l.var (basic (exchanged l.self.nonbasic l.leaves l.enters))) * length l.columns;
+  long : vec_len l.rows ≡ length (numbers l.var (basic (exchanged l.self.nonbasic l.leaves l.enters))) * length l.columns;
   capacity : vec_capacity l.rows ≡ vec_capacity l.fn.rows;
 }
