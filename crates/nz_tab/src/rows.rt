@@ -98,12 +98,7 @@ impl Rows {
     }
 
     /// Exchanges a basic form with a nonbasic one at which its coefficient isn't 0. Takes no memory.
-    pub(crate) fn exchange(
-        &mut self,
-        room: &mut Room,
-        leaves: Var,
-        enters: Var,
-    ) -> Result<(), Wide>
+    pub(crate) fn exchange(&mut self, room: &mut Room, leaves: Var, enters: Var) -> Result<(), Wide>
         requires listed { leaves < self.old.count }
         requires basic { self.old.nonbasic leaves ≡ false }
         requires nonbasic { self.old.nonbasic enters ≡ true }
@@ -295,8 +290,7 @@ impl Rows {
     /// A basic form joins with its row. Takes no memory.
     pub(crate) fn join_basic(&mut self, row: &[Frac]) {
         put_all(&mut self.block, row);
-        self.places
-            .push_reserved(self.nonbasic.len() - self.width);
+        self.places.push_reserved(self.nonbasic.len() - self.width);
         self.nonbasic.push_reserved(false);
     }
 }

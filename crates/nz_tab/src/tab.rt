@@ -83,8 +83,8 @@ pub struct Tab {
 impl Model for Tab {
     ghost use Rattle.std.specs.Prelude.{map, vec_capacity};
     ghost use Rattle.nz_lin.specs.Forms.{AreUnits};
-ghost use Rattle.nz_tab.specs.Joins.{Joins, UnitJoins, is_unit_form};
-ghost use Rattle.nz_tab.specs.Tables.{IsStored, Table, table_of};
+    ghost use Rattle.nz_tab.specs.Joins.{Joins, UnitJoins, is_unit_form};
+    ghost use Rattle.nz_tab.specs.Tables.{IsStored, Table, table_of};
 
     ghost Value = { Table };
 
@@ -231,8 +231,9 @@ impl Tab {
     fn join_units(&mut self, units: Vec<Vec<Part>>) {
         self.rows.join_nonbasic(&mut self.room.spare, units.len());
         for unit in units {
-            let inserted: Result<_, AllocFailed<_>> =
-                self.units.insert(unit[0].unit, self.forms.len());
+            let inserted: Result<_, AllocFailed<_>> = self
+                .units
+                .insert(unit[0].unit, self.forms.len());
             inserted.unwrap();
             self.forms.push_reserved(unit);
         }
