@@ -4,6 +4,8 @@
 #[cfg(test)]
 mod elaborate;
 #[cfg(test)]
+mod making;
+#[cfg(test)]
 mod sort;
 #[cfg(test)]
 mod term;

@@ -2,6 +2,7 @@
 ghost use Rattle.std.specs.Prelude.{◌<◌, length, IfOk};
 ghost use Rattle.nz_spec.specs.Order.{HasCompanions};
 
+use crate::making::{constant, leaf, operation};
 use nz_base::Text;
 use nz_frac::Frac;
 use nz_term::{
@@ -21,10 +22,10 @@ fn bool_constant(alloc: Global, name: &[u8]) -> Result<Constant, Fail> {
 // The table and the number of `(or p (not q))`, made from its leaves.
 fn clause(alloc: Global) -> Result<(Terms, TermId), Fail> {
     let mut terms = Terms::new(alloc)?;
-    let p = terms.make(Head::Constant(&bool_constant(alloc, b"p")?), &[])?;
-    let q = terms.make(Head::Constant(&bool_constant(alloc, b"q")?), &[])?;
-    let not_q = terms.make(Head::Operator(Operator::Not), &[q])?;
-    let root = terms.make(Head::Operator(Operator::Or), &[p, not_q])?;
+    let p = constant(alloc, &mut terms, b"p", Sort::Bool)?;
+    let q = constant(alloc, &mut terms, b"q", Sort::Bool)?;
+    let not_q = operation(&mut terms, Operator::Not, &[q])?;
+    let root = operation(&mut terms, Operator::Or, &[p, not_q])?;
     Ok((terms, root))
 }
 
@@ -32,10 +33,10 @@ fn clause(alloc: Global) -> Result<(Terms, TermId), Fail> {
 fn equal_terms_have_one_number(rt: HostRuntime) -> Result<(), Fail> {
     let (mut terms, root) = clause(rt.alloc())?;
     assert_eq!(rt; root, 3);
-    let p = terms.make(Head::Constant(&bool_constant(rt.alloc(), b"p")?), &[])?;
+    let p = constant(rt.alloc(), &mut terms, b"p", Sort::Bool)?;
     assert_eq!(rt; p, 0);
     assert_eq!(rt; terms.len(), 4);
-    let again = terms.make(Head::Operator(Operator::Or), &[0, 2])?;
+    let again = operation(&mut terms, Operator::Or, &[0, 2])?;
     assert_eq!(rt; again, 3);
     Ok(())
 }
@@ -44,7 +45,7 @@ fn equal_terms_have_one_number(rt: HostRuntime) -> Result<(), Fail> {
 fn the_order_of_arguments_matters(rt: HostRuntime) -> Result<(), Fail> {
     let (mut terms, _) = clause(rt.alloc())?;
     assert_eq!(rt; terms.len(), 4);
-    let swapped = terms.make(Head::Operator(Operator::Or), &[2, 0])?;
+    let swapped = operation(&mut terms, Operator::Or, &[2, 0])?;
     assert_eq!(rt; swapped, 4);
     assert_eq!(rt; terms.len(), 5);
     Ok(())
@@ -54,11 +55,11 @@ fn the_order_of_arguments_matters(rt: HostRuntime) -> Result<(), Fail> {
 fn terms_of_different_operators_are_different(rt: HostRuntime) -> Result<(), Fail> {
     let (mut terms, _) = clause(rt.alloc())?;
     assert_eq!(rt; terms.len(), 4);
-    let excluded = terms.make(Head::Operator(Operator::Xor), &[0, 1])?;
+    let excluded = operation(&mut terms, Operator::Xor, &[0, 1])?;
     assert_eq!(rt; excluded, 4);
-    let equal = terms.make(Head::Operator(Operator::Equal), &[0, 1])?;
+    let equal = operation(&mut terms, Operator::Equal, &[0, 1])?;
     assert_eq!(rt; equal, 5);
-    let chosen = terms.make(Head::Operator(Operator::Ite(Sort::Bool)), &[0, 1, 2])?;
+    let chosen = operation(&mut terms, Operator::Ite(Sort::Bool), &[0, 1, 2])?;
     assert_eq!(rt; chosen, 6);
     assert!(rt; !Head::Operator(Operator::Xor).is(Head::Operator(Operator::Equal)));
     Ok(())
@@ -84,13 +85,13 @@ fn cut_goes_back_to_the_mark(rt: HostRuntime) -> Result<(), Fail> {
     let (mut terms, root) = clause(rt.alloc())?;
     assert!(rt; !terms.is_empty());
     let mark = terms.mark();
-    let new = terms.make(Head::Operator(Operator::True), &[])?;
+    let new = operation(&mut terms, Operator::True, &[])?;
     assert_eq!(rt; new, 4);
     terms.cut(mark);
     assert_eq!(rt; terms.len(), 4);
     assert!(rt; root < terms.len());
     assert!(rt; terms.head(root).is(Head::Operator(Operator::Or)));
-    let other = terms.make(Head::Operator(Operator::False), &[])?;
+    let other = operation(&mut terms, Operator::False, &[])?;
     assert_eq!(rt; other, 4);
     Ok(())
 }
@@ -113,9 +114,9 @@ fn negations(alloc: Global, count: usize) -> Result<(Terms, TermId), Fail>
     ensures within { IfOk result (λ made. made.1 < length made.0) }
 {
     let mut terms = Terms::new(alloc)?;
-    let mut last = terms.make(Head::Constant(&bool_constant(alloc, b"p")?), &[])?;
+    let mut last = constant(alloc, &mut terms, b"p", Sort::Bool)?;
     for _ in 0..count {
-        last = terms.make(Head::Operator(Operator::Not), &[last])?;
+        last = operation(&mut terms, Operator::Not, &[last])?;
     }
     Ok((terms, last))
 }
@@ -124,7 +125,7 @@ fn negations(alloc: Global, count: usize) -> Result<(Terms, TermId), Fail>
 fn arguments_come_before_from_the_left(rt: HostRuntime) -> Result<(), Fail> {
     let (mut terms, _) = clause(rt.alloc())?;
     assert_eq!(rt; terms.len(), 4);
-    let root = terms.make(Head::Operator(Operator::And), &[3, 1, 2, 1])?;
+    let root = operation(&mut terms, Operator::And, &[3, 1, 2, 1])?;
     assert_eq!(rt; root, 4);
     assert_eq!(rt; terms.len(), 5);
     let order = post_order(rt.alloc(), &terms, &[4])?;
@@ -165,9 +166,9 @@ fn remainder(alloc: Global) -> Result<(Terms, TermId), Fail>
     ensures companions { IfOk result (λ made. HasCompanions made.0) }
 {
     let mut terms = Terms::new(alloc)?;
-    let parameter = terms.make(Head::Parameter(0, Sort::Int), &[])?;
-    let two = terms.make(Head::Integer(2), &[])?;
-    let rest = terms.make(Head::Operator(Operator::Mod), &[parameter, two])?;
+    let parameter = leaf(&mut terms, Head::Parameter(0, Sort::Int))?;
+    let two = leaf(&mut terms, Head::Integer(2))?;
+    let rest = operation(&mut terms, Operator::Mod, &[parameter, two])?;
     add_companions(alloc, &mut terms, 0)?;
     Ok((terms, rest))
 }
@@ -202,9 +203,9 @@ fn rounded(alloc: Global) -> Result<(Terms, TermId, TermId), Fail>
     ensures companions { IfOk result (λ made. HasCompanions made.0) }
 {
     let mut terms = Terms::new(alloc)?;
-    let parameter = terms.make(Head::Parameter(0, Sort::Real), &[])?;
-    let test = terms.make(Head::Operator(Operator::IsInt), &[parameter])?;
-    let number = terms.make(Head::Operator(Operator::ToInt), &[parameter])?;
+    let parameter = leaf(&mut terms, Head::Parameter(0, Sort::Real))?;
+    let test = operation(&mut terms, Operator::IsInt, &[parameter])?;
+    let number = operation(&mut terms, Operator::ToInt, &[parameter])?;
     add_companions(alloc, &mut terms, 0)?;
     Ok((terms, test, number))
 }
@@ -223,14 +224,16 @@ fn tripled(alloc: Global) -> Result<(Terms, TermId), Fail>
     ensures within { IfOk result (λ made. made.1 < length made.0) }
 {
     let mut terms = Terms::new(alloc)?;
-    let parameter = terms.make(Head::Parameter(0, Sort::Int), &[])?;
-    let two = terms.make(Head::Integer(2), &[])?;
-    let double = terms.make(
-        Head::Operator(Operator::Product(NumberSort::Int)),
+    let parameter = leaf(&mut terms, Head::Parameter(0, Sort::Int))?;
+    let two = leaf(&mut terms, Head::Integer(2))?;
+    let double = operation(
+        &mut terms,
+        Operator::Product(NumberSort::Int),
         &[two, parameter],
     )?;
-    let sum = terms.make(
-        Head::Operator(Operator::Sum(NumberSort::Int)),
+    let sum = operation(
+        &mut terms,
+        Operator::Sum(NumberSort::Int),
         &[parameter, double],
     )?;
     Ok((terms, sum))
@@ -262,11 +265,12 @@ fn three_and_a_half(alloc: Global) -> Result<(Terms, TermId), Fail>
     ensures within { IfOk result (λ made. made.1 < length made.0) }
 {
     let mut terms = Terms::new(alloc)?;
-    let decimal = terms.make(Head::Decimal(150, 2), &[])?;
-    let two = terms.make(Head::Integer(2), &[])?;
-    let whole = terms.make(Head::Operator(Operator::ToReal), &[two])?;
-    let sum = terms.make(
-        Head::Operator(Operator::Sum(NumberSort::Real)),
+    let decimal = leaf(&mut terms, Head::Decimal(150, 2))?;
+    let two = leaf(&mut terms, Head::Integer(2))?;
+    let whole = operation(&mut terms, Operator::ToReal, &[two])?;
+    let sum = operation(
+        &mut terms,
+        Operator::Sum(NumberSort::Real),
         &[decimal, whole],
     )?;
     Ok((terms, sum))
@@ -295,13 +299,14 @@ fn not_linear(alloc: Global, divides: bool) -> Result<(Terms, TermId), Fail>
     ensures within { IfOk result (λ made. made.1 < length made.0) }
 {
     let mut terms = Terms::new(alloc)?;
-    let parameter = terms.make(Head::Parameter(0, Sort::Real), &[])?;
-    let zero = terms.make(Head::Decimal(0, 1), &[])?;
+    let parameter = leaf(&mut terms, Head::Parameter(0, Sort::Real))?;
+    let zero = leaf(&mut terms, Head::Decimal(0, 1))?;
     let made = if divides {
-        terms.make(Head::Operator(Operator::Quotient), &[parameter, zero])?
+        operation(&mut terms, Operator::Quotient, &[parameter, zero])?
     } else {
-        terms.make(
-            Head::Operator(Operator::Product(NumberSort::Real)),
+        operation(
+            &mut terms,
+            Operator::Product(NumberSort::Real),
             &[parameter, parameter],
         )?
     };

@@ -1,0 +1,17 @@
+-- A head has no arguments here, and what is made is in the table.
+use Rattle.std.proofs.Common.{◌≡◌, [], Option, Some, None, refl}
+use Rattle.std.proofs.lemmas.Option.{slice_get_within}
+use Rattle.nz_spec.specs.Term.{Constant, Head, constant_of}
+use Rattle.nz_spec.specs.Table.{HasItsArguments}
+use Rattle.nz_term.specs.Heads.{head_of}
+use Rattle.nz_term_tests.proofs.making.leaf.Goals as goal
+
+without_arguments : (h : Head) (c : Option Constant) → constant_of h ≡ c → HasItsArguments h []
+without_arguments h None e = rw (e, HasItsArguments) tt
+without_arguments h (Some c) e = rw (e, HasItsArguments) refl
+
+pub make-requires-clause-leaves : goal.make-requires-clause-leaves
+make-requires-clause-leaves c = without_arguments (head_of c.args.head) (constant_of (head_of c.args.head)) refl
+
+pub returns : goal.returns
+returns c = record { within = slice_get_within c.make.new.self c.in_ok-id.id _ c.in_ok-id.ensures.node }

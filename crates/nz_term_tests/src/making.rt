@@ -1,0 +1,54 @@
+//! Terms to test with. What `Terms::make` asks of a head and of numbers is tested here, so that the tests have nothing to prove of it.
+ghost use Rattle.std.specs.Prelude.{◌<◌, length, All, IfOk};
+ghost use Rattle.std.specs.Bool.{OnTrue};
+
+use nz_base::{Memory, Text};
+use nz_term::{Constant, Head, Operator, Sort, TermId, Terms, operators_are_no_leaves};
+use std::alloc::Global;
+
+/// The term of a head without arguments.
+pub fn leaf(terms: &mut Terms, head: Head<'_>) -> Result<TermId, Memory>
+    ensures within { IfOk result (λ id. id < length terms.new) }
+{
+    if !head.fits() {
+        return Err(Memory);
+    }
+    let id = terms.make(head, &[])?;
+    Ok(id)
+}
+
+/// The term of the constant of this name and sort.
+pub fn constant(alloc: Global, terms: &mut Terms, name: &[u8], sort: Sort) -> Result<TermId, Memory>
+    ensures within { IfOk result (λ id. id < length terms.new) }
+{
+    let name = Text::from_slice(alloc, name)?;
+    leaf(terms, Head::Constant(&Constant { name, sort }))
+}
+
+/// The term of an operator over these.
+pub fn operation(
+    terms: &mut Terms,
+    operator: Operator,
+    arguments: &[TermId],
+) -> Result<TermId, Memory>
+    ensures within { IfOk result (λ id. id < length terms.new) }
+{
+    operators_are_no_leaves();
+    if !are_below(arguments, terms.len()) {
+        return Err(Memory);
+    }
+    let id = terms.make(Head::Operator(operator), arguments)?;
+    Ok(id)
+}
+
+/// Whether each of these is below this number.
+fn are_below(ids: &[TermId], count: usize) -> bool
+    ensures below { OnTrue result (All (λ k. k < count) ids.now) }
+{
+    for i in 0..ids.len() {
+        if count <= ids[i] {
+            return false;
+        }
+    }
+    true
+}
