@@ -1,4 +1,5 @@
 pub mod Adding
+pub mod Bounding
 pub mod Computing
 pub mod Joining
 pub mod Making

@@ -1,0 +1,97 @@
+-- What is made of bounds, from what is made of their two sides.
+use Rattle.std.proofs.Common.{◌≡◌, ◌+◌, ◌<◌, ◌||◌, Bool, true, false, List, [], ◌∷◌, length, Result, Ok, Err, refl, sym, ap, subst}
+use Rattle.std.proofs.lemmas.List.{append_assoc}
+use Rattle.nz_spec.specs.Computation.{Computation, and_then, operated}
+use Rattle.nz_spec.specs.Farkas as farkas
+use Rattle.nz_spec.specs.Farkas.{bound_of, bound_scaled, bounds_joined, multiples_onto}
+use Rattle.nz_spec.specs.Form as spec
+use Rattle.nz_spec.specs.Form.{Numbering, joined, scaled}
+use Rattle.nz_spec.specs.Fraction.{Fraction, Sum, Product, first_wide, neg_ℚ}
+use Rattle.nz_spec.specs.Literal.{negation_of}
+use Rattle.nz_spec.specs.Table.{Node}
+use Rattle.nz_lin.specs.declared.bound.Bound.{Bound}
+use Rattle.nz_lin.specs.declared.bound.Multiple.{Multiple}
+use Rattle.nz_lin.specs.declared.form.LinStop.{LinStop}
+use Rattle.nz_lin.specs.declared.form.Side.TheVariants.{Left}
+use Rattle.nz_lin.specs.Bounds.{bounded, bound_over, literal_over, multiple_over, multiples_over}
+use Rattle.nz_lin.specs.Comes.{Comes, IsDone, times}
+use Rattle.nz_lin.specs.Stops.{IsStopAt}
+use Rattle.nz_lin.proofs.Computing.{IsSame, done_both, one_step, same_more, same_stop, stop_first, stop_second}
+
+-- a form beside a sign
+abbrev pub with_sign : Bool → spec.Form → farkas.Bound
+with_sign strict f = record { parts = f.parts; limit = f.offset; is_strict = strict }
+
+-- what a literal of the code says
+bound_by : (s : Bool) (ps : List spec.Part) (q : Fraction) → bound_of (bounded s ps q) ≡ record { parts = ps; limit = q; is_strict = s }
+bound_by true ps q = refl
+bound_by false ps q = refl
+
+pub bound_is : (ns : List Node) (b : Bound) → bound_of (literal_over ns b) ≡ bound_over ns b
+bound_is ns b = bound_by b.strict _ _
+
+-- a multiple
+pub scaled_done : (m : Fraction) (x : farkas.Bound) (f : spec.Form) → IsDone (scaled (times Left m) (record { parts = x.parts; offset = x.limit })) f → IsDone (bound_scaled m x) (with_sign x.is_strict f)
+scaled_done m x f h = record { result = ap (with_sign x.is_strict) h.result; fits = h.fits }
+
+pub scaled_stop : (m : Fraction) (x : farkas.Bound) (s : LinStop) → IsStopAt (first_wide (scaled (times Left m) (record { parts = x.parts; offset = x.limit })).operations) s
+    → IsStopAt (first_wide (bound_scaled m x).operations) s
+scaled_stop m x s h = h
+
+-- a sum
+module _ (number : Numbering) (x y : farkas.Bound) where
+  abbrev sides : Computation spec.Form
+  sides = joined number Sum (record { parts = x.parts; offset = x.limit }) (record { parts = y.parts; offset = y.limit })
+
+  pub sides_done : (f : spec.Form) → IsDone sides f → IsDone (bounds_joined number x y) (with_sign (x.is_strict || y.is_strict) f)
+  sides_done f h = record { result = ap (with_sign (x.is_strict || y.is_strict)) h.result; fits = h.fits }
+
+  pub sides_stop : (s : LinStop) → IsStopAt (first_wide sides.operations) s → IsStopAt (first_wide (bounds_joined number x y).operations) s
+  sides_stop s h = h
+
+-- what comes after a computation that is done
+pub comes_after : {A B X : Type 0} (c : Computation A) (f : A → Computation B) (x : A) → IsDone c x → (now : B) (r : Result X LinStop) → Comes (f x) now r → Comes (and_then c f) now r
+comes_after c f x done now (Ok y) h = done_both c f x now done h
+comes_after c f x done now (Err s) h = stop_second c f x s done h
+
+-- three of them, grouped either way
+regrouped : {A B C : Type 0} (c : Computation A) (f : A → Computation B) (g : B → Computation C) → IsSame (and_then (and_then c f) g) (and_then c (λ x. and_then (f x) g))
+regrouped c f g = record { result = refl; stop = ap first_wide (append_assoc c.operations (f c.result).operations (g (f c.result).result).operations) }
+
+-- ---- One multiple after another
+
+module _ (number : Numbering) (ns : List Node) where
+  -- a sum with one multiple more
+  abbrev pub with_multiple : farkas.Bound → Multiple → Computation farkas.Bound
+  with_multiple x m = and_then (bound_scaled m.multiplier (bound_over ns m.bound)) (λ y. bounds_joined number x y)
+
+  -- the multiple, and then the rest
+  abbrev one_more : farkas.Bound → Multiple → List Multiple → Computation farkas.Bound
+  one_more x m ms =
+      and_then (bound_scaled m.multiplier (bound_over ns m.bound)) (λ y. and_then (bounds_joined number x y) (λ z. multiples_onto number z (multiples_over ns ms)))
+
+  unrolled : (x : farkas.Bound) (m : Multiple) (ms : List Multiple) → multiples_onto number x (multiples_over ns (m ∷ ms)) ≡ one_more x m ms
+  unrolled x m ms =
+      ap (λ (b : farkas.Bound). and_then (bound_scaled m.multiplier b) (λ y. and_then (bounds_joined number x y) (λ z. multiples_onto number z (multiples_over ns ms)))) (bound_is ns m.bound)
+
+  module _ (x : farkas.Bound) (m : Multiple) (ms : List Multiple) (whole : Computation farkas.Bound) (h : IsSame (multiples_onto number x (multiples_over ns (m ∷ ms))) whole) where
+    abbrev scaling : Computation farkas.Bound
+    scaling = bound_scaled m.multiplier (bound_over ns m.bound)
+
+    abbrev rest_of : farkas.Bound → Computation farkas.Bound
+    rest_of y = and_then (bounds_joined number x y) (λ z. multiples_onto number z (multiples_over ns ms))
+
+    here : IsSame (one_more x m ms) whole
+    here = subst (λ (c : Computation farkas.Bound). IsSame c whole) (unrolled x m ms) h
+
+    pub multiple_more : (z : farkas.Bound) → IsDone (with_multiple x m) z → IsSame (multiples_onto number z (multiples_over ns ms)) whole
+    multiple_more z done =
+        same_more (multiples_onto number z (multiples_over ns ms)) (and_then (with_multiple x m) (λ w. multiples_onto number w (multiples_over ns ms))) whole
+        (one_step (with_multiple x m) (λ w. multiples_onto number w (multiples_over ns ms)) z done)
+        (same_more (and_then (with_multiple x m) (λ w. multiples_onto number w (multiples_over ns ms))) (one_more x m ms) whole (regrouped scaling (λ y. bounds_joined number x y) (λ w. multiples_onto number w (multiples_over ns ms))) here)
+
+    pub multiple_stop : (s : LinStop) → IsStopAt (first_wide (with_multiple x m).operations) s → IsStopAt (first_wide whole.operations) s
+    multiple_stop s stop =
+        same_stop (and_then (with_multiple x m) (λ w. multiples_onto number w (multiples_over ns ms))) whole s
+        (same_more (and_then (with_multiple x m) (λ w. multiples_onto number w (multiples_over ns ms))) (one_more x m ms) whole (regrouped scaling (λ y. bounds_joined number x y) (λ w. multiples_onto number w (multiples_over ns ms))) here)
+        (stop_first (with_multiple x m) (λ w. multiples_onto number w (multiples_over ns ms)) s stop)
