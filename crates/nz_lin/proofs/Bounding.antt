@@ -1,20 +1,25 @@
 -- What is made of bounds, from what is made of their two sides.
-use Rattle.std.proofs.Common.{◌≡◌, ◌+◌, ◌<◌, ◌||◌, Bool, true, false, List, [], ◌∷◌, length, Result, Ok, Err, refl, sym, ap, subst}
+use Rattle.std.proofs.Common.{◌≡◌, ◌||◌, ◌*ℤ◌, Bool, true, false, List, [], ◌∷◌, length, eqb, pos, Less, Equal, Greater, cond, Result, Ok, Err, refl, arith, sym, ap, subst}
+use Rattle.std.specs.Prelude.{int_lt}
+use Rattle.std.specs.Ordering.{is_lt}
+use Rattle.std.proofs.lemmas.Bool.{ne_eqb}
 use Rattle.std.proofs.lemmas.List.{append_assoc}
-use Rattle.nz_spec.specs.Computation.{Computation, and_then, operated}
+use Rattle.nz_spec.specs.Computation.{Computation, and_then}
 use Rattle.nz_spec.specs.Farkas as farkas
 use Rattle.nz_spec.specs.Farkas.{bound_of, bound_scaled, bounds_joined, multiples_onto}
 use Rattle.nz_spec.specs.Form as spec
 use Rattle.nz_spec.specs.Form.{Numbering, joined, scaled}
-use Rattle.nz_spec.specs.Fraction.{Fraction, Sum, Product, first_wide, neg_ℚ}
-use Rattle.nz_spec.specs.Literal.{negation_of}
+use Rattle.nz_spec.specs.Fraction.{Fraction, Sum, denominator, first_wide, fraction_cmp, fraction_lt}
+use Rattle.nz_spec.specs.LinearLiteral.{is_without_units}
 use Rattle.nz_spec.specs.Table.{Node}
 use Rattle.nz_lin.specs.declared.bound.Bound.{Bound}
 use Rattle.nz_lin.specs.declared.bound.Multiple.{Multiple}
 use Rattle.nz_lin.specs.declared.form.LinStop.{LinStop}
+use Rattle.nz_lin.specs.declared.form.Part.{Part}
 use Rattle.nz_lin.specs.declared.form.Side.TheVariants.{Left}
 use Rattle.nz_lin.specs.Bounds.{bounded, bound_over, literal_over, multiple_over, multiples_over}
 use Rattle.nz_lin.specs.Comes.{Comes, IsDone, times}
+use Rattle.nz_lin.specs.Forms.{parts_over}
 use Rattle.nz_lin.specs.Stops.{IsStopAt}
 use Rattle.nz_lin.proofs.Computing.{IsSame, done_both, one_step, same_more, same_stop, stop_first, stop_second}
 
@@ -55,7 +60,7 @@ comes_after c f x done now (Ok y) h = done_both c f x now done h
 comes_after c f x done now (Err s) h = stop_second c f x s done h
 
 -- three of them, grouped either way
-regrouped : {A B C : Type 0} (c : Computation A) (f : A → Computation B) (g : B → Computation C) → IsSame (and_then (and_then c f) g) (and_then c (λ x. and_then (f x) g))
+pub regrouped : {A B C : Type 0} (c : Computation A) (f : A → Computation B) (g : B → Computation C) → IsSame (and_then (and_then c f) g) (and_then c (λ x. and_then (f x) g))
 regrouped c f g = record { result = refl; stop = ap first_wide (append_assoc c.operations (f c.result).operations (g (f c.result).result).operations) }
 
 -- ---- One multiple after another
@@ -95,3 +100,21 @@ module _ (number : Numbering) (ns : List Node) where
         same_stop (and_then (with_multiple x m) (λ w. multiples_onto number w (multiples_over ns ms))) whole s
         (same_more (and_then (with_multiple x m) (λ w. multiples_onto number w (multiples_over ns ms))) (one_more x m ms) whole (regrouped scaling (λ y. bounds_joined number x y) (λ w. multiples_onto number w (multiples_over ns ms))) here)
         (stop_first (with_multiple x m) (λ w. multiples_onto number w (multiples_over ns ms)) s stop)
+
+-- ---- Bounds on nothing
+
+below : (p q : Bool) → is_lt (cond p Less (cond q Greater Equal)) ≡ p
+below true q = refl
+below false true = refl
+below false false = refl
+
+pub less_is : (p q : Fraction) → is_lt (fraction_cmp p q) ≡ fraction_lt p q
+unfolding fraction_cmp fraction_lt
+less_is p q =
+    let a = p.numerator *ℤ pos (denominator q) in
+    let b = q.numerator *ℤ pos (denominator p) in
+    below (int_lt a b) (int_lt b a)
+
+pub without_units : (ns : List Node) (ps : List Part) → eqb (length ps) 0 ≡ is_without_units (parts_over ns ps)
+without_units ns [] = refl
+without_units ns (p ∷ ps) = ne_eqb (length (p ∷ ps)) 0 (λ e. omega arith)

@@ -1,7 +1,8 @@
 -- What bounds of the code are: linear literals over a table, and their multiples.
 use Rattle.std.specs.Prelude.{◌≡◌, Bool, true, false, List, map, Result, Ok, Err}
 use Rattle.nz_spec.specs.Fraction.{Fraction, first_wide}
-use Rattle.nz_spec.specs.Computation.{Computation}
+use Rattle.nz_spec.specs.Computation.{Computation, turned_into, and_then}
+use Rattle.nz_spec.specs.Cuts.{rounded_limit}
 use Rattle.nz_spec.specs.Farkas as farkas
 use Rattle.nz_spec.specs.Form as spec
 use Rattle.nz_spec.specs.LinearLiteral.{is_whole}
@@ -61,3 +62,7 @@ is_integral_of s c = false
 
 abbrev pub is_integral : Part → Bool
 is_integral p = is_integral_of p.sort p.coefficient
+
+-- a bound times a number, with the greatest integer within its limit then
+abbrev pub rounded_bound : Fraction → farkas.Bound → Computation Literal
+rounded_bound m x = and_then (farkas.bound_scaled m x) (λ y. turned_into (λ c. is_at_most y.parts c) (rounded_limit y))

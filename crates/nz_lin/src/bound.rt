@@ -1,32 +1,30 @@
 //! Bounds on sums of units: the literals of linear arithmetic, and sums of their multiples.
-ghost use Rattle.std.specs.Prelude.{◌≡◌, ◌≤◌, IfOk, List, OnOk};
-ghost use Rattle.std.specs.List.{AllByRecursion, list_all};
+ghost use Rattle.std.specs.Prelude.{◌≡◌, ◌&&◌, ◌||◌, IfOk, List, OnOk, pos};
+ghost use Rattle.std.specs.List.{AllByRecursion};
 ghost use Rattle.nz_spec.specs.Computation.{and_then};
-ghost use Rattle.nz_spec.specs.Cuts as cuts;
 ghost use Rattle.nz_spec.specs.Farkas as farkas;
 ghost use Rattle.nz_spec.specs.Farkas.{bound_scaled, bounds_joined, empty_bound};
 ghost use Rattle.nz_spec.specs.FormOf.{number_in};
-ghost use Rattle.nz_spec.specs.Fraction.{gcd, largest};
-ghost use Rattle.nz_spec.specs.LinearLiteral as linear;
-ghost use Rattle.nz_spec.specs.LinearLiteral.{is_at_most_zero, is_below_zero, tight_form};
+ghost use Rattle.nz_spec.specs.Fraction.{fraction_lt, whole};
+ghost use Rattle.nz_spec.specs.LinearLiteral.{is_at_most_zero, is_below_zero};
 ghost use Rattle.nz_spec.specs.Literal.{negation_of};
 ghost use Rattle.nz_spec.specs.Table.{IsTable, Node};
-ghost use Rattle.nz_lin.specs.Bounds.{HasUnits, IsBounded, IsLiteral, bound_over, is_integral, literal_over, multiples_over};
-ghost use Rattle.nz_lin.specs.Comes.{Comes, IsOperated};
-ghost use Rattle.nz_lin.specs.Forms.{form_over, parts_over};
+ghost use Rattle.nz_spec.specs.Term.{is_zero};
+ghost use Rattle.nz_lin.specs.Bounds.{HasUnits, IsBounded, bound_over, literal_over, multiples_over};
+ghost use Rattle.nz_lin.specs.Comes.{Comes};
+ghost use Rattle.nz_lin.specs.Forms.{form_over};
 
 use crate::form::{Form, LinStop, Part, Side, Sign};
 use nz_base::Memory;
-use nz_frac::{Frac, Wide};
-use nz_term::Sort;
+use nz_frac::Frac;
 use std::alloc::Global;
 
 /// A linear literal: a sum of units is at most a number, or below it.
 #[derive(Debug, Drop)]
 pub struct Bound {
     // The units, and as what is added the number on the other side: both sides are negated, multiplied and added alike.
-    sides: Form,
-    strict: bool,
+    pub(crate) sides: Form,
+    pub(crate) strict: bool,
 }
 
 /// A linear literal, and a number above 0 by which it is multiplied.
@@ -72,8 +70,39 @@ impl Bound {
         }
     }
 
+    /// The units with their coefficients, by rising numbers.
+    pub fn parts(&self) -> &[Part]
+        ensures parts { result.now ≡ self.now.sides.parts }
+    {
+        self.sides.parts()
+    }
+
+    /// The number that the sum is at most, or below.
+    pub fn limit(&self) -> Frac
+        ensures limit { result ≡ self.now.sides.offset }
+    {
+        self.sides.offset()
+    }
+
+    /// Whether the sum is below the number, and not just at most it.
+    pub fn is_strict(&self) -> bool
+        ensures strict { result ≡ self.now.strict }
+    {
+        self.strict
+    }
+
+    /// The same bound once more.
+    pub(crate) fn copied(&self, alloc: Global) -> Result<Bound, Memory>
+        ensures same { IfOk result (λ b. b ≡ self.now) }
+    {
+        Ok(Bound {
+            sides: self.sides.copied(alloc)?,
+            strict: self.strict,
+        })
+    }
+
     /// The negation: a sum is above a number where the sum with the other signs is below the other number.
-    pub fn negated(&self, alloc: Global) -> Result<Bound, Memory>
+    pub fn not(&self, alloc: Global) -> Result<Bound, Memory>
         ensures literal { IfOk result (λ b. (ns : List Node) → literal_over ns b ≡ negation_of (literal_over ns self.now)) }
         ensures units { IfOk result (λ b. (ns : List Node) → HasUnits ns self.now → HasUnits ns b) }
     {
@@ -122,101 +151,16 @@ impl Bound {
     pub fn is_contradiction(&self) -> bool
         ensures contradiction { (ns : List Node) → result ≡ farkas.is_contradiction (bound_over ns self.now) }
     {
-        let limit = self.sides.offset();
-        self.sides.parts().is_empty()
-            && (limit < Frac::whole(0) || limit.is_zero() && self.strict)
+        self.sides.parts().is_empty() && self.excludes_zero()
     }
 
-    /// The greatest integer within the limit.
-    #[tactic(auto, unfolding(nz_spec::specs::Fraction::first_wide))]
-    pub fn rounded_limit(&self) -> Result<Frac, Wide>
-        ensures rounded { (ns : List Node) → IsOperated (cuts.rounded_limit (bound_over ns self.now)) result }
+    /// Whether 0 isn't within the limit.
+    fn excludes_zero(&self) -> bool
+        ensures excludes { result ≡ (fraction_lt self.now.sides.offset (whole (pos 0)) || is_zero self.now.sides.offset && self.now.strict) }
     {
         let limit = self.sides.offset();
-        if self.strict {
-            limit.ceil().sub(Frac::whole(1))
-        } else {
-            Ok(limit.floor())
-        }
+        limit < Frac::whole(0) || limit.is_zero() && self.strict
     }
-
-    /// A bound that says as much. Where its units are integers and their coefficients too, these get no common divisor above
-    /// 1, and the limit is the greatest integer within it; another bound stays as it is.
-    ///
-    /// # Errors
-    ///
-    /// `Wide` with the first operation that leaves the numbers; `Memory`.
-    pub fn tight(self, alloc: Global) -> Result<Bound, LinStop>
-        ensures tight { (ns : List Node) → HasUnits ns self → IsLiteral ns (tight_form (literal_over ns self)) result }
-    {
-        if self.sides.parts().is_empty() || !are_integral(self.sides.parts()) {
-            return Ok(self);
-        }
-        let multiplier = tight_multiplier(self.sides.parts());
-        let scaled = self.scaled(alloc, multiplier)?;
-        let limit = scaled.rounded_limit()?;
-        Ok(Bound {
-            sides: scaled.sides.with_offset(limit),
-            strict: false,
-        })
-    }
-}
-
-/// Whether each coefficient is an integer, and each unit of sort Int.
-fn are_integral(parts: &[Part]) -> bool
-    ensures integral { result ≡ list_all is_integral parts.now }
-{
-    parts.iter().all(|part| is_integral(part))
-}
-
-/// Whether the coefficient is an integer, and the unit of sort Int.
-fn is_integral(part: &Part) -> bool
-    ensures integral { result ≡ is_integral part.now }
-{
-    match part.sort {
-        Sort::Int => part.coefficient == part.coefficient.floor(),
-        Sort::Bool => false,
-        Sort::Real => false,
-    }
-}
-
-/// What makes the coefficients, which are integers, integers without a common divisor above 1.
-fn tight_multiplier(parts: &[Part]) -> Frac
-    ensures multiplier { (ns : List Node) → result ≡ linear.tight_multiplier (parts_over ns parts.now) }
-{
-    // Where all of them are 0, there is no such divisor.
-    match Frac::of(1, common_divisor(parts) as i128) {
-        Some(multiplier) => multiplier,
-        None => Frac::whole(1),
-    }
-}
-
-/// The greatest common divisor of the coefficients, rounded down.
-fn common_divisor(parts: &[Part]) -> u128
-    ensures divisor { (ns : List Node) → result ≡ linear.common_divisor (parts_over ns parts.now) }
-    ensures fits { result ≤ largest }
-{
-    let mut divisor = 0;
-    for part in parts.iter().rev() {
-        let size = part.coefficient.floor().num().unsigned_abs();
-        divisor = greatest_divisor(size, divisor);
-    }
-    divisor
-}
-
-/// The greatest common divisor of two numbers.
-fn greatest_divisor(first: u128, second: u128) -> u128
-    ensures divisor { result ≡ gcd first second }
-    ensures fits { first ≤ largest → second ≤ largest → result ≤ largest }
-{
-    let mut a = first;
-    let mut b = second;
-    while b != 0 {
-        let rest = a % b;
-        a = b;
-        b = rest;
-    }
-    a
 }
 
 /// The sum of multiples of linear literals, one after another.

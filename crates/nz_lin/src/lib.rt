@@ -7,6 +7,7 @@ mod bound;
 mod form;
 mod linear;
 mod subtract;
+mod tight;
 
 pub use bound::{Bound, Multiple, sum_of_multiples};
 pub use form::{Form, LinStop, Part};

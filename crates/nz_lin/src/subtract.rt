@@ -1,8 +1,8 @@
 //! The form of one term less that of another.
 ghost use Rattle.std.specs.Prelude.{◌<◌, IsTrue, length};
-ghost use Rattle.nz_spec.specs.FormOf.{number_in};
+ghost use Rattle.nz_spec.specs.FormOf.{form_of, number_in};
 ghost use Rattle.nz_spec.specs.Linear.{is_linear};
-ghost use Rattle.nz_spec.specs.Links.{difference_of};
+ghost use Rattle.nz_spec.specs.Links.{minus};
 ghost use Rattle.nz_spec.specs.Table.{term_in};
 ghost use Rattle.nz_lin.specs.Comes.{IsFormed};
 
@@ -27,7 +27,7 @@ pub fn lin_difference(
     requires right { right < length terms.now }
     requires left_linear { IsTrue (is_linear (term_in terms.now left)) }
     requires right_linear { IsTrue (is_linear (term_in terms.now right)) }
-    ensures formed { IsFormed terms.now (difference_of (number_in terms.now) (term_in terms.now left) (term_in terms.now right)) result }
+    ensures formed { IsFormed terms.now (minus (number_in terms.now) (form_of (number_in terms.now) (term_in terms.now left)) (form_of (number_in terms.now) (term_in terms.now right))) result }
 {
     known_table(terms);
     let mut form = lin(alloc, terms, left)?;

@@ -5,7 +5,7 @@ use Rattle.nz_spec.specs.Computation.{Computation, and_then}
 use Rattle.nz_spec.specs.Form as spec
 use Rattle.nz_spec.specs.FormOf.{form_of, number_in}
 use Rattle.nz_spec.specs.Fraction.{Difference}
-use Rattle.nz_spec.specs.Links.{difference_of}
+use Rattle.nz_spec.specs.Links.{minus}
 use Rattle.nz_spec.specs.Table.{term_in}
 use Rattle.nz_lin.specs.Comes.{IsDone, IsFormed}
 use Rattle.nz_lin.specs.Forms.{form_over}
@@ -20,7 +20,7 @@ returns-in_err-form c = record {
       let t = form_of n (term_in ns c.args.left) in
       let u = form_of n (term_in ns c.args.right) in
       let error = err_from_is_err_and c.from_residual.result c.from_residual.ensures.1 in
-      subst (λ r. IsFormed ns (difference_of n (term_in ns c.args.left) (term_in ns c.args.right)) r) (sym (error.1 ∙ ap Err error.2))
+      subst (λ r. IsFormed ns (minus n t u) r) (sym (error.1 ∙ ap Err error.2))
       (stop_first t (λ (f : spec.Form). and_then u (λ g. spec.joined n Difference f g)) c.in_err-form.field-0.0 c.in_err-form.ensures.stop);
 }
 
@@ -33,7 +33,7 @@ returns-in_err-other c = record {
       let u = form_of n (term_in ns c.args.right) in
       let f = form_over ns c.in_ok-form.form in
       let error = err_from_is_err_and c.from_residual-in_err-other.result c.from_residual-in_err-other.ensures.1 in
-      subst (λ r. IsFormed ns (difference_of n (term_in ns c.args.left) (term_in ns c.args.right)) r) (sym (error.1 ∙ ap Err error.2))
+      subst (λ r. IsFormed ns (minus n t u) r) (sym (error.1 ∙ ap Err error.2))
       (stop_second t (λ (x : spec.Form). and_then u (λ g. spec.joined n Difference x g)) f c.in_err-other.field-0.0
       (record { result = c.in_ok-form.ensures.form.form; fits = c.in_ok-form.ensures.form.fits })
       (stop_first u (λ (g : spec.Form). spec.joined n Difference f g) c.in_err-other.field-0.0 c.in_err-other.ensures.stop));
@@ -49,7 +49,7 @@ returns-in_err-join c = record {
       let f = form_over ns c.in_ok-form.form in
       let g = form_over ns c.in_ok-other.other in
       let error = err_from_is_err_and c.from_residual-in_err-join.result c.from_residual-in_err-join.ensures.1 in
-      subst (λ r. IsFormed ns (difference_of n (term_in ns c.args.left) (term_in ns c.args.right)) r) (sym (error.1 ∙ ap Err error.2))
+      subst (λ r. IsFormed ns (minus n t u) r) (sym (error.1 ∙ ap Err error.2))
       (stop_second t (λ (x : spec.Form). and_then u (λ y. spec.joined n Difference x y)) f c.in_err-join.field-0.0
       (record { result = c.in_ok-form.ensures.form.form; fits = c.in_ok-form.ensures.form.fits })
       (stop_second u (λ (y : spec.Form). spec.joined n Difference f y) g c.in_err-join.field-0.0
