@@ -127,8 +127,8 @@ fn a_bound_over_integers_is_rounded(rt: HostRuntime) -> Result<(), Fail> {
         (below(3, 6, -7), at_most(1, 2, -3)),
         (below(2, 3, 7), at_most(2, 3, 6)),
     ];
-    for (row, tight) in &rows {
-        assert!(rt; is_tight(rt.alloc(), Sort::Int, row, tight)?);
+    for (row, tight) in rows {
+        assert!(rt; is_tight(rt.alloc(), Sort::Int, &row, &tight)?);
     }
     Ok(())
 }
@@ -136,8 +136,8 @@ fn a_bound_over_integers_is_rounded(rt: HostRuntime) -> Result<(), Fail> {
 #[test]
 fn a_bound_over_reals_stays(rt: HostRuntime) -> Result<(), Fail> {
     let rows = [at_most(2, -4, -7), below(2, -4, 8)];
-    for row in &rows {
-        assert!(rt; is_tight(rt.alloc(), Sort::Real, row, row)?);
+    for row in rows {
+        assert!(rt; is_tight(rt.alloc(), Sort::Real, &row, &row)?);
     }
     Ok(())
 }
