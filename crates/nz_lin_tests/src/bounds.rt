@@ -185,8 +185,22 @@ fn is_sum(alloc: Global, left: &Row, right: &Row, sum: &Row) -> Result<bool, Lin
 #[test]
 fn a_sum_of_multiples_is_strict_where_one_of_them_is(rt: HostRuntime) -> Result<(), Fail> {
     let alloc = rt.alloc();
-    assert!(rt; is_sum(alloc, &at_most(2, -4, 7), &at_most(1, 1, -3), &at_most(5, -7, 11))?);
-    assert!(rt; is_sum(alloc, &at_most(2, -4, 7), &below(1, 1, -3), &below(5, -7, 11))?);
+    assert!(rt;
+        is_sum(
+            alloc,
+            &at_most(2, -4, 7),
+            &at_most(1, 1, -3),
+            &at_most(5, -7, 11)
+        )?
+    );
+    assert!(rt;
+        is_sum(
+            alloc,
+            &at_most(2, -4, 7),
+            &below(1, 1, -3),
+            &below(5, -7, 11)
+        )?
+    );
     Ok(())
 }
 

@@ -18,10 +18,10 @@ returns-then-is_over_integers-clause-tight c ns units =
     let x = bound_over ns c.args.self.now in
     let own : AreUnits ns c.parts.result.now = subst (AreUnits ns) (sym c.parts.ensures.parts) units in
     let over : are_over_integers x.parts ≡ true =
-        sym (subst (λ (ps : List Part). c.is_over_integers.result ≡ are_over_integers (parts_over ns ps)) c.parts.ensures.parts (c.is_over_integers.ensures.integers ns own))
-        ∙ c.if-is_over_integers.true in
+    sym (subst (λ (ps : List Part). c.is_over_integers.result ≡ are_over_integers (parts_over ns ps)) c.parts.ensures.parts (c.is_over_integers.ensures.integers ns own))
+    ∙ c.if-is_over_integers.true in
     let multiplier : c.tight_multiplier.result ≡ tight_multiplier x.parts =
-        subst (λ (ps : List Part). c.tight_multiplier.result ≡ tight_multiplier (parts_over ns ps)) c.parts.ensures.parts (c.tight_multiplier.ensures.multiplier ns) in
+    subst (λ (ps : List Part). c.tight_multiplier.result ≡ tight_multiplier (parts_over ns ps)) c.parts.ensures.parts (c.tight_multiplier.ensures.multiplier ns) in
     same_literal ns (rounded_bound (tight_multiplier x.parts) x) (tight_form (literal_over ns c.args.self.now)) c.rounded.result (tight_same x over)
     (subst (λ (m : Fraction). IsLiteral ns (rounded_bound m x) c.rounded.result) multiplier (c.rounded.ensures.rounded ns units))
 
@@ -30,8 +30,8 @@ returns-else-is_over_integers-clause-tight c ns units =
     let x = bound_over ns c.args.self.now in
     let own : AreUnits ns c.parts.result.now = subst (AreUnits ns) (sym c.parts.ensures.parts) units in
     let other : are_over_integers x.parts ≡ false =
-        sym (subst (λ (ps : List Part). c.is_over_integers.result ≡ are_over_integers (parts_over ns ps)) c.parts.ensures.parts (c.is_over_integers.ensures.integers ns own))
-        ∙ c.if-is_over_integers.false in
+    sym (subst (λ (ps : List Part). c.is_over_integers.result ≡ are_over_integers (parts_over ns ps)) c.parts.ensures.parts (c.is_over_integers.ensures.integers ns own))
+    ∙ c.if-is_over_integers.false in
     let kept : IsLiteral ns (tight_form (literal_over ns c.args.self.now)) (Ok c.args.self.now) =
-        (subst (λ (l : Computation Literal). IsDone l (literal_over ns c.args.self.now)) (sym (stays x other)) (at_once_done (literal_over ns c.args.self.now)), units) in
+    (subst (λ (l : Computation Literal). IsDone l (literal_over ns c.args.self.now)) (sym (stays x other)) (at_once_done (literal_over ns c.args.self.now)), units) in
     subst (λ (b : Bound). IsLiteral ns (tight_form (literal_over ns c.args.self.now)) (Ok b)) (sym c.in_ok-copied.ensures.same) kept
