@@ -75,7 +75,7 @@ fn difference(terms: &mut Terms, row: &Row, x: TermId, y: TermId) -> Result<Term
 }
 
 /// The row's bound over two constants of a sort; none where it isn't linear.
-fn bound(alloc: Global, sort: Sort, row: &Row) -> Result<Option<Bound>, LinStop> {
+fn bound_of(alloc: Global, sort: Sort, row: &Row) -> Result<Option<Bound>, LinStop> {
     let mut terms = Terms::new(alloc)?;
     let x = constant(&mut terms, alloc, b"x", sort)?;
     let y = constant(&mut terms, alloc, b"y", sort)?;
@@ -106,7 +106,7 @@ fn is_row(bound: &Bound, row: &Row) -> bool {
 
 /// Whether the tight bound of one row is that of the other.
 fn is_tight(alloc: Global, sort: Sort, row: &Row, tight: &Row) -> Result<bool, LinStop> {
-    match bound(alloc, sort, row)? {
+    match bound_of(alloc, sort, row)? {
         Some(bound) => Ok(is_row(&bound.tight(alloc)?, tight)),
         None => Ok(false),
     }
@@ -144,7 +144,7 @@ fn a_bound_over_reals_stays(rt: HostRuntime) -> Result<(), Fail> {
 
 /// Whether the negation of one row's bound is that of the other.
 fn is_not(alloc: Global, row: &Row, negation: &Row) -> Result<bool, LinStop> {
-    match bound(alloc, Sort::Int, row)? {
+    match bound_of(alloc, Sort::Int, row)? {
         Some(bound) => Ok(is_row(&bound.not(alloc)?, negation)),
         None => Ok(false),
     }
@@ -160,10 +160,10 @@ fn a_negation_is_strict_where_the_bound_is_not(rt: HostRuntime) -> Result<(), Fa
 
 /// Whether twice one row's bound and then the other row's is the bound of the third.
 fn is_sum(alloc: Global, left: &Row, right: &Row, sum: &Row) -> Result<bool, LinStop> {
-    let Some(left) = bound(alloc, Sort::Int, left)? else {
+    let Some(left) = bound_of(alloc, Sort::Int, left)? else {
         return Ok(false);
     };
-    let Some(right) = bound(alloc, Sort::Int, right)? else {
+    let Some(right) = bound_of(alloc, Sort::Int, right)? else {
         return Ok(false);
     };
     let mut twice = left.scaled(alloc, Frac::whole(2))?;
@@ -206,10 +206,10 @@ fn a_sum_of_multiples_is_strict_where_one_of_them_is(rt: HostRuntime) -> Result<
 
 /// Whether twice one row's bound and then the other row's is a false bound on 0.
 fn is_clash(alloc: Global, left: &Row, right: &Row) -> Result<bool, LinStop> {
-    let Some(left) = bound(alloc, Sort::Real, left)? else {
+    let Some(left) = bound_of(alloc, Sort::Real, left)? else {
         return Ok(false);
     };
-    let Some(mut right) = bound(alloc, Sort::Real, right)? else {
+    let Some(mut right) = bound_of(alloc, Sort::Real, right)? else {
         return Ok(false);
     };
     right.join_multiple(alloc, Frac::whole(2), &left)?;
