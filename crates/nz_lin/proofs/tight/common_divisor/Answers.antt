@@ -23,11 +23,11 @@ loop-part-preserved c =
     record {
       divisor = λ ns.
           let more = linear.common_divisor (parts_over ns rest) in
-          ap (λ (n : ℕ). gcd n more) (c.greatest_divisor.ensures.divisor ∙ ap (λ (n : ℕ). gcd c.loop-part.divisor n) c.size.ensures.size)
+          ap (λ (n : ℕ). gcd n more) (c.greatest_divisor-divisor.ensures.divisor ∙ ap (λ (n : ℕ). gcd c.loop-part.divisor n) c.size.ensures.size)
           ∙ gcd_assoc c.loop-part.divisor (unsigned_abs (floor p.coefficient)) more
           ∙ ap (λ (l : List Part). gcd c.loop-part.divisor (linear.common_divisor (parts_over ns l))) (sym left)
           ∙ c.loop-part.invariant.divisor ns;
-      fits = c.greatest_divisor.ensures.fits c.loop-part.invariant.fits c.size.ensures.fits;
+      fits = c.greatest_divisor-divisor.ensures.fits c.loop-part.invariant.fits c.size.ensures.fits;
     }
 
 pub returns : goal.returns
