@@ -17,6 +17,6 @@ pub returns-in-None : goal.returns-in-None
 returns-in-None c = record {
   multiplier = λ ns.
       let d = c.common_divisor.result in
-      multiplier_none d _ c.common_divisor.ensures.fits (cast_natural d c.common_divisor.ensures.fits) (λ h k. true≢false (sym (c.in-None.ensures.number.1 (h, k))))
+      c.whole.ensures ∙ multiplier_none d _ c.common_divisor.ensures.fits (cast_natural d c.common_divisor.ensures.fits) (λ h k. true≢false (sym (c.in-None.ensures.number.1 (h, k))))
       ∙ ap (over (pos 1)) (c.common_divisor.ensures.divisor ns);
 }

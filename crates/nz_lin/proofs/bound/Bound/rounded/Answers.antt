@@ -1,5 +1,5 @@
 -- A multiple, and then its limit.
-use Rattle.std.proofs.Common.{Ok, Err, sym, ap, subst, ◌∙◌}
+use Rattle.std.proofs.Common.{false, Ok, Err, sym, ap, subst, ◌∙◌}
 use Rattle.std.proofs.lemmas.Result.{err_from_is_err_and}
 use Rattle.nz_spec.specs.Cuts.{rounded_limit}
 use Rattle.nz_spec.specs.Farkas.{bound_scaled}
