@@ -1,5 +1,5 @@
 -- What is made of bounds, from what is made of their two sides.
-use Rattle.std.proofs.Common.{◌≡◌, ◌||◌, ◌*ℤ◌, Bool, true, false, List, [], ◌∷◌, length, eqb, pos, Less, Equal, Greater, cond, Result, Ok, Err, refl, arith, sym, ap, subst}
+use Rattle.std.proofs.Common.{◌≡◌, ◌||◌, ◌*ℤ◌, Bool, true, false, List, [], ◌∷◌, length, eqb, pos, Less, Equal, Greater, cond, Result, Ok, Err, OnOk, refl, arith, sym, ap, subst}
 use Rattle.std.specs.Prelude.{int_lt}
 use Rattle.std.specs.Ordering.{is_lt}
 use Rattle.std.proofs.lemmas.Bool.{ne_eqb}
@@ -58,6 +58,11 @@ module _ (number : Numbering) (x y : farkas.Bound) where
 pub comes_after : {A B X : Type 0} (c : Computation A) (f : A → Computation B) (x : A) → IsDone c x → (now : B) (r : Result X LinStop) → Comes (f x) now r → Comes (and_then c f) now r
 comes_after c f x done now (Ok y) h = done_both c f x now done h
 comes_after c f x done now (Err s) h = stop_second c f x s done h
+
+-- what is said of what is done, and what follows from it
+pub done_implies : {X E : Type 0} (r : Result X E) (P Q : Type 0) → (P → Q) → OnOk r P → OnOk r Q
+done_implies (Ok x) P Q f h = f h
+done_implies (Err e) P Q f h = h
 
 -- three of them, grouped either way
 pub regrouped : {A B C : Type 0} (c : Computation A) (f : A → Computation B) (g : B → Computation C) → IsSame (and_then (and_then c f) g) (and_then c (λ x. and_then (f x) g))

@@ -12,18 +12,27 @@ use Rattle.nz_spec.specs.Table.{Node}
 use Rattle.nz_lin.specs.declared.bound.Multiple.{Multiple}
 use Rattle.nz_lin.specs.Bounds.{HasUnits, IsBounded, bound_over, multiples_over}
 use Rattle.nz_lin.proofs.Bounding.{multiple_more, multiple_stop}
-use Rattle.nz_lin.proofs.Computing.{IsSame, at_once_done, same_done}
+use Rattle.nz_lin.proofs.Computing.{IsSame, at_once_done, same_done, same_itself}
 use Rattle.nz_lin.proofs.bound.sum_of_multiples.Goals as goal
 
 abbrev Named : List Node → Multiple → Type 0
 Named ns m = HasUnits ns m.bound
+
+pub loop-multiple-init : goal.loop-multiple-init
+loop-multiple-init c = record {
+  joined = λ ns table named.
+      let n = number_in ns in
+      let ms = multiples_over ns c.args.multiples.now in
+      subst (λ (x : farkas.Bound). IsSame (farkas.multiples_onto n x ms) (farkas.sum_of_multiples n ms)) (sym (c.empty-sum.ensures.bound ns)) (same_itself (farkas.sum_of_multiples n ms));
+  units = λ ns named. c.empty-sum.ensures.units ns;
+}
 
 pub returns-in_err-join_multiple : goal.returns-in_err-join_multiple
 returns-in_err-join_multiple c = record {
   bounded = λ ns table named.
       let ms = c.args.multiples.now in
       let i = c.loop-multiple.multiple-index in
-      let m = c.multiple-item.result.now in
+      let m = c.multiple-item.result in
       let n = number_in ns in
       let rest = drop (i + 1) ms in
       let x = bound_over ns c.loop-multiple.sum in
@@ -41,7 +50,7 @@ pub loop-multiple-preserved : goal.loop-multiple-preserved
 loop-multiple-preserved c =
     let ms = c.args.multiples.now in
     let i = c.loop-multiple.multiple-index in
-    let m = c.multiple-item.result.now in
+    let m = c.multiple-item.result in
     let rest = drop (i + 1) ms in
     let inside : i < length ms = omega arith in
     let left : drop i ms ≡ m ∷ rest = drop_read ms i m inside c.multiple-item.is in
