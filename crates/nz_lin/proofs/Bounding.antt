@@ -1,5 +1,5 @@
 -- What is made of bounds, from what is made of their two sides.
-use Rattle.std.proofs.Common.{◌≡◌, ◌||◌, ◌*ℤ◌, Bool, true, false, List, [], ◌∷◌, length, eqb, pos, Less, Equal, Greater, cond, Result, Ok, Err, OnOk, refl, arith, sym, ap, subst}
+use Rattle.std.proofs.Common.{◌≡◌, ◌||◌, ◌*ℤ◌, Bool, true, false, List, [], ◌∷◌, length, eqb, pos, Less, Equal, Greater, cond, Result, Ok, Err, OnOk, refl, arith, ap, subst}
 use Rattle.std.specs.Prelude.{int_lt}
 use Rattle.std.specs.Ordering.{is_lt}
 use Rattle.std.proofs.lemmas.Bool.{ne_eqb}
@@ -17,7 +17,7 @@ use Rattle.nz_lin.specs.declared.bound.Multiple.{Multiple}
 use Rattle.nz_lin.specs.declared.form.LinStop.{LinStop}
 use Rattle.nz_lin.specs.declared.form.Part.{Part}
 use Rattle.nz_lin.specs.declared.form.Side.TheVariants.{Left}
-use Rattle.nz_lin.specs.Bounds.{bounded, bound_over, literal_over, multiple_over, multiples_over}
+use Rattle.nz_lin.specs.Bounds.{bounded, bound_over, literal_over, multiples_over}
 use Rattle.nz_lin.specs.Comes.{Comes, IsDone, times}
 use Rattle.nz_lin.specs.Forms.{parts_over}
 use Rattle.nz_lin.specs.Stops.{IsStopAt}

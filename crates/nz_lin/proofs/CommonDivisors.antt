@@ -1,5 +1,5 @@
 -- The common divisor of the coefficients, from the left, and the number that divides by it.
-use Rattle.std.proofs.Common.{◌≡◌, ℕ, zero, suc, ◌/◌, ◌<◌, ◌≤◌, Bool, ℤ, pos, unsigned_abs, refl, arith, sym, ap, ap₂, subst, ◌∙◌, le-ltb, div-one}
+use Rattle.std.proofs.Common.{◌≡◌, ℕ, zero, suc, ◌/◌, ◌≤◌, Bool, ℤ, pos, unsigned_abs, refl, arith, sym, ap, ap₂, subst, ◌∙◌, le-ltb, div-one}
 use Rattle.std.proofs.Math.Nat.{dvd_trans}
 use Rattle.std.proofs.lemmas.Nat.Gcd.{le_of_dvd}
 use Rattle.nz_ints.proofs.Divisors.{gcd-dvd_left, gcd-dvd_right, dvd-gcd, gcd-unique, gcd_comm, gcd-zero, gcd-one}

@@ -1,5 +1,5 @@
 -- Bounds over integers: which they are, and how they are rounded.
-use Rattle.std.proofs.Common.{◌≡◌, ℕ, Bool, true, false, not, eqb, ◌&&◌, List, [], ◌∷◌, length, Result, Ok, Err, refl, sym, ap₂, subst, if◌then◌else◌}
+use Rattle.std.proofs.Common.{◌≡◌, Bool, true, false, not, eqb, ◌&&◌, List, [], ◌∷◌, length, Result, Ok, Err, refl, sym, ap₂, subst, if◌then◌else◌}
 use Rattle.std.specs.List.{AllByRecursion, list_all}
 use Rattle.std.proofs.Math.Bool.{and-true, and-false}
 use Rattle.nz_spec.specs.Computation.{Computation, at_once, turned_into, operated}

@@ -1,13 +1,13 @@
 -- One form, the other, and then the difference.
 use Rattle.std.proofs.Common.{Err, sym, ap, subst, ◌∙◌}
 use Rattle.std.proofs.lemmas.Result.{err_from_is_err_and}
-use Rattle.nz_spec.specs.Computation.{Computation, and_then}
+use Rattle.nz_spec.specs.Computation.{and_then}
 use Rattle.nz_spec.specs.Form as spec
 use Rattle.nz_spec.specs.FormOf.{form_of, number_in}
 use Rattle.nz_spec.specs.Fraction.{Difference}
 use Rattle.nz_spec.specs.Links.{minus}
 use Rattle.nz_spec.specs.Table.{term_in}
-use Rattle.nz_lin.specs.Comes.{IsDone, IsFormed}
+use Rattle.nz_lin.specs.Comes.{IsFormed}
 use Rattle.nz_lin.specs.Forms.{form_over}
 use Rattle.nz_lin.proofs.Computing.{done_both, stop_first, stop_second}
 use Rattle.nz_lin.proofs.subtract.lin_difference.Goals as goal

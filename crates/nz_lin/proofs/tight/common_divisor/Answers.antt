@@ -1,5 +1,5 @@
 -- One coefficient more.
-use Rattle.std.proofs.Common.{◌≡◌, ℕ, ◌+◌, List, ◌∷◌, drop, sym, ap, ap₂, subst, ◌∙◌, arith, unsigned_abs}
+use Rattle.std.proofs.Common.{◌≡◌, ℕ, ◌+◌, List, ◌∷◌, drop, sym, ap, ◌∙◌, arith, unsigned_abs}
 use Rattle.std.proofs.lemmas.List.{drop_all}
 use Rattle.nz_ints.proofs.Divisors.{gcd-zero}
 use Rattle.nz_lists.proofs.Places.{drop_read}
