@@ -1,5 +1,5 @@
 -- What is made of bounds, from what is made of their two sides.
-use Rattle.std.proofs.Common.{◌≡◌, ◌||◌, ◌*ℤ◌, Bool, true, false, List, [], ◌∷◌, length, eqb, pos, Less, Equal, Greater, cond, Result, Ok, Err, OnOk, refl, arith, ap, subst}
+use Rattle.std.proofs.Common.{◌≡◌, ◌&&◌, ◌||◌, ◌*ℤ◌, Bool, true, false, List, [], ◌∷◌, length, eqb, pos, Less, Equal, Greater, cond, Result, Ok, Err, OnOk, refl, arith, ap, ap₂, subst, ◌∙◌}
 use Rattle.std.specs.Prelude.{int_lt}
 use Rattle.std.specs.Ordering.{is_lt}
 use Rattle.std.proofs.lemmas.Bool.{ne_eqb}
@@ -9,9 +9,10 @@ use Rattle.nz_spec.specs.Farkas as farkas
 use Rattle.nz_spec.specs.Farkas.{bound_of, bound_scaled, bounds_joined, multiples_onto}
 use Rattle.nz_spec.specs.Form as spec
 use Rattle.nz_spec.specs.Form.{Numbering, joined, scaled}
-use Rattle.nz_spec.specs.Fraction.{Fraction, Sum, denominator, first_wide, fraction_cmp, fraction_lt}
+use Rattle.nz_spec.specs.Fraction.{Fraction, Sum, denominator, first_wide, fraction_cmp, fraction_lt, whole}
 use Rattle.nz_spec.specs.LinearLiteral.{is_without_units}
 use Rattle.nz_spec.specs.Table.{Node}
+use Rattle.nz_spec.specs.Term.{is_zero}
 use Rattle.nz_lin.specs.declared.bound.Bound.{Bound}
 use Rattle.nz_lin.specs.declared.bound.Multiple.{Multiple}
 use Rattle.nz_lin.specs.declared.form.LinStop.{LinStop}
@@ -119,6 +120,13 @@ less_is p q =
     let a = p.numerator *ℤ pos (denominator q) in
     let b = q.numerator *ℤ pos (denominator p) in
     below (int_lt a b) (int_lt b a)
+
+-- two tests of a limit that was read, and what was made of them
+module _ (strict : Bool) {limit q zero : Fraction} (read : q ≡ limit) (is : zero ≡ whole (pos 0)) where
+  pub excluded : {less none answer : Bool} → less ≡ is_lt (fraction_cmp q zero) → none ≡ is_zero q → answer ≡ (less || none && strict)
+      → answer ≡ (fraction_lt limit (whole (pos 0)) || is_zero limit && strict)
+  excluded compared tested made =
+      made ∙ ap₂ (λ (t u : Bool). t || u && strict) (compared ∙ less_is q zero ∙ ap₂ fraction_lt read is) (tested ∙ ap is_zero read)
 
 pub without_units : (ns : List Node) (ps : List Part) → eqb (length ps) 0 ≡ is_without_units (parts_over ns ps)
 without_units ns [] = refl
