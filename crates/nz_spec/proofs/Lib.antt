@@ -15,6 +15,7 @@ pub mod BlandSteps
 pub mod BlandTells
 pub mod BlandValues
 pub mod ByteClasses
+pub mod Climbs
 pub mod CutSums
 pub mod Decimals
 pub mod Derivations
