@@ -34,8 +34,8 @@ vertices_bound_goal r f vertex a true_ones units =
     AllByRecursion-weaker (λ (l : literals.Literal). IsTrue (is_literal_true a l)) (λ (l : literals.Literal). IsTrue (is_met (unit_value a) l)) (met a) (kept_literals r) true_ones
     in
     let found = vertex.best (unit_value a) (record { literals = kept; units = units }) in
-    (found.0, found.1.0,
-    subst (λ (x : Fraction). IsAsGood r.up (goal_at r (point_at vertex.lines found.0)) (x +ℚ r.goal.offset)) (sym (value_is_worth a r.goal.parts)) found.1.1)
+    (found.0, found.1,
+    subst (λ (x : Fraction). IsAsGood r.up (goal_at r (point_at vertex.lines found.0)) (x +ℚ r.goal.offset)) (sym (value_is_worth a r.goal.parts)) found.2)
 
 -- ---- Rays
 

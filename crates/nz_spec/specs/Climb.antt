@@ -63,8 +63,8 @@ is_met v (is_below ps b) = fraction_lt (worth v ps) b
 
 -- the linear literals in the clauses that the link and unit tables give of these terms
 abbrev pub linear_literals : Numbering → List Term → List Literal
-linear_literals number ts =
-    filter is_linear_literal (flat_map (λ (c : Computation Clause). c.result) (flat_map (λ (t : Term). link_clauses number t ++ unit_clauses number t) ts))
+linear_literals numbering ts =
+    filter is_linear_literal (flat_map (λ (c : Computation Clause). c.result) (flat_map (λ (t : Term). link_clauses numbering t ++ unit_clauses numbering t) ts))
 
 -- ---- What a climb is asked
 
