@@ -1,6 +1,5 @@
 -- Laws of climbs: what bounds the goal at a vertex, and what it passes along a ray.
-use Rattle.std.proofs.Common.{◌≡◌, ℕ, Bool, true, false, IsTrue, List, [], ◌∷◌, ℤ, pos, negsuc, ◌+ℤ◌, ◌≤ℤ◌, unsigned_abs, refl, arith, sym, subst}
-use Rattle.std.specs.List.{AllByRecursion}
+use Rattle.std.proofs.Common.{ℕ, Bool, true, false, IsTrue, List, [], ◌∷◌, ℤ, pos, negsuc, ◌+ℤ◌, ◌≤ℤ◌, unsigned_abs, refl, arith, sym, subst}
 use Rattle.std.proofs.lemmas.Int.{ints}
 use Rattle.nz_lists.proofs.Elements.{AllByRecursion-weaker}
 use Rattle.nz_ints.proofs.Products.{mul-le-mul_pos}
@@ -33,9 +32,11 @@ vertices_bound_goal r f vertex a true_ones units =
     let kept =
     AllByRecursion-weaker (λ (l : literals.Literal). IsTrue (is_literal_true a l)) (λ (l : literals.Literal). IsTrue (is_met (unit_value a) l)) (met a) (kept_literals r) true_ones
     in
-    let found = vertex.best (unit_value a) (record { literals = kept; units = units }) in
-    (found.0, found.1,
-    subst (λ (x : Fraction). IsAsGood r.up (goal_at r (point_at vertex.lines found.0)) (x +ℚ r.goal.offset)) (sym (value_is_worth a r.goal.parts)) found.2)
+    let found = vertex.best (unit_value a) (record { literals = kept; units = units }) in (
+      found.0,
+      found.1,
+      subst (λ (x : Fraction). IsAsGood r.up (goal_at r (point_at vertex.lines found.0)) (x +ℚ r.goal.offset)) (sym (value_is_worth a r.goal.parts)) found.2,
+    )
 
 -- ---- Rays
 
@@ -82,12 +83,13 @@ less_alike e f h = ≤ℚ-<ℚ_trans (≤ℚ-from_eq e) (<ℚ-≤ℚ_trans h (�
 line_passes : (up : Bool) (start slope q : Fraction) → IsBetter up slope (whole (pos 0)) → (n : ℕ) × IsBetter up (start +ℚ slope *ℚ whole (pos n)) q
 line_passes true start slope q above =
     let found = passed slope (q +ℚ neg_ℚ start) above in
-    let s = whole (pos found.0) in
-    (found.0,
-    less_alike
-    (solve (q ∷ start ∷ []) (Atom 0) ((Atom 0 ⊕ Minus (Atom 1)) ⊕ Atom 1) refl)
-    (solve (start ∷ slope ∷ s ∷ []) (Atom 1 ⊗ Atom 2 ⊕ Atom 0) (Atom 0 ⊕ Atom 1 ⊗ Atom 2) refl)
-    (less_with (q +ℚ neg_ℚ start) (slope *ℚ s) start found.1))
+    let s = whole (pos found.0) in (
+      found.0,
+      less_alike
+          (solve (q ∷ start ∷ []) (Atom 0) ((Atom 0 ⊕ Minus (Atom 1)) ⊕ Atom 1) refl)
+          (solve (start ∷ slope ∷ s ∷ []) (Atom 1 ⊗ Atom 2 ⊕ Atom 0) (Atom 0 ⊕ Atom 1 ⊗ Atom 2) refl)
+          (less_with (q +ℚ neg_ℚ start) (slope *ℚ s) start found.1),
+    )
 line_passes false start slope q below =
     let above : whole (pos 0) <ℚ neg_ℚ slope =
     less_alike
@@ -96,12 +98,13 @@ line_passes false start slope q below =
     (less_with slope (whole (pos 0)) (neg_ℚ slope) below)
     in
     let found = passed (neg_ℚ slope) (start +ℚ neg_ℚ q) above in
-    let s = whole (pos found.0) in
-    (found.0,
-    less_alike
-    (solve (start ∷ slope ∷ s ∷ q ∷ []) (Atom 0 ⊕ Atom 1 ⊗ Atom 2) ((Atom 0 ⊕ Minus (Atom 3)) ⊕ (Atom 3 ⊕ Atom 1 ⊗ Atom 2)) refl)
-    (solve (slope ∷ s ∷ q ∷ []) (Minus (Atom 0) ⊗ Atom 1 ⊕ (Atom 2 ⊕ Atom 0 ⊗ Atom 1)) (Atom 2) refl)
-    (less_with (start +ℚ neg_ℚ q) (neg_ℚ slope *ℚ s) (q +ℚ slope *ℚ s) found.1))
+    let s = whole (pos found.0) in (
+      found.0,
+      less_alike
+          (solve (start ∷ slope ∷ s ∷ q ∷ []) (Atom 0 ⊕ Atom 1 ⊗ Atom 2) ((Atom 0 ⊕ Minus (Atom 3)) ⊕ (Atom 3 ⊕ Atom 1 ⊗ Atom 2)) refl)
+          (solve (slope ∷ s ∷ q ∷ []) (Minus (Atom 0) ⊗ Atom 1 ⊕ (Atom 2 ⊕ Atom 0 ⊗ Atom 1)) (Atom 2) refl)
+          (less_with (start +ℚ neg_ℚ q) (neg_ℚ slope *ℚ s) (q +ℚ slope *ℚ s) found.1),
+    )
 
 better_alike : (up : Bool) {p x : Fraction} (q : Fraction) → p =ℚ x → IsBetter up p q → IsBetter up x q
 better_alike true q e h = <ℚ-≤ℚ_trans h (≤ℚ-from_eq e)
@@ -112,10 +115,11 @@ rays_pass_all r f ray q =
     let starts = worth (λ (u : Term). (ray.lines u).start) r.goal.parts in
     let slopes = worth (λ (u : Term). (ray.lines u).slope) r.goal.parts in
     let found = line_passes r.up (starts +ℚ r.goal.offset) slopes q ray.slope in
-    let s = whole (pos found.0) in
-    (s,
-    subst (λ (range : Range). IsInRange range s) (sym ray.range) (found.0, refl),
-    better_alike r.up q
-    (solve (starts ∷ r.goal.offset ∷ slopes ∷ s ∷ []) ((Atom 0 ⊕ Atom 1) ⊕ Atom 2 ⊗ Atom 3) ((Atom 0 ⊕ Atom 2 ⊗ Atom 3) ⊕ Atom 1) refl
-    ∙ℚ plus_left r.goal.offset (=ℚ_sym (sum_along ray.lines s r.goal.parts)))
-    found.1)
+    let s = whole (pos found.0) in (
+      s,
+      subst (λ (range : Range). IsInRange range s) (sym ray.range) (found.0, refl),
+      better_alike r.up q
+          (solve (starts ∷ r.goal.offset ∷ slopes ∷ s ∷ []) ((Atom 0 ⊕ Atom 1) ⊕ Atom 2 ⊗ Atom 3) ((Atom 0 ⊕ Atom 2 ⊗ Atom 3) ⊕ Atom 1) refl
+          ∙ℚ plus_left r.goal.offset (=ℚ_sym (sum_along ray.lines s r.goal.parts)))
+          found.1,
+    )
