@@ -8,7 +8,9 @@ pub mod BasisSums
 pub mod BasisValues
 pub mod BlandBounds
 pub mod BlandCounts
+pub mod BlandMoves
 pub mod BlandPositions
+pub mod BlandReentry
 pub mod BlandRefutes
 pub mod BlandReturns
 pub mod BlandSteps
