@@ -1,9 +1,12 @@
 pub mod Adding
+pub mod Bounding
+pub mod CommonDivisors
 pub mod Computing
 pub mod Joining
 pub mod Making
 pub mod Operators
 pub mod Scaling
 pub mod Sizes
+pub mod Tightening
 pub mod Units
 pub mod Walking

@@ -15,7 +15,7 @@ use Rattle.nz_spec.specs.Fraction.{Fraction, whole, first_wide, Sum}
 use Rattle.nz_spec.specs.Linear.{head_constant, constant_value, constant_values, is_linear, is_linear_node, are_linear, divides_by_constants}
 use Rattle.nz_spec.specs.Table.{Node, IsTable, TermOfNode, term_in, terms_at}
 use Rattle.nz_spec.specs.Term as term
-use Rattle.nz_spec.specs.Term.{Head, Term, apply, Terms, Sort, sort_of, head_sort}
+use Rattle.nz_spec.specs.Term.{Head, apply, Terms, sort_of, head_sort}
 use Rattle.nz_lin.specs.declared.form.LinStop.{LinStop}
 use Rattle.nz_lin.specs.declared.linear.Opening.{Opening}
 use Rattle.nz_lin.specs.declared.linear.Opening.TheVariants.{Quotient as Divides}

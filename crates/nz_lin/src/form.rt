@@ -156,6 +156,16 @@ impl Form {
         self.offset
     }
 
+    /// The same units, and another number that is added.
+    pub(crate) fn with_offset(self, offset: Frac) -> Form
+        ensures other { result ≡ record { parts = self.parts; offset = offset } }
+    {
+        Form {
+            parts: self.parts,
+            offset,
+        }
+    }
+
     /// The same form once more.
     pub(crate) fn copied(&self, alloc: Global) -> Result<Form, Memory>
         ensures same { IfOk result (λ f. f ≡ self.now) }

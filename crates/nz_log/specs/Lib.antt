@@ -3,6 +3,7 @@ pub mod Lits
 pub mod Logs
 pub mod Marked
 pub mod Notes
+pub mod Peaks
 pub mod Sound
 pub mod Spelling
 pub mod Stored

@@ -2,6 +2,7 @@
 //! resolution, from the assertions that are live at its level, and the log tells how.
 #![tactic(auto)]
 
+mod climb;
 mod decide;
 mod gates;
 pub mod laws;
@@ -16,6 +17,7 @@ mod steps;
 mod stop;
 mod theory;
 
+pub use climb::{Climb, Peak, Route};
 pub use decide::{Decide, Verdict};
 pub use gates::gate_count;
 pub use lits::Lit;

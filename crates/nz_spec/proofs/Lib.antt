@@ -8,13 +8,16 @@ pub mod BasisSums
 pub mod BasisValues
 pub mod BlandBounds
 pub mod BlandCounts
+pub mod BlandMoves
 pub mod BlandPositions
+pub mod BlandReentry
 pub mod BlandRefutes
 pub mod BlandReturns
 pub mod BlandSteps
 pub mod BlandTells
 pub mod BlandValues
 pub mod ByteClasses
+pub mod Climbs
 pub mod CutSums
 pub mod Decimals
 pub mod Derivations

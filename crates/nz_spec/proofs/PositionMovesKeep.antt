@@ -14,7 +14,7 @@ use Rattle.nz_spec.proofs.BasisJoins.{length-more, joins_keep_basis}
 use Rattle.nz_spec.proofs.InfinitesimalOrder.{=δ_refl}
 use Rattle.nz_spec.proofs.BlandSteps.{check_steps_keep_basis}
 use Rattle.nz_spec.proofs.BlandRefutes.{sides, outside-at}
-use Rattle.nz_spec.proofs.BlandReturns.{step-fits}
+use Rattle.nz_spec.proofs.BlandMoves.{step-fits}
 
 more : (s : Position) (f : List Part) (k : ℕ) → k < length s.forms → k < length (s.forms ++ f ∷ [])
 more s f k h = subst (λ (n : ℕ). k < n) (sym (length-more s.forms f)) (omega (arith, h))

@@ -4,6 +4,7 @@ pub mod BasisMoves
 pub mod Bland
 pub mod BlandRuns
 pub mod Bounds
+pub mod Climb
 pub mod Command
 pub mod Computation
 pub mod Cuts

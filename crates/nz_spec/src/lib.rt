@@ -5,6 +5,7 @@
 
 pub mod arithmetic;
 pub mod basis;
+pub mod climb;
 pub mod derivation;
 pub mod elaboration;
 pub mod example;
