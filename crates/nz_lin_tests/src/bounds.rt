@@ -1,6 +1,4 @@
 //! Bounds: tight ones by a table, and each call that takes memory once.
-ghost use Rattle.std.specs.Prelude.{◌<◌, ◌≤◌, IfOk, length};
-
 use crate::terms::{constant, form, numeral, over};
 use nz_base::Memory;
 use nz_frac::Frac;
@@ -39,10 +37,7 @@ fn below(first: i64, second: i64, limit: i64) -> Row {
 }
 
 /// An integer.
-fn integer(terms: &mut Terms, n: i64) -> Result<TermId, Memory>
-    ensures within { IfOk result (λ id. id < length terms.new) }
-    ensures more { length terms.old ≤ length terms.new }
-{
+fn integer(terms: &mut Terms, n: i64) -> Result<TermId, Memory> {
     let size = numeral(terms, n.unsigned_abs() as u128)?;
     if n < 0 {
         over(terms, Operator::Difference(NumberSort::Int), &[size])
@@ -52,21 +47,13 @@ fn integer(terms: &mut Terms, n: i64) -> Result<TermId, Memory>
 }
 
 /// An integer times a term.
-fn times(terms: &mut Terms, n: i64, id: TermId) -> Result<TermId, Memory>
-    requires within { id < length terms.old }
-    ensures within { IfOk result (λ id. id < length terms.new) }
-    ensures more { length terms.old ≤ length terms.new }
-{
+fn times(terms: &mut Terms, n: i64, id: TermId) -> Result<TermId, Memory> {
     let n = integer(terms, n)?;
     over(terms, Operator::Product(NumberSort::Int), &[n, id])
 }
 
 /// What is at most 0, or below it, where the row's bound holds.
-fn difference(terms: &mut Terms, row: &Row, x: TermId, y: TermId) -> Result<TermId, Memory>
-    requires first { x < length terms.old }
-    requires second { y < length terms.old }
-    ensures within { IfOk result (λ id. id < length terms.new) }
-{
+fn difference(terms: &mut Terms, row: &Row, x: TermId, y: TermId) -> Result<TermId, Memory> {
     let first = times(terms, row.first, x)?;
     let second = times(terms, row.second, y)?;
     let sum = over(terms, Operator::Sum(NumberSort::Int), &[first, second])?;
@@ -232,11 +219,12 @@ fn difference_of(
     terms: &Terms,
     left: TermId,
     right: TermId,
-) -> Result<Option<Form>, LinStop>
-    requires left { left < length terms.now }
-    requires right { right < length terms.now }
-{
-    if terms.is_linear(left) && terms.is_linear(right) {
+) -> Result<Option<Form>, LinStop> {
+    let are_linear = left < terms.len()
+        && right < terms.len()
+        && terms.is_linear(left)
+        && terms.is_linear(right);
+    if are_linear {
         Ok(Some(lin_difference(alloc, terms, left, right)?))
     } else {
         Ok(None)

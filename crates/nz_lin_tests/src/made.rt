@@ -1,6 +1,4 @@
 //! What forms are made of.
-ghost use Rattle.std.specs.Prelude.{◌<◌, ◌≤◌, IfOk, length};
-
 use crate::terms::{constant, form, numeral, over};
 use nz_base::Memory;
 use nz_lin::Form;
@@ -24,12 +22,7 @@ fn adds(form: &Form, num: i128, den: i128) -> bool {
 }
 
 /// `(+ (* y 2) (/ x 2) 3 x)`.
-fn sum(terms: &mut Terms, x: TermId, y: TermId) -> Result<TermId, Memory>
-    requires first { x < length terms.old }
-    requires second { y < length terms.old }
-    ensures within { IfOk result (λ id. id < length terms.new) }
-    ensures more { length terms.old ≤ length terms.new }
-{
+fn sum(terms: &mut Terms, x: TermId, y: TermId) -> Result<TermId, Memory> {
     let two = numeral(terms, 2)?;
     let three = numeral(terms, 3)?;
     let twice = over(terms, Operator::Product(NumberSort::Real), &[y, two])?;
@@ -61,11 +54,7 @@ fn a_sum_has_each_unit_once(rt: HostRuntime) -> Result<(), Fail> {
 }
 
 /// `(- s y y)`.
-fn difference(terms: &mut Terms, s: TermId, y: TermId) -> Result<TermId, Memory>
-    requires first { s < length terms.old }
-    requires second { y < length terms.old }
-    ensures within { IfOk result (λ id. id < length terms.new) }
-{
+fn difference(terms: &mut Terms, s: TermId, y: TermId) -> Result<TermId, Memory> {
     over(terms, Operator::Difference(NumberSort::Real), &[s, y, y])
 }
 
@@ -89,10 +78,7 @@ fn a_unit_goes_with_the_coefficient_0(rt: HostRuntime) -> Result<(), Fail> {
 }
 
 /// `(- (/ (* 2 u 3) (- 4)))` over a unit.
-fn nested(terms: &mut Terms, unit: TermId) -> Result<TermId, Memory>
-    requires within { unit < length terms.old }
-    ensures within { IfOk result (λ id. id < length terms.new) }
-{
+fn nested(terms: &mut Terms, unit: TermId) -> Result<TermId, Memory> {
     let two = numeral(terms, 2)?;
     let three = numeral(terms, 3)?;
     let four = numeral(terms, 4)?;
@@ -107,10 +93,7 @@ fn nested(terms: &mut Terms, unit: TermId) -> Result<TermId, Memory>
 }
 
 /// `(to_real (ite b i j))`, whose unit is the choice; answers both.
-fn choice(terms: &mut Terms, alloc: Global) -> Result<(TermId, TermId), Memory>
-    ensures unit { IfOk result (λ p. p.0 < length terms.new) }
-    ensures within { IfOk result (λ p. p.1 < length terms.new) }
-{
+fn choice(terms: &mut Terms, alloc: Global) -> Result<(TermId, TermId), Memory> {
     let b = constant(terms, alloc, b"b", Sort::Bool)?;
     let i = constant(terms, alloc, b"i", Sort::Int)?;
     let j = constant(terms, alloc, b"j", Sort::Int)?;
@@ -154,10 +137,7 @@ fn a_constant_term_is_a_number(rt: HostRuntime) -> Result<(), Fail> {
 }
 
 /// A chain of sums, each of the one before with itself.
-fn chain(terms: &mut Terms, first: TermId, depth: usize) -> Result<TermId, Memory>
-    requires within { first < length terms.old }
-    ensures within { IfOk result (λ id. id < length terms.new) }
-{
+fn chain(terms: &mut Terms, first: TermId, depth: usize) -> Result<TermId, Memory> {
     let mut sum = first;
     for _ in 0..depth {
         sum = over(terms, Operator::Sum(NumberSort::Real), &[sum, sum])?;

@@ -1,6 +1,4 @@
 //! The first operation that leaves the numbers.
-ghost use Rattle.std.specs.Prelude.{◌<◌, ◌≤◌, IfOk, length};
-
 use crate::terms::{MOST, constant, form, numeral, over};
 use nz_base::Memory;
 use nz_frac::{Op, Wide};
@@ -10,9 +8,7 @@ use std::alloc::Global;
 use std::test::Fail;
 
 /// Whether the form of the term stops at this operation.
-fn stops_at(alloc: Global, terms: &Terms, id: TermId, op: Op, left: i128, right: i128) -> bool
-    requires within { id < length terms.now }
-{
+fn stops_at(alloc: Global, terms: &Terms, id: TermId, op: Op, left: i128, right: i128) -> bool {
     match &form(alloc, terms, id) {
         Some(made) => match made {
             Err(stop) => is_stop_at(stop, op, left, right),
@@ -36,21 +32,13 @@ fn is_at(wide: &Wide, op: Op, left: i128, right: i128) -> bool {
 }
 
 /// `(* M u)`.
-fn most_times(terms: &mut Terms, unit: TermId) -> Result<TermId, Memory>
-    requires within { unit < length terms.old }
-    ensures within { IfOk result (λ id. id < length terms.new) }
-    ensures more { length terms.old ≤ length terms.new }
-{
+fn most_times(terms: &mut Terms, unit: TermId) -> Result<TermId, Memory> {
     let most = numeral(terms, MOST)?;
     over(terms, Operator::Product(NumberSort::Real), &[most, unit])
 }
 
 /// `(+ t (* 2 u))`, where the first is `(* M u)`.
-fn wide_sum(terms: &mut Terms, unit: TermId) -> Result<TermId, Memory>
-    requires within { unit < length terms.old }
-    ensures within { IfOk result (λ id. id < length terms.new) }
-    ensures more { length terms.old ≤ length terms.new }
-{
+fn wide_sum(terms: &mut Terms, unit: TermId) -> Result<TermId, Memory> {
     let times = most_times(terms, unit)?;
     let two = numeral(terms, 2)?;
     let twice = over(terms, Operator::Product(NumberSort::Real), &[two, unit])?;
@@ -68,10 +56,7 @@ fn a_wide_sum_is_told_with_its_operands(rt: HostRuntime) -> Result<(), Fail> {
 }
 
 /// `(- s s)` and then `(* M M)`, where the first stops at a sum.
-fn stops_twice(terms: &mut Terms, sum: TermId) -> Result<TermId, Memory>
-    requires within { sum < length terms.old }
-    ensures within { IfOk result (λ id. id < length terms.new) }
-{
+fn stops_twice(terms: &mut Terms, sum: TermId) -> Result<TermId, Memory> {
     let most = numeral(terms, MOST)?;
     let square = over(terms, Operator::Product(NumberSort::Real), &[most, most])?;
     over(
