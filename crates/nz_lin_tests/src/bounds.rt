@@ -1,9 +1,10 @@
 //! Bounds: tight ones by a table, and each call that takes memory once.
-use crate::terms::{constant, form, numeral, over};
+use crate::terms::form;
 use nz_base::Memory;
 use nz_frac::Frac;
 use nz_lin::{Bound, Form, LinStop, Multiple, lin_difference, sum_of_multiples};
 use nz_term::{NumberSort, Operator, Sort, TermId, Terms};
+use nz_term_samples::{constant, integer, operation};
 use std::alloc::Global;
 use std::test::Fail;
 
@@ -36,36 +37,26 @@ fn below(first: i64, second: i64, limit: i64) -> Row {
     }
 }
 
-/// An integer.
-fn integer(terms: &mut Terms, n: i64) -> Result<TermId, Memory> {
-    let size = numeral(terms, n.unsigned_abs() as u128)?;
-    if n < 0 {
-        over(terms, Operator::Difference(NumberSort::Int), &[size])
-    } else {
-        Ok(size)
-    }
-}
-
 /// An integer times a term.
 fn times(terms: &mut Terms, n: i64, id: TermId) -> Result<TermId, Memory> {
     let n = integer(terms, n)?;
-    over(terms, Operator::Product(NumberSort::Int), &[n, id])
+    operation(terms, Operator::Product(NumberSort::Int), &[n, id])
 }
 
 /// What is at most 0, or below it, where the row's bound holds.
 fn difference(terms: &mut Terms, row: &Row, x: TermId, y: TermId) -> Result<TermId, Memory> {
     let first = times(terms, row.first, x)?;
     let second = times(terms, row.second, y)?;
-    let sum = over(terms, Operator::Sum(NumberSort::Int), &[first, second])?;
+    let sum = operation(terms, Operator::Sum(NumberSort::Int), &[first, second])?;
     let limit = integer(terms, row.limit)?;
-    over(terms, Operator::Difference(NumberSort::Int), &[sum, limit])
+    operation(terms, Operator::Difference(NumberSort::Int), &[sum, limit])
 }
 
 /// The row's bound over two constants of a sort; none where it isn't linear.
 fn bound_of(alloc: Global, sort: Sort, row: &Row) -> Result<Option<Bound>, LinStop> {
     let mut terms = Terms::new(alloc)?;
-    let x = constant(&mut terms, alloc, b"x", sort)?;
-    let y = constant(&mut terms, alloc, b"y", sort)?;
+    let x = constant(alloc, &mut terms, b"x", sort)?;
+    let y = constant(alloc, &mut terms, b"y", sort)?;
     let difference = difference(&mut terms, row, x, y)?;
     let Some(form) = form(alloc, &terms, difference) else {
         return Ok(None);
@@ -235,7 +226,7 @@ fn difference_of(
 fn a_term_less_another_has_their_units(rt: HostRuntime) -> Result<(), Fail> {
     let alloc = rt.alloc();
     let mut terms = Terms::new(alloc)?;
-    let x = constant(&mut terms, alloc, b"x", Sort::Int)?;
+    let x = constant(alloc, &mut terms, b"x", Sort::Int)?;
     let twice = times(&mut terms, 2, x)?;
     let Some(form) = difference_of(alloc, &terms, x, twice)? else {
         assert!(rt; false);

@@ -2,13 +2,13 @@
 ghost use Rattle.std.specs.Prelude.{◌<◌, length, IfOk};
 ghost use Rattle.nz_spec.specs.Order.{HasCompanions};
 
-use crate::making::{constant, leaf, operation};
 use nz_base::{Memory, Text};
 use nz_frac::Frac;
 use nz_term::{
     Assign, Constant, Head, NumberSort, Operator, Sort, TermId, Terms, Value, add_companions,
     instance, listing_order, post_order,
 };
+use nz_term_samples::{constant, leaf, operation};
 use std::alloc::Global;
 use std::test::Fail;
 

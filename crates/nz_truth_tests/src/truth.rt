@@ -1,13 +1,9 @@
 //! Values of terms: of each kind of operator, of roots that share terms, where pairs are missing or too many, of constants of
 //! one name, and at the edges of the numbers.
-ghost use Rattle.std.specs.Prelude.{◌≡◌, ◌<◌, ◌≤◌, None, length, IfOk, IsTrue, OnOk};
-ghost use Rattle.std.specs.List.{AllByRecursion};
-ghost use Rattle.nz_spec.specs.Term.{constant_of, head_fits};
-ghost use Rattle.nz_term.specs.Heads.{head_of};
-
-use nz_base::{Memory, Text};
+use nz_base::Memory;
 use nz_frac::{Op, Wide};
-use nz_term::{Assign, Constant, Head, NumberSort, Operator, Sort, TermId, Terms, Value};
+use nz_term::{Assign, NumberSort, Operator, Sort, TermId, Terms, Value};
+use nz_term_samples::{are_below, constant, integer, numeral, operation};
 use nz_truth::{EvalStop, Outcome, Values, eval, outcomes};
 use std::alloc::Global;
 use std::test::Fail;
@@ -15,143 +11,82 @@ use std::test::Fail;
 // M, the greatest number.
 const GREATEST: u128 = 170141183460469231731687303715884105727;
 
-// The number of the constant p of this sort.
-fn constant(alloc: Global, terms: &mut Terms, sort: Sort) -> Result<TermId, Memory>
-    ensures within { IfOk result (λ id. id < length terms.new) }
-{
-    let p = Constant {
-        name: Text::from_slice(alloc, b"p")?,
-        sort,
-    };
-    let id = terms.make(Head::Constant(&p), &[])?;
-    Ok(id)
-}
-
 // A table of the constant p alone, of sort `Bool`, and its number.
-fn one_constant(alloc: Global) -> Result<(Terms, TermId), Memory>
-    ensures within { IfOk result (λ t. t.1 < length t.0) }
-{
+fn one_constant(alloc: Global) -> Result<(Terms, TermId), Memory> {
     let mut terms = Terms::new(alloc)?;
-    let p = constant(alloc, &mut terms, Sort::Bool)?;
+    let p = constant(alloc, &mut terms, b"p", Sort::Bool)?;
     Ok((terms, p))
-}
-
-// One term more, which is no constant.
-fn operation(terms: &mut Terms, head: Head<'_>, kids: &[TermId]) -> Result<TermId, Memory>
-    requires known { AllByRecursion (λ k. k < length terms.old) kids.now }
-    requires operator { constant_of (head_of head) ≡ None }
-    requires fits { IsTrue (head_fits (head_of head)) }
-    ensures longer { OnOk result (length terms.old ≤ length terms.new) }
-    ensures within { IfOk result (λ id. id < length terms.new) }
-{
-    let id = terms.make(head, kids)?;
-    Ok(id)
 }
 
 // The table of p, `(not p)`, `(or p (not p))`, `(and p (not p))`, `(ite p (not p) p)` and `(= p (not p))`, in this order.
 fn operations(alloc: Global) -> Result<Terms, Memory> {
     let (mut terms, p) = one_constant(alloc)?;
-    let not_p = operation(&mut terms, Head::Operator(Operator::Not), &[p])?;
-    operation(&mut terms, Head::Operator(Operator::Or), &[p, not_p])?;
-    operation(&mut terms, Head::Operator(Operator::And), &[p, not_p])?;
-    operation(
-        &mut terms,
-        Head::Operator(Operator::Ite(Sort::Bool)),
-        &[p, not_p, p],
-    )?;
-    operation(&mut terms, Head::Operator(Operator::Equal), &[p, not_p])?;
+    let not_p = operation(&mut terms, Operator::Not, &[p])?;
+    operation(&mut terms, Operator::Or, &[p, not_p])?;
+    operation(&mut terms, Operator::And, &[p, not_p])?;
+    operation(&mut terms, Operator::Ite(Sort::Bool), &[p, not_p, p])?;
+    operation(&mut terms, Operator::Equal, &[p, not_p])?;
     Ok(terms)
 }
 
 // The negation of the negation .. of p, and its number.
-fn negations(alloc: Global, count: usize) -> Result<(Terms, TermId), Memory>
-    ensures within { IfOk result (λ t. t.1 < length t.0) }
-{
+fn negations(alloc: Global, count: usize) -> Result<(Terms, TermId), Memory> {
     let (mut terms, mut last) = one_constant(alloc)?;
     for _ in 0..count {
-        last = operation(&mut terms, Head::Operator(Operator::Not), &[last])?;
+        last = operation(&mut terms, Operator::Not, &[last])?;
     }
     Ok((terms, last))
 }
 
 // The sum of a sum .. of 1 with itself, and its number.
-fn doublings(alloc: Global, count: usize) -> Result<(Terms, TermId), Memory>
-    ensures within { IfOk result (λ t. t.1 < length t.0) }
-{
+fn doublings(alloc: Global, count: usize) -> Result<(Terms, TermId), Memory> {
     let mut terms = Terms::new(alloc)?;
-    let mut last = operation(&mut terms, Head::Integer(1), &[])?;
+    let mut last = numeral(&mut terms, 1)?;
     for _ in 0..count {
-        last = operation(
-            &mut terms,
-            Head::Operator(Operator::Sum(NumberSort::Int)),
-            &[last, last],
-        )?;
+        last = operation(&mut terms, Operator::Sum(NumberSort::Int), &[last, last])?;
     }
     Ok((terms, last))
-}
-
-// The term of an integer.
-fn integer(terms: &mut Terms, n: i64) -> Result<TermId, Memory>
-    ensures longer { OnOk result (length terms.old ≤ length terms.new) }
-    ensures within { IfOk result (λ id. id < length terms.new) }
-{
-    let size = operation(terms, Head::Integer(n.unsigned_abs() as u128), &[])?;
-    if n < 0 {
-        operation(
-            terms,
-            Head::Operator(Operator::Difference(NumberSort::Int)),
-            &[size],
-        )
-    } else {
-        Ok(size)
-    }
 }
 
 // Whether an operator over two integers comes to the integer that is expected.
 fn is_of_integers(
     alloc: Global,
-    head: Head<'_>,
+    operator: Operator,
     m: i64,
     n: i64,
     expected: i128,
-) -> Result<bool, Memory>
-    requires operator { constant_of (head_of head) ≡ None }
-    requires fits { IsTrue (head_fits (head_of head)) }
-{
+) -> Result<bool, Memory> {
     let mut terms = Terms::new(alloc)?;
     let left = integer(&mut terms, m)?;
     let right = integer(&mut terms, n)?;
-    let id = operation(&mut terms, head, &[left, right])?;
+    let id = operation(&mut terms, operator, &[left, right])?;
     comes_to(alloc, &terms, id, expected)
 }
 
 // The term of an operator over the quotient of two integers.
-fn of_quotient(alloc: Global, head: Head<'_>, m: i64, n: i64) -> Result<(Terms, TermId), Memory>
-    requires operator { constant_of (head_of head) ≡ None }
-    requires fits { IsTrue (head_fits (head_of head)) }
-    ensures within { IfOk result (λ t. t.1 < length t.0) }
-{
+fn of_quotient(
+    alloc: Global,
+    operator: Operator,
+    m: i64,
+    n: i64,
+) -> Result<(Terms, TermId), Memory> {
     let mut terms = Terms::new(alloc)?;
     let left = integer(&mut terms, m)?;
     let right = integer(&mut terms, n)?;
-    let quotient = operation(
-        &mut terms,
-        Head::Operator(Operator::Quotient),
-        &[left, right],
-    )?;
-    let id = operation(&mut terms, head, &[quotient])?;
+    let quotient = operation(&mut terms, Operator::Quotient, &[left, right])?;
+    let id = operation(&mut terms, operator, &[quotient])?;
     Ok((terms, id))
 }
 
 // Whether `to_int` of the quotient of two integers comes to the integer that is expected.
 fn rounds_to(alloc: Global, m: i64, n: i64, expected: i128) -> Result<bool, Memory> {
-    let (terms, id) = of_quotient(alloc, Head::Operator(Operator::ToInt), m, n)?;
+    let (terms, id) = of_quotient(alloc, Operator::ToInt, m, n)?;
     comes_to(alloc, &terms, id, expected)
 }
 
 // Whether `is_int` of the quotient of two integers comes to the truth that is expected.
 fn is_whole(alloc: Global, m: i64, n: i64, expected: bool) -> Result<bool, Memory> {
-    let (terms, id) = of_quotient(alloc, Head::Operator(Operator::IsInt), m, n)?;
+    let (terms, id) = of_quotient(alloc, Operator::IsInt, m, n)?;
     let values = evaluated(alloc, &terms, &[id], &[])?;
     Ok(are(&values, &[expected]))
 }
@@ -159,24 +94,16 @@ fn is_whole(alloc: Global, m: i64, n: i64, expected: bool) -> Result<bool, Memor
 // The table of M, 1, `(+ M 1)`, `(* M M)`, `(= 1 1)`, and `(ite (= 1 1) 1 (+ M 1))`, in this order.
 fn wide_operations(alloc: Global) -> Result<Terms, Memory> {
     let mut terms = Terms::new(alloc)?;
-    let most = operation(&mut terms, Head::Integer(GREATEST), &[])?;
-    let one = operation(&mut terms, Head::Integer(1), &[])?;
-    let sum = operation(
-        &mut terms,
-        Head::Operator(Operator::Sum(NumberSort::Int)),
-        &[most, one],
-    )?;
+    let most = numeral(&mut terms, GREATEST)?;
+    let one = numeral(&mut terms, 1)?;
+    let sum = operation(&mut terms, Operator::Sum(NumberSort::Int), &[most, one])?;
     operation(
         &mut terms,
-        Head::Operator(Operator::Product(NumberSort::Int)),
+        Operator::Product(NumberSort::Int),
         &[most, most],
     )?;
-    let same = operation(&mut terms, Head::Operator(Operator::Equal), &[one, one])?;
-    operation(
-        &mut terms,
-        Head::Operator(Operator::Ite(Sort::Int)),
-        &[same, one, sum],
-    )?;
+    let same = operation(&mut terms, Operator::Equal, &[one, one])?;
+    operation(&mut terms, Operator::Ite(Sort::Int), &[same, one, sum])?;
     Ok(terms)
 }
 
@@ -195,9 +122,10 @@ fn evaluated(
     terms: &Terms,
     roots: &[TermId],
     pairs: &[(TermId, bool)],
-) -> Result<Option<Values>, Memory>
-    requires known { AllByRecursion (λ i. i < length terms.now) roots.now }
-{
+) -> Result<Option<Values>, Memory> {
+    if !are_below(roots, terms.len()) {
+        return Err(Memory);
+    }
     let assign = assignment(alloc, pairs)?;
     match eval(alloc, terms, roots, &assign) {
         Ok(values) => Ok(Some(values)),
@@ -207,9 +135,10 @@ fn evaluated(
 }
 
 // The operation that is the first of these roots to leave the numbers.
-fn stop(alloc: Global, terms: &Terms, roots: &[TermId]) -> Result<Option<Wide>, Memory>
-    requires known { AllByRecursion (λ i. i < length terms.now) roots.now }
-{
+fn stop(alloc: Global, terms: &Terms, roots: &[TermId]) -> Result<Option<Wide>, Memory> {
+    if !are_below(roots, terms.len()) {
+        return Err(Memory);
+    }
     let assign = Assign::new(alloc)?;
     match eval(alloc, terms, roots, &assign) {
         Ok(_) => Ok(None),
@@ -219,9 +148,10 @@ fn stop(alloc: Global, terms: &Terms, roots: &[TermId]) -> Result<Option<Wide>, 
 }
 
 // Whether a term comes to the integer that is expected, where nothing is assigned.
-fn comes_to(alloc: Global, terms: &Terms, root: TermId, expected: i128) -> Result<bool, Memory>
-    requires known { root < length terms.now }
-{
+fn comes_to(alloc: Global, terms: &Terms, root: TermId, expected: i128) -> Result<bool, Memory> {
+    if terms.len() <= root {
+        return Err(Memory);
+    }
     let assign = Assign::new(alloc)?;
     let found = outcomes(alloc, terms, &[root], &assign)?;
     match found.first() {
@@ -301,8 +231,8 @@ fn the_first_pair_of_a_constant_counts(rt: HostRuntime) -> Result<(), Fail> {
 #[test]
 fn constants_of_one_name_differ_by_sort(rt: HostRuntime) -> Result<(), Fail> {
     let mut terms = Terms::new(rt.alloc())?;
-    constant(rt.alloc(), &mut terms, Sort::Bool)?;
-    constant(rt.alloc(), &mut terms, Sort::Int)?;
+    constant(rt.alloc(), &mut terms, b"p", Sort::Bool)?;
+    constant(rt.alloc(), &mut terms, b"p", Sort::Int)?;
     assert_eq!(rt; terms.len(), 2);
     let values = evaluated(rt.alloc(), &terms, &[0], &[(0, true)])?;
     assert!(rt; are(&values, &[true]));
@@ -335,35 +265,35 @@ fn shared_sums_are_evaluated_once(rt: HostRuntime) -> Result<(), Fail> {
 
 #[test]
 fn div_leaves_no_remainder_below_zero(rt: HostRuntime) -> Result<(), Fail> {
-    let above = is_of_integers(rt.alloc(), Head::Operator(Operator::Div), 7, 2, 3)?;
+    let above = is_of_integers(rt.alloc(), Operator::Div, 7, 2, 3)?;
     assert!(rt; above);
-    let left = is_of_integers(rt.alloc(), Head::Operator(Operator::Div), -7, 2, -4)?;
+    let left = is_of_integers(rt.alloc(), Operator::Div, -7, 2, -4)?;
     assert!(rt; left);
-    let right = is_of_integers(rt.alloc(), Head::Operator(Operator::Div), 7, -2, -3)?;
+    let right = is_of_integers(rt.alloc(), Operator::Div, 7, -2, -3)?;
     assert!(rt; right);
-    let both = is_of_integers(rt.alloc(), Head::Operator(Operator::Div), -7, -2, 4)?;
+    let both = is_of_integers(rt.alloc(), Operator::Div, -7, -2, 4)?;
     assert!(rt; both);
     Ok(())
 }
 
 #[test]
 fn mod_is_never_below_zero(rt: HostRuntime) -> Result<(), Fail> {
-    let left = is_of_integers(rt.alloc(), Head::Operator(Operator::Mod), -7, 3, 2)?;
+    let left = is_of_integers(rt.alloc(), Operator::Mod, -7, 3, 2)?;
     assert!(rt; left);
-    let right = is_of_integers(rt.alloc(), Head::Operator(Operator::Mod), 7, -3, 1)?;
+    let right = is_of_integers(rt.alloc(), Operator::Mod, 7, -3, 1)?;
     assert!(rt; right);
-    let both = is_of_integers(rt.alloc(), Head::Operator(Operator::Mod), -7, -3, 2)?;
+    let both = is_of_integers(rt.alloc(), Operator::Mod, -7, -3, 2)?;
     assert!(rt; both);
     Ok(())
 }
 
 #[test]
 fn by_zero_the_definition_is_computed(rt: HostRuntime) -> Result<(), Fail> {
-    let div = is_of_integers(rt.alloc(), Head::Operator(Operator::Div), -7, 0, -1)?;
+    let div = is_of_integers(rt.alloc(), Operator::Div, -7, 0, -1)?;
     assert!(rt; div);
-    let rest = is_of_integers(rt.alloc(), Head::Operator(Operator::Mod), -7, 0, -7)?;
+    let rest = is_of_integers(rt.alloc(), Operator::Mod, -7, 0, -7)?;
     assert!(rt; rest);
-    let quotient = is_of_integers(rt.alloc(), Head::Operator(Operator::Quotient), -7, 0, 0)?;
+    let quotient = is_of_integers(rt.alloc(), Operator::Quotient, -7, 0, 0)?;
     assert!(rt; quotient);
     Ok(())
 }

@@ -1,9 +1,12 @@
-//! Terms to test with. What `Terms::make` asks of a head and of numbers is tested here, so that the tests have nothing to prove of it.
+//! Terms to test with: what `Terms::make` asks of a head and of numbers is tested here, so that tests have nothing to prove of it. Where it
+//! doesn't hold, the answer is `Memory`, which fails the test.
+#![tactic(auto)]
+
 ghost use Rattle.std.specs.Prelude.{◌<◌, length, All, IfOk};
 ghost use Rattle.std.specs.Bool.{OnTrue};
 
 use nz_base::{Memory, Text};
-use nz_term::{Constant, Head, Operator, Sort, TermId, Terms, operators_are_no_leaves};
+use nz_term::{Constant, Head, NumberSort, Operator, Sort, TermId, Terms, operators_are_no_leaves};
 use std::alloc::Global;
 
 /// The term of a head without arguments.
@@ -41,8 +44,27 @@ pub fn operation(
     Ok(id)
 }
 
+/// A numeral, of at most the largest number.
+pub fn numeral(terms: &mut Terms, number: u128) -> Result<TermId, Memory>
+    ensures within { IfOk result (λ id. id < length terms.new) }
+{
+    leaf(terms, Head::Integer(number))
+}
+
+/// An integer: a numeral, or the negation of one.
+pub fn integer(terms: &mut Terms, n: i64) -> Result<TermId, Memory>
+    ensures within { IfOk result (λ id. id < length terms.new) }
+{
+    let size = numeral(terms, n.unsigned_abs() as u128)?;
+    if n < 0 {
+        operation(terms, Operator::Difference(NumberSort::Int), &[size])
+    } else {
+        Ok(size)
+    }
+}
+
 /// Whether each of these is below this number.
-fn are_below(ids: &[TermId], count: usize) -> bool
+pub fn are_below(ids: &[TermId], count: usize) -> bool
     ensures below { OnTrue result (All (λ k. k < count) ids.now) }
 {
     for i in 0..ids.len() {

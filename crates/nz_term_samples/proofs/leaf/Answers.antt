@@ -4,7 +4,7 @@ use Rattle.std.proofs.lemmas.Option.{slice_get_within}
 use Rattle.nz_spec.specs.Term.{Constant, Head, constant_of}
 use Rattle.nz_spec.specs.Table.{HasItsArguments}
 use Rattle.nz_term.specs.Heads.{head_of}
-use Rattle.nz_term_tests.proofs.making.leaf.Goals as goal
+use Rattle.nz_term_samples.proofs.leaf.Goals as goal
 
 without_arguments : (h : Head) (c : Option Constant) → constant_of h ≡ c → HasItsArguments h []
 without_arguments h None e = rw (e, HasItsArguments) tt
