@@ -1,0 +1,7 @@
+pub mod Blocks
+pub mod Each
+pub mod Exchanged
+pub mod Exchanging
+pub mod Numbers
+pub mod Solving
+pub mod Tableau

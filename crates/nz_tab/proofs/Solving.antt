@@ -1,0 +1,75 @@
+-- Rows that are put one behind another come to those of the definitions.
+use Rattle.std.proofs.Common.{◌≡◌, ℕ, Bool, true, false, List, [], ◌∷◌, ◌++◌, map, Some, None, Result, Ok, Err, pos, refl, sym, ap, ◌∙◌, subst}
+use Rattle.std.specs.Prelude.{◌==◌, if◌then◌else◌, ◌≢◌}
+use Rattle.std.specs.List.{AllByRecursion}
+use Rattle.nz_spec.specs.Fraction.{Fraction, Operation, Quotient, first_wide, is_wide, outcome, whole}
+use Rattle.nz_spec.specs.Computation.{Computation, turned_into}
+use Rattle.nz_spec.specs.Term.{is_zero}
+use Rattle.nz_spec.specs.Basis.{Coefficients}
+use Rattle.nz_spec.specs.BasisMoves.{plus_multiple, replaced}
+use Rattle.nz_frac.specs.Operations.{operation_of}
+use Rattle.nz_frac.specs.declared.frac.Wide.{Wide}
+use Rattle.nz_lin.proofs.Computing.{first_wide-none, first_wide-some, no_operation}
+use Rattle.nz_tab.specs.Comes.{Comes, IsDone}
+use Rattle.nz_tab.specs.Each.{behind}
+use Rattle.nz_tab.specs.Exchanges.{replaced_row, solved_parts, solved_row, sum_row}
+use Rattle.nz_tab.proofs.Exchanging.{left, row_moves, row_stays, sums_same, sum_operations}
+
+pub one_fits : (x : Operation) → is_wide x.operator x.left x.right ≡ false → first_wide (x ∷ []) ≡ None
+unfolding first_wide
+one_fits x e = ap (λ (b : Bool). if b then Some x else None) e
+
+pub one_stops : (x : Operation) → is_wide x.operator x.left x.right ≡ true → first_wide (x ∷ []) ≡ Some x
+unfolding first_wide
+one_stops x e = ap (λ (b : Bool). if b then Some x else None) e
+
+-- ---- The row of the form that enters
+
+module _ (ks : List ℕ) (i j : ℕ) (a : Coefficients) where
+  abbrev reciprocal_of : Operation
+  reciprocal_of = record { operator = Quotient; left = whole (pos 1); right = a j }
+
+  -- it stops at the first quotient
+  pub solved_stops : is_wide Quotient (whole (pos 1)) (a j) ≡ true → first_wide (solved_row ks i j a).operations ≡ Some (record { operator = Quotient; left = whole (pos 1); right = a j })
+  solved_stops e = first_wide-some (reciprocal_of ∷ []) (solved_parts ks i (a j) (outcome Quotient (whole (pos 1)) (a j)) a).operations reciprocal_of (one_stops reciprocal_of e)
+
+  module _ (divisor inverse : Fraction) (d : divisor ≡ a j) (v : inverse ≡ outcome Quotient (whole (pos 1)) (a j)) (fits : is_wide Quotient (whole (pos 1)) (a j) ≡ false) where
+    parts_same : solved_parts ks i divisor inverse a ≡ solved_parts ks i (a j) (outcome Quotient (whole (pos 1)) (a j)) a
+    parts_same = ap (λ (x : Fraction). solved_parts ks i x inverse a) d ∙ ap (λ (x : Fraction). solved_parts ks i (a j) x a) v
+
+    later : first_wide (solved_row ks i j a).operations ≡ first_wide (solved_parts ks i divisor inverse a).operations
+    later =
+        first_wide-none (reciprocal_of ∷ []) (solved_parts ks i (a j) (outcome Quotient (whole (pos 1)) (a j)) a).operations (one_fits reciprocal_of fits)
+        ∙ ap (λ (c : Computation (List Fraction)). first_wide c.operations) (sym parts_same)
+
+    -- else it comes to the coefficients one by one
+    pub solved_comes : {X : Type 0} (now : List Fraction) (r : Result X Wide) → Comes (behind [] (solved_parts ks i divisor inverse a)) now r → Comes (solved_row ks i j a) now r
+    solved_comes now (Ok x) h = record {
+      result = h.result ∙ ap (λ (c : Computation (List Fraction)). c.result) parts_same;
+      fits = later ∙ h.fits;
+    }
+    solved_comes now (Err w) h = later ∙ h
+
+-- ---- The other rows
+
+module _ (old : List Fraction) (ks : List ℕ) (j : ℕ) (q c : Coefficients) (now : List Fraction) where
+  -- a row stays that has no coefficient at the form that enters
+  pub row_stayed : is_zero (c j) ≡ true → now ≡ old ++ map c ks → IsDone (behind old (replaced_row ks j q c)) now
+  row_stayed e h =
+      subst (λ (x : Computation Coefficients). IsDone (behind old (turned_into (λ d. map d ks) x)) now) (sym (row_stays ks j q c e))
+      (record { result = h; fits = no_operation })
+
+  -- any other becomes a sum
+  module _ (without : AllByRecursion (λ k. k ≢ j) ks) (e : is_zero (c j) ≡ false) where
+    abbrev sum : Computation Coefficients
+    sum = plus_multiple ks (λ k. if k == j then whole (pos 0) else c k) (c j) q
+
+    summed : {X : Type 0} (r : Result X Wide) → Comes (behind old (sum_row ks (c j) q c)) now r → Comes (behind old (turned_into (λ d. map d ks) sum)) now r
+    summed (Ok x) h = record {
+      result = h.result ∙ ap (λ (l : List Fraction). old ++ l) (sums_same j q c ks without (c j));
+      fits = ap first_wide (sym (sum_operations j q c ks without (c j))) ∙ h.fits;
+    }
+    summed (Err w) h = ap first_wide (sym (sum_operations j q c ks without (c j))) ∙ h
+
+    pub row_summed : {X : Type 0} (r : Result X Wide) → Comes (behind old (sum_row ks (c j) q c)) now r → Comes (behind old (replaced_row ks j q c)) now r
+    row_summed r h = subst (λ (x : Computation Coefficients). Comes (behind old (turned_into (λ d. map d ks) x)) now r) (sym (row_moves ks j q c e)) (summed r h)

@@ -1,0 +1,90 @@
+-- Forms that join a table: units that aren't there first, as nonbasic forms, and then the form itself as a basic one.
+use Rattle.std.specs.Prelude.{◌≡◌, ℕ, zero, suc, ◌<◌, ◌==◌, Bool, true, false, ◌&&◌, List, [], ◌∷◌, ◌++◌, length, Option, Some, None, option_map, is_some, unwrap_or, pos, if◌then◌else◌, nat_lt, ⊤, Result, Ok, Err}
+use Rattle.std.specs.Ordering.{int_eq}
+use Rattle.nz_spec.specs.Fraction.{Fraction, whole, first_wide}
+use Rattle.nz_spec.specs.Computation.{Computation}
+use Rattle.nz_spec.specs.FormOf.{number_in}
+use Rattle.nz_spec.specs.Table.{Node}
+use Rattle.nz_spec.specs.Term.{Term}
+use Rattle.nz_spec.specs.Basis.{Coefficients}
+use Rattle.nz_spec.specs.BasisMoves.{joining_row}
+use Rattle.nz_frac.specs.Operations.{operation_of}
+use Rattle.nz_lin.specs.declared.form.Part.{Part}
+use Rattle.nz_lin.specs.Forms.{parts_over}
+use Rattle.nz_tab.specs.declared.tab.TabStop.{TabStop}
+use Rattle.nz_tab.specs.declared.tab.TabStop.TheVariants.{Wide, Memory}
+use Rattle.nz_tab.specs.Tables.{Table}
+
+-- ---- Units
+
+abbrev pub is_one : Fraction → Bool
+is_one q = int_eq q.numerator (pos 1) && (q.below == 0)
+
+-- a unit alone
+abbrev pub is_unit_form : List Part → Bool
+is_unit_form (p ∷ []) = is_one p.coefficient
+is_unit_form ps = false
+
+abbrev pub is_form_of : ℕ → List Part → Bool
+is_form_of u (p ∷ []) = (p.unit == u) && is_one p.coefficient
+is_form_of u ps = false
+
+-- the number of a unit among forms
+abbrev pub unit_number : List (List Part) → ℕ → Option ℕ
+unit_number [] u = None
+unit_number (f ∷ fs) u = if is_form_of u f then Some 0 else option_map suc (unit_number fs u)
+
+-- the form of the unit of a part
+abbrev pub unit_of : Part → List Part
+unit_of p = record { unit = p.unit; sort = p.sort; coefficient = whole (pos 1) } ∷ []
+
+-- the forms of the units that aren't among others
+abbrev pub new_units : List (List Part) → List Part → List (List Part)
+new_units fs [] = []
+new_units fs (p ∷ ps) = if is_some (unit_number fs p.unit) then new_units fs ps else unit_of p ∷ new_units fs ps
+
+-- ---- Joins
+
+-- the forms when the units of a form have joined
+abbrev pub with_units : List (List Part) → List Part → List (List Part)
+with_units fs f = fs ++ new_units fs f
+
+-- the units that have joined are nonbasic
+abbrev pub with_nonbasic_units : Table → List Part → ℕ → Bool
+with_nonbasic_units t f k = if nat_lt k (length t.forms) then t.nonbasic k else nat_lt k (length (with_units t.forms f))
+
+-- the number of a unit in a table of terms
+abbrev pub number_by : List Node → List (List Part) → Term → ℕ
+number_by ns fs t = unwrap_or (unit_number fs (number_in ns t)) 0
+
+-- the row of a form, when its units have joined
+abbrev pub joining : List Node → Table → List Part → Computation Coefficients
+joining ns t f =
+    let fs = with_units t.forms f in
+    joining_row (length fs) (with_nonbasic_units t f) t.rows (number_by ns fs) (parts_over ns f)
+
+-- A unit alone has its own number among the forms, and joins where it has none.
+pub record IsUnitJoined (old new : Table) (f : List Part) (v : ℕ) : Type 0 where
+  pub forms : new.forms ≡ with_units old.forms f
+  pub nonbasic : (k : ℕ) → new.nonbasic k ≡ with_nonbasic_units old f k
+  pub rows : (r : ℕ) → r < length old.forms → new.rows r ≡ old.rows r
+  pub number : (p : Part) → f ≡ p ∷ [] → unit_number new.forms p.unit ≡ Some v
+
+-- Any other form joins behind its units, as basic. The rows that were there stay, and at the nonbasic forms its own is the one that is computed.
+pub record IsFormJoined (ns : List Node) (old new : Table) (f : List Part) (v : ℕ) : Type 0 where
+  pub forms : new.forms ≡ with_units old.forms f ++ f ∷ []
+  pub number : v ≡ length (with_units old.forms f)
+  pub nonbasic : (k : ℕ) → new.nonbasic k ≡ with_nonbasic_units old f k
+  pub rows : (r : ℕ) → r < length old.forms → new.rows r ≡ old.rows r
+  pub row : (k : ℕ) → new.nonbasic k ≡ true → new.rows v k ≡ (joining ns old f).result k
+
+-- what comes of a form that joins: its number, or the first operation on its row that leaves the numbers, or want of memory
+abbrev pub Joins : List Node → Table → Table → List Part → Result ℕ TabStop → Type 0
+Joins ns old new f (Ok v) = IsFormJoined ns old new f v × (first_wide (joining ns old f).operations ≡ None)
+Joins ns old new f (Err (Wide w)) = first_wide (joining ns old f).operations ≡ Some (operation_of w)
+Joins ns old new f (Err Memory) = ⊤
+
+-- a unit alone takes no operation
+abbrev pub UnitJoins : Table → Table → List Part → Result ℕ TabStop → Type 0
+UnitJoins old new f (Ok v) = IsUnitJoined old new f v
+UnitJoins old new f (Err s) = s ≡ Memory

@@ -1,0 +1,383 @@
+//! The rows of all basic forms, in one block.
+ghost use Rattle.std.specs.Prelude.{◌≡◌, ◌<◌, ◌≤◌, ◌+◌, ◌-◌, ◌*◌, ◌^◌, ◌++◌, if◌then◌else◌, ◌≢◌, not, All, OnOk, OnErr, ℕ, false, pos, true, length, map, vec_len, vec_capacity};
+ghost use Rattle.nz_spec.specs.Basis.{Coefficients};
+ghost use Rattle.nz_spec.specs.BasisMoves.{exchange, exchanged, numbers};
+ghost use Rattle.nz_spec.specs.Fraction.{whole};
+ghost use Rattle.nz_spec.specs.Term.{is_zero};
+ghost use Rattle.nz_tab.specs.Comes.{Comes, Stops};
+ghost use Rattle.nz_tab.specs.Each.{behind, each};
+ghost use Rattle.nz_tab.specs.Exchanges.{IsExchanged, row_after};
+ghost use Rattle.nz_tab.specs.Rows.{HasRoom, coefficient_in, counted, empty_grid, is_marked, place_of, row_in, size_of};
+
+use crate::exchange::{put_replaced, solve};
+use crate::row::{Row, Var};
+use nz_base::Memory;
+use nz_frac::{Frac, Wide};
+use std::alloc::Global;
+use std::marker::Model;
+use std::mem;
+
+/// Which forms are nonbasic, and the rows of the others. A contract sees the rows by the numbers of the forms.
+#[derive(Debug, Drop)]
+pub(crate) struct Rows {
+    // For each form whether it is nonbasic, and how many forms of its kind stand before it.
+    nonbasic: Vec<bool>,
+    places: Vec<usize>,
+    // How many forms are nonbasic, and a row of this width for each of the others.
+    width: usize,
+    block: Vec<Frac>,
+}
+
+impl Model for Rows {
+    ghost use Rattle.nz_tab.specs.Rows.{Grid, IsGrid, grid_of};
+
+    ghost Value = { Grid };
+
+    ghost view = { λ g. grid_of g.nonbasic.items g.places.items g.width g.block.items };
+
+    ghost invariant = { λ g. IsGrid g.nonbasic.items g.places.items g.width g.block.items };
+}
+
+/// Room for an exchange: the numbers of the forms that are nonbasic after it, the row of the form that enters, and the block.
+#[derive(Debug, Drop)]
+pub(crate) struct Room {
+    pub columns: Vec<Var>,
+    pub solved: Vec<Frac>,
+    pub spare: Vec<Frac>,
+}
+
+impl Room {
+    /// No room. Takes no memory.
+    pub(crate) fn new(alloc: Global) -> Room {
+        Room {
+            columns: Vec::new(alloc),
+            solved: Vec::new(alloc),
+            spare: Vec::new(alloc),
+        }
+    }
+}
+
+impl Rows {
+    /// No form. Takes no memory.
+    pub(crate) fn new(alloc: Global) -> Rows
+        ensures empty { result ≡ empty_grid }
+    {
+        Rows {
+            nonbasic: Vec::new(alloc),
+            places: Vec::new(alloc),
+            width: 0,
+            block: Vec::new(alloc),
+        }
+    }
+
+    /// How many forms there are.
+    pub(crate) fn count(&self) -> usize
+        ensures count { result ≡ self.now.count }
+    {
+        self.nonbasic.len()
+    }
+
+    /// Whether a form is nonbasic.
+    pub(crate) fn is_nonbasic(&self, var: Var) -> bool
+        ensures nonbasic { result ≡ self.now.nonbasic var }
+    {
+        self.nonbasic.get(var).copied().unwrap_or(false)
+    }
+
+    /// The row of a basic form.
+    pub(crate) fn row(&self, var: Var) -> Row<'_>
+        requires listed { var < self.now.count }
+        requires basic { self.now.nonbasic var ≡ false }
+        ensures row { result ≡ self.now.rows var }
+    {
+        Row::over(
+            self.nonbasic.as_slice(),
+            self.places.as_slice(),
+            row_at(self.block.as_slice(), self.width, self.places[var]),
+        )
+    }
+
+    /// Exchanges a basic form with a nonbasic one at which its coefficient isn't 0. Takes no memory.
+    pub(crate) fn exchange(&mut self, room: &mut Room, leaves: Var, enters: Var) -> Result<(), Wide>
+        requires listed { leaves < self.old.count }
+        requires basic { self.old.nonbasic leaves ≡ false }
+        requires nonbasic { self.old.nonbasic enters ≡ true }
+        requires nonzero { is_zero (self.old.rows leaves enters) ≡ false }
+        requires room { HasRoom self.old (vec_capacity room.old.columns) (vec_capacity room.old.solved) (vec_capacity room.old.spare) }
+        ensures exchanged { OnOk result (IsExchanged self.old self.new leaves enters) }
+        ensures stops { Stops (exchange self.old.count self.old.nonbasic self.old.rows leaves enters) result }
+        ensures unchanged { OnErr result (self.new ≡ self.old) }
+        ensures room { HasRoom self.new (vec_capacity room.new.columns) (vec_capacity room.new.solved) (vec_capacity room.new.spare) }
+    {
+        self.list_columns(&mut room.columns, leaves, enters);
+        solve(
+            &mut room.solved,
+            &self.row(leaves),
+            room.columns.as_slice(),
+            leaves,
+            enters,
+        )?;
+        self.put_exchanged(
+            &mut room.spare,
+            room.columns.as_slice(),
+            room.solved.as_slice(),
+            leaves,
+            enters,
+        )?;
+        self.replace(&mut room.spare, leaves, enters);
+        Ok(())
+    }
+
+    /// Whether a form is nonbasic after an exchange.
+    fn is_nonbasic_after(&self, leaves: Var, enters: Var, var: Var) -> bool
+        ensures nonbasic { result ≡ exchanged self.now.nonbasic leaves enters var }
+    {
+        if var == leaves {
+            true
+        } else if var == enters {
+            false
+        } else {
+            self.is_nonbasic(var)
+        }
+    }
+
+    /// The numbers of the forms that are nonbasic after an exchange.
+    fn list_columns(&self, columns: &mut Vec<Var>, leaves: Var, enters: Var)
+        requires room { self.now.count ≤ vec_capacity columns.old }
+        ensures listed { columns.new.items ≡ numbers self.now.count (exchanged self.now.nonbasic leaves enters) }
+        ensures capacity { vec_capacity columns.new ≡ vec_capacity columns.old }
+    {
+        columns.clear();
+        for var in 0..self.count() {
+            if self.is_nonbasic_after(leaves, enters, var) {
+                columns.push_reserved(var);
+            }
+        }
+    }
+
+    /// The rows after an exchange.
+    fn put_exchanged(
+        &self,
+        rows: &mut Vec<Frac>,
+        columns: &[Var],
+        solved: &[Frac],
+        leaves: Var,
+        enters: Var,
+    ) -> Result<(), Wide>
+        requires width { length solved.now ≡ length columns.now }
+        requires without { All (λ k. k ≢ enters) columns.now }
+        requires room { length (numbers self.now.count (λ r. not (exchanged self.now.nonbasic leaves enters r))) * length columns.now ≤ vec_capacity rows.old }
+        requires leaves { self.now.nonbasic leaves ≡ false }
+        ensures put { (q : Coefficients) → solved.now ≡ map q columns.now → Comes (each (row_after self.now.nonbasic self.now.rows columns.now leaves enters q) (counted self.now.count)) rows.new.items result }
+        ensures capacity { vec_capacity rows.new ≡ vec_capacity rows.old }
+    {
+        rows.clear();
+        for var in 0..self.count() {
+            self.put_after(rows, columns, solved, leaves, enters, var)?;
+        }
+        Ok(())
+    }
+
+    /// Puts what an exchange makes of a form behind the rows of others.
+    fn put_after(
+        &self,
+        rows: &mut Vec<Frac>,
+        columns: &[Var],
+        solved: &[Frac],
+        leaves: Var,
+        enters: Var,
+        var: Var,
+    ) -> Result<(), Wide>
+        requires listed { var < self.now.count }
+        requires width { length solved.now ≡ length columns.now }
+        requires without { All (λ k. k ≢ enters) columns.now }
+        requires room { exchanged self.now.nonbasic leaves enters var ≡ false → vec_len rows.old + length columns.now ≤ vec_capacity rows.old }
+        ensures put { (q : Coefficients) → solved.now ≡ map q columns.now → Comes (behind rows.old.items (row_after self.now.nonbasic self.now.rows columns.now leaves enters q var)) rows.new.items result }
+        ensures long { OnOk result (vec_len rows.new ≡ vec_len rows.old + (if exchanged self.now.nonbasic leaves enters var then 0 else length columns.now)) }
+        ensures capacity { vec_capacity rows.new ≡ vec_capacity rows.old }
+    {
+        if self.is_nonbasic_after(leaves, enters, var) {
+            return Ok(());
+        }
+        if var == enters {
+            put_all(rows, solved);
+            return Ok(());
+        }
+        put_replaced(rows, &self.row(var), columns, solved, enters)
+    }
+
+    /// Takes the block of an exchange, and leaves the one before it.
+    fn replace(&mut self, block: &mut Vec<Frac>, leaves: Var, enters: Var)
+        requires listed { leaves < self.old.count }
+        requires basic { self.old.nonbasic leaves ≡ false }
+        requires nonbasic { self.old.nonbasic enters ≡ true }
+        requires block { length block.old.items ≡ size_of self.old.count self.old.nonbasic }
+        ensures count { self.new.count ≡ self.old.count }
+        ensures nonbasic { (k : ℕ) → self.new.nonbasic k ≡ exchanged self.old.nonbasic leaves enters k }
+        ensures rows { (r k : ℕ) → r < self.old.count → k < self.old.count → self.new.nonbasic r ≡ false → self.new.nonbasic k ≡ true → self.new.rows r k ≡ coefficient_in block.old.items self.old.count (exchanged self.old.nonbasic leaves enters) r k }
+        ensures zeros { (r k : ℕ) → self.new.nonbasic k ≡ false → self.new.rows r k ≡ whole (pos 0) }
+        ensures room { size_of self.old.count self.old.nonbasic ≤ vec_capacity block.new }
+    {
+        mem::swap(&mut self.block, block);
+        self.nonbasic[leaves] = true;
+        self.nonbasic[enters] = false;
+        number_places(&mut self.places, self.nonbasic.as_slice());
+    }
+
+    /// Makes room for some nonbasic forms and one basic form more.
+    pub(crate) fn reserve(&mut self, room: &mut Room, units: usize) -> Result<(), Memory> {
+        let more = units.checked_add(1).ok_or(Memory)?;
+        let count = self.nonbasic.len().checked_add(more).ok_or(Memory)?;
+        let width = self.width.checked_add(units).ok_or(Memory)?;
+        let height = self.count() - self.width + 1;
+        let size = height.checked_mul(width).ok_or(Memory)?;
+        self.nonbasic.reserve(more)?;
+        self.places.reserve(more)?;
+        self.block.reserve(size.saturating_sub(self.block.len()))?;
+        room.columns.clear();
+        room.columns.reserve(count)?;
+        room.solved.clear();
+        room.solved.reserve(count)?;
+        room.spare.clear();
+        room.spare.reserve(size)?;
+        Ok(())
+    }
+
+    /// Starts a row of zeros for a form that joins behind some new units.
+    pub(crate) fn start_row(&self, room: &mut Room, units: usize) {
+        room.columns.clear();
+        room.solved.clear();
+        for var in 0..self.count() + units {
+            if var >= self.count() || self.is_nonbasic(var) {
+                room.columns.push_reserved(var);
+                room.solved.push_reserved(Frac::whole(0));
+            }
+        }
+    }
+
+    /// Adds a form with its coefficient to a row: a nonbasic one at its place, a basic one by its row.
+    pub(crate) fn add_part(
+        &self,
+        row: &mut Vec<Frac>,
+        columns: &[Var],
+        var: Var,
+        coefficient: Frac,
+    ) -> Result<(), Wide> {
+        if var >= self.count() {
+            return add_at(row, self.width + (var - self.count()), coefficient);
+        }
+        if self.is_nonbasic(var) {
+            return add_at(row, self.places[var], coefficient);
+        }
+        add_multiple(row, columns, coefficient, &self.row(var))
+    }
+
+    /// Nonbasic forms join, with the coefficient 0 in each row. Takes no memory.
+    pub(crate) fn join_nonbasic(&mut self, spare: &mut Vec<Frac>, units: usize) {
+        if units == 0 {
+            return;
+        }
+        let height = self.count() - self.width;
+        put_widened(spare, self.block.as_slice(), height, self.width, units);
+        mem::swap(&mut self.block, spare);
+        for _ in 0..units {
+            self.places.push_reserved(self.width);
+            self.nonbasic.push_reserved(true);
+            self.width += 1;
+        }
+    }
+
+    /// A basic form joins with its row. Takes no memory.
+    pub(crate) fn join_basic(&mut self, row: &[Frac]) {
+        put_all(&mut self.block, row);
+        self.places.push_reserved(self.nonbasic.len() - self.width);
+        self.nonbasic.push_reserved(false);
+    }
+}
+
+/// Adds to the coefficient at a place of a row.
+fn add_at(row: &mut Vec<Frac>, place: usize, coefficient: Frac) -> Result<(), Wide> {
+    row[place] = row[place].add(coefficient)?;
+    Ok(())
+}
+
+/// Adds a multiple of a row to another one.
+fn add_multiple(
+    row: &mut Vec<Frac>,
+    columns: &[Var],
+    factor: Frac,
+    other: &Row<'_>,
+) -> Result<(), Wide> {
+    for place in 0..columns.len() {
+        let product = factor.mul(other.at(columns[place]))?;
+        row[place] = row[place].add(product)?;
+    }
+    Ok(())
+}
+
+/// Puts some rows of this width, with some zeros behind each of them.
+fn put_widened(rows: &mut Vec<Frac>, block: &[Frac], height: usize, width: usize, zeros: usize) {
+    rows.clear();
+    for place in 0..height {
+        put_all(rows, row_at(block, width, place));
+        put_zeros(rows, zeros);
+    }
+}
+
+/// Puts zeros behind others.
+fn put_zeros(rows: &mut Vec<Frac>, zeros: usize) {
+    for _ in 0..zeros {
+        rows.push_reserved(Frac::whole(0));
+    }
+}
+
+/// The row of this place, in a block of rows of this width.
+fn row_at(block: &[Frac], width: usize, place: usize) -> &[Frac]
+    requires within { (place + 1) * width ≤ length block.now }
+    ensures row { result.now ≡ row_in block.now width place }
+{
+    let start = place * width;
+    &block[start..start + width]
+}
+
+/// Puts coefficients behind others.
+fn put_all(rows: &mut Vec<Frac>, row: &[Frac])
+    requires room { vec_len rows.old + length row.now ≤ vec_capacity rows.old }
+    ensures put { rows.new.items ≡ rows.old.items ++ row.now }
+    ensures long { vec_len rows.new ≡ vec_len rows.old + length row.now }
+    ensures capacity { vec_capacity rows.new ≡ vec_capacity rows.old }
+{
+    for coefficient in row {
+        rows.push_reserved(*coefficient);
+    }
+}
+
+/// How many forms of its kind stand before each form.
+fn number_places(places: &mut Vec<usize>, nonbasic: &[bool])
+    requires room { length nonbasic.now ≤ vec_capacity places.old }
+    ensures places { places.new.items ≡ map (place_of (is_marked nonbasic.now)) (counted (length nonbasic.now)) }
+    ensures capacity { vec_capacity places.new ≡ vec_capacity places.old }
+{
+    places.clear();
+    let mut columns = 0;
+    for (var, mark) in nonbasic.iter().enumerate() {
+        places.push_reserved(place_after(*mark, columns, var));
+        columns = count_after(*mark, columns);
+    }
+}
+
+/// The place of a form, where so many forms before it are nonbasic.
+fn place_after(nonbasic: bool, columns: usize, var: Var) -> usize
+    requires within { columns ≤ var }
+    ensures place { result ≡ (if nonbasic then columns else var - columns) }
+{
+    if nonbasic { columns } else { var - columns }
+}
+
+/// How many forms are nonbasic with one form more.
+fn count_after(nonbasic: bool, columns: usize) -> usize
+    requires fits { columns + 1 < 2 ^ 64 }
+    ensures count { result ≡ (if nonbasic then columns + 1 else columns) }
+{
+    if nonbasic { columns + 1 } else { columns }
+}
