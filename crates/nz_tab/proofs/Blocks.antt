@@ -1,14 +1,13 @@
 -- Rows in a block, and the places of forms.
-use Rattle.std.proofs.Common.{◌≡◌, ℕ, zero, suc, ◌+◌, ◌*◌, ◌<◌, ◌≤◌, Bool, true, false, List, [], ◌∷◌, ◌++◌, length, map, flat_map, take, drop, pos, refl, sym, ap, ◌∙◌, subst, true≢false, arith}
+use Rattle.std.proofs.Common.{◌≡◌, ℕ, zero, suc, ◌+◌, ◌*◌, ◌<◌, ◌≤◌, Bool, true, false, ◌⊎◌, inl, inr, List, [], ◌∷◌, ◌++◌, length, map, flat_map, take, drop, pos, refl, sym, ap, ◌∙◌, subst, true≢false, arith}
 use Rattle.std.specs.Prelude.{if◌then◌else◌, not, slice_index_or, ◌≢◌, set, ◌==◌}
 use Rattle.std.proofs.Math.Seq.{take-append_seam, drop-append-add}
-use Rattle.std.proofs.lemmas.List.{get_or-map, length-map, length-append, get_or-set_same, get_or-set_other, length-set}
+use Rattle.std.proofs.lemmas.List.{get_or-map, get_or_past, length-map, length-append, get_or-set_same, get_or-set_other, length-set}
 use Rattle.nz_spec.specs.Fraction.{Fraction, whole}
 use Rattle.nz_spec.specs.Basis.{Coefficients}
 use Rattle.nz_spec.specs.BasisMoves.{numbers, exchanged}
-use Rattle.nz_spec.proofs.BasisRows.{equal-number, other-number, same-number}
-use Rattle.nz_tab.specs.Rows.{IsGrid, basic, coefficient_in, coefficients_of, counted, is_marked, place_of, row_in, size_of}
-use Rattle.nz_tab.proofs.Numbers.{number_at, place_within, count_counted, counted_at}
+use Rattle.nz_tab.specs.Rows.{ArePlaces, DenseRow, IsGrid, basic, coefficient, counted, is_marked, place_of, row_in, row_of, rows_of}
+use Rattle.nz_tab.proofs.Numbers.{equal-number, other-number, same-number, number_at, place_within, count_counted, counted_at}
 
 -- ---- Rows in a block
 
@@ -21,7 +20,10 @@ module _ (h : ℕ → Coefficients) (ks : List ℕ) where
   row_in_block [] p e = absurd (omega (arith, e))
   row_in_block (r ∷ rs) zero e =
       let rest = flat_map (λ m. map (h m) ks) rs in
-      ap (λ (n : ℕ). take n (map (h r) ks ++ rest)) (sym (row_long r)) ∙ take-append_seam (map (h r) ks) rest
+      let none : zero * length ks ≡ zero = omega arith in
+      ap (λ (n : ℕ). take (length ks) (drop n (map (h r) ks ++ rest))) none
+      ∙ ap (λ (n : ℕ). take n (map (h r) ks ++ rest)) (sym (row_long r))
+      ∙ take-append_seam (map (h r) ks) rest
   row_in_block (r ∷ rs) (suc p) e =
       let rest = flat_map (λ m. map (h m) ks) rs in
       let far : suc p * length ks ≡ length (map (h r) ks) + p * length ks = omega (arith, row_long r) in
@@ -30,71 +32,87 @@ module _ (h : ℕ → Coefficients) (ks : List ℕ) where
       ∙ row_in_block rs p (omega (arith, e))
 
   pub block_long : (rs : List ℕ) → length (flat_map (λ r. map (h r) ks) rs) ≡ length rs * length ks
-  block_long [] = refl
+  block_long [] = omega arith
   block_long (r ∷ rs) = length-append (map (h r) ks) (flat_map (λ m. map (h m) ks) rs) ∙ omega (arith, row_long r, block_long rs)
 
 -- the coefficient of a basic form at a nonbasic one
-pub coefficient_found : (h : ℕ → Coefficients) (n : ℕ) (f : ℕ → Bool) (r k : ℕ) → r < n → k < n → basic f r ≡ true → f k ≡ true
-    → coefficient_in (flat_map (λ m. map (h m) (numbers n f)) (numbers n (basic f))) n f r k ≡ h r k
-coefficient_found h n f r k inside within is_basic is_nonbasic =
+pub coefficient_found : (h : ℕ → Coefficients) (marks : List Bool) (r k : ℕ) → r < length marks → k < length marks → is_marked marks r ≡ false → is_marked marks k ≡ true
+    → rows_of (record { marks = marks; block = flat_map (λ m. map (h m) (numbers (length marks) (is_marked marks))) (numbers (length marks) (basic (is_marked marks))) }) r k ≡ h r k
+coefficient_found h marks r k inside within is_basic is_nonbasic =
+    let f = is_marked marks in
+    let n = length marks in
     let ks = numbers n f in
     let rs = numbers n (basic f) in
-    ap (λ (row : List Fraction). slice_index_or row (length (numbers k f)) (whole (pos 0)))
-    (row_in_block h ks rs (length (numbers r (basic f))) (place_within (basic f) r n is_basic inside))
+    let block = flat_map (λ m. map (h m) ks) rs in
+    let passes : basic f r ≡ true = ap not is_basic in
+    ap (λ (b : Bool). if b then slice_index_or (if f r then [] else row_in block (length ks) (length (numbers r (basic f)))) (length (numbers k f)) (whole (pos 0)) else whole (pos 0)) is_nonbasic
+    ∙ ap (λ (b : Bool). slice_index_or (if b then [] else row_in block (length ks) (length (numbers r (basic f)))) (length (numbers k f)) (whole (pos 0))) is_basic
+    ∙ ap (λ (row : List Fraction). slice_index_or row (length (numbers k f)) (whole (pos 0)))
+    (row_in_block h ks rs (length (numbers r (basic f))) (place_within (basic f) r n passes inside))
     ∙ get_or-map (h (slice_index_or rs (length (numbers r (basic f))) 0)) ks (length (numbers k f)) 0 (whole (pos 0)) (place_within f k n is_nonbasic within)
-    ∙ ap (λ (m : ℕ). h m (slice_index_or ks (length (numbers k f)) 0)) (number_at (basic f) r n 0 is_basic inside)
+    ∙ ap (λ (m : ℕ). h m (slice_index_or ks (length (numbers k f)) 0)) (number_at (basic f) r n 0 passes inside)
     ∙ ap (h r) (number_at f k n 0 is_nonbasic within)
+
+-- at a basic form there is none
+pub no_coefficient : (row : DenseRow) (k : ℕ) → is_marked row.marks k ≡ false → coefficient row k ≡ whole (pos 0)
+no_coefficient row k e = ap (λ (b : Bool). if b then slice_index_or row.coefficients (length (numbers k (is_marked row.marks))) (whole (pos 0)) else whole (pos 0)) e
 
 -- ---- Places
 
-module _ (nonbasic : List Bool) (places : List ℕ) (e : places ≡ map (place_of (is_marked nonbasic)) (counted (length nonbasic))) where
-  pub places_long : length places ≡ length nonbasic
-  places_long = ap length e ∙ length-map (counted (length nonbasic)) (place_of (is_marked nonbasic)) ∙ count_counted (length nonbasic)
+place_or_past : (k n : ℕ) → (k < n) ⊎ (n ≤ k)
+place_or_past k n = grind arith
 
-  pub place_found : (k : ℕ) → k < length nonbasic → slice_index_or places k 0 ≡ place_of (is_marked nonbasic) k
+-- only what is listed is marked
+pub marked_within : (marks : List Bool) (k : ℕ) → is_marked marks k ≡ true → k < length marks
+marked_within marks k e = by_place (place_or_past k (length marks))
+  where
+    by_place : (k < length marks) ⊎ (length marks ≤ k) → k < length marks
+    by_place (inl inside) = inside
+    by_place (inr past) = absurd (true≢false (sym e ∙ get_or_past marks k false past))
+
+module _ (marks : List Bool) (places : List ℕ) (e : ArePlaces marks places) where
+  pub places_long : length places ≡ length marks
+  places_long = ap length e ∙ length-map (counted (length marks)) (place_of (is_marked marks)) ∙ count_counted (length marks)
+
+  place_found : (k : ℕ) → k < length marks → slice_index_or places k 0 ≡ place_of (is_marked marks) k
   place_found k inside =
       ap (λ (l : List ℕ). slice_index_or l k 0) e
-      ∙ get_or-map (place_of (is_marked nonbasic)) (counted (length nonbasic)) k 0 0 (subst (λ (m : ℕ). k < m) (sym (count_counted (length nonbasic))) inside)
-      ∙ ap (place_of (is_marked nonbasic)) (counted_at k (length nonbasic) 0 inside)
+      ∙ get_or-map (place_of (is_marked marks)) (counted (length marks)) k 0 0 (subst (λ (m : ℕ). k < m) (sym (count_counted (length marks))) inside)
+      ∙ ap (place_of (is_marked marks)) (counted_at k (length marks) 0 inside)
 
-pub basic_place : (f : ℕ → Bool) (k : ℕ) → f k ≡ false → place_of f k ≡ length (numbers k (basic f))
-basic_place f k e = ap (λ (b : Bool). if b then length (numbers k f) else length (numbers k (basic f))) e
+  pub basic_place : (k : ℕ) → k < length marks → is_marked marks k ≡ false → slice_index_or places k 0 ≡ length (numbers k (basic (is_marked marks)))
+  basic_place k inside b =
+      place_found k inside ∙ ap (λ (b : Bool). if b then length (numbers k (is_marked marks)) else length (numbers k (basic (is_marked marks)))) b
 
-pub nonbasic_place : (f : ℕ → Bool) (k : ℕ) → f k ≡ true → place_of f k ≡ length (numbers k f)
-nonbasic_place f k e = ap (λ (b : Bool). if b then length (numbers k f) else length (numbers k (basic f))) e
-
-pub is_basic : (f : ℕ → Bool) (k : ℕ) → f k ≡ false → basic f k ≡ true
-is_basic f k e = ap not e
+  pub nonbasic_place : (k : ℕ) → k < length marks → is_marked marks k ≡ true → slice_index_or places k 0 ≡ length (numbers k (is_marked marks))
+  nonbasic_place k inside b =
+      place_found k inside ∙ ap (λ (b : Bool). if b then length (numbers k (is_marked marks)) else length (numbers k (basic (is_marked marks)))) b
 
 le_times : (a b w : ℕ) → a ≤ b → a * w ≤ b * w
 le_times zero b w h = omega arith
 le_times (suc a) zero w h = absurd (omega (arith, h))
 le_times (suc a) (suc b) w h = omega (arith, le_times a b w (omega (arith, h)))
 
--- a row is within the block
-pub row_fits : (nonbasic : List Bool) (places : List ℕ) (width : ℕ) (block : List Fraction) → IsGrid nonbasic places width block
-    → (k : ℕ) → k < length nonbasic → is_marked nonbasic k ≡ false → (slice_index_or places k 0 + 1) * width ≤ length block
-row_fits nonbasic places width block g k inside e =
-    let f = is_marked nonbasic in
-    let n = length nonbasic in
-    let place : slice_index_or places k 0 ≡ length (numbers k (basic f)) = place_found nonbasic places g.places k inside ∙ basic_place f k e in
-    let below : length (numbers k (basic f)) < length (numbers n (basic f)) = place_within (basic f) k n (is_basic f k e) inside in
-    let size : length block ≡ length (numbers n (basic f)) * width = g.block ∙ ap (λ (w : ℕ). length (numbers n (basic f)) * w) (sym g.width) in
-    subst (λ (m : ℕ). (slice_index_or places k 0 + 1) * width ≤ m) (sym size) (le_times (slice_index_or places k 0 + 1) (length (numbers n (basic f))) width (omega (arith, place, below)))
+module _ (marks : List Bool) (places : List ℕ) (width : ℕ) (block : List Fraction) (g : IsGrid marks places width block) (k : ℕ) (inside : k < length marks) (e : is_marked marks k ≡ false) where
+  -- a row is within the block
+  pub row_fits : (slice_index_or places k 0 + 1) * width ≤ length block
+  row_fits =
+      let f = is_marked marks in
+      let n = length marks in
+      let place : slice_index_or places k 0 ≡ length (numbers k (basic f)) = basic_place marks places g.placed k inside e in
+      let below : length (numbers k (basic f)) < length (numbers n (basic f)) = place_within (basic f) k n (ap not e) inside in
+      let size : length block ≡ length (numbers n (basic f)) * width = g.whole_block ∙ ap (λ (w : ℕ). length (numbers n (basic f)) * w) (sym g.wide) in
+      subst (λ (m : ℕ). (slice_index_or places k 0 + 1) * width ≤ m) (sym size) (le_times (slice_index_or places k 0 + 1) (length (numbers n (basic f))) width (omega (arith, place, below)))
 
--- the coefficient by the places is that in the block
-pub coefficient_by_places : (nonbasic : List Bool) (places : List ℕ) (width : ℕ) (block : List Fraction) → places ≡ map (place_of (is_marked nonbasic)) (counted (length nonbasic))
-    → width ≡ length (numbers (length nonbasic) (is_marked nonbasic)) → (r k : ℕ) → r < length nonbasic → k < length nonbasic → is_marked nonbasic r ≡ false → is_marked nonbasic k ≡ true
-    → coefficients_of nonbasic places (row_in block width (slice_index_or places r 0)) k ≡ coefficient_in block (length nonbasic) (is_marked nonbasic) r k
-coefficient_by_places nonbasic places width block e w r k inside within is_basic is_nonbasic =
-    let f = is_marked nonbasic in
-    ap (λ (b : Bool). if b then slice_index_or (row_in block width (slice_index_or places r 0)) (slice_index_or places k 0) (whole (pos 0)) else whole (pos 0)) is_nonbasic
-    ∙ ap (λ (m : ℕ). slice_index_or (row_in block m (slice_index_or places r 0)) (slice_index_or places k 0) (whole (pos 0))) w
-    ∙ ap (λ (m : ℕ). slice_index_or (row_in block (length (numbers (length nonbasic) f)) m) (slice_index_or places k 0) (whole (pos 0))) (place_found nonbasic places e r inside ∙ basic_place f r is_basic)
-    ∙ ap (λ (m : ℕ). slice_index_or (row_in block (length (numbers (length nonbasic) f)) (length (numbers r (basic f)))) m (whole (pos 0))) (place_found nonbasic places e k within ∙ nonbasic_place f k is_nonbasic)
-
-pub no_coefficient : (nonbasic : List Bool) (places : List ℕ) (row : List Fraction) (k : ℕ) → is_marked nonbasic k ≡ false → coefficients_of nonbasic places row k ≡ whole (pos 0)
-no_coefficient nonbasic places row k e = ap (λ (b : Bool). if b then slice_index_or row (slice_index_or places k 0) (whole (pos 0)) else whole (pos 0)) e
+  -- the row that stands at its place
+  pub row_stands : (let row : DenseRow = record { marks = marks; coefficients = row_in block width (slice_index_or places k 0) } in row) ≡ row_of (record { marks = marks; block = block }) k
+  row_stands =
+      let f = is_marked marks in
+      let n = length marks in
+      ap (λ (l : List Fraction). let row : DenseRow = record { marks = marks; coefficients = l } in row)
+      (ap (λ (w : ℕ). row_in block w (slice_index_or places k 0)) g.wide
+      ∙ ap (λ (p : ℕ). row_in block (length (numbers n f)) p) (basic_place marks places g.placed k inside e)
+      ∙ ap (λ (b : Bool). if b then [] else row_in block (length (numbers n f)) (length (numbers k (basic f)))) (sym e))
 
 -- ---- Marks that are set
 

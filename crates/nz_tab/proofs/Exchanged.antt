@@ -5,27 +5,15 @@ use Rattle.std.proofs.lemmas.List.{get_or_past}
 use Rattle.nz_spec.specs.Fraction.{Fraction, Operation, first_wide, whole}
 use Rattle.nz_spec.specs.Basis.{Coefficients}
 use Rattle.nz_spec.specs.BasisMoves.{Rows, exchange, exchanged, numbers, replaced, solved}
-use Rattle.nz_spec.proofs.BasisRows.{equal-number, other-number, same-number}
-use Rattle.nz_lin.proofs.Computing.{first_wide-none, first_wide-some}
 use Rattle.nz_tab.specs.Comes.{IsDone}
 use Rattle.nz_tab.specs.Each.{each}
 use Rattle.nz_tab.specs.Exchanges.{row_after, solved_row}
 use Rattle.nz_tab.specs.Rows.{basic, counted, is_marked, size_of}
 use Rattle.nz_tab.proofs.Exchanging.{entering, rows_operations, rows_same, solved_operations, solved_same}
-use Rattle.nz_tab.proofs.Numbers.{count_both, count_more}
+use Rattle.nz_tab.proofs.Firsts.{first_wide-none, first_wide-some}
+use Rattle.nz_tab.proofs.Numbers.{equal-number, other-number, same-number, count_both, count_more}
 
 -- ---- Sizes
-
-place_or_past : (k n : ℕ) → (k < n) ⊎ (n ≤ k)
-place_or_past k n = grind arith
-
--- only what is listed is marked
-pub marked_within : (marks : List Bool) (k : ℕ) → is_marked marks k ≡ true → k < length marks
-marked_within marks k e = by_place (place_or_past k (length marks))
-  where
-    by_place : (k < length marks) ⊎ (length marks ≤ k) → k < length marks
-    by_place (inl inside) = inside
-    by_place (inr past) = absurd (true≢false (sym e ∙ get_or_past marks k false past))
 
 module _ (f : ℕ → Bool) (i j : ℕ) (leaves : f i ≡ false) (enters : f j ≡ true) where
   pub apart : j ≢ i

@@ -9,11 +9,10 @@ use Rattle.nz_spec.specs.Computation.{Computation, operated, at_once, turned_int
 use Rattle.nz_spec.specs.Term.{is_zero}
 use Rattle.nz_spec.specs.Basis.{Coefficients}
 use Rattle.nz_spec.specs.BasisMoves.{numbers, Rows, plus_multiple, exchanged, solved, replaced}
-use Rattle.nz_spec.proofs.BasisRows.{equal-number, other-number, same-number}
 use Rattle.nz_tab.specs.Each.{alone, each, with_multiple}
 use Rattle.nz_tab.specs.Exchanges.{solved_part, solved_row, sum_row, replaced_row, row_after}
 use Rattle.nz_tab.specs.Rows.{basic, counted}
-use Rattle.nz_tab.proofs.Numbers.{all_pass, flat_numbers, flat-same, flat_all, where_passes}
+use Rattle.nz_tab.proofs.Numbers.{equal-number, other-number, same-number, all_pass, flat_numbers, flat-same, flat_all, where_passes}
 
 -- ---- Tests of numbers
 

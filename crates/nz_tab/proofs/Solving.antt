@@ -1,27 +1,20 @@
 -- Rows that are put one behind another come to those of the definitions.
-use Rattle.std.proofs.Common.{◌≡◌, ℕ, Bool, true, false, List, [], ◌∷◌, ◌++◌, map, Some, None, Result, Ok, Err, pos, refl, sym, ap, ◌∙◌, subst}
+use Rattle.std.proofs.Common.{◌≡◌, ℕ, ◌<◌, Bool, true, false, List, [], ◌∷◌, ◌++◌, length, get_or, map, Some, None, Result, Ok, Err, pos, refl, sym, ap, ◌∙◌, subst}
 use Rattle.std.specs.Prelude.{◌==◌, if◌then◌else◌, ◌≢◌}
 use Rattle.std.specs.List.{AllByRecursion}
-use Rattle.nz_spec.specs.Fraction.{Fraction, Operation, Quotient, first_wide, is_wide, outcome, whole}
-use Rattle.nz_spec.specs.Computation.{Computation, turned_into}
+use Rattle.std.proofs.lemmas.List.{get_or-map}
+use Rattle.nz_spec.specs.Fraction.{Fraction, Operation, Product, Quotient, Sum, first_wide, is_wide, outcome, whole}
+use Rattle.nz_spec.specs.Computation.{Computation, and_then, operated, turned_into}
 use Rattle.nz_spec.specs.Term.{is_zero}
 use Rattle.nz_spec.specs.Basis.{Coefficients}
 use Rattle.nz_spec.specs.BasisMoves.{plus_multiple, replaced}
 use Rattle.nz_frac.specs.Operations.{operation_of}
 use Rattle.nz_frac.specs.declared.frac.Wide.{Wide}
-use Rattle.nz_lin.proofs.Computing.{first_wide-none, first_wide-some, no_operation}
 use Rattle.nz_tab.specs.Comes.{Comes, IsDone}
-use Rattle.nz_tab.specs.Each.{behind}
+use Rattle.nz_tab.specs.Each.{behind, with_multiple}
 use Rattle.nz_tab.specs.Exchanges.{replaced_row, solved_parts, solved_row, sum_row}
+use Rattle.nz_tab.proofs.Firsts.{first_wide-none, first_wide-some, no_operation, one_fits, one_stops}
 use Rattle.nz_tab.proofs.Exchanging.{left, row_moves, row_stays, sums_same, sum_operations}
-
-pub one_fits : (x : Operation) → is_wide x.operator x.left x.right ≡ false → first_wide (x ∷ []) ≡ None
-unfolding first_wide
-one_fits x e = ap (λ (b : Bool). if b then Some x else None) e
-
-pub one_stops : (x : Operation) → is_wide x.operator x.left x.right ≡ true → first_wide (x ∷ []) ≡ Some x
-unfolding first_wide
-one_stops x e = ap (λ (b : Bool). if b then Some x else None) e
 
 -- ---- The row of the form that enters
 
@@ -51,6 +44,14 @@ module _ (ks : List ℕ) (i j : ℕ) (a : Coefficients) where
     solved_comes now (Err w) h = later ∙ h
 
 -- ---- The other rows
+
+-- a number and a multiple of another one that were read from lists
+pub multiple_read : (s x y : Fraction) (d c : Coefficients) (other : List Fraction) (ks : List ℕ) (i : ℕ) → other ≡ map d ks → i < length ks → x ≡ get_or other i x → y ≡ c (get_or ks i 0)
+    → and_then (operated Product s x) (λ p. operated Sum y p) ≡ with_multiple s d c (get_or ks i 0)
+multiple_read s x y d c other ks i e inside read stands =
+    let there : x ≡ d (get_or ks i 0) = read ∙ ap (λ (l : List Fraction). get_or l i x) e ∙ get_or-map d ks i 0 x inside in
+    ap (λ (z : Fraction). and_then (operated Product s z) (λ p. operated Sum y p)) there
+    ∙ ap (λ (z : Fraction). and_then (operated Product s (d (get_or ks i 0))) (λ p. operated Sum z p)) stands
 
 module _ (old : List Fraction) (ks : List ℕ) (j : ℕ) (q c : Coefficients) (now : List Fraction) where
   -- a row stays that has no coefficient at the form that enters

@@ -1,11 +1,11 @@
 -- An exchange, coefficient by coefficient and row by row.
-use Rattle.std.specs.Prelude.{◌≡◌, ℕ, ◌<◌, ◌==◌, Bool, true, false, not, ◌&&◌, List, [], ◌∷◌, map, pos, if◌then◌else◌}
+use Rattle.std.specs.Prelude.{◌≡◌, ℕ, ◌<◌, ◌==◌, Bool, true, false, not, List, [], ◌∷◌, length, map, pos, if◌then◌else◌}
 use Rattle.nz_spec.specs.Fraction.{Fraction, whole, neg_ℚ, outcome, Quotient}
 use Rattle.nz_spec.specs.Computation.{Computation, operated, at_once, turned_into, and_then}
 use Rattle.nz_spec.specs.Basis.{Coefficients}
 use Rattle.nz_spec.specs.BasisMoves.{Rows, exchange, exchanged, replaced}
 use Rattle.nz_tab.specs.Each.{alone, each, with_multiple}
-use Rattle.nz_tab.specs.Rows.{Grid}
+use Rattle.nz_tab.specs.Rows.{Grid, is_nonbasic, rows_of}
 
 -- ---- The row of the form that enters
 
@@ -41,8 +41,8 @@ row_after nonbasic rows ks i j q r =
 
 -- As many forms with i and j exchanged. At the nonbasic ones each row has the coefficients that are computed, and at the others none.
 pub record IsExchanged (old new : Grid) (i j : ℕ) : Type 0 where
-  pub count : new.count ≡ old.count
-  pub nonbasic : (k : ℕ) → new.nonbasic k ≡ exchanged old.nonbasic i j k
-  pub rows : (r k : ℕ) → r < old.count → k < old.count → new.nonbasic r ≡ false → new.nonbasic k ≡ true
-      → new.rows r k ≡ (exchange old.count old.nonbasic old.rows i j).result r k
-  pub zeros : (r k : ℕ) → new.nonbasic k ≡ false → new.rows r k ≡ whole (pos 0)
+  pub count : length new.marks ≡ length old.marks
+  pub nonbasic : (k : ℕ) → is_nonbasic new k ≡ exchanged (is_nonbasic old) i j k
+  pub rows : (r k : ℕ) → r < length old.marks → k < length old.marks → is_nonbasic new r ≡ false → is_nonbasic new k ≡ true
+      → rows_of new r k ≡ (exchange (length old.marks) (is_nonbasic old) (rows_of old) i j).result r k
+  pub zeros : (r k : ℕ) → is_nonbasic new k ≡ false → rows_of new r k ≡ whole (pos 0)

@@ -13,6 +13,7 @@ use Rattle.nz_lin.specs.declared.form.Part.{Part}
 use Rattle.nz_lin.specs.Forms.{parts_over}
 use Rattle.nz_tab.specs.declared.tab.TabStop.{TabStop}
 use Rattle.nz_tab.specs.declared.tab.TabStop.TheVariants.{Wide, Memory}
+use Rattle.nz_tab.specs.Rows.{is_nonbasic, rows_of}
 use Rattle.nz_tab.specs.Tables.{Table}
 
 -- ---- Units
@@ -51,7 +52,7 @@ with_units fs f = fs ++ new_units fs f
 
 -- the units that have joined are nonbasic
 abbrev pub with_nonbasic_units : Table → List Part → ℕ → Bool
-with_nonbasic_units t f k = if nat_lt k (length t.forms) then t.nonbasic k else nat_lt k (length (with_units t.forms f))
+with_nonbasic_units t f k = if nat_lt k (length t.forms) then is_nonbasic t.grid k else nat_lt k (length (with_units t.forms f))
 
 -- the number of a unit in a table of terms
 abbrev pub number_by : List Node → List (List Part) → Term → ℕ
@@ -61,22 +62,22 @@ number_by ns fs t = unwrap_or (unit_number fs (number_in ns t)) 0
 abbrev pub joining : List Node → Table → List Part → Computation Coefficients
 joining ns t f =
     let fs = with_units t.forms f in
-    joining_row (length fs) (with_nonbasic_units t f) t.rows (number_by ns fs) (parts_over ns f)
+    joining_row (length fs) (with_nonbasic_units t f) (rows_of t.grid) (number_by ns fs) (parts_over ns f)
 
 -- A unit alone has its own number among the forms, and joins where it has none.
 pub record IsUnitJoined (old new : Table) (f : List Part) (v : ℕ) : Type 0 where
   pub forms : new.forms ≡ with_units old.forms f
-  pub nonbasic : (k : ℕ) → new.nonbasic k ≡ with_nonbasic_units old f k
-  pub rows : (r : ℕ) → r < length old.forms → new.rows r ≡ old.rows r
+  pub nonbasic : (k : ℕ) → is_nonbasic new.grid k ≡ with_nonbasic_units old f k
+  pub rows : (r : ℕ) → r < length old.forms → rows_of new.grid r ≡ rows_of old.grid r
   pub number : (p : Part) → f ≡ p ∷ [] → unit_number new.forms p.unit ≡ Some v
 
 -- Any other form joins behind its units, as basic. The rows that were there stay, and at the nonbasic forms its own is the one that is computed.
 pub record IsFormJoined (ns : List Node) (old new : Table) (f : List Part) (v : ℕ) : Type 0 where
   pub forms : new.forms ≡ with_units old.forms f ++ f ∷ []
   pub number : v ≡ length (with_units old.forms f)
-  pub nonbasic : (k : ℕ) → new.nonbasic k ≡ with_nonbasic_units old f k
-  pub rows : (r : ℕ) → r < length old.forms → new.rows r ≡ old.rows r
-  pub row : (k : ℕ) → new.nonbasic k ≡ true → new.rows v k ≡ (joining ns old f).result k
+  pub nonbasic : (k : ℕ) → is_nonbasic new.grid k ≡ with_nonbasic_units old f k
+  pub rows : (r : ℕ) → r < length old.forms → rows_of new.grid r ≡ rows_of old.grid r
+  pub row : (k : ℕ) → is_nonbasic new.grid k ≡ true → rows_of new.grid v k ≡ (joining ns old f).result k
 
 -- what comes of a form that joins: its number, or the first operation on its row that leaves the numbers, or want of memory
 abbrev pub Joins : List Node → Table → Table → List Part → Result ℕ TabStop → Type 0

@@ -7,6 +7,7 @@ ghost use Rattle.nz_spec.specs.Term.{is_zero};
 ghost use Rattle.nz_tab.specs.Comes.{Comes, IsOperated};
 ghost use Rattle.nz_tab.specs.Each.{behind};
 ghost use Rattle.nz_tab.specs.Exchanges.{replaced_row, solved_part, solved_parts, solved_row, sum_row};
+ghost use Rattle.nz_tab.specs.Rows.{coefficient};
 
 use crate::row::{Row, Var};
 use nz_frac::{Frac, Wide};
@@ -22,8 +23,8 @@ pub(crate) fn solve(
     enters: Var,
 ) -> Result<(), Wide>
     requires room { length columns.now ≤ vec_capacity solved.old }
-    requires nonzero { is_zero (row.now enters) ≡ false }
-    ensures solved { Comes (solved_row columns.now leaves enters row.now) solved.new.items result }
+    requires nonzero { is_zero (coefficient row.now enters) ≡ false }
+    ensures solved { Comes (solved_row columns.now leaves enters (coefficient row.now)) solved.new.items result }
     ensures capacity { vec_capacity solved.new ≡ vec_capacity solved.old }
 {
     solved.clear();
@@ -44,7 +45,7 @@ fn put_solved(
 ) -> Result<(), Wide>
     requires room { vec_len solved.old + length columns.now ≤ vec_capacity solved.old }
     requires nonzero { divisor.numerator ≢ pos 0 }
-    ensures put { Comes (behind solved.old.items (solved_parts columns.now leaves divisor inverse row.now)) solved.new.items result }
+    ensures put { Comes (behind solved.old.items (solved_parts columns.now leaves divisor inverse (coefficient row.now))) solved.new.items result }
     ensures capacity { vec_capacity solved.new ≡ vec_capacity solved.old }
 {
     for column in columns {
@@ -63,7 +64,7 @@ fn solved_part(
     column: Var,
 ) -> Result<Frac, Wide>
     requires nonzero { divisor.numerator ≢ pos 0 }
-    ensures part { IsOperated (solved_part leaves divisor inverse row.now column) result }
+    ensures part { IsOperated (solved_part leaves divisor inverse (coefficient row.now) column) result }
 {
     if column == leaves {
         return Ok(inverse);
@@ -82,7 +83,7 @@ pub(crate) fn put_replaced(
     requires width { length solved.now ≡ length columns.now }
     requires without { All (λ k. k ≢ enters) columns.now }
     requires room { vec_len rows.old + length columns.now ≤ vec_capacity rows.old }
-    ensures put { (q : Coefficients) → solved.now ≡ map q columns.now → Comes (behind rows.old.items (replaced_row columns.now enters q row.now)) rows.new.items result }
+    ensures put { (q : Coefficients) → solved.now ≡ map q columns.now → Comes (behind rows.old.items (replaced_row columns.now enters q (coefficient row.now))) rows.new.items result }
     ensures long { OnOk result (vec_len rows.new ≡ vec_len rows.old + length columns.now) }
     ensures capacity { vec_capacity rows.new ≡ vec_capacity rows.old }
 {
@@ -97,7 +98,7 @@ pub(crate) fn put_replaced(
 /// Puts a row behind others as it is.
 fn put_row(rows: &mut Vec<Frac>, row: &Row<'_>, columns: &[Var])
     requires room { vec_len rows.old + length columns.now ≤ vec_capacity rows.old }
-    ensures put { rows.new.items ≡ rows.old.items ++ map row.now columns.now }
+    ensures put { rows.new.items ≡ rows.old.items ++ map (coefficient row.now) columns.now }
     ensures long { vec_len rows.new ≡ vec_len rows.old + length columns.now }
     ensures capacity { vec_capacity rows.new ≡ vec_capacity rows.old }
 {
@@ -116,7 +117,7 @@ fn put_sum(
 ) -> Result<(), Wide>
     requires width { length other.now ≡ length columns.now }
     requires room { vec_len rows.old + length columns.now ≤ vec_capacity rows.old }
-    ensures put { (d : Coefficients) → other.now ≡ map d columns.now → Comes (behind rows.old.items (sum_row columns.now factor d row.now)) rows.new.items result }
+    ensures put { (d : Coefficients) → other.now ≡ map d columns.now → Comes (behind rows.old.items (sum_row columns.now factor d (coefficient row.now))) rows.new.items result }
     ensures long { OnOk result (vec_len rows.new ≡ vec_len rows.old + length columns.now) }
     ensures capacity { vec_capacity rows.new ≡ vec_capacity rows.old }
 {

@@ -1,5 +1,5 @@
 //! The rows of all basic forms, in one block.
-ghost use Rattle.std.specs.Prelude.{◌≡◌, ◌<◌, ◌≤◌, ◌+◌, ◌-◌, ◌*◌, ◌^◌, ◌++◌, if◌then◌else◌, ◌≢◌, not, All, OnOk, OnErr, ℕ, false, pos, true, length, map, vec_len, vec_capacity};
+ghost use Rattle.std.specs.Prelude.{◌≡◌, ◌<◌, ◌≤◌, ◌+◌, ◌-◌, ◌*◌, ◌^◌, ◌++◌, if◌then◌else◌, ◌≢◌, not, All, OnOk, OnErr, ℕ, false, pos, true, length, map, set, vec_len, vec_capacity};
 ghost use Rattle.nz_spec.specs.Basis.{Coefficients};
 ghost use Rattle.nz_spec.specs.BasisMoves.{exchange, exchanged, numbers};
 ghost use Rattle.nz_spec.specs.Fraction.{whole};
@@ -7,17 +7,17 @@ ghost use Rattle.nz_spec.specs.Term.{is_zero};
 ghost use Rattle.nz_tab.specs.Comes.{Comes, Stops};
 ghost use Rattle.nz_tab.specs.Each.{behind, each};
 ghost use Rattle.nz_tab.specs.Exchanges.{IsExchanged, row_after};
-ghost use Rattle.nz_tab.specs.Rows.{HasRoom, coefficient_in, counted, empty_grid, is_marked, place_of, row_in, size_of};
+ghost use Rattle.nz_tab.specs.Rows.{HasRoom, counted, empty_grid, is_marked, is_nonbasic, place_of, row_in, row_of, rows_of, size_of};
 
 use crate::exchange::{put_replaced, solve};
-use crate::row::{Row, Var};
+use crate::row::{Row, Var, is_marked};
 use nz_base::Memory;
 use nz_frac::{Frac, Wide};
 use std::alloc::Global;
 use std::marker::Model;
 use std::mem;
 
-/// Which forms are nonbasic, and the rows of the others. A contract sees the rows by the numbers of the forms.
+/// Which forms are nonbasic, and the rows of the others. A contract sees which forms are nonbasic, and the block.
 #[derive(Debug, Drop)]
 pub(crate) struct Rows {
     // For each form whether it is nonbasic, and how many forms of its kind stand before it.
@@ -29,11 +29,11 @@ pub(crate) struct Rows {
 }
 
 impl Model for Rows {
-    ghost use Rattle.nz_tab.specs.Rows.{Grid, IsGrid, grid_of};
+    ghost use Rattle.nz_tab.specs.Rows.{Grid, IsGrid};
 
     ghost Value = { Grid };
 
-    ghost view = { λ g. grid_of g.nonbasic.items g.places.items g.width g.block.items };
+    ghost view = { λ g. record { marks = g.nonbasic.items; block = g.block.items } };
 
     ghost invariant = { λ g. IsGrid g.nonbasic.items g.places.items g.width g.block.items };
 }
@@ -72,23 +72,23 @@ impl Rows {
 
     /// How many forms there are.
     pub(crate) fn count(&self) -> usize
-        ensures count { result ≡ self.now.count }
+        ensures count { result ≡ length self.now.marks }
     {
         self.nonbasic.len()
     }
 
     /// Whether a form is nonbasic.
     pub(crate) fn is_nonbasic(&self, var: Var) -> bool
-        ensures nonbasic { result ≡ self.now.nonbasic var }
+        ensures nonbasic { result ≡ is_nonbasic self.now var }
     {
-        self.nonbasic.get(var).copied().unwrap_or(false)
+        is_marked(self.nonbasic.as_slice(), var)
     }
 
     /// The row of a basic form.
     pub(crate) fn row(&self, var: Var) -> Row<'_>
-        requires listed { var < self.now.count }
-        requires basic { self.now.nonbasic var ≡ false }
-        ensures row { result ≡ self.now.rows var }
+        requires listed { var < length self.now.marks }
+        requires basic { is_nonbasic self.now var ≡ false }
+        ensures row { result ≡ row_of self.now var }
     {
         Row::over(
             self.nonbasic.as_slice(),
@@ -99,13 +99,13 @@ impl Rows {
 
     /// Exchanges a basic form with a nonbasic one at which its coefficient isn't 0. Takes no memory.
     pub(crate) fn exchange(&mut self, room: &mut Room, leaves: Var, enters: Var) -> Result<(), Wide>
-        requires listed { leaves < self.old.count }
-        requires basic { self.old.nonbasic leaves ≡ false }
-        requires nonbasic { self.old.nonbasic enters ≡ true }
-        requires nonzero { is_zero (self.old.rows leaves enters) ≡ false }
+        requires listed { leaves < length self.old.marks }
+        requires basic { is_nonbasic self.old leaves ≡ false }
+        requires nonbasic { is_nonbasic self.old enters ≡ true }
+        requires nonzero { is_zero (rows_of self.old leaves enters) ≡ false }
         requires room { HasRoom self.old (vec_capacity room.old.columns) (vec_capacity room.old.solved) (vec_capacity room.old.spare) }
         ensures exchanged { OnOk result (IsExchanged self.old self.new leaves enters) }
-        ensures stops { Stops (exchange self.old.count self.old.nonbasic self.old.rows leaves enters) result }
+        ensures stops { Stops (exchange (length self.old.marks) (is_nonbasic self.old) (rows_of self.old) leaves enters) result }
         ensures unchanged { OnErr result (self.new ≡ self.old) }
         ensures room { HasRoom self.new (vec_capacity room.new.columns) (vec_capacity room.new.solved) (vec_capacity room.new.spare) }
     {
@@ -130,7 +130,7 @@ impl Rows {
 
     /// Whether a form is nonbasic after an exchange.
     fn is_nonbasic_after(&self, leaves: Var, enters: Var, var: Var) -> bool
-        ensures nonbasic { result ≡ exchanged self.now.nonbasic leaves enters var }
+        ensures nonbasic { result ≡ exchanged (is_nonbasic self.now) leaves enters var }
     {
         if var == leaves {
             true
@@ -143,8 +143,8 @@ impl Rows {
 
     /// The numbers of the forms that are nonbasic after an exchange.
     fn list_columns(&self, columns: &mut Vec<Var>, leaves: Var, enters: Var)
-        requires room { self.now.count ≤ vec_capacity columns.old }
-        ensures listed { columns.new.items ≡ numbers self.now.count (exchanged self.now.nonbasic leaves enters) }
+        requires room { length self.now.marks ≤ vec_capacity columns.old }
+        ensures listed { columns.new.items ≡ numbers (length self.now.marks) (exchanged (is_nonbasic self.now) leaves enters) }
         ensures capacity { vec_capacity columns.new ≡ vec_capacity columns.old }
     {
         columns.clear();
@@ -166,9 +166,9 @@ impl Rows {
     ) -> Result<(), Wide>
         requires width { length solved.now ≡ length columns.now }
         requires without { All (λ k. k ≢ enters) columns.now }
-        requires room { length (numbers self.now.count (λ r. not (exchanged self.now.nonbasic leaves enters r))) * length columns.now ≤ vec_capacity rows.old }
-        requires leaves { self.now.nonbasic leaves ≡ false }
-        ensures put { (q : Coefficients) → solved.now ≡ map q columns.now → Comes (each (row_after self.now.nonbasic self.now.rows columns.now leaves enters q) (counted self.now.count)) rows.new.items result }
+        requires room { length (numbers (length self.now.marks) (λ r. not (exchanged (is_nonbasic self.now) leaves enters r))) * length columns.now ≤ vec_capacity rows.old }
+        requires leaves { is_nonbasic self.now leaves ≡ false }
+        ensures put { (q : Coefficients) → solved.now ≡ map q columns.now → Comes (each (row_after (is_nonbasic self.now) (rows_of self.now) columns.now leaves enters q) (counted (length self.now.marks))) rows.new.items result }
         ensures capacity { vec_capacity rows.new ≡ vec_capacity rows.old }
     {
         rows.clear();
@@ -188,12 +188,12 @@ impl Rows {
         enters: Var,
         var: Var,
     ) -> Result<(), Wide>
-        requires listed { var < self.now.count }
+        requires listed { var < length self.now.marks }
         requires width { length solved.now ≡ length columns.now }
         requires without { All (λ k. k ≢ enters) columns.now }
-        requires room { exchanged self.now.nonbasic leaves enters var ≡ false → vec_len rows.old + length columns.now ≤ vec_capacity rows.old }
-        ensures put { (q : Coefficients) → solved.now ≡ map q columns.now → Comes (behind rows.old.items (row_after self.now.nonbasic self.now.rows columns.now leaves enters q var)) rows.new.items result }
-        ensures long { OnOk result (vec_len rows.new ≡ vec_len rows.old + (if exchanged self.now.nonbasic leaves enters var then 0 else length columns.now)) }
+        requires room { exchanged (is_nonbasic self.now) leaves enters var ≡ false → vec_len rows.old + length columns.now ≤ vec_capacity rows.old }
+        ensures put { (q : Coefficients) → solved.now ≡ map q columns.now → Comes (behind rows.old.items (row_after (is_nonbasic self.now) (rows_of self.now) columns.now leaves enters q var)) rows.new.items result }
+        ensures long { OnOk result (vec_len rows.new ≡ vec_len rows.old + (if exchanged (is_nonbasic self.now) leaves enters var then 0 else length columns.now)) }
         ensures capacity { vec_capacity rows.new ≡ vec_capacity rows.old }
     {
         if self.is_nonbasic_after(leaves, enters, var) {
@@ -208,15 +208,12 @@ impl Rows {
 
     /// Takes the block of an exchange, and leaves the one before it.
     fn replace(&mut self, block: &mut Vec<Frac>, leaves: Var, enters: Var)
-        requires listed { leaves < self.old.count }
-        requires basic { self.old.nonbasic leaves ≡ false }
-        requires nonbasic { self.old.nonbasic enters ≡ true }
-        requires block { length block.old.items ≡ size_of self.old.count self.old.nonbasic }
-        ensures count { self.new.count ≡ self.old.count }
-        ensures nonbasic { (k : ℕ) → self.new.nonbasic k ≡ exchanged self.old.nonbasic leaves enters k }
-        ensures rows { (r k : ℕ) → r < self.old.count → k < self.old.count → self.new.nonbasic r ≡ false → self.new.nonbasic k ≡ true → self.new.rows r k ≡ coefficient_in block.old.items self.old.count (exchanged self.old.nonbasic leaves enters) r k }
-        ensures zeros { (r k : ℕ) → self.new.nonbasic k ≡ false → self.new.rows r k ≡ whole (pos 0) }
-        ensures room { size_of self.old.count self.old.nonbasic ≤ vec_capacity block.new }
+        requires listed { leaves < length self.old.marks }
+        requires basic { is_nonbasic self.old leaves ≡ false }
+        requires nonbasic { is_nonbasic self.old enters ≡ true }
+        requires block { length block.old.items ≡ size_of (length self.old.marks) (is_nonbasic self.old) }
+        ensures replaced { self.new ≡ record { marks = set (set self.old.marks leaves true) enters false; block = block.old.items } }
+        ensures room { size_of (length self.old.marks) (is_nonbasic self.old) ≤ vec_capacity block.new }
     {
         mem::swap(&mut self.block, block);
         self.nonbasic[leaves] = true;
