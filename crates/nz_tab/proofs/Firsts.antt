@@ -1,5 +1,5 @@
 -- The first operation that leaves the numbers, in lists one behind another.
-use Rattle.std.proofs.Common.{◌≡◌, Bool, true, false, List, [], ◌∷◌, ◌++◌, Some, None, refl, ap}
+use Rattle.std.proofs.Common.{◌≡◌, Bool, true, false, List, [], ◌∷◌, ◌++◌, Some, None, refl}
 use Rattle.std.specs.Prelude.{if◌then◌else◌}
 use Rattle.nz_spec.specs.Fraction.{Operation, first_wide, is_wide}
 
@@ -28,11 +28,3 @@ first_wide-some (x ∷ xs) ys w e = append_some x w (is_wide x.operator x.left x
 pub no_operation : first_wide [] ≡ None
 unfolding first_wide
 no_operation = refl
-
-pub one_fits : (x : Operation) → is_wide x.operator x.left x.right ≡ false → first_wide (x ∷ []) ≡ None
-unfolding first_wide
-one_fits x e = ap (λ (b : Bool). if b then Some x else None) e
-
-pub one_stops : (x : Operation) → is_wide x.operator x.left x.right ≡ true → first_wide (x ∷ []) ≡ Some x
-unfolding first_wide
-one_stops x e = ap (λ (b : Bool). if b then Some x else None) e

@@ -3,45 +3,49 @@ use Rattle.std.proofs.Common.{◌≡◌, ℕ, ◌<◌, Bool, true, false, List, 
 use Rattle.std.specs.Prelude.{◌==◌, if◌then◌else◌, ◌≢◌}
 use Rattle.std.specs.List.{AllByRecursion}
 use Rattle.std.proofs.lemmas.List.{get_or-map}
-use Rattle.nz_spec.specs.Fraction.{Fraction, Operation, Product, Quotient, Sum, first_wide, is_wide, outcome, whole}
+use Rattle.nz_spec.specs.Fraction.{Fraction, Operation, Product, Quotient, Sum, first_wide, whole}
 use Rattle.nz_spec.specs.Computation.{Computation, and_then, operated, turned_into}
 use Rattle.nz_spec.specs.Term.{is_zero}
 use Rattle.nz_spec.specs.Basis.{Coefficients}
 use Rattle.nz_spec.specs.BasisMoves.{plus_multiple, replaced}
-use Rattle.nz_frac.specs.Operations.{operation_of}
 use Rattle.nz_frac.specs.declared.frac.Wide.{Wide}
 use Rattle.nz_tab.specs.Comes.{Comes, IsDone}
 use Rattle.nz_tab.specs.Each.{behind, with_multiple}
 use Rattle.nz_tab.specs.Exchanges.{replaced_row, solved_parts, solved_row, sum_row}
-use Rattle.nz_tab.proofs.Firsts.{first_wide-none, first_wide-some, no_operation, one_fits, one_stops}
-use Rattle.nz_tab.proofs.Exchanging.{left, row_moves, row_stays, sums_same, sum_operations}
+use Rattle.nz_tab.proofs.Firsts.{first_wide-none, first_wide-some, no_operation}
+use Rattle.nz_tab.proofs.Exchanging.{row_moves, row_stays, sums_same, sum_operations}
 
 -- ---- The row of the form that enters
 
-module _ (ks : List ℕ) (i j : ℕ) (a : Coefficients) where
-  abbrev reciprocal_of : Operation
-  reciprocal_of = record { operator = Quotient; left = whole (pos 1); right = a j }
+module _ (ks : List ℕ) (i j : ℕ) (a : Coefficients) (divisor : Fraction) (d : divisor ≡ a j) where
+  abbrev pub reciprocal_of : Computation Fraction
+  reciprocal_of = operated Quotient (whole (pos 1)) divisor
+
+  abbrev rest : Fraction → Computation (List Fraction)
+  rest x = solved_parts ks i divisor x a
+
+  whole_row : and_then reciprocal_of rest ≡ solved_row ks i j a
+  whole_row = ap (λ (x : Fraction). and_then (operated Quotient (whole (pos 1)) x) (λ (y : Fraction). solved_parts ks i x y a)) d
 
   -- it stops at the first quotient
-  pub solved_stops : is_wide Quotient (whole (pos 1)) (a j) ≡ true → first_wide (solved_row ks i j a).operations ≡ Some (record { operator = Quotient; left = whole (pos 1); right = a j })
-  solved_stops e = first_wide-some (reciprocal_of ∷ []) (solved_parts ks i (a j) (outcome Quotient (whole (pos 1)) (a j)) a).operations reciprocal_of (one_stops reciprocal_of e)
+  pub solved_stops : (w : Operation) → first_wide reciprocal_of.operations ≡ Some w → first_wide (solved_row ks i j a).operations ≡ Some w
+  solved_stops w e =
+      subst (λ (c : Computation (List Fraction)). first_wide c.operations ≡ Some w) whole_row
+      (first_wide-some reciprocal_of.operations (rest reciprocal_of.result).operations w e)
 
-  module _ (divisor inverse : Fraction) (d : divisor ≡ a j) (v : inverse ≡ outcome Quotient (whole (pos 1)) (a j)) (fits : is_wide Quotient (whole (pos 1)) (a j) ≡ false) where
-    parts_same : solved_parts ks i divisor inverse a ≡ solved_parts ks i (a j) (outcome Quotient (whole (pos 1)) (a j)) a
-    parts_same = ap (λ (x : Fraction). solved_parts ks i x inverse a) d ∙ ap (λ (x : Fraction). solved_parts ks i (a j) x a) v
-
-    later : first_wide (solved_row ks i j a).operations ≡ first_wide (solved_parts ks i divisor inverse a).operations
+  -- else it comes to the coefficients one by one
+  module _ (inverse : Fraction) (v : IsDone reciprocal_of inverse) (now : List Fraction) where
+    later : first_wide (and_then reciprocal_of rest).operations ≡ first_wide (rest inverse).operations
     later =
-        first_wide-none (reciprocal_of ∷ []) (solved_parts ks i (a j) (outcome Quotient (whole (pos 1)) (a j)) a).operations (one_fits reciprocal_of fits)
-        ∙ ap (λ (c : Computation (List Fraction)). first_wide c.operations) (sym parts_same)
+        first_wide-none reciprocal_of.operations (rest reciprocal_of.result).operations v.fits
+        ∙ ap (λ (x : Fraction). first_wide (rest x).operations) (sym v.result)
 
-    -- else it comes to the coefficients one by one
-    pub solved_comes : {X : Type 0} (now : List Fraction) (r : Result X Wide) → Comes (behind [] (solved_parts ks i divisor inverse a)) now r → Comes (solved_row ks i j a) now r
-    solved_comes now (Ok x) h = record {
-      result = h.result ∙ ap (λ (c : Computation (List Fraction)). c.result) parts_same;
-      fits = later ∙ h.fits;
-    }
-    solved_comes now (Err w) h = later ∙ h
+    joined : {X : Type 0} (r : Result X Wide) → Comes (behind [] (rest inverse)) now r → Comes (and_then reciprocal_of rest) now r
+    joined (Ok x) h = record { result = h.result ∙ ap (λ (y : Fraction). (rest y).result) v.result; fits = later ∙ h.fits }
+    joined (Err w) h = later ∙ h
+
+    pub solved_comes : {X : Type 0} (r : Result X Wide) → Comes (behind [] (rest inverse)) now r → Comes (solved_row ks i j a) now r
+    solved_comes r h = subst (λ (c : Computation (List Fraction)). Comes c now r) whole_row (joined r h)
 
 -- ---- The other rows
 

@@ -2,7 +2,7 @@
 ghost use Rattle.std.specs.Prelude.{◌≡◌, ◌<◌, ◌≤◌, ◌+◌, ◌++◌, ◌≢◌, All, OnOk, pos, false, length, map, vec_len, vec_capacity};
 ghost use Rattle.nz_spec.specs.Basis.{Coefficients};
 ghost use Rattle.nz_spec.specs.Computation.{and_then, operated};
-ghost use Rattle.nz_spec.specs.Fraction.{Product, Sum};
+ghost use Rattle.nz_spec.specs.Fraction.{Product, Quotient, Sum, whole};
 ghost use Rattle.nz_spec.specs.Term.{is_zero};
 ghost use Rattle.nz_tab.specs.Comes.{Comes, IsOperated};
 ghost use Rattle.nz_tab.specs.Each.{behind};
@@ -30,8 +30,17 @@ pub(crate) fn solve(
     solved.clear();
     let divisor = row.at(enters);
     prove!(!divisor.is_zero());
-    let inverse = Frac::whole(1).div(divisor)?;
+    let inverse = reciprocal(divisor)?;
     put_solved(solved, row, columns, leaves, divisor, inverse)
+}
+
+/// 1 by a number.
+#[tactic(auto, unfolding(nz_spec::specs::Fraction::first_wide))]
+fn reciprocal(number: Frac) -> Result<Frac, Wide>
+    requires nonzero { number.numerator ≢ pos 0 }
+    ensures quotient { IsOperated (operated Quotient (whole (pos 1)) number) result }
+{
+    Frac::whole(1).div(number)
 }
 
 /// Puts the coefficients of the form that enters behind others.
