@@ -1,13 +1,14 @@
 -- Rows in a block, and the places of forms.
-use Rattle.std.proofs.Common.{◌≡◌, ℕ, zero, suc, ◌+◌, ◌*◌, ◌<◌, ◌≤◌, Bool, true, false, ◌⊎◌, inl, inr, List, [], ◌∷◌, ◌++◌, length, map, flat_map, take, drop, pos, refl, sym, ap, ◌∙◌, subst, true≢false, arith}
+use Rattle.std.proofs.Common.{◌≡◌, ℕ, zero, suc, add-one, ◌+◌, ◌-◌, ◌*◌, ◌<◌, ◌≤◌, Bool, true, false, ◌⊎◌, inl, inr, List, [], ◌∷◌, ◌++◌, length, map, flat_map, take, drop, pos, refl, sym, ap, ◌∙◌, subst, true≢false, arith}
 use Rattle.std.specs.Prelude.{if◌then◌else◌, not, slice_index_or, ◌≢◌, set, ◌==◌}
 use Rattle.std.proofs.Math.Seq.{take-append_seam, drop-append-add}
-use Rattle.std.proofs.lemmas.List.{get_or-map, get_or_past, length-map, length-append, get_or-set_same, get_or-set_other, length-set}
+use Rattle.std.proofs.lemmas.List.{get_or-map, get_or_past, length-map, length-append, get_or-set_same, get_or-set_other, length-set, length_push, map_push}
+use Rattle.std.proofs.lemmas.Nat.{mul-le}
 use Rattle.nz_spec.specs.Fraction.{Fraction, whole}
 use Rattle.nz_spec.specs.Basis.{Coefficients}
 use Rattle.nz_spec.specs.BasisMoves.{numbers, exchanged}
 use Rattle.nz_tab.specs.Rows.{ArePlaces, DenseRow, IsGrid, basic, coefficient, counted, is_marked, place_of, row_in, row_of, rows_of}
-use Rattle.nz_tab.proofs.Numbers.{equal-number, other-number, same-number, number_at, place_within, count_counted, counted_at}
+use Rattle.nz_tab.proofs.Numbers.{count_both, one_fails, one_passes, equal-number, other-number, same-number, number_at, place_within, count_counted, counted_at}
 
 -- ---- Rows in a block
 
@@ -88,10 +89,36 @@ module _ (marks : List Bool) (places : List ℕ) (e : ArePlaces marks places) wh
   nonbasic_place k inside b =
       place_found k inside ∙ ap (λ (b : Bool). if b then length (numbers k (is_marked marks)) else length (numbers k (basic (is_marked marks)))) b
 
-le_times : (a b w : ℕ) → a ≤ b → a * w ≤ b * w
-le_times zero b w h = omega arith
-le_times (suc a) zero w h = absurd (omega (arith, h))
-le_times (suc a) (suc b) w h = omega (arith, le_times a b w (omega (arith, h)))
+pub columns_within : (f : ℕ → Bool) (i columns : ℕ) → columns ≡ length (numbers i f) → columns ≤ i
+columns_within f i columns counts = omega (arith, counts, count_both f i)
+
+-- one form more
+module _ (f : ℕ → Bool) (i columns : ℕ) (mark : Bool) (counts : columns ≡ length (numbers i f)) (tells : mark ≡ f i) where
+  pub columns_more : (if mark then columns + 1 else columns) ≡ length (numbers (i + 1) f)
+  columns_more =
+      ap (λ (b : Bool). if b then columns + 1 else columns) tells
+      ∙ by_test (f i) refl
+      ∙ ap (λ (m : ℕ). length (numbers m f)) (sym (add-one i))
+    where
+      by_test : (b : Bool) → f i ≡ b → (if b then columns + 1 else columns) ≡ length (numbers (suc i) f)
+      by_test true e = omega (arith, counts, length_push (numbers i f) i, ap length (one_passes f i e))
+      by_test false e = counts ∙ sym (ap length (one_fails f i e))
+
+  pub places_more : (places : List ℕ) → places ≡ map (place_of f) (counted i) → places ++ (if mark then columns else i - columns) ∷ [] ≡ map (place_of f) (counted (i + 1))
+  places_more places e =
+      ap (λ (l : List ℕ). l ++ (if mark then columns else i - columns) ∷ []) e
+      ∙ ap (λ (m : ℕ). map (place_of f) (counted i) ++ m ∷ []) place
+      ∙ sym (map_push (place_of f) (counted i) i)
+      ∙ ap (λ (m : ℕ). map (place_of f) (counted m)) (sym (add-one i))
+    where
+      place : (if mark then columns else i - columns) ≡ place_of f i
+      place =
+          ap (λ (m : ℕ). if mark then m else i - columns) counts
+          ∙ ap (λ (m : ℕ). if mark then length (numbers i f) else m) (omega (arith, counts, count_both f i))
+          ∙ ap (λ (b : Bool). if b then length (numbers i f) else length (numbers i (basic f))) tells
+
+abbrev pub dense : List Bool → List Fraction → DenseRow
+dense marks coefficients = record { marks = marks; coefficients = coefficients }
 
 module _ (marks : List Bool) (places : List ℕ) (width : ℕ) (block : List Fraction) (g : IsGrid marks places width block) (k : ℕ) (inside : k < length marks) (e : is_marked marks k ≡ false) where
   -- a row is within the block
@@ -102,17 +129,40 @@ module _ (marks : List Bool) (places : List ℕ) (width : ℕ) (block : List Fra
       let place : slice_index_or places k 0 ≡ length (numbers k (basic f)) = basic_place marks places g.placed k inside e in
       let below : length (numbers k (basic f)) < length (numbers n (basic f)) = place_within (basic f) k n (ap not e) inside in
       let size : length block ≡ length (numbers n (basic f)) * width = g.whole_block ∙ ap (λ (w : ℕ). length (numbers n (basic f)) * w) (sym g.wide) in
-      subst (λ (m : ℕ). (slice_index_or places k 0 + 1) * width ≤ m) (sym size) (le_times (slice_index_or places k 0 + 1) (length (numbers n (basic f))) width (omega (arith, place, below)))
+      subst (λ (m : ℕ). (slice_index_or places k 0 + 1) * width ≤ m) (sym size) (mul-le (slice_index_or places k 0 + 1) width (length (numbers n (basic f))) width (omega (arith, place, below)) (omega arith))
 
   -- the row that stands at its place
-  pub row_stands : (let row : DenseRow = record { marks = marks; coefficients = row_in block width (slice_index_or places k 0) } in row) ≡ row_of (record { marks = marks; block = block }) k
+  pub row_stands : dense marks (row_in block width (slice_index_or places k 0)) ≡ row_of (record { marks = marks; block = block }) k
   row_stands =
       let f = is_marked marks in
       let n = length marks in
-      ap (λ (l : List Fraction). let row : DenseRow = record { marks = marks; coefficients = l } in row)
+      ap (dense marks)
       (ap (λ (w : ℕ). row_in block w (slice_index_or places k 0)) g.wide
       ∙ ap (λ (p : ℕ). row_in block (length (numbers n f)) p) (basic_place marks places g.placed k inside e)
       ∙ ap (λ (b : Bool). if b then [] else row_in block (length (numbers n f)) (length (numbers k (basic f)))) (sym e))
+
+-- ---- The lengths of rows one behind another
+
+-- one row more, where the form is basic
+pub rows_more : (f : ℕ → Bool) (i width len : ℕ) → len ≡ length (numbers i (basic f)) * width → len + (if f i then 0 else width) ≡ length (numbers (i + 1) (basic f)) * width
+rows_more f i width len e = by_test (f i) refl ∙ ap (λ (m : ℕ). length (numbers m (basic f)) * width) (sym (add-one i))
+  where
+    by_test : (b : Bool) → f i ≡ b → len + (if b then 0 else width) ≡ length (numbers (suc i) (basic f)) * width
+    by_test true h = omega (arith, e, ap (λ (l : List ℕ). length l * width) (one_fails (basic f) i (ap not h)))
+    by_test false h =
+        omega (arith, e)
+        ∙ sym (mul-suc_left (length (numbers i (basic f))) width)
+        ∙ ap (λ (m : ℕ). m * width) (omega (arith, length_push (numbers i (basic f)) i))
+        ∙ sym (ap (λ (l : List ℕ). length l * width) (one_passes (basic f) i (ap not h)))
+
+    mul-suc_left : (a w : ℕ) → suc a * w ≡ a * w + w
+    mul-suc_left a w = omega arith
+
+-- there is room for the row of a basic form before the end
+pub row_within : (f : ℕ → Bool) (i n width : ℕ) → f i ≡ false → i < n → length (numbers i (basic f)) * width + width ≤ length (numbers n (basic f)) * width
+row_within f i n width e h =
+    let more : suc (length (numbers i (basic f))) * width ≤ length (numbers n (basic f)) * width = mul-le (suc (length (numbers i (basic f)))) width (length (numbers n (basic f))) width (omega (arith, place_within (basic f) i n (ap not e) h)) (omega arith) in
+    omega (arith, more)
 
 -- ---- Marks that are set
 

@@ -1,7 +1,8 @@
 -- What an exchange of rows comes to as a whole, and how large it is.
 use Rattle.std.proofs.Common.{◌≡◌, ℕ, suc, ◌+◌, ◌*◌, ◌<◌, ◌≤◌, Bool, true, false, ◌⊎◌, inl, inr, List, [], ◌∷◌, ◌++◌, length, map, flat_map, Some, None, Result, Ok, Err, pos, refl, sym, ap, ◌∙◌, subst, true≢false, arith}
-use Rattle.std.specs.Prelude.{◌==◌, ◌&&◌, if◌then◌else◌, not, ◌≢◌, slice_index_or}
-use Rattle.std.proofs.lemmas.List.{get_or_past}
+use Rattle.std.specs.Prelude.{◌==◌, ◌&&◌, if◌then◌else◌, not, set, ◌≢◌}
+use Rattle.std.proofs.Math.Path.{fun_ext}
+use Rattle.std.proofs.lemmas.List.{length-set}
 use Rattle.nz_spec.specs.Fraction.{Fraction, Operation, first_wide, whole}
 use Rattle.nz_spec.specs.Basis.{Coefficients}
 use Rattle.nz_spec.specs.BasisMoves.{Rows, exchange, exchanged, numbers, replaced, solved}
@@ -9,6 +10,7 @@ use Rattle.nz_tab.specs.Comes.{IsDone}
 use Rattle.nz_tab.specs.Each.{each}
 use Rattle.nz_tab.specs.Exchanges.{row_after, solved_row}
 use Rattle.nz_tab.specs.Rows.{basic, counted, is_marked, size_of}
+use Rattle.nz_tab.proofs.Blocks.{marked_within, marks_exchanged}
 use Rattle.nz_tab.proofs.Exchanging.{entering, rows_operations, rows_same, solved_operations, solved_same}
 use Rattle.nz_tab.proofs.Firsts.{first_wide-none, first_wide-some}
 use Rattle.nz_tab.proofs.Numbers.{equal-number, other-number, same-number, count_both, count_more}
@@ -84,3 +86,28 @@ module _ (f : ℕ → Bool) (i j : ℕ) (leaves : f i ≡ false) (enters : f j �
         → IsDone (each (row_after f rows (numbers n (exchanged f i j)) i j (entering f i j (rows i) leaves enters n)) (counted n)) block
         → block ≡ flat_map (λ r. map ((exchange n f rows i j).result r) (numbers n (exchanged f i j))) (numbers n (basic (exchanged f i j)))
     exchange_block block d = d.result ∙ rows_same f rows (numbers n (exchanged f i j)) i j (entering f i j (rows i) leaves enters n) n
+
+-- ---- Marks that are exchanged
+
+module _ (marks : List Bool) (i j : ℕ) (inside : i < length marks) (leaves : is_marked marks i ≡ false) (enters : is_marked marks j ≡ true) where
+  abbrev pub marks_after : List Bool
+  marks_after = set (set marks i true) j false
+
+  pub marks_long : length marks_after ≡ length marks
+  marks_long = length-set (set marks i true) j false ∙ length-set marks i true
+
+  pub marks_are : is_marked marks_after ≡ exchanged (is_marked marks) i j
+  marks_are = fun_ext (λ k. marks_exchanged marks i j k inside (marked_within marks j enters) (apart (is_marked marks) i j leaves enters))
+
+  -- as many columns, and as large a block
+  pub width_stays : length (numbers (length marks_after) (is_marked marks_after)) ≡ length (numbers (length marks) (is_marked marks))
+  width_stays =
+      ap (λ (f : ℕ → Bool). length (numbers (length marks_after) f)) marks_are
+      ∙ ap (λ (n : ℕ). length (numbers n (exchanged (is_marked marks) i j))) marks_long
+      ∙ count_exchanged (is_marked marks) i j leaves enters (length marks) inside (marked_within marks j enters)
+
+  pub size_stays : size_of (length marks_after) (is_marked marks_after) ≡ size_of (length marks) (is_marked marks)
+  size_stays =
+      ap (λ (f : ℕ → Bool). size_of (length marks_after) f) marks_are
+      ∙ ap (λ (n : ℕ). size_of n (exchanged (is_marked marks) i j)) marks_long
+      ∙ size_exchanged (is_marked marks) i j leaves enters (length marks) inside (marked_within marks j enters)

@@ -2,17 +2,18 @@
 use Rattle.std.proofs.Common.{◌≡◌, ℕ, ◌<◌, Bool, true, false, List, [], ◌∷◌, ◌++◌, length, get_or, map, Some, None, Result, Ok, Err, pos, refl, sym, ap, ◌∙◌, subst}
 use Rattle.std.specs.Prelude.{◌==◌, if◌then◌else◌, ◌≢◌}
 use Rattle.std.specs.List.{AllByRecursion}
-use Rattle.std.proofs.lemmas.List.{get_or-map}
+use Rattle.std.proofs.lemmas.List.{append-nil, get_or-map}
 use Rattle.nz_spec.specs.Fraction.{Fraction, Operation, Product, Quotient, Sum, first_wide, whole}
-use Rattle.nz_spec.specs.Computation.{Computation, and_then, operated, turned_into}
+use Rattle.nz_spec.specs.Computation.{Computation, and_then, at_once, operated, turned_into}
 use Rattle.nz_spec.specs.Term.{is_zero}
 use Rattle.nz_spec.specs.Basis.{Coefficients}
-use Rattle.nz_spec.specs.BasisMoves.{plus_multiple, replaced}
+use Rattle.nz_spec.specs.BasisMoves.{Rows, exchanged, plus_multiple, replaced}
 use Rattle.nz_frac.specs.declared.frac.Wide.{Wide}
 use Rattle.nz_tab.specs.Comes.{Comes, IsDone}
 use Rattle.nz_tab.specs.Each.{behind, with_multiple}
-use Rattle.nz_tab.specs.Exchanges.{replaced_row, solved_parts, solved_row, sum_row}
+use Rattle.nz_tab.specs.Exchanges.{replaced_row, row_after, solved_parts, solved_row, sum_row}
 use Rattle.nz_tab.proofs.Firsts.{first_wide-none, first_wide-some, no_operation}
+use Rattle.nz_tab.proofs.Numbers.{equal-number, other-number}
 use Rattle.nz_tab.proofs.Exchanging.{row_moves, row_stays, sums_same, sum_operations}
 
 -- ---- The row of the form that enters
@@ -78,3 +79,27 @@ module _ (old : List Fraction) (ks : List ℕ) (j : ℕ) (q c : Coefficients) (n
 
     pub row_summed : {X : Type 0} (r : Result X Wide) → Comes (behind old (sum_row ks (c j) q c)) now r → Comes (behind old (replaced_row ks j q c)) now r
     row_summed r h = subst (λ (x : Computation Coefficients). Comes (behind old (turned_into (λ d. map d ks) x)) now r) (sym (row_moves ks j q c e)) (summed r h)
+
+-- ---- What comes of each form
+
+module _ (f : ℕ → Bool) (rows : Rows) (ks : List ℕ) (i j : ℕ) (q : Coefficients) (old : List Fraction) (r : ℕ) where
+  abbrev after : Bool → Bool → Computation (List Fraction)
+  after b c = if b then at_once [] else if c then at_once (map q ks) else replaced_row ks j q (rows r)
+
+  -- nothing, where it is nonbasic then
+  pub none_after : exchanged f i j r ≡ true → IsDone (behind old (row_after f rows ks i j q r)) old
+  none_after e =
+      subst (λ (c : Computation (List Fraction)). IsDone (behind old c) old) (ap (λ (b : Bool). after b (r == j)) (sym e))
+      (record { result = sym (append-nil old); fits = no_operation })
+
+  module _ (e : exchanged f i j r ≡ false) (now : List Fraction) where
+    -- the row that was solved, of the form that enters
+    pub solved_after : r ≡ j → now ≡ old ++ map q ks → IsDone (behind old (row_after f rows ks i j q r)) now
+    solved_after same h =
+        subst (λ (c : Computation (List Fraction)). IsDone (behind old c) now) (ap (λ (b : Bool). after false b) (sym (equal-number r j same)) ∙ ap (λ (b : Bool). after b (r == j)) (sym e))
+        (record { result = h; fits = no_operation })
+
+    -- its own row without the form that enters
+    pub replaced_after : r ≢ j → {X : Type 0} (x : Result X Wide) → Comes (behind old (replaced_row ks j q (rows r))) now x → Comes (behind old (row_after f rows ks i j q r)) now x
+    replaced_after other x h =
+        subst (λ (c : Computation (List Fraction)). Comes (behind old c) now x) (ap (λ (b : Bool). after false b) (sym (other-number r j other)) ∙ ap (λ (b : Bool). after b (r == j)) (sym e)) h

@@ -90,10 +90,11 @@ impl Rows {
         requires basic { is_nonbasic self.now var ≡ false }
         ensures row { result ≡ row_of self.now var }
     {
+        let places = self.places.as_slice();
         Row::over(
             self.nonbasic.as_slice(),
-            self.places.as_slice(),
-            row_at(self.block.as_slice(), self.width, self.places[var]),
+            places,
+            row_at(self.block.as_slice(), self.width, places[var]),
         )
     }
 
@@ -357,8 +358,8 @@ fn number_places(places: &mut Vec<usize>, nonbasic: &[bool])
 {
     places.clear();
     let mut columns = 0;
-    for (var, mark) in nonbasic.iter().enumerate() {
-        places.push_reserved(place_after(*mark, columns, var));
+    for mark in nonbasic {
+        places.push_reserved(place_after(*mark, columns, places.len()));
         columns = count_after(*mark, columns);
     }
 }
