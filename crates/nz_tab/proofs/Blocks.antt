@@ -143,6 +143,9 @@ module _ (marks : List Bool) (places : List ℕ) (width : ℕ) (block : List Fra
 
 -- ---- The lengths of rows one behind another
 
+one_row_more : (a w : ℕ) → suc a * w ≡ a * w + w
+one_row_more a w = omega arith
+
 -- one row more, where the form is basic
 pub rows_more : (f : ℕ → Bool) (i width len : ℕ) → len ≡ length (numbers i (basic f)) * width → len + (if f i then 0 else width) ≡ length (numbers (i + 1) (basic f)) * width
 rows_more f i width len e = by_test (f i) refl ∙ ap (λ (m : ℕ). length (numbers m (basic f)) * width) (sym (add-one i))
@@ -151,12 +154,9 @@ rows_more f i width len e = by_test (f i) refl ∙ ap (λ (m : ℕ). length (num
     by_test true h = omega (arith, e, ap (λ (l : List ℕ). length l * width) (one_fails (basic f) i (ap not h)))
     by_test false h =
         omega (arith, e)
-        ∙ sym (mul-suc_left (length (numbers i (basic f))) width)
+        ∙ sym (one_row_more (length (numbers i (basic f))) width)
         ∙ ap (λ (m : ℕ). m * width) (omega (arith, length_push (numbers i (basic f)) i))
         ∙ sym (ap (λ (l : List ℕ). length l * width) (one_passes (basic f) i (ap not h)))
-
-    mul-suc_left : (a w : ℕ) → suc a * w ≡ a * w + w
-    mul-suc_left a w = omega arith
 
 -- there is room for the row of a basic form before the end
 pub row_within : (f : ℕ → Bool) (i n width : ℕ) → f i ≡ false → i < n → length (numbers i (basic f)) * width + width ≤ length (numbers n (basic f)) * width

@@ -4,5 +4,6 @@ pub mod Exchanged
 pub mod Exchanging
 pub mod Firsts
 pub mod Numbers
+pub mod Pivoting
 pub mod Solving
 pub mod Tableau
