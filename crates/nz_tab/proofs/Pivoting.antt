@@ -10,7 +10,7 @@ use Rattle.nz_spec.specs.BasisMoves.{Rows, exchange, exchanged, numbers}
 use Rattle.nz_tab.specs.Comes.{IsDone}
 use Rattle.nz_tab.specs.Each.{each}
 use Rattle.nz_tab.specs.Exchanges.{IsExchanged, row_after, solved_row}
-use Rattle.nz_tab.specs.Rows.{Grid, HasRoom, basic, coefficient, counted, is_marked, is_nonbasic, row_of, rows_of, size_of}
+use Rattle.nz_tab.specs.Rows.{DenseRow, Grid, HasRoom, basic, coefficient, counted, is_marked, is_nonbasic, row_of, rows_of, size_of}
 use Rattle.nz_tab.proofs.Blocks.{block_long, coefficient_found, columns_within, marked_within, no_coefficient}
 use Rattle.nz_tab.proofs.Exchanging.{entering, without_enters}
 use Rattle.nz_tab.proofs.Exchanged.{apart, count_exchanged, count_rows, exchange_block, exchange_fits, exchange_stops_first, exchange_stops_later, marks_after, marks_are, marks_long, size_exchanged, size_stays, solved_list}
@@ -44,14 +44,17 @@ module _ (g : Grid) (i j : ℕ) (inside : i < length g.marks) (leaves : is_nonba
   abbrev pub computed : Coefficients
   computed = entering f i j (rows_of g i) leaves enters n
 
-  module _ (columns : List ℕ) (listed : columns ≡ columns_after) where
-    pub stops_first : (w : Operation) → first_wide (solved_row columns i j (rows_of g i)).operations ≡ Some w → first_wide (exchange n f (rows_of g) i j).operations ≡ Some w
-    stops_first w h =
-        exchange_stops_first f i j leaves enters (rows_of g) n [] w (subst (λ (ks : List ℕ). first_wide (solved_row ks i j (rows_of g i)).operations ≡ Some w) listed h)
+  module _ (row : DenseRow) (is : row ≡ row_of g i) (columns : List ℕ) (listed : columns ≡ columns_after) where
+    same_row : solved_row columns i j (coefficient row) ≡ solved_row columns_after i j (rows_of g i)
+    same_row = ap (λ (ks : List ℕ). solved_row ks i j (coefficient row)) listed ∙ ap (λ (r : DenseRow). solved_row columns_after i j (coefficient r)) is
 
-    module _ (solved : List Fraction) (s : IsDone (solved_row columns i j (rows_of g i)) solved) where
+    pub stops_first : (w : Operation) → first_wide (solved_row columns i j (coefficient row)).operations ≡ Some w → first_wide (exchange n f (rows_of g) i j).operations ≡ Some w
+    stops_first w h =
+        exchange_stops_first f i j leaves enters (rows_of g) n [] w (subst (λ (c : Computation (List Fraction)). first_wide c.operations ≡ Some w) same_row h)
+
+    module _ (solved : List Fraction) (s : IsDone (solved_row columns i j (coefficient row)) solved) where
       here : IsDone (solved_row columns_after i j (rows_of g i)) solved
-      here = subst (λ (ks : List ℕ). IsDone (solved_row ks i j (rows_of g i)) solved) listed s
+      here = subst (λ (c : Computation (List Fraction)). IsDone c solved) same_row s
 
       pub solved_are : solved ≡ map computed columns
       solved_are = solved_list f i j leaves enters (rows_of g) n solved here ∙ ap (map computed) (sym listed)
@@ -77,7 +80,7 @@ module _ (g : Grid) (i j : ℕ) (inside : i < length g.marks) (leaves : is_nonba
         result = (exchange n f (rows_of g) i j).result
 
         block_is : block ≡ flat_map (λ r. map (result r) columns_after) (numbers n (basic (exchanged f i j)))
-        block_is = exchange_block f i j leaves enters (rows_of g) n block done
+        block_is = exchange_block f i j leaves enters (rows_of g) n solved block done
 
         pub block_fits : length block ≡ size_of n f
         block_fits = ap length block_is ∙ block_long result columns_after (numbers n (basic (exchanged f i j))) ∙ rows_fit

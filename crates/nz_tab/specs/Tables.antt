@@ -1,5 +1,5 @@
 -- Tables of forms over a basis.
-use Rattle.std.specs.Prelude.{ℕ, List, [], map, length, ◌≡◌}
+use Rattle.std.specs.Prelude.{ℕ, List, [], map, length, Option, ◌≡◌}
 use Rattle.std.specs.List.{AllByRecursion}
 use Rattle.nz_spec.specs.Form as spec
 use Rattle.nz_spec.specs.Table.{Node, IsTable}
@@ -9,6 +9,7 @@ use Rattle.nz_lin.specs.declared.form.Part.{Part}
 use Rattle.nz_lin.specs.Forms.{AreUnits, parts_over}
 use Rattle.nz_tab.specs.Exchanges.{IsExchanged}
 use Rattle.nz_tab.specs.Rows.{Grid, HasRoom, empty_grid, is_nonbasic, rows_of}
+use Rattle.nz_tab.specs.Units.{unit_number}
 
 -- forms by the numbers of their units, which of them are nonbasic, and the rows of the others
 pub record Table : Type 0 where
@@ -31,10 +32,11 @@ pub record HasRows (ns : List Node) (t : Table) : Type 0 where
 abbrev pub IsTableau : Table → Type 0
 IsTableau t = (ns : List Node) → IsTable ns → AllByRecursion (AreUnits ns) t.forms → HasRows ns t
 
--- These are the rows of the forms, and there is room for an exchange.
-pub record IsStored (forms : List (List Part)) (g : Grid) (columns solved spare : ℕ) : Type 0 where
+-- These are the rows of the forms, each unit has its number, and there is room for an exchange.
+pub record IsStored (forms : List (List Part)) (g : Grid) (unit_at : ℕ → Option ℕ) (columns solved spare : ℕ) : Type 0 where
   pub count : length g.marks ≡ length forms
   pub tableau : IsTableau (record { forms = forms; grid = g })
+  pub units : (u : ℕ) → unit_at u ≡ unit_number forms u
   pub room : HasRoom g columns solved spare
 
 -- the same forms, with i and j exchanged

@@ -105,7 +105,7 @@ pub(crate) fn put_replaced(
 }
 
 /// Puts a row behind others as it is.
-fn put_row(rows: &mut Vec<Frac>, row: &Row<'_>, columns: &[Var])
+pub(crate) fn put_row(rows: &mut Vec<Frac>, row: &Row<'_>, columns: &[Var])
     requires room { vec_len rows.old + length columns.now ≤ vec_capacity rows.old }
     ensures put { rows.new.items ≡ rows.old.items ++ map (coefficient row.now) columns.now }
     ensures long { vec_len rows.new ≡ vec_len rows.old + length columns.now }
@@ -138,7 +138,7 @@ fn put_sum(
 
 /// A number and a multiple of another one.
 #[tactic(auto, unfolding(nz_spec::specs::Fraction::first_wide))]
-fn with_multiple(number: Frac, factor: Frac, other: Frac) -> Result<Frac, Wide>
+pub(crate) fn with_multiple(number: Frac, factor: Frac, other: Frac) -> Result<Frac, Wide>
     ensures sum { IsOperated (and_then (operated Product factor other) (λ p. operated Sum number p)) result }
 {
     let product = factor.mul(other)?;

@@ -11,7 +11,6 @@ ghost use Rattle.nz_tab.specs.Rows.{HasRoom, counted, empty_grid, is_marked, is_
 
 use crate::exchange::{put_replaced, solve};
 use crate::row::{Row, Var, is_marked};
-use nz_base::Memory;
 use nz_frac::{Frac, Wide};
 use std::alloc::Global;
 use std::marker::Model;
@@ -21,11 +20,11 @@ use std::mem;
 #[derive(Debug, Drop)]
 pub(crate) struct Rows {
     // For each form whether it is nonbasic, and how many forms of its kind stand before it.
-    nonbasic: Vec<bool>,
-    places: Vec<usize>,
+    pub(crate) nonbasic: Vec<bool>,
+    pub(crate) places: Vec<usize>,
     // How many forms are nonbasic, and a row of this width for each of the others.
-    width: usize,
-    block: Vec<Frac>,
+    pub(crate) width: usize,
+    pub(crate) block: Vec<Frac>,
 }
 
 impl Model for Rows {
@@ -111,16 +110,17 @@ impl Rows {
         ensures room { HasRoom self.new (vec_capacity room.new.columns) (vec_capacity room.new.solved) (vec_capacity room.new.spare) }
     {
         self.list_columns(&mut room.columns, leaves, enters);
+        let columns = room.columns.as_slice();
         solve(
             &mut room.solved,
             &self.row(leaves),
-            room.columns.as_slice(),
+            columns,
             leaves,
             enters,
         )?;
         self.put_exchanged(
             &mut room.spare,
-            room.columns.as_slice(),
+            columns,
             room.solved.as_slice(),
             leaves,
             enters,
@@ -221,112 +221,6 @@ impl Rows {
         self.nonbasic[enters] = false;
         number_places(&mut self.places, self.nonbasic.as_slice());
     }
-
-    /// Makes room for some nonbasic forms and one basic form more.
-    pub(crate) fn reserve(&mut self, room: &mut Room, units: usize) -> Result<(), Memory> {
-        let more = units.checked_add(1).ok_or(Memory)?;
-        let count = self.nonbasic.len().checked_add(more).ok_or(Memory)?;
-        let width = self.width.checked_add(units).ok_or(Memory)?;
-        let height = self.count() - self.width + 1;
-        let size = height.checked_mul(width).ok_or(Memory)?;
-        self.nonbasic.reserve(more)?;
-        self.places.reserve(more)?;
-        self.block.reserve(size.saturating_sub(self.block.len()))?;
-        room.columns.clear();
-        room.columns.reserve(count)?;
-        room.solved.clear();
-        room.solved.reserve(count)?;
-        room.spare.clear();
-        room.spare.reserve(size)?;
-        Ok(())
-    }
-
-    /// Starts a row of zeros for a form that joins behind some new units.
-    pub(crate) fn start_row(&self, room: &mut Room, units: usize) {
-        room.columns.clear();
-        room.solved.clear();
-        for var in 0..self.count() + units {
-            if var >= self.count() || self.is_nonbasic(var) {
-                room.columns.push_reserved(var);
-                room.solved.push_reserved(Frac::whole(0));
-            }
-        }
-    }
-
-    /// Adds a form with its coefficient to a row: a nonbasic one at its place, a basic one by its row.
-    pub(crate) fn add_part(
-        &self,
-        row: &mut Vec<Frac>,
-        columns: &[Var],
-        var: Var,
-        coefficient: Frac,
-    ) -> Result<(), Wide> {
-        if var >= self.count() {
-            return add_at(row, self.width + (var - self.count()), coefficient);
-        }
-        if self.is_nonbasic(var) {
-            return add_at(row, self.places[var], coefficient);
-        }
-        add_multiple(row, columns, coefficient, &self.row(var))
-    }
-
-    /// Nonbasic forms join, with the coefficient 0 in each row. Takes no memory.
-    pub(crate) fn join_nonbasic(&mut self, spare: &mut Vec<Frac>, units: usize) {
-        if units == 0 {
-            return;
-        }
-        let height = self.count() - self.width;
-        put_widened(spare, self.block.as_slice(), height, self.width, units);
-        mem::swap(&mut self.block, spare);
-        for _ in 0..units {
-            self.places.push_reserved(self.width);
-            self.nonbasic.push_reserved(true);
-            self.width += 1;
-        }
-    }
-
-    /// A basic form joins with its row. Takes no memory.
-    pub(crate) fn join_basic(&mut self, row: &[Frac]) {
-        put_all(&mut self.block, row);
-        self.places.push_reserved(self.nonbasic.len() - self.width);
-        self.nonbasic.push_reserved(false);
-    }
-}
-
-/// Adds to the coefficient at a place of a row.
-fn add_at(row: &mut Vec<Frac>, place: usize, coefficient: Frac) -> Result<(), Wide> {
-    row[place] = row[place].add(coefficient)?;
-    Ok(())
-}
-
-/// Adds a multiple of a row to another one.
-fn add_multiple(
-    row: &mut Vec<Frac>,
-    columns: &[Var],
-    factor: Frac,
-    other: &Row<'_>,
-) -> Result<(), Wide> {
-    for place in 0..columns.len() {
-        let product = factor.mul(other.at(columns[place]))?;
-        row[place] = row[place].add(product)?;
-    }
-    Ok(())
-}
-
-/// Puts some rows of this width, with some zeros behind each of them.
-fn put_widened(rows: &mut Vec<Frac>, block: &[Frac], height: usize, width: usize, zeros: usize) {
-    rows.clear();
-    for place in 0..height {
-        put_all(rows, row_at(block, width, place));
-        put_zeros(rows, zeros);
-    }
-}
-
-/// Puts zeros behind others.
-fn put_zeros(rows: &mut Vec<Frac>, zeros: usize) {
-    for _ in 0..zeros {
-        rows.push_reserved(Frac::whole(0));
-    }
 }
 
 /// The row of this place, in a block of rows of this width.
@@ -339,7 +233,7 @@ fn row_at(block: &[Frac], width: usize, place: usize) -> &[Frac]
 }
 
 /// Puts coefficients behind others.
-fn put_all(rows: &mut Vec<Frac>, row: &[Frac])
+pub(crate) fn put_all(rows: &mut Vec<Frac>, row: &[Frac])
     requires room { vec_len rows.old + length row.now ≤ vec_capacity rows.old }
     ensures put { rows.new.items ≡ rows.old.items ++ row.now }
     ensures long { vec_len rows.new ≡ vec_len rows.old + length row.now }
@@ -351,7 +245,7 @@ fn put_all(rows: &mut Vec<Frac>, row: &[Frac])
 }
 
 /// How many forms of its kind stand before each form.
-fn number_places(places: &mut Vec<usize>, nonbasic: &[bool])
+pub(crate) fn number_places(places: &mut Vec<usize>, nonbasic: &[bool])
     requires room { length nonbasic.now ≤ vec_capacity places.old }
     ensures places { places.new.items ≡ map (place_of (is_marked nonbasic.now)) (counted (length nonbasic.now)) }
     ensures capacity { vec_capacity places.new ≡ vec_capacity places.old }

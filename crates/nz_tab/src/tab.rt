@@ -5,7 +5,8 @@ ghost use Rattle.nz_spec.specs.Table.{IsTable, Node};
 ghost use Rattle.nz_spec.specs.Term.{is_zero};
 ghost use Rattle.nz_tab.specs.Comes.{Stops};
 ghost use Rattle.nz_lin.specs.Forms.{AreUnits};
-ghost use Rattle.nz_tab.specs.Joins.{Joins, UnitJoins, is_unit_form};
+ghost use Rattle.nz_tab.specs.Joins.{Joins, UnitJoins};
+ghost use Rattle.nz_tab.specs.Rows.{is_nonbasic, row_of, rows_of};
 ghost use Rattle.nz_tab.specs.Tables.{IsPivoted, IsTableau, empty_table};
 
 use crate::row::{Row, Var};
@@ -68,8 +69,7 @@ impl<T: Drop> From<AllocFailed<T>> for TabStop {
     }
 }
 
-/// Forms over a basis. A contract sees the forms in the order of their numbers, which of them are nonbasic, and the rows of the
-/// others.
+/// Forms over a basis. A contract sees the forms in the order of their numbers, and the rows of those that are basic.
 #[derive(Debug, Drop)]
 pub struct Tab {
     forms: Vec<Vec<Part>>,
@@ -81,16 +81,15 @@ pub struct Tab {
 }
 
 impl Model for Tab {
-    ghost use Rattle.std.specs.Prelude.{map, vec_capacity};
-    ghost use Rattle.nz_lin.specs.Forms.{AreUnits};
-    ghost use Rattle.nz_tab.specs.Joins.{Joins, UnitJoins, is_unit_form};
-    ghost use Rattle.nz_tab.specs.Tables.{IsStored, Table, table_of};
+    ghost use Rattle.std.specs.HashMap.{get};
+    ghost use Rattle.std.specs.Prelude.{map, nat_eq, vec_capacity};
+    ghost use Rattle.nz_tab.specs.Tables.{IsStored, Table};
 
     ghost Value = { Table };
 
-    ghost view = { λ t. table_of (map (λ v. v.items) t.forms.items) t.rows };
+    ghost view = { λ t. record { forms = map (λ v. v.items) t.forms.items; grid = t.rows } };
 
-    ghost invariant = { λ t. IsStored (map (λ v. v.items) t.forms.items) t.rows (vec_capacity t.room.columns) (vec_capacity t.room.solved) (vec_capacity t.room.spare) };
+    ghost invariant = { λ t. IsStored (map (λ v. v.items) t.forms.items) t.rows (get nat_eq t.units) (vec_capacity t.room.columns) (vec_capacity t.room.solved) (vec_capacity t.room.spare) };
 }
 
 impl Tab {
@@ -125,7 +124,7 @@ impl Tab {
     /// Whether a form is basic.
     pub fn is_basic(&self, var: Var) -> bool
         requires known { var < length self.now.forms }
-        ensures basic { result ≡ not (self.now.nonbasic var) }
+        ensures basic { result ≡ not (is_nonbasic self.now.grid var) }
     {
         !self.rows.is_nonbasic(var)
     }
@@ -133,8 +132,8 @@ impl Tab {
     /// The row of a basic form.
     pub fn row(&self, i: Var) -> Row<'_>
         requires known { i < length self.now.forms }
-        requires basic { self.now.nonbasic i ≡ false }
-        ensures row { result ≡ self.now.rows i }
+        requires basic { is_nonbasic self.now.grid i ≡ false }
+        ensures row { result ≡ row_of self.now.grid i }
     {
         self.rows.row(i)
     }
@@ -148,11 +147,11 @@ impl Tab {
     /// The first operation that leaves the numbers. Then the table is as before.
     pub fn pivot(&mut self, i: Var, j: Var) -> Result<(), Wide>
         requires leaves { i < length self.old.forms }
-        requires basic { self.old.nonbasic i ≡ false }
-        requires enters { self.old.nonbasic j ≡ true }
-        requires nonzero { is_zero (self.old.rows i j) ≡ false }
+        requires basic { is_nonbasic self.old.grid i ≡ false }
+        requires enters { is_nonbasic self.old.grid j ≡ true }
+        requires nonzero { is_zero (rows_of self.old.grid i j) ≡ false }
         ensures pivoted { OnOk result (IsPivoted self.old self.new i j) }
-        ensures stops { Stops (exchange (length self.old.forms) self.old.nonbasic self.old.rows i j) result }
+        ensures stops { Stops (exchange (length self.old.forms) (is_nonbasic self.old.grid) (rows_of self.old.grid) i j) result }
         ensures unchanged { OnErr result (self.new ≡ self.old) }
     {
         exchange_keeps_basis();
