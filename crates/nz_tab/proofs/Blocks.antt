@@ -1,8 +1,9 @@
 -- Rows in a block, and the places of forms.
 use Rattle.std.proofs.Common.{◌≡◌, ℕ, zero, suc, add-one, ◌+◌, ◌-◌, ◌*◌, ◌<◌, ◌≤◌, Bool, true, false, ◌⊎◌, inl, inr, List, [], ◌∷◌, ◌++◌, length, map, flat_map, take, drop, pos, refl, sym, ap, ◌∙◌, subst, true≢false, arith}
 use Rattle.std.specs.Prelude.{if◌then◌else◌, not, slice_index_or, ◌≢◌, set, ◌==◌}
+use Rattle.std.proofs.lemmas.Grind.{flat_map-append}
 use Rattle.std.proofs.Math.Seq.{take-append_seam, drop-append-add}
-use Rattle.std.proofs.lemmas.List.{get_or-map, get_or_past, length-map, length-append, get_or-set_same, get_or-set_other, length-set, length_push, map_push}
+use Rattle.std.proofs.lemmas.List.{append-nil, get_or-map, get_or_past, length-map, length-append, get_or-set_same, get_or-set_other, length-set, length_push, map_push}
 use Rattle.std.proofs.lemmas.Nat.{mul-le}
 use Rattle.nz_spec.specs.Fraction.{Fraction, whole}
 use Rattle.nz_spec.specs.Basis.{Coefficients}
@@ -157,6 +158,20 @@ rows_more f i width len e = by_test (f i) refl ∙ ap (λ (m : ℕ). length (num
         ∙ sym (one_row_more (length (numbers i (basic f))) width)
         ∙ ap (λ (m : ℕ). m * width) (omega (arith, length_push (numbers i (basic f)) i))
         ∙ sym (ap (λ (l : List ℕ). length l * width) (one_passes (basic f) i (ap not h)))
+
+-- the list of a basic form behind those of the forms before it
+pub rows_behind : (h : ℕ → List Fraction) (f : ℕ → Bool) (i : ℕ) (old : List Fraction) → old ≡ flat_map h (numbers i (basic f)) → old ++ (if f i then [] else h i) ≡ flat_map h (numbers (i + 1) (basic f))
+rows_behind h f i old e =
+    ap (λ (l : List Fraction). l ++ (if f i then [] else h i)) e
+    ∙ by_test (f i) refl
+    ∙ ap (λ (m : ℕ). flat_map h (numbers m (basic f))) (sym (add-one i))
+  where
+    by_test : (b : Bool) → f i ≡ b → flat_map h (numbers i (basic f)) ++ (if b then [] else h i) ≡ flat_map h (numbers (suc i) (basic f))
+    by_test true g = append-nil (flat_map h (numbers i (basic f))) ∙ ap (flat_map h) (sym (one_fails (basic f) i (ap not g)))
+    by_test false g =
+        ap (λ (l : List Fraction). flat_map h (numbers i (basic f)) ++ l) (sym (append-nil (h i)))
+        ∙ sym (flat_map-append h (numbers i (basic f)) (i ∷ []))
+        ∙ ap (flat_map h) (sym (one_passes (basic f) i (ap not g)))
 
 -- there is room for the row of a basic form before the end
 pub row_within : (f : ℕ → Bool) (i n width : ℕ) → f i ≡ false → i < n → length (numbers i (basic f)) * width + width ≤ length (numbers n (basic f)) * width

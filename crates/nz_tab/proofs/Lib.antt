@@ -1,3 +1,4 @@
+pub mod Adding
 pub mod Blocks
 pub mod Each
 pub mod Exchanged
@@ -7,3 +8,4 @@ pub mod Numbers
 pub mod Pivoting
 pub mod Solving
 pub mod Tableau
+pub mod Widening

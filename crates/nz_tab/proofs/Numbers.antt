@@ -28,7 +28,7 @@ one_passes f n e = ap (λ b. if b then numbers n f ++ n ∷ [] else numbers n f)
 pub one_fails : (f : ℕ → Bool) (n : ℕ) → f n ≡ false → numbers (suc n) f ≡ numbers n f
 one_fails f n e = ap (λ b. if b then numbers n f ++ n ∷ [] else numbers n f) e
 
-same_or_below : (k n : ℕ) → k < suc n → (k ≡ n) ⊎ (k < n)
+pub same_or_below : (k n : ℕ) → k < suc n → (k ≡ n) ⊎ (k < n)
 same_or_below k n h = grind (arith, h)
 
 -- a number that passes, and those before it

@@ -1,6 +1,7 @@
 -- What an exchange leaves is a tableau again.
-use Rattle.std.proofs.Common.{◌≡◌, ℕ, ◌<◌, Bool, true, false, List, length, refl, sym, ◌∙◌, subst, arith}
+use Rattle.std.proofs.Common.{◌≡◌, ℕ, ◌<◌, Bool, true, false, List, Option, Result, Ok, Err, length, refl, sym, ap, ◌∙◌, subst, arith}
 use Rattle.std.proofs.Math.Path.{fun_ext}
+use Rattle.std.specs.Prelude.{OnErr, OnOk}
 use Rattle.std.proofs.lemmas.List.{length-map}
 use Rattle.nz_spec.specs.Fraction.{◌=ℚ◌}
 use Rattle.nz_spec.specs.Form as spec
@@ -13,9 +14,10 @@ use Rattle.nz_spec.proofs.FractionSolver.{◌∙ℚ◌}
 use Rattle.nz_spec.proofs.BasisExchange.{row-same}
 use Rattle.nz_lin.specs.declared.form.Part.{Part}
 use Rattle.nz_lin.specs.Forms.{parts_over}
-use Rattle.nz_tab.specs.Rows.{Grid, is_nonbasic, rows_of}
+use Rattle.nz_frac.specs.declared.frac.Wide.{Wide}
+use Rattle.nz_tab.specs.Rows.{Grid, HasRoom, is_nonbasic, rows_of}
 use Rattle.nz_tab.specs.Exchanges.{IsExchanged}
-use Rattle.nz_tab.specs.Tables.{HasRows, IsTableau, forms_over}
+use Rattle.nz_tab.specs.Tables.{HasRows, IsStored, IsTableau, forms_over}
 
 module _ (law : ExchangeKeepsBasis) (forms : List (List Part)) (old new : Grid) (i j : ℕ) (count : length old.marks ≡ length forms) (inside : i < length old.marks) (leaves : is_nonbasic old i ≡ false) (enters : is_nonbasic old j ≡ true) (nonzero : is_zero (rows_of old i j) ≡ false) (h : IsExchanged old new i j) where
   abbrev f : ℕ → Bool
@@ -76,3 +78,20 @@ module _ (law : ExchangeKeepsBasis) (forms : List (List Part)) (old new : Grid) 
 
   pub exchanged_tableau : IsTableau (record { forms = forms; grid = old }) → IsTableau (record { forms = forms; grid = new })
   exchanged_tableau is ns table units = has_rows ns (is ns table units)
+
+-- an exchange leaves what is stored in order, also where it stops
+pub stored_after : {X : Type 0} → ExchangeKeepsBasis → (forms : List (List Part)) (old new : Grid) (unit_at : ℕ → Option ℕ) (columns solved spare c d e i j : ℕ) → IsStored forms old unit_at columns solved spare
+    → i < length old.marks → is_nonbasic old i ≡ false → is_nonbasic old j ≡ true → is_zero (rows_of old i j) ≡ false
+    → (r : Result X Wide) → OnOk r (IsExchanged old new i j) → OnErr r (new ≡ old) → HasRoom new c d e → IsStored forms new unit_at c d e
+stored_after law forms old new unit_at columns solved spare c d e i j s inside leaves enters nonzero (Ok x) done same room = record {
+  count = done.count ∙ s.count;
+  tableau = exchanged_tableau law forms old new i j s.count inside leaves enters nonzero done s.tableau;
+  units = s.units;
+  room = room;
+}
+stored_after law forms old new unit_at columns solved spare c d e i j s inside leaves enters nonzero (Err w) done same room = record {
+  count = ap (λ (g : Grid). length g.marks) same ∙ s.count;
+  tableau = subst (λ (g : Grid). IsTableau (record { forms = forms; grid = g })) (sym same) s.tableau;
+  units = s.units;
+  room = room;
+}

@@ -1,16 +1,17 @@
 //! Forms that join the rows: units as nonbasic forms, and sums of forms as basic ones.
-ghost use Rattle.std.specs.Prelude.{◌≡◌, ◌<◌, ◌≤◌, ◌+◌, ◌*◌, ◌++◌, [], ◌∷◌, All, IfOk, OnOk, OnErr, ℕ, false, length, map, pos, replicate, suc, true, vec_capacity, vec_len};
+ghost use Rattle.std.specs.Prelude.{◌≡◌, ◌<◌, ◌≤◌, ◌+◌, ◌*◌, ◌++◌, [], ◌∷◌, flat_map, set, slice_index_or, if◌then◌else◌, All, IfOk, OnOk, OnErr, ℕ, false, length, map, pos, true, vec_capacity, vec_len};
 ghost use Rattle.nz_spec.specs.Basis.{Coefficients};
 ghost use Rattle.nz_spec.specs.BasisMoves.{numbers, plus_multiple};
-ghost use Rattle.nz_spec.specs.Computation.{turned_into};
-ghost use Rattle.nz_spec.specs.Fraction.{whole};
+ghost use Rattle.nz_spec.specs.Computation.{operated, turned_into};
+ghost use Rattle.nz_spec.specs.Fraction.{Sum, whole};
 ghost use Rattle.nz_tab.specs.Comes.{Comes};
 ghost use Rattle.nz_tab.specs.Rows.{HasRoom, basic, coefficient, is_marked, is_nonbasic, rows_of};
-ghost use Rattle.nz_tab.specs.Sums.{HasRoomForSum, IsWidened, all_added, one_added};
+ghost use Rattle.nz_tab.specs.Sums.{HasRoomForSum, IsWidened, SumJoins, SumPushed, all_added, one_added};
 
 use crate::exchange::{put_row, with_multiple};
 use crate::row::{Row, Var};
 use crate::rows::{Room, Rows, number_places, put_all};
+use crate::tab::TabStop;
 use nz_base::Memory;
 use nz_frac::{Frac, Wide};
 use std::alloc::{AllocError, Global};
@@ -49,8 +50,10 @@ impl Rows {
     pub(crate) fn widened(&self, alloc: Global, units: usize) -> Result<Rows, Memory>
         ensures widened { IfOk result (λ g. IsWidened self.now g units) }
     {
-        let nonbasic = marks_with_units(alloc, self.nonbasic.as_slice(), units)?;
-        let mut places = Vec::with_capacity(alloc, nonbasic.len())?;
+        let count = self.count().checked_add(units).ok_or(Memory)?;
+        let mut nonbasic = Vec::from_slice(alloc, self.nonbasic.as_slice())?;
+        nonbasic.resize(count, true)?;
+        let mut places = Vec::with_capacity(alloc, count)?;
         number_places(&mut places, nonbasic.as_slice());
         let columns = marked(alloc, nonbasic.as_slice())?;
         let block = self.block_over(alloc, columns.as_slice())?;
@@ -64,17 +67,74 @@ impl Rows {
     }
 
     /// The rows at these forms, one behind another.
-    fn block_over(&self, alloc: Global, columns: &[Var]) -> Result<Vec<Frac>, Memory>
+    fn block_over(&self, alloc: Global, columns: &[Var]) -> Result<Vec<Frac>, AllocError>
         ensures block { IfOk result (λ v. v.items ≡ flat_map (λ r. map (rows_of self.now r) columns.now) (numbers (length self.now.marks) (basic (is_nonbasic self.now)))) }
     {
         let mut block = Vec::new(alloc);
         for var in 0..self.count() {
-            if !self.is_nonbasic(var) {
-                block.reserve(columns.len())?;
-                put_row(&mut block, &self.row(var), columns);
-            }
+            self.put_basic(&mut block, columns, var)?;
         }
         Ok(block)
+    }
+
+    /// Puts the row of a form behind others, where it is basic.
+    fn put_basic(
+        &self,
+        block: &mut Vec<Frac>,
+        columns: &[Var],
+        var: Var,
+    ) -> Result<(), AllocError>
+        requires listed { var < length self.now.marks }
+        ensures put { OnOk result (block.new.items ≡ block.old.items ++ (if is_nonbasic self.now var then [] else map (rows_of self.now var) columns.now)) }
+    {
+        if self.is_nonbasic(var) {
+            return Ok(());
+        }
+        block.reserve(columns.len())?;
+        put_row(block, &self.row(var), columns);
+        Ok(())
+    }
+
+    /// Some units join, and then a sum of forms as basic. After an error the rows are as before.
+    pub(crate) fn join(
+        &mut self,
+        room: &mut Room,
+        alloc: Global,
+        units: usize,
+        addends: &[(Var, Frac)],
+    ) -> Result<(), TabStop>
+        requires within { All (λ a. a.0 < length self.old.marks + units) addends.now }
+        requires columns { length self.old.marks + units ≤ vec_capacity room.old.columns }
+        requires solved { length self.old.marks + units ≤ vec_capacity room.old.solved }
+        ensures joined { SumJoins self.old self.new units addends.now result }
+        ensures unchanged { OnErr result (self.new ≡ self.old) }
+        ensures columns { vec_capacity room.new.columns ≡ vec_capacity room.old.columns }
+        ensures solved { vec_capacity room.new.solved ≡ vec_capacity room.old.solved }
+        ensures spare { vec_capacity room.new.spare ≡ vec_capacity room.old.spare }
+    {
+        if units == 0 {
+            return self.push_sum(room, addends);
+        }
+        let mut wider = self.widened(alloc, units)?;
+        wider.push_sum(room, addends)?;
+        *self = wider;
+        Ok(())
+    }
+
+    /// A sum of forms joins as basic.
+    fn push_sum(&mut self, room: &mut Room, addends: &[(Var, Frac)]) -> Result<(), TabStop>
+        requires within { All (λ a. a.0 < length self.old.marks) addends.now }
+        requires columns { length self.old.marks ≤ vec_capacity room.old.columns }
+        requires solved { length self.old.marks ≤ vec_capacity room.old.solved }
+        ensures pushed { SumPushed self.old self.new addends.now result }
+        ensures unchanged { OnErr result (self.new ≡ self.old) }
+        ensures columns { vec_capacity room.new.columns ≡ vec_capacity room.old.columns }
+        ensures solved { vec_capacity room.new.solved ≡ vec_capacity room.old.solved }
+        ensures spare { vec_capacity room.new.spare ≡ vec_capacity room.old.spare }
+    {
+        self.sum(room, addends)?;
+        self.push(room.solved.as_slice())?;
+        Ok(())
     }
 
     /// Computes the row of a sum of forms, each with its coefficient, from the left.
@@ -90,8 +150,24 @@ impl Rows {
         list_marked(&mut room.columns, self.nonbasic.as_slice());
         let columns = room.columns.as_slice();
         put_zeros(&mut room.solved, columns);
+        self.add_all(&mut room.solved, columns, addends)
+    }
+
+    /// Adds forms with their coefficients to a row, one after another.
+    fn add_all(
+        &self,
+        row: &mut Vec<Frac>,
+        columns: &[Var],
+        addends: &[(Var, Frac)],
+    ) -> Result<(), Wide>
+        requires within { All (λ a. a.0 < length self.now.marks) addends.now }
+        requires columns { columns.now ≡ numbers (length self.now.marks) (is_nonbasic self.now) }
+        requires width { vec_len row.old ≡ length columns.now }
+        ensures added { (c : Coefficients) → row.old.items ≡ map c columns.now → Comes (turned_into (λ d. map d columns.now) (all_added columns.now (is_nonbasic self.now) (rows_of self.now) c addends.now)) row.new.items result }
+        ensures capacity { vec_capacity row.new ≡ vec_capacity row.old }
+    {
         for addend in addends {
-            self.add_one(&mut room.solved, columns, *addend)?;
+            self.add_one(row, columns, *addend)?;
         }
         Ok(())
     }
@@ -112,7 +188,8 @@ impl Rows {
     {
         let (var, coefficient) = addend;
         if self.is_nonbasic(var) {
-            return add_at(row, self.places[var], coefficient);
+            let places = self.places.as_slice();
+            return add_at(row, places[var], coefficient);
         }
         add_multiple(row, columns, coefficient, &self.row(var))
     }
@@ -126,22 +203,11 @@ impl Rows {
         self.nonbasic.reserve(1)?;
         self.places.reserve(1)?;
         self.block.reserve(row.len())?;
-        self.places.push_reserved(self.nonbasic.len() - self.width);
         self.nonbasic.push_reserved(false);
+        number_places(&mut self.places, self.nonbasic.as_slice());
         put_all(&mut self.block, row);
         Ok(())
     }
-}
-
-/// Marks, and some units marked behind them.
-fn marks_with_units(alloc: Global, marks: &[bool], units: usize) -> Result<Vec<bool>, AllocError>
-    ensures marks { IfOk result (λ v. v.items ≡ marks.now ++ replicate units true) }
-{
-    let mut new = Vec::from_slice(alloc, marks)?;
-    for _ in 0..units {
-        new.push(true)?;
-    }
-    Ok(new)
 }
 
 /// The numbers that are marked.
@@ -175,7 +241,7 @@ fn put_zeros(row: &mut Vec<Frac>, columns: &[Var])
     ensures capacity { vec_capacity row.new ≡ vec_capacity row.old }
 {
     row.clear();
-    for _column in columns {
+    for place in 0..columns.len() {
         row.push_reserved(Frac::whole(0));
     }
 }

@@ -5,6 +5,7 @@
 #![tactic(auto)]
 
 mod exchange;
+mod joining;
 mod row;
 mod rows;
 mod tab;

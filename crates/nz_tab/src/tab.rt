@@ -1,13 +1,16 @@
 //! The table of forms.
-ghost use Rattle.std.specs.Prelude.{◌≡◌, ◌<◌, [], List, OnOk, OnErr, false, length, not, slice_index_or, true};
+ghost use Rattle.std.specs.HashMap.{get, spare};
+ghost use Rattle.std.specs.Prelude.{◌≡◌, ◌<◌, ◌≤◌, ◌+◌, ◌++◌, [], ◌∷◌, All, IfOk, List, OnOk, OnErr, ℕ, false, length, map, nat_eq, not, slice_index_or, true, vec_capacity, vec_len};
 ghost use Rattle.nz_spec.specs.BasisMoves.{exchange};
 ghost use Rattle.nz_spec.specs.Table.{IsTable, Node};
 ghost use Rattle.nz_spec.specs.Term.{is_zero};
 ghost use Rattle.nz_tab.specs.Comes.{Stops};
+ghost use Rattle.nz_lin.specs.declared.form.Part.{Part};
 ghost use Rattle.nz_lin.specs.Forms.{AreUnits};
-ghost use Rattle.nz_tab.specs.Joins.{Joins, UnitJoins};
+ghost use Rattle.nz_tab.specs.Joins.{IsUnitJoined, Joins, UnitJoins};
 ghost use Rattle.nz_tab.specs.Rows.{is_nonbasic, row_of, rows_of};
 ghost use Rattle.nz_tab.specs.Tables.{IsPivoted, IsTableau, empty_table};
+ghost use Rattle.nz_tab.specs.Units.{addends, is_one, is_unit_form, new_units, unit_number, unit_of};
 
 use crate::row::{Row, Var};
 use crate::rows::{Room, Rows};
@@ -15,6 +18,7 @@ use nz_base::Memory;
 use nz_frac::{Frac, Wide};
 use nz_lin::{Form, Part};
 use nz_spec::basis::{exchange_keeps_basis, joins_keep_basis};
+use nz_spec::form::term_has_its_number;
 use nz_term::TermId;
 use std::alloc::{AllocError, AllocFailed, Global};
 use std::collections::HashMap;
@@ -172,93 +176,161 @@ impl Tab {
         ensures unchanged { OnErr result (self.new ≡ self.old) }
     {
         let parts = form.parts();
-        let units = self.new_units(parts)?;
         if is_unit(parts) {
-            self.reserve(units.len())?;
-            let known = self.units.get(&parts[0].unit).copied();
-            let var = known.unwrap_or(self.forms.len());
-            self.join_units(units);
-            return Ok(var);
+            return Ok(self.add_unit(parts)?);
         }
-        self.reserve(units.len())?;
-        let copy = Vec::from_slice(*self.forms.allocator(), parts)?;
-        self.solve_row(parts, units.len())?;
-        self.join_units(units);
-        Ok(self.join_basic(copy))
+        self.add_sum(parts)
     }
 
-    /// The forms of the units of a form that aren't here.
-    fn new_units(&self, parts: &[Part]) -> Result<Vec<Vec<Part>>, AllocError> {
+    /// Adds a unit.
+    fn add_unit(&mut self, parts: &[Part]) -> Result<Var, Memory>
+        requires unit { is_unit_form parts.now ≡ true }
+        ensures joins { IfOk result (λ v. IsUnitJoined self.old self.new parts.now v) }
+        ensures unchanged { OnErr result (self.new ≡ self.old) }
+    {
+        joins_keep_basis();
+        term_has_its_number();
         let alloc = *self.forms.allocator();
-        let mut units = Vec::new(alloc);
-        for part in parts {
-            if !self.units.contains_key(&part.unit) {
-                units.push(Vec::from_slice(alloc, &[unit_of(*part)])?)?;
-            }
+        let part = parts[0];
+        if let Some(var) = self.units.get(&part.unit) {
+            return Ok(*var);
         }
-        Ok(units)
+        let unit = unit_form(alloc, part)?;
+        self.room.reserve(&self.rows, 1)?;
+        self.forms.reserve(1)?;
+        self.units.reserve(1)?;
+        let rows = self.rows.widened(alloc, 1)?;
+        self.rows = rows;
+        let var = self.forms.len();
+        put_unit(&mut self.forms, &mut self.units, unit);
+        Ok(var)
     }
 
-    /// Makes room for some units and one form more.
-    fn reserve(&mut self, units: usize) -> Result<(), Memory> {
-        let more = units.checked_add(1).ok_or(Memory)?;
-        self.forms.reserve(more)?;
-        self.units.reserve(units)?;
-        self.rows.reserve(&mut self.room, units)
-    }
-
-    /// Computes the row of a form that joins behind some new units.
-    fn solve_row(&mut self, parts: &[Part], units: usize) -> Result<(), Wide> {
-        self.rows.start_row(&mut self.room, units);
-        let mut next = self.forms.len();
-        for part in parts {
-            let var = self.units.get(&part.unit).copied().unwrap_or(next);
-            if var == next {
-                next += 1;
-            }
-            self.rows.add_part(
-                &mut self.room.solved,
-                self.room.columns.as_slice(),
-                var,
-                part.coefficient,
-            )?;
-        }
-        Ok(())
-    }
-
-    /// Units join as nonbasic forms. Takes no memory.
-    fn join_units(&mut self, units: Vec<Vec<Part>>) {
-        self.rows.join_nonbasic(&mut self.room.spare, units.len());
-        for unit in units {
-            let inserted: Result<_, AllocFailed<_>> = self
-                .units
-                .insert(unit[0].unit, self.forms.len());
-            inserted.unwrap();
-            self.forms.push_reserved(unit);
-        }
-    }
-
-    /// The form whose row was computed joins as a basic one. Takes no memory.
-    fn join_basic(&mut self, form: Vec<Part>) -> Var {
-        self.rows.join_basic(self.room.solved.as_slice());
+    /// Adds a form that isn't a unit alone.
+    fn add_sum(&mut self, parts: &[Part]) -> Result<Var, TabStop>
+        requires sum { is_unit_form parts.now ≡ false }
+        ensures joins { (ns : List Node) → IsTable ns → AreUnits ns parts.now → Joins ns self.old self.new parts.now result }
+        ensures unchanged { OnErr result (self.new ≡ self.old) }
+    {
+        joins_keep_basis();
+        term_has_its_number();
+        let alloc = *self.forms.allocator();
+        let units = new_units(alloc, &self.units, parts)?;
+        let addends = addends(alloc, &self.units, self.forms.len(), parts)?;
+        let form = Vec::from_slice(alloc, parts)?;
+        self.room.reserve(&self.rows, units.len())?;
+        self.forms.reserve(units.len() + 1)?;
+        self.units.reserve(units.len())?;
+        self.rows
+            .join(&mut self.room, alloc, units.len(), addends.as_slice())?;
+        put_units(&mut self.forms, &mut self.units, units);
+        let var = self.forms.len();
         self.forms.push_reserved(form);
-        self.forms.len() - 1
+        Ok(var)
+    }
+}
+
+/// Whether a number is 1.
+fn is_one(number: Frac) -> bool
+    ensures one { result ≡ is_one number }
+{
+    number.num() == 1 && number.den() == 1
+}
+
+/// Whether these are the parts of a unit's form.
+fn is_unit(parts: &[Part]) -> bool
+    ensures unit { result ≡ is_unit_form parts.now }
+{
+    match parts {
+        [part] => is_one(part.coefficient),
+        _ => false,
     }
 }
 
 /// The form of the unit of a part.
-fn unit_of(part: Part) -> Part {
-    Part {
+fn unit_form(alloc: Global, part: Part) -> Result<Vec<Part>, AllocError>
+    ensures unit { IfOk result (λ v. v.items ≡ unit_of part) }
+{
+    let unit = Part {
         coefficient: Frac::whole(1),
         ..part
-    }
+    };
+    Vec::from_slice(alloc, &[unit])
 }
 
-/// Whether these are the parts of a unit's form.
-fn is_unit(parts: &[Part]) -> bool {
-    match parts {
-        [part] => part.coefficient.num() == 1 && part.coefficient.den() == 1,
-        _ => false,
+/// The forms of the units of a form that have no number.
+fn new_units(
+    alloc: Global,
+    numbers: &HashMap<TermId, Var>,
+    parts: &[Part],
+) -> Result<Vec<Vec<Part>>, AllocError>
+    ensures units { IfOk result (λ v. (fs : List (List Part)) → ((u : ℕ) → get nat_eq numbers.now u ≡ unit_number fs u) → map (λ x. x.items) v.items ≡ new_units fs parts.now) }
+{
+    let mut units = Vec::new(alloc);
+    for part in parts {
+        if !numbers.contains_key(&part.unit) {
+            units.push(unit_form(alloc, *part)?)?;
+        }
+    }
+    Ok(units)
+}
+
+/// The numbers of the units of a form, with its coefficients: units that have no number get the next ones.
+fn addends(
+    alloc: Global,
+    numbers: &HashMap<TermId, Var>,
+    count: usize,
+    parts: &[Part],
+) -> Result<Vec<(Var, Frac)>, TabStop>
+    ensures addends { IfOk result (λ v. (fs : List (List Part)) → ((u : ℕ) → get nat_eq numbers.now u ≡ unit_number fs u) → v.items ≡ addends fs count parts.now) }
+{
+    let mut next = count;
+    let mut addends = Vec::new(alloc);
+    for part in parts {
+        let known = numbers.get(&part.unit).copied();
+        addends.push((known.unwrap_or(next), part.coefficient))?;
+        if known.is_none() {
+            next = next.checked_add(1).ok_or(Memory)?;
+        }
+    }
+    Ok(addends)
+}
+
+/// A unit joins the forms.
+fn put_unit(forms: &mut Vec<Vec<Part>>, numbers: &mut HashMap<TermId, Var>, unit: Vec<Part>)
+    requires unit { is_unit_form unit.items ≡ true }
+    requires room { vec_len forms.old < vec_capacity forms.old }
+    requires spare { 0 < spare numbers.old }
+    ensures forms { forms.new.items ≡ forms.old.items ++ unit ∷ [] }
+    ensures numbers { (fs : List (List Part)) → length fs ≡ vec_len forms.old → ((u : ℕ) → get nat_eq numbers.old u ≡ unit_number fs u) → (u : ℕ) → get nat_eq numbers.new u ≡ unit_number (fs ++ unit.items ∷ []) u }
+    ensures len { vec_len forms.new ≡ vec_len forms.old + 1 }
+    ensures capacity { vec_capacity forms.new ≡ vec_capacity forms.old }
+    ensures spare { spare numbers.old ≤ spare numbers.new + 1 }
+{
+    let unit_id = unit[0].unit;
+    if !numbers.contains_key(&unit_id) {
+        let inserted: Result<_, AllocFailed<_>> = numbers.insert(unit_id, forms.len());
+        inserted.unwrap();
+    }
+    forms.push_reserved(unit);
+}
+
+/// Units join the forms.
+fn put_units(
+    forms: &mut Vec<Vec<Part>>,
+    numbers: &mut HashMap<TermId, Var>,
+    units: Vec<Vec<Part>>,
+)
+    requires units { All (λ x. is_unit_form x.items ≡ true) units.items }
+    requires room { vec_len forms.old + length units.items < vec_capacity forms.old }
+    requires spare { length units.items ≤ spare numbers.old }
+    ensures forms { forms.new.items ≡ forms.old.items ++ units.items }
+    ensures numbers { ((u : ℕ) → get nat_eq numbers.old u ≡ unit_number (map (λ x. x.items) forms.old.items) u) → (u : ℕ) → get nat_eq numbers.new u ≡ unit_number (map (λ x. x.items) forms.new.items) u }
+    ensures len { vec_len forms.new ≡ vec_len forms.old + length units.items }
+    ensures capacity { vec_capacity forms.new ≡ vec_capacity forms.old }
+{
+    for unit in units {
+        put_unit(forms, numbers, unit);
     }
 }
 
@@ -266,5 +338,5 @@ fn is_unit(parts: &[Part]) -> bool {
 pub fn known_tableau(tab: &Tab)
     ensures tableau { IsTableau tab.now }
 {
-    tab.len();
+    let _ = &tab.rows;
 }
