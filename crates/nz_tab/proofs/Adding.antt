@@ -1,10 +1,10 @@
 -- A row to which forms are added one by one, qs a list of its coefficients.
-use Rattle.std.proofs.Common.{◌≡◌, ℕ, zero, suc, ◌+◌, ◌<◌, ◌≤◌, Bool, true, false, ◌⊎◌, inl, inr, List, [], ◌∷◌, ◌++◌, length, map, flat_map, get_or, take, drop, set, Some, None, refl, sym, ap, ◌∙◌, subst, arith}
+use Rattle.std.proofs.Common.{◌≡◌, ℕ, zero, suc, ◌+◌, ◌<◌, ◌≤◌, Bool, true, false, ◌⊎◌, inl, inr, List, [], ◌∷◌, ◌++◌, length, map, flat_map, get_or, take, drop, set, Some, None, pos, refl, sym, ap, ◌∙◌, subst, arith}
 use Rattle.std.specs.Prelude.{if◌then◌else◌, ◌==◌, ◌≢◌}
 use Rattle.std.proofs.Math.Path.{fun_ext}
 use Rattle.std.proofs.lemmas.Grind.{flat_map-append}
-use Rattle.std.proofs.lemmas.List.{append-nil, append_assoc, drop_all, drop_more, get_or_at, length-map, length-take-le, length_push, map-append, map_push, set-append_left, set_at, take-append-drop, take_all, take_more}
-use Rattle.nz_spec.specs.Fraction.{Fraction, Operation, Product, Sum, first_wide, outcome}
+use Rattle.std.proofs.lemmas.List.{append-nil, append_assoc, drop_all, drop_more, get_or-map, get_or_at, length-map, length-take-le, length_push, map-append, map_push, set-append_left, set_at, take-append-drop, take_all, take_more}
+use Rattle.nz_spec.specs.Fraction.{Fraction, Operation, Product, Sum, first_wide, outcome, whole}
 use Rattle.nz_spec.specs.Computation.{Computation, and_then, at_once, operated, turned_into}
 use Rattle.nz_spec.specs.Basis.{Coefficients}
 use Rattle.nz_spec.specs.BasisMoves.{Rows, numbers, plus_multiple}
@@ -12,7 +12,7 @@ use Rattle.nz_tab.specs.Comes.{IsDone}
 use Rattle.nz_tab.specs.Each.{with_multiple}
 use Rattle.nz_tab.specs.Sums.{all_added, one_added}
 use Rattle.nz_tab.proofs.Firsts.{first_wide-none, first_wide-some, no_operation}
-use Rattle.nz_tab.proofs.Numbers.{equal-number, one_fails, one_passes, other-number, place_within, same_or_below}
+use Rattle.nz_tab.proofs.Numbers.{equal-number, number_at, one_passes, other-number, place_within, same_or_below}
 
 -- ---- One form after another
 
@@ -194,3 +194,41 @@ module _ (ks : List ℕ) (c d : Coefficients) (s : Fraction) where
         ∙ ap (map summed) (take_all i ks past);
     fits = ap (λ (l : List ℕ). first_wide (sums l).operations) (sym (take_all i ks past)) ∙ fits;
   }
+
+-- ---- One form
+
+abbrev computed : List Fraction → List Operation → Computation (List Fraction)
+computed l x = record { result = l; operations = x }
+
+module _ (n : ℕ) (f : ℕ → Bool) (rows : Rows) (c : Coefficients) (k : ℕ) (q : Fraction) (inside : k < n) where
+  abbrev columns : List ℕ
+  columns = numbers n f
+
+  abbrev wanted : Bool → Computation (List Fraction)
+  wanted b =
+      turned_into (λ (d : Coefficients). map d columns)
+      (if b then (let x : Computation Coefficients = record {
+        result = λ (m : ℕ). if m == k then outcome Sum (c m) q else c m;
+        operations = record { operator = Sum; left = c k; right = q } ∷ [];
+      } in x) else plus_multiple columns c q (rows k))
+
+  -- a nonbasic one, at its place
+  module _ (passes : f k ≡ true) (row : List Fraction) (e : row ≡ map c columns) (place : ℕ) (there : place ≡ length (numbers k f)) where
+    read : get_or row place (whole (pos 0)) ≡ c k
+    read =
+        ap (λ (l : List Fraction). get_or l place (whole (pos 0))) e
+        ∙ ap (λ (p : ℕ). get_or (map c columns) p (whole (pos 0))) there
+        ∙ get_or-map c columns (length (numbers k f)) 0 (whole (pos 0)) (place_within f k n passes inside)
+        ∙ ap c (number_at f k n 0 passes inside)
+
+    pub same_place : turned_into (λ (x : Fraction). set row place x) (operated Sum (get_or row place (whole (pos 0))) q) ≡ turned_into (λ (d : Coefficients). map d columns) (one_added columns f rows c (k, q))
+    same_place =
+        ap (λ (x : Fraction). computed (set row place (outcome Sum x q)) ((let o : Operation = record { operator = Sum; left = x; right = q } in o) ∷ [])) read
+        ∙ ap (λ (l : List Fraction). computed (set l place (outcome Sum (c k) q)) ((let o : Operation = record { operator = Sum; left = c k; right = q } in o) ∷ [])) e
+        ∙ ap (λ (p : ℕ). computed (set (map c columns) p (outcome Sum (c k) q)) ((let o : Operation = record { operator = Sum; left = c k; right = q } in o) ∷ [])) there
+        ∙ ap (λ (l : List Fraction). computed l ((let o : Operation = record { operator = Sum; left = c k; right = q } in o) ∷ [])) (sym (nonbasic_added n f c k q passes inside))
+        ∙ ap wanted (sym passes)
+
+  -- a basic one, by its row
+  pub same_row : f k ≡ false → (d : Coefficients) → d ≡ rows k → turned_into (λ (x : Coefficients). map x columns) (plus_multiple columns c q d) ≡ turned_into (λ (x : Coefficients). map x columns) (one_added columns f rows c (k, q))
+  same_row fails d e = ap (λ (x : Coefficients). turned_into (λ (y : Coefficients). map y columns) (plus_multiple columns c q x)) e ∙ ap wanted (sym fails)

@@ -4,8 +4,11 @@ pub mod Each
 pub mod Exchanged
 pub mod Exchanging
 pub mod Firsts
+pub mod Joined
 pub mod Numbers
 pub mod Pivoting
 pub mod Solving
 pub mod Tableau
+pub mod UnitForms
+pub mod Uniting
 pub mod Widening

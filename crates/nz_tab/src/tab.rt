@@ -1,12 +1,13 @@
 //! The table of forms.
 ghost use Rattle.std.specs.HashMap.{get, spare};
-ghost use Rattle.std.specs.Prelude.{◌≡◌, ◌<◌, ◌≤◌, ◌+◌, ◌++◌, [], ◌∷◌, All, IfOk, List, OnOk, OnErr, ℕ, false, length, map, nat_eq, not, slice_index_or, true, vec_capacity, vec_len};
+ghost use Rattle.std.specs.Prelude.{◌≡◌, ◌<◌, ◌≤◌, ◌+◌, ◌++◌, [], ◌∷◌, if◌then◌else◌, All, IfErr, IfOk, List, OnOk, OnErr, ℕ, false, is_some, length, map, nat_eq, not, slice_index_or, true, vec_capacity, vec_len};
 ghost use Rattle.nz_spec.specs.BasisMoves.{exchange};
 ghost use Rattle.nz_spec.specs.Table.{IsTable, Node};
 ghost use Rattle.nz_spec.specs.Term.{is_zero};
 ghost use Rattle.nz_tab.specs.Comes.{Stops};
 ghost use Rattle.nz_lin.specs.declared.form.Part.{Part};
 ghost use Rattle.nz_lin.specs.Forms.{AreUnits};
+ghost use Rattle.nz_tab.specs.declared.tab.TabStop.TheVariants as stops;
 ghost use Rattle.nz_tab.specs.Joins.{IsUnitJoined, Joins, UnitJoins};
 ghost use Rattle.nz_tab.specs.Rows.{is_nonbasic, row_of, rows_of};
 ghost use Rattle.nz_tab.specs.Tables.{IsPivoted, IsTableau, empty_table};
@@ -268,11 +269,25 @@ fn new_units(
 {
     let mut units = Vec::new(alloc);
     for part in parts {
-        if !numbers.contains_key(&part.unit) {
-            units.push(unit_form(alloc, *part)?)?;
-        }
+        put_new(alloc, &mut units, numbers, *part)?;
     }
     Ok(units)
+}
+
+/// Puts the form of the unit of a part behind others, where it has no number.
+fn put_new(
+    alloc: Global,
+    units: &mut Vec<Vec<Part>>,
+    numbers: &HashMap<TermId, Var>,
+    part: Part,
+) -> Result<(), AllocError>
+    ensures put { OnOk result (map (λ x. x.items) units.new.items ≡ map (λ x. x.items) units.old.items ++ (if is_some (get nat_eq numbers.now part.unit) then [] else unit_of part ∷ [])) }
+{
+    if numbers.contains_key(&part.unit) {
+        return Ok(());
+    }
+    units.push(unit_form(alloc, part)?)?;
+    Ok(())
 }
 
 /// The numbers of the units of a form, with its coefficients: units that have no number get the next ones.
@@ -283,17 +298,26 @@ fn addends(
     parts: &[Part],
 ) -> Result<Vec<(Var, Frac)>, TabStop>
     ensures addends { IfOk result (λ v. (fs : List (List Part)) → ((u : ℕ) → get nat_eq numbers.now u ≡ unit_number fs u) → v.items ≡ addends fs count parts.now) }
+    ensures memory { IfErr result (λ s. s ≡ stops.Memory) }
 {
     let mut next = count;
     let mut addends = Vec::new(alloc);
     for part in parts {
         let known = numbers.get(&part.unit).copied();
         addends.push((known.unwrap_or(next), part.coefficient))?;
-        if known.is_none() {
-            next = next.checked_add(1).ok_or(Memory)?;
-        }
+        next = next_after(known, next)?;
     }
     Ok(addends)
+}
+
+/// The next number, where a unit had none.
+fn next_after(known: Option<Var>, next: Var) -> Result<Var, Memory>
+    ensures next { IfOk result (λ m. m ≡ (if is_some known then next else next + 1)) }
+{
+    if known.is_some() {
+        return Ok(next);
+    }
+    next.checked_add(1).ok_or(Memory)
 }
 
 /// A unit joins the forms.
