@@ -25,6 +25,14 @@ below k n h = grind (arith, nat_tests, h)
 pub not_below : (k n : ℕ) → n ≤ k → nat_lt k n ≡ false
 not_below k n h = grind (arith, nat_tests, h)
 
+-- a number and its coefficient before others, by whether the unit has a number
+abbrev numbered_first : ℕ → Fraction → List (ℕ × Fraction) → List (ℕ × Fraction) → Option ℕ → List (ℕ × Fraction)
+numbered_first next q known new o =
+    elim o [
+      | Some k ↦ (k, q) ∷ known
+      | None ↦ (next, q) ∷ new
+    ]
+
 -- ---- Units apart
 
 -- a unit other than the one that joins
@@ -50,20 +58,11 @@ module _ (fs : List (List Part)) (p : Part) where
   pub addends_same : (next : ℕ) (ps : List Part) → AllByRecursion (λ (q : Part). p.unit < q.unit) ps → addends more next ps ≡ addends fs next ps
   addends_same next [] all = refl
   addends_same next (q ∷ ps) all =
-      ap (λ (o : Option ℕ). elim o [
-        | Some k ↦ (k, q.coefficient) ∷ addends more next ps
-        | None ↦ (next, q.coefficient) ∷ addends more (suc next) ps
-      ]) (number_same q.unit all.0 (unit_number fs q.unit) refl)
+      ap (numbered_first next q.coefficient (addends more next ps) (addends more (suc next) ps)) (number_same q.unit all.0 (unit_number fs q.unit) refl)
       ∙ by_number (unit_number fs q.unit) (addends_same next ps all.1) (addends_same (suc next) ps all.1)
     where
       by_number : (o : Option ℕ) → addends more next ps ≡ addends fs next ps → addends more (suc next) ps ≡ addends fs (suc next) ps
-          → (elim o [
-            | Some k ↦ (k, q.coefficient) ∷ addends more next ps
-            | None ↦ (next, q.coefficient) ∷ addends more (suc next) ps
-          ]) ≡ (elim o [
-            | Some k ↦ (k, q.coefficient) ∷ addends fs next ps
-            | None ↦ (next, q.coefficient) ∷ addends fs (suc next) ps
-          ])
+          → numbered_first next q.coefficient (addends more next ps) (addends more (suc next) ps) o ≡ numbered_first next q.coefficient (addends fs next ps) (addends fs (suc next) ps) o
       by_number None e g = ap (λ (l : List (ℕ × Fraction)). (next, q.coefficient) ∷ l) g
       by_number (Some k) e g = ap (λ (l : List (ℕ × Fraction)). (k, q.coefficient) ∷ l) e
 
@@ -94,25 +93,23 @@ addends_numbered (p ∷ ps) fs order = by_number (unit_number fs p.unit) refl (a
     by_number : (o : Option ℕ) → unit_number fs p.unit ≡ o → ((gs : List (List Part)) → AreInOrder ps → addends gs (length gs) ps ≡ numbered (with_units gs ps) ps)
         → addends fs (length fs) (p ∷ ps) ≡ numbered (with_units fs (p ∷ ps)) (p ∷ ps)
     by_number (Some k) e rest =
-        ap (λ (o : Option ℕ). elim o [
-          | Some m ↦ (m, p.coefficient) ∷ addends fs (length fs) ps
-          | None ↦ (length fs, p.coefficient) ∷ addends fs (suc (length fs)) ps
-        ]) e
+        ap (numbered_first (length fs) p.coefficient (addends fs (length fs) ps) (addends fs (suc (length fs)) ps)) e
         ∙ ap (λ (l : List (ℕ × Fraction)). (k, p.coefficient) ∷ l) (rest fs order.1)
         ∙ ap (λ (o : Option ℕ). (unwrap_or o 0, p.coefficient) ∷ numbered (with_units fs ps) ps) (sym (number_stays fs (new_units fs ps) p.unit k e))
         ∙ ap (λ (l : List (List Part)). numbered l (p ∷ ps)) (sym (units_known fs p ps k e))
     by_number None e rest =
         let gs = fs ++ unit_of p ∷ [] in
         let long : suc (length fs) ≡ length gs = omega (arith, length_push fs (unit_of p)) in
-        ap (λ (o : Option ℕ). elim o [
-          | Some m ↦ (m, p.coefficient) ∷ addends fs (length fs) ps
-          | None ↦ (length fs, p.coefficient) ∷ addends fs (suc (length fs)) ps
-        ]) e
+        ap (numbered_first (length fs) p.coefficient (addends fs (length fs) ps) (addends fs (suc (length fs)) ps)) e
         ∙ ap (λ (l : List (ℕ × Fraction)). (length fs, p.coefficient) ∷ l) (sym (addends_same fs p (suc (length fs)) ps order.0) ∙ ap (λ (n : ℕ). addends gs n ps) long ∙ rest gs order.1)
         ∙ ap (λ (o : Option ℕ). (unwrap_or o 0, p.coefficient) ∷ numbered (with_units gs ps) ps) (sym (number_stays gs (new_units gs ps) p.unit (length fs) (own_number fs p e)))
         ∙ ap (λ (l : List (List Part)). numbered l (p ∷ ps)) (sym (units_step fs p ps e order.0))
 
 -- ---- A basis
+
+-- the nonbasic forms, when those from n to m have joined them
+abbrev pub joined_to : (ℕ → Bool) → ℕ → ℕ → ℕ → Bool
+joined_to f n m k = if nat_lt k n then f k else nat_lt k m
 
 module _ (law : JoinsKeepBasis) (ns : List Node) (number : (i : ℕ) → i < length ns → number_in ns (term_in ns i) ≡ i) where
   pub record Holds (fs : List (List Part)) (f : ℕ → Bool) (rows : Rows) : Type 0 where
@@ -153,10 +150,6 @@ module _ (law : JoinsKeepBasis) (ns : List Node) (number : (i : ℕ) → i < len
           (subst (λ (l : List (List spec.Part)). AreRows l g rows) (sym over_more) old_row);
       units = AllByRecursion-append (AreUnits ns) fs (unit_of p ∷ []) h.units (record { names = (names, _); in_order = (_, _) }, _);
     }
-
-  -- the nonbasic forms, when those from n to m have joined them
-  abbrev pub joined_to : (ℕ → Bool) → ℕ → ℕ → ℕ → Bool
-  joined_to f n m k = if nat_lt k n then f k else nat_lt k m
 
   joined_step : (f : ℕ → Bool) (n m : ℕ) → n < m → (k : ℕ) → joined_to (with_nonbasic f n) (suc n) m k ≡ joined_to f n m k
   joined_step f n m h k = by_place (three k n)

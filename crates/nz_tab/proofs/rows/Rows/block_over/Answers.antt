@@ -2,9 +2,7 @@
 use Rattle.std.proofs.Common.{◌≡◌, List, map, ◌∙◌}
 use Rattle.nz_tab.specs.Rows.{is_nonbasic, rows_of}
 use Rattle.nz_tab.proofs.Blocks.{rows_behind}
-use Rattle.nz_tab.proofs.Adding.{added_none}
-use Rattle.nz_tab.proofs.Widening.{is_widened}
-use Rattle.nz_tab.proofs.joining.Rows.block_over.Goals as goal
+use Rattle.nz_tab.proofs.rows.Rows.block_over.Goals as goal
 
 pub loop-var-preserved : goal.loop-var-preserved
 loop-var-preserved c =

@@ -11,7 +11,7 @@ use Rattle.nz_tab.specs.Sums.{one_added}
 use Rattle.nz_tab.proofs.Blocks.{nonbasic_place, places_long}
 use Rattle.nz_tab.proofs.Adding.{same_place, same_row}
 use Rattle.nz_tab.proofs.Numbers.{place_within}
-use Rattle.nz_tab.proofs.joining.Rows.add_one.Goals as goal
+use Rattle.nz_tab.proofs.rows.Rows.add_one.Goals as goal
 
 pub bounds-places-var : goal.bounds-places-var
 bounds-places-var c = ?

@@ -5,7 +5,7 @@ use Rattle.nz_spec.specs.Computation.{turned_into}
 use Rattle.nz_tab.specs.Comes.{IsDone}
 use Rattle.nz_tab.specs.Rows.{is_nonbasic, rows_of}
 use Rattle.nz_tab.specs.Sums.{all_added}
-use Rattle.nz_tab.proofs.joining.Rows.add_all.Given as goal
+use Rattle.nz_tab.proofs.rows.Rows.add_all.Given as goal
 
 -- the forms so far
 abbrev pub invariant-loop-addend : goal.invariant-loop-addend

@@ -1,7 +1,7 @@
 use Rattle.std.proofs.Common.{◌≡◌, flat_map, map}
 use Rattle.nz_spec.specs.BasisMoves.{numbers}
 use Rattle.nz_tab.specs.Rows.{basic, is_nonbasic, rows_of}
-use Rattle.nz_tab.proofs.joining.Rows.block_over.Given as goal
+use Rattle.nz_tab.proofs.rows.Rows.block_over.Given as goal
 
 -- the rows so far
 abbrev pub invariant-loop-var : goal.invariant-loop-var
