@@ -131,6 +131,12 @@ nonbasic_added n f c k q passes inside =
 
 -- ---- A multiple in place
 
+-- a number and a multiple of another one, as they were read
+pub sum_read : (s x y : Fraction) (d c : Coefficients) (k : ℕ) → x ≡ d k → y ≡ c k → and_then (operated Product s x) (λ p. operated Sum y p) ≡ with_multiple s d c k
+sum_read s x y d c k e g =
+    ap (λ (z : Fraction). and_then (operated Product s z) (λ p. operated Sum y p)) e
+    ∙ ap (λ (z : Fraction). and_then (operated Product s (d k)) (λ p. operated Sum z p)) g
+
 module _ (ks : List ℕ) (c d : Coefficients) (s : Fraction) where
   abbrev sums : List ℕ → Computation Coefficients
   sums l = plus_multiple l c s d
