@@ -4,7 +4,7 @@ ghost use Rattle.nz_spec.specs.Basis.{Coefficients};
 ghost use Rattle.nz_spec.specs.BasisMoves.{numbers, plus_multiple};
 ghost use Rattle.nz_spec.specs.Computation.{operated, turned_into};
 ghost use Rattle.nz_spec.specs.Fraction.{Sum, whole};
-ghost use Rattle.nz_tab.specs.Comes.{Comes};
+ghost use Rattle.nz_tab.specs.Comes.{Comes, IsOperated};
 ghost use Rattle.nz_tab.specs.Rows.{HasRoom, basic, coefficient, is_marked, is_nonbasic, rows_of};
 ghost use Rattle.nz_tab.specs.Sums.{HasRoomForSum, IsWidened, SumJoins, SumPushed, all_added, one_added};
 
@@ -253,8 +253,16 @@ fn add_at(row: &mut Vec<Frac>, place: usize, coefficient: Frac) -> Result<(), Wi
     ensures width { vec_len row.new ≡ vec_len row.old }
     ensures capacity { vec_capacity row.new ≡ vec_capacity row.old }
 {
-    row[place] = row[place].add(coefficient)?;
+    row[place] = plus(row[place], coefficient)?;
     Ok(())
+}
+
+/// The sum of two numbers.
+#[tactic(auto, unfolding(nz_spec::specs::Fraction::first_wide))]
+fn plus(left: Frac, right: Frac) -> Result<Frac, Wide>
+    ensures sum { IsOperated (operated Sum left right) result }
+{
+    left.add(right)
 }
 
 /// Adds a multiple of a row to another one.
