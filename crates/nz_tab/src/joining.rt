@@ -78,12 +78,7 @@ impl Rows {
     }
 
     /// Puts the row of a form behind others, where it is basic.
-    fn put_basic(
-        &self,
-        block: &mut Vec<Frac>,
-        columns: &[Var],
-        var: Var,
-    ) -> Result<(), AllocError>
+    fn put_basic(&self, block: &mut Vec<Frac>, columns: &[Var], var: Var) -> Result<(), AllocError>
         requires listed { var < length self.now.marks }
         ensures put { OnOk result (block.new.items ≡ block.old.items ++ (if is_nonbasic self.now var then [] else map (rows_of self.now var) columns.now)) }
     {
@@ -173,12 +168,7 @@ impl Rows {
     }
 
     /// Adds a form with its coefficient to a row: a nonbasic one at its place, a basic one by its row.
-    fn add_one(
-        &self,
-        row: &mut Vec<Frac>,
-        columns: &[Var],
-        addend: (Var, Frac),
-    ) -> Result<(), Wide>
+    fn add_one(&self, row: &mut Vec<Frac>, columns: &[Var], addend: (Var, Frac)) -> Result<(), Wide>
         requires within { addend.0 < length self.now.marks }
         requires columns { columns.now ≡ numbers (length self.now.marks) (is_nonbasic self.now) }
         requires width { vec_len row.old ≡ length columns.now }

@@ -61,10 +61,7 @@ impl<'a> Row<'a> {
 fn coefficient_at(coefficients: &[Frac], place: usize) -> Frac
     ensures coefficient { result ≡ slice_index_or coefficients.now place (whole (pos 0)) }
 {
-    coefficients
-        .get(place)
-        .copied()
-        .unwrap_or(Frac::whole(0))
+    coefficients.get(place).copied().unwrap_or(Frac::whole(0))
 }
 
 /// Whether a number is marked.

@@ -111,13 +111,7 @@ impl Rows {
     {
         self.list_columns(&mut room.columns, leaves, enters);
         let columns = room.columns.as_slice();
-        solve(
-            &mut room.solved,
-            &self.row(leaves),
-            columns,
-            leaves,
-            enters,
-        )?;
+        solve(&mut room.solved, &self.row(leaves), columns, leaves, enters)?;
         self.put_exchanged(
             &mut room.spare,
             columns,

@@ -340,11 +340,7 @@ fn put_unit(forms: &mut Vec<Vec<Part>>, numbers: &mut HashMap<TermId, Var>, unit
 }
 
 /// Units join the forms.
-fn put_units(
-    forms: &mut Vec<Vec<Part>>,
-    numbers: &mut HashMap<TermId, Var>,
-    units: Vec<Vec<Part>>,
-)
+fn put_units(forms: &mut Vec<Vec<Part>>, numbers: &mut HashMap<TermId, Var>, units: Vec<Vec<Part>>)
     requires units { All (λ x. is_unit_form x.items ≡ true) units.items }
     requires room { vec_len forms.old + length units.items < vec_capacity forms.old }
     requires spare { length units.items ≤ spare numbers.old }

@@ -2,8 +2,8 @@
 ghost use Rattle.std.specs.Prelude.{◌<◌, ◌≤◌, All, IfOk, length};
 
 use nz_base::{Memory, Text};
-use nz_lin::lin;
 use nz_frac::Wide;
+use nz_lin::lin;
 use nz_tab::{Tab, Var};
 use nz_term::{Constant, Head, NumberSort, Operator, Sort, TermId, Terms, operators_are_no_leaves};
 use std::alloc::Global;
@@ -80,4 +80,3 @@ pub fn exchanged(tab: &mut Tab, i: Var, j: Var) -> Option<Result<(), Wide>> {
 pub fn may_exchange(tab: &mut Tab, i: Var, j: Var) -> bool {
     matches!(exchanged(tab, i, j), Some(Ok(())))
 }
-

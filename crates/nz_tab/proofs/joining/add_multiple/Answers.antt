@@ -37,11 +37,11 @@ loop-place-preserved c =
     let other = coefficient c.args.other.now in
     let inside = c.loop-place-test.true in
     let done : (d : Coefficients) → c.args.row.now.items ≡ map d ks → IsDone (with_multiple c.args.factor other d (get_or ks i 0)) c.in_ok-row.field-0 =
-        λ d e.
-        subst (λ (x : Computation Fraction). IsDone x c.in_ok-row.field-0)
-        (sum_read c.args.factor c.at.result c.index.result.now other d (get_or ks i 0) c.at.ensures.coefficient
-        (halfway_read ks d other c.args.factor i inside c.loop-place.row.items (c.loop-place.invariant.items d e) c.index.result.now c.index.ensures))
-        c.in_ok-row.ensures.sum in
+    λ d e.
+    subst (λ (x : Computation Fraction). IsDone x c.in_ok-row.field-0)
+    (sum_read c.args.factor c.at.result c.index.result.now other d (get_or ks i 0) c.at.ensures.coefficient
+    (halfway_read ks d other c.args.factor i inside c.loop-place.row.items (c.loop-place.invariant.items d e) c.index.result.now c.index.ensures))
+    c.in_ok-row.ensures.sum in
     record {
       items = λ d e. halfway_more ks d other c.args.factor i inside c.loop-place.row.items (c.loop-place.invariant.items d e) c.in_ok-row.field-0 (done d e).result;
       fits = λ d e. sums_more ks d other c.args.factor i inside (c.loop-place.invariant.fits d e) (done d e).fits;

@@ -27,7 +27,7 @@ returns c =
     record {
       coefficient =
           c.coefficient_at.ensures.coefficient
-    ∙ ap (λ (p : ℕ). slice_index_or row.coefficients.now p (whole (pos 0))) place
-    ∙ ap (λ (b : Bool). if b then slice_index_or row.coefficients.now (length (numbers c.args.j (is_marked row.nonbasic.now))) (whole (pos 0)) else whole (pos 0)) (sym marked)
-    ∙ ap (λ (r : DenseRow). coefficient r c.args.j) c.self.view_is;
+          ∙ ap (λ (p : ℕ). slice_index_or row.coefficients.now p (whole (pos 0))) place
+          ∙ ap (λ (b : Bool). if b then slice_index_or row.coefficients.now (length (numbers c.args.j (is_marked row.nonbasic.now))) (whole (pos 0)) else whole (pos 0)) (sym marked)
+          ∙ ap (λ (r : DenseRow). coefficient r c.args.j) c.self.view_is;
     }

@@ -35,9 +35,9 @@ add_at-requires c =
     let inside : var < length g.nonbasic.items = subst (λ (x : Grid). var < length x.marks) (sym c.self.view_is) c.requires.within in
     let marked : is_marked g.nonbasic.items var ≡ true = ap (λ (x : Grid). is_marked x.marks var) c.self.view_is ∙ sym c.is_nonbasic.ensures.nonbasic ∙ c.if-is_nonbasic.true in
     let place : slice_index_or c.as_slice-places.result.now var 0 ≡ length (numbers var (is_marked g.nonbasic.items)) =
-        ap (λ (l : List ℕ). slice_index_or l var 0) c.as_slice-places.ensures.value ∙ nonbasic_place g.nonbasic.items g.places.items c.self.invariant.placed var inside marked in
+    ap (λ (l : List ℕ). slice_index_or l var 0) c.as_slice-places.ensures.value ∙ nonbasic_place g.nonbasic.items g.places.items c.self.invariant.placed var inside marked in
     let long : length c.args.columns.now ≡ length (numbers (length g.nonbasic.items) (is_marked g.nonbasic.items)) =
-        ap length c.requires.columns ∙ ap (λ (x : Grid). length (numbers (length x.marks) (is_marked x.marks))) (sym c.self.view_is) in
+    ap length c.requires.columns ∙ ap (λ (x : Grid). length (numbers (length x.marks) (is_marked x.marks))) (sym c.self.view_is) in
     record { within = omega (arith, place, long, place_within (is_marked g.nonbasic.items) var (length g.nonbasic.items) marked inside, c.requires.width) }
 
 pub returns-then-is_nonbasic-clause-added : goal.returns-then-is_nonbasic-clause-added
@@ -50,9 +50,9 @@ returns-then-is_nonbasic-clause-added c = λ d e.
     let within : var < length x.marks = c.requires.within in
     let passes : is_nonbasic x var ≡ true = sym c.is_nonbasic.ensures.nonbasic ∙ c.if-is_nonbasic.true in
     let place : slice_index_or c.as_slice-places.result.now var 0 ≡ length (numbers var (is_nonbasic x)) =
-        ap (λ (l : List ℕ). slice_index_or l var 0) c.as_slice-places.ensures.value
-        ∙ nonbasic_place g.nonbasic.items g.places.items c.self.invariant.placed var inside marked
-        ∙ ap (λ (y : Grid). length (numbers var (is_marked y.marks))) c.self.view_is in
+    ap (λ (l : List ℕ). slice_index_or l var 0) c.as_slice-places.ensures.value
+    ∙ nonbasic_place g.nonbasic.items g.places.items c.self.invariant.placed var inside marked
+    ∙ ap (λ (y : Grid). length (numbers var (is_marked y.marks))) c.self.view_is in
     let listed = c.requires.columns in
     subst (λ (ks : List ℕ). Comes (turned_into (λ (y : Coefficients). map y ks) (one_added ks (is_nonbasic x) (rows_of x) d c.args.addend)) c.add_at.new.row.items c.add_at.result) (sym listed)
     (subst (λ (y : Computation (List Fraction)). Comes y c.add_at.new.row.items c.add_at.result)

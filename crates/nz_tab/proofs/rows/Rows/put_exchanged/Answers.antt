@@ -26,8 +26,13 @@ loop-var-init c =
 pub put_after-requires-clause-room : goal.put_after-requires-clause-room
 put_after-requires-clause-room c = λ e.
     let f = exchanged (is_nonbasic c.args.self.now) c.args.leaves c.args.enters in
-    omega (arith, row_within f c.loop-var.var (length c.args.self.now.marks) (length c.args.columns.now) e (subst (λ (n : ℕ). c.loop-var.var < n) c.count-var-end.ensures.count c.loop-var-test.true),
-    c.loop-var.invariant.long, c.loop-var.invariant.capacity, c.requires.room)
+    omega (
+      arith,
+      row_within f c.loop-var.var (length c.args.self.now.marks) (length c.args.columns.now) e (subst (λ (n : ℕ). c.loop-var.var < n) c.count-var-end.ensures.count c.loop-var-test.true),
+      c.loop-var.invariant.long,
+      c.loop-var.invariant.capacity,
+      c.requires.room,
+    )
 
 pub returns-in_err-put_after-clause-put : goal.returns-in_err-put_after-clause-put
 returns-in_err-put_after-clause-put c = λ q e.

@@ -15,7 +15,7 @@ put_zeros-requires c =
     let g = c.args.self.now in
     let marks : c.as_slice.result.now ≡ g.marks = c.as_slice.ensures.value ∙ ap (λ (x : Grid). x.marks) c.self.view_is in
     let listed : c.as_slice-columns.result.now ≡ numbers (length g.marks) (is_nonbasic g) =
-        c.as_slice-columns.ensures.value ∙ c.list_marked.ensures.listed ∙ ap (λ (m : List Bool). numbers (length m) (is_marked m)) marks in
+    c.as_slice-columns.ensures.value ∙ c.list_marked.ensures.listed ∙ ap (λ (m : List Bool). numbers (length m) (is_marked m)) marks in
     record { room = omega (arith, ap length listed, columns_within (is_nonbasic g) (length g.marks) (length (numbers (length g.marks) (is_nonbasic g))) refl, c.requires.solved) }
 
 pub returns-clause-sum : goal.returns-clause-sum
@@ -23,6 +23,6 @@ returns-clause-sum c =
     let g = c.args.self.now in
     let marks : c.as_slice.result.now ≡ g.marks = c.as_slice.ensures.value ∙ ap (λ (x : Grid). x.marks) c.self.view_is in
     let listed : c.as_slice-columns.result.now ≡ numbers (length g.marks) (is_nonbasic g) =
-        c.as_slice-columns.ensures.value ∙ c.list_marked.ensures.listed ∙ ap (λ (m : List Bool). numbers (length m) (is_marked m)) marks in
+    c.as_slice-columns.ensures.value ∙ c.list_marked.ensures.listed ∙ ap (λ (m : List Bool). numbers (length m) (is_marked m)) marks in
     subst (λ (ks : List ℕ). Comes (turned_into (λ (x : Coefficients). map x ks) (all_added ks (is_nonbasic g) (rows_of g) (λ k. whole (pos 0)) c.args.addends.now)) c.add_all.new.row.items c.add_all.result) listed
     (c.add_all.ensures.added (λ k. whole (pos 0)) c.put_zeros.ensures.zeros)
