@@ -1,7 +1,8 @@
-//! The proof kernel: the only place where a clause can come from. Each clause of a log follows, by given assertions, gates and
-//! resolution, from the assertions that are live at its level, and the log tells how.
+//! The proof kernel: the only place where a clause can come from. Each clause of a log follows, by given assertions, gates, linear
+//! arithmetic and resolution, from the assertions that are live at its level, and the log tells how.
 #![tactic(auto)]
 
+mod atoms;
 mod climb;
 mod decide;
 mod gates;
@@ -9,21 +10,26 @@ pub mod laws;
 mod lits;
 mod log;
 mod marks;
+mod multiples;
 mod note;
 mod origins;
 mod resolvent;
 mod sets;
 mod steps;
 mod stop;
+mod term_lits;
 mod theory;
 
+pub use atoms::Atom;
 pub use climb::{Climb, Peak, Route};
 pub use decide::{Decide, Verdict};
 pub use gates::gate_count;
-pub use lits::Lit;
+pub use lits::{AtomId, Lit};
 pub use log::Log;
+pub use multiples::Multiple;
 pub use note::Note;
 pub use origins::{ClauseId, Link};
-pub use steps::Step;
+pub use steps::{Literal, LiteralMultiple, Step};
 pub use stop::Stop;
+pub use term_lits::TermLit;
 pub use theory::{NoNumbers, Theory};
