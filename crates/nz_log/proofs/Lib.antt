@@ -1,9 +1,14 @@
+pub mod Agreeing
+pub mod AtomKeys
+pub mod AtomTables
 pub mod Chaining
 pub mod Dropping
 pub mod Entries
+pub mod Extending
 pub mod GatesInOrder
 pub mod Gathering
 pub mod Growing
+pub mod Joining
 pub mod LastMarked
 pub mod Leveled
 pub mod Marking
@@ -11,7 +16,9 @@ pub mod Members
 pub mod Naming
 pub mod Needing
 pub mod Ordering
+pub mod Pushing
 pub mod Soundness
 pub mod Spelled
 pub mod Staying
+pub mod Taken
 pub mod Truths

@@ -1,7 +1,7 @@
 -- Clauses that hold by arithmetic alone, and what the log says of each: the step that gives it.
-use Rattle.std.specs.Prelude.{◌≡◌, ℕ, ◌<◌, ◌++◌, IsTrue, List, [], length, map, Some}
+use Rattle.std.specs.Prelude.{◌≡◌, ℕ, ◌<◌, ◌++◌, IsTrue, List, [], length, map, Option, Some, None}
 use Rattle.std.specs.List.{list_all, AllByRecursion}
-use Rattle.nz_spec.specs.Fraction.{Fraction, first_wide}
+use Rattle.nz_spec.specs.Fraction.{Operation, first_wide}
 use Rattle.nz_spec.specs.Computation.{Computation}
 use Rattle.nz_spec.specs.Farkas as farkas
 use Rattle.nz_spec.specs.Farkas.{bound_of, is_multiple}
@@ -11,7 +11,8 @@ use Rattle.nz_spec.specs.Steps.{Step, link_step, unit_step, farkas_step, branch_
 use Rattle.nz_log.specs.declared.atoms.Atom.{Atom}
 use Rattle.nz_log.specs.declared.lits.Lit.{Lit}
 use Rattle.nz_log.specs.declared.multiples.Multiple.{Multiple}
-use Rattle.nz_log.specs.Atoms.{literal_in, clause_in, IsLitIn, AreWithin}
+use Rattle.nz_log.specs.Lits.{negated_lit}
+use Rattle.nz_log.specs.Atoms.{Stay, literal_in, clause_in, IsLitIn, AreWithin}
 
 pub data Axiom : Type 0 where
   link_of : (term j : ℕ) → Axiom  -- a clause of the link table
@@ -47,15 +48,33 @@ IsAxiomIn ns atoms (farkas_of ms) = AreMultiplesIn ns atoms ms
 IsAxiomIn ns atoms (branch_of l) = IsLitIn ns atoms l
 IsAxiomIn ns atoms (cut_of ms) = AreMultiplesIn ns atoms ms
 
+-- the first operation of a step that leaves the numbers
+abbrev pub first_wide_in_step : List Node → Step → Option Operation
+first_wide_in_step ns s = first_wide (step_operations (number_in ns) s)
+
 -- the literals are the clause of the step, over a table, and none of its operations leaves the numbers
 pub record IsClauseOf (ns : List Node) (atoms : List Atom) (a : Axiom) (c : List Lit) : Type 0 where
   pub within : AreWithin ns atoms c
   pub clause : step_clause (number_in ns) [] [] (axiom_step ns atoms a) ≡ Some (clause_in ns atoms c)
-  pub fits : first_wide (step_operations (number_in ns) (axiom_step ns atoms a)) ≡ None
+  pub fits : first_wide_in_step ns (axiom_step ns atoms a) ≡ None
 
--- The step of the clause is in order over a table, and gives the clause over that table and each that goes on from it.
+-- The step of the clause is in order over a table, and gives the clause over that table and each that goes on from it, whatever atoms join.
 pub record IsAxiom (ns : List Node) (atoms : List Atom) (a : Axiom) (c : List Lit) : Type 0 where
   pub within : IsAxiomIn ns atoms a
   pub sorted : IsSortedStep (axiom_step ns atoms a)
-  pub taken : (more : List Node) → IsTable (ns ++ more)
-      → step_clause (number_in (ns ++ more)) [] [] (axiom_step (ns ++ more) atoms a) ≡ Some (clause_in (ns ++ more) atoms c)
+  pub taken : (more : List Node) (later : List Atom) → IsTable (ns ++ more) → Stay atoms later
+      → step_clause (number_in (ns ++ more)) [] [] (axiom_step (ns ++ more) later a) ≡ Some (clause_in (ns ++ more) later c)
+
+-- ---- What the rules ask and answer
+
+-- each is a multiple of a bound, by a number above 0
+abbrev pub AreMultiples : List Node → List Atom → List Multiple → Type 0
+AreMultiples ns atoms ms = IsTrue (list_all is_multiple (multiples_in ns atoms ms))
+
+-- the sum of multiples
+abbrev pub sum_in : List Node → List Atom → List Multiple → Computation farkas.Bound
+sum_in ns atoms ms = farkas.sum_of_multiples (number_in ns) (multiples_in ns atoms ms)
+
+-- the negations of the literals
+abbrev pub negated_lits : List Multiple → List Lit
+negated_lits ms = map (λ (m : Multiple). negated_lit m.literal) ms

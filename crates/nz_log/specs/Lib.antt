@@ -7,6 +7,7 @@ pub mod Logs
 pub mod Marked
 pub mod Notes
 pub mod Peaks
+pub mod Rows
 pub mod Same
 pub mod Sound
 pub mod Spelling

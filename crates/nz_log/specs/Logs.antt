@@ -2,13 +2,16 @@
 use Rattle.std.specs.Prelude.{◌≡◌, ◌≢◌, ℕ, ◌<◌, ◌≤◌, max, min, nat_le, List, [], ◌∷◌, length, fold, Option, Some, None, IsSome, unwrap_or, slice_get, slice_index_or, if◌then◌else◌}
 use Rattle.std.specs.Bool.{⊤}
 use Rattle.std.specs.List.{AllByRecursion}
-use Rattle.nz_spec.specs.Table.{Node}
+use Rattle.nz_spec.specs.Table.{Node, IsTable}
+use Rattle.nz_lin.specs.declared.bound.Bound.{Bound}
+use Rattle.nz_lin.specs.Bounds.{HasUnits, literal_over}
 use Rattle.nz_spec.specs.Literal.{once}
 use Rattle.nz_log.specs.declared.atoms.Atom.{Atom}
 use Rattle.nz_log.specs.declared.lits.Lit.{Lit}
 use Rattle.nz_log.specs.declared.origins.Link.{Link}
-use Rattle.nz_log.specs.Atoms.{Stay, terms_at, lit_of, lits_of}
-use Rattle.nz_log.specs.Axioms.{Axiom}
+use Rattle.nz_log.specs.Atoms.{Stay, literal_in, terms_at, lit_of, lits_of}
+use Rattle.nz_log.specs.declared.multiples.Multiple.{Multiple}
+use Rattle.nz_log.specs.Axioms.{AreMultiplesIn, Axiom, IsClauseOf, branch_of, cut_of}
 use Rattle.nz_log.specs.Lits.{are_same_lit, lit_resolvent}
 use Rattle.nz_log.specs.TermLits.{yes, gates_at}
 
@@ -166,3 +169,23 @@ abbrev pub resolvent_entry : LogState → ℕ → ℕ → Lit → Entry
 resolvent_entry s first second l =
     made_entry s (max (level_at s first) (level_at s second)) (lit_resolvent l (literals_at s first) (literals_at s second))
     (chain_of first (record { clause = second; literal = l } ∷ []))
+
+-- a clause that holds by arithmetic alone is put: over a table it is that of the step
+pub record PutsAxiom (ns : List Node) (old : LogState) (id : ℕ) (a : Axiom) (new : LogState) : Type 0 where
+  pub literals : List Lit
+  pub puts : Puts old id (axiom_entry new a literals) new
+  pub clause : IsClauseOf ns new.atoms a literals
+
+-- a branch on a bound is put, whose first literal is that bound: over each table that has the units it is that of the step
+pub record PutsBranch (old : LogState) (id : ℕ) (b : Bound) (new : LogState) : Type 0 where
+  pub first : Lit
+  pub literals : List Lit
+  pub puts : Puts old id (axiom_entry new (branch_of first) literals) new
+  pub literal : (ns : List Node) → literal_in ns new.atoms first ≡ literal_over ns b
+  pub clause : (ns : List Node) → IsTable ns → HasUnits ns b → IsClauseOf ns new.atoms (branch_of first) literals
+
+-- a cut is put: over each table that has what the multiples name it is that of the step
+pub record PutsCut (old : LogState) (id : ℕ) (ms : List Multiple) (new : LogState) : Type 0 where
+  pub literals : List Lit
+  pub puts : Puts old id (axiom_entry new (cut_of ms) literals) new
+  pub clause : (ns : List Node) → IsTable ns → AreMultiplesIn ns old.atoms ms → IsClauseOf ns new.atoms (cut_of ms) literals

@@ -202,6 +202,14 @@ impl Atoms {
         self.atoms.get_index_of(&Atom::Term(term))
     }
 
+    /// How many atoms there are. Their numbers are those below it.
+    pub(crate) fn len(&self) -> usize
+        ensures len { result ≡ length self.now }
+        ensures atoms { AreAtoms self.now }
+    {
+        self.atoms.len()
+    }
+
     /// The atom of a number, if it is there.
     pub(crate) fn get(&self, id: AtomId) -> Option<&Atom>
         ensures atom { option_copied result ≡ slice_get self.now id }
@@ -217,8 +225,3 @@ impl Atoms {
         &self.atoms.as_slice()[id]
     }
 }
-
-/// Says that each atom has one number.
-pub(crate) fn known_atoms(atoms: &Atoms)
-    ensures atoms { AreAtoms atoms.now }
-{}

@@ -1,5 +1,5 @@
 //! The log of clauses.
-ghost use Rattle.std.specs.Prelude.{◌≡◌, ◌≢◌, ℕ, suc, ◌<◌, ◌∷◌, [], List, length, option_map, slice_index_or, take, None, All, Some, OnOk, OnErr, IfOk, IsOkAnd, slice_get, unwrap_or};
+ghost use Rattle.std.specs.Prelude.{◌≡◌, ◌≢◌, ℕ, suc, ◌<◌, ◌∷◌, [], List, length, option_copied, option_map, slice_index_or, take, None, All, Some, OnOk, OnErr, IfOk, IsOkAnd, slice_get, unwrap_or};
 ghost use Rattle.nz_spec.specs.Table.{Node, term_in};
 ghost use Rattle.nz_spec.specs.Gates.{HasBooleanArguments};
 ghost use Rattle.nz_spec.specs.Literal.{once};
@@ -139,11 +139,26 @@ impl Log {
         self.atoms.at(id)
     }
 
+    /// How many atoms there are. Their numbers are those below it.
+    pub fn atom_count(&self) -> usize
+        ensures count { result ≡ length self.now.atoms }
+        ensures atoms { AreAtoms self.now.atoms }
+    {
+        self.atoms.len()
+    }
+
+    /// The atom of a literal, if it is there.
+    pub(crate) fn atom_of(&self, literal: Lit) -> Option<&Atom>
+        ensures atom { option_copied result ≡ slice_get self.now.atoms literal.atom }
+    {
+        self.atoms.get(literal.atom)
+    }
+
     /// What a literal says. A number past the end stands for the first term.
     pub fn literal(&self, literal: Lit) -> Literal<'_>
         ensures reads { (ns : List Node) → literal_read ns result ≡ literal_in ns self.now.atoms literal }
     {
-        match self.atoms.get(literal.atom) {
+        match self.atom_of(literal) {
             Some(atom) => Literal::of(atom, literal.sign),
             None => Literal::Term(TermLit {
                 term: 0,
@@ -274,7 +289,7 @@ impl Log {
     fn level_of_literal(&self, level: usize, literal: Lit) -> usize
         ensures level { result ≡ level_of_terms self.now level (terms_at self.now.atoms literal) }
     {
-        match self.atoms.get(literal.atom) {
+        match self.atom_of(literal) {
             Some(Atom::Term(term)) => level.max(self.told_level(*term)),
             Some(Atom::AtMost(bound)) => self.level_of_units(level, bound.parts()),
             None => level,
