@@ -36,7 +36,7 @@ module _ (s r : LogState) (level : ℕ) (drops : Drops s level r) where
 
   made_below : (ns : List Node) (levels : List (List ℕ)) (id : ℕ) (e : Entry) → e.level ≤ level → (o : Origin) → IsMade ns levels r id e o
       → IsMade ns (take (suc level) levels) r id e o
-  made_below ns levels id e below (assertion_of k) m = (m.0, ap (λ l. slice_get l k) (live_stays levels e.level below) ∙ m.1, m.2)
+  made_below ns levels id e below (assertion_of k) m = (m.0, ap (λ l. slice_get l k) (live_stays levels e.level below) ∙ m.1, m.2, m.3)
   made_below ns levels id e below (gate_of t j) m = m
   made_below ns levels id e below (axiom_of a) m = m
   made_below ns levels id e below (chain_of first ks) m = m

@@ -167,7 +167,7 @@ logs_stay_leveled =
           (All-from_recursion (Names (λ u. IsSome (told_of new u)) new.atoms) _
           (each-put (Names (λ u. IsSome (told_of new u)) new.atoms) are_same_lit _ [] tt
           (lits_told new _ (recursion_from_All (λ (l : TermLit). HasTerm new.atoms l.term × IsSome (told_of new l.term)) _ told))))) h;
-      axiom = λ old new id a c puts told h. put_leveled old new id _ puts (within_level new 0 c told) h;
+      arithmetic = λ old new id a c puts told h. put_leveled old new id _ puts (within_level new 0 c told) h;
       chain = λ old new id first ks puts live lives h.
           put_leveled old new id _ puts
           (λ l has. names_stay old new _ puts.told puts.atoms l

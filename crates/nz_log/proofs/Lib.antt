@@ -1,6 +1,7 @@
 pub mod Agreeing
 pub mod AtomKeys
 pub mod AtomTables
+pub mod Axiomatic
 pub mod Chaining
 pub mod Dropping
 pub mod Entries
@@ -15,10 +16,12 @@ pub mod Marking
 pub mod Members
 pub mod Naming
 pub mod Needing
+pub mod Operations
 pub mod Ordering
 pub mod Pushing
 pub mod Soundness
 pub mod Spelled
 pub mod Staying
+pub mod Summing
 pub mod Taken
 pub mod Truths

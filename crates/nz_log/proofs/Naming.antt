@@ -65,7 +65,7 @@ module _ (ns : List Node) where
   pairs_named first f g e [] = refl
   pairs_named first f g e (k ∷ ks) = λ i. (literal_of ns first ∷ e k i ∷ []) ∷ pairs_named first f g e ks i
 
-  rows_named : (rows : List (List TermLit)) (last : List TermLit) (rows' : List (List TermLiteral)) (last' : List TermLiteral)
+  rows_named : (rows : List (List TermLit)) (last : List TermLit) (rows' : List (List Literal)) (last' : List Literal)
       → map (clause_of_terms ns) rows ≡ rows' → clause_of_terms ns last ≡ last' → map (clause_of_terms ns) (rows ++ last ∷ []) ≡ rows' ++ last' ∷ []
   rows_named rows last rows' last' e f = map-append (clause_of_terms ns) rows (last ∷ []) ∙ (λ i. e i ++ f i ∷ [])
 

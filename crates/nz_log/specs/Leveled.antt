@@ -40,7 +40,7 @@ pub record LogsStayLeveled : Type 0 where
       → IsLeveled old → IsLeveled new
   pub gate : (ns : List Node) (old new : LogState) (id t j : ℕ) → Puts old id (gate_entry ns new t j) new
       → AreToldTerms new (unwrap_or (slice_get (gates_at ns t) j) []) → IsLeveled old → IsLeveled new
-  pub axiom : (old new : LogState) (id : ℕ) (a : Axiom) (c : List Lit) → Puts old id (axiom_entry new a c) new → AreTold new c → IsLeveled old → IsLeveled new
+  pub arithmetic : (old new : LogState) (id : ℕ) (a : Axiom) (c : List Lit) → Puts old id (axiom_entry new a c) new → AreTold new c → IsLeveled old → IsLeveled new
   pub chain : (old new : LogState) (id first : ℕ) (ks : List Link) → Puts old id (chain_entry old first ks) new → IsLive old first
       → All (λ (k : Link). IsLive old k.clause) ks → IsLeveled old → IsLeveled new
   pub joined : (old new : LogState) → JoinsAtoms old new → IsLeveled old → IsLeveled new

@@ -161,8 +161,8 @@ fn spell<'a>(
             steps.push(Step::Gate(*term, *j))?;
             Ok(place)
         }
-        Origin::Axiom(axiom) => {
-            steps.push(axiom_step(log, axiom)?)?;
+        Origin::Axiom(made) => {
+            steps.push(axiom_step(log, made)?)?;
             Ok(place)
         }
         Origin::Chain(first, links) => spell_chain(steps, log, places, places[*first], links),
@@ -170,10 +170,10 @@ fn spell<'a>(
 }
 
 /// The step of a clause that holds by arithmetic alone.
-fn axiom_step<'a>(log: &'a Log, axiom: &Axiom) -> Result<Step<'a>, Memory>
-    ensures step { IfOk result (λ s. (ns : List Node) → step_of ns s ≡ axiom_step ns log.now.atoms (axiom_in axiom.now)) }
+fn axiom_step<'a>(log: &'a Log, made: &Axiom) -> Result<Step<'a>, Memory>
+    ensures step { IfOk result (λ s. (ns : List Node) → step_of ns s ≡ axiom_step ns log.now.atoms (axiom_in made.now)) }
 {
-    match axiom {
+    match made {
         Axiom::Link(term, j) => Ok(Step::Link(*term, *j)),
         Axiom::Unit(term, j) => Ok(Step::Unit(*term, *j)),
         Axiom::Farkas(multiples) => Ok(Step::Farkas(read_multiples(log, multiples)?)),

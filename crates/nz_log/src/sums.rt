@@ -37,12 +37,12 @@ impl Log {
     pub fn farkas(&mut self, multiples: &[Multiple]) -> Result<ClauseId, LinStop>
         requires multiples { (ns : List Node) → IsTable ns → AreMultiplesIn ns self.old.atoms multiples.now → AreMultiples ns self.old.atoms multiples.now }
         requires contradiction { (ns : List Node) → IsTable ns → AreMultiplesIn ns self.old.atoms multiples.now → IsTrue (is_contradiction (sum_in ns self.old.atoms multiples.now).result) }
-        ensures made { IfOk result (λ id. Puts self.old id (axiom_entry self.old (farkas_of multiples.now) (once are_same_lit (negated_lits multiples.now))) self.new) }
+        ensures made { IfOk result (λ id. Puts self.old id (axiom_entry self.new (farkas_of multiples.now) (once are_same_lit (negated_lits multiples.now))) self.new) }
         ensures clause { OnOk result ((ns : List Node) → IsTable ns → AreMultiplesIn ns self.old.atoms multiples.now → IsClauseOf ns self.new.atoms (farkas_of multiples.now) (once are_same_lit (negated_lits multiples.now))) }
         ensures stop { IfErr result (λ s. (ns : List Node) → IsTable ns → AreMultiplesIn ns self.old.atoms multiples.now → IsStopAt (first_wide_in_step ns (farkas_step (multiples_in ns self.old.atoms multiples.now))) s) }
         ensures atoms { self.new.atoms ≡ self.old.atoms }
         ensures unchanged { OnErr result (self.new ≡ self.old) }
-        ensures grows { OnOk result (AreTold self.old (once are_same_lit (negated_lits multiples.now)) → Grows self.old self.new) }
+        ensures grows { OnOk result (AreTold self.new (once are_same_lit (negated_lits multiples.now)) → Grows self.old self.new) }
         // Over a table that has the terms of the literals the log stays in order.
         ensures sound { (ns : List Node) (levels : List (List ℕ)) → AreMultiplesIn ns self.old.atoms multiples.now → IsLog ns levels self.old → IsLog ns levels self.new }
     {
