@@ -1,5 +1,6 @@
 pub mod Agreeing
 pub mod AtomKeys
+pub mod AtomLiterals
 pub mod AtomTables
 pub mod Axiomatic
 pub mod Chaining
@@ -12,6 +13,7 @@ pub mod Growing
 pub mod Joining
 pub mod LastMarked
 pub mod Leveled
+pub mod Linking
 pub mod Marking
 pub mod Members
 pub mod Naming
@@ -19,9 +21,12 @@ pub mod Needing
 pub mod Operations
 pub mod Ordering
 pub mod Pushing
+pub mod Renumbering
+pub mod Rowing
 pub mod Soundness
 pub mod Spelled
 pub mod Staying
 pub mod Summing
+pub mod Tabling
 pub mod Taken
 pub mod Truths

@@ -20,6 +20,7 @@ use crate::rows::{Said, link_row};
 use nz_base::Memory;
 use nz_lin::LinStop;
 use nz_spec::derivation::tells_literals;
+use nz_spec::form::term_has_its_number;
 use nz_spec::table::{one_number, term_of_node, term_stays};
 use nz_term::{TermId, Terms, known_table};
 
@@ -43,6 +44,7 @@ impl Log {
     {
         tells_literals();
         one_number();
+        term_has_its_number();
         term_of_node();
         term_stays();
         known_table(terms);
@@ -55,6 +57,7 @@ impl Log {
     }
 
     /// The literals of a row, whose atoms join the others where they aren't there.
+    #[tactic(auto, using(crate::proofs::Joining::joins_twice))]
     pub(crate) fn said_lits(&mut self, row: Vec<Said>) -> Result<Vec<Lit>, Memory>
         ensures literals { IfOk result (λ v. (ns : List Node) → clause_in ns self.new.atoms v.items ≡ saids_in ns row.items) }
         ensures within { IfOk result (λ v. (ns : List Node) → AreSaidIn ns row.items → AreWithin ns self.new.atoms v.items) }

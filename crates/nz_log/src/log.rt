@@ -168,15 +168,18 @@ impl Log {
     }
 
     /// The literals on these terms.
+    #[tactic(auto, using(crate::proofs::Joining::joins_twice))]
     fn lits_of(&mut self, clause: &[TermLit]) -> Result<Vec<Lit>, Memory>
         ensures literals { IfOk result (λ v. v.items ≡ lits_of self.new.atoms clause.now) }
         ensures there { OnOk result (All (λ l. HasTerm self.new.atoms l.term) clause.now) }
         ensures joins { JoinsAtoms self.old self.new }
         ensures atoms { AreAtoms self.new.atoms }
     {
+        self.atom_count();
         let mut literals = Vec::new(self.alloc());
         for literal in clause {
-            literals.push(self.term_lit(*literal)?)?;
+            let next = self.term_lit(*literal)?;
+            literals.push(next)?;
         }
         Ok(literals)
     }

@@ -2,9 +2,9 @@
 ghost use Rattle.std.specs.Prelude.{◌≡◌, ℕ, ◌<◌, ◌++◌, Bool, List, true, length, All, IfOk, OnOk};
 ghost use Rattle.nz_spec.specs.Table.{Node};
 ghost use Rattle.nz_log.specs.Atoms.{atom_in, with_sign};
-ghost use Rattle.nz_log.specs.Axioms.{axiom_step, multiples_in};
+ghost use Rattle.nz_log.specs.Axioms.{axiom_step, multiple_in, multiples_in};
 ghost use Rattle.nz_log.specs.Logs.{IsLive};
-ghost use Rattle.nz_log.specs.Spelling.{AreMarked, AreStepsOf, IsMoreMarked, IsNeeded, IsWithin, Pass, PassMarked, chain_place, chain_steps, is_marked, literal_read, multiples_read, origin_place, origin_steps, step_of, steps_of};
+ghost use Rattle.nz_log.specs.Spelling.{AreMarked, AreStepsOf, IsMoreMarked, IsNeeded, IsWithin, Pass, PassMarked, chain_place, chain_steps, is_marked, literal_read, multiple_read, multiples_read, origin_place, origin_steps, step_of, steps_of};
 ghost use Rattle.nz_log.specs.Stored.{axiom_in, origin_of};
 
 use crate::atoms::Atom;
@@ -176,24 +176,42 @@ fn axiom_step<'a>(log: &'a Log, made: &Axiom) -> Result<Step<'a>, Memory>
     match made {
         Axiom::Link(term, j) => Ok(Step::Link(*term, *j)),
         Axiom::Unit(term, j) => Ok(Step::Unit(*term, *j)),
-        Axiom::Farkas(multiples) => Ok(Step::Farkas(read_multiples(log, multiples)?)),
+        Axiom::Farkas(multiples) => {
+            let read = read_multiples(log.alloc(), log, multiples)?;
+            Ok(Step::Farkas(read))
+        }
         Axiom::Branch(literal) => Ok(Step::Branch(log.literal(*literal))),
-        Axiom::Cut(multiples) => Ok(Step::Cut(read_multiples(log, multiples)?)),
+        Axiom::Cut(multiples) => {
+            let read = read_multiples(log.alloc(), log, multiples)?;
+            Ok(Step::Cut(read))
+        }
     }
 }
 
 /// These multiples as a step names them.
-fn read_multiples<'a>(log: &'a Log, multiples: &[Multiple]) -> Result<Vec<LiteralMultiple<'a>>, Memory>
+fn read_multiples<'a>(
+    alloc: Global,
+    log: &'a Log,
+    multiples: &[Multiple],
+) -> Result<Vec<LiteralMultiple<'a>>, Memory>
     ensures multiples { IfOk result (λ v. (ns : List Node) → multiples_read ns v.items ≡ multiples_in ns log.now.atoms multiples.now) }
 {
-    let mut read = Vec::new(log.alloc());
+    let mut read = Vec::with_capacity(alloc, multiples.len())?;
     for multiple in multiples {
-        read.push(LiteralMultiple {
-            literal: log.literal(multiple.literal),
-            multiplier: multiple.multiplier,
-        })?;
+        let next = read_multiple(log, *multiple);
+        read.push(next)?;
     }
     Ok(read)
+}
+
+/// A multiple as a step names it.
+fn read_multiple(log: &Log, multiple: Multiple) -> LiteralMultiple<'_>
+    ensures read { (ns : List Node) → multiple_read ns result ≡ multiple_in ns log.now.atoms multiple }
+{
+    LiteralMultiple {
+        literal: log.literal(multiple.literal),
+        multiplier: multiple.multiplier,
+    }
 }
 
 /// Puts the resolvents of a chain behind the steps of its clauses, of which the first has this place. Answers that of the last.

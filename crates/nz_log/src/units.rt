@@ -18,6 +18,7 @@ use crate::origins::{Axiom, ClauseId, Origin};
 use crate::unit_rows::unit_row;
 use nz_lin::LinStop;
 use nz_spec::derivation::tells_literals;
+use nz_spec::form::term_has_its_number;
 use nz_spec::table::{one_number, term_of_node, term_stays};
 use nz_term::{TermId, Terms, known_table};
 
@@ -46,6 +47,7 @@ impl Log {
     {
         tells_literals();
         one_number();
+        term_has_its_number();
         term_of_node();
         term_stays();
         known_table(terms);
