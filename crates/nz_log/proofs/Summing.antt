@@ -2,9 +2,9 @@
 use Rattle.std.proofs.Common.{◌≡◌, ℕ, ◌<◌, ◌+◌, List, [], ◌∷◌, ◌++◌, length, drop, get_or, map, None, refl, sym, ap, subst, ◌∙◌, append_assoc, arith}
 use Rattle.std.specs.List.{AllByRecursion}
 use Rattle.nz_lists.proofs.Places.{drop_read}
-use Rattle.nz_spec.specs.Computation.{and_then}
+use Rattle.nz_spec.specs.Computation.{Computation, and_then}
 use Rattle.nz_spec.specs.Farkas as farkas
-use Rattle.nz_spec.specs.Farkas.{bound_of, bound_scaled, bounds_joined, multiples_onto}
+use Rattle.nz_spec.specs.Farkas.{bound_of, bound_scaled, bounds_joined, empty_bound, multiples_onto}
 use Rattle.nz_spec.specs.Form.{Numbering}
 use Rattle.nz_spec.specs.FormOf.{number_in}
 use Rattle.nz_spec.specs.Fraction.{Fraction, first_wide}
@@ -51,7 +51,7 @@ module _ (ns : List Node) (atoms : List Atom) (ms : List Multiple) (i : ℕ) (x 
     here : IsSame (multiples_onto (number_in ns) x (multiple_in ns atoms m ∷ multiples_in ns atoms (drop (i + 1) ms))) (sum_in ns atoms ms)
     here = subst (λ (ks : List farkas.Multiple). IsSame (multiples_onto (number_in ns) x ks) (sum_in ns atoms ms)) front left
 
-    abbrev added : _
+    abbrev added : Computation farkas.Bound
     added = and_then (bound_scaled m.multiplier (bound_of (multiple_in ns atoms m).literal)) (λ y. bounds_joined (number_in ns) x y)
 
     pub sum_next : (z : farkas.Bound) → IsDone added z → IsSame (multiples_onto (number_in ns) z (multiples_in ns atoms (drop (i + 1) ms))) (sum_in ns atoms ms)
@@ -67,3 +67,9 @@ module _ (ns : List Node) (atoms : List Atom) (ms : List Multiple) (i : ℕ) (x 
   sum_done none =
       let all = subst (λ (ks : List Multiple). IsSame (multiples_onto (number_in ns) x (multiples_in ns atoms ks)) (sum_in ns atoms ms)) none left in
       record { result = all.result; fits = sym all.first ∙ first_nothing }
+
+-- before the first multiple
+pub sum_starts : (ns : List Node) (atoms : List Atom) (ms : List Multiple) (x : farkas.Bound) → x ≡ empty_bound
+    → IsSame (multiples_onto (number_in ns) x (multiples_in ns atoms ms)) (sum_in ns atoms ms)
+sum_starts ns atoms ms x is =
+    subst (λ (y : farkas.Bound). IsSame (multiples_onto (number_in ns) y (multiples_in ns atoms ms)) (sum_in ns atoms ms)) (sym is) (record { result = refl; first = refl })

@@ -47,7 +47,8 @@ impl Log {
         let other = bound.not(alloc)?.with_limit(next);
         let first = self.bound_literal(bound)?;
         let second = self.bound_literal(other)?;
-        Ok(self.put_leaf(&[first, second], 0, Origin::Axiom(Axiom::Branch(first)))?)
+        let id = self.put_leaf(&[first, second], 0, Origin::Axiom(Axiom::Branch(first)))?;
+        Ok(id)
     }
 
     /// The clause that one of these literals is false, or the sum of their multiples, which is one of integers, is within its rounded limit.
@@ -77,6 +78,7 @@ impl Log {
         let multiples = Vec::from_slice(alloc, multiples)?;
         let last = self.bound_literal(sum.with_limit(limit))?;
         literals.push(last)?;
-        Ok(self.put_leaf(&literals, 0, Origin::Axiom(Axiom::Cut(multiples)))?)
+        let id = self.put_leaf(&literals, 0, Origin::Axiom(Axiom::Cut(multiples)))?;
+        Ok(id)
     }
 }

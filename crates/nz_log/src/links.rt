@@ -53,7 +53,8 @@ impl Log {
             unreachable!()
         };
         let literals = self.said_lits(row)?;
-        Ok(self.put_leaf(&literals, 0, Origin::Axiom(Axiom::Link(term, j)))?)
+        let id = self.put_leaf(&literals, 0, Origin::Axiom(Axiom::Link(term, j)))?;
+        Ok(id)
     }
 
     /// The literals of a row, whose atoms join the others where they aren't there.

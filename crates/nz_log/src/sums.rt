@@ -50,11 +50,12 @@ impl Log {
         one_number();
         term_stays();
         self.atom_count();
-        self.sum(multiples)?;
+        let _sum = self.sum(multiples)?;
         let alloc = self.alloc();
         let literals = negations(alloc, multiples)?;
         let multiples = Vec::from_slice(alloc, multiples)?;
-        Ok(self.put_leaf(&literals, 0, Origin::Axiom(Axiom::Farkas(multiples)))?)
+        let id = self.put_leaf(&literals, 0, Origin::Axiom(Axiom::Farkas(multiples)))?;
+        Ok(id)
     }
 
     /// The sum of these multiples. A literal on a term says nothing of a sum.

@@ -56,6 +56,7 @@ impl Log {
             unreachable!()
         };
         let literals = self.said_lits(row)?;
-        Ok(self.put_leaf(&literals, 0, Origin::Axiom(Axiom::Unit(term, j)))?)
+        let id = self.put_leaf(&literals, 0, Origin::Axiom(Axiom::Unit(term, j)))?;
+        Ok(id)
     }
 }
