@@ -141,6 +141,7 @@ pub fn spelled(alloc: Global, log: &Log, id: ClauseId) -> Result<Vec<Step<'_>>, 
 }
 
 /// Puts the steps of a clause behind those of the clauses that it is made of, which have their places. Answers its own place.
+#[tactic(auto, using(crate::proofs::Pushing::one_pushed))]
 fn spell<'a>(
     steps: &mut Vec<Step<'a>>,
     log: &'a Log,
