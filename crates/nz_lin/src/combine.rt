@@ -20,12 +20,7 @@ use std::alloc::Global;
 
 impl Form {
     /// A number times a unit.
-    pub fn times_unit(
-        alloc: Global,
-        factor: Frac,
-        unit: TermId,
-        sort: Sort,
-    ) -> Result<Form, Memory>
+    pub fn times_unit(alloc: Global, factor: Frac, unit: TermId, sort: Sort) -> Result<Form, Memory>
         ensures form { IfOk result (λ f. (ns : List Node) → form_over ns f ≡ times_unit factor (term_in ns unit)) }
         ensures units { IfOk result (λ f. (ns : List Node) → NamesUnit ns (record { unit = unit; sort = sort; coefficient = factor }) → AreUnits ns f.parts) }
     {
@@ -94,6 +89,7 @@ impl Bound {
     /// # Errors
     ///
     /// `Wide` where that leaves the numbers.
+    #[tactic(auto, unfolding(nz_spec::specs::Fraction::first_wide))]
     pub fn at_most(form: Form, number: Frac) -> Result<Bound, LinStop>
         ensures literal { (ns : List Node) → AreUnits ns form.parts → IsLiteral ns (at_most_number number (at_once (form_over ns form))) result }
     {
@@ -109,6 +105,7 @@ impl Bound {
     /// # Errors
     ///
     /// `Wide` where the number less what the form adds leaves the numbers.
+    #[tactic(auto, unfolding(nz_spec::specs::Fraction::first_wide))]
     pub fn below(form: Form, number: Frac) -> Result<Bound, LinStop>
         ensures literal { (ns : List Node) → AreUnits ns form.parts → IsLiteral ns (below_number number (at_once (form_over ns form))) result }
     {

@@ -61,8 +61,7 @@ pub lits_more : (old new : List Atom) → Stay old new → AreAtoms new → (c :
 lits_more old new stay are c i d within there own ls next so_far is =
     let l = get_or c i d in
     let kept = lits_stay old new stay are (take i c) there in
-    let longer : take (i + 1) c ≡ take i c ++ l ∷ [] = ap (λ n. take n c) (add-one i) ∙ take-suc c i d within in
-    (
+    let longer : take (i + 1) c ≡ take i c ++ l ∷ [] = ap (λ n. take n c) (add-one i) ∙ take-suc c i d within in (
       is ∙ ap (λ ms. ms ++ lit_of new l ∷ []) (so_far ∙ sym kept.0) ∙ sym (map-push new (take i c) l) ∙ ap (lits_of new) (sym longer),
       subst (AllByRecursion (λ (k : TermLit). HasTerm new k.term)) (sym longer) (each-append (λ (k : TermLit). HasTerm new k.term) (take i c) (l ∷ []) kept.1 (own, tt)),
     )

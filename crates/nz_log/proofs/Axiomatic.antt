@@ -33,7 +33,7 @@ use Rattle.nz_log.proofs.Soundness.{rule_in_order}
 -- what is so over every table that goes on from this one stays so when atoms join
 pub axiom_made : TermStays → (ns : List Node) (atoms : List Atom) (a : Axiom) (c : List Lit) → IsAxiomIn ns atoms a → IsSortedStep (axiom_step ns atoms a) → AreWithin ns atoms c
     → ((more : List Node) → IsTable (ns ++ more) → IsAxiomIn (ns ++ more) atoms a → AreWithin (ns ++ more) atoms c
-      → step_clause (number_in (ns ++ more)) [] [] (axiom_step (ns ++ more) atoms a) ≡ Some (clause_in (ns ++ more) atoms c))
+    → step_clause (number_in (ns ++ more)) [] [] (axiom_step (ns ++ more) atoms a) ≡ Some (clause_in (ns ++ more) atoms c))
     → IsAxiom ns atoms a c
 axiom_made stays ns atoms a c within sorted w gives =
     record {

@@ -26,7 +26,7 @@ one_pushed steps next r said is says ns =
 pub chain_pushed : (atoms : List Atom) (places : List ℕ) (steps next : List Step) (r : Step) (current : ℕ) (ks : List Link) (i : ℕ) (d : Link) → i < length ks → d ≡ get_or ks i d
     → next ≡ steps ++ r ∷ [] → ((ns : List Node) → step_of ns r ≡ resolve_step current (slice_index places d.clause) (literal_in ns atoms d.literal))
     → (ns : List Node) → steps_of ns next ++ chain_steps ns atoms places (length next) (length steps) (drop (i + 1) ks)
-        ≡ steps_of ns steps ++ chain_steps ns atoms places (length steps) current (drop i ks)
+    ≡ steps_of ns steps ++ chain_steps ns atoms places (length steps) current (drop i ks)
 chain_pushed atoms places steps next r current ks i d within read is says ns =
     let rest = drop (i + 1) ks in
     let long : length next ≡ suc (length steps) = ap length is ∙ length-append steps (r ∷ []) ∙ omega arith in

@@ -157,7 +157,7 @@ module _ (P : Term → Type 0) where
     module _ (closed : (h : Head) (ts : Terms) → P (apply h ts) → AllTerms P ts) where
       same_of : (o : Option Fraction) (b : Bool) (h : Head) (cs : List (Option Fraction)) (fs gs : Computation (List Form)) (unit : Form) → fs ≡ gs → AllAmong gs.result
           → (let form : Computation Form = elim o [ Some q ↦ at_once (constant_form q) | None ↦ if b then and_then fs (λ ds. head_form number h cs ds unit) else at_once unit ] in form)
-              ≡ elim o [ Some q ↦ at_once (constant_form q) | None ↦ if b then and_then gs (λ ds. head_form other h cs ds unit) else at_once unit ]
+          ≡ elim o [ Some q ↦ at_once (constant_form q) | None ↦ if b then and_then gs (λ ds. head_form other h cs ds unit) else at_once unit ]
       same_of (Some q) b h cs fs gs unit same all = refl
       same_of None true h cs fs gs unit same all =
           ap (λ (c : Computation (List Form)). and_then c (λ ds. head_form number h cs ds unit)) same

@@ -37,11 +37,13 @@ module _ (ns : List Node) where
       → IsDone c (literal_over ns b) → HasUnits ns b → IsDone d (literal_over ns e) → HasUnits ns e
       → IsDone (in_turn (at_once (literal_of ns l) ∷ c ∷ d ∷ [])) (saids_in ns v) × AreSaidIn ns v
   triple_done l c d b e v within is done units other there =
-      subst (λ (w : List Said). IsDone (in_turn (at_once (literal_of ns l) ∷ c ∷ d ∷ [])) (saids_in ns w) × AreSaidIn ns w) (sym is)
-      (record {
-        result = λ i. literal_of ns l ∷ done.result i ∷ other.result i ∷ [];
-        fits = first_behind c.operations (d.operations ++ []) done.fits ∙ nothing_more d.operations other.fits;
-      }, (within, (units, (there, tt))))
+      subst (λ (w : List Said). IsDone (in_turn (at_once (literal_of ns l) ∷ c ∷ d ∷ [])) (saids_in ns w) × AreSaidIn ns w) (sym is) (
+        record {
+          result = λ i. literal_of ns l ∷ done.result i ∷ other.result i ∷ [];
+          fits = first_behind c.operations (d.operations ++ []) done.fits ∙ nothing_more d.operations other.fits;
+        },
+        (within, (units, (there, tt))),
+      )
 
   pub first_stops : (l : TermLit) (c d : Computation Literal) (s : LinStop) → IsStopAt (first_wide c.operations) s
       → IsStopAt (first_wide (in_turn (at_once (literal_of ns l) ∷ c ∷ d ∷ [])).operations) s

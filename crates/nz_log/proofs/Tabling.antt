@@ -35,7 +35,7 @@ row_taken rows j row at =
 
 no_row : (o : Option (List (Computation Literal)))
     → (let taken : Computation (Option Clause) = elim (option_map in_turn o) [ None ↦ at_once None | Some c ↦ turned_into (λ d. Some (clause_of d)) c ] in taken).operations
-        ≡ (in_turn (unwrap_or o [])).operations
+    ≡ (in_turn (unwrap_or o [])).operations
 no_row None = refl
 no_row (Some row) = refl
 

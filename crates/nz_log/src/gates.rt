@@ -121,7 +121,11 @@ fn negation_clause(alloc: Global, term: TermId, kids: &[TermId], j: usize) -> Re
     let yes = TermLit::holds(term);
     let no = TermLit::fails(term);
     match kids {
-        [kid] => row(alloc, &[[no, TermLit::fails(*kid)], [yes, TermLit::holds(*kid)]], j),
+        [kid] => row(
+            alloc,
+            &[[no, TermLit::fails(*kid)], [yes, TermLit::holds(*kid)]],
+            j,
+        ),
         _ => Ok(None),
     }
 }
@@ -245,7 +249,12 @@ fn disjunction_clause(
 }
 
 /// A literal, and then those of these terms with a sign.
-fn signed(alloc: Global, first: TermLit, kids: &[TermId], sign: bool) -> Result<Vec<TermLit>, Memory>
+fn signed(
+    alloc: Global,
+    first: TermLit,
+    kids: &[TermId],
+    sign: bool,
+) -> Result<Vec<TermLit>, Memory>
     ensures literals { IfOk result (λ v. v.items ≡ first ∷ signed sign kids.now) }
 {
     let mut literals = Vec::new(alloc);

@@ -72,12 +72,7 @@ fn equality_count(terms: &Terms, left: TermId) -> usize
 }
 
 /// The row of this number of the link table of a term, if it has one.
-pub(crate) fn link_row(
-    alloc: Global,
-    terms: &Terms,
-    term: TermId,
-    j: usize,
-) -> Result<Row, LinStop>
+pub(crate) fn link_row(alloc: Global, terms: &Terms, term: TermId, j: usize) -> Result<Row, LinStop>
     requires within { term < length terms.now }
     requires linear { IsTrue (is_linear (term_in terms.now term)) }
     requires companions { HasCompanions terms.now }
@@ -299,12 +294,7 @@ pub(crate) fn at_most(
 }
 
 /// The first term is below the second.
-fn below(
-    alloc: Global,
-    terms: &Terms,
-    left: TermId,
-    right: TermId,
-) -> Result<Bound, LinStop>
+fn below(alloc: Global, terms: &Terms, left: TermId, right: TermId) -> Result<Bound, LinStop>
     requires left { left < length terms.now }
     requires right { right < length terms.now }
     requires left_linear { IsTrue (is_linear (term_in terms.now left)) }
@@ -326,12 +316,7 @@ pub(crate) fn pair(alloc: Global, first: TermLit, second: Bound) -> Result<Vec<S
 }
 
 /// A row of a literal on a term and two bounds.
-fn triple(
-    alloc: Global,
-    first: TermLit,
-    second: Bound,
-    third: Bound,
-) -> Result<Vec<Said>, Memory>
+fn triple(alloc: Global, first: TermLit, second: Bound, third: Bound) -> Result<Vec<Said>, Memory>
     ensures row { IfOk result (λ v. v.items ≡ Term first ∷ Bound second ∷ Bound third ∷ []) }
 {
     let mut row = pair(alloc, first, second)?;

@@ -230,11 +230,7 @@ fn spell_chain<'a>(
     let mut current = first;
     for link in links {
         let next = steps.len();
-        steps.push(Step::Resolve(
-            current,
-            places[link.clause],
-            log.literal(link.literal),
-        ))?;
+        steps.push(Step::Resolve(current, places[link.clause], log.literal(link.literal)))?;
         current = next;
     }
     Ok(current)

@@ -67,12 +67,7 @@ fn constant_count(terms: &Terms, divisor: TermId, count: usize) -> usize
 }
 
 /// The row of this number of the unit table of a term, if it has one.
-pub(crate) fn unit_row(
-    alloc: Global,
-    terms: &Terms,
-    term: TermId,
-    j: usize,
-) -> Result<Row, LinStop>
+pub(crate) fn unit_row(alloc: Global, terms: &Terms, term: TermId, j: usize) -> Result<Row, LinStop>
     requires within { term < length terms.now }
     requires linear { IsTrue (is_linear (term_in terms.now term)) }
     requires companions { HasCompanions terms.now }
@@ -169,10 +164,7 @@ fn quotient_row(
         1 => {
             let multiple = multiple_of(alloc, terms, factor, unit)?;
             let form = lin(alloc, terms, dividend)?.minus(&multiple)?;
-            Ok(Some(alone(
-                alloc,
-                Bound::at_most(form, greatest_remainder(factor))?,
-            )?))
+            Ok(Some(alone(alloc, Bound::at_most(form, greatest_remainder(factor))?)?))
         }
         _ => Ok(None),
     }

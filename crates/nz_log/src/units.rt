@@ -28,12 +28,7 @@ impl Log {
     /// # Errors
     ///
     /// `Wide` with the first operation of the clause's forms that leaves the numbers; `Memory`. Then at most atoms have joined the others.
-    pub fn unit_axiom(
-        &mut self,
-        terms: &Terms,
-        term: TermId,
-        j: usize,
-    ) -> Result<ClauseId, LinStop>
+    pub fn unit_axiom(&mut self, terms: &Terms, term: TermId, j: usize) -> Result<ClauseId, LinStop>
         requires within { term < length terms.now }
         requires linear { IsTrue (is_linear (term_in terms.now term)) }
         requires companions { HasCompanions terms.now }

@@ -24,11 +24,7 @@ fn links(
 }
 
 /// The clauses of a comparison of two integers are true just where it has its truth.
-fn agree(
-    alloc: Global,
-    operator: Operator,
-    holds: fn(i64, i64) -> bool,
-) -> Result<bool, Fail> {
+fn agree(alloc: Global, operator: Operator, holds: fn(i64, i64) -> bool) -> Result<bool, Fail> {
     let mut terms = Terms::new(alloc)?;
     let x = constant(&mut terms, alloc, b"x", Sort::Int)?;
     let y = constant(&mut terms, alloc, b"y", Sort::Int)?;

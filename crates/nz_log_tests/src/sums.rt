@@ -102,8 +102,12 @@ fn a_branch_is_on_an_integer(rt: HostRuntime) -> Result<(), Fail> {
     let clause = log.branch(Bound::at_most_zero(lin(alloc, &terms, low)?))?;
     let literals = log.clause(clause);
     assert_eq!(rt; literals.len(), 2);
-    assert!(rt; matches!(log.literal(literals[0]), nz_log::Literal::AtMost(bound, true) if bound.limit() == Frac::whole(-3)));
-    assert!(rt; matches!(log.literal(literals[1]), nz_log::Literal::AtMost(bound, true) if bound.limit() == Frac::whole(2)));
+    assert!(rt;
+        matches!(log.literal(literals[0]), nz_log::Literal::AtMost(bound, true) if bound.limit() == Frac::whole(-3))
+    );
+    assert!(rt;
+        matches!(log.literal(literals[1]), nz_log::Literal::AtMost(bound, true) if bound.limit() == Frac::whole(2))
+    );
     Ok(())
 }
 

@@ -33,7 +33,11 @@ fn divides(
     let x = constant(&mut terms, alloc, b"x", Sort::Int)?;
     let mut divisor = numeral(&mut terms, 3)?;
     if negative {
-        divisor = over(&mut terms, Operator::Difference(NumberSort::Int), &[divisor])?;
+        divisor = over(
+            &mut terms,
+            Operator::Difference(NumberSort::Int),
+            &[divisor],
+        )?;
     }
     let unit = over(&mut terms, operator, &[x, divisor])?;
     add_companions(alloc, &mut terms, 0)?;
@@ -49,7 +53,10 @@ fn divides(
                 numbers: &[
                     (unit, Frac::whole(b)),
                     (x, Frac::whole(a)),
-                    (quotient, Frac::whole(if quotient == unit { b } else { whole })),
+                    (
+                        quotient,
+                        Frac::whole(if quotient == unit { b } else { whole }),
+                    ),
                 ],
                 truths: &[],
             };
@@ -62,7 +69,14 @@ fn divides(
 #[test]
 fn quotients_and_remainders_are_bounded(rt: HostRuntime) -> Result<(), Fail> {
     let alloc = rt.alloc();
-    assert!(rt; divides(alloc, Operator::Div, false, |a, k| (a - a.rem_euclid(3)) / k)?);
+    assert!(rt;
+        divides(
+            alloc,
+            Operator::Div,
+            false,
+            |a, k| (a - a.rem_euclid(3)) / k
+        )?
+    );
     assert!(rt; divides(alloc, Operator::Div, true, |a, k| (a - a.rem_euclid(3)) / k)?);
     assert!(rt; divides(alloc, Operator::Mod, false, |a, _k| a.rem_euclid(3))?);
     assert!(rt; divides(alloc, Operator::Mod, true, |a, _k| a.rem_euclid(3))?);
@@ -104,7 +118,11 @@ fn a_choice_is_one_of_its_branches(rt: HostRuntime) -> Result<(), Fail> {
     for truth in [false, true] {
         for b in -1..3 {
             let values = Values {
-                numbers: &[(unit, Frac::whole(b)), (x, Frac::whole(0)), (y, Frac::whole(1))],
+                numbers: &[
+                    (unit, Frac::whole(b)),
+                    (x, Frac::whole(0)),
+                    (y, Frac::whole(1)),
+                ],
                 truths: &[(c, truth)],
             };
             let wanted = if truth { 0 } else { 1 };
@@ -132,7 +150,10 @@ fn a_rounded_number_is_bounded(rt: HostRuntime) -> Result<(), Fail> {
                 numbers: &[(unit, Frac::whole(b)), (r, number)],
                 truths: &[],
             };
-            assert_eq!(rt; are_true(&values, &log, &clauses)?, Frac::whole(b) == number.floor());
+            assert_eq!(rt;
+                are_true(&values, &log, &clauses)?,
+                Frac::whole(b) == number.floor()
+            );
         }
     }
     Ok(())

@@ -60,11 +60,7 @@ fn is_clause_true(values: &Values<'_>, log: &Log, clause: ClauseId) -> Result<bo
 }
 
 /// Whether all these clauses are true.
-pub(crate) fn are_true(
-    values: &Values<'_>,
-    log: &Log,
-    clauses: &[ClauseId],
-) -> Result<bool, Wide> {
+pub(crate) fn are_true(values: &Values<'_>, log: &Log, clauses: &[ClauseId]) -> Result<bool, Wide> {
     for clause in clauses {
         if !is_clause_true(values, log, *clause)? {
             return Ok(false);

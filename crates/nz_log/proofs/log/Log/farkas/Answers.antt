@@ -1,16 +1,19 @@
 -- The sum is made, and then the clause is put.
-use Rattle.std.proofs.Common.{◌≡◌, ◌++◌, ℕ, List, Result, Ok, ap, sym, subst, ◌∙◌, rules}
-use Rattle.std.specs.Prelude.{IfOk, OnErr}
+use Rattle.std.proofs.Common.{◌≡◌, ◌++◌, ℕ, List, Result, Ok, Err, ap, sym, subst, ◌∙◌, rules}
+use Rattle.std.specs.Prelude.{IfErr, IfOk, OnErr}
+use Rattle.std.proofs.lemmas.Result.{err_from_is_err_and}
 use Rattle.nz_base.specs.declared.errors.Memory.{Memory}
 use Rattle.nz_spec.specs.Fraction.{first_wide}
 use Rattle.nz_spec.specs.Literal.{once}
+use Rattle.nz_spec.specs.Steps.{farkas_step}
 use Rattle.nz_spec.specs.Table.{Node, IsTable}
+use Rattle.nz_lin.specs.declared.form.LinStop.{LinStop}
 use Rattle.nz_lin.specs.Bounds.{bound_over}
 use Rattle.nz_lin.specs.Stops.{IsStopAt}
 use Rattle.nz_log.specs.declared.atoms.Atom.{Atom}
 use Rattle.nz_log.specs.declared.lits.Lit.{Lit}
 use Rattle.nz_log.specs.Atoms.{AreAtoms, AreWithin}
-use Rattle.nz_log.specs.Axioms.{IsAxiom, IsClauseOf, farkas_of, negated_lits}
+use Rattle.nz_log.specs.Axioms.{AreMultiplesIn, IsAxiom, IsClauseOf, farkas_of, first_wide_in_step, multiples_in, negated_lits}
 use Rattle.nz_log.specs.Lits.{are_same_lit}
 use Rattle.nz_log.specs.Logs.{Puts, axiom_entry, axiom_of, made_entry}
 use Rattle.nz_log.proofs.Agreeing.{literals_agree}
@@ -32,14 +35,19 @@ put_entry c =
     let result : Result ℕ Memory = Ok c.in_ok-id.id in
     puts_made s s r 0 (clause c) (clause c) o result (nothing_joins s) c.put_leaf.ensures.atoms (λ i. clause c) made
 
-pub returns-in_err-sum-clause-stop : goal.returns-in_err-sum-clause-stop
-returns-in_err-sum-clause-stop c =
-    λ ns table within.
+pub returns-in_err-_sum-clause-stop : goal.returns-in_err-_sum-clause-stop
+returns-in_err-_sum-clause-stop c =
     let s = c.args.self.now in
     let ms = c.args.multiples.now in
-    let agree = literals_agree c.tells_literals.ensures.tells c.one_number.ensures.one ns table s.atoms c.atom_count.ensures.atoms in
-    subst (λ o. IsStopAt (first_wide o) c.in_err-sum.field-0.0) (sym (farkas_operations ns s.atoms agree ms within (c.requires.multiples ns table within)))
-    (c.in_err-sum.ensures.sum ns table within)
+    let stop = c.in_err-_sum.field-0.0 in
+    let error = err_from_is_err_and c.from_residual.result c.from_residual.ensures.1 in
+    let all : (ns : List Node) → IsTable ns → AreMultiplesIn ns s.atoms ms → IsStopAt (first_wide_in_step ns (farkas_step (multiples_in ns s.atoms ms))) stop =
+    λ ns table within.
+    (let agree = literals_agree c.tells_literals.ensures.tells c.one_number.ensures.one ns table s.atoms c.atom_count.ensures.atoms in
+    subst (λ o. IsStopAt (first_wide o) stop) (sym (farkas_operations ns s.atoms agree ms within (c.requires.multiples ns table within)))
+    (c.in_err-_sum.ensures.sum ns table within)) in
+    subst (λ (r : Result ℕ LinStop). IfErr r (λ st. (ns : List Node) → IsTable ns → AreMultiplesIn ns s.atoms ms → IsStopAt (first_wide_in_step ns (farkas_step (multiples_in ns s.atoms ms))) st))
+    (sym (error.1 ∙ ap Err error.2)) all
 
 pub returns-clause-made : goal.returns-clause-made
 returns-clause-made c = put_entry (goal.at.returns-clause-made c).In_ok-id
