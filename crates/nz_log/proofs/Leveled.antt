@@ -11,10 +11,12 @@ use Rattle.nz_log.specs.declared.atoms.Atom.TheVariants.{Term}
 use Rattle.nz_log.specs.declared.lits.Lit.{Lit}
 use Rattle.nz_log.specs.declared.origins.Link.{Link}
 use Rattle.nz_log.specs.declared.term_lits.TermLit.{TermLit}
-use Rattle.nz_log.specs.Atoms.{HasTerm, Stay, lits_of, terms_at, terms_of}
+use Rattle.nz_log.specs.Atoms.{HasTerm, Stay, lit_of, lits_of, terms_at, terms_of}
 use Rattle.nz_log.specs.Lits.{are_same_lit, lit_resolvent}
 use Rattle.nz_log.specs.Leveled.{AreTold, AreToldTerms, IsLeveled, IsToldWithin, LogsStayLeveled, Names}
-use Rattle.nz_log.specs.Logs.{Entry, LogState, entry_at, literals_at, level_of_terms, level_with, told_of, told_level, told_below, lowest, chained, Puts}
+use Rattle.nz_log.specs.Logs.{Entry, LogState, axiom_entry, chain_entry, gate_entry, given_entry, entry_at, level_at, literals_at, level_of_links, level_of_terms, level_with, told_of, told_level, told_below, lowest, chained, Puts}
+use Rattle.nz_log.specs.TermLits.{gates_at, yes}
+use Rattle.nz_spec.specs.Literal.{once}
 use Rattle.nz_log.proofs.Dropping.{kept_is}
 use Rattle.nz_log.proofs.Extending.{same_stay}
 use Rattle.nz_log.proofs.Members.{each-put, each-resolvent}
@@ -157,23 +159,26 @@ logs_stay_leveled =
     record {
       start = λ i e at l has. cc;
       given = λ old new id k t level puts there told h.
-          put_leveled old new id _ puts
-          (within_level new level _
-          (All-from_recursion (Names (λ u. IsSome (told_of new u)) new.atoms) _
-          (record { atom = Term t; at = there; terms = (told_now old new puts.told t told, tt) }, tt))) h;
+          let own : Lit = lit_of new.atoms (yes t) in
+          let named : Names (λ u. IsSome (told_of new u)) new.atoms own = record { atom = Term t; at = there; terms = (told_now old new puts.told t told, tt) } in
+          let all : AreNamed new (own ∷ []) = (named, tt) in
+          put_leveled old new id (given_entry new k t level) puts
+          (within_level new level (own ∷ []) (All-from_recursion (Names (λ u. IsSome (told_of new u)) new.atoms) (own ∷ []) all)) h;
       gate = λ ns old new id t j puts told h.
-          put_leveled old new id _ puts
-          (within_level new 0 _
-          (All-from_recursion (Names (λ u. IsSome (told_of new u)) new.atoms) _
-          (each-put (Names (λ u. IsSome (told_of new u)) new.atoms) are_same_lit _ [] tt
-          (lits_told new _ (recursion_from_All (λ (l : TermLit). HasTerm new.atoms l.term × IsSome (told_of new l.term)) _ told))))) h;
-      arithmetic = λ old new id a c puts told h. put_leveled old new id _ puts (within_level new 0 c told) h;
+          let gate_lits : List TermLit = unwrap_or (slice_get (gates_at ns t) j) [] in
+          let c : List Lit = once are_same_lit (lits_of new.atoms gate_lits) in
+          let named = lits_told new gate_lits (recursion_from_All (λ (l : TermLit). HasTerm new.atoms l.term × IsSome (told_of new l.term)) gate_lits told) in
+          let all : AreNamed new c = each-put (Names (λ u. IsSome (told_of new u)) new.atoms) are_same_lit (lits_of new.atoms gate_lits) [] tt named in
+          put_leveled old new id (gate_entry ns new t j) puts
+          (within_level new 0 c (All-from_recursion (Names (λ u. IsSome (told_of new u)) new.atoms) c all)) h;
+      arithmetic = λ old new id a c puts told h. put_leveled old new id (axiom_entry new a c) puts (within_level new 0 c told) h;
       chain = λ old new id first ks puts live lives h.
-          put_leveled old new id _ puts
-          (λ l has. names_stay old new _ puts.told puts.atoms l
-          (within_level old _ _
-          (All-from_recursion (Names (λ u. IsSome (told_of old u)) old.atoms) (chained old (literals_at old first) ks)
-          (chained_told old h ks (literals_at old first) (named_told old h first (entry_at old first) refl))) l has)) h;
+          let c : List Lit = chained old (literals_at old first) ks in
+          let from = level_of_links old (level_at old first) ks in
+          let all : AreNamed old c = chained_told old h ks (literals_at old first) (named_told old h first (entry_at old first) refl) in
+          put_leveled old new id (chain_entry old first ks) puts
+          (λ l has. names_stay old new (level_with old from c) puts.told puts.atoms l
+          (within_level old from c (All-from_recursion (Names (λ u. IsSome (told_of old u)) old.atoms) c all) l has)) h;
       joined = λ old new joins h i e at l has.
           names_stay old new e.level joins.told joins.atoms l (h i e (sym (ap (λ es. unwrap_or (slice_get es i) None) joins.entries) ∙ at) l has);
       placed = λ old new t level same atoms here others h i e at l has.

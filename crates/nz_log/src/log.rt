@@ -1,5 +1,5 @@
 //! The log of clauses.
-ghost use Rattle.std.specs.Prelude.{◌≡◌, ◌≢◌, ℕ, suc, ◌<◌, ◌∷◌, [], List, length, option_copied, option_map, slice_index_or, take, None, All, Some, OnOk, OnErr, IfOk, IsOkAnd, slice_get, unwrap_or};
+ghost use Rattle.std.specs.Prelude.{◌≡◌, ◌≢◌, ℕ, suc, ◌<◌, ◌∷◌, [], List, length, false, option_copied, option_map, slice_index_or, take, None, All, Some, OnOk, OnErr, IfOk, IsOkAnd, slice_get, unwrap_or};
 ghost use Rattle.nz_spec.specs.Table.{Node, term_in};
 ghost use Rattle.nz_spec.specs.Gates.{HasBooleanArguments};
 ghost use Rattle.nz_spec.specs.Literal.{once};
