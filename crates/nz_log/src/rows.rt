@@ -8,7 +8,7 @@ ghost use Rattle.nz_spec.specs.Table.{term_in};
 ghost use Rattle.nz_spec.specs.Term.{apply, at_most, equality, is_int, less, no_terms, terms, to_int};
 ghost use Rattle.nz_lin.specs.Bounds.{IsLiteral};
 ghost use Rattle.nz_term.specs.Heads.{head_of};
-ghost use Rattle.nz_log.specs.declared.rows.Said.TheVariants.{Term, Bound};
+ghost use Rattle.nz_log.specs.declared.rows.Said.TheVariants as said;
 ghost use Rattle.nz_log.specs.Rows.{IsRowAt, link_rows, number_rows};
 ghost use Rattle.nz_log.specs.TermLits.{is_boolean_at};
 
@@ -307,7 +307,7 @@ fn below(alloc: Global, terms: &Terms, left: TermId, right: TermId) -> Result<Bo
 
 /// A row of a literal on a term and a bound.
 pub(crate) fn pair(alloc: Global, first: TermLit, second: Bound) -> Result<Vec<Said>, Memory>
-    ensures row { IfOk result (λ v. v.items ≡ Term first ∷ Bound second ∷ []) }
+    ensures row { IfOk result (λ v. v.items ≡ said.Term first ∷ said.Bound second ∷ []) }
 {
     let mut row = Vec::new(alloc);
     row.push(Said::Term(first))?;
@@ -317,7 +317,7 @@ pub(crate) fn pair(alloc: Global, first: TermLit, second: Bound) -> Result<Vec<S
 
 /// A row of a literal on a term and two bounds.
 fn triple(alloc: Global, first: TermLit, second: Bound, third: Bound) -> Result<Vec<Said>, Memory>
-    ensures row { IfOk result (λ v. v.items ≡ Term first ∷ Bound second ∷ Bound third ∷ []) }
+    ensures row { IfOk result (λ v. v.items ≡ said.Term first ∷ said.Bound second ∷ said.Bound third ∷ []) }
 {
     let mut row = pair(alloc, first, second)?;
     row.push(Said::Bound(third))?;

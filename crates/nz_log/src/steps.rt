@@ -2,9 +2,9 @@
 ghost use Rattle.std.specs.Prelude.{◌≡◌, ℕ, ◌<◌, ◌++◌, Bool, List, true, length, All, IfOk, OnOk};
 ghost use Rattle.nz_spec.specs.Table.{Node};
 ghost use Rattle.nz_log.specs.Atoms.{atom_in, with_sign};
-ghost use Rattle.nz_log.specs.Axioms.{axiom_step, multiple_in, multiples_in};
+ghost use Rattle.nz_log.specs.Axioms.{axiom_step, multiples_in};
 ghost use Rattle.nz_log.specs.Logs.{IsLive};
-ghost use Rattle.nz_log.specs.Spelling.{AreMarked, AreStepsOf, IsMoreMarked, IsNeeded, IsWithin, Pass, PassMarked, chain_place, chain_steps, is_marked, literal_read, multiple_read, multiples_read, origin_place, origin_steps, step_of, steps_of};
+ghost use Rattle.nz_log.specs.Spelling.{AreMarked, AreStepsOf, IsMoreMarked, IsNeeded, IsWithin, Pass, PassMarked, chain_place, chain_steps, is_marked, literal_read, multiples_read, origin_place, origin_steps, step_of, steps_of};
 ghost use Rattle.nz_log.specs.Stored.{axiom_in, origin_of};
 
 use crate::atoms::Atom;
@@ -178,41 +178,34 @@ fn axiom_step<'a>(log: &'a Log, made: &Axiom) -> Result<Step<'a>, Memory>
         Axiom::Link(term, j) => Ok(Step::Link(*term, *j)),
         Axiom::Unit(term, j) => Ok(Step::Unit(*term, *j)),
         Axiom::Farkas(multiples) => {
-            let read = read_multiples(log.alloc(), log, multiples)?;
+            let mut read = Vec::new(log.alloc());
+            read_multiples(&mut read, log, multiples)?;
             Ok(Step::Farkas(read))
         }
         Axiom::Branch(literal) => Ok(Step::Branch(log.literal(*literal))),
         Axiom::Cut(multiples) => {
-            let read = read_multiples(log.alloc(), log, multiples)?;
+            let mut read = Vec::new(log.alloc());
+            read_multiples(&mut read, log, multiples)?;
             Ok(Step::Cut(read))
         }
     }
 }
 
-/// These multiples as a step names them.
+/// Puts these multiples, as a step names them, behind others.
 fn read_multiples<'a>(
-    alloc: Global,
+    read: &mut Vec<LiteralMultiple<'a>>,
     log: &'a Log,
     multiples: &[Multiple],
-) -> Result<Vec<LiteralMultiple<'a>>, Memory>
-    ensures multiples { IfOk result (λ v. (ns : List Node) → multiples_read ns v.items ≡ multiples_in ns log.now.atoms multiples.now) }
+) -> Result<(), Memory>
+    ensures multiples { OnOk result ((ns : List Node) → multiples_read ns read.new.items ≡ multiples_read ns read.old.items ++ multiples_in ns log.now.atoms multiples.now) }
 {
-    let mut read = Vec::with_capacity(alloc, multiples.len())?;
     for multiple in multiples {
-        let next = read_multiple(log, *multiple);
-        read.push(next)?;
+        read.push(LiteralMultiple {
+            literal: log.literal(multiple.literal),
+            multiplier: multiple.multiplier,
+        })?;
     }
-    Ok(read)
-}
-
-/// A multiple as a step names it.
-fn read_multiple(log: &Log, multiple: Multiple) -> LiteralMultiple<'_>
-    ensures read { (ns : List Node) → multiple_read ns result ≡ multiple_in ns log.now.atoms multiple }
-{
-    LiteralMultiple {
-        literal: log.literal(multiple.literal),
-        multiplier: multiple.multiplier,
-    }
+    Ok(())
 }
 
 /// Puts the resolvents of a chain behind the steps of its clauses, of which the first has this place. Answers that of the last.

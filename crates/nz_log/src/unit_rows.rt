@@ -7,7 +7,7 @@ ghost use Rattle.nz_spec.specs.Table.{term_in};
 ghost use Rattle.nz_spec.specs.Term.{apply, integer_quotient, no_terms, terms, to_int};
 ghost use Rattle.nz_spec.specs.Units.{greatest_remainder, magnitude_rows, quotient_rows, remainder_rows, times_unit, unit_clauses, units_over};
 ghost use Rattle.nz_lin.specs.Forms.{AreUnits, form_over};
-ghost use Rattle.nz_log.specs.declared.rows.Said.TheVariants.{Bound};
+ghost use Rattle.nz_log.specs.declared.rows.Said.TheVariants as said;
 ghost use Rattle.nz_log.specs.Rows.{IsRowAt, choice_rows, unit_rows};
 
 use crate::rows::{Row, Said, at_most, pair};
@@ -288,7 +288,7 @@ fn greatest_remainder(divisor: Frac) -> Frac
 
 /// A row of one bound.
 fn alone(alloc: Global, bound: Bound) -> Result<Vec<Said>, Memory>
-    ensures row { IfOk result (λ v. v.items ≡ Bound bound ∷ []) }
+    ensures row { IfOk result (λ v. v.items ≡ said.Bound bound ∷ []) }
 {
     let mut row = Vec::new(alloc);
     row.push(Said::Bound(bound))?;
@@ -297,7 +297,7 @@ fn alone(alloc: Global, bound: Bound) -> Result<Vec<Said>, Memory>
 
 /// A row of two bounds.
 fn both(alloc: Global, first: Bound, second: Bound) -> Result<Vec<Said>, Memory>
-    ensures row { IfOk result (λ v. v.items ≡ Bound first ∷ Bound second ∷ []) }
+    ensures row { IfOk result (λ v. v.items ≡ said.Bound first ∷ said.Bound second ∷ []) }
 {
     let mut row = alone(alloc, first)?;
     row.push(Said::Bound(second))?;

@@ -9,16 +9,17 @@ use Rattle.nz_log.specs.Atoms.{AreAtoms, HasTerm, lits_of}
 use Rattle.nz_log.specs.Lits.{are_same_lit}
 use Rattle.nz_log.specs.Logs.{gate_entry, gate_of, made_entry, JoinsAtoms, Puts}
 use Rattle.nz_log.specs.TermLits.{gates_at}
+use Rattle.nz_log.proofs.Dropping.{joined_in_order}
 use Rattle.nz_log.proofs.GatesInOrder.{gate_in_order}
 use Rattle.nz_log.proofs.Joining.{err_joins, puts_made}
 use Rattle.nz_log.proofs.Soundness.{rule_in_order}
 use Rattle.nz_log.proofs.log.Log.gate.Goals as goal
-use Rattle.nz_log.proofs.log.Log.gate.Goals.{In_ok-literals}
+use Rattle.nz_log.proofs.log.Log.gate.Goals.{After-put_leaf}
 
-abbrev clause_of_table : In_ok-literals → List TermLit
+abbrev clause_of_table : After-put_leaf → List TermLit
 clause_of_table c = unwrap_or (slice_get (gates_at c.args.terms.now c.args.term) c.args.j) []
 
-put_entry : (c : In_ok-literals) → IfOk c.put_leaf.result (λ id. Puts c.args.self.now id (gate_entry c.args.terms.now c.put_leaf.new.self c.args.term c.args.j) c.put_leaf.new.self)
+put_entry : (c : After-put_leaf) → IfOk c.put_leaf.result (λ id. Puts c.args.self.now id (gate_entry c.args.terms.now c.put_leaf.new.self c.args.term c.args.j) c.put_leaf.new.self)
 put_entry c =
     let m = c.lits_of.new.self in
     let r = c.put_leaf.new.self in
@@ -31,7 +32,7 @@ put_entry c =
     c.lits_of.ensures.joins c.put_leaf.ensures.atoms same made
 
 pub returns-clause-made : goal.returns-clause-made
-returns-clause-made c = put_entry (goal.at.returns-clause-made c).In_ok-literals
+returns-clause-made c = put_entry (goal.at.returns-clause-made c).After-put_leaf
 
 pub returns-clause-unchanged : goal.returns-clause-unchanged
 returns-clause-unchanged c =
@@ -43,7 +44,7 @@ returns-clause-sound c levels boolean order =
     let s = c.args.self.now in
     let r = c.put_leaf.new.self in
     let e = gate_entry ns r c.args.term c.args.j in
-    let here = (goal.at.returns-clause-sound c).In_ok-literals in
+    let here = (goal.at.returns-clause-sound c).After-put_leaf in
     let atoms = subst AreAtoms (sym c.put_leaf.ensures.atoms) c.lits_of.ensures.atoms in
     let has : All (λ (l : TermLit). HasTerm r.atoms l.term) (clause_of_table here) = search rules in
     rule_in_order s r e c.put_leaf.result (put_entry here)
@@ -51,3 +52,8 @@ returns-clause-sound c levels boolean order =
     (λ id above. gate_in_order c.tells_literals.ensures.tells c.one_number.ensures.one c.term_of_node.ensures.node ns c.len.ensures.table c.args.term c.args.j
     c.requires.within c.requires.table levels (record s { atoms = r.atoms }) id _ atoms has boolean)
     order
+
+pub returns-in_err-literals-clause-sound : goal.returns-in_err-literals-clause-sound
+returns-in_err-literals-clause-sound c levels boolean order =
+    let joins = c.lits_of.ensures.joins in
+    joined_in_order c.args.self.now c.lits_of.new.self joins.entries joins.atoms c.lits_of.ensures.atoms c.args.terms.now levels order

@@ -8,12 +8,13 @@ use Rattle.nz_log.specs.Atoms.{AreAtoms, HasTerm, lit_of}
 use Rattle.nz_log.specs.Lits.{are_same_lit}
 use Rattle.nz_log.specs.Logs.{assertion_of, given_entry, made_entry, JoinsAtoms, Puts}
 use Rattle.nz_log.specs.TermLits.{yes}
+use Rattle.nz_log.proofs.Dropping.{joined_in_order}
 use Rattle.nz_log.proofs.Joining.{err_joins, puts_made}
 use Rattle.nz_log.proofs.Soundness.{given_in_order, level_grows, rule_in_order}
 use Rattle.nz_log.proofs.log.Log.given.Goals as goal
-use Rattle.nz_log.proofs.log.Log.given.Goals.{In_ok-literal}
+use Rattle.nz_log.proofs.log.Log.given.Goals.{After-put_leaf}
 
-put_entry : (c : In_ok-literal) → IfOk c.put_leaf.result (λ id. Puts c.args.self.now id (given_entry c.put_leaf.new.self c.args.k c.args.term c.args.level) c.put_leaf.new.self)
+put_entry : (c : After-put_leaf) → IfOk c.put_leaf.result (λ id. Puts c.args.self.now id (given_entry c.put_leaf.new.self c.args.k c.args.term c.args.level) c.put_leaf.new.self)
 put_entry c =
     let m = c.term_lit.new.self in
     let r = c.put_leaf.new.self in
@@ -25,7 +26,7 @@ put_entry c =
     c.term_lit.ensures.joins c.put_leaf.ensures.atoms (ap (λ (k : Lit). k ∷ []) one) made
 
 pub returns-clause-made : goal.returns-clause-made
-returns-clause-made c = put_entry (goal.at.returns-clause-made c).In_ok-literal
+returns-clause-made c = put_entry (goal.at.returns-clause-made c).After-put_leaf
 
 pub returns-clause-unchanged : goal.returns-clause-unchanged
 returns-clause-unchanged c =
@@ -38,6 +39,11 @@ returns-clause-sound c ns levels within live order =
     let e = given_entry r c.args.k c.args.term c.args.level in
     let has : HasTerm r.atoms c.args.term = search rules in
     let atoms = subst AreAtoms (sym c.put_leaf.ensures.atoms) c.term_lit.ensures.atoms in
-    rule_in_order s r e c.put_leaf.result (put_entry (goal.at.returns-clause-sound c).In_ok-literal)
+    rule_in_order s r e c.put_leaf.result (put_entry (goal.at.returns-clause-sound c).After-put_leaf)
     (err_joins s c.term_lit.new.self r c.put_leaf.result c.term_lit.ensures.joins c.put_leaf.ensures.unchanged) atoms ns levels
     (λ id above. given_in_order ns levels (record s { atoms = r.atoms }) id c.args.k c.args.term c.args.level _ (level_grows r c.args.level _) within has live) order
+
+pub returns-in_err-literal-clause-sound : goal.returns-in_err-literal-clause-sound
+returns-in_err-literal-clause-sound c ns levels within live order =
+    let joins = c.term_lit.ensures.joins in
+    joined_in_order c.args.self.now c.term_lit.new.self joins.entries joins.atoms c.term_lit.ensures.atoms ns levels order
