@@ -103,6 +103,7 @@ impl Log {
         ensures atoms { AreAtoms self.new.atoms }
         ensures unchanged { OnErr result (self.new ≡ self.old) }
     {
+        self.atom_count();
         if bound.is_strict() {
             let other = bound.not(self.alloc())?;
             let atom = self.bound_atom(other)?;
@@ -364,6 +365,7 @@ impl Log {
         term_of_node();
         let within = term < terms.len();
         prove!(within);
+        self.atom_count();
         let alloc = self.alloc();
         let Some(gate) = gate_literals(alloc, terms, term, j)? else {
             unreachable!()

@@ -1,7 +1,8 @@
 //! The clauses of the unit table, against all small assignments.
-use crate::terms::{constant, numeral, over};
+use crate::terms::{MOST, constant, numeral, over};
 use crate::values::{Values, are_true};
-use nz_frac::Frac;
+use nz_base::Memory;
+use nz_frac::{Frac, Op};
 use nz_lin::LinStop;
 use nz_log::{ClauseId, Log, unit_count};
 use nz_term::{NumberSort, Operator, Sort, TermId, Terms, add_companions};
@@ -155,6 +156,32 @@ fn a_rounded_number_is_bounded(rt: HostRuntime) -> Result<(), Fail> {
                 Frac::whole(b) == number.floor()
             );
         }
+    }
+    Ok(())
+}
+
+/// `(abs (+ (* M x) x))`, in whose argument a coefficient leaves the numbers.
+fn wide(terms: &mut Terms, alloc: Global) -> Result<TermId, Memory> {
+    let x = constant(terms, alloc, b"x", Sort::Int)?;
+    let most = numeral(terms, MOST)?;
+    let times = over(terms, Operator::Product(NumberSort::Int), &[most, x])?;
+    let sum = over(terms, Operator::Sum(NumberSort::Int), &[times, x])?;
+    over(terms, Operator::Abs, &[sum])
+}
+
+#[test]
+fn a_wide_unit_is_named(rt: HostRuntime) -> Result<(), Fail> {
+    let alloc = rt.alloc();
+    let mut terms = Terms::new(alloc)?;
+    let unit = wide(&mut terms, alloc)?;
+    let mut log = Log::new(alloc)?;
+    match log.unit_axiom(&terms, unit, 1) {
+        Err(LinStop::Wide(wide)) => {
+            assert!(rt; wide.op == Op::Add);
+            assert_eq!(rt; wide.a.num(), MOST as i128);
+            assert_eq!(rt; wide.b.num(), 1);
+        }
+        _ => assert!(rt; false),
     }
     Ok(())
 }
