@@ -8,4 +8,4 @@ use Rattle.nz_log.proofs.steps.read_multiples.Given as goal
 abbrev pub invariant-loop-multiple : goal.invariant-loop-multiple
 invariant-loop-multiple l =
     (ns : List Node) → multiples_read ns l.read.items ++ multiples_in ns l.log.atoms (drop l.multiple-index l.multiples)
-        ≡ multiples_read ns l.fn.read.items ++ multiples_in ns l.log.atoms l.multiples
+    ≡ multiples_read ns l.fn.read.items ++ multiples_in ns l.log.atoms l.multiples
