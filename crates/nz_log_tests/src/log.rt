@@ -1,10 +1,10 @@
 //! Each public call of `nz_log` once on its happy path.
 ghost use Rattle.std.specs.Prelude.{ℕ, ◌<◌, ◌≤◌, length, IfOk, OnOk};
-ghost use Rattle.nz_log.specs.Lits.{gates_at};
+ghost use Rattle.nz_log.specs.TermLits.{gates_at};
 ghost use Rattle.nz_log.specs.Logs.{IsLive};
 
 use nz_base::{Memory, Text};
-use nz_log::{ClauseId, Link, Lit, Log, Step, gate_count};
+use nz_log::{Atom, ClauseId, Link, Lit, Literal, Log, Step, TermLit, gate_count};
 use nz_term::{Constant, Head, Operator, Sort, TermId, Terms};
 use std::alloc::Global;
 use std::test::Fail;
@@ -30,6 +30,30 @@ fn negation(terms: &mut Terms, kid: TermId) -> Result<TermId, Memory>
     terms.make(Head::Operator(Operator::Not), &[kid])
 }
 
+// The literal that a term is true.
+fn holds_literal(log: &mut Log, term: TermId) -> Result<Lit, Memory>
+    ensures stay { OnOk result ((i : ℕ) → IsLive log.old i → IsLive log.new i) }
+{
+    let atom = log.term_atom(term)?;
+    Ok(Lit { atom, sign: true })
+}
+
+// Whether a literal of a step is that this term is true.
+fn is_holds(literal: &Literal<'_>, term: TermId) -> bool {
+    match literal {
+        Literal::Term(lit) => *lit == TermLit::holds(term),
+        Literal::AtMost(_, _) => false,
+    }
+}
+
+// Whether a step resolves these steps on that this term is true.
+fn resolves(step: &Step<'_>, first: usize, second: usize, term: TermId) -> bool {
+    match step {
+        Step::Resolve(i, j, literal) => *i == first && *j == second && is_holds(literal, term),
+        _ => false,
+    }
+}
+
 // The empty clause from two assertions, a term and its negation, and the clause of the gate table that ties them.
 fn refute(log: &mut Log, terms: &Terms, term: TermId, negation: TermId) -> Result<ClauseId, Memory>
     requires within { negation < length terms.now }
@@ -39,8 +63,10 @@ fn refute(log: &mut Log, terms: &Terms, term: TermId, negation: TermId) -> Resul
     let holds = log.given(0, term, 0)?;
     let negated = log.given(1, negation, 1)?;
     let gate = log.gate(terms, negation, 0)?;
-    let fails = log.resolve(negated, gate, Lit::holds(negation))?;
-    log.resolve(holds, fails, Lit::holds(term))
+    let negation_holds = holds_literal(log, negation)?;
+    let term_holds = holds_literal(log, term)?;
+    let fails = log.resolve(negated, gate, negation_holds)?;
+    log.resolve(holds, fails, term_holds)
 }
 
 #[test]
@@ -56,14 +82,12 @@ fn opposites_are_refuted(rt: HostRuntime) -> Result<(), Fail> {
     assert_eq!(rt; log.clause(empty).len(), 0);
     assert_eq!(rt; log.level(empty), 1);
     let steps = log.steps(empty)?;
-    let wanted = [
-        Step::Given(0),
-        Step::Given(1),
-        Step::Gate(1, 0),
-        Step::Resolve(1, 2, Lit::holds(1)),
-        Step::Resolve(0, 3, Lit::holds(0)),
-    ];
-    assert_eq!(rt; steps.as_slice(), wanted.as_slice());
+    assert_eq!(rt; steps.len(), 5);
+    assert!(rt; matches!(&steps[0], Step::Given(0)));
+    assert!(rt; matches!(&steps[1], Step::Given(1)));
+    assert!(rt; matches!(&steps[2], Step::Gate(1, 0)));
+    assert!(rt; resolves(&steps[3], 1, 2, 1));
+    assert!(rt; resolves(&steps[4], 0, 3, 0));
     Ok(())
 }
 
@@ -97,17 +121,20 @@ fn chains(log: &mut Log, terms: &Terms) -> Result<(ClauseId, ClauseId), Memory>
     let holds = log.given(0, 3, 1)?;
     let equal = gate(log, terms, 4, 0)?;
     let are_equal = log.given(1, 4, 2)?;
+    let some_fails = holds_literal(log, 3)?.not();
+    let first_holds = holds_literal(log, 0)?;
+    let equal_fails = holds_literal(log, 4)?.not();
     let first = Link {
         clause: holds,
-        literal: Lit::fails(3),
+        literal: some_fails,
     };
     let second = Link {
         clause: equal,
-        literal: Lit::holds(0),
+        literal: first_holds,
     };
     let third = Link {
         clause: are_equal,
-        literal: Lit::fails(4),
+        literal: equal_fails,
     };
     let short = log.chain(some, &[first, second])?;
     let long = log.chain(some, &[first, second, third])?;
@@ -122,11 +149,28 @@ fn a_chain_is_resolved_link_by_link(rt: HostRuntime) -> Result<(), Fail> {
     let (short, long) = chains(&mut log, &terms)?;
 
     // Of the clauses `not 3, p, q, r`, `3`, `not 4, not p, q` and `4`. What both have stands where it was, and once.
-    let wanted = [Lit::holds(1), Lit::holds(2), Lit::fails(4)];
+    let wanted = [
+        holds_literal(&mut log, 1)?,
+        holds_literal(&mut log, 2)?,
+        holds_literal(&mut log, 4)?.not(),
+    ];
     assert_eq!(rt; log.clause(short), wanted.as_slice());
     assert_eq!(rt; log.level(short), 1);
     assert_eq!(rt; log.clause(long), &wanted[..2]);
     assert_eq!(rt; log.level(long), 2);
+    Ok(())
+}
+
+#[test]
+fn an_atom_has_one_number(rt: HostRuntime) -> Result<(), Fail> {
+    let mut log = Log::new(rt.alloc())?;
+    let seven = log.term_atom(7)?;
+    let five = log.term_atom(5)?;
+    assert_eq!(rt; log.term_atom(7)?, seven);
+    assert_eq!(rt; log.atom_count(), 2);
+    assert_eq!(rt; log.find_term(5), Some(five));
+    assert_eq!(rt; log.find_term(6), None);
+    assert!(rt; matches!(log.atom(seven), Atom::Term(7)));
     Ok(())
 }
 
