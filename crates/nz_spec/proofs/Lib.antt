@@ -51,6 +51,7 @@ pub mod Normal
 pub mod NormalGates
 pub mod NormalSorts
 pub mod Pieces
+pub mod PivotRuns
 pub mod Placed
 pub mod PositionMovesKeep
 pub mod ReadOperands

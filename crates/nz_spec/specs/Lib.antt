@@ -35,6 +35,7 @@ pub mod Operations
 pub mod Order
 pub mod Outside
 pub mod Parse
+pub mod Pivots
 pub mod PositionMoves
 pub mod Reading
 pub mod Reply

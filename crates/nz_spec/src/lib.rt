@@ -11,6 +11,7 @@ pub mod elaboration;
 pub mod example;
 pub mod form;
 pub mod fraction;
+pub mod pivots;
 pub mod reply;
 pub mod script;
 pub mod table;
