@@ -13,5 +13,5 @@ mod values;
 
 pub use answer::{Check, Place, SimplexStop, Site};
 pub use coordinate::Coordinate;
-pub use simplex::Simplex;
+pub use simplex::{Simplex, known_state};
 pub use steps::Steps;

@@ -1,4 +1,20 @@
 //! The simplex: forms over a basis, their bounds, and the point.
+ghost use Rattle.std.specs.Prelude.{◌≡◌, ◌≢◌, ◌↔◌, ◌+◌, ◌<◌, ◌≤◌, ℕ, [], List, All, IfOk, OnOk, OnErr, IfErr, IfSome, IfNone, IsSome, IsTrue, None, Some, Ok, Err, false, true, not, length, map, option_map, slice_index_or, take, vec_capacity, vec_len};
+ghost use Rattle.nz_lin.specs.Forms.{AreUnits};
+ghost use Rattle.nz_simplex.specs.Checks.{Answers, IsPlace, IsStepped, Renews, multipliers};
+ghost use Rattle.nz_simplex.specs.Choices.{has_room, is_past, on, way_of};
+ghost use Rattle.nz_simplex.specs.Moves.{IsBounded, IsJoined, IsSettled, JoinStops, joined_over};
+ghost use Rattle.nz_simplex.specs.Standing.{half, standing, told, told_on};
+ghost use Rattle.nz_simplex.specs.State.{IsOver, IsSound, empty_state, nonbasic_in, position_over, value_in};
+ghost use Rattle.nz_simplex.specs.Stored.{basic_numbers, nonbasic_numbers};
+ghost use Rattle.nz_simplex.specs.Tabled.{coefficients_in};
+ghost use Rattle.nz_spec.specs.Bland.{CanHelp, Breaks, IsOutside, is_nonbasic};
+ghost use Rattle.nz_spec.specs.Basis.{IsRow};
+ghost use Rattle.nz_spec.specs.Infinitesimal.{Infinitesimal, infinitesimal_cmp};
+ghost use Rattle.nz_spec.specs.Table.{Node};
+ghost use Rattle.nz_trail.specs.Bounds.{ClashesWith, IsExcluded, IsImplied, asserted};
+ghost use Rattle.nz_trail.specs.declared.limits.Side.TheVariants.{Lower, Upper};
+
 use crate::answer::{Check, Place, SimplexStop, Site};
 use crate::choice::{Broken, broken_bound, has_room, opposite, size, way};
 use crate::coordinate::Coordinate;
@@ -10,8 +26,10 @@ use nz_lin::{Form, Part};
 use nz_tab::{Row, Tab, TabStop};
 use nz_trail::{Bound, Limit, Reason, Side, Trail, Var};
 use std::alloc::Global;
+use std::marker::Model;
 
-/// Linear forms over a basis, with bounds and a point.
+/// Linear forms over a basis, with bounds and a point. A contract sees the forms, which of them are nonbasic, the values that are
+/// known, the bounds that were asserted and not undone, and the multipliers of the last clash; rows aren't shown.
 #[derive(Debug, Drop)]
 pub struct Simplex<S: Coordinate> {
     tab: Tab,
@@ -26,9 +44,24 @@ pub struct Simplex<S: Coordinate> {
     why: Vec<(Reason, Frac)>,
 }
 
+impl<S: Coordinate> Model for Simplex<S> {
+    ghost use Rattle.std.specs.Prelude.{vec_capacity};
+    ghost use Rattle.nz_simplex.specs.State.{State};
+
+    ghost Value = { State };
+
+    ghost use Rattle.nz_simplex.specs.Stored.{IsStored, state_of};
+
+    ghost view = { λ x. state_of S.stands_for x.tab x.trail x.values.items x.why.items };
+
+    ghost invariant = { λ x. IsStored (state_of S.stands_for x.tab x.trail x.values.items x.why.items) x.trail.vars x.basic.items x.nonbasic.items (vec_capacity x.basic) (vec_capacity x.nonbasic) (vec_capacity x.why) };
+}
+
 impl<S: Coordinate> Simplex<S> {
     /// No form. Takes no memory.
-    pub fn new(alloc: Global) -> Simplex<S> {
+    pub fn new(alloc: Global) -> Simplex<S>
+        ensures empty { result ≡ empty_state }
+    {
         Simplex {
             tab: Tab::new(alloc),
             trail: Trail::new(alloc),
@@ -40,57 +73,89 @@ impl<S: Coordinate> Simplex<S> {
     }
 
     /// How many forms there are.
-    pub fn len(&self) -> usize {
+    pub fn len(&self) -> usize
+        ensures count { result ≡ length self.now.forms }
+    {
         self.tab.len()
     }
 
     /// The parts of a form.
-    pub fn form(&self, var: Var) -> &[Part] {
+    pub fn form(&self, var: Var) -> &[Part]
+        requires known { var < length self.now.forms }
+        ensures form { result.now ≡ slice_index_or self.now.forms var [] }
+    {
         self.tab.form(var)
     }
 
     /// Whether a form is basic.
-    pub fn is_basic(&self, var: Var) -> bool {
+    pub fn is_basic(&self, var: Var) -> bool
+        requires known { var < length self.now.forms }
+        ensures basic { result ≡ not (nonbasic_in self.now var) }
+    {
         self.tab.is_basic(var)
     }
 
     /// The numbers of the basic forms, in order.
-    pub fn basis(&self) -> &[Var] {
+    pub fn basis(&self) -> &[Var]
+        ensures basis { result.now ≡ basic_numbers self.now }
+    {
         self.basic.as_slice()
     }
 
     /// The row of a basic form.
-    pub fn row(&self, i: Var) -> Row<'_> {
+    pub fn row(&self, i: Var) -> Row<'_>
+        requires known { i < length self.now.forms }
+        requires basic { nonbasic_in self.now i ≡ false }
+        ensures row { (ns : List Node) → IsOver ns self.now → IsRow (position_over ns self.now).forms (is_nonbasic (position_over ns self.now).point) i (coefficients_in result) }
+    {
         self.tab.row(i)
     }
 
     /// The lower bound and the upper bound that stand of a form.
-    pub fn bounds(&self, var: Var) -> (Option<Limit<S>>, Option<Limit<S>>) {
+    pub fn bounds(&self, var: Var) -> (Option<Limit<S>>, Option<Limit<S>>)
+        requires known { var < length self.now.forms }
+        ensures lower { option_map (told_on S.stands_for var Lower) result.0 ≡ standing self.now.asserted var Lower }
+        ensures upper { option_map (told_on S.stands_for var Upper) result.1 ≡ standing self.now.asserted var Upper }
+    {
         self.trail.bounds(var)
     }
 
     /// Whether the value of a form is known. That of a nonbasic one is, and after a check each is that didn't stop.
-    pub fn has_value(&self, var: Var) -> bool {
+    pub fn has_value(&self, var: Var) -> bool
+        requires known { var < length self.now.forms }
+        ensures known { IsTrue result ↔ IsSome (value_in self.now var) }
+    {
         self.values[var].is_some()
     }
 
     /// The value of a form at the point.
-    pub fn value(&self, var: Var) -> S {
+    pub fn value(&self, var: Var) -> S
+        requires known { var < length self.now.forms }
+        requires valued { IsSome (value_in self.now var) }
+        ensures value { value_in self.now var ≡ Some (S.stands_for result) }
+    {
         self.values[var].unwrap()
     }
 
     /// How many bounds stand or stood: the place to which `undo` takes them back.
-    pub fn mark(&self) -> usize {
+    pub fn mark(&self) -> usize
+        ensures count { result ≡ length self.now.asserted }
+    {
         self.trail.mark()
     }
 
     /// Takes the newest bounds back, so that as many are left as there were at the mark. The point stays. Takes no memory.
-    pub fn undo(&mut self, mark: usize) {
+    pub fn undo(&mut self, mark: usize)
+        requires reached { mark ≤ length self.old.asserted }
+        ensures front { self.new ≡ record self.old { asserted = take mark self.old.asserted } }
+    {
         self.trail.undo(mark);
     }
 
     /// The reasons of the bounds that the last clash rests on, each with its multiplier.
-    pub fn why(&self) -> &[(Reason, Frac)] {
+    pub fn why(&self) -> &[(Reason, Frac)]
+        ensures why { result.now ≡ self.now.why }
+    {
         self.why.as_slice()
     }
 
@@ -100,7 +165,12 @@ impl<S: Coordinate> Simplex<S> {
     /// # Errors
     ///
     /// `Wide` with the first operation on the new row that leaves the numbers; `Memory`. Then all is as before.
-    pub fn add_form(&mut self, form: &Form) -> Result<Var, TabStop> {
+    pub fn add_form(&mut self, form: &Form) -> Result<Var, TabStop>
+        ensures joined { IfOk result (λ v. IsJoined self.old self.new form.now.parts v) }
+        ensures position { OnOk result ((ns : List Node) → IsOver ns self.old → AreUnits ns form.now.parts → position_over ns self.new ≡ joined_over ns self.old form.now.parts) }
+        ensures stops { IfErr result (λ e. (ns : List Node) → IsOver ns self.old → AreUnits ns form.now.parts → JoinStops ns self.old form.now.parts e) }
+        ensures unchanged { OnErr result (self.new ≡ self.old) }
+    {
         self.reserve(form.parts().len())?;
         let var = self.tab.add_form(form)?;
         self.extend();
@@ -158,7 +228,17 @@ impl<S: Coordinate> Simplex<S> {
         side: Side,
         value: S,
         reason: Reason,
-    ) -> Result<Bound, Memory> {
+    ) -> Result<Bound, Memory>
+        requires known { var < length self.old.forms }
+        ensures kept { let b = asserted var side (S.stands_for value) reason in
+            IfOk result (λ o. (o ≡ Bound.Kept) ↔ IsImplied infinitesimal_cmp self.old.asserted b) }
+        ensures clash { let b = asserted var side (S.stands_for value) reason in
+            IfOk result (λ o. (r : ℕ) → (s : ℕ) → (o ≡ Bound.Clash r s) ↔ ((r ≡ reason) × ClashesWith infinitesimal_cmp self.old.asserted b s)) }
+        ensures tighter { let b = asserted var side (S.stands_for value) reason in
+            IfOk result (λ o. (o ≡ Bound.Tighter) ↔ ((¬ IsImplied infinitesimal_cmp self.old.asserted b) × (¬ IsExcluded infinitesimal_cmp self.old.asserted b))) }
+        ensures bounded { result ≡ Ok Bound.Tighter → IsBounded self.old self.new (asserted var side (S.stands_for value) reason) }
+        ensures unchanged { result ≢ Ok Bound.Tighter → self.new ≡ self.old }
+    {
         let outcome = self.trail.assert_bound(var, side, value, reason)?;
         if outcome == Bound::Tighter && !self.tab.is_basic(var) && self.is_outside(var, side, value) {
             self.move_to(var, value);
@@ -188,7 +268,13 @@ impl<S: Coordinate> Simplex<S> {
     /// # Errors
     ///
     /// `Wide` where the value of a basic form leaves the numbers then. They have moved all the same.
-    pub fn settle(&mut self, vars: &[Var]) -> Result<(), SimplexStop> {
+    pub fn settle(&mut self, vars: &[Var]) -> Result<(), SimplexStop>
+        requires nonbasic { All (λ k. nonbasic_in self.old k ≡ true) vars.now }
+        requires lower { All (λ k. standing self.old.asserted k Lower ≡ None) vars.now }
+        requires upper { All (λ k. standing self.old.asserted k Upper ≡ None) vars.now }
+        ensures settled { IsSettled self.old self.new vars.now }
+        ensures answer { (ns : List Node) → IsOver ns self.new → Renews ns self.new result }
+    {
         for var in vars {
             self.move_to(*var, S::zero());
         }
@@ -227,7 +313,11 @@ impl<S: Coordinate> Simplex<S> {
     ///
     /// `Spent` where a step more is wanted and no unit is left; `Wide` with the first operation of an exchange, or of the value
     /// of a form, that leaves the numbers. The steps that were noted are taken.
-    pub fn check<W: Steps>(&mut self, work: &mut W) -> Result<Check, SimplexStop> {
+    pub fn check<W: Steps>(&mut self, work: &mut W) -> Result<Check, SimplexStop>
+        ensures steps { IsStepped W.with_step work.old work.new self.old self.new }
+        ensures answer { (ns : List Node) → IsOver ns self.new → Answers ns self.new (W.units_left work.new) result }
+        ensures why { result ≢ Ok Check.Clash → self.new.why ≡ self.old.why }
+    {
         self.renew()?;
         while let Some(broken) = self.first_broken() {
             let Some(enters) = self.first_helper(&broken) else {
@@ -318,4 +408,12 @@ impl<S: Coordinate> Simplex<S> {
             }
         }
     }
+}
+
+/// Says what holds of each simplex: its nonbasic forms have values, what is known is the value at the position, and the position is
+/// ready for a check.
+pub fn known_state<S: Coordinate>(simplex: &Simplex<S>)
+    ensures sound { IsSound simplex.now }
+{
+    simplex.len();
 }

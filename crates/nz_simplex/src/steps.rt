@@ -1,5 +1,5 @@
 //! Where the steps of a check are noted.
-ghost use Rattle.std.specs.Prelude.{◌≡◌, ◌<◌};
+ghost use Rattle.std.specs.Prelude.{◌≡◌, ◌<◌, ◌+◌};
 
 use nz_trail::Var;
 
@@ -20,5 +20,5 @@ pub trait Steps {
         requires free { 0 < units_left self.old }
         ensures noted { self.new ≡ with_step self.old leaves enters };
 
-    ghost takes_one: { (w : Self) → (i j : ℕ) → 0 < units_left w → units_left (with_step w i j) < units_left w };
+    ghost takes_one: { (w : Self) → (i j : ℕ) → 0 < units_left w → units_left (with_step w i j) + 1 ≡ units_left w };
 }

@@ -1,4 +1,12 @@
 //! Values of forms: how they follow a nonbasic form that moves, and how one is computed from its row.
+ghost use Rattle.std.specs.Prelude.{◌≡◌, ◌<◌, All, IfOk, IfSome, IsSome, Some, None, length, slice_index_or};
+ghost use Rattle.nz_delta.specs.Refused.{refused};
+ghost use Rattle.nz_simplex.specs.Choices.{numbers_in};
+ghost use Rattle.nz_simplex.specs.Tabled.{coefficients_in};
+ghost use Rattle.nz_spec.specs.Bland.{value_onto, zero_infinitesimal};
+ghost use Rattle.nz_spec.specs.Fraction.{first_wide};
+ghost use Rattle.nz_spec.specs.Infinitesimal.{◌=δ◌, ◌+δ◌, ◌-δ◌, scaled};
+
 use crate::coordinate::Coordinate;
 use nz_frac::{Frac, Wide};
 use nz_tab::Row;
@@ -9,13 +17,18 @@ pub(crate) fn followed<S: Coordinate>(
     value: Option<S>,
     distance: Option<S>,
     coefficient: Frac,
-) -> Option<S> {
+) -> Option<S>
+    ensures followed { IfSome result (λ y. (x d : S) × (value ≡ Some x) × (distance ≡ Some d)
+        × (S.stands_for y =δ (S.stands_for x +δ scaled (S.stands_for d) coefficient))) }
+{
     let step = distance?.scale(coefficient).ok()?;
     value?.add(step).ok()
 }
 
 /// How far it is from a value to another one, where both and the difference are known.
-pub(crate) fn distance<S: Coordinate>(from: Option<S>, to: S) -> Option<S> {
+pub(crate) fn distance<S: Coordinate>(from: Option<S>, to: S) -> Option<S>
+    ensures distance { IfSome result (λ d. (x : S) × (from ≡ Some x) × (S.stands_for d =δ (S.stands_for to -δ S.stands_for x))) }
+{
     to.sub(from?).ok()
 }
 
@@ -24,7 +37,14 @@ pub(crate) fn row_value<S: Coordinate>(
     row: &Row<'_>,
     nonbasic: &[Var],
     values: &[Option<S>],
-) -> Result<S, Wide> {
+) -> Result<S, Wide>
+    requires listed { All (λ k. k < length values.now) nonbasic.now }
+    requires known { All (λ k. IsSome (slice_index_or values.now k None)) nonbasic.now }
+    ensures value { IfOk result (λ y. S.stands_for y
+        ≡ (value_onto (coefficients_in row.now) (numbers_in S.stands_for values.now) zero_infinitesimal nonbasic.now).result) }
+    ensures stops { refused result
+        ≡ first_wide (value_onto (coefficients_in row.now) (numbers_in S.stands_for values.now) zero_infinitesimal nonbasic.now).operations }
+{
     let mut sum = S::zero();
     for var in nonbasic {
         let value = values[*var].unwrap();

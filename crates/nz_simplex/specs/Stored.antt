@@ -1,0 +1,37 @@
+-- What the fields of a simplex are.
+use Rattle.std.specs.Prelude.{◌≡◌, ℕ, ◌≤◌, Bool, not, List, map, length, Option, option_map}
+use Rattle.nz_spec.specs.Fraction.{Fraction}
+use Rattle.nz_spec.specs.Infinitesimal.{Infinitesimal}
+use Rattle.nz_spec.specs.BasisMoves.{numbers}
+use Rattle.nz_tab.specs.Tables.{Table}
+use Rattle.nz_trail.specs.Bounds.{Asserted, TrailState}
+use Rattle.nz_simplex.specs.Standing.{told}
+use Rattle.nz_simplex.specs.State.{State, nonbasic_in, IsSound}
+use Rattle.nz_simplex.specs.Tabled.{marks_in}
+
+module _ {S : Type 0} (stands_for : S → Infinitesimal) where
+  abbrev pub state_of : Table → TrailState S → List (Option S) → List (ℕ × Fraction) → State
+  state_of tab trail values why = record {
+    forms = tab.forms;
+    marks = marks_in tab;
+    values = map (option_map stands_for) values;
+    asserted = map (told stands_for) trail.asserted;
+    why = why;
+  }
+
+-- the numbers of the basic forms, in order
+abbrev pub basic_numbers : State → List ℕ
+basic_numbers s = numbers (length s.forms) (λ k. not (nonbasic_in s k))
+
+abbrev pub nonbasic_numbers : State → List ℕ
+nonbasic_numbers s = numbers (length s.forms) (nonbasic_in s)
+
+-- The basic forms and the others are listed, each form is a variable of the trail, and what a check wants has its room.
+pub record IsStored (s : State) (vars : ℕ) (basic nonbasic : List ℕ) (basic_room nonbasic_room why_room : ℕ) : Type 0 where
+  pub sound : IsSound s
+  pub basic : basic ≡ basic_numbers s
+  pub nonbasic : nonbasic ≡ nonbasic_numbers s
+  pub vars : length s.forms ≤ vars
+  pub basic_room : length s.forms ≤ basic_room
+  pub nonbasic_room : length s.forms ≤ nonbasic_room
+  pub why_room : length s.forms ≤ why_room
