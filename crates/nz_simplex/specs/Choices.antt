@@ -4,7 +4,8 @@ use Rattle.nz_spec.specs.Fraction.{Fraction, neg_ℚ}
 use Rattle.nz_spec.specs.Infinitesimal.{Infinitesimal}
 use Rattle.nz_spec.specs.Term.{is_zero}
 use Rattle.nz_spec.specs.Bland as bland
-use Rattle.nz_spec.specs.Bland.{zero_infinitesimal}
+use Rattle.nz_spec.specs.Computation.{Computation, and_then}
+use Rattle.nz_spec.specs.Bland.{zero_infinitesimal, times, plus}
 use Rattle.nz_spec.specs.PositionMoves.{is_outside}
 use Rattle.nz_trail.specs.Bounds.{other_side}
 use Rattle.nz_trail.specs.declared.limits.Limit.{Limit}
@@ -49,3 +50,9 @@ module _ {S : Type 0} (stands_for : S → Infinitesimal) where
   -- the numbers that values stand for, at their places; 0 where none is known
   abbrev pub numbers_in : List (Option S) → ℕ → Infinitesimal
   numbers_in values k = unwrap_or (option_map stands_for (slice_index_or values k None)) zero_infinitesimal
+
+-- ---- Values
+
+-- onto a sum, the product of a value and a coefficient
+abbrev pub multiple_onto : Infinitesimal → Infinitesimal → Fraction → Computation Infinitesimal
+multiple_onto t x c = and_then (times x c) (λ p. plus t p)

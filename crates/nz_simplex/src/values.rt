@@ -1,7 +1,7 @@
 //! Values of forms: how they follow a nonbasic form that moves, and how one is computed from its row.
 ghost use Rattle.std.specs.Prelude.{◌≡◌, ◌<◌, All, IfOk, IfSome, IsSome, Some, None, length, slice_index_or};
 ghost use Rattle.nz_delta.specs.Refused.{refused};
-ghost use Rattle.nz_simplex.specs.Choices.{numbers_in};
+ghost use Rattle.nz_simplex.specs.Choices.{multiple_onto, numbers_in};
 ghost use Rattle.nz_simplex.specs.Tabled.{coefficients_in};
 ghost use Rattle.nz_spec.specs.Bland.{value_onto, zero_infinitesimal};
 ghost use Rattle.nz_spec.specs.Fraction.{first_wide};
@@ -9,6 +9,7 @@ ghost use Rattle.nz_spec.specs.Infinitesimal.{◌=δ◌, ◌+δ◌, ◌-δ◌, s
 
 use crate::coordinate::Coordinate;
 use nz_frac::{Frac, Wide};
+use nz_spec::computation::first_of_two;
 use nz_tab::Row;
 use nz_trail::Var;
 
@@ -45,11 +46,20 @@ pub(crate) fn row_value<S: Coordinate>(
     ensures stops { refused result
         ≡ first_wide (value_onto (coefficients_in row.now) (numbers_in S.stands_for values.now) zero_infinitesimal nonbasic.now).operations }
 {
+    first_of_two();
     let mut sum = S::zero();
     for var in nonbasic {
-        let value = values[*var].unwrap();
-        let product = value.scale(row.at(*var))?;
-        sum = sum.add(product)?;
+        sum = with_multiple(sum, values[*var].unwrap(), row.at(*var))?;
     }
     Ok(sum)
+}
+
+/// A sum with a multiple of a value.
+fn with_multiple<S: Coordinate>(sum: S, value: S, coefficient: Frac) -> Result<S, Wide>
+    ensures value { IfOk result (λ y. S.stands_for y ≡ (multiple_onto (S.stands_for sum) (S.stands_for value) coefficient).result) }
+    ensures stops { refused result ≡ first_wide (multiple_onto (S.stands_for sum) (S.stands_for value) coefficient).operations }
+{
+    first_of_two();
+    let product = value.scale(coefficient)?;
+    sum.add(product)
 }

@@ -24,6 +24,7 @@ pub mod Derivations
 pub mod Divisions
 pub mod Examples
 pub mod FarkasSums
+pub mod FirstOperations
 pub mod FormNumbers
 pub mod FormPlaces
 pub mod FormSums

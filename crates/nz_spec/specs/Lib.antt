@@ -14,6 +14,7 @@ pub mod Error
 pub mod Example
 pub mod Expression
 pub mod Farkas
+pub mod FirstOperations
 pub mod Form
 pub mod FormOf
 pub mod FormPlace
