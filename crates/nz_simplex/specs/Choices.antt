@@ -1,7 +1,7 @@
 -- How the forms of a step are chosen, by tests, and how values follow.
 use Rattle.std.specs.Prelude.{◌≡◌, ℕ, Bool, true, false, List, [], ◌∷◌, slice_index_or, pos, int_lt, Option, Some, None, option_map, unwrap_or, if◌then◌else◌}
 use Rattle.nz_spec.specs.Fraction.{Fraction, neg_ℚ}
-use Rattle.nz_spec.specs.Infinitesimal.{Infinitesimal}
+use Rattle.nz_spec.specs.Infinitesimal.{Infinitesimal, ◌=δ◌, ◌+δ◌, ◌-δ◌, scaled}
 use Rattle.nz_spec.specs.Term.{is_zero}
 use Rattle.nz_spec.specs.Bland as bland
 use Rattle.nz_spec.specs.Computation.{Computation, and_then}
@@ -38,6 +38,10 @@ module _ {S : Type 0} (stands_for : S → Infinitesimal) where
   abbrev pub is_past : Side → S → S → Bool
   is_past side bound x = is_outside (half side) (stands_for bound) (stands_for x)
 
+  abbrev pub is_past_known : Side → S → Option S → Bool
+  is_past_known side bound None = false
+  is_past_known side bound (Some x) = is_past side bound x
+
   abbrev pub has_room : Side → Option (Limit S) → S → Bool
   has_room side None x = true
   has_room side (Some limit) x = is_past (other_side side) limit.value x
@@ -56,3 +60,9 @@ module _ {S : Type 0} (stands_for : S → Infinitesimal) where
 -- onto a sum, the product of a value and a coefficient
 abbrev pub multiple_onto : Infinitesimal → Infinitesimal → Fraction → Computation Infinitesimal
 multiple_onto t x c = and_then (times x c) (λ p. plus t p)
+
+-- A value follows one that moves from somewhere to a target, by its coefficient there: where it is known after, it was known before.
+abbrev pub IsFollowed : {S : Type 0} → (S → Infinitesimal) → Option S → S → Fraction → Option S → Option S → Type 0
+IsFollowed stands_for from target c old None = Unit {0}
+IsFollowed {S} stands_for from target c old (Some y) =
+    (w x : S) × (from ≡ Some w) × (old ≡ Some x) × (stands_for y =δ (stands_for x +δ scaled (stands_for target -δ stands_for w) c))

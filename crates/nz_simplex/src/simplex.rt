@@ -1,29 +1,36 @@
 //! The simplex: forms over a basis, their bounds, and the point.
-ghost use Rattle.std.specs.Prelude.{◌≡◌, ◌≢◌, ◌↔◌, ◌+◌, ◌<◌, ◌≤◌, ℕ, [], List, All, IfOk, OnOk, OnErr, IfErr, IfSome, IfNone, IsSome, IsTrue, None, Some, Ok, Err, false, true, not, length, map, option_map, slice_index_or, take, vec_capacity, vec_len};
+ghost use Rattle.std.specs.Prelude.{◌≡◌, ◌≢◌, ◌↔◌, ◌<◌, ◌≤◌, ◌&&◌, if◌then◌else◌, ℕ, [], ◌∷◌, List, All, IfOk, OnOk, OnErr, IfErr, IfSome, IfNone, IsSome, IsTrue, None, Some, Ok, Err, false, true, not, length, map, option_map, slice_index_or, take, vec_capacity, vec_len};
 ghost use Rattle.nz_lin.specs.Forms.{AreUnits};
-ghost use Rattle.nz_simplex.specs.Checks.{Answers, IsPlace, IsStepped, Renews, multipliers};
-ghost use Rattle.nz_simplex.specs.Choices.{has_room, is_past, on, way_of};
+ghost use Rattle.nz_simplex.specs.Checks.{Answers, IsFirstBroken, IsFirstHelper, IsRenewed, IsStepped, MovesTowards, Renews, StopsAt, multipliers};
+ghost use Rattle.nz_simplex.specs.Choices.{is_past_known};
 ghost use Rattle.nz_simplex.specs.Moves.{IsBounded, IsJoined, IsSettled, JoinStops, joined_over};
-ghost use Rattle.nz_simplex.specs.Standing.{half, standing, told, told_on};
+ghost use Rattle.nz_simplex.specs.Standing.{half, standing, told_on};
 ghost use Rattle.nz_simplex.specs.State.{IsOver, IsSound, empty_state, nonbasic_in, position_over, value_in};
-ghost use Rattle.nz_simplex.specs.Stored.{basic_numbers, nonbasic_numbers};
-ghost use Rattle.nz_simplex.specs.Tabled.{coefficients_in};
-ghost use Rattle.nz_spec.specs.Bland.{CanHelp, Breaks, IsOutside, is_nonbasic};
-ghost use Rattle.nz_spec.specs.Basis.{IsRow};
+ghost use Rattle.nz_simplex.specs.Stored.{basic_numbers};
+ghost use Rattle.nz_simplex.specs.Tabled.{coefficients_in, marks_in};
+ghost use Rattle.nz_spec.specs.Bland as bland;
+ghost use Rattle.nz_spec.specs.Bland.{Breaks, CanHelp, HasValue, IsCheckStep, Side, is_nonbasic};
+ghost use Rattle.nz_spec.specs.BasisMoves.{MayExchange, numbers};
+ghost use Rattle.nz_spec.specs.Basis.{Coefficients, IsRow};
 ghost use Rattle.nz_spec.specs.Infinitesimal.{Infinitesimal, infinitesimal_cmp};
 ghost use Rattle.nz_spec.specs.Table.{Node};
 ghost use Rattle.nz_trail.specs.Bounds.{ClashesWith, IsExcluded, IsImplied, asserted};
 ghost use Rattle.nz_trail.specs.declared.limits.Side.TheVariants.{Lower, Upper};
 
 use crate::answer::{Check, Place, SimplexStop, Site};
-use crate::choice::{Broken, broken_bound, has_room, opposite, size, way};
+use crate::choice::{Broken, broken_bound, has_room, is_outside, opposite, size, way};
 use crate::coordinate::Coordinate;
 use crate::steps::Steps;
-use crate::values::{distance, followed, row_value};
+use crate::values::{move_to, row_value};
 use nz_base::Memory;
-use nz_frac::{Frac, Wide};
+use nz_frac::Frac;
 use nz_lin::{Form, Part};
-use nz_tab::{Row, Tab, TabStop};
+use nz_spec::basis::{
+    check_steps_keep_basis, joins_keep_basis, moves_keep_ready, no_help_refutes,
+    positions_have_values, rows_tell, sum_moves, value_is_computed,
+};
+use nz_spec::pivots::pivots_are_runs;
+use nz_tab::{Row, Tab, TabStop, known_tableau};
 use nz_trail::{Bound, Limit, Reason, Side, Trail, Var};
 use std::alloc::Global;
 use std::marker::Model;
@@ -172,13 +179,18 @@ impl<S: Coordinate> Simplex<S> {
         ensures unchanged { OnErr result (self.new ≡ self.old) }
     {
         self.reserve(form.parts().len())?;
+        joins_keep_basis();
+        moves_keep_ready();
         let var = self.tab.add_form(form)?;
-        self.extend();
+        extend_values(&self.tab, &mut self.values);
+        list_forms(&self.tab, &mut self.basic, &mut self.nonbasic);
         Ok(var)
     }
 
     /// Makes room for a form of so many parts, of which each may be a new unit.
-    fn reserve(&mut self, parts: usize) -> Result<(), Memory> {
+    fn reserve(&mut self, parts: usize) -> Result<(), Memory>
+        ensures unchanged { self.new ≡ self.old }
+    {
         let more = parts.checked_add(1).ok_or(Memory)?;
         let count = self.tab.len().checked_add(more).ok_or(Memory)?;
         self.values.reserve(more)?;
@@ -189,32 +201,6 @@ impl<S: Coordinate> Simplex<S> {
             self.trail.add_var()?;
         }
         Ok(())
-    }
-
-    /// Values for the forms that have joined: a nonbasic one stands at 0, and that of a basic one isn't known yet.
-    fn extend(&mut self) {
-        for var in self.values.len()..self.tab.len() {
-            let value = if self.tab.is_basic(var) {
-                None
-            } else {
-                Some(S::zero())
-            };
-            self.values.push_reserved(value);
-        }
-        self.list_forms();
-    }
-
-    /// Lists the basic forms and the nonbasic ones.
-    fn list_forms(&mut self) {
-        self.basic.clear();
-        self.nonbasic.clear();
-        for var in 0..self.tab.len() {
-            if self.tab.is_basic(var) {
-                self.basic.push_reserved(var);
-            } else {
-                self.nonbasic.push_reserved(var);
-            }
-        }
     }
 
     /// Asserts a bound of a form. A nonbasic form that is outside of it moves to it, and the values of the basic forms follow.
@@ -239,28 +225,13 @@ impl<S: Coordinate> Simplex<S> {
         ensures bounded { result ≡ Ok Bound.Tighter → IsBounded self.old self.new (asserted var side (S.stands_for value) reason) }
         ensures unchanged { result ≢ Ok Bound.Tighter → self.new ≡ self.old }
     {
+        moves_keep_ready();
+        sum_moves();
         let outcome = self.trail.assert_bound(var, side, value, reason)?;
-        if outcome == Bound::Tighter && !self.tab.is_basic(var) && self.is_outside(var, side, value) {
-            self.move_to(var, value);
+        if outcome == Bound::Tighter && is_to_move(&self.tab, self.values.as_slice(), var, side, value) {
+            move_to(&self.tab, self.values.as_mut_slice(), var, value);
         }
         Ok(outcome)
-    }
-
-    /// Whether the value of a nonbasic form is outside of a bound.
-    fn is_outside(&self, var: Var, side: Side, bound: S) -> bool {
-        crate::choice::is_outside(side, bound, self.value(var))
-    }
-
-    /// Moves a nonbasic form to a value, and the values of the basic forms follow it.
-    fn move_to(&mut self, var: Var, target: S) {
-        let distance = distance(self.values[var], target);
-        for basic in self.basic.as_slice() {
-            let coefficient = self.tab.row(*basic).at(var);
-            if !coefficient.is_zero() {
-                self.values[*basic] = followed(self.values[*basic], distance, coefficient);
-            }
-        }
-        self.values[var] = Some(target);
     }
 
     /// Moves these nonbasic forms, which have no bounds, to 0.
@@ -276,25 +247,56 @@ impl<S: Coordinate> Simplex<S> {
         ensures answer { (ns : List Node) → IsOver ns self.new → Renews ns self.new result }
     {
         for var in vars {
-            self.move_to(*var, S::zero());
+            self.settle_one(*var);
         }
         self.renew()
     }
 
+    /// Moves a nonbasic form without bounds to 0.
+    fn settle_one(&mut self, var: Var)
+        requires nonbasic { nonbasic_in self.old var ≡ true }
+        requires lower { standing self.old.asserted var Lower ≡ None }
+        requires upper { standing self.old.asserted var Upper ≡ None }
+        ensures settled { IsSettled self.old self.new (var ∷ []) }
+    {
+        sum_moves();
+        move_to(&self.tab, self.values.as_mut_slice(), var, S::zero());
+    }
+
     /// Computes the values that aren't known from their rows.
-    fn renew(&mut self) -> Result<(), SimplexStop> {
-        for place in 0..self.basic.len() {
-            let var = self.basic[place];
-            if self.values[var].is_none() {
-                let value = self.computed(var)?;
-                self.values[var] = Some(value);
-            }
+    fn renew(&mut self) -> Result<(), SimplexStop>
+        ensures renewed { IsRenewed self.old self.new }
+        ensures answer { (ns : List Node) → IsOver ns self.new → Renews ns self.new result }
+    {
+        for var in 0..self.values.len() {
+            self.renew_one(var)?;
+        }
+        Ok(())
+    }
+
+    /// Computes the value of a form from its row, where it isn't known.
+    fn renew_one(&mut self, var: Var) -> Result<(), SimplexStop>
+        requires known { var < length self.old.forms }
+        ensures renewed { IsRenewed self.old self.new }
+        ensures valued { OnOk result (IsSome (value_in self.new var)) }
+        ensures answer { (ns : List Node) → IsOver ns self.new → IfErr result (λ e. StopsAt ns self.new e) }
+    {
+        if self.values[var].is_none() {
+            let value = self.computed(var)?;
+            self.values[var] = Some(value);
         }
         Ok(())
     }
 
     /// The value of a basic form from its row.
-    fn computed(&self, var: Var) -> Result<S, SimplexStop> {
+    fn computed(&self, var: Var) -> Result<S, SimplexStop>
+        requires known { var < length self.now.forms }
+        requires basic { nonbasic_in self.now var ≡ false }
+        ensures value { IfOk result (λ x. (ns : List Node) → IsOver ns self.now → HasValue (position_over ns self.now) var (S.stands_for x)) }
+        ensures stops { (ns : List Node) → IsOver ns self.now → IfErr result (λ e. StopsAt ns self.now e) }
+    {
+        value_is_computed();
+        known_tableau(&self.tab);
         let row = self.tab.row(var);
         match row_value(&row, self.nonbasic.as_slice(), self.values.as_slice()) {
             Ok(value) => Ok(value),
@@ -318,6 +320,9 @@ impl<S: Coordinate> Simplex<S> {
         ensures answer { (ns : List Node) → IsOver ns self.new → Answers ns self.new (W.units_left work.new) result }
         ensures why { result ≢ Ok Check.Clash → self.new.why ≡ self.old.why }
     {
+        pivots_are_runs();
+        positions_have_values();
+        no_help_refutes();
         self.renew()?;
         while let Some(broken) = self.first_broken() {
             let Some(enters) = self.first_helper(&broken) else {
@@ -335,7 +340,13 @@ impl<S: Coordinate> Simplex<S> {
     }
 
     /// The least-numbered basic form that breaks a bound.
-    fn first_broken(&self) -> Option<Broken<S>> {
+    fn first_broken(&self) -> Option<Broken<S>>
+        requires valued { (k : ℕ) → k < length self.now.forms → IsSome (value_in self.now k) }
+        ensures found { IfSome result (λ b. (standing self.now.asserted b.var b.side ≡ Some (told_on S.stands_for b.var b.side b.limit))
+            × ((ns : List Node) → IsOver ns self.now → IsFirstBroken (position_over ns self.now) (half b.side) (S.stands_for b.limit.value) b.var)) }
+        ensures none { IfNone result ((ns : List Node) → IsOver ns self.now → (side : Side) → (bound : Infinitesimal) → (i : ℕ) → Breaks (position_over ns self.now) side bound i → ⊥) }
+    {
+        positions_have_values();
         for var in self.basic.as_slice() {
             let (lower, upper) = self.trail.bounds(*var);
             if let Some((side, limit)) = broken_bound(self.value(*var), lower, upper) {
@@ -350,7 +361,15 @@ impl<S: Coordinate> Simplex<S> {
     }
 
     /// The least-numbered nonbasic form that can take a form back to its bound.
-    fn first_helper(&self, broken: &Broken<S>) -> Option<Var> {
+    fn first_helper(&self, broken: &Broken<S>) -> Option<Var>
+        requires known { broken.now.var < length self.now.forms }
+        requires basic { nonbasic_in self.now broken.now.var ≡ false }
+        ensures found { IfSome result (λ j. (nonbasic_in self.now j ≡ true)
+            × ((ns : List Node) → IsOver ns self.now → IsFirstHelper (position_over ns self.now) broken.now.var (bland.other_side (half broken.now.side)) j)) }
+        ensures none { IfNone result ((ns : List Node) → IsOver ns self.now → (j : ℕ) → CanHelp (position_over ns self.now) broken.now.var (bland.other_side (half broken.now.side)) j → ⊥) }
+    {
+        rows_tell();
+        known_tableau(&self.tab);
         let row = self.tab.row(broken.var);
         for var in self.nonbasic.as_slice() {
             if self.can_help(*var, opposite(broken.side), row.at(*var)) {
@@ -361,7 +380,10 @@ impl<S: Coordinate> Simplex<S> {
     }
 
     /// Whether a nonbasic form can take the form of a row, in which it has this coefficient, towards a side.
-    fn can_help(&self, var: Var, side: Side, coefficient: Frac) -> bool {
+    fn can_help(&self, var: Var, side: Side, coefficient: Frac) -> bool
+        requires nonbasic { nonbasic_in self.now var ≡ true }
+        ensures helps { (ns : List Node) → IsOver ns self.now → IsTrue result ↔ MovesTowards (position_over ns self.now) (half side) var coefficient }
+    {
         match way(side, coefficient) {
             Some(side) => has_room(side, self.bound_on(side, var), self.value(var)),
             None => false,
@@ -369,16 +391,36 @@ impl<S: Coordinate> Simplex<S> {
     }
 
     /// The bound that stands of a form on a side.
-    fn bound_on(&self, side: Side, var: Var) -> Option<Limit<S>> {
-        let (lower, upper) = self.trail.bounds(var);
+    fn bound_on(&self, side: Side, var: Var) -> Option<Limit<S>>
+        requires known { var < length self.now.forms }
+        ensures bound { option_map (told_on S.stands_for var side) result ≡ standing self.now.asserted var side }
+    {
+        let (lower, upper) = self.bounds(var);
         match side {
             Side::Lower => lower,
             Side::Upper => upper,
         }
     }
 
-    /// Exchanges a form that breaks a bound with another one, and moves it to the bound.
-    fn exchange(&mut self, broken: &Broken<S>, enters: Var) -> Result<(), SimplexStop> {
+    /// Exchanges a form that breaks a bound with the one that is to help, and moves it to the bound.
+    fn exchange(&mut self, broken: &Broken<S>, enters: Var) -> Result<(), SimplexStop>
+        requires broken { (ns : List Node) → IsOver ns self.old → IsFirstBroken (position_over ns self.old) (half broken.now.side) (S.stands_for broken.now.limit.value) broken.now.var }
+        requires helper { (ns : List Node) → IsOver ns self.old → IsFirstHelper (position_over ns self.old) broken.now.var (bland.other_side (half broken.now.side)) enters }
+        requires known { broken.now.var < length self.old.forms }
+        requires basic { nonbasic_in self.old broken.now.var ≡ false }
+        requires valued { IsSome (value_in self.old broken.now.var) }
+        requires nonbasic { nonbasic_in self.old enters ≡ true }
+        requires nonzero { (ns : List Node) → IsOver ns self.old → MayExchange (position_over ns self.old).forms (is_nonbasic (position_over ns self.old).point) broken.now.var enters }
+        ensures step { OnOk result ((ns : List Node) → IsOver ns self.old → IsCheckStep (position_over ns self.old) (position_over ns self.new) broken.now.var enters) }
+        ensures forms { self.new.forms ≡ self.old.forms }
+        ensures asserted { self.new.asserted ≡ self.old.asserted }
+        ensures why { self.new.why ≡ self.old.why }
+        ensures unchanged { OnErr result (self.new ≡ self.old) }
+        ensures stops { (ns : List Node) → IsOver ns self.old → IfErr result (λ e. StopsAt ns self.old e) }
+    {
+        check_steps_keep_basis();
+        moves_keep_ready();
+        known_tableau(&self.tab);
         if let Err(wide) = self.tab.pivot(broken.var, enters) {
             return Err(SimplexStop::Wide(Place {
                 wide,
@@ -388,13 +430,22 @@ impl<S: Coordinate> Simplex<S> {
                 },
             }));
         }
-        self.list_forms();
-        self.move_to(broken.var, broken.limit.value);
+        move_to(&self.tab, self.values.as_mut_slice(), broken.var, broken.limit.value);
+        list_forms(&self.tab, &mut self.basic, &mut self.nonbasic);
         Ok(())
     }
 
     /// Notes the bounds that keep a form from its bound, with their multipliers.
-    fn explain(&mut self, broken: &Broken<S>) {
+    fn explain(&mut self, broken: &Broken<S>)
+        requires known { broken.now.var < length self.old.forms }
+        requires basic { nonbasic_in self.old broken.now.var ≡ false }
+        requires stands { standing self.old.asserted broken.now.var broken.now.side ≡ Some (told_on S.stands_for broken.now.var broken.now.side broken.now.limit) }
+        requires helpless { (ns : List Node) → IsOver ns self.old → (j : ℕ) → CanHelp (position_over ns self.old) broken.now.var (bland.other_side (half broken.now.side)) j → ⊥ }
+        ensures why { (ns : List Node) → IsOver ns self.old → (row : Coefficients) × (IsRow (position_over ns self.old).forms (is_nonbasic (position_over ns self.old).point) broken.now.var row)
+            × (self.new ≡ record self.old { why = multipliers self.old broken.now.var broken.now.side row }) }
+    {
+        rows_tell();
+        known_tableau(&self.tab);
         self.why.clear();
         self.why
             .push_reserved((broken.limit.reason, Frac::whole(1)));
@@ -408,6 +459,64 @@ impl<S: Coordinate> Simplex<S> {
             }
         }
     }
+}
+
+/// Values for the forms that have joined: a nonbasic one stands at 0, and that of a basic one isn't known yet.
+fn extend_values<S: Coordinate>(tab: &Tab, values: &mut Vec<Option<S>>)
+    requires marked { length (marks_in tab.now) ≡ length tab.now.forms }
+    requires fewer { vec_len values.old ≤ length tab.now.forms }
+    requires room { length tab.now.forms ≤ vec_capacity values.old }
+    ensures long { length values.new.items ≡ length tab.now.forms }
+    ensures stays { take (vec_len values.old) values.new.items ≡ values.old.items }
+    ensures joined { (k : ℕ) → vec_len values.old ≤ k → k < length tab.now.forms
+        → slice_index_or values.new.items k None ≡ (if slice_index_or (marks_in tab.now) k false then Some S.origin else None) }
+{
+    for var in values.len()..tab.len() {
+        values.push_reserved(first_value(tab.is_basic(var)));
+    }
+}
+
+/// The value of a form that joins.
+fn first_value<S: Coordinate>(is_basic: bool) -> Option<S>
+    ensures value { result ≡ (if is_basic then None else Some S.origin) }
+{
+    if is_basic { None } else { Some(S::zero()) }
+}
+
+/// Lists the basic forms and the nonbasic ones.
+fn list_forms(tab: &Tab, basic: &mut Vec<Var>, nonbasic: &mut Vec<Var>)
+    requires marked { length (marks_in tab.now) ≡ length tab.now.forms }
+    requires basic_room { length tab.now.forms ≤ vec_capacity basic.old }
+    requires nonbasic_room { length tab.now.forms ≤ vec_capacity nonbasic.old }
+    ensures basic { basic.new.items ≡ numbers (length tab.now.forms) (λ k. not (slice_index_or (marks_in tab.now) k false)) }
+    ensures nonbasic { nonbasic.new.items ≡ numbers (length tab.now.forms) (λ k. slice_index_or (marks_in tab.now) k false) }
+    ensures basic_capacity { vec_capacity basic.new ≡ vec_capacity basic.old }
+    ensures nonbasic_capacity { vec_capacity nonbasic.new ≡ vec_capacity nonbasic.old }
+{
+    basic.clear();
+    nonbasic.clear();
+    for var in 0..tab.len() {
+        if tab.is_basic(var) {
+            basic.push_reserved(var);
+        } else {
+            nonbasic.push_reserved(var);
+        }
+    }
+}
+
+/// Whether a form is nonbasic, and outside of a bound.
+fn is_to_move<S: Coordinate>(
+    tab: &Tab,
+    values: &[Option<S>],
+    var: Var,
+    side: Side,
+    bound: S,
+) -> bool
+    requires known { var < length tab.now.forms }
+    requires valued { length values.now ≡ length tab.now.forms }
+    ensures moves { result ≡ (slice_index_or (marks_in tab.now) var false && is_past_known S.stands_for side bound (slice_index_or values.now var None)) }
+{
+    !tab.is_basic(var) && values[var].is_some_and(|value| is_outside(side, bound, value))
 }
 
 /// Says what holds of each simplex: its nonbasic forms have values, what is known is the value at the position, and the position is

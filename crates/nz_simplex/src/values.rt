@@ -1,33 +1,65 @@
 //! Values of forms: how they follow a nonbasic form that moves, and how one is computed from its row.
-ghost use Rattle.std.specs.Prelude.{◌≡◌, ◌<◌, All, IfOk, IfSome, IsSome, Some, None, length, slice_index_or};
+ghost use Rattle.std.specs.Prelude.{◌≡◌, ◌≢◌, ◌<◌, ℕ, All, IfOk, IfSome, IsSome, Some, None, true, false, length, slice_index_or};
 ghost use Rattle.nz_delta.specs.Refused.{refused};
-ghost use Rattle.nz_simplex.specs.Choices.{multiple_onto, numbers_in};
-ghost use Rattle.nz_simplex.specs.Tabled.{coefficients_in};
+ghost use Rattle.nz_simplex.specs.Choices.{IsFollowed, multiple_onto, numbers_in};
+ghost use Rattle.nz_simplex.specs.Tabled.{coefficients_in, marks_in, rows_in};
 ghost use Rattle.nz_spec.specs.Bland.{value_onto, zero_infinitesimal};
 ghost use Rattle.nz_spec.specs.Fraction.{first_wide};
+ghost use Rattle.nz_spec.specs.Term.{is_zero};
 ghost use Rattle.nz_spec.specs.Infinitesimal.{◌=δ◌, ◌+δ◌, ◌-δ◌, scaled};
 
 use crate::coordinate::Coordinate;
 use nz_frac::{Frac, Wide};
 use nz_spec::computation::first_of_two;
-use nz_tab::Row;
+use nz_tab::{Row, Tab};
 use nz_trail::Var;
 
-/// The value of a form when one of its row moves by a distance and has this coefficient: None where that isn't known.
-pub(crate) fn followed<S: Coordinate>(
+/// Moves a nonbasic form to a value, and the values of the basic forms follow it. A value that would leave the numbers isn't known
+/// then.
+pub(crate) fn move_to<S: Coordinate>(
+    tab: &Tab,
+    values: &mut [Option<S>],
+    var: Var,
+    target: S,
+)
+    requires marked { length (marks_in tab.now) ≡ length tab.now.forms }
+    requires valued { length values.old ≡ length tab.now.forms }
+    requires known { var < length tab.now.forms }
+    requires nonbasic { slice_index_or (marks_in tab.now) var false ≡ true }
+    requires some { IsSome (slice_index_or values.old var None) }
+    ensures moved { slice_index_or values.new var None ≡ Some target }
+    ensures stays { (k : ℕ) → k ≢ var → slice_index_or (marks_in tab.now) k false ≡ true → slice_index_or values.new k None ≡ slice_index_or values.old k None }
+    ensures follows { (k : ℕ) → k < length tab.now.forms → slice_index_or (marks_in tab.now) k false ≡ false
+        → IsFollowed S.stands_for (slice_index_or values.old var None) target (rows_in tab.now k var) (slice_index_or values.old k None) (slice_index_or values.new k None) }
+{
+    let distance = distance(values[var], target);
+    for form in 0..tab.len() {
+        if tab.is_basic(form) {
+            values[form] = followed(values[form], distance, tab.row(form).at(var));
+        }
+    }
+    values[var] = Some(target);
+}
+
+/// The value of a form when one of its row, in which it has this coefficient, moves by a distance: None where that isn't known.
+fn followed<S: Coordinate>(
     value: Option<S>,
     distance: Option<S>,
     coefficient: Frac,
 ) -> Option<S>
-    ensures followed { IfSome result (λ y. (x d : S) × (value ≡ Some x) × (distance ≡ Some d)
+    ensures still { is_zero coefficient ≡ true → result ≡ value }
+    ensures followed { is_zero coefficient ≡ false → IfSome result (λ y. (x d : S) × (value ≡ Some x) × (distance ≡ Some d)
         × (S.stands_for y =δ (S.stands_for x +δ scaled (S.stands_for d) coefficient))) }
 {
+    if coefficient.is_zero() {
+        return value;
+    }
     let step = distance?.scale(coefficient).ok()?;
     value?.add(step).ok()
 }
 
-/// How far it is from a value to another one, where both and the difference are known.
-pub(crate) fn distance<S: Coordinate>(from: Option<S>, to: S) -> Option<S>
+/// How far it is from a value to another one, where the first is known and the difference is a number.
+fn distance<S: Coordinate>(from: Option<S>, to: S) -> Option<S>
     ensures distance { IfSome result (λ d. (x : S) × (from ≡ Some x) × (S.stands_for d =δ (S.stands_for to -δ S.stands_for x))) }
 {
     to.sub(from?).ok()
