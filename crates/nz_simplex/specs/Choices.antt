@@ -1,5 +1,5 @@
 -- How the forms of a step are chosen, by tests, and how values follow.
-use Rattle.std.specs.Prelude.{◌≡◌, ℕ, Bool, true, false, List, [], ◌∷◌, slice_index_or, pos, int_lt, Option, Some, None, option_map, unwrap_or, if◌then◌else◌}
+use Rattle.std.specs.Prelude.{◌≡◌, ℕ, Bool, true, false, List, [], ◌∷◌, slice_index_or, pos, int_lt, Option, Some, None, IfSome, option_map, unwrap_or, if◌then◌else◌}
 use Rattle.nz_spec.specs.Fraction.{Fraction, neg_ℚ}
 use Rattle.nz_spec.specs.Infinitesimal.{Infinitesimal, ◌=δ◌, ◌+δ◌, ◌-δ◌, scaled}
 use Rattle.nz_spec.specs.Term.{is_zero}
@@ -66,3 +66,10 @@ abbrev pub IsFollowed : {S : Type 0} → (S → Infinitesimal) → Option S → 
 IsFollowed stands_for from target c old None = Unit {0}
 IsFollowed {S} stands_for from target c old (Some y) =
     (w x : S) × (from ≡ Some w) × (old ≡ Some x) × (stands_for y =δ (stands_for x +δ scaled (stands_for target -δ stands_for w) c))
+
+-- What becomes of a value when a nonbasic form moves by a distance: that of a nonbasic one stays, and that of a basic one follows by its coefficient there.
+pub record IsAfter {S : Type 0} (stands_for : S → Infinitesimal) (mark : Bool) (distance : Option S) (c : Fraction) (old new : Option S) : Type 0 where
+  pub stays : mark ≡ true → new ≡ old
+  pub still : mark ≡ false → is_zero c ≡ true → new ≡ old
+  pub follows : mark ≡ false → is_zero c ≡ false → IfSome new (λ y. (x d : S) × (old ≡ Some x) × (distance ≡ Some d)
+      × (stands_for y =δ (stands_for x +δ scaled (stands_for d) c)))

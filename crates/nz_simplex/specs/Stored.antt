@@ -29,9 +29,9 @@ nonbasic_numbers s = numbers (length s.forms) (nonbasic_in s)
 -- The basic forms and the others are listed, each form is a variable of the trail, and what a check wants has its room.
 pub record IsStored (s : State) (vars : ℕ) (basic nonbasic : List ℕ) (basic_room nonbasic_room why_room : ℕ) : Type 0 where
   pub sound : IsSound s
-  pub basic : basic ≡ basic_numbers s
-  pub nonbasic : nonbasic ≡ nonbasic_numbers s
-  pub vars : length s.forms ≤ vars
-  pub basic_room : length s.forms ≤ basic_room
-  pub nonbasic_room : length s.forms ≤ nonbasic_room
-  pub why_room : length s.forms ≤ why_room
+  pub basic_listed : basic ≡ basic_numbers s
+  pub nonbasic_listed : nonbasic ≡ nonbasic_numbers s
+  pub numbered : length s.forms ≤ vars
+  pub room_for_basic : length s.forms ≤ basic_room
+  pub room_for_nonbasic : length s.forms ≤ nonbasic_room
+  pub room_for_why : length s.forms ≤ why_room

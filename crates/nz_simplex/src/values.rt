@@ -1,7 +1,7 @@
 //! Values of forms: how they follow a nonbasic form that moves, and how one is computed from its row.
 ghost use Rattle.std.specs.Prelude.{◌≡◌, ◌≢◌, ◌<◌, ℕ, All, IfOk, IfSome, IsSome, Some, None, true, false, length, slice_index_or};
 ghost use Rattle.nz_delta.specs.Refused.{refused};
-ghost use Rattle.nz_simplex.specs.Choices.{IsFollowed, multiple_onto, numbers_in};
+ghost use Rattle.nz_simplex.specs.Choices.{IsAfter, IsFollowed, multiple_onto, numbers_in};
 ghost use Rattle.nz_simplex.specs.Tabled.{coefficients_in, marks_in, rows_in};
 ghost use Rattle.nz_spec.specs.Bland.{value_onto, zero_infinitesimal};
 ghost use Rattle.nz_spec.specs.Fraction.{first_wide};
@@ -10,7 +10,7 @@ ghost use Rattle.nz_spec.specs.Infinitesimal.{◌=δ◌, ◌+δ◌, ◌-δ◌, s
 
 use crate::coordinate::Coordinate;
 use nz_frac::{Frac, Wide};
-use nz_spec::computation::first_of_two;
+use nz_spec::computation::{first_of_two, infinitesimals_move};
 use nz_tab::{Row, Tab};
 use nz_trail::Var;
 
@@ -32,13 +32,30 @@ pub(crate) fn move_to<S: Coordinate>(
     ensures follows { (k : ℕ) → k < length tab.now.forms → slice_index_or (marks_in tab.now) k false ≡ false
         → IsFollowed S.stands_for (slice_index_or values.old var None) target (rows_in tab.now k var) (slice_index_or values.old k None) (slice_index_or values.new k None) }
 {
+    infinitesimals_move();
     let distance = distance(values[var], target);
     for form in 0..tab.len() {
-        if tab.is_basic(form) {
-            values[form] = followed(values[form], distance, tab.row(form).at(var));
-        }
+        values[form] = value_after(tab, form, var, values[form], distance);
     }
     values[var] = Some(target);
+}
+
+/// The value of a form when a nonbasic one moves by a distance: a nonbasic form stays.
+fn value_after<S: Coordinate>(
+    tab: &Tab,
+    form: Var,
+    var: Var,
+    value: Option<S>,
+    distance: Option<S>,
+) -> Option<S>
+    requires known { form < length tab.now.forms }
+    ensures after { IsAfter S.stands_for (slice_index_or (marks_in tab.now) form false) distance (rows_in tab.now form var) value result }
+{
+    if tab.is_basic(form) {
+        followed(value, distance, tab.row(form).at(var))
+    } else {
+        value
+    }
 }
 
 /// The value of a form when one of its row, in which it has this coefficient, moves by a distance: None where that isn't known.

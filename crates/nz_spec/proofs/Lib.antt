@@ -41,6 +41,7 @@ pub mod FractionZeros
 pub mod GateSettling
 pub mod GateTruths
 pub mod InfinitesimalLaws
+pub mod InfinitesimalMoves
 pub mod InfinitesimalOrder
 pub mod Instances
 pub mod IntegerSums

@@ -21,6 +21,7 @@ pub mod FormPlace
 pub mod Fraction
 pub mod Gates
 pub mod Infinitesimal
+pub mod InfinitesimalMoves
 pub mod Kept
 pub mod Legal
 pub mod Limits

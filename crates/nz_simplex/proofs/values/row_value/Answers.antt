@@ -85,7 +85,7 @@ returns-clause-stops g c =
     let row = coefficients_in c.args.row.now in
     let x = numbers_in g.S.Coordinate.stands_for c.args.values.now in
     let t = g.S.Coordinate.stands_for c.loop-var.sum in
-    let none : drop c.loop-var.var-index c.args.nonbasic.now ≡ [] = drop_all c.args.nonbasic.now c.loop-var.var-index (omega arith) in
+    let none : drop c.loop-var.var-index c.args.nonbasic.now ≡ [] = drop_all c.loop-var.var-index c.args.nonbasic.now (omega arith) in
     sym no_operation
     ∙ sym (ap (λ (l : List ℕ). first_wide (value_onto row x t l).operations) none)
     ∙ c.loop-var.invariant.stops
