@@ -1,3 +1,5 @@
 pub mod Following
 pub mod Places
 pub mod RowValues
+pub mod Standings
+pub mod Undoing

@@ -29,6 +29,7 @@ use nz_spec::basis::{
     check_steps_keep_basis, joins_keep_basis, moves_keep_ready, no_help_refutes,
     positions_have_values, rows_tell, sum_moves, value_is_computed,
 };
+use nz_spec::computation::infinitesimals_move;
 use nz_spec::pivots::pivots_are_runs;
 use nz_tab::{Row, Tab, TabStop, known_tableau};
 use nz_trail::{Bound, Limit, Reason, Side, Trail, Var};
@@ -156,6 +157,8 @@ impl<S: Coordinate> Simplex<S> {
         requires reached { mark ≤ length self.old.asserted }
         ensures front { self.new ≡ record self.old { asserted = take mark self.old.asserted } }
     {
+        moves_keep_ready();
+        infinitesimals_move();
         self.trail.undo(mark);
     }
 

@@ -11,7 +11,7 @@ use Rattle.nz_spec.proofs.FractionOrder.{same-fraction_eq}
 use Rattle.nz_spec.proofs.FractionArithmetic.{+ℚ-zero, +ℚ-same, *ℚ-same, cmp-same}
 use Rattle.nz_spec.proofs.FormValues.{times_zero}
 use Rattle.nz_spec.proofs.FractionSolver.{◌∙ℚ◌, plus_right, times_right}
-use Rattle.nz_spec.proofs.InfinitesimalOrder.{=δ_refl, =δ_sym, =δ_trans}
+use Rattle.nz_spec.proofs.InfinitesimalOrder.{=δ_refl, =δ_sym, =δ_trans, at_most-less, at_most-from_less}
 
 still-part : (x d q : Fraction) → is_zero q ≡ true → x =ℚ (x +ℚ d *ℚ q)
 still-part x d q e =
@@ -40,4 +40,5 @@ infinitesimals_move = record {
   still = still;
   same = same;
   ordered = ordered;
+  less = λ x y z h k. at_most-less x y z (at_most-from_less x y h) k;
 }
