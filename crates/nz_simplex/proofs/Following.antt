@@ -21,7 +21,7 @@ module _ {S : Type 0} (law : InfinitesimalsMove) (stands : S → Infinitesimal) 
       (law.same (stands x) (stands x) (stands d) (stands target -δ stands there.0) c (law.itself (stands x)) there.2))
 
   at_zero : (from old : Option S) (c : Fraction) (y : S) → IsSome from → is_zero c ≡ true → Some y ≡ old → IsFollowed stands from target c old (Some y)
-  at_zero None old c y some zero e = absurd some
+  at_zero None old c y some zero e = absurd (cc)
   at_zero (Some w) old c y some zero e = (w, y, refl, sym e, law.still (stands y) (stands target -δ stands w) c zero)
 
   pub followed_after : (from distance : Option S) (c : Fraction) (old new : Option S) → IsSome from → IsDistance stands target from distance → IsAfter stands false distance c old new

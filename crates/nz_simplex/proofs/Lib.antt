@@ -1,5 +1,7 @@
+pub mod Empty
 pub mod Following
 pub mod Places
+pub mod Pointed
 pub mod RowValues
 pub mod Standings
 pub mod Undoing

@@ -4,7 +4,8 @@ use Rattle.std.specs.Ordering.{ordering_then}
 use Rattle.std.specs.declared.cmp.Ordering.{Ordering}
 use Rattle.std.specs.declared.cmp.Ordering.TheVariants.{Less, Equal, Greater}
 use Rattle.std.proofs.Common.{sym, ap, subst, ◌∙◌, lit≤}
-use Rattle.nz_spec.specs.Fraction.{Fraction, whole, ◌=ℚ◌, ◌+ℚ◌, ◌-ℚ◌, ◌*ℚ◌, neg_ℚ, fraction_cmp, outcome, Sum, Difference, Product, Operation, first_wide, is_wide, IsNumber}
+use Rattle.nz_ints.specs.Division.{gcd, gcd_within}
+use Rattle.nz_spec.specs.Fraction.{Fraction, denominator, whole, ◌=ℚ◌, ◌+ℚ◌, ◌-ℚ◌, ◌*ℚ◌, neg_ℚ, fraction_cmp, outcome, Sum, Difference, Product, Operation, first_wide, is_wide, IsNumber}
 use Rattle.nz_spec.specs.Infinitesimal as spec
 use Rattle.nz_spec.specs.Infinitesimal.{Infinitesimal, ◌+δ◌, ◌-δ◌, infinitesimal_cmp}
 use Rattle.nz_spec.specs.Bland.{standing}
@@ -23,6 +24,7 @@ zero = whole (pos 0)
 -- ---- Beside 0
 
 zero_number : IsNumber zero
+unfolding gcd gcd_within denominator
 zero_number = record { lowest = refl; numerator_fits = lit≤ tt; denominator_fits = lit≤ tt }
 
 zero_sum : outcome Sum zero zero ≡ zero

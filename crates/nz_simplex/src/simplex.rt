@@ -70,6 +70,7 @@ impl<S: Coordinate> Simplex<S> {
     pub fn new(alloc: Global) -> Simplex<S>
         ensures empty { result ≡ empty_state }
     {
+        moves_keep_ready();
         Simplex {
             tab: Tab::new(alloc),
             trail: Trail::new(alloc),
@@ -116,6 +117,7 @@ impl<S: Coordinate> Simplex<S> {
         requires basic { nonbasic_in self.now i ≡ false }
         ensures row { (ns : List Node) → IsOver ns self.now → IsRow (position_over ns self.now).forms (is_nonbasic (position_over ns self.now).point) i (coefficients_in result) }
     {
+        known_tableau(&self.tab);
         self.tab.row(i)
     }
 
@@ -186,7 +188,8 @@ impl<S: Coordinate> Simplex<S> {
         moves_keep_ready();
         let var = self.tab.add_form(form)?;
         extend_values(&self.tab, &mut self.values);
-        list_forms(&self.tab, &mut self.basic, &mut self.nonbasic);
+        list_basic(&self.tab, &mut self.basic);
+        list_nonbasic(&self.tab, &mut self.nonbasic);
         Ok(var)
     }
 
@@ -434,7 +437,8 @@ impl<S: Coordinate> Simplex<S> {
             }));
         }
         move_to(&self.tab, self.values.as_mut_slice(), broken.var, broken.limit.value);
-        list_forms(&self.tab, &mut self.basic, &mut self.nonbasic);
+        list_basic(&self.tab, &mut self.basic);
+        list_nonbasic(&self.tab, &mut self.nonbasic);
         Ok(())
     }
 
@@ -471,6 +475,7 @@ fn extend_values<S: Coordinate>(tab: &Tab, values: &mut Vec<Option<S>>)
     requires room { length tab.now.forms ≤ vec_capacity values.old }
     ensures long { length values.new.items ≡ length tab.now.forms }
     ensures stays { take (vec_len values.old) values.new.items ≡ values.old.items }
+    ensures capacity { vec_capacity values.new ≡ vec_capacity values.old }
     ensures joined { (k : ℕ) → vec_len values.old ≤ k → k < length tab.now.forms
         → slice_index_or values.new.items k None ≡ (if slice_index_or (marks_in tab.now) k false then Some S.origin else None) }
 {
@@ -486,22 +491,29 @@ fn first_value<S: Coordinate>(is_basic: bool) -> Option<S>
     if is_basic { None } else { Some(S::zero()) }
 }
 
-/// Lists the basic forms and the nonbasic ones.
-fn list_forms(tab: &Tab, basic: &mut Vec<Var>, nonbasic: &mut Vec<Var>)
-    requires marked { length (marks_in tab.now) ≡ length tab.now.forms }
-    requires basic_room { length tab.now.forms ≤ vec_capacity basic.old }
-    requires nonbasic_room { length tab.now.forms ≤ vec_capacity nonbasic.old }
-    ensures basic { basic.new.items ≡ numbers (length tab.now.forms) (λ k. not (slice_index_or (marks_in tab.now) k false)) }
-    ensures nonbasic { nonbasic.new.items ≡ numbers (length tab.now.forms) (λ k. slice_index_or (marks_in tab.now) k false) }
-    ensures basic_capacity { vec_capacity basic.new ≡ vec_capacity basic.old }
-    ensures nonbasic_capacity { vec_capacity nonbasic.new ≡ vec_capacity nonbasic.old }
+/// Lists the basic forms.
+fn list_basic(tab: &Tab, basic: &mut Vec<Var>)
+    requires room { length tab.now.forms ≤ vec_capacity basic.old }
+    ensures listed { basic.new.items ≡ numbers (length tab.now.forms) (λ k. not (slice_index_or (marks_in tab.now) k false)) }
+    ensures capacity { vec_capacity basic.new ≡ vec_capacity basic.old }
 {
     basic.clear();
-    nonbasic.clear();
     for var in 0..tab.len() {
         if tab.is_basic(var) {
             basic.push_reserved(var);
-        } else {
+        }
+    }
+}
+
+/// Lists the nonbasic forms.
+fn list_nonbasic(tab: &Tab, nonbasic: &mut Vec<Var>)
+    requires room { length tab.now.forms ≤ vec_capacity nonbasic.old }
+    ensures listed { nonbasic.new.items ≡ numbers (length tab.now.forms) (λ k. slice_index_or (marks_in tab.now) k false) }
+    ensures capacity { vec_capacity nonbasic.new ≡ vec_capacity nonbasic.old }
+{
+    nonbasic.clear();
+    for var in 0..tab.len() {
+        if !tab.is_basic(var) {
             nonbasic.push_reserved(var);
         }
     }
@@ -527,5 +539,5 @@ fn is_to_move<S: Coordinate>(
 pub fn known_state<S: Coordinate>(simplex: &Simplex<S>)
     ensures sound { IsSound simplex.now }
 {
-    simplex.len();
+    let _ = &simplex.tab;
 }
