@@ -1,20 +1,25 @@
 -- The point of a simplex, its rows, and the value of a form from its row.
-use Rattle.std.proofs.Common.{◌≡◌, ℕ, zero, suc, ◌<◌, Bool, true, false, List, [], ◌∷◌, ◌++◌, length, map, Option, Some, None, refl, sym, ap, ◌∙◌, subst}
-use Rattle.std.specs.Prelude.{IsSome, is_some, option_map, unwrap_or, slice_index_or, if◌then◌else◌}
+use Rattle.std.proofs.Common.{◌≡◌, ℕ, zero, suc, ◌<◌, Bool, true, false, List, [], ◌∷◌, ◌++◌, length, map, Option, Some, None, refl, sym, ap, ◌∙◌, subst, arith}
+use Rattle.std.specs.Prelude.{All, IsSome, is_some, option_map, unwrap_or, slice_index_or, if◌then◌else◌}
 use Rattle.std.specs.List.{AllByRecursion}
 use Rattle.std.proofs.lemmas.List.{length-map}
+use Rattle.std.proofs.lemmas.List.Elements.{All-from_recursion}
 use Rattle.nz_lists.proofs.Places.{slice_index_or-map}
-use Rattle.nz_spec.specs.Fraction.{Fraction, Operation}
+use Rattle.nz_spec.specs.Fraction.{Fraction, Operation, first_wide}
 use Rattle.nz_spec.specs.Infinitesimal.{Infinitesimal, ◌=δ◌}
 use Rattle.nz_spec.specs.Computation.{Computation}
 use Rattle.nz_spec.specs.Basis.{Coefficients, IsRow}
-use Rattle.nz_spec.specs.BasisMoves.{numbers}
+use Rattle.nz_spec.specs.BasisMoves.{AreRows, numbers}
 use Rattle.nz_spec.specs.Bland as bland
 use Rattle.nz_spec.specs.Bland.{is_nonbasic, value_onto, row_value, zero_infinitesimal, times, plus, sum_at, HasValue, ValueIsComputed}
 use Rattle.nz_spec.specs.Table.{Node}
 use Rattle.nz_lin.specs.Forms.{parts_over}
 use Rattle.nz_tab.specs.Tables.{Table, IsTableau}
 use Rattle.nz_trail.specs.Bounds.{TrailState}
+use Rattle.nz_frac.specs.Operations.{operation_of}
+use Rattle.nz_frac.specs.declared.frac.Wide.{Wide}
+use Rattle.nz_simplex.specs.declared.answer.Site.TheVariants as sites
+use Rattle.nz_simplex.specs.Checks.{IsPlace}
 use Rattle.nz_simplex.specs.Choices.{numbers_in}
 use Rattle.nz_simplex.specs.State.{State, nonbasic_in, value_in, point_in, IsOver, IsSound, position_over}
 use Rattle.nz_simplex.specs.Stored.{state_of, nonbasic_numbers}
@@ -31,6 +36,19 @@ numbers_same (suc n) f g h =
 append_all : (P : ℕ → Type 0) (ks : List ℕ) (n : ℕ) → AllByRecursion P ks → P n → AllByRecursion P (ks ++ n ∷ [])
 append_all P [] n h p = (p, tt)
 append_all P (k ∷ ks) n h p = (h.0, append_all P ks n h.1 p)
+
+pub all_weaker : (P Q : ℕ → Type 0) (ks : List ℕ) → ((k : ℕ) → P k → Q k) → AllByRecursion P ks → AllByRecursion Q ks
+all_weaker P Q [] h all = tt
+all_weaker P Q (k ∷ ks) h all = (h k all.0, all_weaker P Q ks h all.1)
+
+-- each of the numbers is below the bound
+pub numbers_below : (n : ℕ) (f : ℕ → Bool) → AllByRecursion (λ k. k < n) (numbers n f)
+numbers_below zero f = tt
+numbers_below (suc n) f = by_test (f n) (all_weaker (λ k. k < n) (λ k. k < suc n) (numbers n f) (λ k h. omega (arith, h)) (numbers_below n f))
+  where
+    by_test : (b : Bool) → AllByRecursion (λ k. k < suc n) (numbers n f) → AllByRecursion (λ k. k < suc n) (if b then numbers n f ++ n ∷ [] else numbers n f)
+    by_test true h = append_all (λ k. k < suc n) (numbers n f) n h (omega arith)
+    by_test false h = h
 
 -- each of the numbers passes the test
 pub numbers_pass : (n : ℕ) (f : ℕ → Bool) → AllByRecursion (λ k. f k ≡ true) (numbers n f)
@@ -120,3 +138,35 @@ module _ {S : Type 0} (stands_for : S → Infinitesimal) (tab : Table) (trail : 
             subst (λ (n : ℕ). x =δ sum_at n c (bland.value_in (point_in here))) (sym (length-map tab.forms (parts_over ns)))
             (subst (λ (y : Infinitesimal). y =δ sum_at (length tab.forms) c (bland.value_in (point_in here))) (sym (e ∙ computed_result c)) sum);
       }
+
+  rows_told : IsTableau tab → (ns : List Node) → IsOver ns here → AreRows (position_over ns here).forms (is_nonbasic (position_over ns here).point) (rows_in tab)
+  rows_told tableau ns over r inside basic =
+      row_told tableau ns over r (subst (λ (n : ℕ). r < n) (length-map tab.forms (parts_over ns)) inside) (sym (point_marks here sound r) ∙ basic)
+
+  -- the operation at which the value of a basic form stops has its place
+  pub point_place : IsTableau tab → (ns : List Node) → IsOver ns here → (i : ℕ) → i < length tab.forms → nonbasic_in here i ≡ false → (w : Wide)
+      → first_wide (value_onto (rows_in tab i) (numbers_in stands_for values) zero_infinitesimal (nonbasic_numbers here)).operations ≡ Some (operation_of w)
+      → IsPlace ns here (record { wide = w; site = sites.Point i })
+  point_place tableau ns over i inside basic w e = record {
+    site = (inside, basic);
+    rows = rows_in tab;
+    are_rows = rows_told tableau ns over;
+    first = ap first_wide (sym (computed_operations (rows_in tab i))) ∙ e;
+  }
+
+  -- the nonbasic forms are listed, and their values known
+  some_back : (o : Option S) → IsSome (option_map stands_for o) → IsSome o
+  some_back None h = h
+  some_back (Some v) h = refl
+
+  pub all_listed : All (λ k. k < length values) (nonbasic_numbers here)
+  all_listed =
+      All-from_recursion (λ k. k < length values) (nonbasic_numbers here)
+      (subst (λ (n : ℕ). AllByRecursion (λ k. k < n) (nonbasic_numbers here)) (sym sound.valued ∙ length-map values (option_map stands_for)) (numbers_below (length tab.forms) (nonbasic_in here)))
+
+  pub all_known : All (λ k. IsSome (slice_index_or values k None)) (nonbasic_numbers here)
+  all_known =
+      All-from_recursion (λ k. IsSome (slice_index_or values k None)) (nonbasic_numbers here)
+      (all_weaker (λ k. nonbasic_in here k ≡ true) (λ k. IsSome (slice_index_or values k None)) (nonbasic_numbers here)
+      (λ k e. some_back (slice_index_or values k None) (subst (λ (o : Option Infinitesimal). IsSome o) (slice_index_or-map (option_map stands_for) values k None) (sound.known k e)))
+      (numbers_pass (length tab.forms) (nonbasic_in here)))
