@@ -287,10 +287,12 @@ impl<S: Coordinate> Simplex<S> {
         ensures valued { OnOk result (IsSome (value_in self.new var)) }
         ensures answer { (ns : List Node) → IsOver ns self.new → IfErr result (λ e. StopsAt ns self.new e) }
     {
-        if self.values[var].is_none() {
-            let value = self.computed(var)?;
-            self.values[var] = Some(value);
+        known_state(self);
+        if self.has_value(var) {
+            return Ok(());
         }
+        let value = self.computed(var)?;
+        self.values[var] = Some(value);
         Ok(())
     }
 
@@ -303,8 +305,11 @@ impl<S: Coordinate> Simplex<S> {
     {
         value_is_computed();
         known_tableau(&self.tab);
-        let row = self.tab.row(var);
-        match row_value(&row, self.nonbasic.as_slice(), self.values.as_slice()) {
+        match row_value(
+            &self.tab.row(var),
+            self.nonbasic.as_slice(),
+            self.values.as_slice(),
+        ) {
             Ok(value) => Ok(value),
             Err(wide) => Err(SimplexStop::Wide(Place {
                 wide,
