@@ -31,6 +31,10 @@ size_of c = if is_below_zero c then neg_ℚ c else c
 abbrev pub way_of : Side → Fraction → Option Side
 way_of side c = if is_zero c then None else if is_below_zero c then Some (other_side side) else Some side
 
+-- that side, where the coefficient isn't 0
+abbrev pub moving_side : Side → Fraction → Side
+moving_side side c = if is_below_zero c then other_side side else side
+
 -- ---- Room and bounds that are broken
 
 module _ {S : Type 0} (stands_for : S → Infinitesimal) where

@@ -5,6 +5,9 @@ use Rattle.nz_spec.specs.Infinitesimal.{Infinitesimal}
 use Rattle.nz_spec.specs.BasisMoves.{numbers}
 use Rattle.nz_tab.specs.Tables.{Table}
 use Rattle.nz_trail.specs.Bounds.{Asserted, TrailState}
+use Rattle.nz_spec.specs.Basis.{Coefficients}
+use Rattle.nz_trail.specs.declared.limits.Side.{Side}
+use Rattle.nz_simplex.specs.Checks.{multiplier}
 use Rattle.nz_simplex.specs.Standing.{told}
 use Rattle.nz_simplex.specs.State.{State, nonbasic_in, IsSound}
 use Rattle.nz_simplex.specs.Tabled.{marks_in}
@@ -35,3 +38,7 @@ pub record IsStored (s : State) (vars : ℕ) (basic nonbasic : List ℕ) (basic_
   pub room_for_basic : length s.forms ≤ basic_room
   pub room_for_nonbasic : length s.forms ≤ nonbasic_room
   pub room_for_why : length s.forms ≤ why_room
+
+-- the reason and the multiplier of a nonbasic form that is held back, by a trail
+abbrev pub held_back : {S : Type 0} → (S → Infinitesimal) → List (Asserted S) → Side → Coefficients → ℕ → List (ℕ × Fraction)
+held_back stands_for bounds side row k = multiplier (map (told stands_for) bounds) side row k

@@ -1,19 +1,22 @@
 //! The simplex: forms over a basis, their bounds, and the point.
-ghost use Rattle.std.specs.Prelude.{◌≡◌, ◌≢◌, ◌↔◌, ◌<◌, ◌≤◌, ◌&&◌, if◌then◌else◌, ℕ, [], ◌∷◌, List, All, IfOk, OnOk, OnErr, IfErr, IfSome, IfNone, IsSome, IsTrue, None, Some, Ok, Err, false, true, not, length, map, option_map, slice_index_or, take, vec_capacity, vec_len};
+ghost use Rattle.std.specs.Prelude.{◌≡◌, ◌≢◌, ◌↔◌, ◌<◌, ◌≤◌, ◌&&◌, if◌then◌else◌, ℕ, [], ◌∷◌, List, All, IfOk, OnOk, OnErr, IfErr, IfSome, IfNone, IsSome, IsTrue, None, Some, Ok, Err, false, true, not, pos, flat_map, length, map, option_map, slice_index_or, take, vec_capacity, vec_len};
 ghost use Rattle.nz_lin.specs.Forms.{AreUnits};
 ghost use Rattle.nz_simplex.specs.Checks.{Answers, IsFirstBroken, IsFirstHelper, IsRenewed, IsStepped, MovesTowards, Renews, StopsAt, multipliers};
-ghost use Rattle.nz_simplex.specs.Choices.{is_past_known};
+ghost use Rattle.nz_simplex.specs.Choices.{is_past_known, moving_side, size_of};
+ghost use Rattle.nz_simplex.specs.Stored.{held_back};
 ghost use Rattle.nz_simplex.specs.Moves.{IsBounded, IsJoined, IsSettled, JoinStops, joined_over};
-ghost use Rattle.nz_simplex.specs.Standing.{half, standing, told_on};
+ghost use Rattle.nz_simplex.specs.Standing.{half, standing, told, told_on};
 ghost use Rattle.nz_simplex.specs.State.{IsOver, IsSound, empty_state, nonbasic_in, position_over, value_in};
 ghost use Rattle.nz_simplex.specs.Stored.{basic_numbers};
-ghost use Rattle.nz_simplex.specs.Tabled.{coefficients_in, marks_in};
+ghost use Rattle.nz_simplex.specs.Tabled.{coefficients_in, marks_in, rows_in};
 ghost use Rattle.nz_spec.specs.Bland as bland;
-ghost use Rattle.nz_spec.specs.Bland.{Breaks, CanHelp, HasValue, IsCheckStep, Side, is_nonbasic};
+ghost use Rattle.nz_spec.specs.Bland.{Breaks, CanHelp, HasValue, IsCheckStep, is_nonbasic};
 ghost use Rattle.nz_spec.specs.BasisMoves.{MayExchange, numbers};
 ghost use Rattle.nz_spec.specs.Basis.{Coefficients, IsRow};
 ghost use Rattle.nz_spec.specs.Infinitesimal.{Infinitesimal, infinitesimal_cmp};
+ghost use Rattle.nz_spec.specs.Fraction.{whole};
 ghost use Rattle.nz_spec.specs.Table.{Node};
+ghost use Rattle.nz_spec.specs.Term.{is_zero};
 ghost use Rattle.nz_trail.specs.Bounds.{ClashesWith, IsExcluded, IsImplied, asserted};
 ghost use Rattle.nz_trail.specs.declared.limits.Side.TheVariants.{Lower, Upper};
 
@@ -355,7 +358,7 @@ impl<S: Coordinate> Simplex<S> {
         requires valued { (k : ℕ) → k < length self.now.forms → IsSome (value_in self.now k) }
         ensures found { IfSome result (λ b. (standing self.now.asserted b.var b.side ≡ Some (told_on S.stands_for b.var b.side b.limit))
             × ((ns : List Node) → IsOver ns self.now → IsFirstBroken (position_over ns self.now) (half b.side) (S.stands_for b.limit.value) b.var)) }
-        ensures none { IfNone result ((ns : List Node) → IsOver ns self.now → (side : Side) → (bound : Infinitesimal) → (i : ℕ) → Breaks (position_over ns self.now) side bound i → ⊥) }
+        ensures none { IfNone result ((ns : List Node) → IsOver ns self.now → (side : bland.Side) → (bound : Infinitesimal) → (i : ℕ) → Breaks (position_over ns self.now) side bound i → ⊥) }
     {
         positions_have_values();
         for var in self.basic.as_slice() {
@@ -458,18 +461,67 @@ impl<S: Coordinate> Simplex<S> {
     {
         rows_tell();
         known_tableau(&self.tab);
-        self.why.clear();
-        self.why
-            .push_reserved((broken.limit.reason, Frac::whole(1)));
-        let row = self.tab.row(broken.var);
-        for var in self.nonbasic.as_slice() {
-            let coefficient = row.at(*var);
-            if let Some(side) = way(opposite(broken.side), coefficient) {
-                if let Some(limit) = self.bound_on(side, *var) {
-                    self.why.push_reserved((limit.reason, size(coefficient)));
-                }
-            }
+        put_multipliers(
+            &self.tab,
+            &self.trail,
+            self.nonbasic.as_slice(),
+            broken,
+            &mut self.why,
+        );
+    }
+}
+
+/// The bounds that keep a form from its bound, with their multipliers, in place of what was there.
+fn put_multipliers<S: Coordinate>(
+    tab: &Tab,
+    trail: &Trail<S>,
+    nonbasic: &[Var],
+    broken: &Broken<S>,
+    why: &mut Vec<(Reason, Frac)>,
+)
+    requires known { broken.now.var < length tab.now.forms }
+    requires basic { slice_index_or (marks_in tab.now) broken.now.var false ≡ false }
+    requires listed { All (λ k. k < trail.now.vars) nonbasic.now }
+    requires room { length nonbasic.now < vec_capacity why.old }
+    ensures capacity { vec_capacity why.new ≡ vec_capacity why.old }
+    ensures put { why.new.items ≡ (broken.now.limit.reason, whole (pos 1)) ∷ flat_map (held_back S.stands_for trail.now.asserted broken.now.side (rows_in tab.now broken.now.var)) nonbasic.now }
+{
+    why.clear();
+    why.push_reserved((broken.limit.reason, Frac::whole(1)));
+    let row = tab.row(broken.var);
+    for var in nonbasic {
+        if let Some(multiplier) = multiplier_of(trail, *var, opposite(broken.side), row.at(*var)) {
+            why.push_reserved(multiplier);
         }
+    }
+}
+
+/// The reason and the multiplier of the bound that keeps a nonbasic form from moving, where its coefficient isn't 0.
+fn multiplier_of<S: Coordinate>(
+    trail: &Trail<S>,
+    var: Var,
+    side: Side,
+    coefficient: Frac,
+) -> Option<(Reason, Frac)>
+    requires known { var < trail.now.vars }
+    ensures still { is_zero coefficient ≡ true → result ≡ None }
+    ensures held { is_zero coefficient ≡ false → result ≡ option_map (λ l. (l.reason, size_of coefficient))
+        (standing (map (told S.stands_for) trail.now.asserted) var (moving_side side coefficient)) }
+{
+    let side = way(side, coefficient)?;
+    let limit = bound_of(trail, side, var)?;
+    Some((limit.reason, size(coefficient)))
+}
+
+/// The bound that stands of a variable on a side.
+fn bound_of<S: Coordinate>(trail: &Trail<S>, side: Side, var: Var) -> Option<Limit<S>>
+    requires known { var < trail.now.vars }
+    ensures bound { option_map (told_on S.stands_for var side) result ≡ standing (map (told S.stands_for) trail.now.asserted) var side }
+{
+    let (lower, upper) = trail.bounds(var);
+    match side {
+        Side::Lower => lower,
+        Side::Upper => upper,
     }
 }
 
