@@ -1,12 +1,12 @@
 -- What a check does and answers.
-use Rattle.std.specs.Prelude.{◌≡◌, ◌⊎◌, ℕ, ◌<◌, Bool, true, false, List, [], ◌∷◌, length, flat_map, fold, pos, Option, Some, None, IsSome, Result, Ok, Err, if◌then◌else◌}
-use Rattle.nz_spec.specs.Fraction.{Fraction, whole, ◌<ℚ◌, first_wide, Operation}
+use Rattle.std.specs.Prelude.{◌≡◌, ℕ, ◌<◌, Bool, true, false, List, [], ◌∷◌, length, flat_map, fold, pos, Option, Some, None, IsSome, Result, Ok, Err, if◌then◌else◌}
+use Rattle.nz_spec.specs.Fraction.{Fraction, whole, first_wide, Operation}
 use Rattle.nz_spec.specs.Infinitesimal.{Infinitesimal}
 use Rattle.nz_spec.specs.Term.{is_zero}
 use Rattle.nz_spec.specs.Basis.{Coefficients}
 use Rattle.nz_spec.specs.BasisMoves.{Rows, AreRows, numbers, exchange}
 use Rattle.nz_spec.specs.Bland as bland
-use Rattle.nz_spec.specs.Bland.{Position, is_nonbasic, HasValue, Breaks, CanHelp, HasRoom, MeetsBounds, IsRefutation, row_value}
+use Rattle.nz_spec.specs.Bland.{Position, is_nonbasic, HasValue, Breaks, MeetsBounds, IsRefutation, row_value}
 use Rattle.nz_spec.specs.Pivots.{Pivot, pivot, MayPivot, Lead}
 use Rattle.nz_spec.specs.Table.{Node}
 use Rattle.nz_frac.specs.Operations.{operation_of}
@@ -25,19 +25,10 @@ use Rattle.nz_simplex.specs.State.{State, nonbasic_in, value_in, point_in, IsOve
 
 -- ---- Steps
 
--- A nonbasic form with this coefficient has room so that the form of the row moves towards a side.
-abbrev pub MovesTowards : Position → bland.Side → ℕ → Fraction → Type 0
-MovesTowards p side j c = ((whole (pos 0) <ℚ c) × HasRoom p side j) ⊎ ((c <ℚ whole (pos 0)) × HasRoom p (bland.other_side side) j)
-
 -- The form i breaks its bound, and no lesser basic form breaks one.
 pub record IsFirstBroken (p : Position) (side : bland.Side) (bound : Infinitesimal) (i : ℕ) : Type 0 where
   pub breaks : Breaks p side bound i
   pub least : (k : ℕ) → k < i → (half : bland.Side) (other : Infinitesimal) → Breaks p half other k → ⊥
-
--- The form j can take i to a side, and no lesser nonbasic form can.
-pub record IsFirstHelper (p : Position) (i : ℕ) (side : bland.Side) (j : ℕ) : Type 0 where
-  pub helps : CanHelp p i side j
-  pub least : (k : ℕ) → k < j → CanHelp p i side k → ⊥
 
 -- Check steps lead from the one state to the other, and each is noted. The forms and the bounds stay.
 pub record IsStepped {W : Type 0} (with_step : W → ℕ → ℕ → W) (old_work new_work : W) (old new : State) : Type 0 where

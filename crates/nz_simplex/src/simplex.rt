@@ -1,9 +1,9 @@
 //! The simplex: forms over a basis, their bounds, and the point.
 ghost use Rattle.std.specs.Prelude.{◌≡◌, ◌≢◌, ◌↔◌, ◌<◌, ◌≤◌, ◌&&◌, if◌then◌else◌, ℕ, [], ◌∷◌, List, All, IfOk, OnOk, OnErr, IfErr, IfSome, IfNone, IsSome, IsTrue, None, Some, Ok, Err, false, true, not, pos, flat_map, length, map, option_map, slice_index_or, take, vec_capacity, vec_len};
 ghost use Rattle.nz_lin.specs.Forms.{AreUnits};
-ghost use Rattle.nz_simplex.specs.Checks.{Answers, IsFirstBroken, IsFirstHelper, IsRenewed, IsStepped, MovesTowards, Renews, StopsAt, multipliers};
+ghost use Rattle.nz_simplex.specs.Checks.{Answers, IsFirstBroken, IsRenewed, IsStepped, Renews, StopsAt, multipliers};
 ghost use Rattle.nz_simplex.specs.Choices.{is_past_known, moving_side, size_of};
-ghost use Rattle.nz_simplex.specs.Stored.{held_back};
+ghost use Rattle.nz_simplex.specs.Stored.{first_passing, held_back, is_helping};
 ghost use Rattle.nz_simplex.specs.Moves.{IsBounded, IsJoined, IsSettled, JoinStops, joined_over};
 ghost use Rattle.nz_simplex.specs.Standing.{half, standing, told, told_on};
 ghost use Rattle.nz_simplex.specs.State.{IsOver, IsSound, empty_state, nonbasic_in, position_over, value_in};
@@ -11,13 +11,13 @@ ghost use Rattle.nz_simplex.specs.Stored.{basic_numbers};
 ghost use Rattle.nz_simplex.specs.Tabled.{coefficients_in, marks_in, rows_in};
 ghost use Rattle.nz_spec.specs.Bland as bland;
 ghost use Rattle.nz_spec.specs.Bland.{Breaks, CanHelp, HasValue, IsCheckStep, is_nonbasic};
-ghost use Rattle.nz_spec.specs.BasisMoves.{MayExchange, numbers};
+ghost use Rattle.nz_spec.specs.BasisMoves.{numbers};
 ghost use Rattle.nz_spec.specs.Basis.{Coefficients, IsRow};
 ghost use Rattle.nz_spec.specs.Infinitesimal.{Infinitesimal, infinitesimal_cmp};
 ghost use Rattle.nz_spec.specs.Fraction.{whole};
 ghost use Rattle.nz_spec.specs.Table.{Node};
 ghost use Rattle.nz_spec.specs.Term.{is_zero};
-ghost use Rattle.nz_trail.specs.Bounds.{ClashesWith, IsExcluded, IsImplied, asserted};
+ghost use Rattle.nz_trail.specs.Bounds.{ClashesWith, IsExcluded, IsImplied, asserted, other_side};
 ghost use Rattle.nz_trail.specs.declared.limits.Side.TheVariants.{Lower, Upper};
 
 use crate::answer::{Check, Place, SimplexStop, Site};
@@ -26,7 +26,7 @@ use crate::coordinate::Coordinate;
 use crate::steps::Steps;
 use crate::values::{move_to, row_value};
 use nz_base::Memory;
-use nz_frac::Frac;
+use nz_frac::{Frac, Wide};
 use nz_lin::{Form, Part};
 use nz_spec::basis::{
     check_steps_keep_basis, joins_keep_basis, moves_keep_ready, no_help_refutes,
@@ -339,15 +339,10 @@ impl<S: Coordinate> Simplex<S> {
         no_help_refutes();
         self.renew()?;
         while let Some(broken) = self.first_broken() {
-            let Some(enters) = self.first_helper(&broken) else {
+            if !self.step(&broken, work)? {
                 self.explain(&broken);
                 return Ok(Check::Clash);
-            };
-            if work.left() == 0 {
-                return Err(SimplexStop::Spent);
             }
-            self.exchange(&broken, enters)?;
-            work.note(broken.var, enters);
             self.renew()?;
         }
         Ok(Check::Feasible)
@@ -374,80 +369,51 @@ impl<S: Coordinate> Simplex<S> {
         None
     }
 
-    /// The least-numbered nonbasic form that can take a form back to its bound.
-    fn first_helper(&self, broken: &Broken<S>) -> Option<Var>
-        requires known { broken.now.var < length self.now.forms }
-        requires basic { nonbasic_in self.now broken.now.var ≡ false }
-        ensures found { IfSome result (λ j. (nonbasic_in self.now j ≡ true)
-            × ((ns : List Node) → IsOver ns self.now → IsFirstHelper (position_over ns self.now) broken.now.var (bland.other_side (half broken.now.side)) j)) }
-        ensures none { IfNone result ((ns : List Node) → IsOver ns self.now → (j : ℕ) → CanHelp (position_over ns self.now) broken.now.var (bland.other_side (half broken.now.side)) j → ⊥) }
-    {
-        rows_tell();
-        known_tableau(&self.tab);
-        let row = self.tab.row(broken.var);
-        for var in self.nonbasic.as_slice() {
-            if self.can_help(*var, opposite(broken.side), row.at(*var)) {
-                return Some(*var);
-            }
-        }
-        None
-    }
-
-    /// Whether a nonbasic form can take the form of a row, in which it has this coefficient, towards a side.
-    fn can_help(&self, var: Var, side: Side, coefficient: Frac) -> bool
-        requires nonbasic { nonbasic_in self.now var ≡ true }
-        ensures helps { (ns : List Node) → IsOver ns self.now → IsTrue result ↔ MovesTowards (position_over ns self.now) (half side) var coefficient }
-    {
-        match way(side, coefficient) {
-            Some(side) => has_room(side, self.bound_on(side, var), self.value(var)),
-            None => false,
-        }
-    }
-
-    /// The bound that stands of a form on a side.
-    fn bound_on(&self, side: Side, var: Var) -> Option<Limit<S>>
-        requires known { var < length self.now.forms }
-        ensures bound { option_map (told_on S.stands_for var side) result ≡ standing self.now.asserted var side }
-    {
-        let (lower, upper) = self.bounds(var);
-        match side {
-            Side::Lower => lower,
-            Side::Upper => upper,
-        }
-    }
-
-    /// Exchanges a form that breaks a bound with the one that is to help, and moves it to the bound.
-    fn exchange(&mut self, broken: &Broken<S>, enters: Var) -> Result<(), SimplexStop>
-        requires broken { (ns : List Node) → IsOver ns self.old → IsFirstBroken (position_over ns self.old) (half broken.now.side) (S.stands_for broken.now.limit.value) broken.now.var }
-        requires helper { (ns : List Node) → IsOver ns self.old → IsFirstHelper (position_over ns self.old) broken.now.var (bland.other_side (half broken.now.side)) enters }
+    /// Exchanges a form that breaks a bound with the least-numbered nonbasic form that can help, moves it to the bound, and notes
+    /// the step. Answers false where no form can help.
+    fn step<W: Steps>(
+        &mut self,
+        broken: &Broken<S>,
+        work: &mut W,
+    ) -> Result<bool, SimplexStop>
         requires known { broken.now.var < length self.old.forms }
         requires basic { nonbasic_in self.old broken.now.var ≡ false }
         requires valued { IsSome (value_in self.old broken.now.var) }
-        requires nonbasic { nonbasic_in self.old enters ≡ true }
-        requires nonzero { (ns : List Node) → IsOver ns self.old → MayExchange (position_over ns self.old).forms (is_nonbasic (position_over ns self.old).point) broken.now.var enters }
-        ensures step { OnOk result ((ns : List Node) → IsOver ns self.old → IsCheckStep (position_over ns self.old) (position_over ns self.new) broken.now.var enters) }
+        requires broken { (ns : List Node) → IsOver ns self.old → IsFirstBroken (position_over ns self.old) (half broken.now.side) (S.stands_for broken.now.limit.value) broken.now.var }
+        ensures taken { result ≡ Ok true → (j : ℕ) × (work.new ≡ W.with_step work.old broken.now.var j)
+            × ((ns : List Node) → IsOver ns self.old → IsCheckStep (position_over ns self.old) (position_over ns self.new) broken.now.var j) }
+        ensures helpless { result ≡ Ok false → (ns : List Node) → IsOver ns self.old → (j : ℕ) → CanHelp (position_over ns self.old) broken.now.var (bland.other_side (half broken.now.side)) j → ⊥ }
         ensures forms { self.new.forms ≡ self.old.forms }
         ensures asserted { self.new.asserted ≡ self.old.asserted }
         ensures why { self.new.why ≡ self.old.why }
-        ensures unchanged { OnErr result (self.new ≡ self.old) }
-        ensures stops { (ns : List Node) → IsOver ns self.old → IfErr result (λ e. StopsAt ns self.old e) }
+        ensures unchanged { result ≢ Ok true → self.new ≡ self.old }
+        ensures unnoted { result ≢ Ok true → work.new ≡ work.old }
+        ensures stops { (ns : List Node) → IsOver ns self.old → IfErr result (λ e. Answers ns self.old (W.units_left work.old) (Err e)) }
     {
         check_steps_keep_basis();
         moves_keep_ready();
+        rows_tell();
         known_tableau(&self.tab);
+        let Some(enters) = first_helper(
+            &self.tab,
+            &self.trail,
+            self.nonbasic.as_slice(),
+            self.values.as_slice(),
+            broken,
+        ) else {
+            return Ok(false);
+        };
+        if work.left() == 0 {
+            return Err(SimplexStop::Spent);
+        }
         if let Err(wide) = self.tab.pivot(broken.var, enters) {
-            return Err(SimplexStop::Wide(Place {
-                wide,
-                site: Site::Row {
-                    leaves: broken.var,
-                    enters,
-                },
-            }));
+            return Err(exchange_stop(wide, broken.var, enters));
         }
         move_to(&self.tab, self.values.as_mut_slice(), broken.var, broken.limit.value);
         list_basic(&self.tab, &mut self.basic);
         list_nonbasic(&self.tab, &mut self.nonbasic);
-        Ok(())
+        work.note(broken.var, enters);
+        Ok(true)
     }
 
     /// Notes the bounds that keep a form from its bound, with their multipliers.
@@ -468,6 +434,59 @@ impl<S: Coordinate> Simplex<S> {
             broken,
             &mut self.why,
         );
+    }
+}
+
+/// An exchange that leaves the numbers, at its place.
+fn exchange_stop(wide: Wide, leaves: Var, enters: Var) -> SimplexStop
+    ensures stop { result ≡ SimplexStop.Wide (record { wide = wide; site = Site.Row leaves enters }) }
+{
+    SimplexStop::Wide(Place {
+        wide,
+        site: Site::Row { leaves, enters },
+    })
+}
+
+/// The least-numbered of these nonbasic forms that can take a form back to its bound.
+fn first_helper<S: Coordinate>(
+    tab: &Tab,
+    trail: &Trail<S>,
+    nonbasic: &[Var],
+    values: &[Option<S>],
+    broken: &Broken<S>,
+) -> Option<Var>
+    requires known { broken.now.var < length tab.now.forms }
+    requires basic { slice_index_or (marks_in tab.now) broken.now.var false ≡ false }
+    requires listed { All (λ k. k < trail.now.vars) nonbasic.now }
+    requires held { All (λ k. k < length values.now) nonbasic.now }
+    requires valued { All (λ k. IsSome (slice_index_or values.now k None)) nonbasic.now }
+    ensures first { result ≡ first_passing (λ k. is_helping S.stands_for trail.now.asserted values.now (other_side broken.now.side) k (rows_in tab.now broken.now.var k)) nonbasic.now }
+{
+    let row = tab.row(broken.var);
+    for var in nonbasic {
+        if can_help(trail, values, *var, opposite(broken.side), row.at(*var)) {
+            return Some(*var);
+        }
+    }
+    None
+}
+
+/// Whether a nonbasic form can take the form of a row, in which it has this coefficient, towards a side.
+fn can_help<S: Coordinate>(
+    trail: &Trail<S>,
+    values: &[Option<S>],
+    var: Var,
+    side: Side,
+    coefficient: Frac,
+) -> bool
+    requires known { var < trail.now.vars }
+    requires held { var < length values.now }
+    requires valued { IsSome (slice_index_or values.now var None) }
+    ensures helps { result ≡ is_helping S.stands_for trail.now.asserted values.now side var coefficient }
+{
+    match way(side, coefficient) {
+        Some(side) => has_room(side, bound_of(trail, side, var), values[var].unwrap()),
+        None => false,
     }
 }
 
