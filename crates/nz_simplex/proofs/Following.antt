@@ -15,10 +15,14 @@ module _ {S : Type 0} (law : InfinitesimalsMove) (stands : S → Infinitesimal) 
   by_distance : (from distance old : Option S) (c : Fraction) (y x d : S) → IsDistance stands target from distance → old ≡ Some x → distance ≡ Some d
       → stands y =δ (stands x +δ scaled (stands d) c) → IsFollowed stands from target c old (Some y)
   by_distance from distance old c y x d far was is value =
-      let there = subst (λ (o : Option S). IfSome o (λ e. (w : S) × (from ≡ Some w) × (stands e =δ (stands target -δ stands w)))) is far in
-      (there.0, x, there.1, was,
-      law.along (stands y) (stands x +δ scaled (stands d) c) (stands x +δ scaled (stands target -δ stands there.0) c) value
-      (law.same (stands x) (stands x) (stands d) (stands target -δ stands there.0) c (law.itself (stands x)) there.2))
+      let there = subst (λ (o : Option S). IfSome o (λ e. (w : S) × (from ≡ Some w) × (stands e =δ (stands target -δ stands w)))) is far in (
+        there.0,
+        x,
+        there.1,
+        was,
+        law.along (stands y) (stands x +δ scaled (stands d) c) (stands x +δ scaled (stands target -δ stands there.0) c) value
+            (law.same (stands x) (stands x) (stands d) (stands target -δ stands there.0) c (law.itself (stands x)) there.2),
+      )
 
   at_zero : (from old : Option S) (c : Fraction) (y : S) → IsSome from → is_zero c ≡ true → Some y ≡ old → IsFollowed stands from target c old (Some y)
   at_zero None old c y some zero e = absurd (cc)

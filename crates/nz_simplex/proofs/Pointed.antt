@@ -65,10 +65,11 @@ pub onto_same : (c : Coefficients) (x y : ℕ → Infinitesimal) (t : Infinitesi
 onto_same c x y t [] h = (refl, refl)
 onto_same c x y t (k ∷ ks) h =
     let next : Infinitesimal → Infinitesimal = λ v. (plus t (times v (c k)).result).result in
-    let rest = onto_same c x y (next (x k)) ks h.1 in
-    (rest.0 ∙ ap (λ (v : Infinitesimal). (value_onto c y (next v) ks).result) h.0,
-    ap (λ (os : List Operation). (times (x k) (c k)).operations ++ ((plus t (times (x k) (c k)).result).operations ++ os)) rest.1
-    ∙ ap (λ (v : Infinitesimal). (times v (c k)).operations ++ ((plus t (times v (c k)).result).operations ++ (value_onto c y (next v) ks).operations)) h.0)
+    let rest = onto_same c x y (next (x k)) ks h.1 in (
+      rest.0 ∙ ap (λ (v : Infinitesimal). (value_onto c y (next v) ks).result) h.0,
+      ap (λ (os : List Operation). (times (x k) (c k)).operations ++ ((plus t (times (x k) (c k)).result).operations ++ os)) rest.1
+          ∙ ap (λ (v : Infinitesimal). (times v (c k)).operations ++ ((plus t (times v (c k)).result).operations ++ (value_onto c y (next v) ks).operations)) h.0,
+    )
 
 -- ---- The point
 

@@ -51,9 +51,12 @@ module _ (law : InfinitesimalsMove) where
       where
         by_test : (m n : Bool) → is_news side e.value o ≡ n
             → (c : Held) × ((if m && n then Some e else o) ≡ Some c) × ((x : Infinitesimal) → IsOutside (half side) b.value x → IsOutside (half side) c.value x)
-        by_test true true news =
-            (e, refl, λ x out. outside_along (half side) b.value e.value x
-            (outside_told (half side) e.value b.value (sym (ap (is_news side e.value) is) ∙ news)) out)
+        by_test true true news = (
+          e,
+          refl,
+          λ x out. outside_along (half side) b.value e.value x
+              (outside_told (half side) e.value b.value (sym (ap (is_news side e.value) is) ∙ news)) out,
+        )
         by_test true false news = (b, is, λ x out. out)
         by_test false n news = (b, is, λ x out. out)
 
@@ -78,9 +81,11 @@ module _ (law : InfinitesimalsMove) where
     unfolding Looser
     bound_stays bs m bound e =
         let there = value_of (standing (take m bs) v side) bound e in
-        let later = looser_front None bs m there.0 there.1 in
-        (later.0.value, ap (option_map (λ (b : Held). b.value)) later.1,
-        λ x out. later.2 x (subst (λ (y : Infinitesimal). IsOutside (half side) y x) (sym there.2) out))
+        let later = looser_front None bs m there.0 there.1 in (
+          later.0.value,
+          ap (option_map (λ (b : Held). b.value)) later.1,
+          λ x out. later.2 x (subst (λ (y : Infinitesimal). IsOutside (half side) y x) (sym there.2) out),
+        )
 
   -- ---- A simplex
 

@@ -237,7 +237,9 @@ impl<S: Coordinate> Simplex<S> {
         moves_keep_ready();
         sum_moves();
         let outcome = self.trail.assert_bound(var, side, value, reason)?;
-        if outcome == Bound::Tighter && is_to_move(&self.tab, self.values.as_slice(), var, side, value) {
+        if outcome == Bound::Tighter
+            && is_to_move(&self.tab, self.values.as_slice(), var, side, value)
+        {
             move_to(&self.tab, self.values.as_mut_slice(), var, value);
         }
         Ok(outcome)
@@ -371,11 +373,7 @@ impl<S: Coordinate> Simplex<S> {
 
     /// Exchanges a form that breaks a bound with the least-numbered nonbasic form that can help, moves it to the bound, and notes
     /// the step. Answers false where no form can help.
-    fn step<W: Steps>(
-        &mut self,
-        broken: &Broken<S>,
-        work: &mut W,
-    ) -> Result<bool, SimplexStop>
+    fn step<W: Steps>(&mut self, broken: &Broken<S>, work: &mut W) -> Result<bool, SimplexStop>
         requires known { broken.now.var < length self.old.forms }
         requires basic { nonbasic_in self.old broken.now.var ≡ false }
         requires valued { IsSome (value_in self.old broken.now.var) }
@@ -409,7 +407,12 @@ impl<S: Coordinate> Simplex<S> {
         if let Err(wide) = self.tab.pivot(broken.var, enters) {
             return Err(exchange_stop(wide, broken.var, enters));
         }
-        move_to(&self.tab, self.values.as_mut_slice(), broken.var, broken.limit.value);
+        move_to(
+            &self.tab,
+            self.values.as_mut_slice(),
+            broken.var,
+            broken.limit.value,
+        );
         list_basic(&self.tab, &mut self.basic);
         list_nonbasic(&self.tab, &mut self.nonbasic);
         work.note(broken.var, enters);

@@ -16,12 +16,7 @@ use nz_trail::Var;
 
 /// Moves a nonbasic form to a value, and the values of the basic forms follow it. A value that would leave the numbers isn't known
 /// then.
-pub(crate) fn move_to<S: Coordinate>(
-    tab: &Tab,
-    values: &mut [Option<S>],
-    var: Var,
-    target: S,
-)
+pub(crate) fn move_to<S: Coordinate>(tab: &Tab, values: &mut [Option<S>], var: Var, target: S)
     requires marked { length (marks_in tab.now) ≡ length tab.now.forms }
     requires valued { length values.old ≡ length tab.now.forms }
     requires known { var < length tab.now.forms }
@@ -59,11 +54,7 @@ fn value_after<S: Coordinate>(
 }
 
 /// The value of a form when one of its row, in which it has this coefficient, moves by a distance: None where that isn't known.
-fn followed<S: Coordinate>(
-    value: Option<S>,
-    distance: Option<S>,
-    coefficient: Frac,
-) -> Option<S>
+fn followed<S: Coordinate>(value: Option<S>, distance: Option<S>, coefficient: Frac) -> Option<S>
     ensures still { is_zero coefficient ≡ true → result ≡ value }
     ensures followed { is_zero coefficient ≡ false → IfSome result (λ y. (x d : S) × (value ≡ Some x) × (distance ≡ Some d)
         × (S.stands_for y =δ (S.stands_for x +δ scaled (S.stands_for d) coefficient))) }

@@ -141,7 +141,17 @@ fn undo_gives_back_the_bounds(rt: HostRuntime) -> Result<(), Fail> {
     let mut seed = 19;
     for number in 0..200 {
         let units = [(x, 0), (y, 1)];
-        assert!(rt; step(alloc, &mut simplex, &mut list, &mut marks, &units, &mut seed, number)?);
+        assert!(rt;
+            step(
+                alloc,
+                &mut simplex,
+                &mut list,
+                &mut marks,
+                &units,
+                &mut seed,
+                number
+            )?
+        );
         assert!(rt; agrees(&simplex, list.as_slice()), "at step {number}");
     }
     Ok(())

@@ -43,13 +43,22 @@ fn a_cycle_of_strict_bounds_clashes(rt: HostRuntime) -> Result<(), Fail> {
     let third = pair(alloc, &mut terms, &mut simplex, (1, z), (-1, x))?;
     // x < y, y < z
     let below = delta(0, -1)?;
-    assert_eq!(rt; put(&mut simplex, first, Side::Upper, below, 0)?, Bound::Tighter);
-    assert_eq!(rt; put(&mut simplex, second, Side::Upper, below, 1)?, Bound::Tighter);
+    assert_eq!(rt;
+        put(&mut simplex, first, Side::Upper, below, 0)?,
+        Bound::Tighter
+    );
+    assert_eq!(rt;
+        put(&mut simplex, second, Side::Upper, below, 1)?,
+        Bound::Tighter
+    );
     assert!(rt; matches!(checked(alloc, &mut simplex, 20)?, Ok(Check::Feasible)));
     let mark = simplex.mark();
     // z <= x
     let zero = delta(0, 0)?;
-    assert_eq!(rt; put(&mut simplex, third, Side::Upper, zero, 2)?, Bound::Tighter);
+    assert_eq!(rt;
+        put(&mut simplex, third, Side::Upper, zero, 2)?,
+        Bound::Tighter
+    );
     assert!(rt; matches!(checked(alloc, &mut simplex, 20)?, Ok(Check::Clash)));
     let given = [
         (first, Side::Upper, below),

@@ -40,15 +40,31 @@ fn an_exchange_leaves_the_numbers(rt: HostRuntime) -> Result<(), Fail> {
     let x = constant(&mut terms, alloc, b"x")?;
     let y = constant(&mut terms, alloc, b"y")?;
     let many = times(&mut terms, MOST, y)?;
-    assert!(rt; matches!(added(alloc, &mut terms, &mut simplex, &[x, many]), Some(Ok(2))));
+    assert!(rt;
+        matches!(
+            added(alloc, &mut terms, &mut simplex, &[x, many]),
+            Some(Ok(2))
+        )
+    );
     let twice = times(&mut terms, 2, x)?;
-    assert!(rt; matches!(added(alloc, &mut terms, &mut simplex, &[twice, y]), Some(Ok(3))));
+    assert!(rt;
+        matches!(
+            added(alloc, &mut terms, &mut simplex, &[twice, y]),
+            Some(Ok(3))
+        )
+    );
     put(&mut simplex, 2, Side::Lower, frac(1, 1)?, 0)?;
     let Err(SimplexStop::Wide(place)) = checked(alloc, &mut simplex, 5)? else {
         assert!(rt; false);
         return Ok(());
     };
-    assert!(rt; place.site == Site::Row { leaves: 2, enters: 0 });
+    assert!(rt;
+        place.site
+            == Site::Row {
+                leaves: 2,
+                enters: 0
+            }
+    );
     assert!(rt; place.wide.op == Op::Mul);
     assert!(rt; place.wide.a == Frac::whole(2));
     assert!(rt; simplex.is_basic(2));
@@ -81,7 +97,9 @@ fn a_value_leaves_the_numbers(rt: HostRuntime) -> Result<(), Fail> {
     put(&mut simplex, 0, Side::Upper, frac(1, 1)?, 2)?;
     put(&mut simplex, 1, Side::Upper, frac(0, 1)?, 3)?;
     assert!(rt; matches!(checked(alloc, &mut simplex, 5)?, Ok(Check::Feasible)));
-    assert!(rt; sum < simplex.len() && simplex.has_value(sum) && simplex.value(sum) == Frac::whole(1));
+    assert!(rt;
+        sum < simplex.len() && simplex.has_value(sum) && simplex.value(sum) == Frac::whole(1)
+    );
     assert!(rt; unit(alloc, &mut terms, &mut simplex, x)? == 0);
     Ok(())
 }

@@ -18,7 +18,7 @@ loop-form-preserved g c =
     let P : ℕ → Option S → Option S → Type 0 = λ k x y. IsAfter stands (get_or (marks_in c.args.tab.now) k false) c.distance-distance.result (rows_in c.args.tab.now k c.args.var) x y in
     let inside : i < length now = search rules in
     let read : c.index-values-form.result ≡ get_or old i None =
-        get_or_read now i c.index-values-form.result inside c.index-values-form.is None ∙ c.loop-form.invariant.rest i (omega arith) in
+    get_or_read now i c.index-values-form.result inside c.index-values-form.is None ∙ c.loop-form.invariant.rest i (omega arith) in
     let last : P i (get_or old i None) c.value_after.result = subst (λ (o : Option S). P i o c.value_after.result) read c.value_after.ensures.after in
     record {
       done = taken_more P old now i c.value_after.result None inside c.loop-form.invariant.rest c.loop-form.invariant.done last;
@@ -48,7 +48,7 @@ returns-clause-follows g c =
     let read : c.index-values-var.result ≡ from = get_or_read c.args.values.now c.args.var c.index-values-var.result (search rules) c.index-values-var.is None in
     let other : k ≢ c.args.var = λ e. apart (sym basic ∙ ap (λ (n : ℕ). get_or (marks_in c.args.tab.now) n false) e ∙ c.requires.nonbasic) in
     let after : IsAfter stands false c.distance-distance.result coefficient old (get_or c.loop-form.values k None) =
-        subst (λ (m : Bool). IsAfter stands m c.distance-distance.result coefficient old (get_or c.loop-form.values k None)) basic (c.loop-form.invariant.done k (omega (arith, inside))) in
+    subst (λ (m : Bool). IsAfter stands m c.distance-distance.result coefficient old (get_or c.loop-form.values k None)) basic (c.loop-form.invariant.done k (omega (arith, inside))) in
     subst (λ (o : Option S). IsFollowed stands from c.args.target coefficient old o) (sym (get_or-set_other c.loop-form.values c.args.var k (Some c.args.target) None other))
     (followed_after c.infinitesimals_move.ensures.moves stands c.args.target from c.distance-distance.result coefficient old (get_or c.loop-form.values k None) c.requires.some
     (subst (λ (o : Option S). IsDistance stands c.args.target o c.distance-distance.result) read c.distance-distance.ensures.distance) after)

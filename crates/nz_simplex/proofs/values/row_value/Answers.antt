@@ -38,9 +38,9 @@ returns-in_err-sum-clause-stops g c =
     let inside : k < length c.args.values.now = search rules in
     let number : x k ≡ stands v = read_number stands c.args.values.now k c.index-values-var.result v inside c.index-values-var.is (search rules) in
     let stop : first_wide (multiple_onto t (x k) (row k)).operations ≡ Some (operation_of w) =
-        ap (λ (y : Infinitesimal). first_wide (multiple_onto t y (row k)).operations) number
-        ∙ ap (λ q. first_wide (multiple_onto t (stands v) q).operations) (sym c.at.ensures.coefficient)
-        ∙ sym c.in_err-sum.ensures.stops in
+    ap (λ (y : Infinitesimal). first_wide (multiple_onto t y (row k)).operations) number
+    ∙ ap (λ q. first_wide (multiple_onto t (stands v) q).operations) (sym c.at.ensures.coefficient)
+    ∙ sym c.in_err-sum.ensures.stops in
     ap (λ (r : Result g.row.S.Denot Wide). refused r) error
     ∙ sym (onto_stop row x t k rest c.first_of_two.ensures.first (operation_of w) stop)
     ∙ sym (ap (λ (l : List ℕ). first_wide (value_onto row x t l).operations) left)
@@ -61,13 +61,13 @@ loop-var-preserved g c =
     let inside : k < length c.args.values.now = search rules in
     let number : x k ≡ stands v = read_number stands c.args.values.now k c.index-values-var.result v inside c.index-values-var.is (search rules) in
     let sum : stands c.in_ok-sum.sum ≡ (multiple_onto t (x k) (row k)).result =
-        c.in_ok-sum.ensures.value
-        ∙ ap (λ q. (multiple_onto t (stands v) q).result) c.at.ensures.coefficient
-        ∙ ap (λ (y : Infinitesimal). (multiple_onto t y (row k)).result) (sym number) in
+    c.in_ok-sum.ensures.value
+    ∙ ap (λ q. (multiple_onto t (stands v) q).result) c.at.ensures.coefficient
+    ∙ ap (λ (y : Infinitesimal). (multiple_onto t y (row k)).result) (sym number) in
     let fits : first_wide (multiple_onto t (x k) (row k)).operations ≡ None =
-        ap (λ (y : Infinitesimal). first_wide (multiple_onto t y (row k)).operations) number
-        ∙ ap (λ q. first_wide (multiple_onto t (stands v) q).operations) (sym c.at.ensures.coefficient)
-        ∙ sym c.in_ok-sum.ensures.stops in
+    ap (λ (y : Infinitesimal). first_wide (multiple_onto t y (row k)).operations) number
+    ∙ ap (λ q. first_wide (multiple_onto t (stands v) q).operations) (sym c.at.ensures.coefficient)
+    ∙ sym c.in_ok-sum.ensures.stops in
     record {
       value =
           ap (λ (u : Infinitesimal). (value_onto row x u rest).result) sum

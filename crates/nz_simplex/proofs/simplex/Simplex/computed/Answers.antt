@@ -47,10 +47,10 @@ returns-in-Ok g c =
     let here : State = state_of stands x.tab x.trail x.values.items x.why.items in
     let listing = c.as_slice.ensures.value ∙ c.self.invariant.nonbasic_listed in
     let value : stands c.in-Ok.value ≡ (value_onto (rows_in x.tab c.args.var) (numbers_in stands x.values.items) zero_infinitesimal (nonbasic_numbers here)).result =
-        c.in-Ok.ensures.value
-        ∙ ap (λ (r : DenseRow). (value_onto (coefficients_in r) (numbers_in stands c.as_slice-2.result.now) zero_infinitesimal c.as_slice.result.now).result) c.row.ensures.row
-        ∙ ap (λ (vs : List (Option S)). (value_onto (rows_in x.tab c.args.var) (numbers_in stands vs) zero_infinitesimal c.as_slice.result.now).result) c.as_slice-2.ensures.value
-        ∙ ap (λ (ks : List ℕ). (value_onto (rows_in x.tab c.args.var) (numbers_in stands x.values.items) zero_infinitesimal ks).result) listing in
+    c.in-Ok.ensures.value
+    ∙ ap (λ (r : DenseRow). (value_onto (coefficients_in r) (numbers_in stands c.as_slice-2.result.now) zero_infinitesimal c.as_slice.result.now).result) c.row.ensures.row
+    ∙ ap (λ (vs : List (Option S)). (value_onto (rows_in x.tab c.args.var) (numbers_in stands vs) zero_infinitesimal c.as_slice.result.now).result) c.as_slice-2.ensures.value
+    ∙ ap (λ (ks : List ℕ). (value_onto (rows_in x.tab c.args.var) (numbers_in stands x.values.items) zero_infinitesimal ks).result) listing in
     record {
       value =
           subst (λ (s : State). (ns : List Node) → IsOver ns s → HasValue (position_over ns s) c.args.var (stands c.in-Ok.value)) c.self.view_is
@@ -69,11 +69,11 @@ returns-in-Err g c =
     let here : State = state_of stands x.tab x.trail x.values.items x.why.items in
     let listing = c.as_slice.ensures.value ∙ c.self.invariant.nonbasic_listed in
     let stop =
-        sym
-        (c.in-Err.ensures.stops
-        ∙ ap (λ (r : DenseRow). first_wide (value_onto (coefficients_in r) (numbers_in stands c.as_slice-2.result.now) zero_infinitesimal c.as_slice.result.now).operations) c.row.ensures.row
-        ∙ ap (λ (vs : List (Option S)). first_wide (value_onto (rows_in x.tab c.args.var) (numbers_in stands vs) zero_infinitesimal c.as_slice.result.now).operations) c.as_slice-2.ensures.value
-        ∙ ap (λ (ks : List ℕ). first_wide (value_onto (rows_in x.tab c.args.var) (numbers_in stands x.values.items) zero_infinitesimal ks).operations) listing) in
+    sym
+    (c.in-Err.ensures.stops
+    ∙ ap (λ (r : DenseRow). first_wide (value_onto (coefficients_in r) (numbers_in stands c.as_slice-2.result.now) zero_infinitesimal c.as_slice.result.now).operations) c.row.ensures.row
+    ∙ ap (λ (vs : List (Option S)). first_wide (value_onto (rows_in x.tab c.args.var) (numbers_in stands vs) zero_infinitesimal c.as_slice.result.now).operations) c.as_slice-2.ensures.value
+    ∙ ap (λ (ks : List ℕ). first_wide (value_onto (rows_in x.tab c.args.var) (numbers_in stands x.values.items) zero_infinitesimal ks).operations) listing) in
     record {
       value = tt;
       stops =

@@ -40,12 +40,12 @@ invariant_of-self g c =
     let n : IsSome (value_in c.args.self.now c.args.var) → ⊥ = λ h. true≢false (sym (c.has_value.ensures.known.1 h) ∙ c.if-has_value.false) in
     let unknown : value_in here c.args.var ≡ None = ap (λ (s : State). value_in s c.args.var) c.self.view_is ∙ none_known (value_in c.args.self.now c.args.var) n in
     let basic : nonbasic_in here c.args.var ≡ false =
-        ap (λ (s : State). nonbasic_in s c.args.var) c.self.view_is ∙ basic_form c.args.self.now c.known_state.ensures.sound c.args.var n in
+    ap (λ (s : State). nonbasic_in s c.args.var) c.self.view_is ∙ basic_form c.args.self.now c.known_state.ensures.sound c.args.var n in
     let inside : c.args.var < length x.values.items =
-        subst (λ (m : ℕ). c.args.var < m) (sym stored.sound.valued ∙ length-map x.values.items (option_map stands))
-        (subst (λ (s : State). c.args.var < length s.forms) (sym c.self.view_is) c.requires.known) in
+    subst (λ (m : ℕ). c.args.var < m) (sym stored.sound.valued ∙ length-map x.values.items (option_map stands))
+    (subst (λ (s : State). c.args.var < length s.forms) (sym c.self.view_is) c.requires.known) in
     let right : (ns : List Node) → IsOver ns here → HasValue (position_over ns here) c.args.var (stands c.in_ok-value.value) =
-        subst (λ (s : State). (ns : List Node) → IsOver ns s → HasValue (position_over ns s) c.args.var (stands c.in_ok-value.value)) (sym c.self.view_is) c.in_ok-value.ensures.value in
+    subst (λ (s : State). (ns : List Node) → IsOver ns s → HasValue (position_over ns s) c.args.var (stands c.in_ok-value.value)) (sym c.self.view_is) c.in_ok-value.ensures.value in
     record {
       sound = sound_renewed stands x.tab x.trail x.values.items x.why.items c.args.var c.in_ok-value.value stored.sound inside basic unknown right;
       basic_listed = stored.basic_listed;

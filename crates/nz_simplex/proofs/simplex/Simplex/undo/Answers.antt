@@ -13,7 +13,7 @@ pub undo-requires : goal.undo-requires
 undo-requires g c =
     let stands = g.S.Coordinate.stands_for in
     let long : length c.args.self.now.asserted ≡ length c.self.inside.trail.asserted =
-        ap (λ (s : State). length s.asserted) (sym c.self.view_is) ∙ length-map c.self.inside.trail.asserted (told stands) in
+    ap (λ (s : State). length s.asserted) (sym c.self.view_is) ∙ length-map c.self.inside.trail.asserted (told stands) in
     record { reached = subst (λ (n : ℕ). c.args.mark ≤ n) long c.requires.reached }
 
 pub invariant_of-self : goal.invariant_of-self
@@ -23,9 +23,9 @@ invariant_of-self g c =
     let stored = c.self.invariant in
     let old : State = state_of stands x.tab x.trail x.values.items x.why.items in
     let cut : IsSound (record old { asserted = take c.args.mark old.asserted }) =
-        sound_front c.infinitesimals_move.ensures.moves c.moves_keep_ready.ensures.ready old c.args.mark stored.sound in
+    sound_front c.infinitesimals_move.ensures.moves c.moves_keep_ready.ensures.ready old c.args.mark stored.sound in
     let sound : IsSound (record old { asserted = map (told stands) (take c.args.mark x.trail.asserted) }) =
-        subst (λ (bs : List Held). IsSound (record old { asserted = bs })) (take-map (told stands) c.args.mark x.trail.asserted) cut in
+    subst (λ (bs : List Held). IsSound (record old { asserted = bs })) (take-map (told stands) c.args.mark x.trail.asserted) cut in
     subst
     (λ (t : TrailState g.row.S.Denot). IsStored (state_of stands x.tab t x.values.items x.why.items) t.vars x.basic.items x.nonbasic.items (vec_capacity x.basic) (vec_capacity x.nonbasic) (vec_capacity x.why))
     (sym c.undo.ensures.front)
