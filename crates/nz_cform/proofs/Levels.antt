@@ -1,37 +1,29 @@
 -- What is kept at or below a level, and the level at which a term is covered.
-use Rattle.std.proofs.Common.{◌≡◌, ℕ, ◌≤◌, Bool, true, false, Option, Some, None, refl, ap, subst, arith}
+use Rattle.std.proofs.Common.{◌≡◌, ℕ, ◌≤◌, Option, Some, None, refl, ap, subst, arith}
 use Rattle.std.specs.Prelude.{IsSomeAnd, nat_le, if◌then◌else◌}
 use Rattle.std.proofs.lemmas.Bool.{le-leb, leb-true}
+use Rattle.nz_lists.proofs.Options.{kept_if}
 use Rattle.nz_log.specs.Logs.{Entry, kept_below, told_below}
 
 -- ---- What is kept
 
-told_test : (level m n : ℕ) (b : Bool) → nat_le m level ≡ b → (if b then Some m else None) ≡ Some n → (m ≡ n) × (n ≤ level)
-told_test level m n true t at =
-    let same : m ≡ n = cc in
-    let below : m ≤ level = leb-true m level t in
-    (same, subst (λ k. k ≤ level) same below)
-told_test level m n false t at = cc
-
 -- what is kept of a level was there, at or below
 pub told_parts : (level : ℕ) (o : Option ℕ) (n : ℕ) → told_below level o ≡ Some n → (o ≡ Some n) × (n ≤ level)
 told_parts level None n at = cc
-told_parts level (Some m) n at = let k = told_test level m n (nat_le m level) refl at in (ap Some k.0, k.1)
+told_parts level (Some m) n at =
+    let k = kept_if (nat_le m level) m n at in
+    (ap Some k.0, subst (λ i. i ≤ level) k.0 (leb-true m level k.1))
 
 -- what is at or below the level is kept
 pub told_low : (level n : ℕ) → n ≤ level → told_below level (Some n) ≡ Some n
 told_low level n below = ap (λ b. if b then Some n else None) (le-leb n level below)
 
-kept_test : (level : ℕ) (f e : Entry) (b : Bool) → nat_le f.level level ≡ b → (if b then Some f else None) ≡ Some e → (f ≡ e) × (e.level ≤ level)
-kept_test level f e true t at =
-    let same : f ≡ e = cc in
-    (same, subst (λ (g : Entry). g.level ≤ level) same (leb-true f.level level t))
-kept_test level f e false t at = cc
-
 -- so it is of clauses
 pub kept_parts : (level : ℕ) (o : Option Entry) (e : Entry) → kept_below level o ≡ Some e → (o ≡ Some e) × (e.level ≤ level)
 kept_parts level None e at = cc
-kept_parts level (Some f) e at = let k = kept_test level f e (nat_le f.level level) refl at in (ap Some k.0, k.1)
+kept_parts level (Some f) e at =
+    let k = kept_if (nat_le f.level level) f e at in
+    (ap Some k.0, subst (λ (g : Entry). g.level ≤ level) k.0 (leb-true f.level level k.1))
 
 -- also of clauses
 pub kept_low : (level : ℕ) (e : Entry) → e.level ≤ level → kept_below level (Some e) ≡ Some e

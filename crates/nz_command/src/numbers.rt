@@ -3,7 +3,7 @@ ghost use Rattle.std.specs.Prelude.{◌≡◌, ◌<◌, ◌≤◌, ◌||◌, ◌
 ghost use Rattle.nz_sexpr.specs.View.{token_view, view, seen};
 ghost use Rattle.nz_spec.specs.Tree.{before_point as front_of, after_point as places_of};
 ghost use Rattle.nz_spec.specs.Bounds as bounds;
-ghost use Rattle.nz_spec.specs.Fraction as fractions;
+ghost use Rattle.nz_fractions.specs.Fraction as fractions;
 ghost use Rattle.nz_spec.specs.Expression.{written_integer, written_decimal};
 ghost use Rattle.nz_spec.specs.Parse.{fitting, token_number};
 ghost use Rattle.nz_command.specs.View.{number_view};

@@ -2,11 +2,11 @@
 use Rattle.std.proofs.Common.{◌≡◌, ℕ, Bool, true, false, refl, sym, ap, ◌∙◌, subst, ℤ, pos, ◌*ℤ◌, ◌<ℤ◌, List, [], ◌∷◌, ◌++◌, map, length, drop, Some, None, Ordering, Less, Equal, Greater, is_lt, int_lt, int_le, not, arith, if◌then◌else◌, cond, append-nil, drop_of_length-le, ◌≤◌}
 use Rattle.std.proofs.Math.IntN.{zero-*ℤ}
 use Rattle.std.proofs.lemmas.Int.{ints}
-use Rattle.nz_spec.specs.Fraction.{Fraction, denominator, whole, ◌=ℚ◌, ◌<ℚ◌, ◌+ℚ◌, neg_ℚ, fraction_cmp, fraction_lt, fraction_le, fraction_min, outcome, Difference, Operation, first_wide}
+use Rattle.nz_fractions.specs.Fraction.{Fraction, denominator, whole, ◌=ℚ◌, ◌<ℚ◌, ◌+ℚ◌, neg_ℚ, fraction_cmp, fraction_lt, fraction_le, fraction_min, outcome, Difference, Operation, first_wide}
 use Rattle.nz_spec.specs.Infinitesimal.{Pair, is_limiting, limit, limits, limit_operations, least_from, chosen_delta, delta_operations}
-use Rattle.nz_spec.proofs.FractionLaws.{=ℚ_sym, =ℚ_trans, <ℚ_irrefl, ≤ℚ-from_eq}
-use Rattle.nz_spec.proofs.FractionOrder.{fraction_ranked, fraction_cmp_is}
-use Rattle.nz_spec.proofs.FractionArithmetic.{outcome-difference, +ℚ-neg, cmp-+ℚ}
+use Rattle.nz_fractions.proofs.Laws.{=ℚ_sym, =ℚ_trans, <ℚ_irrefl, ≤ℚ-from_eq}
+use Rattle.nz_fractions.proofs.Order.{fraction_ranked, fraction_cmp_is}
+use Rattle.nz_fractions.proofs.Arithmetic.{outcome-difference, +ℚ-neg, cmp-+ℚ}
 use Rattle.nz_delta.specs.declared.delta.Delta.{Delta}
 use Rattle.nz_delta.specs.Pairs.{pair_of}
 use Rattle.nz_delta.proofs.WideLemmas.{first-append_none, first-append_some}

@@ -1,7 +1,7 @@
 -- The first Wide operation of a list, and what a refused call names.
 use Rattle.std.proofs.Common.{◌≡◌, Bool, true, false, IsTrue, refl, sym, ap, ◌∙◌, List, [], ◌∷◌, ◌++◌, Option, Some, None, Result, Ok, Err, IsErr, IfErr, if◌then◌else◌}
 use Rattle.nz_lists.proofs.Tests.{told_false, told_true}
-use Rattle.nz_spec.specs.Fraction.{Fraction, Arithmetic, Operation, is_wide, first_wide}
+use Rattle.nz_fractions.specs.Fraction.{Fraction, Arithmetic, Operation, is_wide, first_wide}
 use Rattle.nz_frac.specs.declared.frac.Wide.{Wide}
 use Rattle.nz_delta.specs.Operations.{alone}
 use Rattle.nz_frac.specs.Operations.{operation_of}

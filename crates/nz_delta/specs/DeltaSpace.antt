@@ -6,9 +6,9 @@ use Rattle.std.specs.declared.cmp.Ordering.TheVariants.{Less, Equal, Greater}
 use Rattle.std.specs.Cmp.{IsTotalOrder}
 use Rattle.std.proofs.Common.{ap₂}
 use Rattle.std.proofs.lemmas.Cmp.{on_total, then_total}
-use Rattle.nz_spec.specs.Fraction.{Fraction, whole, fraction_cmp, outcome, Sum, Difference, Product, Operation}
+use Rattle.nz_fractions.specs.Fraction.{Fraction, whole, fraction_cmp, outcome, Sum, Difference, Product, Operation}
 use Rattle.nz_spec.specs.Infinitesimal.{Infinitesimal}
-use Rattle.nz_spec.proofs.FractionOrder.{fraction_cmp_total}
+use Rattle.nz_fractions.proofs.Order.{fraction_cmp_total}
 use Rattle.nz_delta.specs.declared.delta.Delta.{Delta}
 use Rattle.nz_delta.specs.Space.{IsOrderedSpace}
 use Rattle.nz_delta.specs.FractionSpace.{fraction_space}

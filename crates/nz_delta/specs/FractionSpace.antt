@@ -2,10 +2,10 @@
 use Rattle.std.specs.Prelude.{◌≡◌, pos}
 use Rattle.std.specs.declared.cmp.Ordering.TheVariants.{Equal}
 use Rattle.std.proofs.Common.{sym, ◌∙◌}
-use Rattle.nz_spec.specs.Fraction.{Fraction, whole, ◌=ℚ◌, ◌+ℚ◌, neg_ℚ, ◌*ℚ◌, fraction_cmp, outcome, Sum, Difference, Product}
-use Rattle.nz_spec.proofs.FractionLaws.{=ℚ_refl, =ℚ_sym, =ℚ_trans}
-use Rattle.nz_spec.proofs.FractionOrder.{fraction_cmp_total, fraction_cmp_is, fraction_ranked}
-use Rattle.nz_spec.proofs.FractionArithmetic.{outcome-sum, outcome-difference, outcome-product, +ℚ_comm, +ℚ_assoc, +ℚ-zero, +ℚ-neg, +ℚ-same, *ℚ_comm, *ℚ_assoc, *ℚ-one, *ℚ-+ℚ, *ℚ-same, cmp-same, cmp-+ℚ, cmp-*ℚ_pos, cmp-*ℚ_neg}
+use Rattle.nz_fractions.specs.Fraction.{Fraction, whole, ◌=ℚ◌, ◌+ℚ◌, neg_ℚ, ◌*ℚ◌, fraction_cmp, outcome, Sum, Difference, Product}
+use Rattle.nz_fractions.proofs.Laws.{=ℚ_refl, =ℚ_sym, =ℚ_trans}
+use Rattle.nz_fractions.proofs.Order.{fraction_cmp_total, fraction_cmp_is, fraction_ranked}
+use Rattle.nz_fractions.proofs.Arithmetic.{outcome-sum, outcome-difference, outcome-product, +ℚ_comm, +ℚ_assoc, +ℚ-zero, +ℚ-neg, +ℚ-same, *ℚ_comm, *ℚ_assoc, *ℚ-one, *ℚ-+ℚ, *ℚ-same, cmp-same, cmp-+ℚ, cmp-*ℚ_pos, cmp-*ℚ_neg}
 use Rattle.nz_delta.specs.Space.{IsOrderedSpace}
 
 pub tied : {p q : Fraction} → p =ℚ q → fraction_cmp p q ≡ Equal

@@ -1,6 +1,6 @@
 -- The operations on fractions that an operation takes, in order.
 use Rattle.std.specs.Prelude.{List, [], ◌∷◌}
-use Rattle.nz_spec.specs.Fraction.{Fraction, Arithmetic, Operation}
+use Rattle.nz_fractions.specs.Fraction.{Fraction, Arithmetic, Operation}
 
 -- one operation
 abbrev pub alone : Arithmetic → Fraction → Fraction → List Operation

@@ -1,6 +1,6 @@
 -- The operation that a refusal names.
 use Rattle.std.specs.Prelude.{Option, Some, None, Result, Ok, Err}
-use Rattle.nz_spec.specs.Fraction.{Operation}
+use Rattle.nz_fractions.specs.Fraction.{Operation}
 use Rattle.nz_frac.specs.Operations.{operation_of}
 use Rattle.nz_frac.specs.declared.frac.Wide.{Wide}
 

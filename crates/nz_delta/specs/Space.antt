@@ -3,7 +3,7 @@ use Rattle.std.specs.Prelude.{◌≡◌, pos}
 use Rattle.std.specs.declared.cmp.Ordering.{Ordering}
 use Rattle.std.specs.declared.cmp.Ordering.TheVariants.{Equal}
 use Rattle.std.specs.Cmp.{IsTotalOrder}
-use Rattle.nz_spec.specs.Fraction.{Fraction, whole, ◌=ℚ◌, ◌<ℚ◌, ◌+ℚ◌, ◌*ℚ◌}
+use Rattle.nz_fractions.specs.Fraction.{Fraction, whole, ◌=ℚ◌, ◌<ℚ◌, ◌+ℚ◌, ◌*ℚ◌}
 
 pub record IsOrderedSpace {V : Type 0} (zero : V) (plus minus : V → V → V) (scaled : V → Fraction → V) (order : V → V → Ordering) : Type 0 where
   pub ordered : IsTotalOrder order

@@ -1,12 +1,13 @@
 //! A fraction that can stand for δ.
 ghost use Rattle.std.specs.Prelude.{◌≡◌, IfOk, map, [], ◌∷◌, pos};
-ghost use Rattle.nz_spec.specs.Fraction.{outcome, Difference, Quotient, Fraction, whole, first_wide, ◌<ℚ◌, ◌≤ℚ◌, fraction_min};
+ghost use Rattle.nz_fractions.specs.Fraction.{outcome, Difference, Quotient, Fraction, whole, first_wide, ◌<ℚ◌, ◌≤ℚ◌, fraction_min};
 ghost use Rattle.nz_spec.specs.Infinitesimal.{AreOrdered, AreOrderedAt, IsLeastLimit, limit, limits, limit_operations, least_from, chosen_delta, delta_operations};
 ghost use Rattle.nz_delta.specs.Refused.{refused};
 ghost use Rattle.nz_delta.specs.Pairs.{pair_of};
 
 use crate::delta::Delta;
 use nz_frac::{Frac, Wide};
+use nz_spec::infinitesimal::chosen_deltas_serve;
 
 /// Where δ turns `low` and `high` round: (d-c)/(k-l) for c + k*δ and d + l*δ, with k above l.
 fn limit_of(low: &Delta, high: &Delta) -> Result<Frac, Wide>
@@ -53,6 +54,7 @@ pub fn choose_delta(pairs: &[(Delta, Delta)]) -> Result<Frac, Wide>
     ensures keeps_order { IfOk result (λ e. (d : Fraction) → whole (pos 0) <ℚ d → d ≤ℚ e → AreOrderedAt (map pair_of pairs.now) d) }
     ensures wide { refused result ≡ first_wide (delta_operations (map pair_of pairs.now)) }
 {
+    chosen_deltas_serve();
     let mut delta = Frac::whole(1);
     for pair in pairs {
         delta = tightened(delta, pair)?;

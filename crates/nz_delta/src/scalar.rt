@@ -9,7 +9,7 @@ use std::cmp::Ordering;
 pub trait Scalar: Copy {
     ghost use Rattle.std.specs.Prelude.{◌≡◌, List, IfOk};
     ghost use Rattle.std.specs.declared.cmp.Ordering.{Ordering};
-    ghost use Rattle.nz_spec.specs.Fraction.{Fraction, Operation, first_wide};
+    ghost use Rattle.nz_fractions.specs.Fraction.{Fraction, Operation, first_wide};
     ghost use Rattle.nz_delta.specs.Space.{IsOrderedSpace};
     ghost use Rattle.nz_delta.specs.Refused.{refused};
 
@@ -57,7 +57,7 @@ pub trait Scalar: Copy {
 
 impl Scalar for Frac {
     ghost use Rattle.std.specs.Prelude.{pos};
-    ghost use Rattle.nz_spec.specs.Fraction.{whole, outcome, Sum, Difference, Product, fraction_cmp};
+    ghost use Rattle.nz_fractions.specs.Fraction.{whole, outcome, Sum, Difference, Product, fraction_cmp};
     ghost use Rattle.nz_delta.specs.Operations.{alone};
     ghost use Rattle.nz_delta.specs.FractionSpace.{fraction_space};
 

@@ -6,6 +6,7 @@ use Rattle.std.proofs.lemmas.Bool.{leb-true, le-leb}
 use Rattle.std.proofs.lemmas.List.{length-append, take-append-le}
 use Rattle.std.proofs.lemmas.List.Elements.{All-contains, All-from_recursion, Contains-append_right, recursion_from_All}
 use Rattle.nz_lists.proofs.Elements.{AllByRecursion-weaker}
+use Rattle.nz_lists.proofs.Options.{kept_if}
 use Rattle.nz_spec.specs.Table.{Node, IsTable, TermStays, term_in}
 use Rattle.nz_spec.specs.Order.{post_order}
 use Rattle.nz_spec.specs.Decide.{asserted_numbers}
@@ -15,7 +16,6 @@ use Rattle.nz_log.specs.Sound.{live_at, LogsStay}
 use Rattle.nz_cform.specs.Covering.{origin_at}
 use Rattle.nz_cform.specs.Forms.{covered_at}
 use Rattle.nz_cform.specs.Laws.{CoversStay}
-use Rattle.nz_cform.proofs.Levels.{told_parts}
 use Rattle.nz_sat.specs.declared.clauses.Held.{Held}
 use Rattle.nz_sat.specs.Sats.{AreHeld, held_of, held_up_to}
 use Rattle.nz_engine.specs.Levels.{count_in, count_of}
@@ -30,6 +30,13 @@ none_or_some (Some x) = inr (x, refl)
 pub told_or : (o : Option ℕ) → (unwrap_or o 0 ≡ 0) ⊎ (o ≡ Some (unwrap_or o 0))
 told_or None = inl refl
 told_or (Some n) = inr refl
+
+-- what is kept of a level was told, at or below it
+told_parts : (level : ℕ) (o : Option ℕ) (n : ℕ) → told_below level o ≡ Some n → (o ≡ Some n) × (n ≤ level)
+told_parts level None n at = cc
+told_parts level (Some m) n at =
+    let k = kept_if (nat_le m level) m n at in
+    (ap Some k.0, subst (λ i. i ≤ level) k.0 (leb-true m level k.1))
 
 -- what one of some roots has is what one of more has
 pub made_of_more : (ns : List Node) (xs ys : List ℕ) (t : ℕ) → ((r : ℕ) → Contains xs r → Contains ys r) → IsMadeOf ns xs t → IsMadeOf ns ys t

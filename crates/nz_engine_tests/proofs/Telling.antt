@@ -8,8 +8,7 @@ use Rattle.std.proofs.Math.Seq.{take-append_seam}
 use Rattle.nz_spec.specs.Table.{Node}
 use Rattle.nz_spec.specs.Decide.{IsFrontOfTable, asserted_numbers, with_number}
 use Rattle.nz_engine.specs.Engines.{EngineState}
-use Rattle.nz_engine_tests.specs.Benches.{Extends, IsGatedAt, IsInOrder}
-use Rattle.nz_engine_tests.proofs.Growth.{ready_stays}
+use Rattle.nz_engine_tests.specs.Benches.{IsGatedAt, IsInOrder}
 
 numbers_added : (levels : List (List ℕ)) (i : ℕ) → 0 < length levels → asserted_numbers (with_number levels i) ≡ asserted_numbers levels ++ i ∷ []
 numbers_added [] i l = absurd (omega arith)
@@ -41,20 +40,20 @@ popped ns old new depth h l levels table =
         front = subst (λ t. IsFrontOfTable t ns) (sym table) h.ready.front;
       };
       deep = omega arith;
+      gated = h.gated;
     }
 
--- a term is asserted in a table that went on
-pub added : (ns ms : List Node) (old new : EngineState) (depth i : ℕ) → Extends ns ms → IsInOrder ns old depth → IsGatedAt ms i → new.levels ≡ with_number old.levels i → new.table ≡ old.table
-    → IsInOrder ms new depth
-added ns ms old new depth i e h g levels table =
+-- a term of the table is asserted
+pub added : (ns : List Node) (old new : EngineState) (depth i : ℕ) → IsInOrder ns old depth → i < length ns → new.levels ≡ with_number old.levels i → new.table ≡ old.table → IsInOrder ns new depth
+added ns old new depth i h within levels table =
     let deep : depth < length old.levels = h.deep in
-    let ready = ready_stays ns ms old e h.ready in
     let numbers : asserted_numbers new.levels ≡ asserted_numbers old.levels ++ i ∷ [] = ap asserted_numbers levels ∙ numbers_added old.levels i (omega arith) in
     let size : length new.levels ≡ length old.levels = ap length levels ∙ length_added old.levels i in
     record {
       ready = record {
-        asserted = subst (All (IsGatedAt ms)) (sym numbers) (All-push (IsGatedAt ms) (asserted_numbers old.levels) i ready.asserted g);
-        front = subst (λ t. IsFrontOfTable t ms) (sym table) ready.front;
+        asserted = subst (All (IsGatedAt ns)) (sym numbers) (All-push (IsGatedAt ns) (asserted_numbers old.levels) i h.ready.asserted (h.gated i within));
+        front = subst (λ t. IsFrontOfTable t ns) (sym table) h.ready.front;
       };
       deep = omega arith;
+      gated = h.gated;
     }

@@ -42,7 +42,8 @@ pub record BenchState : Type 0 where
   pub terms : List Node
   pub engine : EngineState
 
--- The engine is ready, and has more levels than are counted.
+-- The engine is ready, and has more levels than are counted. All terms are of the gate table.
 pub record IsInOrder (ns : List Node) (engine : EngineState) (depth : ℕ) : Type 0 where
   pub ready : IsReady ns engine
   pub deep : depth < length engine.levels
+  pub gated : (i : ℕ) → i < length ns → IsGatedAt ns i

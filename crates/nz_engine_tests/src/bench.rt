@@ -1,15 +1,18 @@
-//! An engine with its table, which is asked over formulas: it can be asked anything that these calls take.
-ghost use Rattle.std.specs.Prelude.{◌≡◌};
+//! An engine with its table. What a call asks of its arguments is tested here, so that the tests have nothing to prove: the bench's invariant
+//! is known to no other file.
+ghost use Rattle.std.specs.Prelude.{◌≡◌, ◌<◌, All, IsTrue};
+ghost use Rattle.std.specs.Bool.{OnTrue};
 ghost use Rattle.nz_spec.specs.Decide.{IsFrontOfTable};
-ghost use Rattle.nz_engine_tests.specs.Benches.{AreGatedLits, IsReady, are_consistent};
+ghost use Rattle.nz_spec.specs.Table.{HasItsArguments};
+ghost use Rattle.nz_spec.specs.Term.{head_fits};
+ghost use Rattle.nz_term.specs.Heads.{head_of};
+ghost use Rattle.nz_engine_tests.specs.Benches.{AreGatedLits, IsReady, IsRowAt, are_consistent};
 
-use crate::build::{constant, literals_of, term_of};
-use crate::formula::Part;
 use crate::reading::has;
-use nz_base::{Memory, Work};
+use nz_base::{Memory, Text, Work};
 use nz_engine::Engine;
 use nz_log::{Decide, Lit, Step, Stop, Verdict};
-use nz_term::{Assign, TermId, Terms, Value};
+use nz_term::{Assign, Constant, Head, Operator, Sort, TermId, Terms};
 use std::alloc::Global;
 use std::marker::Model;
 
@@ -40,15 +43,8 @@ pub enum Answer {
     /// The steps of a clause whose literals are negations of assumed ones.
     Unsat(Vec<Step>),
     Spent,
-    /// The engine can't be asked: what is assumed is no formula, or one literal of it is the negation of another.
+    /// The engine can't be asked: what is assumed is of no term, or one literal of it is the negation of another.
     Unasked,
-}
-
-/// An answer, and the literals that were assumed.
-#[derive(Debug, Drop)]
-pub struct Checked {
-    pub assumed: Vec<Lit>,
-    pub answer: Answer,
 }
 
 impl Bench {
@@ -69,6 +65,41 @@ impl Bench {
         &self.terms
     }
 
+    /// The term of a head of the gate table over these terms. There is none where one of them isn't of the table of terms.
+    fn put(&mut self, head: Head<'_>, kids: &[TermId]) -> Result<Option<TermId>, Memory>
+        requires row { IsRowAt self.old.terms (head_of head) kids.now }
+        requires fits { IsTrue (head_fits (head_of head)) }
+        requires leaves { HasItsArguments (head_of head) kids.now }
+    {
+        if !are_below(kids, self.terms.len()) {
+            return Ok(None);
+        }
+        Ok(Some(self.terms.make(head, kids)?))
+    }
+
+    /// The constant of a number.
+    pub fn constant(&mut self, number: usize) -> Result<Option<TermId>, Memory> {
+        let name = format!(in self.alloc; "p{number}")?;
+        let constant = Constant {
+            name: Text::from_slice(self.alloc, name.as_bytes())?,
+            sort: Sort::Bool,
+        };
+        self.put(Head::Constant(&constant), &[])
+    }
+
+    /// The term of an operator over these terms, where that is of the gate table.
+    pub fn make(&mut self, operator: Operator, kids: &[TermId]) -> Result<Option<TermId>, Memory> {
+        let head = Head::Operator(operator);
+        match (operator, kids) {
+            (Operator::True | Operator::False, []) => self.put(head, &[]),
+            (Operator::And | Operator::Or, _) => self.put(head, kids),
+            (Operator::Not, [a]) => self.put(head, &[*a]),
+            (Operator::Xor | Operator::Equal, [a, b]) => self.put(head, &[*a, *b]),
+            (Operator::Ite(Sort::Bool), [c, a, b]) => self.put(head, &[*c, *a, *b]),
+            _ => Ok(None),
+        }
+    }
+
     /// Begins a level.
     pub fn push(&mut self) -> Result<(), Memory> {
         self.engine.push()?;
@@ -84,47 +115,46 @@ impl Bench {
         }
     }
 
-    /// Asserts a formula. Answers its term.
-    pub fn assert(&mut self, formula: &[Part]) -> Result<Option<TermId>, Memory> {
-        let term = term_of(self.alloc, &mut self.terms, formula)?;
-        if let Some(term) = term {
-            self.engine.add(term)?;
+    /// Asserts a term. Answers whether it is of the table of terms.
+    pub fn assert(&mut self, term: TermId) -> Result<bool, Memory> {
+        if self.terms.len() <= term {
+            return Ok(false);
         }
-        Ok(term)
+        self.engine.add(term)?;
+        Ok(true)
     }
 
-    /// Asks whether what is asserted and these formulas can all be true, with so many units.
-    pub fn check(&mut self, assumed: &[&'static [Part]], units: u64) -> Result<Checked, Memory> {
-        let literals = literals_of(self.alloc, &mut self.terms, assumed)?;
-        match literals {
-            Some(assumed) => {
-                let answer = ask(self.alloc, &self.terms, &mut self.engine, &assumed, units)?;
-                Ok(Checked { assumed, answer })
-            }
-            None => Ok(Checked {
-                assumed: Vec::new(self.alloc),
-                answer: Answer::Unasked,
-            }),
+    /// Asks whether what is asserted and these literals can all be true, with so many units.
+    pub fn check(&mut self, assumed: &[Lit], units: u64) -> Result<Answer, Memory> {
+        if !name_below(assumed, self.terms.len()) {
+            return Ok(Answer::Unasked);
         }
-    }
-
-    /// The truths that values give the first constants, so many of them.
-    pub fn truths(&mut self, values: &Assign, count: usize) -> Result<Vec<bool>, Memory> {
-        let mut truths = Vec::new(self.alloc);
-        for number in 0..count {
-            let term = constant(self.alloc, &mut self.terms, number)?;
-            truths.push(is_true(values, term))?;
-        }
-        Ok(truths)
+        ask(self.alloc, &self.terms, &mut self.engine, assumed, units)
     }
 }
 
-/// Whether values make a constant true.
-fn is_true(values: &Assign, term: TermId) -> bool {
-    match values.value(term) {
-        Some(Value::Truth(truth)) => truth,
-        _ => false,
+/// Whether each of these is below this number.
+fn are_below(terms: &[TermId], count: usize) -> bool
+    ensures below { OnTrue result (All (λ t. t < count) terms.now) }
+{
+    for i in 0..terms.len() {
+        if count <= terms[i] {
+            return false;
+        }
     }
+    true
+}
+
+/// Whether these literals name terms below this number.
+fn name_below(literals: &[Lit], count: usize) -> bool
+    ensures below { OnTrue result (All (λ l. l.term < count) literals.now) }
+{
+    for i in 0..literals.len() {
+        if count <= literals[i].term {
+            return false;
+        }
+    }
+    true
 }
 
 /// Whether no literal of these is the negation of one of them.

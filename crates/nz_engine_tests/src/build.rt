@@ -1,40 +1,11 @@
 //! The terms of formulas, which are of the gate table.
-ghost use Rattle.std.specs.Prelude.{All, IfOk, IfSome, IsTrue};
-ghost use Rattle.nz_spec.specs.Table.{HasItsArguments};
-ghost use Rattle.nz_spec.specs.Term.{head_fits};
-ghost use Rattle.nz_term.specs.Heads.{head_of};
-ghost use Rattle.nz_engine_tests.specs.Benches.{AreGatedLits, Extends, IsGatedAt, IsRowAt};
 
+use crate::bench::Bench;
 use crate::formula::Part;
-use nz_base::{Memory, Text};
+use nz_base::Memory;
 use nz_log::Lit;
-use nz_term::{Constant, Head, Operator, Sort, TermId, Terms};
+use nz_term::{Operator, Sort, TermId};
 use std::alloc::Global;
-
-/// The term of a head of the gate table over these terms.
-fn make(terms: &mut Terms, head: Head<'_>, kids: &[TermId]) -> Result<TermId, Memory>
-    requires kids { All (IsGatedAt terms.old) kids.now }
-    requires row { IsRowAt terms.old (head_of head) kids.now }
-    requires fits { IsTrue (head_fits (head_of head)) }
-    requires leaves { HasItsArguments (head_of head) kids.now }
-    ensures gated { IfOk result (IsGatedAt terms.new) }
-    ensures extends { Extends terms.old terms.new }
-{
-    terms.make(head, kids)
-}
-
-/// The constant of a number.
-pub fn constant(alloc: Global, terms: &mut Terms, number: usize) -> Result<TermId, Memory>
-    ensures gated { IfOk result (IsGatedAt terms.new) }
-    ensures extends { Extends terms.old terms.new }
-{
-    let name = format!(in alloc; "p{number}")?;
-    let constant = Constant {
-        name: Text::from_slice(alloc, name.as_bytes())?,
-        sort: Sort::Bool,
-    };
-    make(terms, Head::Constant(&constant), &[])
-}
 
 /// How many arguments a part has.
 fn arity(part: Part) -> usize {
@@ -47,61 +18,28 @@ fn arity(part: Part) -> usize {
     }
 }
 
-/// The term of a part over these arguments.
-fn term_over(
-    alloc: Global,
-    terms: &mut Terms,
-    part: Part,
-    kids: &[TermId],
-) -> Result<Option<TermId>, Memory>
-    requires kids { All (IsGatedAt terms.old) kids.now }
-    ensures gated { IfOk result (λ o. IfSome o (IsGatedAt terms.new)) }
-    ensures extends { Extends terms.old terms.new }
-{
-    match part {
-        Part::Atom(number) => Ok(Some(constant(alloc, terms, number)?)),
-        Part::True => Ok(Some(make(terms, Head::Operator(Operator::True), &[])?)),
-        Part::False => Ok(Some(make(terms, Head::Operator(Operator::False), &[])?)),
-        Part::And(_) => Ok(Some(make(terms, Head::Operator(Operator::And), kids)?)),
-        Part::Or(_) => Ok(Some(make(terms, Head::Operator(Operator::Or), kids)?)),
-        Part::Not => match kids {
-            [a] => Ok(Some(make(terms, Head::Operator(Operator::Not), &[*a])?)),
-            _ => Ok(None),
-        },
-        Part::Xor => match kids {
-            [a, b] => Ok(Some(make(terms, Head::Operator(Operator::Xor), &[*a, *b])?)),
-            _ => Ok(None),
-        },
-        Part::Equal => match kids {
-            [a, b] => Ok(Some(make(terms, Head::Operator(Operator::Equal), &[*a, *b])?)),
-            _ => Ok(None),
-        },
-        Part::Ite => match kids {
-            [c, a, b] => Ok(Some(make(
-                terms,
-                Head::Operator(Operator::Ite(Sort::Bool)),
-                &[*c, *a, *b],
-            )?)),
-            _ => Ok(None),
-        },
-    }
+/// The term of a part over these arguments, if it has as many.
+fn term_over(bench: &mut Bench, part: Part, kids: &[TermId]) -> Result<Option<TermId>, Memory> {
+    let operator = match part {
+        Part::Atom(number) => return bench.constant(number),
+        Part::True => Operator::True,
+        Part::False => Operator::False,
+        Part::Not => Operator::Not,
+        Part::And(_) => Operator::And,
+        Part::Or(_) => Operator::Or,
+        Part::Xor => Operator::Xor,
+        Part::Equal => Operator::Equal,
+        Part::Ite => Operator::Ite(Sort::Bool),
+    };
+    bench.make(operator, kids)
 }
 
 /// Puts the term of a part in the place of the last terms of the stack, which are its arguments. Answers whether there were as many.
-fn step(
-    alloc: Global,
-    terms: &mut Terms,
-    part: Part,
-    stack: &mut Vec<TermId>,
-) -> Result<bool, Memory>
-    requires stack { All (IsGatedAt terms.old) stack.old.items }
-    ensures stack { All (IsGatedAt terms.new) stack.new.items }
-    ensures extends { Extends terms.old terms.new }
-{
+fn step(bench: &mut Bench, part: Part, stack: &mut Vec<TermId>) -> Result<bool, Memory> {
     let Some(first) = stack.len().checked_sub(arity(part)) else {
         return Ok(false);
     };
-    let term = term_over(alloc, terms, part, &stack[first..])?;
+    let term = term_over(bench, part, &stack[first..])?;
     stack.truncate(first);
     match term {
         Some(term) => {
@@ -113,13 +51,14 @@ fn step(
 }
 
 /// The term of a formula. A list that is no formula has none.
-pub fn term_of(alloc: Global, terms: &mut Terms, formula: &[Part]) -> Result<Option<TermId>, Memory>
-    ensures gated { IfOk result (λ o. IfSome o (IsGatedAt terms.new)) }
-    ensures extends { Extends terms.old terms.new }
-{
+pub fn term_of(
+    alloc: Global,
+    bench: &mut Bench,
+    formula: &[Part],
+) -> Result<Option<TermId>, Memory> {
     let mut stack = Vec::new(alloc);
     for part in formula {
-        if !step(alloc, terms, *part, &mut stack)? {
+        if !step(bench, *part, &mut stack)? {
             return Ok(None);
         }
     }
@@ -128,34 +67,24 @@ pub fn term_of(alloc: Global, terms: &mut Terms, formula: &[Part]) -> Result<Opt
 }
 
 /// The literal that a formula is true: of one that ends with `Not`, that the rest is false.
-fn literal_of(alloc: Global, terms: &mut Terms, formula: &[Part]) -> Result<Option<Lit>, Memory>
-    ensures gated { IfOk result (λ o. IfSome o (λ l. IsGatedAt terms.new l.term)) }
-    ensures extends { Extends terms.old terms.new }
-{
-    if let Some((Part::Not, front)) = formula.split_last() {
-        return match term_of(alloc, terms, front)? {
-            Some(term) => Ok(Some(Lit::fails(term))),
-            None => Ok(None),
-        };
-    }
-    match term_of(alloc, terms, formula)? {
-        Some(term) => Ok(Some(Lit::holds(term))),
-        None => Ok(None),
-    }
+fn literal_of(alloc: Global, bench: &mut Bench, formula: &[Part]) -> Result<Option<Lit>, Memory> {
+    let (formula, sign) = match formula.split_last() {
+        Some((Part::Not, front)) => (front, false),
+        _ => (formula, true),
+    };
+    let term = term_of(alloc, bench, formula)?;
+    Ok(term.map(|term| Lit { term, sign }))
 }
 
 /// The literals that these formulas are true.
 pub fn literals_of(
     alloc: Global,
-    terms: &mut Terms,
+    bench: &mut Bench,
     formulas: &[&'static [Part]],
-) -> Result<Option<Vec<Lit>>, Memory>
-    ensures gated { IfOk result (λ o. IfSome o (λ v. AreGatedLits terms.new v.items)) }
-    ensures extends { Extends terms.old terms.new }
-{
+) -> Result<Option<Vec<Lit>>, Memory> {
     let mut literals = Vec::new(alloc);
     for formula in formulas {
-        match literal_of(alloc, terms, formula)? {
+        match literal_of(alloc, bench, formula)? {
             Some(literal) => literals.push(literal)?,
             None => return Ok(None),
         }

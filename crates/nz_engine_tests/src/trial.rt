@@ -1,11 +1,12 @@
 //! A problem under way, whose answers are tried by the tests' own code.
 
-use crate::bench::{Answer, Bench, Checked};
+use crate::bench::{Answer, Bench};
+use crate::build::{literals_of, term_of};
 use crate::formula::{Part, value};
 use crate::reading::{has, last_clause};
 use nz_base::Memory;
 use nz_log::{Lit, Step};
-use nz_term::{Assign, TermId};
+use nz_term::{Assign, TermId, Value};
 use std::alloc::Global;
 use std::test::Fail;
 
@@ -72,7 +73,10 @@ impl Trial {
 
     /// Asserts a formula.
     pub fn assert(&mut self, formula: &[Part]) -> Result<(), Fail> {
-        let term = self.bench.assert(formula)?.ok_or("no formula")?;
+        let term = term_of(self.alloc, &mut self.bench, formula)?.ok_or("no formula")?;
+        if !self.bench.assert(term)? {
+            return Err(Fail::new("no term of the table"));
+        }
         let formula = Vec::from_slice(self.alloc, formula)?;
         self.asserted.push(Asserted { formula, term })?;
         Ok(())
@@ -80,26 +84,30 @@ impl Trial {
 
     /// Asks whether what is asserted and assumed can all be true, with so many units, and tries the answer.
     fn ask(&mut self, assumed: &[&'static [Part]], units: u64) -> Result<Tried, Fail> {
-        let Checked {
-            assumed: literals,
-            answer,
-        } = self.bench.check(assumed, units)?;
-        match answer {
-            Answer::Sat(values) => {
-                if !self.is_model(assumed, &values)? {
-                    return Err(Fail::new("a model doesn't make a formula true"));
-                }
-                Ok(Tried::Sat)
-            }
-            Answer::Unsat(steps) => {
-                if !self.is_refutation(&literals, &steps)? {
-                    return Err(Fail::new("steps don't derive negations of assumed literals"));
-                }
-                Ok(Tried::Unsat)
-            }
+        let literals = literals_of(self.alloc, &mut self.bench, assumed)?.ok_or("no formulas")?;
+        match self.bench.check(&literals, units)? {
+            Answer::Sat(values) => self.try_model(assumed, &values),
+            Answer::Unsat(steps) => self.try_refutation(&literals, &steps),
             Answer::Spent => Ok(Tried::Spent),
             Answer::Unasked => Err(Fail::new("the engine can't be asked")),
         }
+    }
+
+    /// Fails where these values don't make each asserted and each assumed formula true.
+    fn try_model(&mut self, assumed: &[&'static [Part]], values: &Assign) -> Result<Tried, Fail> {
+        let truths = truths_of(self.alloc, &mut self.bench, values, self.constants)?;
+        if !self.are_true(&truths)? || !are_all_true(self.alloc, assumed, &truths)? {
+            return Err(Fail::new("a model doesn't make a formula true"));
+        }
+        Ok(Tried::Sat)
+    }
+
+    /// Fails where these aren't steps of a clause whose literals are negations of these.
+    fn try_refutation(&self, literals: &[Lit], steps: &[Step]) -> Result<Tried, Fail> {
+        if !self.is_refutation(literals, steps)? {
+            return Err(Fail::new("steps don't derive negations of assumed literals"));
+        }
+        Ok(Tried::Unsat)
     }
 
     /// Asks so, and fails where another answer comes than is wanted at this place of a test.
@@ -131,16 +139,10 @@ impl Trial {
         self.expect(place, assumed, 1000, wanted)
     }
 
-    /// Whether these values make each asserted and each assumed formula true.
-    fn is_model(&mut self, assumed: &[&'static [Part]], values: &Assign) -> Result<bool, Memory> {
-        let truths = self.bench.truths(values, self.constants)?;
+    /// Whether each asserted formula is true where the constants have these truths.
+    fn are_true(&self, truths: &[bool]) -> Result<bool, Memory> {
         for asserted in &self.asserted {
-            if value(self.alloc, &asserted.formula, &truths)? != Some(true) {
-                return Ok(false);
-            }
-        }
-        for formula in assumed {
-            if value(self.alloc, formula, &truths)? != Some(true) {
+            if value(self.alloc, &asserted.formula, truths)? != Some(true) {
                 return Ok(false);
             }
         }
@@ -158,5 +160,42 @@ impl Trial {
             Some(clause) => clause.iter().all(|literal| has(literals, literal.not())),
             None => false,
         })
+    }
+}
+
+/// Whether each of these formulas is true where the constants have these truths.
+fn are_all_true(
+    alloc: Global,
+    formulas: &[&'static [Part]],
+    truths: &[bool],
+) -> Result<bool, Memory> {
+    for formula in formulas {
+        if value(alloc, formula, truths)? != Some(true) {
+            return Ok(false);
+        }
+    }
+    Ok(true)
+}
+
+/// The truths that values give the first constants, so many of them.
+fn truths_of(
+    alloc: Global,
+    bench: &mut Bench,
+    values: &Assign,
+    count: usize,
+) -> Result<Vec<bool>, Memory> {
+    let mut truths = Vec::new(alloc);
+    for number in 0..count {
+        let constant = bench.constant(number)?;
+        truths.push(is_true(values, constant))?;
+    }
+    Ok(truths)
+}
+
+/// Whether values make a constant true.
+fn is_true(values: &Assign, constant: Option<TermId>) -> bool {
+    match constant {
+        Some(term) => matches!(values.value(term), Some(Value::Truth(true))),
+        None => false,
     }
 }

@@ -2,7 +2,7 @@
 use Rattle.std.proofs.Common.{◌≡◌, true, false, IsTrue, pos, Some, None, refl, sym, ap, ◌∙◌, subst, Result, Ok, Err}
 use Rattle.std.specs.Prelude.{◌↔◌, IsErr, IfOk, IfErr}
 use Rattle.nz_lists.proofs.Tests.{told_false}
-use Rattle.nz_spec.specs.Fraction.{Fraction, Arithmetic, Quotient, first_wide, is_wide, outcome, whole}
+use Rattle.nz_fractions.specs.Fraction.{Fraction, Arithmetic, Quotient, first_wide, is_wide, outcome, whole}
 use Rattle.nz_spec.specs.Operations.{operation_on}
 use Rattle.nz_spec.specs.Term.{carried_out, number, is_undefined, is_zero, whole_number}
 use Rattle.nz_frac.specs.Operations.{IsCarriedOut, IsStopped, operation_of, operator_of}

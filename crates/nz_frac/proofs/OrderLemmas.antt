@@ -6,9 +6,9 @@ use Rattle.std.proofs.lemmas.Int.{ints}
 use Rattle.std.specs.Int.{w128}
 use Rattle.nz_ints.proofs.Sizes.{cast-back}
 use Rattle.nz_ints.proofs.Products.{mul-lt-mul_pos}
-use Rattle.nz_spec.specs.Fraction.{Fraction, denominator, fraction_cmp, fraction_eq}
-use Rattle.nz_spec.proofs.FractionLaws.{denominator_pos, IsLowest, lowest-same}
-use Rattle.nz_spec.proofs.FractionOrder.{same-fraction_eq, fraction_eq-same}
+use Rattle.nz_fractions.specs.Fraction.{Fraction, denominator, fraction_cmp, fraction_eq}
+use Rattle.nz_fractions.proofs.Laws.{denominator_pos, IsLowest, lowest-same}
+use Rattle.nz_fractions.proofs.Order.{same-fraction_eq, fraction_eq-same}
 use Rattle.nz_frac.specs.Parts.{AreParts, value_of}
 use Rattle.nz_frac.proofs.PartLemmas.{den_is, num_is, lowest-from_parts}
 

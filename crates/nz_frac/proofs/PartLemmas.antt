@@ -4,8 +4,8 @@ use Rattle.std.proofs.lemmas.Int.{to_z_pos}
 use Rattle.std.specs.Int.{w128, ◌∣◌}
 use Rattle.std.proofs.Math.Nat.{div-mul_cancel}
 use Rattle.nz_ints.proofs.Sizes.{cast-back, factor_pos, unsigned_abs-neg, zero_minus}
-use Rattle.nz_spec.specs.Fraction.{Fraction, denominator, over, gcd, largest, neg_ℚ, reduce, IsNumber}
-use Rattle.nz_spec.proofs.FractionLaws.{denominator-over, reduce-lowest_is, IsLowest}
+use Rattle.nz_fractions.specs.Fraction.{Fraction, denominator, over, gcd, largest, neg_ℚ, reduce, IsNumber}
+use Rattle.nz_fractions.proofs.Laws.{denominator-over, reduce-lowest_is, IsLowest}
 use Rattle.nz_frac.specs.Parts.{AreParts, with_sign, value_of}
 
 -- ---- casts

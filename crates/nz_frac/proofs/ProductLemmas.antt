@@ -9,9 +9,9 @@ use Rattle.nz_ints.proofs.Sizes.{abs_pos, cast-back, unsigned_abs-neg}
 use Rattle.nz_ints.proofs.Ring.{Atom, ◌⊗◌, Minus, solve}
 use Rattle.nz_ints.proofs.Divisors.{gcd-dvd_left, gcd-dvd_right, gcd_comm, gcd_pos, gcd-one, gcd-left, gcd-right, coprime-rests, coprime-mul, coprime-dvd}
 use Rattle.nz_ints.proofs.Rounding.{int_div-mul_cancel, unsigned_abs-int_div}
-use Rattle.nz_spec.specs.Fraction.{Fraction, denominator, over, whole, gcd, largest, exceeds, ◌=ℚ◌, ◌*ℚ◌, ◌/ℚ◌, flipped, reciprocal, reduce, ratio, is_wide_product, outcome, exact, Product, IsNumber}
-use Rattle.nz_spec.proofs.FractionArithmetic.{numerator-product, denominator-product}
-use Rattle.nz_spec.proofs.FractionLaws.{denominator_pos, denominator-over, numerator-over, reduce-is, reduce-lowest, IsLowest}
+use Rattle.nz_fractions.specs.Fraction.{Fraction, denominator, over, whole, gcd, largest, exceeds, ◌=ℚ◌, ◌*ℚ◌, ◌/ℚ◌, flipped, reciprocal, reduce, ratio, is_wide_product, outcome, exact, Product, IsNumber}
+use Rattle.nz_fractions.proofs.Arithmetic.{numerator-product, denominator-product}
+use Rattle.nz_fractions.proofs.Laws.{denominator_pos, denominator-over, numerator-over, reduce-is, reduce-lowest, IsLowest}
 use Rattle.nz_frac.specs.Parts.{AreParts, value_of, with_sign, differ}
 use Rattle.nz_frac.proofs.PartLemmas.{with_sign-div, unsigned_abs-with_sign, den_is, num_is, lowest-from_parts, number-from_parts, Answers, answers-from_over, div_pos}
 use Rattle.nz_frac.proofs.SumLemmas.{within, exceeds-within, reduce-over}

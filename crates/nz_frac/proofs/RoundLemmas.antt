@@ -4,8 +4,8 @@ use Rattle.std.specs.Int.{w128}
 use Rattle.std.proofs.lemmas.Int.{ints}
 use Rattle.nz_ints.proofs.Sizes.{abs_pos, cast-back, unsigned_abs-neg, zero_minus}
 use Rattle.nz_ints.proofs.Divisors.{gcd-one, gcd_comm}
-use Rattle.nz_spec.specs.Fraction.{Fraction, denominator, over, whole, gcd, largest, neg_ℚ, floor_div, floor, ceiling, flipped, reciprocal}
-use Rattle.nz_spec.proofs.FractionLaws.{denominator-over, numerator-over}
+use Rattle.nz_fractions.specs.Fraction.{Fraction, denominator, over, whole, gcd, largest, neg_ℚ, floor_div, floor, ceiling, flipped, reciprocal}
+use Rattle.nz_fractions.proofs.Laws.{denominator-over, numerator-over}
 use Rattle.nz_frac.specs.Parts.{AreParts, value_of, with_sign}
 use Rattle.nz_frac.proofs.PartLemmas.{cast_natural, unsigned_abs-with_sign, den_is, num_is, Answers, answers-from_over}
 

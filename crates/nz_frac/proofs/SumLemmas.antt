@@ -10,9 +10,9 @@ use Rattle.nz_ints.proofs.Ring.{Atom, ◌⊕◌, ◌⊗◌, Minus, solve}
 use Rattle.nz_ints.proofs.Divisors.{gcd-dvd_left, gcd-dvd_right, dvd-gcd, gcd_comm, gcd_pos, gcd-one, gcd-left, gcd-right, coprime-rests, coprime-mul, coprime-dvd, gcd-mul_coprime}
 use Rattle.nz_ints.proofs.Multiples.{lcm-div_left, lcm-div_right}
 use Rattle.nz_ints.proofs.Rounding.{int_div-mul_cancel, unsigned_abs-int_div}
-use Rattle.nz_spec.specs.Fraction.{Fraction, denominator, over, gcd, lcm, largest, exceeds, ◌=ℚ◌, ◌+ℚ◌, reduce, is_wide_sum, outcome, exact, Sum}
-use Rattle.nz_spec.proofs.FractionArithmetic.{numerator-sum, denominator-sum}
-use Rattle.nz_spec.proofs.FractionLaws.{denominator_pos, denominator-over, numerator-over, reduce-alike, reduce-lowest, IsLowest}
+use Rattle.nz_fractions.specs.Fraction.{Fraction, denominator, over, gcd, lcm, largest, exceeds, ◌=ℚ◌, ◌+ℚ◌, reduce, is_wide_sum, outcome, exact, Sum}
+use Rattle.nz_fractions.proofs.Arithmetic.{numerator-sum, denominator-sum}
+use Rattle.nz_fractions.proofs.Laws.{denominator_pos, denominator-over, numerator-over, reduce-alike, reduce-lowest, IsLowest}
 use Rattle.nz_frac.specs.Parts.{AreParts, value_of}
 use Rattle.nz_frac.proofs.PartLemmas.{den_is, num_is, lowest-from_parts, Answers, answers-from_over, div_pos}
 

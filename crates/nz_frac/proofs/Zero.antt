@@ -2,7 +2,7 @@
 use Rattle.std.proofs.Common.{◌≡◌, suc, false, pos, ◌*ℤ◌, sym, ap, ◌∙◌, true≢false}
 use Rattle.std.proofs.Math.IntN.{zero-*ℤ}
 use Rattle.std.proofs.lemmas.Bool.Decides.{Decides-int_eq}
-use Rattle.nz_spec.specs.Fraction.{Fraction, denominator, fraction_eq}
+use Rattle.nz_fractions.specs.Fraction.{Fraction, denominator, fraction_eq}
 use Rattle.nz_spec.specs.Term.{is_zero}
 
 -- a number whose numerator is 0 is zero

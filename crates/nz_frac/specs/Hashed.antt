@@ -2,8 +2,8 @@
 use Rattle.std.specs.Prelude.{◌≡◌, ℕ, List, ◌++◌, IsTrue}
 use Rattle.std.specs.Hash as fed
 use Rattle.std.proofs.Common.{ap}
-use Rattle.nz_spec.specs.Fraction.{Fraction, denominator, reduce, fraction_eq}
-use Rattle.nz_spec.proofs.FractionOrder.{reduce-fraction_eq}
+use Rattle.nz_fractions.specs.Fraction.{Fraction, denominator, reduce, fraction_eq}
+use Rattle.nz_fractions.proofs.Order.{reduce-fraction_eq}
 
 abbrev pub parts_written : Fraction → List (List ℕ)
 parts_written q = fed.i128 q.numerator ++ fed.u128 (denominator q)

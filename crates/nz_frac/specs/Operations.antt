@@ -1,7 +1,7 @@
 -- What the code's operations are.
 use Rattle.std.specs.Prelude.{◌≡◌, Some, None}
-use Rattle.nz_spec.specs.Fraction as fraction
-use Rattle.nz_spec.specs.Fraction.{Fraction, Arithmetic, first_wide}
+use Rattle.nz_fractions.specs.Fraction as fraction
+use Rattle.nz_fractions.specs.Fraction.{Fraction, Arithmetic, first_wide}
 use Rattle.nz_spec.specs.Operations.{operation_on}
 use Rattle.nz_spec.specs.Term.{carried_out, number}
 use Rattle.nz_frac.specs.declared.frac.Op.{Op}

@@ -1,7 +1,7 @@
 -- What a `Frac` holds: a numerator and a denominator that are those of a number.
 use Rattle.std.specs.Prelude.{◌≡◌, ℕ, zero, suc, pred, ◌<◌, ◌≤◌, Bool, true, false, not, ℤ, pos, neg_ℤ, unsigned_abs}
 use Rattle.std.proofs.Common.{arith, refl, ap}
-use Rattle.nz_spec.specs.Fraction.{Fraction, gcd, largest}
+use Rattle.nz_fractions.specs.Fraction.{Fraction, gcd, largest}
 use Rattle.nz_frac.specs.declared.frac.Frac.TheInside.{Inside}
 
 -- num / den is in lowest terms, and both are at most M

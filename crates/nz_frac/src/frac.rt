@@ -1,7 +1,7 @@
 //! The fraction itself: its constructor, its operations and its order.
 ghost use Rattle.std.specs.Prelude.{◌≡◌, ◌≢◌, ◌*◌, ◌<◌, ◌≤◌, ◌↔◌, IsTrue, IsFalse, IsSome, IfSome, IfOk, false, IsErr, IfErr, pos, ◌+ℤ◌, ◌*ℤ◌, unsigned_abs, int_div};
 ghost use Rattle.std.specs.Option.{SomeIff};
-ghost use Rattle.nz_spec.specs.Fraction.{floor_div, largest, denominator, whole, neg_ℚ, floor, ceiling, ratio, reciprocal, IsNumber, fraction_cmp, Sum, Difference, Product, Quotient, outcome, is_wide, is_wide_sum, is_wide_product};
+ghost use Rattle.nz_fractions.specs.Fraction.{floor_div, largest, denominator, over, whole, neg_ℚ, floor, ceiling, ratio, reciprocal, IsNumber, fraction_cmp, Sum, Difference, Product, Quotient, outcome, is_wide, is_wide_sum, is_wide_product};
 ghost use Rattle.nz_spec.specs.Term.{is_zero};
 ghost use Rattle.nz_frac.specs.Parts.{with_sign, differ};
 
@@ -44,7 +44,7 @@ pub struct Frac {
 
 impl Model for Frac {
     ghost use Rattle.std.specs.Prelude.{suc, pred};
-    ghost use Rattle.nz_spec.specs.Fraction.{Fraction};
+    ghost use Rattle.nz_fractions.specs.Fraction.{Fraction};
     ghost use Rattle.nz_frac.specs.Parts.{AreParts, parts_back};
 
     ghost Value = { Fraction };
@@ -143,6 +143,16 @@ impl Frac {
             num: signed(differ(num < 0, den < 0), size),
             den: below,
         })
+    }
+
+    /// `1 / den`; None where `den` is 0 or above M.
+    pub fn one_over(den: u128) -> Option<Frac>
+        ensures { SomeIff result ((0 < den) × (den ≤ largest)) (over (pos 1) den) }
+    {
+        if den == 0 || den > LARGEST {
+            return None;
+        }
+        Some(Frac { num: 1, den })
     }
 
     /// An integer of at most 64 bits.
@@ -372,8 +382,8 @@ impl Frac {
 }
 
 impl PartialEq for Frac {
-    ghost use Rattle.nz_spec.specs.Fraction.{fraction_eq};
-    ghost use Rattle.nz_spec.proofs.FractionOrder.{fraction_eq_partial};
+    ghost use Rattle.nz_fractions.specs.Fraction.{fraction_eq};
+    ghost use Rattle.nz_fractions.proofs.Order.{fraction_eq_partial};
 
     ghost eq = { fraction_eq };
 
@@ -385,15 +395,15 @@ impl PartialEq for Frac {
 }
 
 impl Eq for Frac {
-    ghost use Rattle.nz_spec.proofs.FractionOrder.{fraction_eq_equiv};
+    ghost use Rattle.nz_fractions.proofs.Order.{fraction_eq_equiv};
 
     ghost laws = { fraction_eq_equiv };
 }
 
 impl PartialOrd for Frac {
     ghost use Rattle.std.specs.Ordering.{as_partial_cmp};
-    ghost use Rattle.nz_spec.specs.Fraction.{fraction_cmp};
-    ghost use Rattle.nz_spec.proofs.FractionOrder.{fraction_cmp_partial};
+    ghost use Rattle.nz_fractions.specs.Fraction.{fraction_cmp};
+    ghost use Rattle.nz_fractions.proofs.Order.{fraction_cmp_partial};
 
     ghost partial_cmp = { as_partial_cmp fraction_cmp };
 
@@ -406,8 +416,8 @@ impl PartialOrd for Frac {
 
 impl Ord for Frac {
     ghost use Rattle.std.specs.Prelude.{refl};
-    ghost use Rattle.nz_spec.specs.Fraction.{fraction_cmp};
-    ghost use Rattle.nz_spec.proofs.FractionOrder.{fraction_cmp_total, fraction_eq-cmp};
+    ghost use Rattle.nz_fractions.specs.Fraction.{fraction_cmp};
+    ghost use Rattle.nz_fractions.proofs.Order.{fraction_cmp_total, fraction_eq-cmp};
 
     ghost cmp = { fraction_cmp };
 

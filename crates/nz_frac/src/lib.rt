@@ -10,3 +10,4 @@ mod magnitude;
 mod operation;
 
 pub use frac::{Frac, Op, Wide};
+pub use magnitude::greatest_divisor;

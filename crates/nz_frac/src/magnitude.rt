@@ -3,7 +3,7 @@
 ghost use Rattle.std.specs.Prelude.{◌≡◌, ◌+◌, ◌*◌, ◌/◌, ◌^◌, ◌<◌, ◌≤◌, IsTrue, IsFalse};
 ghost use Rattle.std.specs.Option.{SomeIff};
 ghost use Rattle.std.specs.Ordering.{nat_cmp};
-ghost use Rattle.nz_spec.specs.Fraction.{gcd, largest};
+ghost use Rattle.nz_fractions.specs.Fraction.{gcd, largest};
 
 use std::cmp::Ordering;
 

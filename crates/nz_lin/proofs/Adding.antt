@@ -3,7 +3,7 @@ use Rattle.std.proofs.Common.{List, ◌∷◌}
 use Rattle.nz_spec.specs.Computation.{Computation, operated, turned_into}
 use Rattle.nz_spec.specs.Form as spec
 use Rattle.nz_spec.specs.Form.{Numbering, Form, all_joined, joined, part_joined, parts_joined, parts_scaled, scaled}
-use Rattle.nz_spec.specs.Fraction.{Fraction, Arithmetic, first_wide}
+use Rattle.nz_fractions.specs.Fraction.{Fraction, Arithmetic, first_wide}
 use Rattle.nz_lin.specs.declared.form.LinStop.{LinStop}
 use Rattle.nz_lin.specs.Stops.{IsStopAt}
 use Rattle.nz_lin.specs.Comes.{IsDone}

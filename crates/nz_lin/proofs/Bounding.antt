@@ -9,7 +9,7 @@ use Rattle.nz_spec.specs.Farkas as farkas
 use Rattle.nz_spec.specs.Farkas.{bound_of, bound_scaled, bounds_joined, multiples_onto}
 use Rattle.nz_spec.specs.Form as spec
 use Rattle.nz_spec.specs.Form.{Numbering, joined, scaled}
-use Rattle.nz_spec.specs.Fraction.{Fraction, Sum, denominator, first_wide, fraction_cmp, fraction_lt, whole}
+use Rattle.nz_fractions.specs.Fraction.{Fraction, Sum, denominator, first_wide, fraction_cmp, fraction_lt, whole}
 use Rattle.nz_spec.specs.LinearLiteral.{is_without_units}
 use Rattle.nz_spec.specs.Table.{Node}
 use Rattle.nz_spec.specs.Term.{is_zero}

@@ -1,6 +1,6 @@
 -- Computations one after another, up to the first operation that leaves the numbers.
 use Rattle.std.proofs.Common.{◌≡◌, Bool, true, false, List, [], ◌∷◌, ◌++◌, Some, None, Result, Ok, Err, refl, sym, ap, subst, ◌∙◌, if◌then◌else◌}
-use Rattle.nz_spec.specs.Fraction.{Operation, first_wide, is_wide}
+use Rattle.nz_fractions.specs.Fraction.{Operation, first_wide, is_wide}
 use Rattle.nz_spec.specs.Computation.{Computation, at_once, turned_into, and_then}
 use Rattle.nz_spec.specs.Form as spec
 use Rattle.nz_spec.specs.Table.{Node}

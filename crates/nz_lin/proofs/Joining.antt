@@ -15,7 +15,7 @@ use Rattle.nz_spec.specs.Form as spec
 use Rattle.nz_spec.specs.Form.{MayPrecede, with_part, part_alone, part_joined}
 use Rattle.nz_spec.specs.FormOf.{number_in, TermHasItsNumber}
 use Rattle.nz_spec.specs.FormPlace.{JoinsAtItsPlace}
-use Rattle.nz_spec.specs.Fraction.{Fraction, Arithmetic, whole as whole_number, first_wide}
+use Rattle.nz_fractions.specs.Fraction.{Fraction, Arithmetic, whole as whole_number, first_wide}
 use Rattle.nz_spec.specs.Literal.{Literal, TellsLiterals, are_same_sign, are_same_term, term_literal}
 use Rattle.nz_spec.specs.Table.{IsTable, Node, term_in}
 use Rattle.nz_spec.specs.Term.{Term, is_zero}

@@ -11,7 +11,7 @@ use Rattle.nz_spec.specs.Computation.{Computation, at_once, and_then}
 use Rattle.nz_spec.specs.Form as spec
 use Rattle.nz_spec.specs.Form.{constant_form, unit_form}
 use Rattle.nz_spec.specs.FormOf.{is_opened, head_form, form_of, forms_of, number_in}
-use Rattle.nz_spec.specs.Fraction.{Fraction, whole, first_wide, Sum}
+use Rattle.nz_fractions.specs.Fraction.{Fraction, whole, first_wide, Sum}
 use Rattle.nz_spec.specs.Linear.{head_constant, constant_value, constant_values, is_linear, is_linear_node, are_linear, divides_by_constants}
 use Rattle.nz_spec.specs.Table.{Node, IsTable, TermOfNode, term_in, terms_at}
 use Rattle.nz_spec.specs.Term as term

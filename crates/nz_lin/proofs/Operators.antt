@@ -5,7 +5,7 @@ use Rattle.std.proofs.lemmas.Option.{same_Some}
 use Rattle.nz_spec.specs.Computation.{Computation, operated, at_once}
 use Rattle.nz_spec.specs.Form as spec
 use Rattle.nz_spec.specs.FormOf.{product_onto, constants_product, open_form, divided_by, divided_by_each}
-use Rattle.nz_spec.specs.Fraction.{Fraction, Arithmetic, Operation, whole, Product, Quotient, first_wide}
+use Rattle.nz_fractions.specs.Fraction.{Fraction, Arithmetic, Operation, whole, Product, Quotient, first_wide}
 use Rattle.nz_spec.specs.Linear.{are_divisors}
 use Rattle.nz_spec.specs.Table.{Node}
 use Rattle.nz_spec.specs.Term.{is_zero}

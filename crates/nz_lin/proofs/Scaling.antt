@@ -4,7 +4,7 @@ use Rattle.std.proofs.lemmas.List.{append-nil, append_assoc, map-append}
 use Rattle.nz_spec.specs.Computation.{Computation, turned_into}
 use Rattle.nz_spec.specs.Form as spec
 use Rattle.nz_spec.specs.Form.{parts_scaled, with_part}
-use Rattle.nz_spec.specs.Fraction.{Fraction, first_wide}
+use Rattle.nz_fractions.specs.Fraction.{Fraction, first_wide}
 use Rattle.nz_spec.specs.Table.{Node, term_in}
 use Rattle.nz_spec.specs.Term.{Term, is_zero}
 use Rattle.nz_lin.specs.declared.form.LinStop.{LinStop}

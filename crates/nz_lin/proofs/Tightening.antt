@@ -7,7 +7,7 @@ use Rattle.nz_spec.specs.Cuts.{rounded_limit}
 use Rattle.nz_spec.specs.Farkas as farkas
 use Rattle.nz_spec.specs.Form as spec
 use Rattle.nz_spec.specs.Form.{parts_scaled}
-use Rattle.nz_spec.specs.Fraction.{Fraction, Product, floor, whole}
+use Rattle.nz_fractions.specs.Fraction.{Fraction, Product, floor, whole}
 use Rattle.nz_spec.specs.LinearLiteral.{are_integral, greatest_below, is_whole, is_without_units, rounded, tight_form, tight_multiplier}
 use Rattle.nz_spec.specs.Literal.{Literal, is_at_most, is_below}
 use Rattle.nz_spec.specs.Table.{Node}

@@ -3,7 +3,7 @@ use Rattle.std.proofs.Common.{◌≡◌, ℕ, ◌+◌, ◌<◌, ◌≤◌, suc, 
 use Rattle.std.specs.List.{AllByRecursion, AllWithin}
 use Rattle.std.proofs.lemmas.List.{get_or-take, get_or-drop, length-take-le, length-drop}
 use Rattle.std.proofs.lemmas.List.Elements.{All-from_recursion, recursion_from_All}
-use Rattle.nz_spec.specs.Fraction.{Fraction, neg_ℚ}
+use Rattle.nz_fractions.specs.Fraction.{Fraction, neg_ℚ}
 use Rattle.nz_spec.specs.Form as spec
 use Rattle.nz_spec.specs.Table.{Node}
 use Rattle.nz_lin.specs.declared.form.Part.{Part}

@@ -9,7 +9,7 @@ use Rattle.std.proofs.lemmas.List.Elements.{All-cons, All-nil, recursion_from_Al
 use Rattle.nz_spec.specs.Form as spec
 use Rattle.nz_spec.specs.Form.{unit_form}
 use Rattle.nz_spec.specs.FormOf.{form_of, forms_of, number_in}
-use Rattle.nz_spec.specs.Fraction.{Operation, first_wide}
+use Rattle.nz_fractions.specs.Fraction.{Operation, first_wide}
 use Rattle.nz_spec.specs.Linear.{constant_values, is_linear, is_linear_node, are_linear}
 use Rattle.nz_spec.specs.Table.{IsTable, Node, TermOfNode, term_in, terms_at}
 use Rattle.nz_spec.specs.Term.{apply}

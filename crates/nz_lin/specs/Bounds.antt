@@ -1,6 +1,6 @@
 -- What bounds of the code are: linear literals over a table, and their multiples.
 use Rattle.std.specs.Prelude.{Bool, true, false, List, map, Result, Ok, Err}
-use Rattle.nz_spec.specs.Fraction.{Fraction, first_wide}
+use Rattle.nz_fractions.specs.Fraction.{Fraction, first_wide}
 use Rattle.nz_spec.specs.Computation.{Computation, turned_into, and_then}
 use Rattle.nz_spec.specs.Cuts.{rounded_limit}
 use Rattle.nz_spec.specs.Farkas as farkas

@@ -2,7 +2,7 @@
 use Rattle.std.specs.Prelude.{◌≡◌, List, Some, None, Result, Ok, Err}
 use Rattle.std.specs.declared.vec.Vec.{Vec}
 use Rattle.std.specs.declared.alloc.Global.{Global}
-use Rattle.nz_spec.specs.Fraction.{Fraction, Arithmetic, Sum, Difference, Product, first_wide}
+use Rattle.nz_fractions.specs.Fraction.{Fraction, Arithmetic, Sum, Difference, Product, first_wide}
 use Rattle.nz_spec.specs.Computation.{Computation, operated}
 use Rattle.nz_spec.specs.Form as spec
 use Rattle.nz_spec.specs.Table.{Node}

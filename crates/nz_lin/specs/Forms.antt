@@ -1,7 +1,7 @@
 -- What forms of the code are: over a table, whose numbers name their units.
 use Rattle.std.specs.Prelude.{◌≡◌, ℕ, ◌<◌, List, [], ◌∷◌, ◌++◌, map, length, set, remove, slice_get, ⊤, Some, None, pos, if◌then◌else◌}
 use Rattle.std.specs.List.{AllByRecursion}
-use Rattle.nz_spec.specs.Fraction.{Fraction, whole, neg_ℚ, Arithmetic, first_wide}
+use Rattle.nz_fractions.specs.Fraction.{Fraction, whole, neg_ℚ, Arithmetic, first_wide}
 use Rattle.nz_spec.specs.Computation.{Computation, operated}
 use Rattle.nz_spec.specs.Form as spec
 use Rattle.nz_spec.specs.FormOf.{form_of, number_in}

@@ -1,6 +1,6 @@
 -- How the form of a term is made of those of its arguments.
 use Rattle.std.specs.Prelude.{◌≡◌, ℕ, List, [], ◌∷◌, map, reverse, All, Option, Some, None, IsSome, is_some, slice_get, unwrap_or, pos, if◌then◌else◌}
-use Rattle.nz_spec.specs.Fraction.{Fraction, whole, Arithmetic, Sum, Difference, Product}
+use Rattle.nz_fractions.specs.Fraction.{Fraction, whole, Arithmetic, Sum, Difference, Product}
 use Rattle.nz_spec.specs.Computation.{Computation, operated, at_once, and_then}
 use Rattle.nz_spec.specs.Form as spec
 use Rattle.nz_spec.specs.FormOf.{constants_product, open_form, divided_by_each}

@@ -1,6 +1,6 @@
 -- Why a term has no form, and why two forms have no sum.
 use Rattle.std.specs.Prelude.{◌≡◌, ⊤, Option, Some}
-use Rattle.nz_spec.specs.Fraction.{Operation}
+use Rattle.nz_fractions.specs.Fraction.{Operation}
 use Rattle.nz_frac.specs.Operations.{operation_of}
 use Rattle.nz_lin.specs.declared.form.LinStop.{LinStop}
 use Rattle.nz_lin.specs.declared.form.LinStop.TheVariants.{Wide, Memory}

@@ -5,7 +5,7 @@ ghost use Rattle.nz_spec.specs.Computation.{and_then};
 ghost use Rattle.nz_spec.specs.Farkas as farkas;
 ghost use Rattle.nz_spec.specs.Farkas.{bound_scaled, bounds_joined, empty_bound};
 ghost use Rattle.nz_spec.specs.FormOf.{number_in};
-ghost use Rattle.nz_spec.specs.Fraction.{fraction_lt, whole};
+ghost use Rattle.nz_fractions.specs.Fraction.{fraction_lt, whole};
 ghost use Rattle.nz_spec.specs.LinearLiteral.{is_at_most_zero, is_below_zero};
 ghost use Rattle.nz_spec.specs.Literal.{negation_of};
 ghost use Rattle.nz_spec.specs.Table.{IsTable, Node};

@@ -4,7 +4,7 @@ ghost use Rattle.nz_spec.specs.Computation.{operated};
 ghost use Rattle.nz_spec.specs.Form as spec;
 ghost use Rattle.nz_spec.specs.Form.{negated_form, joined, part_joined, scaled, unit_form};
 ghost use Rattle.nz_spec.specs.FormOf.{number_in};
-ghost use Rattle.nz_spec.specs.Fraction.{Fraction};
+ghost use Rattle.nz_fractions.specs.Fraction.{Fraction};
 ghost use Rattle.nz_spec.specs.Table.{IsTable, Node, term_in};
 ghost use Rattle.nz_lin.specs.Comes.{AreFormed, Comes, IsFormed, IsOperated, alone, arithmetic_of, times};
 ghost use Rattle.nz_lin.specs.Forms.{AreUnits, NamesUnit, form_over, meeting, negated, part_over, parts_over, with_last, with_met};
@@ -222,7 +222,7 @@ pub(crate) enum Sign {
 
 impl Sign {
     /// A number, and another one added to it or subtracted from it.
-    #[tactic(auto, unfolding(nz_spec::specs::Fraction::first_wide))]
+    #[tactic(auto, unfolding(nz_fractions::specs::Fraction::first_wide))]
     fn join(self, left: Frac, right: Frac) -> Result<Frac, Wide>
         ensures joined { IsOperated (operated (arithmetic_of self) left right) result }
     {
@@ -242,7 +242,7 @@ pub(crate) enum Side {
 
 impl Side {
     /// The product of a factor, which stands on this side, with a number.
-    #[tactic(auto, unfolding(nz_spec::specs::Fraction::first_wide))]
+    #[tactic(auto, unfolding(nz_fractions::specs::Fraction::first_wide))]
     fn product(self, factor: Frac, number: Frac) -> Result<Frac, Wide>
         ensures product { IsOperated (times self factor number) result }
     {

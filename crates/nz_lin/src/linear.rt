@@ -5,7 +5,7 @@ ghost use Rattle.nz_spec.specs.Computation.{at_once, operated};
 ghost use Rattle.nz_spec.specs.Form.{all_joined, unit_form};
 ghost use Rattle.nz_spec.specs.FormOf as forms_of;
 ghost use Rattle.nz_spec.specs.FormOf.{first_wide_in_form, number_in};
-ghost use Rattle.nz_spec.specs.Fraction.{Quotient, whole};
+ghost use Rattle.nz_fractions.specs.Fraction.{Quotient, whole};
 ghost use Rattle.nz_spec.specs.Linear.{are_divisors, divides_by_constants, is_linear};
 ghost use Rattle.nz_spec.specs.Table.{IsTable, Node, term_in};
 ghost use Rattle.nz_spec.specs.Term.{is_zero};
@@ -266,7 +266,7 @@ fn constants_product(terms: &Terms, kids: &[TermId]) -> Result<Frac, LinStop>
 }
 
 /// The product so far with one factor more.
-#[tactic(auto, unfolding(nz_spec::specs::Fraction::first_wide))]
+#[tactic(auto, unfolding(nz_fractions::specs::Fraction::first_wide))]
 fn with_factor(product: Option<Frac>, factor: Frac) -> Result<Frac, Wide>
     ensures product { IsOperated (factor_onto product factor) result }
 {
@@ -323,7 +323,7 @@ fn divided(alloc: Global, form: &Form, k: Frac) -> Result<Form, LinStop>
 }
 
 /// 1/k.
-#[tactic(auto, unfolding(nz_spec::specs::Fraction::first_wide))]
+#[tactic(auto, unfolding(nz_fractions::specs::Fraction::first_wide))]
 fn inverse(k: Frac) -> Result<Frac, Wide>
     requires nonzero { is_zero k ≡ false }
     ensures inverse { IsOperated (operated Quotient (whole (pos 1)) k) result }

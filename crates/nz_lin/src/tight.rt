@@ -2,7 +2,7 @@
 ghost use Rattle.std.specs.Prelude.{◌≡◌, ◌≤◌, ◌&&◌, IfOk, List, not, unsigned_abs};
 ghost use Rattle.std.specs.List.{list_all};
 ghost use Rattle.nz_spec.specs.Cuts as cuts;
-ghost use Rattle.nz_spec.specs.Fraction.{floor, gcd, largest};
+ghost use Rattle.nz_fractions.specs.Fraction.{floor, gcd, largest};
 ghost use Rattle.nz_spec.specs.LinearLiteral as linear;
 ghost use Rattle.nz_spec.specs.LinearLiteral.{tight_form};
 ghost use Rattle.nz_spec.specs.Table.{Node};
@@ -12,7 +12,7 @@ ghost use Rattle.nz_lin.specs.Forms.{AreUnits, parts_over};
 
 use crate::bound::Bound;
 use crate::form::{LinStop, Part};
-use nz_frac::{Frac, Wide};
+use nz_frac::{Frac, Wide, greatest_divisor};
 use nz_term::Sort;
 use std::alloc::Global;
 
@@ -47,7 +47,7 @@ impl Bound {
     }
 
     /// The greatest integer within the limit.
-    #[tactic(auto, unfolding(nz_spec::specs::Fraction::first_wide))]
+    #[tactic(auto, unfolding(nz_fractions::specs::Fraction::first_wide))]
     pub fn rounded_limit(&self) -> Result<Frac, Wide>
         ensures rounded { (ns : List Node) → IsOperated (cuts.rounded_limit (bound_over ns self.now)) result }
     {
@@ -90,7 +90,7 @@ fn tight_multiplier(parts: &[Part]) -> Frac
     ensures multiplier { (ns : List Node) → result ≡ linear.tight_multiplier (parts_over ns parts.now) }
 {
     // Where all of them are 0, there is no such divisor.
-    match Frac::of(1, common_divisor(parts) as i128) {
+    match Frac::one_over(common_divisor(parts)) {
         Some(multiplier) => multiplier,
         None => Frac::whole(1),
     }
@@ -114,19 +114,4 @@ fn size(part: &Part) -> u128
     ensures fits { result ≤ largest }
 {
     part.coefficient.floor().num().unsigned_abs()
-}
-
-/// The greatest common divisor of two numbers.
-fn greatest_divisor(first: u128, second: u128) -> u128
-    ensures divisor { result ≡ gcd first second }
-    ensures fits { first ≤ largest → second ≤ largest → result ≤ largest }
-{
-    let mut a = first;
-    let mut b = second;
-    while b != 0 {
-        let rest = a % b;
-        a = b;
-        b = rest;
-    }
-    a
 }

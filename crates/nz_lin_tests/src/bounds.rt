@@ -1,11 +1,10 @@
 //! Bounds: tight ones by a table, and each call that takes memory once.
-ghost use Rattle.std.specs.Prelude.{◌<◌, ◌≤◌, IfOk, length};
-
-use crate::terms::{constant, form, numeral, over};
+use crate::terms::form;
 use nz_base::Memory;
 use nz_frac::Frac;
 use nz_lin::{Bound, Form, LinStop, Multiple, lin_difference, sum_of_multiples};
 use nz_term::{NumberSort, Operator, Sort, TermId, Terms};
+use nz_term_samples::{constant, integer, operation};
 use std::alloc::Global;
 use std::test::Fail;
 
@@ -38,57 +37,45 @@ fn below(first: i64, second: i64, limit: i64) -> Row {
     }
 }
 
-/// An integer.
-fn integer(terms: &mut Terms, n: i64) -> Result<TermId, Memory>
-    ensures within { IfOk result (λ id. id < length terms.new) }
-    ensures more { length terms.old ≤ length terms.new }
-{
-    let size = numeral(terms, n.unsigned_abs() as u128)?;
-    if n < 0 {
-        over(terms, Operator::Difference(NumberSort::Int), &[size])
-    } else {
-        Ok(size)
-    }
-}
-
 /// An integer times a term.
-fn times(terms: &mut Terms, n: i64, id: TermId) -> Result<TermId, Memory>
-    requires within { id < length terms.old }
-    ensures within { IfOk result (λ id. id < length terms.new) }
-    ensures more { length terms.old ≤ length terms.new }
-{
+fn times(terms: &mut Terms, n: i64, id: TermId) -> Result<TermId, Memory> {
     let n = integer(terms, n)?;
-    over(terms, Operator::Product(NumberSort::Int), &[n, id])
+    operation(terms, Operator::Product(NumberSort::Int), &[n, id])
 }
 
 /// What is at most 0, or below it, where the row's bound holds.
-fn difference(terms: &mut Terms, row: &Row, x: TermId, y: TermId) -> Result<TermId, Memory>
-    requires first { x < length terms.old }
-    requires second { y < length terms.old }
-    ensures within { IfOk result (λ id. id < length terms.new) }
-{
+fn difference(terms: &mut Terms, row: &Row, x: TermId, y: TermId) -> Result<TermId, Memory> {
     let first = times(terms, row.first, x)?;
     let second = times(terms, row.second, y)?;
-    let sum = over(terms, Operator::Sum(NumberSort::Int), &[first, second])?;
+    let sum = operation(terms, Operator::Sum(NumberSort::Int), &[first, second])?;
     let limit = integer(terms, row.limit)?;
-    over(terms, Operator::Difference(NumberSort::Int), &[sum, limit])
+    operation(terms, Operator::Difference(NumberSort::Int), &[sum, limit])
+}
+
+/// The row's difference over two constants of a sort.
+fn row_term(alloc: Global, terms: &mut Terms, sort: Sort, row: &Row) -> Result<TermId, Memory> {
+    let x = constant(alloc, terms, b"x", sort)?;
+    let y = constant(alloc, terms, b"y", sort)?;
+    difference(terms, row, x, y)
 }
 
 /// The row's bound over two constants of a sort; none where it isn't linear.
 fn bound_of(alloc: Global, sort: Sort, row: &Row) -> Result<Option<Bound>, LinStop> {
     let mut terms = Terms::new(alloc)?;
-    let x = constant(&mut terms, alloc, b"x", sort)?;
-    let y = constant(&mut terms, alloc, b"y", sort)?;
-    let difference = difference(&mut terms, row, x, y)?;
-    let Some(form) = form(alloc, &terms, difference) else {
-        return Ok(None);
-    };
-    let form = form?;
-    Ok(Some(if row.strict {
+    let difference = row_term(alloc, &mut terms, sort, row)?;
+    match form(alloc, &terms, difference) {
+        Some(form) => Ok(Some(bound_on(form?, row.strict))),
+        None => Ok(None),
+    }
+}
+
+/// The bound that the form is at most 0, or below it.
+fn bound_on(form: Form, strict: bool) -> Bound {
+    if strict {
         Bound::below_zero(form)
     } else {
         Bound::at_most_zero(form)
-    }))
+    }
 }
 
 /// Whether the bound is that of the row.
@@ -232,10 +219,10 @@ fn difference_of(
     terms: &Terms,
     left: TermId,
     right: TermId,
-) -> Result<Option<Form>, LinStop>
-    requires left { left < length terms.now }
-    requires right { right < length terms.now }
-{
+) -> Result<Option<Form>, LinStop> {
+    if terms.len() <= left || terms.len() <= right {
+        return Ok(None);
+    }
     if terms.is_linear(left) && terms.is_linear(right) {
         Ok(Some(lin_difference(alloc, terms, left, right)?))
     } else {
@@ -247,7 +234,7 @@ fn difference_of(
 fn a_term_less_another_has_their_units(rt: HostRuntime) -> Result<(), Fail> {
     let alloc = rt.alloc();
     let mut terms = Terms::new(alloc)?;
-    let x = constant(&mut terms, alloc, b"x", Sort::Int)?;
+    let x = constant(alloc, &mut terms, b"x", Sort::Int)?;
     let twice = times(&mut terms, 2, x)?;
     let Some(form) = difference_of(alloc, &terms, x, twice)? else {
         assert!(rt; false);

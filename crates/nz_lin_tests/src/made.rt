@@ -1,10 +1,9 @@
 //! What forms are made of.
-ghost use Rattle.std.specs.Prelude.{◌<◌, ◌≤◌, IfOk, length};
-
-use crate::terms::{constant, form, numeral, over};
+use crate::terms::form;
 use nz_base::Memory;
 use nz_lin::Form;
 use nz_term::{NumberSort, Operator, Sort, TermId, Terms};
+use nz_term_samples::{constant, numeral, operation};
 use std::alloc::Global;
 use std::test::Fail;
 
@@ -24,17 +23,12 @@ fn adds(form: &Form, num: i128, den: i128) -> bool {
 }
 
 /// `(+ (* y 2) (/ x 2) 3 x)`.
-fn sum(terms: &mut Terms, x: TermId, y: TermId) -> Result<TermId, Memory>
-    requires first { x < length terms.old }
-    requires second { y < length terms.old }
-    ensures within { IfOk result (λ id. id < length terms.new) }
-    ensures more { length terms.old ≤ length terms.new }
-{
+fn sum(terms: &mut Terms, x: TermId, y: TermId) -> Result<TermId, Memory> {
     let two = numeral(terms, 2)?;
     let three = numeral(terms, 3)?;
-    let twice = over(terms, Operator::Product(NumberSort::Real), &[y, two])?;
-    let half = over(terms, Operator::Quotient, &[x, two])?;
-    over(
+    let twice = operation(terms, Operator::Product(NumberSort::Real), &[y, two])?;
+    let half = operation(terms, Operator::Quotient, &[x, two])?;
+    operation(
         terms,
         Operator::Sum(NumberSort::Real),
         &[twice, half, three, x],
@@ -45,8 +39,8 @@ fn sum(terms: &mut Terms, x: TermId, y: TermId) -> Result<TermId, Memory>
 fn a_sum_has_each_unit_once(rt: HostRuntime) -> Result<(), Fail> {
     let alloc = rt.alloc();
     let mut terms = Terms::new(alloc)?;
-    let x = constant(&mut terms, alloc, b"x", Sort::Real)?;
-    let y = constant(&mut terms, alloc, b"y", Sort::Real)?;
+    let x = constant(alloc, &mut terms, b"x", Sort::Real)?;
+    let y = constant(alloc, &mut terms, b"y", Sort::Real)?;
     let sum = sum(&mut terms, x, y)?;
     let Some(form) = form(alloc, &terms, sum) else {
         assert!(rt; false);
@@ -61,20 +55,16 @@ fn a_sum_has_each_unit_once(rt: HostRuntime) -> Result<(), Fail> {
 }
 
 /// `(- s y y)`.
-fn difference(terms: &mut Terms, s: TermId, y: TermId) -> Result<TermId, Memory>
-    requires first { s < length terms.old }
-    requires second { y < length terms.old }
-    ensures within { IfOk result (λ id. id < length terms.new) }
-{
-    over(terms, Operator::Difference(NumberSort::Real), &[s, y, y])
+fn difference(terms: &mut Terms, s: TermId, y: TermId) -> Result<TermId, Memory> {
+    operation(terms, Operator::Difference(NumberSort::Real), &[s, y, y])
 }
 
 #[test]
 fn a_unit_goes_with_the_coefficient_0(rt: HostRuntime) -> Result<(), Fail> {
     let alloc = rt.alloc();
     let mut terms = Terms::new(alloc)?;
-    let x = constant(&mut terms, alloc, b"x", Sort::Real)?;
-    let y = constant(&mut terms, alloc, b"y", Sort::Real)?;
+    let x = constant(alloc, &mut terms, b"x", Sort::Real)?;
+    let y = constant(alloc, &mut terms, b"y", Sort::Real)?;
     let sum = sum(&mut terms, x, y)?;
     let less = difference(&mut terms, sum, y)?;
     let Some(form) = form(alloc, &terms, less) else {
@@ -89,33 +79,27 @@ fn a_unit_goes_with_the_coefficient_0(rt: HostRuntime) -> Result<(), Fail> {
 }
 
 /// `(- (/ (* 2 u 3) (- 4)))` over a unit.
-fn nested(terms: &mut Terms, unit: TermId) -> Result<TermId, Memory>
-    requires within { unit < length terms.old }
-    ensures within { IfOk result (λ id. id < length terms.new) }
-{
+fn nested(terms: &mut Terms, unit: TermId) -> Result<TermId, Memory> {
     let two = numeral(terms, 2)?;
     let three = numeral(terms, 3)?;
     let four = numeral(terms, 4)?;
-    let less = over(terms, Operator::Difference(NumberSort::Real), &[four])?;
-    let product = over(
+    let less = operation(terms, Operator::Difference(NumberSort::Real), &[four])?;
+    let product = operation(
         terms,
         Operator::Product(NumberSort::Real),
         &[two, unit, three],
     )?;
-    let quotient = over(terms, Operator::Quotient, &[product, less])?;
-    over(terms, Operator::Difference(NumberSort::Real), &[quotient])
+    let quotient = operation(terms, Operator::Quotient, &[product, less])?;
+    operation(terms, Operator::Difference(NumberSort::Real), &[quotient])
 }
 
 /// `(to_real (ite b i j))`, whose unit is the choice; answers both.
-fn choice(terms: &mut Terms, alloc: Global) -> Result<(TermId, TermId), Memory>
-    ensures unit { IfOk result (λ p. p.0 < length terms.new) }
-    ensures within { IfOk result (λ p. p.1 < length terms.new) }
-{
-    let b = constant(terms, alloc, b"b", Sort::Bool)?;
-    let i = constant(terms, alloc, b"i", Sort::Int)?;
-    let j = constant(terms, alloc, b"j", Sort::Int)?;
-    let choice = over(terms, Operator::Ite(Sort::Int), &[b, i, j])?;
-    let real = over(terms, Operator::ToReal, &[choice])?;
+fn choice(terms: &mut Terms, alloc: Global) -> Result<(TermId, TermId), Memory> {
+    let b = constant(alloc, terms, b"b", Sort::Bool)?;
+    let i = constant(alloc, terms, b"i", Sort::Int)?;
+    let j = constant(alloc, terms, b"j", Sort::Int)?;
+    let choice = operation(terms, Operator::Ite(Sort::Int), &[b, i, j])?;
+    let real = operation(terms, Operator::ToReal, &[choice])?;
     Ok((choice, real))
 }
 
@@ -142,7 +126,7 @@ fn a_constant_term_is_a_number(rt: HostRuntime) -> Result<(), Fail> {
     let alloc = rt.alloc();
     let mut terms = Terms::new(alloc)?;
     let seven = numeral(&mut terms, 7)?;
-    let negated = over(&mut terms, Operator::Difference(NumberSort::Int), &[seven])?;
+    let negated = operation(&mut terms, Operator::Difference(NumberSort::Int), &[seven])?;
     let Some(form) = form(alloc, &terms, negated) else {
         assert!(rt; false);
         return Ok(());
@@ -154,13 +138,10 @@ fn a_constant_term_is_a_number(rt: HostRuntime) -> Result<(), Fail> {
 }
 
 /// A chain of sums, each of the one before with itself.
-fn chain(terms: &mut Terms, first: TermId, depth: usize) -> Result<TermId, Memory>
-    requires within { first < length terms.old }
-    ensures within { IfOk result (λ id. id < length terms.new) }
-{
+fn chain(terms: &mut Terms, first: TermId, depth: usize) -> Result<TermId, Memory> {
     let mut sum = first;
     for _ in 0..depth {
-        sum = over(terms, Operator::Sum(NumberSort::Real), &[sum, sum])?;
+        sum = operation(terms, Operator::Sum(NumberSort::Real), &[sum, sum])?;
     }
     Ok(sum)
 }
@@ -169,7 +150,7 @@ fn chain(terms: &mut Terms, first: TermId, depth: usize) -> Result<TermId, Memor
 fn a_shared_term_is_opened_once(rt: HostRuntime) -> Result<(), Fail> {
     let alloc = rt.alloc();
     let mut terms = Terms::new(alloc)?;
-    let x = constant(&mut terms, alloc, b"x", Sort::Real)?;
+    let x = constant(alloc, &mut terms, b"x", Sort::Real)?;
     let last = chain(&mut terms, x, 100)?;
     let Some(form) = form(alloc, &terms, last) else {
         assert!(rt; false);

@@ -1,18 +1,15 @@
 //! The first operation that leaves the numbers.
-ghost use Rattle.std.specs.Prelude.{◌<◌, ◌≤◌, IfOk, length};
-
-use crate::terms::{MOST, constant, form, numeral, over};
+use crate::terms::{MOST, form};
 use nz_base::Memory;
 use nz_frac::{Op, Wide};
 use nz_lin::LinStop;
 use nz_term::{NumberSort, Operator, Sort, TermId, Terms};
+use nz_term_samples::{constant, numeral, operation};
 use std::alloc::Global;
 use std::test::Fail;
 
 /// Whether the form of the term stops at this operation.
-fn stops_at(alloc: Global, terms: &Terms, id: TermId, op: Op, left: i128, right: i128) -> bool
-    requires within { id < length terms.now }
-{
+fn stops_at(alloc: Global, terms: &Terms, id: TermId, op: Op, left: i128, right: i128) -> bool {
     match &form(alloc, terms, id) {
         Some(made) => match made {
             Err(stop) => is_stop_at(stop, op, left, right),
@@ -36,45 +33,34 @@ fn is_at(wide: &Wide, op: Op, left: i128, right: i128) -> bool {
 }
 
 /// `(* M u)`.
-fn most_times(terms: &mut Terms, unit: TermId) -> Result<TermId, Memory>
-    requires within { unit < length terms.old }
-    ensures within { IfOk result (λ id. id < length terms.new) }
-    ensures more { length terms.old ≤ length terms.new }
-{
+fn most_times(terms: &mut Terms, unit: TermId) -> Result<TermId, Memory> {
     let most = numeral(terms, MOST)?;
-    over(terms, Operator::Product(NumberSort::Real), &[most, unit])
+    operation(terms, Operator::Product(NumberSort::Real), &[most, unit])
 }
 
 /// `(+ t (* 2 u))`, where the first is `(* M u)`.
-fn wide_sum(terms: &mut Terms, unit: TermId) -> Result<TermId, Memory>
-    requires within { unit < length terms.old }
-    ensures within { IfOk result (λ id. id < length terms.new) }
-    ensures more { length terms.old ≤ length terms.new }
-{
+fn wide_sum(terms: &mut Terms, unit: TermId) -> Result<TermId, Memory> {
     let times = most_times(terms, unit)?;
     let two = numeral(terms, 2)?;
-    let twice = over(terms, Operator::Product(NumberSort::Real), &[two, unit])?;
-    over(terms, Operator::Sum(NumberSort::Real), &[times, twice])
+    let twice = operation(terms, Operator::Product(NumberSort::Real), &[two, unit])?;
+    operation(terms, Operator::Sum(NumberSort::Real), &[times, twice])
 }
 
 #[test]
 fn a_wide_sum_is_told_with_its_operands(rt: HostRuntime) -> Result<(), Fail> {
     let alloc = rt.alloc();
     let mut terms = Terms::new(alloc)?;
-    let x = constant(&mut terms, alloc, b"x", Sort::Real)?;
+    let x = constant(alloc, &mut terms, b"x", Sort::Real)?;
     let sum = wide_sum(&mut terms, x)?;
     assert!(rt; stops_at(alloc, &terms, sum, Op::Add, MOST as i128, 2));
     Ok(())
 }
 
 /// `(- s s)` and then `(* M M)`, where the first stops at a sum.
-fn stops_twice(terms: &mut Terms, sum: TermId) -> Result<TermId, Memory>
-    requires within { sum < length terms.old }
-    ensures within { IfOk result (λ id. id < length terms.new) }
-{
+fn stops_twice(terms: &mut Terms, sum: TermId) -> Result<TermId, Memory> {
     let most = numeral(terms, MOST)?;
-    let square = over(terms, Operator::Product(NumberSort::Real), &[most, most])?;
-    over(
+    let square = operation(terms, Operator::Product(NumberSort::Real), &[most, most])?;
+    operation(
         terms,
         Operator::Difference(NumberSort::Real),
         &[sum, square],
@@ -85,7 +71,7 @@ fn stops_twice(terms: &mut Terms, sum: TermId) -> Result<TermId, Memory>
 fn the_first_of_two_is_told(rt: HostRuntime) -> Result<(), Fail> {
     let alloc = rt.alloc();
     let mut terms = Terms::new(alloc)?;
-    let x = constant(&mut terms, alloc, b"x", Sort::Real)?;
+    let x = constant(alloc, &mut terms, b"x", Sort::Real)?;
     let sum = wide_sum(&mut terms, x)?;
     let both = stops_twice(&mut terms, sum)?;
     assert!(rt; stops_at(alloc, &terms, both, Op::Add, MOST as i128, 2));
@@ -97,7 +83,7 @@ fn a_product_of_constants_may_stop(rt: HostRuntime) -> Result<(), Fail> {
     let alloc = rt.alloc();
     let mut terms = Terms::new(alloc)?;
     let most = numeral(&mut terms, MOST)?;
-    let square = over(
+    let square = operation(
         &mut terms,
         Operator::Product(NumberSort::Int),
         &[most, most],

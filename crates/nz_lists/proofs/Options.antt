@@ -1,5 +1,5 @@
 -- What holds of what was found, if anything was.
-use Rattle.std.proofs.Common.{Bool, true, false, Option, Some, None, if◌then◌else◌}
+use Rattle.std.proofs.Common.{◌≡◌, Bool, true, false, Option, Some, None, if◌then◌else◌, refl}
 use Rattle.std.specs.Bool.{⊤}
 use Rattle.std.specs.Prelude.{option_map, option_and_then}
 
@@ -23,3 +23,8 @@ found_weaker P Q (Some x) k h = k x h
 pub if_found : {A : Type 0} (P : A → Type 0) (b : Bool) (o p : Option A) → IfFound P o → IfFound P p → IfFound P (if b then o else p)
 if_found P true o p h i = h
 if_found P false o p h i = i
+
+-- what is kept where a test holds was there, and the test holds
+pub kept_if : {A : Type 0} (b : Bool) (x y : A) → (if b then Some x else None) ≡ Some y → (x ≡ y) × (b ≡ true)
+kept_if true x y at = (cc, refl)
+kept_if false x y at = cc

@@ -1,61 +1,62 @@
 //! Each public call of `nz_log` once on its happy path.
-ghost use Rattle.std.specs.Prelude.{ℕ, ◌<◌, ◌≤◌, length, IfOk, OnOk};
-ghost use Rattle.nz_log.specs.Lits.{gates_at};
 ghost use Rattle.nz_log.specs.Logs.{IsLive};
 
-use nz_base::{Memory, Text};
+use nz_base::Memory;
 use nz_log::{ClauseId, Link, Lit, Log, Step, gate_count};
-use nz_term::{Constant, Head, Operator, Sort, TermId, Terms};
+use nz_term::{Operator, Sort, TermId, Terms};
+use nz_term_samples::{constant, operation};
 use std::alloc::Global;
 use std::test::Fail;
 
-// A constant of sort `Bool`.
-fn constant(terms: &mut Terms, alloc: Global, name: &[u8]) -> Result<TermId, Memory>
-    ensures within { IfOk result (λ id. id < length terms.new) }
-    ensures more { length terms.old ≤ length terms.new }
-{
-    let constant = Constant {
-        name: Text::from_slice(alloc, name)?,
-        sort: Sort::Bool,
-    };
-    terms.make(Head::Constant(&constant), &[])
+// What a log tells of a clause.
+#[derive(Debug, Drop)]
+struct Told {
+    literals: Vec<Lit>,
+    level: usize,
+    steps: Vec<Step>,
 }
 
-// The negation of a term, which the gate table has.
-fn negation(terms: &mut Terms, kid: TermId) -> Result<TermId, Memory>
-    requires within { kid < length terms.old }
-    ensures within { IfOk result (λ id. id < length terms.new) }
-    ensures table { IfOk result (λ id. 0 < length (gates_at terms.new id)) }
+fn tell(alloc: Global, log: &Log, id: ClauseId) -> Result<Told, Memory>
+    requires live { IsLive log.now id }
 {
-    terms.make(Head::Operator(Operator::Not), &[kid])
+    Ok(Told {
+        literals: Vec::from_slice(alloc, log.clause(id))?,
+        level: log.level(id),
+        steps: log.steps(id)?,
+    })
 }
 
 // The empty clause from two assertions, a term and its negation, and the clause of the gate table that ties them.
-fn refute(log: &mut Log, terms: &Terms, term: TermId, negation: TermId) -> Result<ClauseId, Memory>
-    requires within { negation < length terms.now }
-    requires table { 0 < length (gates_at terms.now negation) }
-    ensures live { IfOk result (IsLive log.new) }
-{
+fn refuted(
+    alloc: Global,
+    log: &mut Log,
+    terms: &Terms,
+    term: TermId,
+    negation: TermId,
+) -> Result<Told, Memory> {
     let holds = log.given(0, term, 0)?;
     let negated = log.given(1, negation, 1)?;
+    if negation >= terms.len() || gate_count(terms, negation) == 0 {
+        return Err(Memory);
+    }
     let gate = log.gate(terms, negation, 0)?;
     let fails = log.resolve(negated, gate, Lit::holds(negation))?;
-    log.resolve(holds, fails, Lit::holds(term))
+    let empty = log.resolve(holds, fails, Lit::holds(term))?;
+    tell(alloc, log, empty)
 }
 
 #[test]
 fn opposites_are_refuted(rt: HostRuntime) -> Result<(), Fail> {
     let mut terms = Terms::new(rt.alloc())?;
-    let p = constant(&mut terms, rt.alloc(), b"p")?;
-    let not_p = negation(&mut terms, p)?;
+    let p = constant(rt.alloc(), &mut terms, b"p", Sort::Bool)?;
+    let not_p = operation(&mut terms, Operator::Not, &[p])?;
     let mut log = Log::new(rt.alloc())?;
 
     // The refutation doesn't rest on this clause, so that its steps don't have it.
     log.given(9, p, 0)?;
-    let empty = refute(&mut log, &terms, p, not_p)?;
-    assert_eq!(rt; log.clause(empty).len(), 0);
-    assert_eq!(rt; log.level(empty), 1);
-    let steps = log.steps(empty)?;
+    let empty = refuted(rt.alloc(), &mut log, &terms, p, not_p)?;
+    assert_eq!(rt; empty.literals.len(), 0);
+    assert_eq!(rt; empty.level, 1);
     let wanted = [
         Step::Given(0),
         Step::Given(1),
@@ -63,39 +64,28 @@ fn opposites_are_refuted(rt: HostRuntime) -> Result<(), Fail> {
         Step::Resolve(1, 2, Lit::holds(1)),
         Step::Resolve(0, 3, Lit::holds(0)),
     ];
-    assert_eq!(rt; steps.as_slice(), wanted.as_slice());
+    assert_eq!(rt; empty.steps.as_slice(), wanted.as_slice());
     Ok(())
 }
 
 // Three constants, their disjunction (3), and that the first two are equal (4).
 fn fill(terms: &mut Terms, alloc: Global) -> Result<(), Memory> {
-    let p = constant(terms, alloc, b"p")?;
-    let q = constant(terms, alloc, b"q")?;
-    let r = constant(terms, alloc, b"r")?;
-    terms.make(Head::Operator(Operator::Or), &[p, q, r])?;
-    terms.make(Head::Operator(Operator::Equal), &[p, q])?;
+    let p = constant(alloc, terms, b"p", Sort::Bool)?;
+    let q = constant(alloc, terms, b"q", Sort::Bool)?;
+    let r = constant(alloc, terms, b"r", Sort::Bool)?;
+    operation(terms, Operator::Or, &[p, q, r])?;
+    operation(terms, Operator::Equal, &[p, q])?;
     Ok(())
 }
 
-// The clause of this number of a term, where it has one.
-fn gate(log: &mut Log, terms: &Terms, term: TermId, j: usize) -> Result<ClauseId, Memory>
-    ensures live { IfOk result (IsLive log.new) }
-    ensures stay { OnOk result ((i : ℕ) → IsLive log.old i → IsLive log.new i) }
-{
-    if term >= terms.len() || j >= gate_count(terms, term) {
+// A chain of two links, and that of the same two and a third.
+fn chains(alloc: Global, log: &mut Log, terms: &Terms) -> Result<(Told, Told), Memory> {
+    if terms.len() <= 4 || gate_count(terms, 3) <= 3 || gate_count(terms, 4) == 0 {
         return Err(Memory);
     }
-    log.gate(terms, term, j)
-}
-
-// A chain of two links, and that of the same two and a third.
-fn chains(log: &mut Log, terms: &Terms) -> Result<(ClauseId, ClauseId), Memory>
-    ensures short { IfOk result (λ ids. IsLive log.new ids.0) }
-    ensures long { IfOk result (λ ids. IsLive log.new ids.1) }
-{
-    let some = gate(log, terms, 3, 3)?;
+    let some = log.gate(terms, 3, 3)?;
     let holds = log.given(0, 3, 1)?;
-    let equal = gate(log, terms, 4, 0)?;
+    let equal = log.gate(terms, 4, 0)?;
     let are_equal = log.given(1, 4, 2)?;
     let first = Link {
         clause: holds,
@@ -111,7 +101,7 @@ fn chains(log: &mut Log, terms: &Terms) -> Result<(ClauseId, ClauseId), Memory>
     };
     let short = log.chain(some, &[first, second])?;
     let long = log.chain(some, &[first, second, third])?;
-    Ok((short, long))
+    Ok((tell(alloc, log, short)?, tell(alloc, log, long)?))
 }
 
 #[test]
@@ -119,27 +109,33 @@ fn a_chain_is_resolved_link_by_link(rt: HostRuntime) -> Result<(), Fail> {
     let mut terms = Terms::new(rt.alloc())?;
     fill(&mut terms, rt.alloc())?;
     let mut log = Log::new(rt.alloc())?;
-    let (short, long) = chains(&mut log, &terms)?;
+    let (short, long) = chains(rt.alloc(), &mut log, &terms)?;
 
     // Of the clauses `not 3, p, q, r`, `3`, `not 4, not p, q` and `4`. What both have stands where it was, and once.
     let wanted = [Lit::holds(1), Lit::holds(2), Lit::fails(4)];
-    assert_eq!(rt; log.clause(short), wanted.as_slice());
-    assert_eq!(rt; log.level(short), 1);
-    assert_eq!(rt; log.clause(long), &wanted[..2]);
-    assert_eq!(rt; log.level(long), 2);
+    assert_eq!(rt; short.literals.as_slice(), wanted.as_slice());
+    assert_eq!(rt; short.level, 1);
+    assert_eq!(rt; long.literals.as_slice(), &wanted[..2]);
+    assert_eq!(rt; long.level, 2);
     Ok(())
+}
+
+// An assertion's clause, and its level.
+fn given(log: &mut Log, k: usize, term: TermId, level: usize) -> Result<(ClauseId, usize), Memory> {
+    let id = log.given(k, term, level)?;
+    Ok((id, log.level(id)))
 }
 
 #[test]
 fn what_is_above_a_level_goes(rt: HostRuntime) -> Result<(), Fail> {
     let mut log = Log::new(rt.alloc())?;
     log.place(3, 2)?;
-    let low = log.given(0, 5, 1)?;
-    assert_eq!(rt; log.level(low), 1);
+    let (_, low) = given(&mut log, 0, 5, 1)?;
+    assert_eq!(rt; low, 1);
     log.given(1, 3, 1)?;
     log.drop_above(1);
-    let next = log.given(1, 3, 1)?;
+    let (next, level) = given(&mut log, 1, 3, 1)?;
     assert_eq!(rt; next, 1);
-    assert_eq!(rt; log.level(next), 1);
+    assert_eq!(rt; level, 1);
     Ok(())
 }

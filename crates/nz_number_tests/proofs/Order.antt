@@ -2,7 +2,7 @@
 use Rattle.std.proofs.Common.{◌≡◌, true, ℤ, ◌*ℤ◌, ◌<ℤ◌, pos, is_lt, arith}
 use Rattle.std.proofs.lemmas.Int.{ints}
 use Rattle.std.specs.Ordering.{int_cmp}
-use Rattle.nz_spec.specs.Fraction.{Fraction, denominator, fraction_cmp, ◌<ℚ◌}
+use Rattle.nz_fractions.specs.Fraction.{Fraction, denominator, fraction_cmp, ◌<ℚ◌}
 
 pub below-from_cmp : (p q : Fraction) → true ≡ is_lt (fraction_cmp p q) → p <ℚ q
 unfolding fraction_cmp

@@ -1,7 +1,7 @@
 //! Infinitesimal numbers worked out by hand, and the laws of scalars used without knowing the type.
 ghost use Rattle.std.specs.Prelude.{◌≡◌, IfOk, IfSome, pos};
 ghost use Rattle.std.specs.declared.cmp.Ordering.TheVariants.{Equal};
-ghost use Rattle.nz_spec.specs.Fraction.{whole, ◌<ℚ◌};
+ghost use Rattle.nz_fractions.specs.Fraction.{whole, ◌<ℚ◌};
 ghost use Rattle.nz_spec.specs.Infinitesimal.{◌≤δ◌};
 ghost use Rattle.nz_delta.specs.DeltaSpace.{infinitesimal_of};
 

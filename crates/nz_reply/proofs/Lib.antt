@@ -1,7 +1,6 @@
 pub mod Arguments
 pub mod Keeping
 pub mod Models
-pub mod Numerals
 pub mod Pairs
 pub mod Quotes
 pub mod Spaces

@@ -1,27 +1,48 @@
 -- Lists of texts with spaces, and the sizes of trees.
-use Rattle.std.proofs.Common.{◌≡◌, ℕ, ◌+◌, ◌<◌, zero, suc, List, [], ◌∷◌, ◌++◌, length, get_or, drop, sym, ap, ◌∙◌, append-nil, arith, drop-cons, add-one}
+use Rattle.std.proofs.Common.{◌≡◌, ℕ, ◌+◌, ◌<◌, ◌≤◌, zero, suc, List, [], ◌∷◌, ◌++◌, length, get_or, drop, flat_map, refl, sym, ap, ◌∙◌, append-nil, append_assoc, arith, drop-cons, add-one}
+use Rattle.std.proofs.lemmas.List.{drop_all}
 use Rattle.nz_spec.specs.Reply.{spaced, tree_text, tree_texts}
 use Rattle.nz_sexpr.specs.View.{view, seen}
 use Rattle.nz_sexpr.specs.declared.tree.Tree as code
-use Rattle.nz_reply.specs.Trees.{later_texts}
+use Rattle.nz_reply.specs.Trees.{space_before}
 use Rattle.nz_sexpr.specs.Sizes.{tree_size, trees_size}
 
--- neighbours: the first, and then the others, each behind a space
-pub spaced_first : (t : List ℕ) (ts : List (List ℕ)) → spaced (t ∷ ts) ≡ t ++ later_texts ts
+-- the texts of a list from a place on, each behind what stands before it
+abbrev pub spaced_from : ℕ → List (List ℕ) → List ℕ
+spaced_from zero ts = spaced ts
+spaced_from (suc i) ts = flat_map (λ (t : List ℕ). 32 ∷ t) ts
+
+spaced_first : (t : List ℕ) (ts : List (List ℕ)) → spaced (t ∷ ts) ≡ t ++ spaced_from 1 ts
 spaced_first t [] = sym (append-nil t)
 spaced_first t (u ∷ us) = ap (λ (l : List ℕ). t ++ 32 ∷ l) (spaced_first u us)
 
--- the first of the trees, and then the others, each behind a space
-pub trees_first : (ts : List code.Tree) (t : code.Tree) (us : List code.Tree) → ts ≡ t ∷ us → spaced (tree_texts (seen ts)) ≡ tree_text (view t) ++ later_texts (tree_texts (seen us))
-trees_first ts t us e = ap (λ (l : List code.Tree). spaced (tree_texts (seen l))) e ∙ spaced_first (tree_text (view t)) (tree_texts (seen us))
+-- the first of them, and then the others
+pub spaced_next : (i : ℕ) (t : List ℕ) (ts : List (List ℕ)) → spaced_from i (t ∷ ts) ≡ (space_before i ++ t) ++ spaced_from (i + 1) ts
+spaced_next zero t ts = spaced_first t ts
+spaced_next (suc i) t ts = rw (add-one (suc i)) refl
 
--- the trees from a place on: a space, the one there, and the others
-pub trees_next : (ts : List code.Tree) (i : ℕ) (t : code.Tree) → i < length ts → t ≡ get_or ts i t
-    → later_texts (tree_texts (seen (drop i ts))) ≡ (32 ∷ []) ++ (tree_text (view t) ++ later_texts (tree_texts (seen (drop (i + 1) ts))))
+pub spaced_end : (i : ℕ) → spaced_from i [] ≡ []
+spaced_end zero = refl
+spaced_end (suc i) = refl
+
+-- what is left of the trees of a list, and of its closing parenthesis
+abbrev pub trees_left : List code.Tree → ℕ → List ℕ
+trees_left ts i = spaced_from i (tree_texts (seen (drop i ts))) ++ 41 ∷ []
+
+pub trees_next : (ts : List code.Tree) (i : ℕ) (t : code.Tree) → i < length ts → t ≡ get_or ts i t → trees_left ts i ≡ space_before i ++ (tree_text (view t) ++ trees_left ts (i + 1))
 trees_next ts i t below is =
-    ap (λ (l : List code.Tree). later_texts (tree_texts (seen l))) (drop-cons ts i t below)
-    ∙ ap (λ (u : code.Tree). later_texts (tree_texts (seen (u ∷ drop (suc i) ts)))) (sym is)
-    ∙ ap (λ (k : ℕ). 32 ∷ (tree_text (view t) ++ later_texts (tree_texts (seen (drop k ts))))) (sym (add-one i))
+    let text : List ℕ = tree_text (view t) in
+    let later : List (List ℕ) = tree_texts (seen (drop (i + 1) ts)) in
+    ap (λ (l : List code.Tree). spaced_from i (tree_texts (seen l)) ++ 41 ∷ []) (drop-cons ts i t below ∙ ap (λ (u : code.Tree). u ∷ drop (suc i) ts) (sym is))
+    ∙ ap (λ (k : ℕ). spaced_from i (text ∷ tree_texts (seen (drop k ts))) ++ 41 ∷ []) (sym (add-one i))
+    ∙ ap (λ (l : List ℕ). l ++ 41 ∷ []) (spaced_next i text later)
+    ∙ append_assoc (space_before i ++ text) (spaced_from (i + 1) later) (41 ∷ [])
+    ∙ append_assoc (space_before i) text (spaced_from (i + 1) later ++ 41 ∷ [])
+
+pub trees_end : (ts : List code.Tree) (i : ℕ) → length ts ≤ i → trees_left ts i ≡ 41 ∷ []
+trees_end ts i past =
+    ap (λ (l : List code.Tree). spaced_from i (tree_texts (seen l)) ++ 41 ∷ []) (drop_all i ts past)
+    ∙ ap (λ (l : List ℕ). l ++ 41 ∷ []) (spaced_end i)
 
 -- ---- Sizes
 

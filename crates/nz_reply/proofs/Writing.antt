@@ -2,13 +2,9 @@
 use Rattle.std.proofs.Math.Seq.{drop-cons, take-append-add}
 use Rattle.std.proofs.lemmas.Bool.{false≢true}
 use Rattle.std.proofs.lemmas.List.{take-append-le, length-append}
-use Rattle.std.specs.Borrow.{Bor}
 use Rattle.std.specs.Prelude.{IsErr, ⊤}
-use Rattle.nz_reply.specs.Parts.{parts_text}
-use Rattle.nz_reply.specs.Spelling.{part_text, spelled}
 use Rattle.nz_reply.specs.Writes.{Writes}
-use Rattle.nz_reply.specs.declared.spelling.Part.{Part}
-use Rattle.std.proofs.Common.{◌≡◌, ℕ, suc, ◌+◌, ◌≤◌, ◌<◌, true, length, get_or, add-one, List, [], ◌++◌, take, drop, Option, Result, Ok, Err, refl, sym, ap, ◌∙◌, append_assoc, arith, subst, append-nil}
+use Rattle.std.proofs.Common.{◌≡◌, ℕ, suc, ◌+◌, ◌≤◌, ◌<◌, true, length, get_or, add-one, List, [], ◌++◌, take, drop, flat_map, Option, Result, Ok, Err, refl, sym, ap, ◌∙◌, append_assoc, arith, subst, append-nil}
 use Rattle.std.specs.Io.KnownBytes.{Appends}
 use Rattle.std.proofs.KnownBytes.{Appends-trans}
 use Rattle.nz_spec.specs.Outside.{AddsFrontOf, counted}
@@ -83,13 +79,5 @@ module _ {S : Type 0} {held : S → Option (List ℕ)} {faults : S → ℕ} {old
       }
 
 -- the texts from a place on are the one there and the others
-pub parts_text-next : (ps : List (Bor (List ℕ))) (i : ℕ) (d : Bor (List ℕ)) → i < length ps
-    → parts_text (drop i ps) ≡ (get_or ps i d).now ++ parts_text (drop (i + 1) ps)
-parts_text-next ps i d h = rw (add-one, drop-cons ps i d) refl
-
-pub spelled-next : (ps : List Part) (i : ℕ) (d : Part) → i < length ps → d ≡ get_or ps i d → spelled (drop i ps) ≡ part_text d ++ spelled (drop (i + 1) ps)
-spelled-next ps i d h is = rw (add-one, drop-cons ps i d) (ap (λ (p : Part). part_text p ++ spelled (drop (suc i) ps)) (sym is))
-
--- seven texts one behind another, grouped as definitions group them
-pub regrouped : (x a b c d e f : List ℕ) → (((((x ++ a) ++ b) ++ c) ++ d) ++ e) ++ f ≡ x ++ (a ++ (b ++ (c ++ (d ++ (e ++ f)))))
-regrouped x a b c d e f = simp append_assoc
+pub texts_next : {T : Type 0} (f : T → List ℕ) (xs : List T) (i : ℕ) (x : T) → i < length xs → x ≡ get_or xs i x → flat_map f (drop i xs) ≡ f x ++ flat_map f (drop (i + 1) xs)
+texts_next {T} f xs i x below is = rw (add-one, drop-cons xs i x) (ap (λ (y : T). f y ++ flat_map f (drop (suc i) xs)) (sym is))

@@ -4,8 +4,6 @@ pub mod Journals
 pub mod Parts
 pub mod Reasons
 pub mod Replies
-pub mod Signs
-pub mod Spelling
 pub mod Trees
 pub mod Values
 pub mod Writes

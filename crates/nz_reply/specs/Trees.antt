@@ -1,6 +1,7 @@
--- How lists of trees are written.
-use Rattle.std.specs.Prelude.{ℕ, List, ◌∷◌, flat_map}
+-- How lists of texts are written.
+use Rattle.std.specs.Prelude.{ℕ, zero, suc, List, [], ◌∷◌}
 
--- texts, each behind a space
-abbrev pub later_texts : List (List ℕ) → List ℕ
-later_texts ts = flat_map (λ (t : List ℕ). 32 ∷ t) ts
+-- what stands before the text at this place of a list
+abbrev pub space_before : ℕ → List ℕ
+space_before zero = []
+space_before (suc i) = 32 ∷ []

@@ -3,7 +3,6 @@
 
 mod number;
 mod reply;
-mod spelling;
 mod symbol;
 mod text;
 mod tree;

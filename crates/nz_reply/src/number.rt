@@ -1,106 +1,119 @@
 //! Numbers, as they are spelled (SMT-LIB 2.6, theory Reals_Ints).
-ghost use Rattle.std.specs.Prelude.{◌≡◌, ◌++◌, decimal, unsigned_abs};
-ghost use Rattle.nz_spec.specs.Fraction.{denominator};
-ghost use Rattle.nz_spec.specs.Reply.{int_text, number_text, plain_text, quotient_text, signed_text};
+ghost use Rattle.std.specs.Prelude.{decimal, unsigned_abs};
+ghost use Rattle.nz_fractions.specs.Fraction.{denominator};
+ghost use Rattle.nz_spec.specs.Reply.{number_text, plain_text, quotient_text, signed_text};
 ghost use Rattle.nz_term.specs.Constants.{sort_of};
-ghost use Rattle.nz_reply.specs.Signs.{closing_of, opening_of, ratio_text};
-ghost use Rattle.nz_reply.specs.Writes.{Writes};
 
-use crate::write::{WriteFault, write_parts};
-use itoa::Buffer;
+use crate::write::{Spell, WriteFault};
+use itoa::{Buffer, Integer};
 use nz_base::Sink;
 use nz_frac::Frac;
 use nz_term::Sort;
 
-/// Writes a number as its sort spells it; of no sort of numbers, as an operand.
-pub(crate) fn write_number<K: Sink>(
-    sink: &mut K,
-    sort: Sort,
-    number: Frac,
-) -> Result<(), WriteFault>
-    ensures written { Writes K.held K.faults K.last sink.old sink.new (number_text (sort_of sort) number) result }
-{
-    match sort {
-        Sort::Bool => write_operand(sink, number),
-        Sort::Int => write_integer(sink, number),
-        Sort::Real => write_quotient(sink, number, b".0"),
+/// A number as its sort spells it; of no sort of numbers, as an operand.
+#[derive(Drop)]
+pub(crate) struct Number {
+    pub(crate) sort: Sort,
+    pub(crate) number: Frac,
+}
+
+impl Spell for Number {
+    ghost text = { λ n. number_text (sort_of n.sort) n.number };
+
+    fn write<K: Sink>(&self, sink: &mut K) -> Result<(), WriteFault> {
+        let number = self.number;
+        match self.sort {
+            Sort::Bool => Operand(number).write(sink),
+            Sort::Int => Signed(number, Size(number)).write(sink),
+            Sort::Real => Signed(number, Quotient(number, ".0")).write(sink),
+        }
     }
 }
 
-/// Writes a number as an operand of an operation: without a point.
-pub(crate) fn write_operand<K: Sink>(sink: &mut K, number: Frac) -> Result<(), WriteFault>
-    ensures written { Writes K.held K.faults K.last sink.old sink.new (plain_text number) result }
-{
-    write_quotient(sink, number, b"")
-}
+/// A number as an operand of an operation: without a point.
+#[derive(Drop)]
+pub(crate) struct Operand(pub(crate) Frac);
 
-/// Writes a number by its numerator alone.
-fn write_integer<K: Sink>(sink: &mut K, number: Frac) -> Result<(), WriteFault>
-    ensures written { Writes K.held K.faults K.last sink.old sink.new (int_text number) result }
-{
-    let mut digits = Buffer::new();
-    let numerator = digits.format(number.num().unsigned_abs()).as_bytes();
-    write_parts(sink, &[opening(number), numerator, closing(number)])
-}
+impl Spell for Operand {
+    ghost text = { λ n. plain_text n.0 };
 
-/// Writes a number by its numerator and denominator, each with these bytes behind its digits; the denominator 1 is left out.
-fn write_quotient<K: Sink>(
-    sink: &mut K,
-    number: Frac,
-    point: &'static [u8],
-) -> Result<(), WriteFault>
-    ensures written { Writes K.held K.faults K.last sink.old sink.new (signed_text number.numerator (quotient_text point.now (unsigned_abs number.numerator) (denominator number))) result }
-{
-    if number.den() == 1 {
-        write_whole(sink, number, point)
-    } else {
-        write_ratio(sink, number, point)
+    fn write<K: Sink>(&self, sink: &mut K) -> Result<(), WriteFault> {
+        Signed(self.0, Quotient(self.0, "")).write(sink)
     }
 }
 
-/// Writes a number of the denominator 1, with these bytes behind its digits.
-fn write_whole<K: Sink>(sink: &mut K, number: Frac, point: &'static [u8]) -> Result<(), WriteFault>
-    ensures written { Writes K.held K.faults K.last sink.old sink.new (signed_text number.numerator (decimal (unsigned_abs number.numerator) ++ point.now)) result }
-{
-    let mut digits = Buffer::new();
-    let numerator = digits.format(number.num().unsigned_abs()).as_bytes();
-    write_parts(sink, &[opening(number), numerator, point, closing(number)])
+/// A number whose size has this text: negative ones are spelled as negations.
+#[derive(Drop)]
+struct Signed<T>(Frac, T);
+
+impl<T: Spell> Spell for Signed<T> {
+    ghost text = { λ n. signed_text n.0.numerator (T.text n.1) };
+
+    fn write<K: Sink>(&self, sink: &mut K) -> Result<(), WriteFault> {
+        if self.0.num() < 0 {
+            ("(- ", &self.1, ")").write(sink)
+        } else {
+            self.1.write(sink)
+        }
+    }
 }
 
-/// Writes a number as a quotient, with these bytes behind the digits of its numerator and of its denominator.
-fn write_ratio<K: Sink>(sink: &mut K, number: Frac, point: &'static [u8]) -> Result<(), WriteFault>
-    ensures written { Writes K.held K.faults K.last sink.old sink.new (signed_text number.numerator (ratio_text point.now (unsigned_abs number.numerator) (denominator number))) result }
-{
-    let mut above = Buffer::new();
-    let numerator = above.format(number.num().unsigned_abs()).as_bytes();
-    let mut below = Buffer::new();
-    let denominator = below.format(number.den().unsigned_abs()).as_bytes();
-    write_parts(
-        sink,
-        &[
-            opening(number),
-            b"(/ ",
-            numerator,
-            point,
-            b" ",
-            denominator,
-            point,
-            b")",
-            closing(number),
-        ],
-    )
+/// A number without its sign, with this text behind the digits of its numerator and of its denominator; the denominator 1 is
+/// left out.
+#[derive(Drop)]
+struct Quotient(Frac, &'static str);
+
+impl Spell for Quotient {
+    ghost text = { λ q. quotient_text q.1.now (unsigned_abs q.0.numerator) (denominator q.0) };
+
+    fn write<K: Sink>(&self, sink: &mut K) -> Result<(), WriteFault> {
+        let Quotient(number, point) = *self;
+        if number.den() == 1 {
+            (Size(number), point).write(sink)
+        } else {
+            (
+                (("(/ ", Size(number), point), " ", Denominator(number)),
+                point,
+                ")",
+            )
+                .write(sink)
+        }
+    }
 }
 
-/// What stands before the size of a number: negative ones are spelled as negations.
-fn opening(number: Frac) -> &'static [u8]
-    ensures text { result.now ≡ opening_of number.numerator }
-{
-    if number.num() < 0 { b"(- " } else { b"" }
+/// The numerator of a number, without its sign.
+#[derive(Drop)]
+struct Size(Frac);
+
+impl Spell for Size {
+    ghost text = { λ n. decimal (unsigned_abs n.0.numerator) };
+
+    fn write<K: Sink>(&self, sink: &mut K) -> Result<(), WriteFault> {
+        Decimal(self.0.num().unsigned_abs()).write(sink)
+    }
 }
 
-/// What stands behind the size of a number.
-fn closing(number: Frac) -> &'static [u8]
-    ensures text { result.now ≡ closing_of number.numerator }
-{
-    if number.num() < 0 { b")" } else { b"" }
+/// The denominator of a number.
+#[derive(Drop)]
+struct Denominator(Frac);
+
+impl Spell for Denominator {
+    ghost text = { λ n. decimal (denominator n.0) };
+
+    fn write<K: Sink>(&self, sink: &mut K) -> Result<(), WriteFault> {
+        Decimal(self.0.den().unsigned_abs()).write(sink)
+    }
+}
+
+/// The digits of an integer.
+#[derive(Drop)]
+pub(crate) struct Decimal<N>(pub(crate) N);
+
+impl<N: Integer> Spell for Decimal<N> {
+    ghost text = { λ n. N.text n.0 };
+
+    fn write<K: Sink>(&self, sink: &mut K) -> Result<(), WriteFault> {
+        let mut digits = Buffer::new();
+        digits.format(self.0).write(sink)
+    }
 }

@@ -1,29 +1,29 @@
 //! The texts of replies (SMT-LIB 2.6, section 4.2).
 ghost use Rattle.std.specs.Prelude.{◌≡◌, map, None, Some, IfNone, IfSome};
 ghost use Rattle.nz_sexpr.specs.View.{token_view, view, what_view, seen};
-ghost use Rattle.nz_spec.specs.Reply.{binding_text, echoed, error as error_reply, info as info_reply, levels, model as model_reply, operator_text, reason as reason_reply, reply_text, shown_pair_text, shown_text, sort_text, spaced, values, wide_text};
-ghost use Rattle.nz_spec.specs.Live.{units_spent};
+ghost use Rattle.nz_spec.specs.Reply.{binding_text, info as info_reply, operator_text, reason_text, reply_text, shown_pair_text, shown_text, sort_text, spaced, value_text, wide_text};
+ghost use Rattle.nz_spec.specs.Error.{error_line};
 ghost use Rattle.nz_base.specs.Errors.{error_of};
 ghost use Rattle.nz_reply.specs.Bindings.{binding_of};
 ghost use Rattle.nz_reply.specs.Infos.{info_of};
 ghost use Rattle.nz_reply.specs.Reasons.{reason_of};
 ghost use Rattle.nz_reply.specs.Replies.{reply_of};
-ghost use Rattle.nz_reply.specs.Trees.{later_texts};
 ghost use Rattle.nz_spec.specs.Argument.{argument_in as tree_argument_in, argument_of, literal_bytes, text_within, trees_within};
 ghost use Rattle.nz_reply.specs.Values.{asked_by as trees_asked_by, asked_trees, echoed_by, echoed_in, shown_of, with_shown};
 ghost use Rattle.nz_frac.specs.Operations.{operation_of, operator_of};
 ghost use Rattle.nz_term.specs.Constants.{sort_of};
+ghost use Rattle.nz_term.specs.Values.{value_of};
 ghost use Rattle.nz_reply.specs.Writes.{Writes};
 
+use crate::number::{Decimal, Number, Operand};
 use crate::reply::{Binding, Info, Reason, Reply, Shown};
-use crate::spelling::{Part, write_spelled, write_value};
-use crate::symbol::write_literal;
-use crate::write::{WriteFault, write_parts, write_text};
-use itoa::Buffer;
+use crate::symbol::{Literal, Symbol};
+use crate::tree::SpaceBefore;
+use crate::write::{All, Spell, WriteFault};
 use nz_base::{Error, Sink};
 use nz_frac::{Op, Wide};
 use nz_sexpr::{Token, Tree, What};
-use nz_term::{Constant, Sort};
+use nz_term::{Sort, Value};
 
 /// Writes the text of a reply to the thing heard, which holds the terms whose values a reply tells, and the text that one
 /// repeats. Takes no memory.
@@ -35,59 +35,71 @@ pub fn write_reply<K: Sink>(sink: &mut K, what: &What, reply: &Reply) -> Result<
     ensures written { Writes K.held K.faults K.last sink.old sink.new (reply_text (reply_of (what_view what.now) reply.now)) result }
 {
     match reply {
-        Reply::Quiet => write_text(sink, b""),
-        Reply::Success => write_text(sink, b"success\n"),
-        Reply::Sat(_) => write_text(sink, b"sat\n"),
-        Reply::Unsat => write_text(sink, b"unsat\n"),
-        Reply::Unknown(_) => write_text(sink, b"unknown\n"),
-        Reply::Model(bindings) => write_model(sink, bindings.as_slice()),
-        Reply::Values(shows) => write_values(sink, asked(what), shows.as_slice()),
-        Reply::Info(info) => write_text(sink, info_line(*info)),
-        Reply::Levels(count) => write_levels(sink, *count),
-        Reply::Reason(reason) => write_reason(sink, *reason),
-        Reply::Echo => write_echo(sink, repeated(what)),
-        Reply::Unsupported => write_text(sink, b"unsupported\n"),
-        Reply::Error(error) => write_error(sink, *error),
+        Reply::Quiet => "".write(sink),
+        Reply::Success => "success\n".write(sink),
+        Reply::Sat(_) => "sat\n".write(sink),
+        Reply::Unsat => "unsat\n".write(sink),
+        Reply::Unknown(_) => "unknown\n".write(sink),
+        Reply::Model(bindings) => ("(\n", All(bindings.as_slice()), ")\n").write(sink),
+        Reply::Values(shows) => ("(", Pairs(asked(what), shows.as_slice()), ")\n").write(sink),
+        Reply::Info(info) => info.write(sink),
+        Reply::Levels(count) => {
+            ("(:assertion-stack-levels ", Decimal(*count), ")\n").write(sink)
+        }
+        Reply::Reason(reason) => ("(:reason-unknown ", reason, ")\n").write(sink),
+        Reply::Echo => (Literal(repeated(what)), "\n").write(sink),
+        Reply::Unsupported => "unsupported\n".write(sink),
+        Reply::Error(error) => (error, "\n").write(sink),
     }
 }
 
 // ---- Models
 
-fn write_model<K: Sink>(sink: &mut K, bindings: &[Binding]) -> Result<(), WriteFault>
-    ensures written { Writes K.held K.faults K.last sink.old sink.new (reply_text (model_reply (map binding_of bindings.now))) result }
-{
-    write_text(sink, b"(\n")?;
-    for binding in bindings {
-        write_binding(sink, binding)?;
+impl Spell for Binding {
+    ghost text = { λ b. binding_text (binding_of b) };
+
+    fn write<K: Sink>(&self, sink: &mut K) -> Result<(), WriteFault> {
+        let name = self.constant.name.as_bytes();
+        let sort = self.constant.sort;
+        let value = Valued(sort, &self.value);
+        (
+            (("(define-fun ", Symbol(name), " () "), &sort, " "),
+            value,
+            ")\n",
+        )
+            .write(sink)
     }
-    write_text(sink, b")\n")
 }
 
-fn write_binding<K: Sink>(sink: &mut K, binding: &Binding) -> Result<(), WriteFault>
-    ensures written { Writes K.held K.faults K.last sink.old sink.new (binding_text (binding_of binding.now)) result }
-{
-    let Constant { name, sort } = &binding.constant;
-    write_spelled(
-        sink,
-        &[
-            Part::Text(b"(define-fun "),
-            Part::Symbol(name.as_bytes()),
-            Part::Text(b" () "),
-            Part::Text(sort_name(*sort)),
-            Part::Text(b" "),
-            Part::Value(*sort, &binding.value),
-            Part::Text(b")\n"),
-        ],
-    )
+impl Spell for Sort {
+    ghost text = { λ s. sort_text (sort_of s) };
+
+    fn write<K: Sink>(&self, sink: &mut K) -> Result<(), WriteFault> {
+        match self {
+            Sort::Bool => "Bool".write(sink),
+            Sort::Int => "Int".write(sink),
+            Sort::Real => "Real".write(sink),
+        }
+    }
 }
 
-fn sort_name(sort: Sort) -> &'static [u8]
-    ensures name { result.now ≡ sort_text (sort_of sort) }
-{
-    match sort {
-        Sort::Bool => b"Bool",
-        Sort::Int => b"Int",
-        Sort::Real => b"Real",
+/// A value of this sort.
+#[derive(Drop)]
+struct Valued<'a>(Sort, &'a Value);
+
+impl<'a> Spell for Valued<'a> {
+    ghost text = { λ v. value_text (sort_of v.0) (value_of v.1.now) };
+
+    fn write<K: Sink>(&self, sink: &mut K) -> Result<(), WriteFault> {
+        match self.1 {
+            Value::Truth(true) => "true".write(sink),
+            Value::Truth(false) => "false".write(sink),
+            Value::Number(number) => Number {
+                sort: self.0,
+                number: *number,
+            }
+            .write(sink),
+        }
     }
 }
 
@@ -121,137 +133,90 @@ fn trees_of(tree: &Tree) -> &[Tree]
     }
 }
 
-/// Writes what is told of the terms, each behind its tree.
-fn write_values<K: Sink>(sink: &mut K, trees: &[Tree], shows: &[Shown]) -> Result<(), WriteFault>
-    ensures written { Writes K.held K.faults K.last sink.old sink.new (reply_text (values (with_shown (seen trees.now) (map shown_of shows.now)))) result }
-{
-    write_text(sink, b"(")?;
-    write_pairs(sink, trees, shows)?;
-    write_text(sink, b")\n")
-}
+/// Trees, each with what is told of its term, with a space between neighbours.
+#[derive(Drop)]
+struct Pairs<'a>(&'a [Tree], &'a [Shown]);
 
-/// Writes the pairs, with a space between neighbours.
-fn write_pairs<K: Sink>(sink: &mut K, trees: &[Tree], shows: &[Shown]) -> Result<(), WriteFault>
-    ensures written { Writes K.held K.faults K.last sink.old sink.new (spaced (map shown_pair_text (with_shown (seen trees.now) (map shown_of shows.now)))) result }
-{
-    match (trees.split_first(), shows.split_first()) {
-        (Some((tree, trees)), Some((shown, shows))) => {
-            write_pair(sink, tree, shown)?;
-            write_later_pairs(sink, trees, shows)
+impl<'a> Spell for Pairs<'a> {
+    ghost text = { λ p. spaced (map shown_pair_text (with_shown (seen p.0.now) (map shown_of p.1.now))) };
+
+    fn write<K: Sink>(&self, sink: &mut K) -> Result<(), WriteFault> {
+        let Pairs(trees, shows) = *self;
+        for index in 0..trees.len().min(shows.len()) {
+            let tree = &trees[index];
+            let shown = &shows[index];
+            (SpaceBefore(index), (("(", tree, " "), shown, ")")).write(sink)?;
         }
-        _ => write_text(sink, b""),
+        Ok(())
     }
 }
 
-/// Writes the pairs, each behind a space.
-fn write_later_pairs<K: Sink>(
-    sink: &mut K,
-    trees: &[Tree],
-    shows: &[Shown],
-) -> Result<(), WriteFault>
-    ensures written { Writes K.held K.faults K.last sink.old sink.new (later_texts (map shown_pair_text (with_shown (seen trees.now) (map shown_of shows.now)))) result }
-{
-    for index in 0..trees.len().min(shows.len()) {
-        let tree = &trees[index];
-        let shown = &shows[index];
-        write_text(sink, b" ")?;
-        write_pair(sink, tree, shown)?;
-    }
-    Ok(())
-}
+impl Spell for Shown {
+    ghost text = { λ s. shown_text (shown_of s) };
 
-fn write_pair<K: Sink>(sink: &mut K, tree: &Tree, shown: &Shown) -> Result<(), WriteFault>
-    ensures written { Writes K.held K.faults K.last sink.old sink.new (shown_pair_text (view tree.now, shown_of shown.now)) result }
-{
-    write_spelled(
-        sink,
-        &[Part::Text(b"("), Part::Tree(tree), Part::Text(b" ")],
-    )?;
-    write_shown(sink, shown)?;
-    write_text(sink, b")")
-}
-
-fn write_shown<K: Sink>(sink: &mut K, shown: &Shown) -> Result<(), WriteFault>
-    ensures written { Writes K.held K.faults K.last sink.old sink.new (shown_text (shown_of shown.now)) result }
-{
-    match shown {
-        Shown::Value(sort, value) => write_value(sink, *sort, value),
-        Shown::Wide(wide) => write_wide(sink, wide),
+    fn write<K: Sink>(&self, sink: &mut K) -> Result<(), WriteFault> {
+        match self {
+            Shown::Value(sort, value) => Valued(*sort, value).write(sink),
+            Shown::Wide(wide) => wide.write(sink),
+        }
     }
 }
 
-/// Writes an operation whose result left the numbers.
-fn write_wide<K: Sink>(sink: &mut K, wide: &Wide) -> Result<(), WriteFault>
-    ensures written { Writes K.held K.faults K.last sink.old sink.new (wide_text (operation_of wide.now)) result }
-{
-    write_spelled(
-        sink,
-        &[
-            Part::Text(b"(wide "),
-            Part::Text(operator_name(wide.op)),
-            Part::Text(b" "),
-            Part::Operand(wide.a),
-            Part::Text(b" "),
-            Part::Operand(wide.b),
-            Part::Text(b")"),
-        ],
-    )
+/// An operation whose result left the numbers.
+impl Spell for Wide {
+    ghost text = { λ w. wide_text (operation_of w) };
+
+    fn write<K: Sink>(&self, sink: &mut K) -> Result<(), WriteFault> {
+        let name = ("(wide ", &self.op, " ");
+        ((name, Operand(self.a), " "), Operand(self.b), ")").write(sink)
+    }
 }
 
-fn operator_name(op: Op) -> &'static [u8]
-    ensures name { result.now ≡ operator_text (operator_of op) }
-{
-    match op {
-        Op::Add => b"add",
-        Op::Sub => b"sub",
-        Op::Mul => b"mul",
-        Op::Div => b"div",
+impl Spell for Op {
+    ghost text = { λ op. operator_text (operator_of op) };
+
+    fn write<K: Sink>(&self, sink: &mut K) -> Result<(), WriteFault> {
+        match self {
+            Op::Add => "add".write(sink),
+            Op::Sub => "sub".write(sink),
+            Op::Mul => "mul".write(sink),
+            Op::Div => "div".write(sink),
+        }
     }
 }
 
 // ---- Other replies
 
-fn info_line(info: Info) -> &'static [u8]
-    ensures text { result.now ≡ reply_text (info_reply (info_of info)) }
-{
-    match info {
-        Info::Name => b"(:name \"nuz\")\n",
-        Info::Version => b"(:version \"1\")\n",
-        Info::Authors => b"(:authors \"nuz\")\n",
-        Info::ErrorBehavior => b"(:error-behavior continued-execution)\n",
+impl Spell for Info {
+    ghost text = { λ i. reply_text (info_reply (info_of i)) };
+
+    fn write<K: Sink>(&self, sink: &mut K) -> Result<(), WriteFault> {
+        match self {
+            Info::Name => "(:name \"nuz\")\n".write(sink),
+            Info::Version => "(:version \"1\")\n".write(sink),
+            Info::Authors => "(:authors \"nuz\")\n".write(sink),
+            Info::ErrorBehavior => "(:error-behavior continued-execution)\n".write(sink),
+        }
     }
 }
 
-fn write_levels<K: Sink>(sink: &mut K, count: usize) -> Result<(), WriteFault>
-    ensures written { Writes K.held K.faults K.last sink.old sink.new (reply_text (levels count)) result }
-{
-    let mut digits = Buffer::new();
-    let number = digits.format(count).as_bytes();
-    write_parts(sink, &[b"(:assertion-stack-levels ", number, b")\n"])
-}
+impl Spell for Reason {
+    ghost text = { λ r. reason_text (reason_of r) };
 
-fn write_reason<K: Sink>(sink: &mut K, reason: Reason) -> Result<(), WriteFault>
-    ensures written { Writes K.held K.faults K.last sink.old sink.new (reply_text (reason_reply (reason_of reason))) result }
-{
-    match reason {
-        Reason::UnitsSpent(units) => write_units_spent(sink, units),
+    fn write<K: Sink>(&self, sink: &mut K) -> Result<(), WriteFault> {
+        match self {
+            Reason::UnitsSpent(units) => ("(spent ", Decimal(*units), ")").write(sink),
+        }
     }
 }
 
-fn write_units_spent<K: Sink>(sink: &mut K, units: u64) -> Result<(), WriteFault>
-    ensures written { Writes K.held K.faults K.last sink.old sink.new (reply_text (reason_reply (units_spent units))) result }
-{
-    let mut digits = Buffer::new();
-    let number = digits.format(units).as_bytes();
-    write_parts(sink, &[b"(:reason-unknown (spent ", number, b"))\n"])
-}
+impl Spell for Error {
+    ghost text = { λ e. error_line (error_of e) };
 
-fn write_error<K: Sink>(sink: &mut K, error: Error) -> Result<(), WriteFault>
-    ensures written { Writes K.held K.faults K.last sink.old sink.new (reply_text (error_reply (error_of error))) result }
-{
-    let mut digits = Buffer::new();
-    let number = digits.format(error.number()).as_bytes();
-    write_parts(sink, &[b"(error \"", number, b" ", error.text(), b"\")\n"])
+    fn write<K: Sink>(&self, sink: &mut K) -> Result<(), WriteFault> {
+        let number = Decimal(self.number());
+        (("(error \"", number, " "), self.text(), "\")").write(sink)
+    }
 }
 
 /// The text that a command repeats.
@@ -289,13 +254,6 @@ fn literal_of(token: &Token) -> &[u8]
         Token::Literal(text) => text.as_bytes(),
         _ => b"",
     }
-}
-
-fn write_echo<K: Sink>(sink: &mut K, text: &[u8]) -> Result<(), WriteFault>
-    ensures written { Writes K.held K.faults K.last sink.old sink.new (reply_text (echoed text.now)) result }
-{
-    write_literal(sink, text)?;
-    write_text(sink, b"\n")
 }
 
 // ---- The argument of a command

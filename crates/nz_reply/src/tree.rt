@@ -1,69 +1,58 @@
 //! Trees in their normal spelling: one space between neighbours, symbols and string literals as they are told.
-ghost use Rattle.nz_sexpr.specs.View.{token_view, view, seen};
-ghost use Rattle.nz_spec.specs.Reply.{list_text, spaced, token_text, tree_text, tree_texts};
-ghost use Rattle.nz_reply.specs.Trees.{later_texts};
-ghost use Rattle.nz_reply.specs.Writes.{Writes};
+ghost use Rattle.nz_sexpr.specs.View.{token_view, view};
+ghost use Rattle.nz_spec.specs.Reply.{token_text, tree_text};
+ghost use Rattle.nz_reply.specs.Trees.{space_before};
 
-use crate::symbol::{write_literal, write_symbol};
-use crate::write::{WriteFault, write_text};
+use crate::symbol::{Literal, Symbol};
+use crate::write::{Spell, WriteFault};
 use nz_base::Sink;
 use nz_sexpr::{Token, Tree};
 
-/// Writes a tree. The reader bounds how deep it nests.
-#[cycle(tree)]
-pub(crate) fn write_tree<K: Sink>(sink: &mut K, tree: &Tree) -> Result<(), WriteFault>
-    ensures written { Writes K.held K.faults K.last sink.old sink.new (tree_text (view tree.now)) result }
-{
-    match tree {
-        Tree::Word(token) => write_token(sink, token),
-        Tree::List(list) => write_list(sink, list.as_slice()),
+impl Spell for Token {
+    ghost text = { λ t. token_text (token_view t) };
+
+    fn write<K: Sink>(&self, sink: &mut K) -> Result<(), WriteFault> {
+        match self {
+            Token::Symbol(name) => Symbol(name.as_bytes()).write(sink),
+            Token::Keyword(bytes) => bytes.as_bytes().write(sink),
+            Token::Numeral(bytes) => bytes.as_bytes().write(sink),
+            Token::Decimal(bytes) => bytes.as_bytes().write(sink),
+            Token::Hexadecimal(bytes) => bytes.as_bytes().write(sink),
+            Token::Binary(bytes) => bytes.as_bytes().write(sink),
+            Token::Literal(text) => Literal(text.as_bytes()).write(sink),
+        }
     }
 }
 
-/// Writes a list of these trees, with its parentheses.
-#[cycle(tree)]
-fn write_list<K: Sink>(sink: &mut K, list: &[Tree]) -> Result<(), WriteFault>
-    ensures written { Writes K.held K.faults K.last sink.old sink.new (list_text (tree_texts (seen list.now))) result }
-{
-    write_text(sink, b"(")?;
-    write_neighbours(sink, list)?;
-    write_text(sink, b")")
-}
+impl Spell for Tree {
+    ghost text = { λ t. tree_text (view t) };
 
-/// Writes the trees, with a space between neighbours.
-#[cycle(tree)]
-fn write_neighbours<K: Sink>(sink: &mut K, list: &[Tree]) -> Result<(), WriteFault>
-    ensures written { Writes K.held K.faults K.last sink.old sink.new (spaced (tree_texts (seen list.now))) result }
-{
-    let Some((first, rest)) = list.split_first() else {
-        return write_text(sink, b"");
-    };
-    write_tree(sink, first)?;
-    write_later(sink, rest)
-}
-
-/// Writes the trees, each behind a space.
-#[cycle(tree)]
-fn write_later<K: Sink>(sink: &mut K, list: &[Tree]) -> Result<(), WriteFault>
-    ensures written { Writes K.held K.faults K.last sink.old sink.new (later_texts (tree_texts (seen list.now))) result }
-{
-    for tree in list {
-        write_text(sink, b" ")?;
-        write_tree(sink, tree)?;
+    // The reader bounds how deep a tree nests.
+    fn write<K: Sink>(&self, sink: &mut K) -> Result<(), WriteFault> {
+        match self {
+            Tree::Word(token) => token.write(sink),
+            Tree::List(list) => {
+                let trees = list.as_slice();
+                "(".write(sink)?;
+                for index in 0..trees.len() {
+                    let tree = &trees[index];
+                    SpaceBefore(index).write(sink)?;
+                    tree.write(sink)?;
+                }
+                ")".write(sink)
+            }
+        }
     }
-    Ok(())
 }
 
-fn write_token<K: Sink>(sink: &mut K, token: &Token) -> Result<(), WriteFault>
-    ensures written { Writes K.held K.faults K.last sink.old sink.new (token_text (token_view token.now)) result }
-{
-    match token {
-        Token::Symbol(name) => write_symbol(sink, name.as_bytes()),
-        Token::Keyword(bytes) => write_text(sink, bytes.as_bytes()),
-        Token::Numeral(bytes) => write_text(sink, bytes.as_bytes()),
-        Token::Decimal(bytes) => write_text(sink, bytes.as_bytes()),
-        Token::Hexadecimal(bytes) => write_text(sink, bytes.as_bytes()),
-        Token::Binary(bytes) => write_text(sink, bytes.as_bytes()),
-        Token::Literal(text) => write_literal(sink, text.as_bytes()),
+/// The space before the text at this place of a list; none before the first.
+#[derive(Drop)]
+pub(crate) struct SpaceBefore(pub(crate) usize);
+
+impl Spell for SpaceBefore {
+    ghost text = { λ place. space_before place.0 };
+
+    fn write<K: Sink>(&self, sink: &mut K) -> Result<(), WriteFault> {
+        if self.0 == 0 { Ok(()) } else { " ".write(sink) }
     }
 }

@@ -1,7 +1,10 @@
 //! Of `nz_run`: the words of the command line, from a system that isn't there.
+use crate::checks::{holds, is, is_bytes};
+use nz_base::Memory;
 use nz_run::words_of;
 use std::alloc::Global;
 use std::env::{Env, FillError};
+use std::process::Abort;
 use std::test::Fail;
 
 /// A command line of these words, the program's name first.
@@ -31,39 +34,52 @@ impl Env for CommandLine<'_> {
     }
 }
 
-/// The words that are read from a command line, none of which is refused.
-fn words_read(alloc: Global, words: &[&[u8]]) -> Result<Vec<String>, Fail> {
-    Ok(words_of(&CommandLine { words }, alloc)?.ok_or("a word is refused")?)
+/// The words that are read from a command line, unless one is refused.
+fn read(alloc: Global, words: &[&[u8]]) -> Result<Option<Vec<String>>, Memory> {
+    words_of(&CommandLine { words }, alloc)
+}
+
+/// These words are read from a command line.
+fn reads(rt: &impl Abort, alloc: Global, words: &[&[u8]], want: &[&[u8]]) -> Result<(), Fail> {
+    let read = read(alloc, words)?.ok_or("a word is refused")?;
+    is(rt, read.len(), want.len());
+    for (word, wanted) in read.iter().zip(want) {
+        is_bytes(rt, word.as_bytes(), wanted);
+    }
+    Ok(())
 }
 
 #[test]
 fn the_program_may_be_called_by_any_name(rt: HostRuntime) -> Result<(), Fail> {
-    for name in [b"nuz".as_slice(), b"", b"\xff"] {
-        let read = words_read(rt.alloc(), &[name, b"solve"])?;
-        assert_eq!(rt; read.len(), 2);
-        assert_eq!(rt; read[0].as_str(), "nuz");
-        assert_eq!(rt; read[1].as_str(), "solve");
-    }
-    assert_eq!(rt; words_read(rt.alloc(), &[])?.len(), 1);
-    Ok(())
+    let want: &[&[u8]] = &[b"nuz", b"solve"];
+    reads(&rt, rt.alloc(), &[b"nuz", b"solve"], want)?;
+    reads(&rt, rt.alloc(), &[b"", b"solve"], want)?;
+    reads(&rt, rt.alloc(), &[b"\xff", b"solve"], want)?;
+    reads(&rt, rt.alloc(), &[], &[b"nuz"])
 }
 
 #[test]
 fn a_word_that_is_not_text_is_refused(rt: HostRuntime) -> Result<(), Fail> {
-    let line = CommandLine {
-        words: &[b"nuz", b"solve", b"caf\xe9"],
-    };
-    assert!(rt; words_of(&line, rt.alloc())?.is_none());
+    let words = read(rt.alloc(), &[b"nuz", b"solve", b"caf\xe9"])?;
+    holds(&rt, words.is_none(), "refused");
     Ok(())
+}
+
+/// A word of this length comes whole.
+fn comes_whole(rt: &impl Abort, alloc: Global, length: usize) -> Result<(), Fail> {
+    let long = vec![in alloc; b'a'; length]?;
+    reads(
+        rt,
+        alloc,
+        &[b"nuz", long.as_slice()],
+        &[b"nuz", long.as_slice()],
+    )
 }
 
 #[test]
 fn a_word_of_any_length_comes_whole(rt: HostRuntime) -> Result<(), Fail> {
     for length in [0, 255, 256, 257, 1000] {
-        let long = vec![in rt.alloc(); b'a'; length]?;
-        let read = words_read(rt.alloc(), &[b"nuz", long.as_slice()])?;
-        assert_eq!(rt; read.len(), 2, "of {length}");
-        assert_eq!(rt; read[1].as_bytes(), long.as_slice(), "of {length}");
+        comes_whole(&rt, rt.alloc(), length)?;
     }
     Ok(())
 }

@@ -1,7 +1,10 @@
 //! The scripts of `examples/` through the top call, and what each is answered. The gate runs the program over the files.
-use crate::run::run_pieces;
-use nz_base::PlainSink;
+use crate::checks::holds;
+use crate::run::{run_pieces, sink_is, sink_with};
+use nz_base::Memory;
 use nz_run::DONE;
+use std::alloc::Global;
+use std::process::Abort;
 use std::test::Fail;
 
 /// How many bytes the replies to an example may have.
@@ -82,13 +85,19 @@ const EXAMPLES: &[Example] = &[
     },
 ];
 
+/// The example is answered by its replies.
+fn is_answered(rt: &impl Abort, alloc: Global, example: &Example) -> Result<(), Memory> {
+    let mut out = sink_with(alloc, ROOM)?;
+    let ended = run_pieces(alloc, example.script, 43, &mut out)?;
+    holds(rt, ended.status == DONE, example.name);
+    sink_is(rt, &out, example.replies);
+    Ok(())
+}
+
 #[test]
 fn each_example_is_answered(rt: HostRuntime) -> Result<(), Fail> {
     for example in EXAMPLES {
-        let mut out = PlainSink::new(rt.alloc(), ROOM)?;
-        let ended = run_pieces(rt.alloc(), example.script, 43, &mut out)?;
-        assert_eq!(rt; ended.status, DONE, "{}", example.name);
-        assert_eq!(rt; out.bytes(), example.replies, "{}", example.name);
+        is_answered(&rt, rt.alloc(), example)?;
     }
     Ok(())
 }

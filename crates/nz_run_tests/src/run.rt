@@ -1,17 +1,29 @@
 //! Of `nz_run`: the top call on whole scripts, read in pieces of any length, and with a fault in mid-stream.
-ghost use Rattle.std.specs.Prelude.{◌<◌};
-
+use crate::checks::{is, is_bytes};
 use nz_base::{MemSink, MemSource, Memory, PlainSink, PlainSource, Sink, Source};
 use nz_run::{DONE, ERROR, Ended, READ_FAULT, USAGE, WRITE_FAULT, run};
 use std::alloc::Global;
+use std::process::Abort;
 use std::test::Fail;
 
 /// How many bytes the replies of a test may have.
-const ROOM: usize = 200;
+pub(super) const ROOM: usize = 200;
 
 const SCRIPT: &[u8] = b"(declare-const p Bool)(assert p)(check-sat)(get-model)(exit)";
 
 const REPLIES: &[u8] = b"sat\n(\n(define-fun p () Bool true)\n)\n";
+
+pub(super) fn sink_with(alloc: Global, room: usize) -> Result<PlainSink, Memory> {
+    PlainSink::new(alloc, room)
+}
+
+pub(super) fn sink_is(rt: &impl Abort, sink: &PlainSink, want: &[u8]) {
+    is_bytes(rt, sink.bytes(), want);
+}
+
+fn source_of(alloc: Global, script: &[u8], piece: usize) -> Result<PlainSource, Memory> {
+    Ok(PlainSource::new(script.to_vec(alloc)?, piece.max(1)))
+}
 
 /// Runs the program by these words.
 fn run_words<S: Source, K: Sink>(
@@ -27,113 +39,129 @@ fn run_words<S: Source, K: Sink>(
     Ok(run(alloc, owned.as_slice(), input, out))
 }
 
+/// The words of a run with no option.
+const SOLVE: &[&str] = &["nuz", "solve"];
+
 /// Runs a script that is read in pieces of at most this length.
 pub(super) fn run_pieces(
     alloc: Global,
     script: &[u8],
     piece: usize,
     out: &mut PlainSink,
-) -> Result<Ended, Memory>
-    requires some { 0 < piece }
-{
-    let mut input = PlainSource::new(script.to_vec(alloc)?, piece);
-    run_words(alloc, &["nuz", "solve"], &mut input, out)
+) -> Result<Ended, Memory> {
+    let mut input = source_of(alloc, script, piece)?;
+    run_words(alloc, SOLVE, &mut input, out)
+}
+
+/// A run has this status, and keeps so many replies.
+fn has_ended(rt: &impl Abort, ended: &Ended, status: u8, kept: usize) {
+    is(rt, ended.status, status);
+    is(rt, ended.journal.as_slice().len(), kept);
+    is(rt, ended.cut, false);
+}
+
+/// A script in pieces is answered so.
+fn is_answered(
+    rt: &impl Abort,
+    alloc: Global,
+    script: &[u8],
+    piece: usize,
+    status: u8,
+    kept: usize,
+    replies: &[u8],
+) -> Result<(), Memory> {
+    let mut out = sink_with(alloc, ROOM)?;
+    let ended = run_pieces(alloc, script, piece, &mut out)?;
+    has_ended(rt, &ended, status, kept);
+    sink_is(rt, &out, replies);
+    Ok(())
 }
 
 #[test]
 fn pieces_of_any_length_are_answered_alike(rt: HostRuntime) -> Result<(), Fail> {
-    for piece in [43, 1] {
-        let mut out = PlainSink::new(rt.alloc(), ROOM)?;
-        let ended = run_pieces(rt.alloc(), SCRIPT, piece, &mut out)?;
-        assert_eq!(rt; ended.status, DONE, "by {piece}");
-        assert_eq!(rt; ended.journal.as_slice().len(), 5, "by {piece}");
-        assert!(rt; !ended.cut, "by {piece}");
-        assert_eq!(rt; out.bytes(), REPLIES, "by {piece}");
-    }
+    is_answered(&rt, rt.alloc(), SCRIPT, 43, DONE, 5, REPLIES)?;
+    is_answered(&rt, rt.alloc(), SCRIPT, 1, DONE, 5, REPLIES)?;
     Ok(())
 }
 
 #[test]
 fn no_bytes_have_no_reply(rt: HostRuntime) -> Result<(), Fail> {
-    let mut out = PlainSink::new(rt.alloc(), ROOM)?;
-    let ended = run_pieces(rt.alloc(), b"", 43, &mut out)?;
-    assert_eq!(rt; ended.status, DONE);
-    assert!(rt; ended.journal.as_slice().is_empty());
-    assert_eq!(rt; out.bytes(), b"".as_slice());
+    is_answered(&rt, rt.alloc(), b"", 43, DONE, 0, b"")?;
     Ok(())
 }
 
 #[test]
 fn an_open_command_is_an_error(rt: HostRuntime) -> Result<(), Fail> {
-    let mut out = PlainSink::new(rt.alloc(), ROOM)?;
-    let ended = run_pieces(rt.alloc(), b"(check-sat) (check-sat", 43, &mut out)?;
-    assert_eq!(rt; ended.status, ERROR);
+    let script = b"(check-sat) (check-sat";
     let wanted = b"sat\n(error \"10 incomplete command\")\n";
-    assert_eq!(rt; out.bytes(), wanted.as_slice());
+    is_answered(&rt, rt.alloc(), script, 43, ERROR, 2, wanted)?;
     Ok(())
+}
+
+fn faulty_source(alloc: Global, script: &[u8], fails: &[u64]) -> Result<MemSource, Memory> {
+    let bytes = script.to_vec(alloc)?;
+    Ok(MemSource::new(bytes, 43, fails.to_vec(alloc)?))
+}
+
+fn faulty_sink(alloc: Global, fails: &[u64]) -> Result<MemSink, Memory> {
+    MemSink::new(alloc, ROOM, fails.to_vec(alloc)?)
 }
 
 #[test]
 fn a_read_that_fails_ends_the_run(rt: HostRuntime) -> Result<(), Fail> {
-    let fails = [1].to_vec(rt.alloc())?;
-    let mut input = MemSource::new(SCRIPT.to_vec(rt.alloc())?, 43, fails);
-    let mut out = PlainSink::new(rt.alloc(), ROOM)?;
-    let ended = run_words(rt.alloc(), &["nuz", "solve"], &mut input, &mut out)?;
-    assert_eq!(rt; ended.status, READ_FAULT);
-    assert_eq!(rt; input.faults(), 1);
-    assert_eq!(rt; ended.journal.as_slice().len(), 3);
-    assert_eq!(rt; out.bytes(), b"sat\n".as_slice());
+    let mut input = faulty_source(rt.alloc(), SCRIPT, &[1])?;
+    let mut out = sink_with(rt.alloc(), ROOM)?;
+    let ended = run_words(rt.alloc(), SOLVE, &mut input, &mut out)?;
+    has_ended(&rt, &ended, READ_FAULT, 3);
+    is(&rt, input.faults(), 1);
+    sink_is(&rt, &out, b"sat\n");
     Ok(())
 }
 
 #[test]
 fn a_write_that_fails_ends_the_run(rt: HostRuntime) -> Result<(), Fail> {
-    let mut input = PlainSource::new(SCRIPT.to_vec(rt.alloc())?, 43);
-    let mut out = MemSink::new(rt.alloc(), ROOM, [0].to_vec(rt.alloc())?)?;
-    let ended = run_words(rt.alloc(), &["nuz", "solve"], &mut input, &mut out)?;
-    assert_eq!(rt; ended.status, WRITE_FAULT);
-    assert_eq!(rt; out.faults(), 1);
-    assert_eq!(rt; ended.journal.as_slice().len(), 1);
-    assert_eq!(rt; out.bytes(), b"".as_slice());
+    let mut input = source_of(rt.alloc(), SCRIPT, 43)?;
+    let mut out = faulty_sink(rt.alloc(), &[0])?;
+    let ended = run_words(rt.alloc(), SOLVE, &mut input, &mut out)?;
+    has_ended(&rt, &ended, WRITE_FAULT, 1);
+    is(&rt, out.faults(), 1);
+    is_bytes(&rt, out.bytes(), b"");
     Ok(())
 }
 
-/// The status of a run by these words over an empty script.
-fn status_by(alloc: Global, words: &[&str]) -> Result<u8, Memory> {
-    let mut input = PlainSource::new(Vec::new(alloc), 43);
-    let mut out = PlainSink::new(alloc, ROOM)?;
-    Ok(run_words(alloc, words, &mut input, &mut out)?.status)
+/// A run by these words over an empty script has this status.
+fn ends_with(rt: &impl Abort, alloc: Global, words: &[&str], status: u8) -> Result<(), Memory> {
+    let mut input = source_of(alloc, b"", 43)?;
+    let mut out = sink_with(alloc, ROOM)?;
+    is(
+        rt,
+        run_words(alloc, words, &mut input, &mut out)?.status,
+        status,
+    );
+    Ok(())
 }
 
 #[test]
 fn other_words_are_not_taken(rt: HostRuntime) -> Result<(), Fail> {
-    assert_eq!(rt; status_by(rt.alloc(), &["nuz"])?, USAGE);
-    assert_eq!(rt;
-        status_by(rt.alloc(), &["nuz", "solve", "--work", "x"])?,
-        USAGE
-    );
-    assert_eq!(rt;
-        status_by(rt.alloc(), &["nuz", "solve", "--work", "1000001"])?,
-        USAGE
-    );
-    assert_eq!(rt; status_by(rt.alloc(), &["nuz", "solve", "--help"])?, USAGE);
-    assert_eq!(rt;
-        status_by(rt.alloc(), &["nuz", "solve", "--work=1000000"])?,
-        DONE
-    );
+    let alloc = rt.alloc();
+    ends_with(&rt, alloc, &["nuz"], USAGE)?;
+    ends_with(&rt, alloc, &["nuz", "solve", "--work", "x"], USAGE)?;
+    ends_with(&rt, alloc, &["nuz", "solve", "--work", "1000001"], USAGE)?;
+    ends_with(&rt, alloc, &["nuz", "solve", "--help"], USAGE)?;
+    ends_with(&rt, alloc, &["nuz", "solve", "--work=1000000"], DONE)?;
     Ok(())
 }
 
+const UNDECIDED: &[u8] = b"(declare-const p Bool)(declare-const q Bool)(assert (or p q))
+        (check-sat)(get-info :reason-unknown)";
+
 #[test]
 fn a_check_uses_no_more_units_than_the_words_allow(rt: HostRuntime) -> Result<(), Fail> {
-    let script = b"(declare-const p Bool)(declare-const q Bool)(assert (or p q))
-        (check-sat)(get-info :reason-unknown)";
-    let mut input = PlainSource::new(script.as_slice().to_vec(rt.alloc())?, 43);
-    let mut out = PlainSink::new(rt.alloc(), ROOM)?;
-    let words = ["nuz", "solve", "--work", "0"];
-    let ended = run_words(rt.alloc(), &words, &mut input, &mut out)?;
-    assert_eq!(rt; ended.status, DONE);
-    let wanted = b"unknown\n(:reason-unknown (spent 0))\n";
-    assert_eq!(rt; out.bytes(), wanted.as_slice());
+    let mut input = source_of(rt.alloc(), UNDECIDED, 43)?;
+    let mut out = sink_with(rt.alloc(), ROOM)?;
+    let words = &["nuz", "solve", "--work", "0"];
+    let ended = run_words(rt.alloc(), words, &mut input, &mut out)?;
+    has_ended(&rt, &ended, DONE, 5);
+    sink_is(&rt, &out, b"unknown\n(:reason-unknown (spent 0))\n");
     Ok(())
 }

@@ -1,20 +1,20 @@
 //! Of `nz_session`: each public call of the session once on its happy path, and a check that finds no memory.
 ghost use Rattle.std.specs.Prelude.{◌≡◌, []};
 
+use crate::checks::{holds, is};
+use crate::run::{ROOM, sink_is, sink_with};
 use nz_base::{Error, Memory, PlainSink, Work};
 use nz_engine::Engine;
 use nz_log::{ClauseId, Decide, Lit, Note, Step, Stop, Verdict};
 use nz_reply::{Journal, Reply};
 use nz_session::{Fed, Session};
 use nz_term::{TermId, Terms};
-use std::alloc::Global;
+use std::alloc::{AllocError, Global};
+use std::process::Abort;
 use std::test::Fail;
 
 /// The most units of work that a check may use, where it is to come to its end.
 const UNITS: u64 = 100;
-
-/// How many bytes the replies of a test may have.
-const ROOM: usize = 200;
 
 /// One list more than may stand in one another.
 const TOO_DEEP: usize = 201;
@@ -106,162 +106,204 @@ fn run_engine(alloc: Global, script: &[u8], sink: &mut PlainSink) -> Result<Outc
     run_script(alloc, Engine::new(alloc)?, UNITS, script, sink)
 }
 
-#[test]
-fn a_session_answers_what_is_no_command(rt: HostRuntime) -> Result<(), Fail> {
-    let mut sink = PlainSink::new(rt.alloc(), ROOM)?;
-    // Lists that nest one deeper than they may, and a command that stays open.
-    let mut script = vec![in rt.alloc(); b'('; TOO_DEEP]?;
-    script.resize(2 * TOO_DEEP, b')')?;
-    script.extend_from_slice(b"(check-sat")?;
-    let ended = run_engine(rt.alloc(), &script, &mut sink)?;
-    let [deep, unclosed] = ended.journal.as_slice() else {
-        return Err(Fail::from("two replies"));
-    };
-    assert!(rt; matches!(&deep.reply, Reply::Error(Error::Limit)));
-    assert!(rt; matches!(&unclosed.reply, Reply::Error(Error::Incomplete)));
-    assert_eq!(rt; ended.ended, Fed::Going);
+/// A script in one piece, how it ends, and what is written.
+struct Told {
+    script: &'static [u8],
+    ended: Fed,
+    replies: &'static [u8],
+}
+
+/// The script is answered so, where a check may use so many units.
+fn tells(rt: &impl Abort, alloc: Global, units: u64, told: &Told) -> Result<(), Memory> {
+    let mut sink = sink_with(alloc, ROOM)?;
+    let ended = run_script(alloc, Engine::new(alloc)?, units, told.script, &mut sink)?;
+    is(rt, ended.ended, told.ended);
+    sink_is(rt, &sink, told.replies);
     Ok(())
 }
 
+/// Lists that nest one deeper than they may, and a command that stays open.
+fn too_deep(alloc: Global) -> Result<Vec<u8>, AllocError> {
+    let mut script = vec![in alloc; b'('; TOO_DEEP]?;
+    script.resize(2 * TOO_DEEP, b')')?;
+    script.extend_from_slice(b"(check-sat")?;
+    Ok(script)
+}
+
+/// The two replies that it gets.
+fn is_refused(journal: &Journal) -> bool {
+    match journal.as_slice() {
+        [deep, unclosed] => {
+            matches!(&deep.reply, Reply::Error(Error::Limit))
+                && matches!(&unclosed.reply, Reply::Error(Error::Incomplete))
+        }
+        _ => false,
+    }
+}
+
+#[test]
+fn a_session_answers_what_is_no_command(rt: HostRuntime) -> Result<(), Fail> {
+    let mut sink = sink_with(rt.alloc(), ROOM)?;
+    let script = too_deep(rt.alloc())?;
+    let ended = run_engine(rt.alloc(), script.as_slice(), &mut sink)?;
+    holds(&rt, is_refused(&ended.journal), "two errors");
+    is(&rt, ended.ended, Fed::Going);
+    Ok(())
+}
+
+/// How a script's session stood after its piece and at its end, and how many replies it kept.
+fn has_stood(rt: &impl Abort, outcome: &Outcome, fed: Fed, ended: Fed, kept: usize) {
+    is(rt, outcome.fed, fed);
+    is(rt, outcome.ended, ended);
+    is(rt, outcome.journal.as_slice().len(), kept);
+}
+
+const EXIT: &[u8] = b"(declare-const p Bool)(assert p)(check-sat)(get-model)(exit)(check-sat)";
+
 #[test]
 fn a_session_answers_to_its_exit(rt: HostRuntime) -> Result<(), Fail> {
-    let mut sink = PlainSink::new(rt.alloc(), ROOM)?;
-    let script = b"(declare-const p Bool)(assert p)(check-sat)(get-model)(exit)(check-sat)";
-    let ended = run_engine(rt.alloc(), script, &mut sink)?;
-    assert_eq!(rt; ended.fed, Fed::Exited);
-    assert_eq!(rt; ended.journal.as_slice().len(), 5);
-    assert_eq!(rt;
-        sink.bytes(),
-        b"sat\n(\n(define-fun p () Bool true)\n)\n".as_slice()
-    );
+    let mut sink = sink_with(rt.alloc(), ROOM)?;
+    let ended = run_engine(rt.alloc(), EXIT, &mut sink)?;
+    has_stood(&rt, &ended, Fed::Exited, Fed::Exited, 5);
+    sink_is(&rt, &sink, b"sat\n(\n(define-fun p () Bool true)\n)\n");
     Ok(())
 }
 
 #[test]
 fn a_session_ends_with_its_script(rt: HostRuntime) -> Result<(), Fail> {
-    let mut sink = PlainSink::new(rt.alloc(), ROOM)?;
+    let mut sink = sink_with(rt.alloc(), ROOM)?;
     let ended = run_engine(rt.alloc(), b"(check-sat", &mut sink)?;
-    assert_eq!(rt; ended.fed, Fed::Going);
-    assert_eq!(rt; ended.ended, Fed::Going);
-    assert_eq!(rt; ended.journal.as_slice().len(), 1);
-    assert_eq!(rt;
-        sink.bytes(),
-        b"(error \"10 incomplete command\")\n".as_slice()
-    );
+    has_stood(&rt, &ended, Fed::Going, Fed::Going, 1);
+    sink_is(&rt, &sink, b"(error \"10 incomplete command\")\n");
     Ok(())
+}
+
+const CHECKED_TWICE: &[u8] = b"(declare-const p Bool)(assert p)(check-sat)(check-sat)(get-model)";
+
+/// Runs a script by an engine that checks once.
+fn run_once(alloc: Global, script: &[u8], sink: &mut PlainSink) -> Result<Outcome, Memory> {
+    let engine = OnceOnly {
+        engine: Engine::new(alloc)?,
+        has_checked: false,
+    };
+    run_script(alloc, engine, UNITS, script, sink)
 }
 
 #[test]
 fn a_model_outlives_a_check_without_memory(rt: HostRuntime) -> Result<(), Fail> {
-    let mut sink = PlainSink::new(rt.alloc(), ROOM)?;
-    let engine = OnceOnly {
-        engine: Engine::new(rt.alloc())?,
-        has_checked: false,
-    };
-    let script = b"(declare-const p Bool)(assert p)(check-sat)(check-sat)(get-model)";
-    let ended = run_script(rt.alloc(), engine, UNITS, script, &mut sink)?;
-    assert_eq!(rt; ended.ended, Fed::Going);
+    let mut sink = sink_with(rt.alloc(), ROOM)?;
+    let ended = run_once(rt.alloc(), CHECKED_TWICE, &mut sink)?;
+    is(&rt, ended.ended, Fed::Going);
     let wanted = b"sat\n(error \"11 out of memory\")\n(\n(define-fun p () Bool true)\n)\n";
-    assert_eq!(rt; sink.bytes(), wanted.as_slice());
+    sink_is(&rt, &sink, wanted);
     Ok(())
 }
+
+const REASON: Told = Told {
+    script: b"(declare-const a Bool)(declare-const b Bool)(assert (or a b))
+        (check-sat)(get-info :reason-unknown)(assert x)(get-info :reason-unknown)
+        (assert b)(get-info :reason-unknown)",
+    ended: Fed::Going,
+    replies: b"unknown\n(:reason-unknown (spent 0))\n(error \"2 unknown symbol\")\n\
+        (:reason-unknown (spent 0))\n(error \"7 no answer to show\")\n",
+};
 
 #[test]
 fn a_reason_is_shown_until_an_assertion_is_accepted(rt: HostRuntime) -> Result<(), Fail> {
-    let mut sink = PlainSink::new(rt.alloc(), ROOM)?;
-    let script = b"(declare-const a Bool)(declare-const b Bool)(assert (or a b))
-        (check-sat)(get-info :reason-unknown)(assert x)(get-info :reason-unknown)
-        (assert b)(get-info :reason-unknown)";
-    let ended = run_script(rt.alloc(), Engine::new(rt.alloc())?, 0, script, &mut sink)?;
-    assert_eq!(rt; ended.ended, Fed::Going);
-    let wanted = b"unknown\n(:reason-unknown (spent 0))\n(error \"2 unknown symbol\")\n\
-        (:reason-unknown (spent 0))\n(error \"7 no answer to show\")\n";
-    assert_eq!(rt; sink.bytes(), wanted.as_slice());
+    tells(&rt, rt.alloc(), 0, &REASON)?;
     Ok(())
 }
+
+const ONLY_THE_LAST: Told = Told {
+    script: b"(get-model)(get-info :reason-unknown)(check-sat)(get-info :reason-unknown)
+        (assert false)(check-sat)(get-model)",
+    ended: Fed::Going,
+    replies: b"(error \"7 no answer to show\")\n(error \"7 no answer to show\")\nsat\n\
+        (error \"7 no answer to show\")\nunsat\n(error \"7 no answer to show\")\n",
+};
 
 #[test]
 fn only_what_was_answered_last_is_shown(rt: HostRuntime) -> Result<(), Fail> {
-    let mut sink = PlainSink::new(rt.alloc(), ROOM)?;
-    let script = b"(get-model)(get-info :reason-unknown)(check-sat)(get-info :reason-unknown)
-        (assert false)(check-sat)(get-model)";
-    let ended = run_engine(rt.alloc(), script, &mut sink)?;
-    assert_eq!(rt; ended.ended, Fed::Going);
-    let wanted = b"(error \"7 no answer to show\")\n(error \"7 no answer to show\")\nsat\n\
-        (error \"7 no answer to show\")\nunsat\n(error \"7 no answer to show\")\n";
-    assert_eq!(rt; sink.bytes(), wanted.as_slice());
+    tells(&rt, rt.alloc(), UNITS, &ONLY_THE_LAST)?;
     Ok(())
 }
+
+const REFUSALS: Told = Told {
+    script: b"(declare-const p Bool)(assert q)(assert (not p p))
+        (set-info :size 170141183460469231731687303715884105728)(get-model)(declare-const p Bool)",
+    ended: Fed::Going,
+    replies: b"(error \"2 unknown symbol\")\n(error \"3 sort\")\n\
+        (error \"5 number too wide\")\n(error \"7 no answer to show\")\n\
+        (error \"9 already declared\")\n",
+};
 
 #[test]
 fn a_refusal_is_told_by_its_number(rt: HostRuntime) -> Result<(), Fail> {
-    let mut sink = PlainSink::new(rt.alloc(), ROOM)?;
-    let script = b"(declare-const p Bool)(assert q)(assert (not p p))
-        (set-info :size 170141183460469231731687303715884105728)(get-model)(declare-const p Bool)";
-    let ended = run_engine(rt.alloc(), script, &mut sink)?;
-    assert_eq!(rt; ended.ended, Fed::Going);
-    let wanted = b"(error \"2 unknown symbol\")\n(error \"3 sort\")\n\
-        (error \"5 number too wide\")\n(error \"7 no answer to show\")\n\
-        (error \"9 already declared\")\n";
-    assert_eq!(rt; sink.bytes(), wanted.as_slice());
+    tells(&rt, rt.alloc(), UNITS, &REFUSALS)?;
     Ok(())
 }
+
+const VALUES: Told = Told {
+    script: b"(get-value (true))(declare-const p Bool)(assert p)(check-sat)
+        (get-value (p (ite p 1 2) (/ 1 2)))",
+    ended: Fed::Going,
+    replies: b"(error \"7 no answer to show\")\nsat\n\
+        ((p true) ((ite p 1 2) 1) ((/ 1 2) (/ 1.0 2.0)))\n",
+};
 
 #[test]
 fn values_are_told_of_terms_over_numbers(rt: HostRuntime) -> Result<(), Fail> {
-    let mut sink = PlainSink::new(rt.alloc(), ROOM)?;
-    let script = b"(get-value (true))(declare-const p Bool)(assert p)(check-sat)
-        (get-value (p (ite p 1 2) (/ 1 2)))";
-    let ended = run_engine(rt.alloc(), script, &mut sink)?;
-    assert_eq!(rt; ended.ended, Fed::Going);
-    let wanted = b"(error \"7 no answer to show\")\nsat\n\
-        ((p true) ((ite p 1 2) 1) ((/ 1 2) (/ 1.0 2.0)))\n";
-    assert_eq!(rt; sink.bytes(), wanted.as_slice());
+    tells(&rt, rt.alloc(), UNITS, &VALUES)?;
     Ok(())
 }
+
+const WIDE: Told = Told {
+    script: b"(check-sat)(get-value ((+ 170141183460469231731687303715884105727 1)))",
+    ended: Fed::Going,
+    replies: b"sat\n(((+ 170141183460469231731687303715884105727 1) \
+        (wide add 170141183460469231731687303715884105727 1)))\n",
+};
 
 #[test]
 fn an_operation_that_leaves_the_numbers_is_told(rt: HostRuntime) -> Result<(), Fail> {
-    let mut sink = PlainSink::new(rt.alloc(), ROOM)?;
-    let script = b"(check-sat)(get-value ((+ 170141183460469231731687303715884105727 1)))";
-    let ended = run_engine(rt.alloc(), script, &mut sink)?;
-    assert_eq!(rt; ended.ended, Fed::Going);
-    let wanted = b"sat\n(((+ 170141183460469231731687303715884105727 1) \
-        (wide add 170141183460469231731687303715884105727 1)))\n";
-    assert_eq!(rt; sink.bytes(), wanted.as_slice());
+    tells(&rt, rt.alloc(), UNITS, &WIDE)?;
     Ok(())
 }
+
+const SUCCESS: Told = Told {
+    script: b"(declare-const p Bool)(set-option :print-success true)(assert p)
+        (set-info :status sat)(set-option :print-success false)(assert p)(exit)",
+    ended: Fed::Exited,
+    replies: b"success\nsuccess\nsuccess\n",
+};
 
 #[test]
 fn success_is_told_from_the_option_on(rt: HostRuntime) -> Result<(), Fail> {
-    let mut sink = PlainSink::new(rt.alloc(), ROOM)?;
-    let script = b"(declare-const p Bool)(set-option :print-success true)(assert p)
-        (set-info :status sat)(set-option :print-success false)(assert p)(exit)";
-    let ended = run_engine(rt.alloc(), script, &mut sink)?;
-    assert_eq!(rt; ended.ended, Fed::Exited);
-    assert_eq!(rt; sink.bytes(), b"success\nsuccess\nsuccess\n".as_slice());
+    tells(&rt, rt.alloc(), UNITS, &SUCCESS)?;
     Ok(())
 }
+
+const INFOS: Told = Told {
+    script: b"(echo \"say \"\"no\"\"\")(get-info :name)(get-info :assertion-stack-levels)",
+    ended: Fed::Going,
+    replies: b"\"say \"\"no\"\"\"\n(:name \"nuz\")\n(:assertion-stack-levels 0)\n",
+};
 
 #[test]
 fn texts_and_infos_are_told(rt: HostRuntime) -> Result<(), Fail> {
-    let mut sink = PlainSink::new(rt.alloc(), ROOM)?;
-    let script = b"(echo \"say \"\"no\"\"\")(get-info :name)(get-info :assertion-stack-levels)";
-    let ended = run_engine(rt.alloc(), script, &mut sink)?;
-    assert_eq!(rt; ended.ended, Fed::Going);
-    let wanted = b"\"say \"\"no\"\"\"\n(:name \"nuz\")\n(:assertion-stack-levels 0)\n";
-    assert_eq!(rt; sink.bytes(), wanted.as_slice());
+    tells(&rt, rt.alloc(), UNITS, &INFOS)?;
     Ok(())
 }
 
+const NUMBERS: Told = Told {
+    script: b"(define-fun two () Int 2)(check-sat)(get-value ((+ two two)))
+        (declare-const x Int)(assert (= (* x x) two))(check-sat)",
+    ended: Fed::Going,
+    replies: b"sat\n(((+ two two) 4))\n(error \"4 not linear\")\nunsupported\n",
+};
+
 #[test]
 fn numbers_are_defined_and_not_checked(rt: HostRuntime) -> Result<(), Fail> {
-    let mut sink = PlainSink::new(rt.alloc(), ROOM)?;
-    let script = b"(define-fun two () Int 2)(check-sat)(get-value ((+ two two)))
-        (declare-const x Int)(assert (= (* x x) two))(check-sat)";
-    let ended = run_engine(rt.alloc(), script, &mut sink)?;
-    assert_eq!(rt; ended.ended, Fed::Going);
-    let wanted = b"sat\n(((+ two two) 4))\n(error \"4 not linear\")\nunsupported\n";
-    assert_eq!(rt; sink.bytes(), wanted.as_slice());
+    tells(&rt, rt.alloc(), UNITS, &NUMBERS)?;
     Ok(())
 }

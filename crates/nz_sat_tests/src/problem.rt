@@ -107,24 +107,6 @@ impl Problem {
         add_assertion(&mut self.log, &mut self.sat, place, term)
     }
 
-    /// The term that a literal is.
-    pub fn term(&mut self, literal: Lit) -> Result<TermId, Memory> {
-        if literal.sign {
-            return Ok(literal.term);
-        }
-        self.gates(Operator::Not, &[literal.term])
-    }
-
-    /// Asserts that one of these literals is true.
-    pub fn clause(&mut self, literals: &[Lit]) -> Result<(), Memory> {
-        let mut kids = Vec::new(self.alloc);
-        for literal in literals {
-            kids.push(self.term(*literal)?)?;
-        }
-        let term = self.gates(Operator::Or, &kids)?;
-        self.assert(term)
-    }
-
     /// Searches under these assumed literals, where each term is an atom. Answers the literals of the clause that refutes them, where there is one.
     pub fn solve(&mut self, assumed: &[Lit]) -> Result<Option<Vec<Lit>>, Stop> {
         let count = self.terms.len();
@@ -137,11 +119,6 @@ impl Problem {
         let refuted = self.sat.solve(&mut self.log, assumed, &mut work)?;
         self.left = work.left();
         Ok(literals_of(self.alloc, &self.log, refuted)?)
-    }
-
-    /// Whether what is asserted and these literals can all be true.
-    pub fn holds(&mut self, assumed: &[Lit]) -> Result<bool, Stop> {
-        Ok(self.solve(assumed)?.is_none())
     }
 
     /// How many units the last search didn't use.

@@ -1,213 +1,241 @@
-//! What the search answers. Each problem is made by a function that borrows it: so a test has few exits at which one is dropped, and is proved
-//! within its time.
+//! What the search answers.
 
+use crate::acts::{Act, Case, Number, assert_one, follow, holds, over, run};
 use crate::problem::Problem;
 use nz_base::Memory;
-use nz_log::{Lit, Stop};
-use nz_term::{Operator, TermId};
+use nz_log::Stop;
+use nz_term::Operator;
 use std::alloc::Global;
 use std::test::Fail;
 
-// An atom, and another one that follows from it.
-fn implied(problem: &mut Problem) -> Result<[TermId; 2], Memory> {
-    let p = problem.atom(0)?;
-    let q = problem.atom(1)?;
-    problem.clause(&[Lit::fails(p), Lit::holds(q)])?;
-    problem.assert(p)?;
-    Ok([p, q])
-}
+// An atom, and another one that follows from it: no unit is used.
+const UNITS: &Case = &Case {
+    atoms: 2,
+    limit: 10,
+    acts: &[
+        Act::Clause(&[-1, 2]),
+        Act::Assert(1),
+        Act::Holds(&[]),
+        Act::Truth(1, Some(true)),
+        Act::Truth(-2, Some(false)),
+        Act::Truth(100, None),
+        Act::Left(10),
+    ],
+};
 
 #[test]
 fn units_follow(rt: HostRuntime) -> Result<(), Fail> {
-    let mut problem = Problem::new(rt.alloc(), 10)?;
-    let [p, q] = implied(&mut problem)?;
-    assert!(rt; problem.holds(&[])?);
-    assert_eq!(rt; problem.truth(Lit::holds(p)), Some(true));
-    assert_eq!(rt; problem.truth(Lit::fails(q)), Some(false));
-    assert_eq!(rt; problem.truth(Lit::holds(99)), None);
-    // Both follow: no unit is used.
-    assert_eq!(rt; problem.left(), 10);
-    Ok(())
+    run(rt.alloc(), UNITS)
 }
 
-// An atom that follows from either sign of another.
-fn either_way(problem: &mut Problem) -> Result<TermId, Memory> {
-    let p = problem.atom(0)?;
-    let q = problem.atom(1)?;
-    problem.clause(&[Lit::holds(p), Lit::holds(q)])?;
-    problem.clause(&[Lit::holds(p), Lit::fails(q)])?;
-    Ok(p)
-}
+// An atom that follows from either sign of another. The first decision is that it is false, and both clauses are falsified then.
+const EITHER_WAY: &Case = &Case {
+    atoms: 2,
+    limit: 10,
+    acts: &[
+        Act::Clause(&[1, 2]),
+        Act::Clause(&[1, -2]),
+        Act::Holds(&[]),
+        Act::Truth(1, Some(true)),
+    ],
+};
 
 #[test]
 fn a_conflict_teaches(rt: HostRuntime) -> Result<(), Fail> {
-    let mut problem = Problem::new(rt.alloc(), 10)?;
-    let p = either_way(&mut problem)?;
-    // The first decision is that `p` is false, and both clauses are falsified then.
-    assert!(rt; problem.holds(&[])?);
-    assert_eq!(rt; problem.truth(Lit::holds(p)), Some(true));
-    Ok(())
+    run(rt.alloc(), EITHER_WAY)
 }
 
 // An atom and its negation.
-fn opposites(problem: &mut Problem) -> Result<(), Memory> {
-    let p = problem.atom(0)?;
-    problem.assert(p)?;
-    problem.clause(&[Lit::fails(p)])
-}
+const OPPOSITES: &Case = &Case {
+    atoms: 1,
+    limit: 10,
+    acts: &[Act::Assert(1), Act::Clause(&[-1]), Act::Refuted(&[], &[])],
+};
 
 #[test]
 fn opposites_are_refuted(rt: HostRuntime) -> Result<(), Fail> {
-    let mut problem = Problem::new(rt.alloc(), 10)?;
-    opposites(&mut problem)?;
-    let literals = problem.solve(&[])?.ok_or("not refuted")?;
-    assert_eq!(rt; literals.len(), 0);
-    Ok(())
+    run(rt.alloc(), OPPOSITES)
 }
 
 // Three atoms, each of which follows from the one before it.
-fn in_turn(problem: &mut Problem) -> Result<[TermId; 3], Memory> {
-    let p = problem.atom(0)?;
-    let q = problem.atom(1)?;
-    let r = problem.atom(2)?;
-    problem.clause(&[Lit::fails(p), Lit::holds(q)])?;
-    problem.clause(&[Lit::fails(q), Lit::holds(r)])?;
-    Ok([p, q, r])
-}
-
-// Whether the clause that refutes these two literals is that of their negations.
-fn are_refuted(problem: &mut Problem, first: Lit, second: Lit) -> Result<bool, Stop> {
-    match problem.solve(&[first, second])? {
-        Some(literals) => match literals.as_slice() {
-            [one, two] => Ok(
-                (one.is(first.not()) && two.is(second.not()))
-                    || (one.is(second.not()) && two.is(first.not())),
-            ),
-            _ => Ok(false),
-        },
-        None => Ok(false),
-    }
-}
+const IN_TURN: &Case = &Case {
+    atoms: 3,
+    limit: 100,
+    acts: &[
+        Act::Clause(&[-1, 2]),
+        Act::Clause(&[-2, 3]),
+        Act::Refuted(&[1, -3], &[-1, 3]),
+        Act::Holds(&[1, 3]),
+        Act::Truth(2, Some(true)),
+    ],
+};
 
 #[test]
 fn assumed_literals_are_refuted(rt: HostRuntime) -> Result<(), Fail> {
-    let mut problem = Problem::new(rt.alloc(), 100)?;
-    let [p, q, r] = in_turn(&mut problem)?;
-    assert!(rt; are_refuted(&mut problem, Lit::holds(p), Lit::fails(r))?);
-    assert!(rt; problem.holds(&[Lit::holds(p), Lit::holds(r)])?);
-    assert_eq!(rt; problem.truth(Lit::holds(q)), Some(true));
-    Ok(())
+    run(rt.alloc(), IN_TURN)
 }
 
 // That just one of the first two atoms is true where the third is.
-fn odd(problem: &mut Problem) -> Result<[TermId; 3], Memory> {
-    let p = problem.atom(0)?;
-    let q = problem.atom(1)?;
-    let r = problem.atom(2)?;
-    let odd = problem.gates(Operator::Xor, &[p, q])?;
-    let same = problem.gates(Operator::Equal, &[odd, r])?;
-    problem.assert(same)?;
-    Ok([p, q, r])
-}
+const ODD: &Case = &Case {
+    atoms: 3,
+    limit: 1000,
+    acts: &[
+        Act::Make(Operator::Xor, &[0, 1]),
+        Act::Make(Operator::Equal, &[3, 2]),
+        Act::Assert(5),
+        Act::Holds(&[3, 2]),
+        Act::Truth(1, Some(false)),
+        Act::Refuted(&[3, 2, 1], &[-1, -2, -3]),
+    ],
+};
 
 #[test]
 fn equations_and_exclusions(rt: HostRuntime) -> Result<(), Fail> {
-    let mut problem = Problem::new(rt.alloc(), 1000)?;
-    let [p, q, r] = odd(&mut problem)?;
-    assert!(rt; problem.holds(&[Lit::holds(r), Lit::holds(q)])?);
-    assert_eq!(rt; problem.truth(Lit::holds(p)), Some(false));
-    assert!(rt; !problem.holds(&[Lit::holds(r), Lit::holds(q), Lit::holds(p)])?);
-    Ok(())
+    run(rt.alloc(), ODD)
 }
 
-// That a bird sits in a hole.
-fn sits(problem: &mut Problem, bird: u8, hole: u8) -> Result<TermId, Memory> {
-    problem.atom(usize::from(bird) * 8 + usize::from(hole))
-}
-
-// That a bird sits in one of so many holes.
-fn perches(problem: &mut Problem, alloc: Global, bird: u8, holes: u8) -> Result<(), Memory> {
-    let mut some = Vec::new(alloc);
-    for hole in 0..holes {
-        some.push(Lit::holds(sits(problem, bird, hole)?))?;
-    }
-    problem.clause(&some)
-}
-
-// That two birds don't both sit in a hole.
-fn share_no_hole(problem: &mut Problem, one: u8, other: u8, hole: u8) -> Result<(), Memory> {
-    let first = Lit::fails(sits(problem, one, hole)?);
-    let second = Lit::fails(sits(problem, other, hole)?);
-    problem.clause(&[first, second])
-}
-
-// That so many birds sit in so many holes, one in each.
-fn pigeons(problem: &mut Problem, alloc: Global, birds: u8, holes: u8) -> Result<(), Memory> {
-    for bird in 0..birds {
-        perches(problem, alloc, bird, holes)?;
-        for other in 0..bird {
-            for hole in 0..holes {
-                share_no_hole(problem, bird, other, hole)?;
-            }
-        }
-    }
-    Ok(())
-}
+// That each of three birds sits in one of two holes: atoms 1 and 2 say where the first one sits. Then that no two sit in the same.
+const THREE_IN_TWO: &Case = &Case {
+    atoms: 6,
+    limit: 1000,
+    acts: &[
+        Act::Clause(&[1, 2]),
+        Act::Clause(&[3, 4]),
+        Act::Clause(&[5, 6]),
+        Act::Clause(&[-1, -3]),
+        Act::Clause(&[-1, -5]),
+        Act::Clause(&[-3, -5]),
+        Act::Clause(&[-2, -4]),
+        Act::Clause(&[-2, -6]),
+        Act::Clause(&[-4, -6]),
+        Act::Refuted(&[], &[]),
+    ],
+};
 
 #[test]
 fn three_birds_have_no_two_holes(rt: HostRuntime) -> Result<(), Fail> {
-    let mut problem = Problem::new(rt.alloc(), 1000)?;
-    pigeons(&mut problem, rt.alloc(), 3, 2)?;
-    assert!(rt; !problem.holds(&[])?);
-    Ok(())
+    run(rt.alloc(), THREE_IN_TWO)
 }
+
+// The same of four birds and three holes.
+const FOUR_IN_THREE: &Case = &Case {
+    atoms: 12,
+    limit: 10000,
+    acts: &[
+        Act::Clause(&[1, 2, 3]),
+        Act::Clause(&[4, 5, 6]),
+        Act::Clause(&[7, 8, 9]),
+        Act::Clause(&[10, 11, 12]),
+        Act::Clause(&[-1, -4]),
+        Act::Clause(&[-1, -7]),
+        Act::Clause(&[-1, -10]),
+        Act::Clause(&[-4, -7]),
+        Act::Clause(&[-4, -10]),
+        Act::Clause(&[-7, -10]),
+        Act::Clause(&[-2, -5]),
+        Act::Clause(&[-2, -8]),
+        Act::Clause(&[-2, -11]),
+        Act::Clause(&[-5, -8]),
+        Act::Clause(&[-5, -11]),
+        Act::Clause(&[-8, -11]),
+        Act::Clause(&[-3, -6]),
+        Act::Clause(&[-3, -9]),
+        Act::Clause(&[-3, -12]),
+        Act::Clause(&[-6, -9]),
+        Act::Clause(&[-6, -12]),
+        Act::Clause(&[-9, -12]),
+        Act::Refuted(&[], &[]),
+    ],
+};
 
 #[test]
 fn four_birds_have_no_three_holes(rt: HostRuntime) -> Result<(), Fail> {
-    let mut problem = Problem::new(rt.alloc(), 10000)?;
-    pigeons(&mut problem, rt.alloc(), 4, 3)?;
-    assert!(rt; !problem.holds(&[])?);
-    Ok(())
+    run(rt.alloc(), FOUR_IN_THREE)
 }
+
+// The same of three birds and three holes.
+const THREE_IN_THREE: &Case = &Case {
+    atoms: 9,
+    limit: 1000,
+    acts: &[
+        Act::Clause(&[1, 2, 3]),
+        Act::Clause(&[4, 5, 6]),
+        Act::Clause(&[7, 8, 9]),
+        Act::Clause(&[-1, -4]),
+        Act::Clause(&[-1, -7]),
+        Act::Clause(&[-4, -7]),
+        Act::Clause(&[-2, -5]),
+        Act::Clause(&[-2, -8]),
+        Act::Clause(&[-5, -8]),
+        Act::Clause(&[-3, -6]),
+        Act::Clause(&[-3, -9]),
+        Act::Clause(&[-6, -9]),
+        Act::Holds(&[]),
+    ],
+};
 
 #[test]
 fn three_birds_have_three_holes(rt: HostRuntime) -> Result<(), Fail> {
-    let mut problem = Problem::new(rt.alloc(), 1000)?;
-    pigeons(&mut problem, rt.alloc(), 3, 3)?;
-    assert!(rt; problem.holds(&[])?);
+    run(rt.alloc(), THREE_IN_THREE)
+}
+
+/// A clause, and its bit in a set of clauses.
+struct Row {
+    bit: u8,
+    clause: &'static [Number],
+}
+
+// The clauses over all of three atoms.
+const ROWS: &[Row] = &[
+    Row {
+        bit: 1,
+        clause: &[-1, -2, -3],
+    },
+    Row {
+        bit: 2,
+        clause: &[1, -2, -3],
+    },
+    Row {
+        bit: 4,
+        clause: &[-1, 2, -3],
+    },
+    Row {
+        bit: 8,
+        clause: &[1, 2, -3],
+    },
+    Row {
+        bit: 16,
+        clause: &[-1, -2, 3],
+    },
+    Row {
+        bit: 32,
+        clause: &[1, -2, 3],
+    },
+    Row {
+        bit: 64,
+        clause: &[-1, 2, 3],
+    },
+    Row {
+        bit: 128,
+        clause: &[1, 2, 3],
+    },
+];
+
+/// Asserts the clauses of a set.
+fn assert_rows(alloc: Global, problem: &mut Problem, set: u8) -> Result<(), Memory> {
+    for row in ROWS {
+        if set & row.bit != 0 {
+            assert_one(alloc, problem, row.clause)?;
+        }
+    }
     Ok(())
 }
 
-// Whether the bit of a number is set.
-fn bit(n: u8, i: u32) -> bool {
-    n.checked_shr(i).unwrap_or(0) % 2 == 1
-}
-
-// The literal of this atom in the row of this number.
-fn in_row(problem: &mut Problem, n: u8, i: u8) -> Result<Lit, Memory> {
-    Ok(Lit {
-        term: problem.atom(usize::from(i))?,
-        sign: bit(n, u32::from(i)),
-    })
-}
-
-// The clause of this number over three atoms: each of them has a sign there.
-fn row(problem: &mut Problem, n: u8) -> Result<(), Memory> {
-    let first = in_row(problem, n, 0)?;
-    let second = in_row(problem, n, 1)?;
-    let third = in_row(problem, n, 2)?;
-    problem.clause(&[first, second, third])
-}
-
-// Whether these rows can all be true.
+/// Whether the clauses of a set can all be true.
 fn rows_hold(alloc: Global, set: u8) -> Result<bool, Stop> {
-    let mut problem = Problem::new(alloc, 1000)?;
-    for n in 0..8 {
-        if bit(set, u32::from(n)) {
-            row(&mut problem, n)?;
-        }
-    }
-    problem.holds(&[])
+    let mut problem = over(alloc, 3, 1000)?;
+    assert_rows(alloc, &mut problem, set)?;
+    holds(alloc, &mut problem, &[])
 }
 
 #[test]
@@ -219,22 +247,23 @@ fn each_set_of_rows_is_answered(rt: HostRuntime) -> Result<(), Fail> {
     Ok(())
 }
 
-// The last of so many negations of a term, one of another.
-fn negations(problem: &mut Problem, first: TermId, count: usize) -> Result<TermId, Memory> {
-    let mut last = first;
-    for _ in 0..count {
-        last = problem.term(Lit::fails(last))?;
+// So many negations: of an atom, and each next one of the one before it.
+fn negations(problem: &mut Problem, count: usize) -> Result<(), Memory> {
+    for term in 0..count {
+        problem.gates(Operator::Not, &[term])?;
     }
-    Ok(last)
+    Ok(())
 }
+
+const CHAIN: &[Act] = &[
+    Act::Refuted(&[1, -1001], &[-1, 1001]),
+    Act::Holds(&[1]),
+    Act::Truth(1001, Some(true)),
+];
 
 #[test]
 fn a_long_chain(rt: HostRuntime) -> Result<(), Fail> {
-    let mut problem = Problem::new(rt.alloc(), 10)?;
-    let first = problem.atom(0)?;
-    let last = negations(&mut problem, first, 1000)?;
-    assert!(rt; !problem.holds(&[Lit::holds(first), Lit::fails(last)])?);
-    assert!(rt; problem.holds(&[Lit::holds(first)])?);
-    assert_eq!(rt; problem.truth(Lit::holds(last)), Some(true));
-    Ok(())
+    let mut problem = over(rt.alloc(), 1, 10)?;
+    negations(&mut problem, 1000)?;
+    follow(rt.alloc(), &mut problem, CHAIN)
 }

@@ -10,7 +10,7 @@ use Rattle.std.proofs.Math.Seq.{drop-cons}
 use Rattle.std.proofs.lemmas.Option.{slice_get-get_or, slice_get_past}
 use Rattle.std.proofs.lemmas.Bool.{and_parts}
 use Rattle.nz_lists.proofs.Tests.{either_true}
-use Rattle.nz_spec.specs.Fraction.{IsNumber, whole}
+use Rattle.nz_fractions.specs.Fraction.{IsNumber, whole}
 use Rattle.nz_spec.specs.Term.{Sort, bool_sort, int_sort, real_sort, are_same_sort, Constant, are_same_constant, Head, constant, falsum, constant_of, Term, apply, no_terms, Value, Assignment, default_value, ValueFits, DecimalsAreNumbers, IsTrueUnder, is_true}
 use Rattle.nz_spec.specs.Numerals.{NumeralsAreWhole}
 use Rattle.nz_spec.specs.Table.{Node, IsTable, TermOfNode, AssignsByNumber, term_in, is_node_of, listed_value, assignment_by}

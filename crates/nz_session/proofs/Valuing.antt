@@ -5,7 +5,7 @@ use Rattle.std.specs.List.{AllByRecursion}
 use Rattle.nz_spec.specs.Term as spec
 use Rattle.nz_spec.specs.Term.{Term, Terms, no_terms, terms, Assignment, value_of}
 use Rattle.nz_spec.specs.Normal.{normal_of, NormalKeepsValue}
-use Rattle.nz_spec.specs.Fraction.{first_wide}
+use Rattle.nz_fractions.specs.Fraction.{first_wide}
 use Rattle.nz_spec.specs.Operations.{operations_of}
 use Rattle.nz_spec.specs.Table.{Node, term_in}
 use Rattle.nz_spec.specs.Live.{LastAnswer, model_found}

@@ -3,15 +3,15 @@
 use Rattle.std.proofs.Common.{◌≡◌, ℕ, ◌<◌, Bool, true, false, List, [], ◌∷◌, length, pos, negsuc, refl, sym, ap, ◌∙◌, subst, true≢false}
 use Rattle.std.specs.Prelude.{◌==◌, not, ◌&&◌, if◌then◌else◌, ◌≢◌}
 use Rattle.nz_ints.proofs.Ring.{Atom, Literal, ◌⊕◌, ◌⊗◌, Minus}
-use Rattle.nz_spec.specs.Fraction.{Fraction, whole, ◌=ℚ◌, ◌+ℚ◌, neg_ℚ, ◌*ℚ◌, reciprocal, Product, Quotient, outcome}
+use Rattle.nz_fractions.specs.Fraction.{Fraction, whole, ◌=ℚ◌, ◌+ℚ◌, neg_ℚ, ◌*ℚ◌, reciprocal, Product, Quotient, outcome}
 use Rattle.nz_spec.specs.Computation.{at_once}
 use Rattle.nz_spec.specs.Term.{is_zero}
 use Rattle.nz_spec.specs.Form.{Part, unit_value, parts_value}
 use Rattle.nz_spec.specs.Basis.{Valuation, worth, form_at, Coefficients, weighted, mix, IsZeroAtBasic, IsRow, IsBasis, AreIndependent, alone, IsSolution}
 use Rattle.nz_spec.specs.BasisMoves.{numbers, Rows, AreRows, plus_multiple, exchanged, MayExchange, solved, replaced, exchange, ExchangeKeepsBasis, SolutionsStay}
-use Rattle.nz_spec.proofs.FractionLaws.{=ℚ_refl, =ℚ-from_same, =ℚ_sym}
-use Rattle.nz_spec.proofs.FractionOrder.{same-fraction_eq}
-use Rattle.nz_spec.proofs.FractionArithmetic.{+ℚ-zero, +ℚ-same, neg_ℚ-same, outcome-sum, outcome-product}
+use Rattle.nz_fractions.proofs.Laws.{=ℚ_refl, =ℚ-from_same, =ℚ_sym}
+use Rattle.nz_fractions.proofs.Order.{same-fraction_eq}
+use Rattle.nz_fractions.proofs.Arithmetic.{+ℚ-zero, +ℚ-same, neg_ℚ-same, outcome-sum, outcome-product}
 use Rattle.nz_spec.proofs.FormValues.{zero_left, zero_times}
 use Rattle.nz_spec.proofs.FractionQuotients.{reciprocal-times, outcome-quotient, nonzero-test, zero-factor}
 use Rattle.nz_spec.proofs.FractionSolver.{◌∙ℚ◌, solve, solve_by, plus_left, plus_right, times_left, times_right}

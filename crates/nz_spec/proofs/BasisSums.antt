@@ -2,10 +2,10 @@
 use Rattle.std.proofs.Common.{◌≡◌, ℕ, zero, suc, ◌<◌, ◌⊎◌, inl, inr, [], ◌∷◌, pos, refl, sym, subst, arith}
 use Rattle.std.specs.Prelude.{◌≢◌}
 use Rattle.nz_ints.proofs.Ring.{Atom, ◌⊕◌, ◌⊗◌}
-use Rattle.nz_spec.specs.Fraction.{Fraction, whole, ◌=ℚ◌, ◌+ℚ◌, ◌*ℚ◌}
+use Rattle.nz_fractions.specs.Fraction.{Fraction, whole, ◌=ℚ◌, ◌+ℚ◌, ◌*ℚ◌}
 use Rattle.nz_spec.specs.Basis.{sum_of}
-use Rattle.nz_spec.proofs.FractionLaws.{=ℚ_refl, =ℚ_sym}
-use Rattle.nz_spec.proofs.FractionArithmetic.{+ℚ-zero, +ℚ-same}
+use Rattle.nz_fractions.proofs.Laws.{=ℚ_refl, =ℚ_sym}
+use Rattle.nz_fractions.proofs.Arithmetic.{+ℚ-zero, +ℚ-same}
 use Rattle.nz_spec.proofs.FormValues.{zero_left, times_zero}
 use Rattle.nz_spec.proofs.FractionSolver.{◌∙ℚ◌, solve, plus_left, plus_right}
 

@@ -1,13 +1,13 @@
 -- Values that fit a basis are those of its forms, where the units are worth what the forms of their numbers have.
 use Rattle.std.proofs.Common.{ℕ, ◌<◌, Bool, List, [], ◌∷◌, length, pos, refl, ap}
 use Rattle.nz_ints.proofs.Ring.{Atom, ◌⊕◌}
-use Rattle.nz_spec.specs.Fraction.{Fraction, whole, ◌=ℚ◌, ◌+ℚ◌, ◌*ℚ◌}
+use Rattle.nz_fractions.specs.Fraction.{Fraction, whole, ◌=ℚ◌, ◌+ℚ◌, ◌*ℚ◌}
 use Rattle.nz_spec.specs.Term.{Term}
 use Rattle.nz_spec.specs.Form.{Part}
 use Rattle.nz_spec.specs.Basis.{Valuation, worth, form_at, Coefficients, weighted, IsRow, IsBasis, IsSolution}
 use Rattle.nz_spec.specs.BasisMoves.{AreNumbered, SolutionsAreWorth}
-use Rattle.nz_spec.proofs.FractionLaws.{=ℚ_refl, =ℚ-from_same, =ℚ_sym}
-use Rattle.nz_spec.proofs.FractionArithmetic.{+ℚ-same}
+use Rattle.nz_fractions.proofs.Laws.{=ℚ_refl, =ℚ-from_same, =ℚ_sym}
+use Rattle.nz_fractions.proofs.Arithmetic.{+ℚ-same}
 use Rattle.nz_spec.proofs.FractionSolver.{◌∙ℚ◌, solve, times_right}
 use Rattle.nz_spec.proofs.BasisRows.{weighted-plus, weighted-zero}
 use Rattle.nz_spec.proofs.BasisJoins.{unit_worth, added-zero, added-mix, Spans}

@@ -1,12 +1,12 @@
 -- The values of all forms at a position: they fit its basis, and meet the bounds where no form breaks one.
 use Rattle.std.proofs.Common.{◌≡◌, ℕ, ◌<◌, ◌≤◌, Bool, true, false, ◌⊎◌, inl, inr, [], ◌∷◌, length, pos, refl, arith}
 use Rattle.nz_ints.proofs.Ring.{Atom, ◌⊕◌, ◌⊗◌}
-use Rattle.nz_spec.specs.Fraction.{Fraction, whole, ◌=ℚ◌, ◌+ℚ◌, ◌*ℚ◌}
+use Rattle.nz_fractions.specs.Fraction.{Fraction, whole, ◌=ℚ◌, ◌+ℚ◌, ◌*ℚ◌}
 use Rattle.nz_spec.specs.Infinitesimal.{Infinitesimal, ◌=δ◌, at}
 use Rattle.nz_spec.specs.Basis.{Coefficients, weighted, IsRow, alone, IsSolution}
 use Rattle.nz_spec.specs.Bland.{is_nonbasic, value_in, sum_at, Position, HasBasis, HasValue, Side, NonbasicFormsFit, Breaks, MeetsBounds, PositionsHaveValues}
-use Rattle.nz_spec.proofs.FractionLaws.{=ℚ_refl, =ℚ_sym}
-use Rattle.nz_spec.proofs.FractionArithmetic.{+ℚ-same}
+use Rattle.nz_fractions.proofs.Laws.{=ℚ_refl, =ℚ_sym}
+use Rattle.nz_fractions.proofs.Arithmetic.{+ℚ-same}
 use Rattle.nz_spec.proofs.FormValues.{zero_times}
 use Rattle.nz_spec.proofs.FractionSolver.{◌∙ℚ◌, solve, plus_right, times_left, times_right}
 use Rattle.nz_spec.proofs.BasisSums.{sum-same, sum-plus, sum-scaled}

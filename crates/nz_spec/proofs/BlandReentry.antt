@@ -3,12 +3,12 @@
 -- and the greatest goes the wrong way. But the form that it helps is a lesser one, and so it keeps its own bound there.
 use Rattle.std.proofs.Common.{◌≡◌, ℕ, zero, suc, ◌<◌, ◌≤◌, Bool, true, false, ◌⊎◌, inl, inr, length, Option, Some, pos, refl, sym, ap, ◌∙◌, subst, true≢false, arith}
 use Rattle.std.specs.Prelude.{◌≢◌, ◌↔◌, unwrap_or, is_some}
-use Rattle.nz_spec.specs.Fraction.{whole, ◌=ℚ◌, ◌<ℚ◌}
+use Rattle.nz_fractions.specs.Fraction.{whole, ◌=ℚ◌, ◌<ℚ◌}
 use Rattle.nz_spec.specs.Infinitesimal.{Infinitesimal, ◌=δ◌}
 use Rattle.nz_spec.specs.Basis.{Coefficients, IsSolution}
 use Rattle.nz_spec.specs.Bland.{Point, is_nonbasic, NonbasicFormsFit, zero_infinitesimal, value_in, sum_at, Position, HasBasis, Side, lower_side, upper_side, other_side, bound_on, IsOutside, HasRoom, CanHelp, IsCheckStep}
 use Rattle.nz_spec.specs.PositionMoves.{AreConsistent}
-use Rattle.nz_spec.proofs.FractionLaws.{=ℚ-from_same, =ℚ_sym, ≤ℚ-from_eq, ≤ℚ-<ℚ_trans, <ℚ-≤ℚ_trans, ≤ℚ-from_lt, <ℚ_irrefl}
+use Rattle.nz_fractions.proofs.Laws.{=ℚ-from_same, =ℚ_sym, ≤ℚ-from_eq, ≤ℚ-<ℚ_trans, <ℚ-≤ℚ_trans, ≤ℚ-from_lt, <ℚ_irrefl}
 use Rattle.nz_spec.proofs.FractionSolver.{◌∙ℚ◌}
 use Rattle.nz_spec.proofs.InfinitesimalOrder.{=δ_sym, =δ_trans}
 use Rattle.nz_spec.proofs.BlandRefutes.{sides, IsPast, not_outside, outside-sum, outside-equal, past-between, past-outside, past-equal, inside-at, held_back, held_up, held_down}

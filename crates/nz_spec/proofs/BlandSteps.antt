@@ -2,15 +2,15 @@
 use Rattle.std.proofs.Common.{◌≡◌, ℕ, ◌<◌, Bool, true, false, ◌⊎◌, inl, inr, [], ◌∷◌, length, Some, None, pos, negsuc, refl, sym, ap, ◌∙◌, subst, true≢false}
 use Rattle.std.specs.Prelude.{◌==◌, if◌then◌else◌, ◌≢◌, ◌↔◌, unwrap_or, is_some}
 use Rattle.nz_ints.proofs.Ring.{Atom, Literal, ◌⊕◌, ◌⊗◌, Minus}
-use Rattle.nz_spec.specs.Fraction.{Fraction, whole, ◌=ℚ◌, ◌<ℚ◌, ◌+ℚ◌, ◌-ℚ◌, neg_ℚ, ◌*ℚ◌}
+use Rattle.nz_fractions.specs.Fraction.{Fraction, whole, ◌=ℚ◌, ◌<ℚ◌, ◌+ℚ◌, ◌-ℚ◌, neg_ℚ, ◌*ℚ◌}
 use Rattle.nz_spec.specs.Infinitesimal.{Infinitesimal, ◌+δ◌, ◌-δ◌, scaled}
 use Rattle.nz_spec.specs.Term.{is_zero}
 use Rattle.nz_spec.specs.Basis.{Coefficients, weighted, IsRow, IsBasis, IsCoefficient, alone, IsSolution}
 use Rattle.nz_spec.specs.BasisMoves.{AreRows, exchange, exchanged, MayExchange}
 use Rattle.nz_spec.specs.Bland.{Point, is_nonbasic, zero_infinitesimal, value_in, Position, HasBasis, HasValue, Side, other_side, HasRoom, CanHelp, exchanged_point, IsCheckStep, CheckStepsKeepBasis}
-use Rattle.nz_spec.proofs.FractionLaws.{=ℚ_refl, =ℚ-from_same, =ℚ_sym, ≤ℚ-from_eq, <ℚ_irrefl}
-use Rattle.nz_spec.proofs.FractionOrder.{same-fraction_eq}
-use Rattle.nz_spec.proofs.FractionArithmetic.{+ℚ-same}
+use Rattle.nz_fractions.proofs.Laws.{=ℚ_refl, =ℚ-from_same, =ℚ_sym, ≤ℚ-from_eq, <ℚ_irrefl}
+use Rattle.nz_fractions.proofs.Order.{same-fraction_eq}
+use Rattle.nz_fractions.proofs.Arithmetic.{+ℚ-same}
 use Rattle.nz_spec.proofs.FormValues.{zero_times}
 use Rattle.nz_spec.proofs.FractionSolver.{◌∙ℚ◌, solve, times_left, times_right}
 use Rattle.nz_spec.proofs.BasisSums.{sum-same, sum-plus, sum-single}

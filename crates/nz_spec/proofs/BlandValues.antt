@@ -2,13 +2,13 @@
 use Rattle.std.proofs.Common.{◌≡◌, ℕ, zero, suc, ◌<◌, Bool, true, false, List, [], ◌∷◌, ◌++◌, pos, refl}
 use Rattle.std.specs.Prelude.{if◌then◌else◌}
 use Rattle.nz_ints.proofs.Ring.{Atom, Literal, ◌⊕◌, ◌⊗◌, Minus}
-use Rattle.nz_spec.specs.Fraction.{Fraction, whole, ◌=ℚ◌, ◌+ℚ◌, ◌-ℚ◌, neg_ℚ, ◌*ℚ◌, Sum, Product, outcome}
+use Rattle.nz_fractions.specs.Fraction.{Fraction, whole, ◌=ℚ◌, ◌+ℚ◌, ◌-ℚ◌, neg_ℚ, ◌*ℚ◌, Sum, Product, outcome}
 use Rattle.nz_spec.specs.Infinitesimal.{Infinitesimal, ◌+δ◌, ◌-δ◌, scaled}
 use Rattle.nz_spec.specs.Basis.{sum_of, Coefficients, weighted}
 use Rattle.nz_spec.specs.BasisMoves.{numbers}
 use Rattle.nz_spec.specs.Bland.{is_nonbasic, zero_infinitesimal, value_in, value_onto, ValueIsComputed, SumMoves}
-use Rattle.nz_spec.proofs.FractionLaws.{=ℚ_refl, =ℚ_sym}
-use Rattle.nz_spec.proofs.FractionArithmetic.{+ℚ-zero, outcome-sum, outcome-product}
+use Rattle.nz_fractions.proofs.Laws.{=ℚ_refl, =ℚ_sym}
+use Rattle.nz_fractions.proofs.Arithmetic.{+ℚ-zero, outcome-sum, outcome-product}
 use Rattle.nz_spec.proofs.FormValues.{zero_left, zero_times}
 use Rattle.nz_spec.proofs.FractionSolver.{◌∙ℚ◌, solve, plus_left, plus_right, times_left, times_right}
 use Rattle.nz_spec.proofs.BasisSums.{sum-same, sum-plus, sum-single}

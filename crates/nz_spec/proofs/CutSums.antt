@@ -3,7 +3,7 @@ use Rattle.std.proofs.Common.{◌≡◌, Bool, true, false, ◌||◌, inl, inr, 
 use Rattle.std.specs.Prelude.{if◌then◌else◌}
 use Rattle.std.specs.List.{list_all, list_any, AllByRecursion}
 use Rattle.std.proofs.lemmas.List.Folds.{list_any-append}
-use Rattle.nz_spec.specs.Fraction.{whole, ◌≤ℚ◌, floor}
+use Rattle.nz_fractions.specs.Fraction.{whole, ◌≤ℚ◌, floor}
 use Rattle.nz_spec.specs.Computation.{at_once, turned_into, and_then}
 use Rattle.nz_spec.specs.Term.{Term, sort_of, Assignment}
 use Rattle.nz_spec.specs.Model.{IsAssignment, HasSort}

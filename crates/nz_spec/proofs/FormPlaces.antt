@@ -3,7 +3,7 @@ use Rattle.std.proofs.Common.{◌≡◌, ℕ, ◌≤◌, Bool, true, false, List
 use Rattle.std.specs.Prelude.{if◌then◌else◌, nat_lt}
 use Rattle.std.specs.List.{AllByRecursion}
 use Rattle.std.proofs.lemmas.Bool.Decides.{nat_tests}
-use Rattle.nz_spec.specs.Fraction.{Arithmetic}
+use Rattle.nz_fractions.specs.Fraction.{Arithmetic}
 use Rattle.nz_spec.specs.Computation.{Computation, operated, at_once, turned_into}
 use Rattle.nz_spec.specs.Same.{are_same_term}
 use Rattle.nz_spec.specs.Form.{Numbering, Part, MayPrecede, with_part, part_alone, part_joined}

@@ -2,13 +2,13 @@
 use Rattle.std.proofs.Common.{◌≡◌, ℕ, zero, suc, ◌≤◌, Bool, true, false, List, [], ◌∷◌, ◌++◌, length, map, pos, refl, sym, ap, ◌∙◌, subst, true≢false, arith}
 use Rattle.std.specs.Prelude.{if◌then◌else◌}
 use Rattle.nz_ints.proofs.Ring.{Atom, Literal, ◌⊕◌, ◌⊗◌, Minus}
-use Rattle.nz_spec.specs.Fraction.{Fraction, whole, ◌=ℚ◌, ◌+ℚ◌, neg_ℚ, ◌*ℚ◌}
+use Rattle.nz_fractions.specs.Fraction.{Fraction, whole, ◌=ℚ◌, ◌+ℚ◌, neg_ℚ, ◌*ℚ◌}
 use Rattle.nz_spec.specs.Term.{Term}
 use Rattle.nz_spec.specs.Literal.{are_same_term}
 use Rattle.nz_spec.specs.Form.{Part, negated_part}
 use Rattle.nz_spec.specs.Basis.{Valuation, worth, unit_coefficient, WorthIsByUnits}
-use Rattle.nz_spec.proofs.FractionLaws.{=ℚ_refl, =ℚ-from_same, =ℚ_sym}
-use Rattle.nz_spec.proofs.FractionArithmetic.{+ℚ-same, +ℚ-neg, neg_ℚ-same}
+use Rattle.nz_fractions.proofs.Laws.{=ℚ_refl, =ℚ-from_same, =ℚ_sym}
+use Rattle.nz_fractions.proofs.Arithmetic.{+ℚ-same, +ℚ-neg, neg_ℚ-same}
 use Rattle.nz_spec.proofs.FormValues.{times_zero}
 use Rattle.nz_spec.proofs.Same.{same_term, one_term}
 use Rattle.nz_spec.proofs.FractionSolver.{◌∙ℚ◌, solve, equal_from_difference, plus_left, plus_right, times_left, times_right}

@@ -1,8 +1,8 @@
 -- Bounds on fractions, strict or not: they add up, and may be multiplied by what is above 0.
 use Rattle.std.proofs.Common.{Bool, true, false, ◌||◌, pos, sym}
-use Rattle.nz_spec.specs.Fraction.{Fraction, whole, ◌=ℚ◌, ◌≤ℚ◌, ◌<ℚ◌, ◌+ℚ◌, ◌*ℚ◌}
-use Rattle.nz_spec.proofs.FractionLaws.{=ℚ_sym, ≤ℚ-from_eq, ≤ℚ-from_lt, ≤ℚ_trans, <ℚ-≤ℚ_trans, ≤ℚ-<ℚ_trans}
-use Rattle.nz_spec.proofs.FractionArithmetic.{+ℚ_comm, *ℚ_comm, cmp-+ℚ, cmp-*ℚ_pos}
+use Rattle.nz_fractions.specs.Fraction.{Fraction, whole, ◌=ℚ◌, ◌≤ℚ◌, ◌<ℚ◌, ◌+ℚ◌, ◌*ℚ◌}
+use Rattle.nz_fractions.proofs.Laws.{=ℚ_sym, ≤ℚ-from_eq, ≤ℚ-from_lt, ≤ℚ_trans, <ℚ-≤ℚ_trans, ≤ℚ-<ℚ_trans}
+use Rattle.nz_fractions.proofs.Arithmetic.{+ℚ_comm, *ℚ_comm, cmp-+ℚ, cmp-*ℚ_pos}
 use Rattle.nz_spec.proofs.InfinitesimalLaws.{lt-carried, moved, moved_right, scaled}
 
 -- ---- Sums

@@ -2,11 +2,11 @@
 use Rattle.std.proofs.Common.{◌≡◌, ℕ, zero, suc, false, [], ◌∷◌, ℤ, pos, negsuc, ◌*ℤ◌, refl, sym, ◌∙◌, subst, true≢false}
 use Rattle.nz_ints.proofs.Ring as ring
 use Rattle.nz_ints.proofs.Ring.{Atom, Literal, ◌⊗◌, Minus}
-use Rattle.nz_spec.specs.Fraction.{Fraction, denominator, over, whole, ◌=ℚ◌, ◌*ℚ◌, ◌/ℚ◌, flipped, reciprocal, outcome, exact, Quotient}
+use Rattle.nz_fractions.specs.Fraction.{Fraction, denominator, over, whole, ◌=ℚ◌, ◌*ℚ◌, ◌/ℚ◌, flipped, reciprocal, outcome, exact, Quotient}
 use Rattle.nz_spec.specs.Term.{is_zero}
-use Rattle.nz_spec.proofs.FractionLaws.{=ℚ_sym, reduce-same}
-use Rattle.nz_spec.proofs.FractionOrder.{fraction_eq-same}
-use Rattle.nz_spec.proofs.FractionArithmetic.{own_parts, product_parts, whole_parts, by_parts, *ℚ-one}
+use Rattle.nz_fractions.proofs.Laws.{=ℚ_sym, reduce-same}
+use Rattle.nz_fractions.proofs.Order.{fraction_eq-same}
+use Rattle.nz_fractions.proofs.Arithmetic.{own_parts, product_parts, whole_parts, by_parts, *ℚ-one}
 use Rattle.nz_spec.proofs.FormValues.{zero_times}
 use Rattle.nz_spec.proofs.FractionSolver.{◌∙ℚ◌, solve, times_left, times_right}
 

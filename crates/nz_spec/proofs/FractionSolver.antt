@@ -4,9 +4,9 @@ use Rattle.std.proofs.Common.{◌≡◌, ℕ, zero, suc, Bool, true, false, eqb,
 use Rattle.std.proofs.lemmas.Bool.{and_parts}
 use Rattle.nz_ints.proofs.Ring as ring
 use Rattle.nz_ints.proofs.Ring.{Expression, Atom, Literal, ◌⊕◌, ◌⊗◌, Minus, Polynomial, End, More, agree}
-use Rattle.nz_spec.specs.Fraction.{Fraction, denominator, whole, ◌=ℚ◌, ◌+ℚ◌, neg_ℚ, ◌*ℚ◌}
-use Rattle.nz_spec.proofs.FractionLaws.{=ℚ_refl, =ℚ-from_same, =ℚ_sym, =ℚ_trans}
-use Rattle.nz_spec.proofs.FractionArithmetic.{own_parts, sum_parts, product_parts, neg_parts, whole_parts, by_parts, +ℚ_comm, +ℚ_assoc, +ℚ-zero, +ℚ-neg, +ℚ-same, *ℚ_comm, *ℚ_assoc, *ℚ-one, *ℚ-+ℚ, *ℚ-same}
+use Rattle.nz_fractions.specs.Fraction.{Fraction, denominator, whole, ◌=ℚ◌, ◌+ℚ◌, neg_ℚ, ◌*ℚ◌}
+use Rattle.nz_fractions.proofs.Laws.{=ℚ_refl, =ℚ-from_same, =ℚ_sym, =ℚ_trans}
+use Rattle.nz_fractions.proofs.Arithmetic.{own_parts, sum_parts, product_parts, neg_parts, whole_parts, by_parts, +ℚ_comm, +ℚ_assoc, +ℚ-zero, +ℚ-neg, +ℚ-same, *ℚ_comm, *ℚ_assoc, *ℚ-one, *ℚ-+ℚ, *ℚ-same}
 use Rattle.nz_spec.proofs.FormValues.{zero_left, zero_times, times_zero, one_times}
 
 -- ---- Chains of equal fractions

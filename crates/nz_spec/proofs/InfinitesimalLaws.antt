@@ -3,11 +3,11 @@ use Rattle.std.proofs.Common.{◌≡◌, ℕ, zero, suc, Bool, true, false, ◌�
 use Rattle.std.proofs.lemmas.Int.{ints}
 use Rattle.std.proofs.lemmas.List.Elements.{All-nil, All-cons, All-head, All-tail}
 use Rattle.nz_ints.proofs.Ring.{Atom, Literal, ◌⊕◌, ◌⊗◌, Minus, solve}
-use Rattle.nz_spec.specs.Fraction.{Fraction, denominator, over, whole, ◌=ℚ◌, ◌≤ℚ◌, ◌<ℚ◌, ◌+ℚ◌, neg_ℚ, ◌*ℚ◌, ◌/ℚ◌, flipped, reciprocal, fraction_cmp, fraction_lt, fraction_le, fraction_min, outcome, exact, Difference, Quotient}
+use Rattle.nz_fractions.specs.Fraction.{Fraction, denominator, over, whole, ◌=ℚ◌, ◌≤ℚ◌, ◌<ℚ◌, ◌+ℚ◌, neg_ℚ, ◌*ℚ◌, ◌/ℚ◌, flipped, reciprocal, fraction_cmp, fraction_lt, fraction_le, fraction_min, outcome, exact, Difference, Quotient}
 use Rattle.nz_spec.specs.Infinitesimal.{Infinitesimal, ◌≤δ◌, at, Pair, is_limiting, limit, limits, IsLeastLimit, least_from, chosen_delta, AreOrdered, AreOrderedAt}
-use Rattle.nz_spec.proofs.FractionLaws.{=ℚ_refl, =ℚ_sym, =ℚ_trans, ≤ℚ-from_eq, ≤ℚ_refl, ≤ℚ-from_lt, ≤ℚ_trans, <ℚ-≤ℚ_trans, ≤ℚ-<ℚ_trans, <ℚ_irrefl, reduce-same}
-use Rattle.nz_spec.proofs.FractionOrder.{fraction_ranked, fraction_cmp_is}
-use Rattle.nz_spec.proofs.FractionArithmetic.{own_parts, sum_parts, product_parts, neg_parts, whole_parts, by_parts, +ℚ_comm, +ℚ-neg, *ℚ_assoc, *ℚ-one, *ℚ-same, cmp-same, cmp-+ℚ, cmp-*ℚ_pos, outcome-difference}
+use Rattle.nz_fractions.proofs.Laws.{=ℚ_refl, =ℚ_sym, =ℚ_trans, ≤ℚ-from_eq, ≤ℚ_refl, ≤ℚ-from_lt, ≤ℚ_trans, <ℚ-≤ℚ_trans, ≤ℚ-<ℚ_trans, <ℚ_irrefl, reduce-same}
+use Rattle.nz_fractions.proofs.Order.{fraction_ranked, fraction_cmp_is}
+use Rattle.nz_fractions.proofs.Arithmetic.{own_parts, sum_parts, product_parts, neg_parts, whole_parts, by_parts, +ℚ_comm, +ℚ-neg, *ℚ_assoc, *ℚ-one, *ℚ-same, cmp-same, cmp-+ℚ, cmp-*ℚ_pos, outcome-difference}
 
 -- ---- what one comparison says of another
 

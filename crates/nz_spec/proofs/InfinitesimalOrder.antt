@@ -3,11 +3,11 @@ use Rattle.std.proofs.Common.{◌≡◌, false, pos, refl, sym, ap, ap₂, ◌�
 use Rattle.std.specs.Ordering.{ordering_then, ordering_reverse, is_gt, is_lt}
 use Rattle.std.specs.Cmp.{IsTotalOrder, upto, tied_itself, alike_right}
 use Rattle.std.proofs.lemmas.Cmp.{on_total, then_total}
-use Rattle.nz_spec.specs.Fraction.{Fraction, whole, ◌=ℚ◌, ◌<ℚ◌, ◌+ℚ◌, ◌*ℚ◌, fraction_cmp}
+use Rattle.nz_fractions.specs.Fraction.{Fraction, whole, ◌=ℚ◌, ◌<ℚ◌, ◌+ℚ◌, ◌*ℚ◌, fraction_cmp}
 use Rattle.nz_spec.specs.Infinitesimal.{Infinitesimal, ◌=δ◌, infinitesimal_cmp}
-use Rattle.nz_spec.proofs.FractionLaws.{=ℚ_refl, =ℚ_sym, =ℚ_trans}
-use Rattle.nz_spec.proofs.FractionOrder.{fraction_cmp_is, fraction_cmp_total}
-use Rattle.nz_spec.proofs.FractionArithmetic.{+ℚ_comm, *ℚ_comm, cmp-same, cmp-+ℚ, cmp-*ℚ_pos, cmp-*ℚ_neg}
+use Rattle.nz_fractions.proofs.Laws.{=ℚ_refl, =ℚ_sym, =ℚ_trans}
+use Rattle.nz_fractions.proofs.Order.{fraction_cmp_is, fraction_cmp_total}
+use Rattle.nz_fractions.proofs.Arithmetic.{+ℚ_comm, *ℚ_comm, cmp-same, cmp-+ℚ, cmp-*ℚ_pos, cmp-*ℚ_neg}
 
 pub infinitesimal_total : IsTotalOrder infinitesimal_cmp
 unfolding infinitesimal_cmp

@@ -30,10 +30,7 @@ pub mod FormSums
 pub mod FormTerms
 pub mod FormValues
 pub mod FormWorth
-pub mod FractionArithmetic
 pub mod FractionBounds
-pub mod FractionLaws
-pub mod FractionOrder
 pub mod FractionQuotients
 pub mod FractionSolver
 pub mod FractionZeros
@@ -56,7 +53,6 @@ pub mod PositionMovesKeep
 pub mod ReadOperands
 pub mod Readings
 pub mod Roots
-pub mod Rounds
 pub mod Same
 pub mod Scripts
 pub mod Sorted

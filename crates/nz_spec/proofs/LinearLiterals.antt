@@ -2,8 +2,8 @@
 use Rattle.std.proofs.Common.{◌≡◌, true, false, not, inl, inr, [], ◌∷◌, pos, ◌*ℤ◌, neg_ℤ, refl, sym, ap, ◌∙◌, arith}
 use Rattle.std.proofs.lemmas.Int.{ints}
 use Rattle.nz_ints.proofs.Ring.{Atom, ◌⊗◌, Minus, solve}
-use Rattle.nz_spec.specs.Fraction.{Fraction, denominator, neg_ℚ, ◌=ℚ◌, ◌≤ℚ◌, ◌<ℚ◌, fraction_le, fraction_lt}
-use Rattle.nz_spec.proofs.FractionLaws.{=ℚ_sym, ≤ℚ-from_eq, ≤ℚ_trans, <ℚ-≤ℚ_trans, ≤ℚ-<ℚ_trans, ≤ℚ_total}
+use Rattle.nz_fractions.specs.Fraction.{Fraction, denominator, neg_ℚ, ◌=ℚ◌, ◌≤ℚ◌, ◌<ℚ◌, fraction_le, fraction_lt}
+use Rattle.nz_fractions.proofs.Laws.{=ℚ_sym, ≤ℚ-from_eq, ≤ℚ_trans, <ℚ-≤ℚ_trans, ≤ℚ-<ℚ_trans, ≤ℚ_total}
 
 -- ---- The tests
 

@@ -5,7 +5,7 @@ use Rattle.std.specs.List.{list_any}
 use Rattle.std.proofs.Math.Bool.{or_assoc, or-false}
 use Rattle.std.proofs.lemmas.Bool.{and_from, and_parts}
 use Rattle.std.proofs.lemmas.List.Folds.{list_any-append}
-use Rattle.nz_spec.specs.Fraction.{Fraction}
+use Rattle.nz_fractions.specs.Fraction.{Fraction}
 use Rattle.nz_spec.specs.Term.{Term, Assignment, is_true, value_of}
 use Rattle.nz_spec.specs.Same.{are_same_fraction, are_same_term}
 use Rattle.nz_spec.specs.Form.{Part, negated_part, parts_value}

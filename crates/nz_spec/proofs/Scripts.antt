@@ -6,7 +6,7 @@ use Rattle.std.specs.List.{AllByRecursion}
 use Rattle.std.proofs.lemmas.Bool.{and_parts}
 use Rattle.nz_ints.specs.Division.{gcd_within, gcd, lcm, floor_div}
 use Rattle.nz_lists.proofs.Tests.{no_contradiction}
-use Rattle.nz_spec.specs.Fraction.{denominator, over, fraction_eq, fraction_le, fraction_lt, neg_ℚ, ◌+ℚ◌, ◌-ℚ◌, ◌*ℚ◌, ◌/ℚ◌, flipped, reciprocal, floor, reduce, is_wide_sum, is_wide_product, exact, outcome, is_wide, first_wide}
+use Rattle.nz_fractions.specs.Fraction.{denominator, over, fraction_eq, fraction_le, fraction_lt, neg_ℚ, ◌+ℚ◌, ◌-ℚ◌, ◌*ℚ◌, ◌/ℚ◌, flipped, reciprocal, floor, reduce, is_wide_sum, is_wide_product, exact, outcome, is_wide, first_wide}
 use Rattle.nz_spec.specs.Term.{are_same_constant, Sort, bool_sort, int_sort, real_sort, are_same_sort, Value, IsOfSort, default_value, is_true, div_of, mod_of}
 use Rattle.nz_spec.specs.Model.{Binding, assignment_of, IsAssignment}
 use Rattle.nz_spec.specs.Text.{What, intact, faulty, unclosed, unread, Heard, Hears, script_limits}

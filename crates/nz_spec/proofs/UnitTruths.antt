@@ -5,7 +5,7 @@ use Rattle.std.specs.List.{AllByRecursion}
 use Rattle.std.proofs.Math.Bool.{or-false}
 use Rattle.std.proofs.lemmas.Bool.{and_parts}
 use Rattle.std.proofs.lemmas.Int.{ints}
-use Rattle.nz_spec.specs.Fraction.{Fraction, whole, ◌=ℚ◌, ◌≤ℚ◌, ◌<ℚ◌, ◌+ℚ◌, neg_ℚ, ◌*ℚ◌, fraction_cmp, fraction_le, fraction_lt, floor, outcome, Sum, Difference}
+use Rattle.nz_fractions.specs.Fraction.{Fraction, whole, ◌=ℚ◌, ◌≤ℚ◌, ◌<ℚ◌, ◌+ℚ◌, neg_ℚ, ◌*ℚ◌, fraction_cmp, fraction_le, fraction_lt, floor, outcome, Sum, Difference}
 use Rattle.nz_spec.specs.Computation.{Computation, at_once, in_turn}
 use Rattle.nz_spec.specs.Term.{int_sort, real_sort, Head, choice, integer_quotient, modulus, magnitude, to_int, Term, apply, Terms, no_terms, terms, Value, Assignment, is_true, number_of, value_of, is_zero, div_of, mod_of, IsDivision, integer_of, IsOfSort}
 use Rattle.nz_spec.specs.Linear.{constant_value, are_divisors, is_linear}
@@ -18,9 +18,9 @@ use Rattle.nz_spec.specs.Gates.{holds, fails}
 use Rattle.nz_spec.specs.Links.{minus, at_most_literal, IsArithmetic}
 use Rattle.nz_spec.specs.Units.{at_most_number, below_number, times_unit, greatest_remainder, quotient_rows, remainder_rows, magnitude_rows, unit_clauses, UnitsAreTrue}
 use Rattle.nz_spec.proofs.Divisions.{divides}
-use Rattle.nz_spec.proofs.FractionLaws.{=ℚ_refl, =ℚ_sym, =ℚ_trans, =ℚ-from_same, ≤ℚ-from_eq, ≤ℚ_refl, ≤ℚ_trans, <ℚ-≤ℚ_trans, ≤ℚ-<ℚ_trans}
-use Rattle.nz_spec.proofs.FractionOrder.{fraction_eq-same}
-use Rattle.nz_spec.proofs.FractionArithmetic.{+ℚ_comm, +ℚ_assoc, +ℚ-zero, +ℚ-neg, +ℚ-same, *ℚ-same, neg_ℚ-same, cmp-same, cmp-+ℚ, outcome-difference}
+use Rattle.nz_fractions.proofs.Laws.{=ℚ_refl, =ℚ_sym, =ℚ_trans, =ℚ-from_same, ≤ℚ-from_eq, ≤ℚ_refl, ≤ℚ_trans, <ℚ-≤ℚ_trans, ≤ℚ-<ℚ_trans}
+use Rattle.nz_fractions.proofs.Order.{fraction_eq-same}
+use Rattle.nz_fractions.proofs.Arithmetic.{+ℚ_comm, +ℚ_assoc, +ℚ-zero, +ℚ-neg, +ℚ-same, *ℚ-same, neg_ℚ-same, cmp-same, cmp-+ℚ, outcome-difference}
 use Rattle.nz_spec.proofs.FormSums.{neg-neg}
 use Rattle.nz_spec.proofs.FormTerms.{form_has_value, constant_known}
 use Rattle.nz_spec.proofs.FormValues.{by_sum, by_difference, form-joined, form-negated, unit-value, zero_left}
@@ -30,7 +30,7 @@ use Rattle.nz_spec.proofs.IntegerSums.{whole_sum, whole_product, whole_negated, 
 use Rattle.nz_spec.proofs.LinearLiterals.{lt_is, le_is}
 use Rattle.nz_spec.proofs.LinkTruths.{le_alike, lt_alike, otherwise, moved_over, at_most_is}
 use Rattle.nz_spec.proofs.Literals.{or_first, or_second}
-use Rattle.nz_spec.proofs.Rounds.{rounds}
+use Rattle.nz_fractions.proofs.Rounding.{rounds}
 
 -- ---- Integers
 

@@ -3,7 +3,7 @@
 -- Source: Dutertre and de Moura, A Fast Linear-Arithmetic Solver for DPLL(T), CAV 2006, section 3 (basic and nonbasic variables).
 use Rattle.std.specs.Prelude.{◌≡◌, ℕ, zero, suc, ◌<◌, ◌==◌, Bool, true, false, List, [], ◌∷◌, length, pos, Contains, slice_index_or, ◌↔◌, if◌then◌else◌}
 use Rattle.std.specs.List.{AllByRecursion}
-use Rattle.nz_spec.specs.Fraction.{Fraction, whole, ◌=ℚ◌, ◌+ℚ◌, ◌*ℚ◌}
+use Rattle.nz_fractions.specs.Fraction.{Fraction, whole, ◌=ℚ◌, ◌+ℚ◌, ◌*ℚ◌}
 use Rattle.nz_spec.specs.Term.{Term, Assignment}
 use Rattle.nz_spec.specs.Literal.{are_same_term}
 use Rattle.nz_spec.specs.Form.{Part, unit_form, unit_value, parts_value}

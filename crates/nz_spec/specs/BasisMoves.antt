@@ -4,7 +4,7 @@
 -- operations is this solver's own.
 use Rattle.std.specs.Prelude.{◌≡◌, ℕ, zero, suc, ◌<◌, ◌==◌, Bool, true, false, not, ◌&&◌, List, [], ◌∷◌, ◌++◌, length, map, flat_map, pos, Contains, ◌↔◌, if◌then◌else◌}
 use Rattle.std.specs.List.{AllByRecursion}
-use Rattle.nz_spec.specs.Fraction.{Fraction, whole, ◌=ℚ◌, neg_ℚ, Sum, Product, Quotient, outcome, IsNumber, is_wide, Operation}
+use Rattle.nz_fractions.specs.Fraction.{Fraction, whole, ◌=ℚ◌, neg_ℚ, Sum, Product, Quotient, outcome, IsNumber, is_wide, Operation}
 use Rattle.nz_spec.specs.Computation.{Computation, at_once, and_then}
 use Rattle.nz_spec.specs.Term.{Term, Assignment, is_zero}
 use Rattle.nz_spec.specs.Form.{Part, unit_form, parts_value}

@@ -1,6 +1,6 @@
 -- The bounds on the numbers that a command may hold, wherever they stand in it.
 use Rattle.std.specs.Prelude.{ℕ, ◌+◌, ◌-◌, ◌*◌, ◌||◌, nat_lt, Bool, false, List, [], ◌∷◌, ◌++◌, length}
-use Rattle.nz_spec.specs.Fraction.{exceeds}
+use Rattle.nz_fractions.specs.Fraction.{exceeds}
 use Rattle.nz_spec.specs.Tree.{Token, symbol, keyword, numeral, decimal, hexadecimal, binary, literal, Tree, leaf, node, Trees, no_trees, trees, before_point, after_point}
 
 -- the number that decimal digits spell, after those that spell this number

@@ -3,7 +3,7 @@
 -- Linear-Arithmetic Solver for DPLL(T), CAV 2006, section 5 (what is strict, by a number above 0 that is as small as need be).
 use Rattle.std.specs.Prelude.{◌≡◌, ℕ, Bool, true, false, IsTrue, List, [], ◌∷◌, ◌++◌, map, flat_map, filter, Contains, pos, if◌then◌else◌}
 use Rattle.std.specs.List.{AllByRecursion}
-use Rattle.nz_spec.specs.Fraction.{Fraction, whole, ◌=ℚ◌, ◌≤ℚ◌, ◌<ℚ◌, fraction_le, fraction_lt, ◌+ℚ◌, ◌*ℚ◌, reduce}
+use Rattle.nz_fractions.specs.Fraction.{Fraction, whole, ◌=ℚ◌, ◌≤ℚ◌, ◌<ℚ◌, fraction_le, fraction_lt, ◌+ℚ◌, ◌*ℚ◌, reduce}
 use Rattle.nz_spec.specs.Computation.{Computation}
 use Rattle.nz_spec.specs.Term.{int_sort, are_same_sort, sort_of, Constant, constant, Term, apply, no_terms, Value, truth, number, Assignment}
 use Rattle.nz_spec.specs.Model.{assignment_of}

@@ -1,7 +1,7 @@
 -- Computations on numbers: what one comes to, and the operations that it takes, in their order. What it comes to is exact, also
 -- where an operation leaves the numbers; the first of them that does is where it stops.
 use Rattle.std.specs.Prelude.{List, [], ◌∷◌, ◌++◌}
-use Rattle.nz_spec.specs.Fraction.{Fraction, Arithmetic, outcome, Operation}
+use Rattle.nz_fractions.specs.Fraction.{Fraction, Arithmetic, outcome, Operation}
 
 pub record Computation (A : Type 0) : Type 0 where
   pub result : A

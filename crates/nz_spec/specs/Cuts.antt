@@ -2,7 +2,7 @@
 -- Source: Gomory, Outline of an algorithm for integer solutions to linear programs, 1958.
 use Rattle.std.specs.Prelude.{◌≡◌, ◌&&◌, List, [], ◌∷◌, ◌++◌, map, Option, Some, None, pos, if◌then◌else◌}
 use Rattle.std.specs.List.{list_all, AllByRecursion}
-use Rattle.nz_spec.specs.Fraction.{Fraction, whole, neg_ℚ, floor, Difference}
+use Rattle.nz_fractions.specs.Fraction.{Fraction, whole, neg_ℚ, floor, Difference}
 use Rattle.nz_spec.specs.Computation.{Computation, operated, at_once, turned_into, and_then}
 use Rattle.nz_spec.specs.Term.{Assignment}
 use Rattle.nz_spec.specs.Model.{IsAssignment}

@@ -3,7 +3,7 @@
 -- CAV 2006, section 3 (explanations). The order of the operations is this solver's own.
 use Rattle.std.specs.Prelude.{◌≡◌, Bool, true, false, ◌&&◌, ◌||◌, List, [], ◌∷◌, map, Option, Some, None, pos, if◌then◌else◌}
 use Rattle.std.specs.List.{list_all}
-use Rattle.nz_spec.specs.Fraction.{Fraction, whole, fraction_lt, Sum, Product}
+use Rattle.nz_fractions.specs.Fraction.{Fraction, whole, fraction_lt, Sum, Product}
 use Rattle.nz_spec.specs.Computation.{Computation, operated, at_once, turned_into, and_then}
 use Rattle.nz_spec.specs.Term.{Assignment, is_zero}
 use Rattle.nz_spec.specs.Form.{Numbering, Part, parts_joined, parts_scaled}

@@ -2,7 +2,7 @@
 -- Sources: SMT-LIB 2.6, theory Reals_Ints (+, -, *, / and to_real); which terms are units, and the order of the operations, is
 -- this solver's own.
 use Rattle.std.specs.Prelude.{◌≡◌, ℕ, suc, ◌<◌, Bool, true, false, IsTrue, List, [], ◌∷◌, length, fold, Option, Some, None, pos, if◌then◌else◌}
-use Rattle.nz_spec.specs.Fraction.{Fraction, whole, ◌=ℚ◌, Sum, Difference, Product, Quotient, Operation, first_wide}
+use Rattle.nz_fractions.specs.Fraction.{Fraction, whole, ◌=ℚ◌, Sum, Difference, Product, Quotient, Operation, first_wide}
 use Rattle.nz_spec.specs.Computation.{Computation, operated, at_once, turned_into, and_then}
 use Rattle.nz_spec.specs.Term.{Head, sum, difference, product, quotient, to_real, Term, apply, Terms, no_terms, terms, Assignment}
 use Rattle.nz_spec.specs.Linear.{head_constant, constant_values, is_linear}

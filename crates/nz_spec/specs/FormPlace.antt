@@ -1,7 +1,7 @@
 -- Where a part joins a sum.
 use Rattle.std.specs.Prelude.{◌≡◌, nat_lt, true, false, List, ◌∷◌, ◌++◌}
 use Rattle.std.specs.List.{AllByRecursion}
-use Rattle.nz_spec.specs.Fraction.{Arithmetic}
+use Rattle.nz_fractions.specs.Fraction.{Arithmetic}
 use Rattle.nz_spec.specs.Computation.{operated, at_once, turned_into}
 use Rattle.nz_spec.specs.Same.{are_same_term}
 use Rattle.nz_spec.specs.Form.{Numbering, Part, MayPrecede, with_part, part_alone, part_joined}

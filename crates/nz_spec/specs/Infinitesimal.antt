@@ -3,7 +3,7 @@
 use Rattle.std.specs.Prelude.{Bool, ◌⊎◌, List, [], ◌∷◌, ◌++◌, if◌then◌else◌, pos, All, Contains}
 use Rattle.std.specs.Ordering.{ordering_then}
 use Rattle.std.specs.declared.cmp.Ordering.{Ordering}
-use Rattle.nz_spec.specs.Fraction.{Fraction, whole, ◌=ℚ◌, ◌≤ℚ◌, ◌<ℚ◌, fraction_lt, fraction_cmp, fraction_min, ◌+ℚ◌, ◌-ℚ◌, ◌*ℚ◌, Difference, Quotient, outcome, Operation}
+use Rattle.nz_fractions.specs.Fraction.{Fraction, whole, ◌=ℚ◌, ◌≤ℚ◌, ◌<ℚ◌, fraction_lt, fraction_cmp, fraction_min, ◌+ℚ◌, ◌-ℚ◌, ◌*ℚ◌, Difference, Quotient, outcome, Operation}
 
 -- standard + coefficient * δ
 pub record Infinitesimal : Type 0 where

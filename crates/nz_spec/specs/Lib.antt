@@ -17,7 +17,6 @@ pub mod Farkas
 pub mod Form
 pub mod FormOf
 pub mod FormPlace
-pub mod Fraction
 pub mod Gates
 pub mod Infinitesimal
 pub mod Kept

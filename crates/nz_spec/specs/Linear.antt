@@ -2,7 +2,7 @@
 -- Source: SMT-LIB 2.6, logics LIRA and QF_LRA (linear arithmetic: products and quotients with a constant). That a constant
 -- term is one whose value, folded from the left, stays among the numbers is this solver's own.
 use Rattle.std.specs.Prelude.{ℕ, suc, ◌&&◌, ◌||◌, nat_lt, not, Bool, true, false, List, [], ◌∷◌, Option, Some, None, option_map, pos, if◌then◌else◌}
-use Rattle.nz_spec.specs.Fraction.{Fraction, whole, neg_ℚ, Arithmetic, Sum, Difference, Product, Quotient, outcome, is_wide}
+use Rattle.nz_fractions.specs.Fraction.{Fraction, whole, neg_ℚ, Arithmetic, Sum, Difference, Product, Quotient, outcome, is_wide}
 use Rattle.nz_spec.specs.Term.{Head, integer, decimal_number, sum, difference, product, quotient, integer_quotient, modulus, to_real, Term, apply, Terms, no_terms, terms, decimal_value, is_zero, is_undefined}
 
 -- an operation on two constants, where it has a value among the numbers

@@ -3,7 +3,7 @@
 -- 1958 (a bound on a sum of integers may be rounded). When a literal is tight is this solver's own.
 use Rattle.std.specs.Prelude.{◌≡◌, ℕ, Bool, true, false, not, ◌&&◌, List, [], ◌∷◌, pos, unsigned_abs, if◌then◌else◌}
 use Rattle.std.specs.List.{list_all, AllByRecursion}
-use Rattle.nz_spec.specs.Fraction.{Fraction, whole, neg_ℚ, fraction_eq, floor, ceiling, gcd, over, Difference, Product}
+use Rattle.nz_fractions.specs.Fraction.{Fraction, whole, neg_ℚ, fraction_eq, floor, ceiling, gcd, over, Difference, Product}
 use Rattle.nz_spec.specs.Computation.{Computation, operated, at_once, turned_into, and_then}
 use Rattle.nz_spec.specs.Term.{int_sort, are_same_sort, sort_of, Assignment}
 use Rattle.nz_spec.specs.Model.{IsAssignment, HasSort}

@@ -3,7 +3,7 @@
 -- DPLL(T), CAV 2006, section 3 (an atom is a bound on a sum of variables). The clauses' order is this solver's own.
 use Rattle.std.specs.Prelude.{List, [], ◌∷◌, map, if◌then◌else◌, IsTrue, ⊤}
 use Rattle.std.specs.List.{AllByRecursion}
-use Rattle.nz_spec.specs.Fraction.{Sum, Difference}
+use Rattle.nz_fractions.specs.Fraction.{Sum, Difference}
 use Rattle.nz_spec.specs.Computation.{Computation, at_once, turned_into, and_then, in_turn}
 use Rattle.nz_spec.specs.Term.{int_sort, sort_of, Head, equality, less, at_most, integer_quotient, modulus, magnitude, to_int, is_int, Term, apply, no_terms, terms, Assignment}
 use Rattle.nz_spec.specs.Linear.{is_linear}

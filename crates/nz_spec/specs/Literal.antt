@@ -3,7 +3,7 @@
 -- CAV 2006, sections 3 and 5 (bounds on sums of variables, strict ones too).
 use Rattle.std.specs.Prelude.{◌≡◌, ℕ, Bool, true, false, not, ◌&&◌, IsTrue, List, [], ◌∷◌, ◌++◌, map, Contains, ◌↔◌, filter, fold, if◌then◌else◌, Some, slice_get}
 use Rattle.std.specs.List.{list_any, AllByRecursion}
-use Rattle.nz_spec.specs.Fraction.{Fraction, neg_ℚ, fraction_le, fraction_lt}
+use Rattle.nz_fractions.specs.Fraction.{Fraction, neg_ℚ, fraction_le, fraction_lt}
 use Rattle.nz_spec.specs.Term.{Term, Assignment, is_true, value_of}
 unfoldable pub use Rattle.nz_spec.specs.Same.{sort_number, head_kind, head_digits, head_place, head_name, head_numbers, are_same_head, are_same_term, are_same_terms, TellsHeads}
 use Rattle.nz_spec.specs.Same.{are_same_fraction}

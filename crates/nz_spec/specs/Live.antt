@@ -2,7 +2,7 @@
 -- shows while it stands, and the options.
 use Rattle.std.specs.Prelude.{ℕ, suc, ◌-◌, Bool, true, false, List, [], ◌∷◌, ◌++◌, map, flat_map, length, Option, None, if◌then◌else◌}
 use Rattle.std.specs.List.{list_any}
-use Rattle.nz_spec.specs.Fraction.{Fraction}
+use Rattle.nz_fractions.specs.Fraction.{Fraction}
 use Rattle.nz_spec.specs.Tree.{Tree}
 use Rattle.nz_spec.specs.Term.{int_sort, Constant, constant, integer, choice, holds_number, Term, apply, no_terms, terms}
 use Rattle.nz_spec.specs.Normal.{normal_of}

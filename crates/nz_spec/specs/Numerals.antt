@@ -1,6 +1,6 @@
 -- Numerals as numbers.
 use Rattle.std.specs.Prelude.{◌≡◌, ℕ, pos}
-use Rattle.nz_spec.specs.Fraction.{whole}
+use Rattle.nz_fractions.specs.Fraction.{whole}
 use Rattle.nz_spec.specs.Term.{decimal_value}
 
 -- A number of no decimal places is the integer that its digits spell.

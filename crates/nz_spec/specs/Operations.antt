@@ -1,7 +1,7 @@
 -- The operations that the value of a term takes, in post-order: those of its arguments, from the left, and then its own.
 -- Both branches of `ite` are among them.
 use Rattle.std.specs.Prelude.{List, [], ◌∷◌, ◌++◌, if◌then◌else◌}
-use Rattle.nz_spec.specs.Fraction.{Fraction, Arithmetic, Sum, Difference, Product, Quotient, Operation}
+use Rattle.nz_fractions.specs.Fraction.{Fraction, Arithmetic, Sum, Difference, Product, Quotient, Operation}
 use Rattle.nz_spec.specs.Term.{Head, sum, difference, product, quotient, Term, apply, Terms, no_terms, terms, Value, number_of, is_undefined, carried_out, Assignment, values_of}
 
 abbrev pub operation_on : Arithmetic → Fraction → Fraction → List Operation

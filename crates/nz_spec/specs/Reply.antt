@@ -1,6 +1,6 @@
 -- Replies and their texts (SMT-LIB 2.6, section 4.2; the texts of errors are this program's own).
 use Rattle.std.specs.Prelude.{ℕ, ◌==◌, true, false, List, [], ◌∷◌, ◌++◌, map, flat_map, ℤ, pos, negsuc, unsigned_abs, Some, None, codes, decimal, if◌then◌else◌}
-use Rattle.nz_spec.specs.Fraction.{Fraction, denominator, Arithmetic, Sum, Difference, Product, Quotient, Operation, first_wide}
+use Rattle.nz_fractions.specs.Fraction.{Fraction, denominator, Arithmetic, Sum, Difference, Product, Quotient, Operation, first_wide}
 use Rattle.nz_spec.specs.Tree.{is_simple_symbol, Token, symbol, keyword, numeral, hexadecimal, binary, literal, decimal as decimal_token, Tree, leaf, node, Trees, no_trees, trees}
 use Rattle.nz_spec.specs.Text.{string, spelling_of}
 use Rattle.nz_spec.specs.Term.{Sort, bool_sort, int_sort, real_sort, Term, sort_of, Value, truth, number, Assignment, value_of}

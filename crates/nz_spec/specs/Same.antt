@@ -1,7 +1,7 @@
 -- Which terms and numbers are one: the same as they are written, and not only of one value.
 use Rattle.std.specs.Prelude.{◌≡◌, ℕ, ◌==◌, bytes_eq, Bool, true, false, ◌&&◌, IsTrue, List, [], ◌∷◌}
 use Rattle.std.specs.Ordering.{int_eq}
-use Rattle.nz_spec.specs.Fraction.{Fraction}
+use Rattle.nz_fractions.specs.Fraction.{Fraction}
 use Rattle.nz_spec.specs.Term.{Sort, bool_sort, int_sort, real_sort, head_sort, Head, constant, parameter, integer, decimal_number, verum, falsum, negation, conjunction, disjunction, implication, exclusion, equality, distinction, choice, less, at_most, greater, at_least, sum, difference, product, quotient, integer_quotient, modulus, magnitude, to_real, to_int, is_int, Term, apply, Terms, no_terms, terms}
 
 -- the same numerator and the same denominator

@@ -4,7 +4,7 @@
 use Rattle.std.specs.Prelude.{◌≡◌, ℕ, List, [], ◌∷◌, ◌++◌, Option, Some, None, option_map, slice_get}
 use Rattle.std.specs.List.{AllByRecursion}
 use Rattle.std.specs.Bool.{⊤}
-use Rattle.nz_spec.specs.Fraction.{Fraction, Operation}
+use Rattle.nz_fractions.specs.Fraction.{Fraction, Operation}
 use Rattle.nz_spec.specs.Computation.{Computation, at_once, turned_into}
 use Rattle.nz_spec.specs.Term.{Term, Assignment, IsTrueUnder}
 use Rattle.nz_spec.specs.Model.{IsAssignment, IsUnsatisfiable}

@@ -1,7 +1,7 @@
 -- Terms, sorts and values (SMT-LIB 2.6, section 3.6, terms, and the theories Core and Reals_Ints).
 use Rattle.std.specs.Prelude.{◌≡◌, ℕ, suc, bytes_eq, ◌^◌, ◌&&◌, ◌||◌, Bool, true, false, not, IsTrue, nat_le, List, [], ◌∷◌, ℤ, pos, negsuc, ◌+ℤ◌, ◌*ℤ◌, neg_ℤ, ◌≤ℤ◌, ◌<ℤ◌, unsigned_abs, ⊤, Option, Some, None, if◌then◌else◌}
 use Rattle.std.specs.List.{list_all, list_any}
-use Rattle.nz_spec.specs.Fraction.{Fraction, whole, IsWhole, IsNumber, ratio, fraction_eq, fraction_le, fraction_lt, neg_ℚ, floor, floor_div, Arithmetic, Sum, Difference, Product, Quotient, outcome, exceeds}
+use Rattle.nz_fractions.specs.Fraction.{Fraction, whole, IsWhole, IsNumber, ratio, fraction_eq, fraction_le, fraction_lt, neg_ℚ, floor, floor_div, Arithmetic, Sum, Difference, Product, Quotient, outcome, exceeds}
 use Rattle.nz_spec.specs.Bounds.{place_limit}
 
 pub data Sort : Type 0 where

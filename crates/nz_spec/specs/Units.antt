@@ -2,7 +2,7 @@
 -- Sources: SMT-LIB 2.6, theories Core (ite) and Ints (div, mod and abs) and Reals_Ints (to_int). The clauses' order is this solver's own.
 use Rattle.std.specs.Prelude.{List, [], ◌∷◌, map, Option, Some, None, pos, negsuc, ◌+ℤ◌, unsigned_abs}
 use Rattle.std.specs.List.{AllByRecursion}
-use Rattle.nz_spec.specs.Fraction.{Fraction, whole, floor, Difference}
+use Rattle.nz_fractions.specs.Fraction.{Fraction, whole, floor, Difference}
 use Rattle.nz_spec.specs.Computation.{Computation, operated, at_once, turned_into, and_then, in_turn}
 use Rattle.nz_spec.specs.Term.{bool_sort, Head, choice, integer_quotient, modulus, magnitude, to_int, Term, apply, no_terms, terms, Assignment}
 use Rattle.nz_spec.specs.Linear.{constant_value}

@@ -1,6 +1,6 @@
 -- Worked steps of linear arithmetic: links and units of each kind, sums, cuts and a refutation, computed from the definitions.
 use Rattle.std.specs.Prelude.{◌≡◌, List, [], ◌∷◌, ◌++◌, map, Option, Some, None, ℤ, pos, negsuc}
-use Rattle.nz_spec.specs.Fraction.{Fraction, whole, over, largest, Product, Difference, first_wide}
+use Rattle.nz_fractions.specs.Fraction.{Fraction, whole, over, largest, Product, Difference, first_wide}
 use Rattle.nz_spec.specs.Term.{int_sort, over_int, less, at_most, equality, choice, integer_quotient, modulus, magnitude, product, difference, to_int, is_int, Term}
 use Rattle.nz_spec.specs.Normal.{paired}
 use Rattle.nz_spec.specs.Samples.{a_term, x_term, y_term, u_term, over_one, numeral_term}

@@ -1,6 +1,6 @@
 -- A worked basis: two units, forms that join them, and an exchange, computed from the definitions.
 use Rattle.std.specs.Prelude.{◌≡◌, ℕ, nat_lt, Bool, List, [], ◌∷◌, map, slice_index_or, pos, negsuc, if◌then◌else◌}
-use Rattle.nz_spec.specs.Fraction.{Fraction, whole, over, Arithmetic, Sum, Product, Quotient, Operation}
+use Rattle.nz_fractions.specs.Fraction.{Fraction, whole, over, Arithmetic, Sum, Product, Quotient, Operation}
 use Rattle.nz_spec.specs.Term.{Term}
 use Rattle.nz_spec.specs.Literal.{are_same_term}
 use Rattle.nz_spec.specs.Form.{Part}

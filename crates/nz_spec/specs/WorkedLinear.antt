@@ -1,6 +1,6 @@
 -- Worked linear terms: short texts, and which of them are linear.
 use Rattle.std.specs.Prelude.{◌≡◌, ℕ, Bool, true, false, List, [], ◌∷◌, map, pos, negsuc, Option, Some, None, option_map, option_and_then, codes}
-use Rattle.nz_spec.specs.Fraction.{Fraction, whole, over}
+use Rattle.nz_fractions.specs.Fraction.{Fraction, whole, over}
 use Rattle.nz_spec.specs.Linear.{constant_value, is_linear}
 use Rattle.nz_spec.specs.Samples.{normal_in}
 

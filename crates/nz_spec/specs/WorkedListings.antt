@@ -1,6 +1,6 @@
 -- Worked listings: the order in which a term list takes a term, with all that it takes besides.
 use Rattle.std.specs.Prelude.{◌≡◌, ℕ, true, List, [], ◌∷◌, flat_map, pos, Option, Some, option_map, codes}
-use Rattle.nz_spec.specs.Fraction.{whole}
+use Rattle.nz_fractions.specs.Fraction.{whole}
 use Rattle.nz_spec.specs.Term.{int_sort, choice, sum, integer_quotient, modulus, to_int, is_int, Term, apply, no_terms, terms, over_int}
 use Rattle.nz_spec.specs.Normal.{negated, paired}
 use Rattle.nz_spec.specs.Order.{listing_order}

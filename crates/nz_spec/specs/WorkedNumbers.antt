@@ -1,6 +1,6 @@
 -- Worked values of numbers: short texts, and the values that they have.
 use Rattle.std.specs.Prelude.{◌≡◌, ℕ, Bool, true, false, List, [], ◌∷◌, map, ℤ, pos, negsuc, Option, Some, codes}
-use Rattle.nz_spec.specs.Fraction.{Fraction, over}
+use Rattle.nz_fractions.specs.Fraction.{Fraction, over}
 use Rattle.nz_spec.specs.Term.{Value, truth, number, whole_number}
 use Rattle.nz_spec.specs.Samples.{value_in}
 

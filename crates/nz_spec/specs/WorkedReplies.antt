@@ -1,6 +1,6 @@
 -- Worked texts: values, trees and replies, byte for byte.
 use Rattle.std.specs.Prelude.{◌≡◌, ℕ, true, false, List, [], ◌∷◌, ◌++◌, map, pos, negsuc, Option, Some, None, codes}
-use Rattle.nz_spec.specs.Fraction.{Fraction, whole, over, largest, Sum, Difference, Product, Quotient}
+use Rattle.nz_fractions.specs.Fraction.{Fraction, whole, over, largest, Sum, Difference, Product, Quotient}
 use Rattle.nz_spec.specs.Term.{bool_sort, int_sort, real_sort, Value, truth, number, whole_number}
 use Rattle.nz_spec.specs.Model.{Binding, assignment_of}
 use Rattle.nz_spec.specs.Live.{units_spent}

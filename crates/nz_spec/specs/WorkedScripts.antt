@@ -1,6 +1,6 @@
 -- Worked scripts: whole texts, the replies to what is heard in them, and what is written.
 use Rattle.std.specs.Prelude.{◌≡◌, ℕ, true, List, [], ◌∷◌, pos, negsuc, codes}
-use Rattle.nz_spec.specs.Fraction.{whole, over}
+use Rattle.nz_fractions.specs.Fraction.{whole, over}
 use Rattle.nz_spec.specs.Text.{Heard, script_limits}
 use Rattle.nz_spec.specs.Reading.{reading_start, hear_on}
 use Rattle.nz_spec.specs.Term.{bool_sort, int_sort, real_sort, truth, number}

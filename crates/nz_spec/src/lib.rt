@@ -10,7 +10,7 @@ pub mod derivation;
 pub mod elaboration;
 pub mod example;
 pub mod form;
-pub mod fraction;
+pub mod infinitesimal;
 pub mod reply;
 pub mod script;
 pub mod table;

@@ -5,7 +5,7 @@ use Rattle.std.proofs.lemmas.Bool.{cases_lt}
 use Rattle.std.proofs.lemmas.List.{map-append, length-map, take-map, take-append-drop, take_all, take_at}
 use Rattle.std.proofs.lemmas.List.Sums.{fold-append}
 use Rattle.nz_lists.proofs.Places.{slice_index_or-map}
-use Rattle.nz_spec.specs.Fraction.{Fraction}
+use Rattle.nz_fractions.specs.Fraction.{Fraction}
 use Rattle.nz_spec.specs.Term.{Head, falsum, is_numeric, Term, apply, no_terms, holds_number, hold_number}
 use Rattle.nz_spec.specs.Linear.{constant_value, constant_values, head_constant, is_linear_node, is_linear, are_linear}
 use Rattle.nz_spec.specs.Table.{Node, terms_at, listed_term, with_term, term_in}

@@ -1,7 +1,7 @@
 -- What is known of terms, as marks are put, cut and read.
 use Rattle.std.proofs.Common.{◌≡◌, ℕ, zero, suc, ◌+◌, ◌<◌, Bool, true, false, List, [], ◌∷◌, ◌++◌, length, take, get_or, Option, Some, None, Result, Ok, Err, refl, sym, ap, ◌∙◌, arith}
 use Rattle.std.specs.Prelude.{OnErr, is_some, slice_index_or, if◌then◌else◌}
-use Rattle.nz_spec.specs.Fraction.{Fraction}
+use Rattle.nz_fractions.specs.Fraction.{Fraction}
 use Rattle.nz_term.specs.declared.fact_table.Marks.{Marks}
 use Rattle.nz_term.specs.declared.facts.Fact.{Fact}
 use Rattle.nz_term.specs.Facts.{fact_at}

@@ -1,7 +1,7 @@
 -- What a table knows of its terms.
 use Rattle.std.specs.Prelude.{◌≡◌, ℕ, List, [], ◌∷◌, map, fold, Bool, false, not, Option, Some, None, slice_index_or}
 use Rattle.std.specs.List.{list_all, list_any}
-use Rattle.nz_spec.specs.Fraction.{Fraction, Arithmetic}
+use Rattle.nz_fractions.specs.Fraction.{Fraction, Arithmetic}
 use Rattle.nz_spec.specs.Term.{Term, apply, no_terms, falsum, is_zero, holds_number}
 use Rattle.nz_spec.specs.Table.{Node, IsTable, with_term}
 use Rattle.nz_spec.specs.Linear.{constant_value, folded, is_linear}

@@ -1,6 +1,6 @@
 -- What is known of terms, by what is kept of each.
 use Rattle.std.specs.Prelude.{ℕ, suc, List, [], ◌∷◌, Option, None, if◌then◌else◌}
-use Rattle.nz_spec.specs.Fraction.{Fraction}
+use Rattle.nz_fractions.specs.Fraction.{Fraction}
 use Rattle.nz_term.specs.declared.fact_table.Marks.{Marks}
 use Rattle.nz_term.specs.declared.facts.Fact.{Fact}
 

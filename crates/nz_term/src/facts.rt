@@ -1,7 +1,7 @@
 //! What is known of a term, by its head and by what is known of its arguments.
 ghost use Rattle.std.specs.Prelude.{◌≡◌, ◌≢◌, ◌^◌, ◌<◌, ◌≤◌, ◌&&◌, ◌||◌, List, length, map, All, IsTrue, Some, false, not, pos};
 ghost use Rattle.nz_spec.specs.Bounds.{place_limit};
-ghost use Rattle.nz_spec.specs.Fraction.{exceeds, whole};
+ghost use Rattle.nz_fractions.specs.Fraction.{exceeds, whole};
 ghost use Rattle.nz_spec.specs.Linear.{are_divisors, divides_by_constants, folded, folded_step, head_constant, is_linear_node, variable_count};
 ghost use Rattle.nz_spec.specs.Table.{listed_term, terms_at};
 ghost use Rattle.nz_spec.specs.Term.{Term, apply, decimal_number, difference, head_fits, is_numeric, over_int, decimal_value};

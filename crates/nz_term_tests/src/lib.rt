@@ -2,6 +2,6 @@
 #![tactic(auto)]
 
 #[cfg(test)]
-mod making;
+mod calls;
 #[cfg(test)]
 mod term;

@@ -1,13 +1,16 @@
 //! Of `nz_reply`: the text of each reply, each public call on its happy path, and a sink without room.
-use nz_base::{Error, Memory, PlainSink, Text};
+use crate::checks::{holds, is, is_bytes};
+use crate::sexpr::first_heard;
+use nz_base::{Error, Memory, PlainSink, Sink, Text};
 use nz_frac::{Frac, Op, Wide};
 use nz_reply::{
     Binding, Bindings, Info, Journal, Reason, Reply, Shown, Shows, WriteFault, write_reply,
     write_text,
 };
-use nz_sexpr::{Heard, Limits, Reader, What};
+use nz_sexpr::{Heard, What};
 use nz_term::{Constant, Sort, Value};
 use std::alloc::Global;
+use std::process::Abort;
 use std::rc::Rc;
 use std::test::Fail;
 
@@ -16,24 +19,41 @@ const ROOM: usize = 200;
 
 /// What is heard first in a script.
 fn heard_in(alloc: Global, script: &[u8]) -> What {
-    let limits = Limits {
-        depth: 200,
-        bytes: 1000,
-    };
-    let (_, heard) = Reader::new(alloc, limits).feed(script);
-    match heard {
+    match first_heard(alloc, script) {
         Some(Heard { what, .. }) => what,
         None => What::Unread,
     }
 }
 
-/// The sink after a reply to a command.
-fn written(alloc: Global, what: &What, reply: &Reply) -> Result<PlainSink, Memory> {
-    let mut sink = PlainSink::new(alloc, ROOM)?;
-    match write_reply(&mut sink, what, reply) {
-        Ok(()) => Ok(sink),
-        Err(WriteFault) => Err(Memory),
-    }
+fn sink_with(alloc: Global, room: usize) -> Result<PlainSink, Memory> {
+    PlainSink::new(alloc, room)
+}
+
+fn sink_is(rt: &impl Abort, sink: &PlainSink, want: &[u8]) {
+    is_bytes(rt, sink.bytes(), want);
+}
+
+fn write<K: Sink>(sink: &mut K, what: &What, reply: &Reply) -> Result<(), WriteFault> {
+    write_reply(sink, what, reply)
+}
+
+fn write_bytes<K: Sink>(sink: &mut K, text: &[u8]) -> Result<(), WriteFault> {
+    write_text(sink, text)
+}
+
+/// The reply to this command is written so.
+fn tells(
+    rt: &impl Abort,
+    alloc: Global,
+    command: &[u8],
+    reply: &Reply,
+    want: &[u8],
+) -> Result<(), Fail> {
+    let what = heard_in(alloc, command);
+    let mut sink = sink_with(alloc, ROOM)?;
+    is(rt, write(&mut sink, &what, reply), Ok(()));
+    sink_is(rt, &sink, want);
+    Ok(())
 }
 
 fn number(numerator: i64, denominator: i64) -> Frac {
@@ -43,173 +63,204 @@ fn number(numerator: i64, denominator: i64) -> Frac {
     }
 }
 
-/// The reply that tells these of the terms of a command.
-fn values(alloc: Global, shown: Vec<Shown>) -> Result<Reply, Memory> {
-    let mut shows = Shows::new(alloc);
-    for one in shown {
-        shows.push(one)?;
-    }
-    Ok(Reply::Values(shows))
+fn show(shows: &mut Shows, shown: Shown) -> Result<(), Memory> {
+    shows.push(shown)
 }
 
-fn constant(alloc: Global, name: &[u8], sort: Sort) -> Result<Constant, Memory> {
-    let name = Text::from_slice(alloc, name)?;
-    Ok(Constant { name, sort })
+/// Tells numbers of these sorts, each by its numerator and its denominator.
+fn show_numbers(shows: &mut Shows, numbers: &[(Sort, i64, i64)]) -> Result<(), Memory> {
+    for (sort, numerator, denominator) in numbers {
+        let value = Value::Number(number(*numerator, *denominator));
+        show(shows, Shown::Value(*sort, value))?;
+    }
+    Ok(())
 }
 
 #[test]
 fn values_are_told_behind_their_terms(rt: HostRuntime) -> Result<(), Fail> {
-    let what = heard_in(
+    let mut shows = Shows::new(rt.alloc());
+    show(&mut shows, Shown::Value(Sort::Bool, Value::Truth(true)))?;
+    show_numbers(&mut shows, &[(Sort::Int, -7, 1), (Sort::Real, 3, 2)])?;
+    tells(
+        &rt,
         rt.alloc(),
         b"(get-value (p (+ |a b| x 1.50) (f \"\"\"\" :k #xF)))",
-    );
-    let reply = values(
-        rt.alloc(),
-        vec![in rt.alloc();
-            Shown::Value(Sort::Bool, Value::Truth(true)),
-            Shown::Value(Sort::Int, Value::Number(number(-7, 1))),
-            Shown::Value(Sort::Real, Value::Number(number(3, 2))),
-        ]?,
-    )?;
-    let sink = written(rt.alloc(), &what, &reply)?;
-    let text = b"((p true) ((+ |a b| x 1.50) (- 7)) ((f \"\"\"\" :k #xF) (/ 3.0 2.0)))\n";
-    assert_eq!(rt; sink.bytes(), text.as_slice());
-    Ok(())
+        &Reply::Values(shows),
+        b"((p true) ((+ |a b| x 1.50) (- 7)) ((f \"\"\"\" :k #xF) (/ 3.0 2.0)))\n",
+    )
 }
+
+/// Numbers with a sign and without, whole and not.
+const NUMBERS: &[(Sort, i64, i64)] = &[
+    (Sort::Int, 7, 1),
+    (Sort::Real, 2, 1),
+    (Sort::Real, -2, 1),
+    (Sort::Real, -3, 2),
+];
 
 #[test]
 fn numbers_are_spelled_by_their_sort(rt: HostRuntime) -> Result<(), Fail> {
-    let what = heard_in(rt.alloc(), b"(get-value (a b c d))");
-    let reply = values(
+    let mut shows = Shows::new(rt.alloc());
+    show_numbers(&mut shows, NUMBERS)?;
+    tells(
+        &rt,
         rt.alloc(),
-        vec![in rt.alloc();
-            Shown::Value(Sort::Int, Value::Number(number(7, 1))),
-            Shown::Value(Sort::Real, Value::Number(number(2, 1))),
-            Shown::Value(Sort::Real, Value::Number(number(-2, 1))),
-            Shown::Value(Sort::Real, Value::Number(number(-3, 2))),
-        ]?,
-    )?;
-    let sink = written(rt.alloc(), &what, &reply)?;
-    let text = b"((a 7) (b 2.0) (c (- 2.0)) (d (- (/ 3.0 2.0))))\n";
-    assert_eq!(rt; sink.bytes(), text.as_slice());
-    Ok(())
+        b"(get-value (a b c d))",
+        &Reply::Values(shows),
+        b"((a 7) (b 2.0) (c (- 2.0)) (d (- (/ 3.0 2.0))))\n",
+    )
 }
 
 #[test]
 fn operations_that_leave_the_numbers_are_told(rt: HostRuntime) -> Result<(), Fail> {
-    let what = heard_in(rt.alloc(), b"(get-value (()))");
-    let reply = values(
+    let mut shows = Shows::new(rt.alloc());
+    let wide = Wide {
+        op: Op::Add,
+        a: number(3, 1),
+        b: number(-1, 2),
+    };
+    show(&mut shows, Shown::Wide(wide))?;
+    tells(
+        &rt,
         rt.alloc(),
-        vec![in rt.alloc();
-            Shown::Wide(Wide {
-                op: Op::Add,
-                a: number(3, 1),
-                b: number(-1, 2),
-            }),
-        ]?,
-    )?;
-    let sink = written(rt.alloc(), &what, &reply)?;
-    assert_eq!(rt;
-        sink.bytes(),
-        b"((() (wide add 3 (- (/ 1 2)))))\n".as_slice()
-    );
-    Ok(())
+        b"(get-value (()))",
+        &Reply::Values(shows),
+        b"((() (wide add 3 (- (/ 1 2)))))\n",
+    )
+}
+
+/// Puts a constant and what it stands for at the end.
+fn bind(
+    alloc: Global,
+    bindings: &mut Bindings,
+    name: &[u8],
+    sort: Sort,
+    value: Value,
+) -> Result<(), Memory> {
+    let name = Text::from_slice(alloc, name)?;
+    bindings.push(Binding {
+        constant: Constant { name, sort },
+        value,
+    })
+}
+
+fn model(alloc: Global, bindings: Bindings) -> Result<Reply, Memory> {
+    Ok(Reply::Model(Rc::new(alloc, bindings)?))
 }
 
 #[test]
 fn a_model_is_told(rt: HostRuntime) -> Result<(), Fail> {
     let mut bindings = Bindings::new(rt.alloc());
-    bindings.push(Binding {
-        constant: constant(rt.alloc(), b"p q", Sort::Bool)?,
-        value: Value::Truth(false),
-    })?;
-    bindings.push(Binding {
-        constant: constant(rt.alloc(), b"x", Sort::Real)?,
-        value: Value::Number(number(-1, 3)),
-    })?;
-    let model = Reply::Model(Rc::new(rt.alloc(), bindings)?);
-    let sink = written(rt.alloc(), &What::Unread, &model)?;
-    let text = b"(\n(define-fun |p q| () Bool false)\n(define-fun x () Real (- (/ 1.0 3.0)))\n)\n";
-    assert_eq!(rt; sink.bytes(), text.as_slice());
-    Ok(())
+    let truth = Value::Truth(false);
+    bind(rt.alloc(), &mut bindings, b"p q", Sort::Bool, truth)?;
+    let third = Value::Number(number(-1, 3));
+    bind(rt.alloc(), &mut bindings, b"x", Sort::Real, third)?;
+    tells(
+        &rt,
+        rt.alloc(),
+        b"",
+        &model(rt.alloc(), bindings)?,
+        b"(\n(define-fun |p q| () Bool false)\n(define-fun x () Real (- (/ 1.0 3.0)))\n)\n",
+    )
 }
 
 /// The texts of the replies of one line, one after another.
 fn write_lines(sink: &mut PlainSink, what: &What) -> Result<(), WriteFault> {
-    write_reply(sink, what, &Reply::Quiet)?;
-    write_reply(sink, what, &Reply::Success)?;
-    write_reply(sink, what, &Reply::Info(Info::Name))?;
-    write_reply(sink, what, &Reply::Info(Info::ErrorBehavior))?;
-    write_reply(sink, what, &Reply::Levels(2))?;
-    write_reply(sink, what, &Reply::Reason(Reason::UnitsSpent(9)))?;
-    write_reply(sink, what, &Reply::Echo)?;
-    write_reply(sink, what, &Reply::Error(Error::NotLinear))
+    write(sink, what, &Reply::Quiet)?;
+    write(sink, what, &Reply::Success)?;
+    write(sink, what, &Reply::Info(Info::Name))?;
+    write(sink, what, &Reply::Info(Info::ErrorBehavior))?;
+    write(sink, what, &Reply::Levels(2))?;
+    write(sink, what, &Reply::Reason(Reason::UnitsSpent(9)))?;
+    write(sink, what, &Reply::Echo)?;
+    write(sink, what, &Reply::Error(Error::NotLinear))
 }
+
+/// What they are.
+const LINES: &[u8] = b"success\n(:name \"nuz\")\n(:error-behavior continued-execution)\n\
+    (:assertion-stack-levels 2)\n(:reason-unknown (spent 9))\n\"say \"\"a\"\"\"\n(error \"4 not linear\")\n";
 
 #[test]
 fn replies_of_one_line_are_told(rt: HostRuntime) -> Result<(), Fail> {
-    let mut sink = PlainSink::new(rt.alloc(), ROOM)?;
+    let mut sink = sink_with(rt.alloc(), ROOM)?;
     let what = heard_in(rt.alloc(), b"(echo \"say \"\"a\"\"\")");
-    assert!(rt; write_lines(&mut sink, &what).is_ok());
-    let text = b"success\n(:name \"nuz\")\n(:error-behavior continued-execution)\n\
-        (:assertion-stack-levels 2)\n(:reason-unknown (spent 9))\n\"say \"\"a\"\"\"\n(error \"4 not linear\")\n";
-    assert_eq!(rt; sink.bytes(), text.as_slice());
+    is(&rt, write_lines(&mut sink, &what), Ok(()));
+    sink_is(&rt, &sink, LINES);
     Ok(())
 }
 
 #[test]
 fn a_command_without_a_text_repeats_none(rt: HostRuntime) -> Result<(), Fail> {
-    let what = heard_in(rt.alloc(), b"(echo a)");
-    let sink = written(rt.alloc(), &what, &Reply::Echo)?;
-    assert_eq!(rt; sink.bytes(), b"\"\"\n".as_slice());
-    Ok(())
+    tells(&rt, rt.alloc(), b"(echo a)", &Reply::Echo, b"\"\"\n")
+}
+
+fn count_of(bindings: &Bindings) -> usize {
+    bindings.len()
+}
+
+fn value_at(bindings: &Bindings, index: usize) -> Option<Value> {
+    bindings.value(index)
+}
+
+/// Each constant has this name and stands for this.
+fn each_is(rt: &impl Abort, bindings: &Bindings, name: &[u8], wanted: &Value) {
+    let entries = bindings.as_slice();
+    is(rt, entries.len(), 1);
+    for Binding { constant, value } in entries {
+        is_bytes(rt, constant.name.as_bytes(), name);
+        is(rt, value, wanted);
+    }
 }
 
 #[test]
 fn bindings_have_their_values(rt: HostRuntime) -> Result<(), Fail> {
     let mut bindings = Bindings::new(rt.alloc());
-    assert_eq!(rt; bindings.len(), 0);
-    bindings.push(Binding {
-        constant: constant(rt.alloc(), b"p", Sort::Bool)?,
-        value: Value::Truth(true),
-    })?;
-    assert_eq!(rt; bindings.len(), 1);
-    assert_eq!(rt; bindings.value(0), Some(Value::Truth(true)));
-    assert_eq!(rt; bindings.value(1), None);
-    assert_eq!(rt; bindings.as_slice().len(), 1);
-    for Binding { constant, value } in bindings.as_slice() {
-        assert_eq!(rt; constant.name.as_bytes(), b"p".as_slice());
-        assert_eq!(rt; *value, Value::Truth(true));
-    }
+    is(&rt, count_of(&bindings), 0);
+    bind(
+        rt.alloc(),
+        &mut bindings,
+        b"p",
+        Sort::Bool,
+        Value::Truth(true),
+    )?;
+    is(&rt, count_of(&bindings), 1);
+    is(&rt, value_at(&bindings, 0), Some(Value::Truth(true)));
+    is(&rt, value_at(&bindings, 1), None);
+    each_is(&rt, &bindings, b"p", &Value::Truth(true));
     Ok(())
+}
+
+/// Each thing that is told is that something is true.
+fn each_is_true(rt: &impl Abort, shows: &Shows) {
+    let told = shows.as_slice();
+    is(rt, told.len(), 1);
+    for shown in told {
+        let is_true = matches!(shown, Shown::Value(Sort::Bool, Value::Truth(true)));
+        holds(rt, is_true, "true");
+    }
 }
 
 #[test]
 fn shows_have_what_is_told(rt: HostRuntime) -> Result<(), Fail> {
     let mut shows = Shows::new(rt.alloc());
-    shows.push(Shown::Value(Sort::Bool, Value::Truth(true)))?;
-    assert_eq!(rt; shows.as_slice().len(), 1);
-    for shown in shows.as_slice() {
-        assert!(rt; matches!(shown, Shown::Value(Sort::Bool, Value::Truth(true))));
-    }
+    show(&mut shows, Shown::Value(Sort::Bool, Value::Truth(true)))?;
+    each_is_true(&rt, &shows);
     Ok(())
 }
 
 #[test]
 fn a_sink_without_room_is_told(rt: HostRuntime) -> Result<(), Fail> {
-    let mut sink = PlainSink::new(rt.alloc(), 5)?;
-    assert_eq!(rt;
-        write_reply(&mut sink, &What::Unread, &Reply::Unsupported),
-        Err(WriteFault)
-    );
-    assert_eq!(rt; sink.bytes(), b"unsup".as_slice());
-    assert_eq!(rt; write_text(&mut sink, b""), Ok(()));
+    let mut sink = sink_with(rt.alloc(), 5)?;
+    let written = write(&mut sink, &What::Unread, &Reply::Unsupported);
+    is(&rt, written, Err(WriteFault));
+    sink_is(&rt, &sink, b"unsup");
+    is(&rt, write_bytes(&mut sink, b""), Ok(()));
     Ok(())
 }
 
 #[test]
 fn a_journal_has_what_it_was_given(rt: HostRuntime) -> Result<(), Fail> {
     let journal = Journal::from_vec(Vec::new(rt.alloc()));
-    assert!(rt; journal.as_slice().is_empty());
+    holds(&rt, journal.as_slice().is_empty(), "nothing");
     Ok(())
 }

@@ -2,7 +2,7 @@
 use Rattle.std.proofs.Common.{◌≡◌, Bool, true, false, List, [], ◌∷◌, ◌++◌, Some, None, refl, sym, ap, subst, ◌∙◌, if◌then◌else◌}
 use Rattle.nz_frac.specs.Operations.{IsCarriedOut, IsStopped, operation_of}
 use Rattle.nz_frac.specs.declared.frac.Wide.{Wide}
-use Rattle.nz_spec.specs.Fraction.{Fraction, Arithmetic, Operation, first_wide, is_wide}
+use Rattle.nz_fractions.specs.Fraction.{Fraction, Arithmetic, Operation, first_wide, is_wide}
 use Rattle.nz_spec.specs.Operations.{head_operations, operation_on, operations_by}
 use Rattle.nz_spec.specs.Term.{Assignment, Head, Value, carried_out, combined, head_value, number, number_of}
 use Rattle.nz_term.specs.declared.assign.Value as own

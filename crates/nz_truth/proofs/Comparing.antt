@@ -3,7 +3,7 @@ use Rattle.std.proofs.Common.{◌≡◌, ◌≤◌, ◌-◌, ◌*ℤ◌, Bool, t
 use Rattle.std.specs.Prelude.{int_lt, int_le, nat_lt, nat_le}
 use Rattle.std.specs.Ordering.{int_cmp, is_lt, is_le}
 use Rattle.std.proofs.lemmas.Bool.Decides.{nat_tests}
-use Rattle.nz_spec.specs.Fraction.{Fraction, denominator, fraction_cmp, fraction_lt, fraction_le}
+use Rattle.nz_fractions.specs.Fraction.{Fraction, denominator, fraction_cmp, fraction_lt, fraction_le}
 use Rattle.nz_spec.specs.Term as spec
 use Rattle.nz_spec.specs.Term.{are_chained}
 use Rattle.nz_term.specs.declared.assign.Value.{Value}

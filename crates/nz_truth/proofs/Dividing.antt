@@ -4,7 +4,7 @@ use Rattle.std.specs.Int.{int_div_euclid, int_rem_euclid, w128}
 use Rattle.std.proofs.Math.IntN.{pos-*ℤ-pos, pos-*ℤ-negsuc, negsuc-*ℤ-pos, *ℤ-negsuc, *ℤ-zero, zero-*ℤ}
 use Rattle.std.proofs.Math.Nat.{div-add-mod, div-le_self, div-zero, mod-lt}
 use Rattle.std.proofs.lemmas.Int.{ints, to_z-of_z}
-use Rattle.nz_spec.specs.Fraction.{floor_div}
+use Rattle.nz_fractions.specs.Fraction.{floor_div}
 use Rattle.nz_spec.specs.Term.{div_of, mod_of}
 
 -- ---- Quotients

@@ -4,7 +4,7 @@ use Rattle.std.specs.Prelude.{flat_map, unwrap_or}
 use Rattle.std.specs.List.{AllByRecursion}
 use Rattle.std.proofs.lemmas.Bool.Decides.{eqb_tells}
 use Rattle.std.proofs.lemmas.List.Elements.{Contains-push_cases, recursion_from_All}
-use Rattle.nz_spec.specs.Fraction.{Operation, first_wide}
+use Rattle.nz_fractions.specs.Fraction.{Operation, first_wide}
 use Rattle.nz_spec.specs.Operations.{head_operations, operations_in, operations_of}
 use Rattle.nz_spec.specs.Term as spec
 use Rattle.nz_spec.specs.Term.{Head, Term, apply, Assignment, head_value, value_of, values_of}

@@ -2,7 +2,7 @@
 use Rattle.std.specs.Prelude.{◌≡◌, ℕ, nat_eq, ⊤, List, [], ◌∷◌, Option, Some, None, unwrap_or, Contains, false, pos, slice_get}
 use Rattle.std.specs.HashMap.{HashMap, get}
 use Rattle.std.specs.List.{AllByRecursion}
-use Rattle.nz_spec.specs.Fraction.{Arithmetic, Operation, first_wide}
+use Rattle.nz_fractions.specs.Fraction.{Arithmetic, Operation, first_wide}
 use Rattle.nz_spec.specs.Operations.{operations_by, operations_of}
 use Rattle.nz_spec.specs.Term as spec
 use Rattle.nz_spec.specs.Term.{Assignment, Constant, Head, constant, integer, decimal_number, Term, value_of, carried_out, combined, default_value, number, whole_number, decimal_value}

@@ -1,6 +1,6 @@
 -- Why terms have no values.
 use Rattle.std.specs.Prelude.{◌≡◌, ⊤, Option, Some}
-use Rattle.nz_spec.specs.Fraction.{Operation}
+use Rattle.nz_fractions.specs.Fraction.{Operation}
 use Rattle.nz_frac.specs.Operations.{operation_of}
 use Rattle.nz_truth.specs.declared.value.EvalStop.{EvalStop}
 use Rattle.nz_truth.specs.declared.value.EvalStop.TheVariants.{Wide, Memory}

@@ -1,6 +1,6 @@
 //! The operations that can leave the numbers, on values. A truth counts as 0 where a number is meant.
 ghost use Rattle.std.specs.Prelude.{◌≡◌, map};
-ghost use Rattle.nz_spec.specs.Fraction.{whole};
+ghost use Rattle.nz_fractions.specs.Fraction.{whole};
 ghost use Rattle.nz_spec.specs.Operations.{head_operations, operations_by};
 ghost use Rattle.nz_spec.specs.Term.{Assignment, NumberSort, difference as minus_head, carried_out, combined, head_value, number, number_of};
 ghost use Rattle.nz_frac.specs.Operations.{operator_of};
@@ -29,7 +29,7 @@ pub(crate) fn whole_value(n: i64) -> Value
 }
 
 /// An operation over all arguments, from the left; of none this value.
-#[tactic(auto, unfolding(nz_spec::specs::Fraction::first_wide))]
+#[tactic(auto, unfolding(nz_fractions::specs::Fraction::first_wide))]
 pub(crate) fn operated(op: Op, of_none: Value, args: &[Value]) -> Outcome
     ensures outcome { IsOperated (operator_of op) (value_of of_none) (map value_of args.now) result }
 {
@@ -40,7 +40,7 @@ pub(crate) fn operated(op: Op, of_none: Value, args: &[Value]) -> Outcome
 }
 
 /// The negation of one argument, or the difference of several, from the left.
-#[tactic(auto, unfolding(nz_spec::specs::Fraction::first_wide))]
+#[tactic(auto, unfolding(nz_fractions::specs::Fraction::first_wide))]
 pub(crate) fn difference(args: &[Value]) -> Outcome
     ensures outcome { (a : Assignment) → (s : NumberSort) → IsOutcomeOf (head_operations (minus_head s) (map value_of args.now)) (head_value a (minus_head s) (map value_of args.now)) result }
 {
@@ -51,7 +51,7 @@ pub(crate) fn difference(args: &[Value]) -> Outcome
 }
 
 /// An operation of a value with each of the others, from the left, up to the first that leaves the numbers.
-#[tactic(auto, unfolding(nz_spec::specs::Fraction::first_wide))]
+#[tactic(auto, unfolding(nz_fractions::specs::Fraction::first_wide))]
 fn operated_on(op: Op, first: &Value, others: &[Value]) -> Outcome
     ensures outcome { IsOutcomeOf (operations_by (operator_of op) (value_of first.now) (map value_of others.now)) (combined (carried_out (operator_of op)) (value_of first.now) (map value_of others.now)) result }
 {

@@ -17,7 +17,7 @@ use nz_frac::Op;
 use nz_term::{Head, Operator, Sort, Value};
 
 /// What a head comes to; a constant and a number have the value that is given.
-#[tactic(auto, unfolding(nz_spec::specs::Fraction::first_wide))]
+#[tactic(auto, unfolding(nz_fractions::specs::Fraction::first_wide))]
 pub(crate) fn outcome_over(head: Head<'_>, given: Value, args: &[Value]) -> Outcome
     ensures outcome { (a : Assignment) → IsGiven a (head_of head.entry) (value_of given) → IsOutcomeOf (head_operations (head_of head.entry) (map value_of args.now)) (head_value a (head_of head.entry) (map value_of args.now)) result }
 {
@@ -31,7 +31,7 @@ pub(crate) fn outcome_over(head: Head<'_>, given: Value, args: &[Value]) -> Outc
 }
 
 /// What an operator comes to.
-#[tactic(auto, unfolding(nz_spec::specs::Fraction::first_wide))]
+#[tactic(auto, unfolding(nz_fractions::specs::Fraction::first_wide))]
 fn outcome_of(operator: Operator, args: &[Value]) -> Outcome
     ensures outcome { (a : Assignment) → IsOutcomeOf (head_operations (operator_of operator) (map value_of args.now)) (head_value a (operator_of operator) (map value_of args.now)) result }
 {
@@ -60,7 +60,7 @@ fn outcome_of(operator: Operator, args: &[Value]) -> Outcome
 }
 
 /// Whether each argument stands in the relation to the next.
-#[tactic(auto, unfolding(nz_spec::specs::Fraction::first_wide))]
+#[tactic(auto, unfolding(nz_fractions::specs::Fraction::first_wide))]
 fn chain(relation: Relation, args: &[Value]) -> Outcome
     ensures outcome { IsOutcomeOf [] (truth (are_chained (relation_of relation) (map value_of args.now))) result }
 {

@@ -1,6 +1,6 @@
 //! The values of terms, where the constants of their table have given values.
 ghost use Rattle.std.specs.Prelude.{◌≡◌, ◌<◌, length, map, flat_map, All, IfOk, IfErr};
-ghost use Rattle.nz_spec.specs.Fraction.{first_wide};
+ghost use Rattle.nz_fractions.specs.Fraction.{first_wide};
 ghost use Rattle.nz_spec.specs.Operations.{operations_of};
 ghost use Rattle.nz_spec.specs.Term.{value_of};
 ghost use Rattle.nz_spec.specs.Table.{term_in, assignment_by};

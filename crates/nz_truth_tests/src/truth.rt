@@ -1,13 +1,9 @@
 //! Values of terms: of each kind of operator, of roots that share terms, where pairs are missing or too many, of constants of
 //! one name, and at the edges of the numbers.
-ghost use Rattle.std.specs.Prelude.{◌≡◌, ◌<◌, ◌≤◌, None, length, IfOk, IsTrue, OnOk};
-ghost use Rattle.std.specs.List.{AllByRecursion};
-ghost use Rattle.nz_spec.specs.Term.{constant_of, head_fits};
-ghost use Rattle.nz_term.specs.Heads.{head_of};
-
-use nz_base::{Memory, Text};
+use nz_base::Memory;
 use nz_frac::{Op, Wide};
-use nz_term::{Assign, Constant, Head, NumberSort, Operator, Sort, TermId, Terms, Value};
+use nz_term::{Assign, NumberSort, Operator, Sort, TermId, Terms, Value};
+use nz_term_samples::{are_below, constant, integer, numeral, operation};
 use nz_truth::{EvalStop, Outcome, Values, eval, outcomes};
 use std::alloc::Global;
 use std::test::Fail;
@@ -15,169 +11,94 @@ use std::test::Fail;
 // M, the greatest number.
 const GREATEST: u128 = 170141183460469231731687303715884105727;
 
-// The number of the constant p of this sort.
-fn constant(alloc: Global, terms: &mut Terms, sort: Sort) -> Result<TermId, Memory>
-    ensures within { IfOk result (λ id. id < length terms.new) }
-{
-    let p = Constant {
-        name: Text::from_slice(alloc, b"p")?,
-        sort,
-    };
-    let id = terms.make(Head::Constant(&p), &[])?;
-    Ok(id)
+// p, `(not p)`, `(or p (not p))`, `(and p (not p))`, `(ite p (not p) p)` and `(= p (not p))`, in this order.
+fn operations(alloc: Global, terms: &mut Terms) -> Result<(), Memory> {
+    let p = constant(alloc, terms, b"p", Sort::Bool)?;
+    let not_p = operation(terms, Operator::Not, &[p])?;
+    operation(terms, Operator::Or, &[p, not_p])?;
+    operation(terms, Operator::And, &[p, not_p])?;
+    choices(terms, p, not_p)
 }
 
-// A table of the constant p alone, of sort `Bool`, and its number.
-fn one_constant(alloc: Global) -> Result<(Terms, TermId), Memory>
-    ensures within { IfOk result (λ t. t.1 < length t.0) }
-{
-    let mut terms = Terms::new(alloc)?;
-    let p = constant(alloc, &mut terms, Sort::Bool)?;
-    Ok((terms, p))
+// `(ite p (not p) p)` and `(= p (not p))`.
+fn choices(terms: &mut Terms, p: TermId, not_p: TermId) -> Result<(), Memory> {
+    operation(terms, Operator::Ite(Sort::Bool), &[p, not_p, p])?;
+    operation(terms, Operator::Equal, &[p, not_p])?;
+    Ok(())
 }
 
-// One term more, which is no constant.
-fn operation(terms: &mut Terms, head: Head<'_>, kids: &[TermId]) -> Result<TermId, Memory>
-    requires known { AllByRecursion (λ k. k < length terms.old) kids.now }
-    requires operator { constant_of (head_of head) ≡ None }
-    requires fits { IsTrue (head_fits (head_of head)) }
-    ensures longer { OnOk result (length terms.old ≤ length terms.new) }
-    ensures within { IfOk result (λ id. id < length terms.new) }
-{
-    let id = terms.make(head, kids)?;
-    Ok(id)
-}
-
-// The table of p, `(not p)`, `(or p (not p))`, `(and p (not p))`, `(ite p (not p) p)` and `(= p (not p))`, in this order.
-fn operations(alloc: Global) -> Result<Terms, Memory> {
-    let (mut terms, p) = one_constant(alloc)?;
-    let not_p = operation(&mut terms, Head::Operator(Operator::Not), &[p])?;
-    operation(&mut terms, Head::Operator(Operator::Or), &[p, not_p])?;
-    operation(&mut terms, Head::Operator(Operator::And), &[p, not_p])?;
-    operation(
-        &mut terms,
-        Head::Operator(Operator::Ite(Sort::Bool)),
-        &[p, not_p, p],
-    )?;
-    operation(&mut terms, Head::Operator(Operator::Equal), &[p, not_p])?;
-    Ok(terms)
-}
-
-// The negation of the negation .. of p, and its number.
-fn negations(alloc: Global, count: usize) -> Result<(Terms, TermId), Memory>
-    ensures within { IfOk result (λ t. t.1 < length t.0) }
-{
-    let (mut terms, mut last) = one_constant(alloc)?;
+// The negation of the negation .. of p.
+fn negations(alloc: Global, terms: &mut Terms, count: usize) -> Result<TermId, Memory> {
+    let mut last = constant(alloc, terms, b"p", Sort::Bool)?;
     for _ in 0..count {
-        last = operation(&mut terms, Head::Operator(Operator::Not), &[last])?;
+        last = operation(terms, Operator::Not, &[last])?;
     }
-    Ok((terms, last))
+    Ok(last)
 }
 
-// The sum of a sum .. of 1 with itself, and its number.
-fn doublings(alloc: Global, count: usize) -> Result<(Terms, TermId), Memory>
-    ensures within { IfOk result (λ t. t.1 < length t.0) }
-{
-    let mut terms = Terms::new(alloc)?;
-    let mut last = operation(&mut terms, Head::Integer(1), &[])?;
+// The sum of a sum .. of 1 with itself.
+fn doublings(terms: &mut Terms, count: usize) -> Result<TermId, Memory> {
+    let mut last = numeral(terms, 1)?;
     for _ in 0..count {
-        last = operation(
-            &mut terms,
-            Head::Operator(Operator::Sum(NumberSort::Int)),
-            &[last, last],
-        )?;
+        last = operation(terms, Operator::Sum(NumberSort::Int), &[last, last])?;
     }
-    Ok((terms, last))
+    Ok(last)
 }
 
-// The term of an integer.
-fn integer(terms: &mut Terms, n: i64) -> Result<TermId, Memory>
-    ensures longer { OnOk result (length terms.old ≤ length terms.new) }
-    ensures within { IfOk result (λ id. id < length terms.new) }
-{
-    let size = operation(terms, Head::Integer(n.unsigned_abs() as u128), &[])?;
-    if n < 0 {
-        operation(
-            terms,
-            Head::Operator(Operator::Difference(NumberSort::Int)),
-            &[size],
-        )
-    } else {
-        Ok(size)
-    }
+// The term of an operator over two integers.
+fn of_integers(terms: &mut Terms, operator: Operator, m: i64, n: i64) -> Result<TermId, Memory> {
+    let left = integer(terms, m)?;
+    let right = integer(terms, n)?;
+    operation(terms, operator, &[left, right])
 }
 
 // Whether an operator over two integers comes to the integer that is expected.
 fn is_of_integers(
     alloc: Global,
-    head: Head<'_>,
+    operator: Operator,
     m: i64,
     n: i64,
     expected: i128,
-) -> Result<bool, Memory>
-    requires operator { constant_of (head_of head) ≡ None }
-    requires fits { IsTrue (head_fits (head_of head)) }
-{
+) -> Result<bool, Memory> {
     let mut terms = Terms::new(alloc)?;
-    let left = integer(&mut terms, m)?;
-    let right = integer(&mut terms, n)?;
-    let id = operation(&mut terms, head, &[left, right])?;
+    let id = of_integers(&mut terms, operator, m, n)?;
     comes_to(alloc, &terms, id, expected)
 }
 
 // The term of an operator over the quotient of two integers.
-fn of_quotient(alloc: Global, head: Head<'_>, m: i64, n: i64) -> Result<(Terms, TermId), Memory>
-    requires operator { constant_of (head_of head) ≡ None }
-    requires fits { IsTrue (head_fits (head_of head)) }
-    ensures within { IfOk result (λ t. t.1 < length t.0) }
-{
-    let mut terms = Terms::new(alloc)?;
-    let left = integer(&mut terms, m)?;
-    let right = integer(&mut terms, n)?;
-    let quotient = operation(
-        &mut terms,
-        Head::Operator(Operator::Quotient),
-        &[left, right],
-    )?;
-    let id = operation(&mut terms, head, &[quotient])?;
-    Ok((terms, id))
+fn of_quotient(terms: &mut Terms, operator: Operator, m: i64, n: i64) -> Result<TermId, Memory> {
+    let quotient = of_integers(terms, Operator::Quotient, m, n)?;
+    operation(terms, operator, &[quotient])
 }
 
 // Whether `to_int` of the quotient of two integers comes to the integer that is expected.
 fn rounds_to(alloc: Global, m: i64, n: i64, expected: i128) -> Result<bool, Memory> {
-    let (terms, id) = of_quotient(alloc, Head::Operator(Operator::ToInt), m, n)?;
+    let mut terms = Terms::new(alloc)?;
+    let id = of_quotient(&mut terms, Operator::ToInt, m, n)?;
     comes_to(alloc, &terms, id, expected)
 }
 
 // Whether `is_int` of the quotient of two integers comes to the truth that is expected.
 fn is_whole(alloc: Global, m: i64, n: i64, expected: bool) -> Result<bool, Memory> {
-    let (terms, id) = of_quotient(alloc, Head::Operator(Operator::IsInt), m, n)?;
-    let values = evaluated(alloc, &terms, &[id], &[])?;
-    Ok(are(&values, &[expected]))
+    let mut terms = Terms::new(alloc)?;
+    let id = of_quotient(&mut terms, Operator::IsInt, m, n)?;
+    have_values(alloc, &terms, &[id], &[], &[expected])
 }
 
-// The table of M, 1, `(+ M 1)`, `(* M M)`, `(= 1 1)`, and `(ite (= 1 1) 1 (+ M 1))`, in this order.
-fn wide_operations(alloc: Global) -> Result<Terms, Memory> {
-    let mut terms = Terms::new(alloc)?;
-    let most = operation(&mut terms, Head::Integer(GREATEST), &[])?;
-    let one = operation(&mut terms, Head::Integer(1), &[])?;
-    let sum = operation(
-        &mut terms,
-        Head::Operator(Operator::Sum(NumberSort::Int)),
-        &[most, one],
-    )?;
-    operation(
-        &mut terms,
-        Head::Operator(Operator::Product(NumberSort::Int)),
-        &[most, most],
-    )?;
-    let same = operation(&mut terms, Head::Operator(Operator::Equal), &[one, one])?;
-    operation(
-        &mut terms,
-        Head::Operator(Operator::Ite(Sort::Int)),
-        &[same, one, sum],
-    )?;
-    Ok(terms)
+// M, 1, `(+ M 1)`, `(* M M)`, `(= 1 1)`, and `(ite (= 1 1) 1 (+ M 1))`, in this order.
+fn wide_operations(terms: &mut Terms) -> Result<(), Memory> {
+    let most = numeral(terms, GREATEST)?;
+    let one = numeral(terms, 1)?;
+    let sum = operation(terms, Operator::Sum(NumberSort::Int), &[most, one])?;
+    operation(terms, Operator::Product(NumberSort::Int), &[most, most])?;
+    wide_choice(terms, one, sum)
+}
+
+// `(= 1 1)` and `(ite (= 1 1) 1 s)`.
+fn wide_choice(terms: &mut Terms, one: TermId, sum: TermId) -> Result<(), Memory> {
+    let same = operation(terms, Operator::Equal, &[one, one])?;
+    operation(terms, Operator::Ite(Sort::Int), &[same, one, sum])?;
+    Ok(())
 }
 
 // The assignment of these pairs.
@@ -195,9 +116,10 @@ fn evaluated(
     terms: &Terms,
     roots: &[TermId],
     pairs: &[(TermId, bool)],
-) -> Result<Option<Values>, Memory>
-    requires known { AllByRecursion (λ i. i < length terms.now) roots.now }
-{
+) -> Result<Option<Values>, Memory> {
+    if !are_below(roots, terms.len()) {
+        return Err(Memory);
+    }
     let assign = assignment(alloc, pairs)?;
     match eval(alloc, terms, roots, &assign) {
         Ok(values) => Ok(Some(values)),
@@ -206,10 +128,23 @@ fn evaluated(
     }
 }
 
+// Whether these roots have the truth values that are expected.
+fn have_values(
+    alloc: Global,
+    terms: &Terms,
+    roots: &[TermId],
+    pairs: &[(TermId, bool)],
+    expected: &[bool],
+) -> Result<bool, Memory> {
+    let values = evaluated(alloc, terms, roots, pairs)?;
+    Ok(are(&values, expected))
+}
+
 // The operation that is the first of these roots to leave the numbers.
-fn stop(alloc: Global, terms: &Terms, roots: &[TermId]) -> Result<Option<Wide>, Memory>
-    requires known { AllByRecursion (λ i. i < length terms.now) roots.now }
-{
+fn stop(alloc: Global, terms: &Terms, roots: &[TermId]) -> Result<Option<Wide>, Memory> {
+    if !are_below(roots, terms.len()) {
+        return Err(Memory);
+    }
     let assign = Assign::new(alloc)?;
     match eval(alloc, terms, roots, &assign) {
         Ok(_) => Ok(None),
@@ -219,9 +154,10 @@ fn stop(alloc: Global, terms: &Terms, roots: &[TermId]) -> Result<Option<Wide>, 
 }
 
 // Whether a term comes to the integer that is expected, where nothing is assigned.
-fn comes_to(alloc: Global, terms: &Terms, root: TermId, expected: i128) -> Result<bool, Memory>
-    requires known { root < length terms.now }
-{
+fn comes_to(alloc: Global, terms: &Terms, root: TermId, expected: i128) -> Result<bool, Memory> {
+    if terms.len() <= root {
+        return Err(Memory);
+    }
     let assign = Assign::new(alloc)?;
     let found = outcomes(alloc, terms, &[root], &assign)?;
     match found.first() {
@@ -264,106 +200,113 @@ fn is_wide(stop: &Option<Wide>, op: Op, right: i128) -> bool {
 
 #[test]
 fn operators_have_their_values(rt: HostRuntime) -> Result<(), Fail> {
-    let terms = operations(rt.alloc())?;
-    assert_eq!(rt; terms.len(), 6);
+    let mut terms = Terms::new(rt.alloc())?;
+    operations(rt.alloc(), &mut terms)?;
+    assert!(rt; terms.len() == 6);
     let roots = [0, 1, 2, 3, 4, 5];
-    let where_true = evaluated(rt.alloc(), &terms, &roots, &[(0, true)])?;
-    assert!(rt; are(&where_true, &[true, false, true, false, false, false]));
-    let where_false = evaluated(rt.alloc(), &terms, &roots, &[(0, false)])?;
-    assert!(rt; are(&where_false, &[false, true, true, false, false, false]));
+    let where_true = [true, false, true, false, false, false];
+    assert!(rt; have_values(rt.alloc(), &terms, &roots, &[(0, true)], &where_true)?);
+    let where_false = [false, true, true, false, false, false];
+    assert!(rt; have_values(rt.alloc(), &terms, &roots, &[(0, false)], &where_false)?);
     Ok(())
 }
 
 #[test]
 fn roots_have_their_values_in_order(rt: HostRuntime) -> Result<(), Fail> {
-    let terms = operations(rt.alloc())?;
-    assert_eq!(rt; terms.len(), 6);
-    let values = evaluated(rt.alloc(), &terms, &[2, 1, 2], &[(0, true)])?;
-    assert!(rt; are(&values, &[true, false, true]));
-    let none = evaluated(rt.alloc(), &terms, &[], &[(0, true)])?;
-    assert!(rt; are(&none, &[]));
+    let mut terms = Terms::new(rt.alloc())?;
+    operations(rt.alloc(), &mut terms)?;
+    assert!(rt; terms.len() == 6);
+    assert!(rt;
+        have_values(
+            rt.alloc(),
+            &terms,
+            &[2, 1, 2],
+            &[(0, true)],
+            &[true, false, true]
+        )?
+    );
+    assert!(rt; have_values(rt.alloc(), &terms, &[], &[(0, true)], &[])?);
     Ok(())
 }
 
 #[test]
 fn the_first_pair_of_a_constant_counts(rt: HostRuntime) -> Result<(), Fail> {
-    let terms = operations(rt.alloc())?;
-    assert_eq!(rt; terms.len(), 6);
+    let mut terms = Terms::new(rt.alloc())?;
+    operations(rt.alloc(), &mut terms)?;
+    assert!(rt; terms.len() == 6);
     // Past the table, of an operation, and then the constant twice.
     let pairs = [(70, false), (1, true), (0, true), (0, false)];
-    let values = evaluated(rt.alloc(), &terms, &[0, 1], &pairs)?;
-    assert!(rt; are(&values, &[true, false]));
-    let unlisted = evaluated(rt.alloc(), &terms, &[0, 1], &[])?;
-    assert!(rt; are(&unlisted, &[false, true]));
+    assert!(rt; have_values(rt.alloc(), &terms, &[0, 1], &pairs, &[true, false])?);
+    assert!(rt; have_values(rt.alloc(), &terms, &[0, 1], &[], &[false, true])?);
+    Ok(())
+}
+
+// The constants p of two sorts.
+fn two_sorts(alloc: Global, terms: &mut Terms) -> Result<(), Memory> {
+    constant(alloc, terms, b"p", Sort::Bool)?;
+    constant(alloc, terms, b"p", Sort::Int)?;
     Ok(())
 }
 
 #[test]
 fn constants_of_one_name_differ_by_sort(rt: HostRuntime) -> Result<(), Fail> {
     let mut terms = Terms::new(rt.alloc())?;
-    constant(rt.alloc(), &mut terms, Sort::Bool)?;
-    constant(rt.alloc(), &mut terms, Sort::Int)?;
-    assert_eq!(rt; terms.len(), 2);
-    let values = evaluated(rt.alloc(), &terms, &[0], &[(0, true)])?;
-    assert!(rt; are(&values, &[true]));
+    two_sorts(rt.alloc(), &mut terms)?;
+    assert!(rt; terms.len() == 2);
+    assert!(rt; have_values(rt.alloc(), &terms, &[0], &[(0, true)], &[true])?);
     // No value is given for the second, which has the default of its sort.
-    let unlisted = comes_to(rt.alloc(), &terms, 1, 0)?;
-    assert!(rt; unlisted);
+    assert!(rt; comes_to(rt.alloc(), &terms, 1, 0)?);
     Ok(())
 }
 
 #[test]
 fn a_long_chain_is_evaluated(rt: HostRuntime) -> Result<(), Fail> {
-    let (terms, last) = negations(rt.alloc(), 100_000)?;
-    let values = evaluated(rt.alloc(), &terms, &[last], &[(0, true)])?;
-    assert!(rt; are(&values, &[true]));
+    let mut terms = Terms::new(rt.alloc())?;
+    let last = negations(rt.alloc(), &mut terms, 100_000)?;
+    assert!(rt; have_values(rt.alloc(), &terms, &[last], &[(0, true)], &[true])?);
     Ok(())
 }
 
 #[test]
 fn shared_sums_are_evaluated_once(rt: HostRuntime) -> Result<(), Fail> {
-    let (terms, last) = doublings(rt.alloc(), 100)?;
-    let is_power = comes_to(
-        rt.alloc(),
-        &terms,
-        last,
-        1_267_650_600_228_229_401_496_703_205_376,
-    )?;
-    assert!(rt; is_power);
+    let mut terms = Terms::new(rt.alloc())?;
+    let last = doublings(&mut terms, 100)?;
+    let power = 1_267_650_600_228_229_401_496_703_205_376;
+    assert!(rt; comes_to(rt.alloc(), &terms, last, power)?);
     Ok(())
 }
 
 #[test]
 fn div_leaves_no_remainder_below_zero(rt: HostRuntime) -> Result<(), Fail> {
-    let above = is_of_integers(rt.alloc(), Head::Operator(Operator::Div), 7, 2, 3)?;
+    let above = is_of_integers(rt.alloc(), Operator::Div, 7, 2, 3)?;
     assert!(rt; above);
-    let left = is_of_integers(rt.alloc(), Head::Operator(Operator::Div), -7, 2, -4)?;
+    let left = is_of_integers(rt.alloc(), Operator::Div, -7, 2, -4)?;
     assert!(rt; left);
-    let right = is_of_integers(rt.alloc(), Head::Operator(Operator::Div), 7, -2, -3)?;
+    let right = is_of_integers(rt.alloc(), Operator::Div, 7, -2, -3)?;
     assert!(rt; right);
-    let both = is_of_integers(rt.alloc(), Head::Operator(Operator::Div), -7, -2, 4)?;
+    let both = is_of_integers(rt.alloc(), Operator::Div, -7, -2, 4)?;
     assert!(rt; both);
     Ok(())
 }
 
 #[test]
 fn mod_is_never_below_zero(rt: HostRuntime) -> Result<(), Fail> {
-    let left = is_of_integers(rt.alloc(), Head::Operator(Operator::Mod), -7, 3, 2)?;
+    let left = is_of_integers(rt.alloc(), Operator::Mod, -7, 3, 2)?;
     assert!(rt; left);
-    let right = is_of_integers(rt.alloc(), Head::Operator(Operator::Mod), 7, -3, 1)?;
+    let right = is_of_integers(rt.alloc(), Operator::Mod, 7, -3, 1)?;
     assert!(rt; right);
-    let both = is_of_integers(rt.alloc(), Head::Operator(Operator::Mod), -7, -3, 2)?;
+    let both = is_of_integers(rt.alloc(), Operator::Mod, -7, -3, 2)?;
     assert!(rt; both);
     Ok(())
 }
 
 #[test]
 fn by_zero_the_definition_is_computed(rt: HostRuntime) -> Result<(), Fail> {
-    let div = is_of_integers(rt.alloc(), Head::Operator(Operator::Div), -7, 0, -1)?;
+    let div = is_of_integers(rt.alloc(), Operator::Div, -7, 0, -1)?;
     assert!(rt; div);
-    let rest = is_of_integers(rt.alloc(), Head::Operator(Operator::Mod), -7, 0, -7)?;
+    let rest = is_of_integers(rt.alloc(), Operator::Mod, -7, 0, -7)?;
     assert!(rt; rest);
-    let quotient = is_of_integers(rt.alloc(), Head::Operator(Operator::Quotient), -7, 0, 0)?;
+    let quotient = is_of_integers(rt.alloc(), Operator::Quotient, -7, 0, 0)?;
     assert!(rt; quotient);
     Ok(())
 }
@@ -388,8 +331,9 @@ fn integers_are_told_from_fractions(rt: HostRuntime) -> Result<(), Fail> {
 
 #[test]
 fn a_wide_sum_names_its_operands(rt: HostRuntime) -> Result<(), Fail> {
-    let terms = wide_operations(rt.alloc())?;
-    assert_eq!(rt; terms.len(), 6);
+    let mut terms = Terms::new(rt.alloc())?;
+    wide_operations(&mut terms)?;
+    assert!(rt; terms.len() == 6);
     let sum = stop(rt.alloc(), &terms, &[2])?;
     assert!(rt; is_wide(&sum, Op::Add, 1));
     Ok(())
@@ -397,8 +341,9 @@ fn a_wide_sum_names_its_operands(rt: HostRuntime) -> Result<(), Fail> {
 
 #[test]
 fn a_branch_that_is_not_taken_counts(rt: HostRuntime) -> Result<(), Fail> {
-    let terms = wide_operations(rt.alloc())?;
-    assert_eq!(rt; terms.len(), 6);
+    let mut terms = Terms::new(rt.alloc())?;
+    wide_operations(&mut terms)?;
+    assert!(rt; terms.len() == 6);
     let branch = stop(rt.alloc(), &terms, &[5])?;
     assert!(rt; is_wide(&branch, Op::Add, 1));
     Ok(())
@@ -406,8 +351,9 @@ fn a_branch_that_is_not_taken_counts(rt: HostRuntime) -> Result<(), Fail> {
 
 #[test]
 fn the_first_wide_operation_is_named(rt: HostRuntime) -> Result<(), Fail> {
-    let terms = wide_operations(rt.alloc())?;
-    assert_eq!(rt; terms.len(), 6);
+    let mut terms = Terms::new(rt.alloc())?;
+    wide_operations(&mut terms)?;
+    assert!(rt; terms.len() == 6);
     let product = stop(rt.alloc(), &terms, &[1, 3, 2])?;
     assert!(rt; is_wide(&product, Op::Mul, GREATEST as i128));
     Ok(())

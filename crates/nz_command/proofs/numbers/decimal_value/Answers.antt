@@ -1,4 +1,4 @@
-use Rattle.nz_spec.specs.Fraction.{largest}
+use Rattle.nz_fractions.specs.Fraction.{largest}
 use Rattle.nz_command.proofs.Digits.{wide_before, value_whole, wide_whole}
 use Rattle.nz_command.proofs.numbers.decimal_value.Goals as goal
 

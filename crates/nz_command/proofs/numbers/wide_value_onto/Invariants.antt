@@ -1,6 +1,6 @@
 use Rattle.std.proofs.Common.{◌≡◌, ◌≤◌, drop}
 use Rattle.nz_spec.specs.Bounds.{value_onto}
-use Rattle.nz_spec.specs.Fraction.{largest}
+use Rattle.nz_fractions.specs.Fraction.{largest}
 use Rattle.nz_command.proofs.numbers.wide_value_onto.Given as goal
 
 abbrev pub invariant-loop-byte : goal.invariant-loop-byte

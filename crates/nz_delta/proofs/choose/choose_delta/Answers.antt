@@ -1,8 +1,7 @@
 use Rattle.std.proofs.Common.{List, ◌+◌, pos, subst, map, drop, refl, ap, sym, ◌∙◌}
 use Rattle.std.proofs.lemmas.Result.{err_from_is_err_and}
 use Rattle.nz_lists.proofs.Places.{drop_read}
-use Rattle.nz_spec.specs.Fraction.{Fraction, whole, first_wide, ◌<ℚ◌, ◌≤ℚ◌}
-use Rattle.nz_spec.proofs.InfinitesimalLaws.{chosen-least, chosen-above, chosen-keeps}
+use Rattle.nz_fractions.specs.Fraction.{Fraction, whole, first_wide, ◌<ℚ◌, ◌≤ℚ◌}
 use Rattle.nz_spec.specs.Infinitesimal.{IsLeastLimit, AreOrderedAt, limits, least_from, delta_operations}
 use Rattle.nz_delta.specs.declared.delta.Delta.{Delta}
 use Rattle.nz_delta.specs.Pairs.{pair_of}
@@ -53,18 +52,18 @@ returns-clause-least c =
     subst
     (λ (e : Fraction). IsLeastLimit (map pair_of c.args.pairs.now) e)
     (c.loop-pair.invariant.value ∙ ended c.args.pairs.now c.loop-pair.pair-index c.loop-pair.delta c.loop-pair-test.false)
-    (chosen-least (map pair_of c.args.pairs.now))
+    (c.chosen_deltas_serve.ensures.least (map pair_of c.args.pairs.now))
 
 pub returns-clause-above_zero : goal.returns-clause-above_zero
 returns-clause-above_zero c =
     subst
     (λ (e : Fraction). whole (pos 0) <ℚ e)
     (c.loop-pair.invariant.value ∙ ended c.args.pairs.now c.loop-pair.pair-index c.loop-pair.delta c.loop-pair-test.false)
-    (chosen-above (map pair_of c.args.pairs.now) c.requires)
+    (c.chosen_deltas_serve.ensures.above_zero (map pair_of c.args.pairs.now) c.requires)
 
 pub returns-clause-keeps_order : goal.returns-clause-keeps_order
 returns-clause-keeps_order c =
     subst
     (λ (e : Fraction). (d : Fraction) → whole (pos 0) <ℚ d → d ≤ℚ e → AreOrderedAt (map pair_of c.args.pairs.now) d)
     (c.loop-pair.invariant.value ∙ ended c.args.pairs.now c.loop-pair.pair-index c.loop-pair.delta c.loop-pair-test.false)
-    (λ d z h. chosen-keeps (map pair_of c.args.pairs.now) d c.requires z h)
+    (λ d z h. c.chosen_deltas_serve.ensures.keeps_order (map pair_of c.args.pairs.now) d c.requires z h)

@@ -1,5 +1,5 @@
 use Rattle.std.proofs.Common.{◌∙◌, sym, ap}
-use Rattle.nz_spec.specs.Fraction.{Fraction, fraction_min}
+use Rattle.nz_fractions.specs.Fraction.{Fraction, fraction_min}
 use Rattle.nz_delta.specs.Pairs.{pair_of}
 use Rattle.nz_delta.proofs.LimitLemmas.{below-from_cmp, least-limited, least-free, operations-limited, operations-free}
 use Rattle.nz_delta.proofs.choose.tightened.Goals as goal

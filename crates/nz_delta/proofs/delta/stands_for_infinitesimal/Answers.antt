@@ -1,7 +1,7 @@
 use Rattle.std.proofs.Common.{refl}
-use Rattle.nz_spec.specs.Fraction.{◌-ℚ◌}
+use Rattle.nz_fractions.specs.Fraction.{◌-ℚ◌}
 use Rattle.nz_spec.specs.Infinitesimal.{◌+δ◌, ◌-δ◌, scaled, infinitesimal_cmp}
-use Rattle.nz_spec.proofs.FractionArithmetic.{outcome-sum, outcome-difference, outcome-product}
+use Rattle.nz_fractions.proofs.Arithmetic.{outcome-sum, outcome-difference, outcome-product}
 use Rattle.nz_delta.proofs.delta.stands_for_infinitesimal.Goals as goal
 
 pub returns-clause-sum : goal.returns-clause-sum

@@ -1,5 +1,5 @@
 use Rattle.std.proofs.Common.{◌≡◌}
-use Rattle.nz_spec.specs.Fraction.{gcd}
+use Rattle.nz_fractions.specs.Fraction.{gcd}
 use Rattle.nz_frac.proofs.magnitude.greatest_divisor.Given as goal
 
 abbrev pub invariant-loop-b : goal.invariant-loop-b

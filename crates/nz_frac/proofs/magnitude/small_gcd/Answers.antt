@@ -1,5 +1,5 @@
 use Rattle.std.proofs.Common.{ℕ, ap, sym, ◌∙◌}
-use Rattle.nz_spec.specs.Fraction.{gcd}
+use Rattle.nz_fractions.specs.Fraction.{gcd}
 use Rattle.nz_ints.proofs.Divisors.{gcd-mod, gcd-zero}
 use Rattle.nz_frac.proofs.magnitude.small_gcd.Goals as goal
 

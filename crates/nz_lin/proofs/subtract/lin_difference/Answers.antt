@@ -4,7 +4,7 @@ use Rattle.std.proofs.lemmas.Result.{err_from_is_err_and}
 use Rattle.nz_spec.specs.Computation.{and_then}
 use Rattle.nz_spec.specs.Form as spec
 use Rattle.nz_spec.specs.FormOf.{form_of, number_in}
-use Rattle.nz_spec.specs.Fraction.{Difference}
+use Rattle.nz_fractions.specs.Fraction.{Difference}
 use Rattle.nz_spec.specs.Links.{minus}
 use Rattle.nz_spec.specs.Table.{term_in}
 use Rattle.nz_lin.specs.Comes.{IsFormed}

@@ -1,13 +1,13 @@
 -- One coefficient more.
-use Rattle.std.proofs.Common.{◌≡◌, ℕ, ◌+◌, List, ◌∷◌, drop, sym, ap, ◌∙◌, arith, unsigned_abs}
+use Rattle.std.proofs.Common.{◌≡◌, ℕ, ◌≤◌, ◌+◌, List, ◌∷◌, drop, sym, ap, subst, ◌∙◌, arith, unsigned_abs}
 use Rattle.std.proofs.lemmas.List.{drop_all}
 use Rattle.nz_ints.proofs.Divisors.{gcd-zero}
 use Rattle.nz_lists.proofs.Places.{drop_read}
-use Rattle.nz_spec.specs.Fraction.{gcd, floor}
+use Rattle.nz_fractions.specs.Fraction.{gcd, floor, largest}
 use Rattle.nz_spec.specs.LinearLiteral as linear
 use Rattle.nz_lin.specs.declared.form.Part.{Part}
 use Rattle.nz_lin.specs.Forms.{parts_over}
-use Rattle.nz_lin.proofs.CommonDivisors.{gcd_assoc, gcd-zero_left}
+use Rattle.nz_lin.proofs.CommonDivisors.{gcd_assoc, gcd_bounded, gcd-zero_left}
 use Rattle.nz_lin.proofs.tight.common_divisor.Goals as goal
 
 pub loop-part-init : goal.loop-part-init
@@ -23,11 +23,11 @@ loop-part-preserved c =
     record {
       divisor = λ ns.
           let more = linear.common_divisor (parts_over ns rest) in
-          ap (λ (n : ℕ). gcd n more) (c.greatest_divisor-divisor.ensures.divisor ∙ ap (λ (n : ℕ). gcd c.loop-part.divisor n) c.size.ensures.size)
+          ap (λ (n : ℕ). gcd n more) (c.greatest_divisor-divisor.ensures ∙ ap (λ (n : ℕ). gcd c.loop-part.divisor n) c.size.ensures.size)
           ∙ gcd_assoc c.loop-part.divisor (unsigned_abs (floor p.coefficient)) more
           ∙ ap (λ (l : List Part). gcd c.loop-part.divisor (linear.common_divisor (parts_over ns l))) (sym left)
           ∙ c.loop-part.invariant.divisor ns;
-      fits = c.greatest_divisor-divisor.ensures.fits c.loop-part.invariant.fits c.size.ensures.fits;
+      fits = subst (λ (n : ℕ). n ≤ largest) (sym c.greatest_divisor-divisor.ensures) (gcd_bounded largest c.loop-part.divisor c.size.result c.loop-part.invariant.fits c.size.ensures.fits);
     }
 
 pub returns : goal.returns

@@ -1,5 +1,5 @@
 use Rattle.std.proofs.Common.{◌≡◌, ◌≤◌, List, drop}
-use Rattle.nz_spec.specs.Fraction.{gcd, largest}
+use Rattle.nz_fractions.specs.Fraction.{gcd, largest}
 use Rattle.nz_spec.specs.LinearLiteral as linear
 use Rattle.nz_spec.specs.Table.{Node}
 use Rattle.nz_lin.specs.Forms.{parts_over}

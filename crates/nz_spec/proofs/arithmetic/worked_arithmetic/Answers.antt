@@ -1,7 +1,7 @@
 -- Each clause is computed.
 use Rattle.std.proofs.Common.{refl}
 use Rattle.nz_ints.specs.Division.{gcd_within, gcd, lcm, floor_div}
-use Rattle.nz_spec.specs.Fraction.{denominator, over, fraction_eq, fraction_lt, neg_ℚ, ◌+ℚ◌, ◌-ℚ◌, ◌*ℚ◌, floor, ceiling, reduce, is_wide_sum, is_wide_product, exact, outcome, is_wide, first_wide}
+use Rattle.nz_fractions.specs.Fraction.{denominator, over, fraction_eq, fraction_lt, neg_ℚ, ◌+ℚ◌, ◌-ℚ◌, ◌*ℚ◌, floor, ceiling, reduce, is_wide_sum, is_wide_product, exact, outcome, is_wide, first_wide}
 use Rattle.nz_spec.proofs.arithmetic.worked_arithmetic.Goals as goal
 
 pub returns : goal.returns

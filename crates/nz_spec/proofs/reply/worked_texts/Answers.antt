@@ -2,7 +2,7 @@
 use Rattle.std.proofs.Common.{refl}
 use Rattle.std.specs.Fmt.{digits}
 use Rattle.nz_ints.specs.Division.{gcd_within, gcd, lcm, floor_div}
-use Rattle.nz_spec.specs.Fraction.{denominator, over, fraction_eq, fraction_le, fraction_lt, neg_ℚ, ◌+ℚ◌, ◌-ℚ◌, ◌*ℚ◌, ◌/ℚ◌, flipped, reciprocal, floor, reduce, ratio, is_wide_sum, is_wide_product, exact, outcome, is_wide, first_wide}
+use Rattle.nz_fractions.specs.Fraction.{denominator, over, fraction_eq, fraction_le, fraction_lt, neg_ℚ, ◌+ℚ◌, ◌-ℚ◌, ◌*ℚ◌, ◌/ℚ◌, flipped, reciprocal, floor, reduce, ratio, is_wide_sum, is_wide_product, exact, outcome, is_wide, first_wide}
 use Rattle.nz_spec.specs.Term.{div_of, mod_of}
 use Rattle.nz_spec.proofs.reply.worked_texts.Goals as goal
 

@@ -1,7 +1,7 @@
 -- One operation more, which is carried out or leaves the numbers.
 use Rattle.std.proofs.Common.{◌≡◌, ◌+◌, List, ◌∷◌, drop, map, sym, ap, subst, ◌∙◌, arith}
 use Rattle.nz_lists.proofs.Places.{drop_read}
-use Rattle.nz_spec.specs.Fraction.{Fraction, first_wide}
+use Rattle.nz_fractions.specs.Fraction.{Fraction, first_wide}
 use Rattle.nz_spec.specs.Operations.{operations_by}
 use Rattle.nz_spec.specs.Term.{carried_out, combined, number_of}
 use Rattle.nz_frac.specs.Operations.{IsCarriedOut, IsStopped, operator_of}

@@ -1,7 +1,7 @@
 -- A quotient is at most its dividend, so it is a number.
 use Rattle.std.proofs.Common.{◌≡◌, ◌≤◌, ℤ, pos, int_lt, unsigned_abs, true, false, to_z, of_z, sym, ap, subst, ◌∙◌, arith}
 use Rattle.std.specs.Int.{int_div_euclid, w128}
-use Rattle.nz_spec.specs.Fraction.{largest}
+use Rattle.nz_fractions.specs.Fraction.{largest}
 use Rattle.nz_ints.proofs.Sizes.{cast-back}
 use Rattle.nz_truth.proofs.Dividing.{quotient_above, quotient_below, quotient_fits, quotient_is, read, zero_read}
 use Rattle.nz_truth.proofs.integers.divided.Goals as goal

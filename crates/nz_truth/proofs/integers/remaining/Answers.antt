@@ -1,7 +1,7 @@
 -- A remainder is below its divisor, so it is a number.
 use Rattle.std.proofs.Common.{◌≡◌, ◌≢◌, ◌≤◌, ◌<◌, ℤ, pos, unsigned_abs, to_z, of_z, ap, subst, ◌∙◌, arith}
 use Rattle.std.specs.Int.{int_rem_euclid, w128}
-use Rattle.nz_spec.specs.Fraction.{largest}
+use Rattle.nz_fractions.specs.Fraction.{largest}
 use Rattle.nz_ints.proofs.Sizes.{cast-back}
 use Rattle.nz_truth.proofs.Dividing.{remainder_is, remainder_zero, read, zero_read}
 use Rattle.nz_truth.proofs.integers.remaining.Goals as goal

@@ -1,5 +1,5 @@
 use Rattle.std.proofs.Common.{refl}
-use Rattle.nz_spec.specs.Fraction.{Product}
+use Rattle.nz_fractions.specs.Fraction.{Product}
 use Rattle.nz_delta.proofs.WideLemmas.{refused_alone}
 use Rattle.nz_delta.proofs.scalar.FracScalar.scale.Goals as goal
 

@@ -1,5 +1,5 @@
 use Rattle.std.proofs.Common.{refl}
-use Rattle.nz_spec.specs.Fraction.{Difference}
+use Rattle.nz_fractions.specs.Fraction.{Difference}
 use Rattle.nz_delta.proofs.WideLemmas.{refused_alone}
 use Rattle.nz_delta.proofs.scalar.FracScalar.sub.Goals as goal
 

@@ -1,4 +1,4 @@
-use Rattle.nz_spec.specs.Fraction.{is_wide}
+use Rattle.nz_fractions.specs.Fraction.{is_wide}
 use Rattle.nz_frac.proofs.WideLemmas.{not_wide, some_wide}
 use Rattle.nz_frac.proofs.frac.Frac.add.Goals as goal
 

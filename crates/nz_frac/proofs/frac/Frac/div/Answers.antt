@@ -1,5 +1,5 @@
 use Rattle.std.proofs.Common.{ap, ◌∙◌, subst, IsFalse}
-use Rattle.nz_spec.specs.Fraction.{Fraction, ◌/ℚ◌, is_wide_product, is_wide, outcome, exact, Product}
+use Rattle.nz_fractions.specs.Fraction.{Fraction, ◌/ℚ◌, is_wide_product, is_wide, outcome, exact, Product}
 use Rattle.nz_frac.proofs.WideLemmas.{not_wide, some_wide}
 use Rattle.nz_frac.proofs.frac.Frac.div.Goals as goal
 

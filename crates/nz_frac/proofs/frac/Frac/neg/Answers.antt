@@ -1,5 +1,5 @@
 use Rattle.std.proofs.Common.{ℤ, ap, ◌∙◌}
-use Rattle.nz_spec.specs.Fraction.{neg_ℚ}
+use Rattle.nz_fractions.specs.Fraction.{neg_ℚ}
 use Rattle.nz_frac.specs.Parts.{value_of}
 use Rattle.nz_frac.proofs.PartLemmas.{negated, neg-value}
 use Rattle.nz_frac.proofs.frac.Frac.neg.Goals as goal

@@ -1,5 +1,5 @@
 use Rattle.std.proofs.Common.{ap, ◌∙◌, subst, IsFalse}
-use Rattle.nz_spec.specs.Fraction.{Fraction, ◌-ℚ◌, is_wide_sum, is_wide, outcome, exact, Sum}
+use Rattle.nz_fractions.specs.Fraction.{Fraction, ◌-ℚ◌, is_wide_sum, is_wide, outcome, exact, Sum}
 use Rattle.nz_frac.proofs.WideLemmas.{not_wide, some_wide}
 use Rattle.nz_frac.proofs.frac.Frac.sub.Goals as goal
 

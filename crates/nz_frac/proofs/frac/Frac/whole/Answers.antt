@@ -3,7 +3,7 @@ use Rattle.std.proofs.lemmas.Int.{ints, to_z-of_z}
 use Rattle.std.specs.Int.{w64, w128}
 use Rattle.std.specs.Int.RustNames.{FitsSigned}
 use Rattle.nz_ints.proofs.Sizes.{cast-back}
-use Rattle.nz_spec.specs.Fraction.{largest, whole}
+use Rattle.nz_fractions.specs.Fraction.{largest, whole}
 use Rattle.nz_frac.proofs.frac.Frac.whole.Goals as goal
 
 small : (n : ℤ) → FitsSigned w64 n → unsigned_abs n ≤ largest

@@ -3,7 +3,7 @@ use Rattle.std.proofs.Common.{false, Ok, Err, sym, ap, subst, ◌∙◌}
 use Rattle.std.proofs.lemmas.Result.{err_from_is_err_and}
 use Rattle.nz_spec.specs.Cuts.{rounded_limit}
 use Rattle.nz_spec.specs.Farkas.{bound_scaled}
-use Rattle.nz_spec.specs.Fraction.{Fraction}
+use Rattle.nz_fractions.specs.Fraction.{Fraction}
 use Rattle.nz_spec.specs.Literal.{is_at_most}
 use Rattle.nz_lin.specs.declared.form.LinStop.{LinStop}
 use Rattle.nz_lin.specs.declared.form.LinStop.TheVariants.{Wide}

@@ -1,7 +1,7 @@
 -- A bound over integers is rounded, and another one stays.
 use Rattle.std.proofs.Common.{◌≡◌, true, false, List, Ok, sym, subst, ◌∙◌}
 use Rattle.nz_spec.specs.Computation.{Computation}
-use Rattle.nz_spec.specs.Fraction.{Fraction}
+use Rattle.nz_fractions.specs.Fraction.{Fraction}
 use Rattle.nz_spec.specs.LinearLiteral.{tight_form, tight_multiplier}
 use Rattle.nz_spec.specs.Literal.{Literal}
 use Rattle.nz_lin.specs.declared.bound.Bound.{Bound}

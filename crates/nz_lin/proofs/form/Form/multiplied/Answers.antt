@@ -2,7 +2,7 @@
 use Rattle.std.proofs.Common.{List, Err, sym, ap, subst, ◌∙◌}
 use Rattle.std.proofs.lemmas.Result.{err_from_is_err_and}
 use Rattle.nz_spec.specs.Form.{parts_scaled, scaled}
-use Rattle.nz_spec.specs.Fraction.{first_wide}
+use Rattle.nz_fractions.specs.Fraction.{first_wide}
 use Rattle.nz_lin.specs.Stops.{IsStopAt}
 use Rattle.nz_lin.specs.declared.form.LinStop.{LinStop}
 use Rattle.nz_lin.specs.declared.form.LinStop.TheVariants.{Wide}

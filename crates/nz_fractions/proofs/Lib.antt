@@ -1,0 +1,4 @@
+pub mod Arithmetic
+pub mod Laws
+pub mod Order
+pub mod Rounding
