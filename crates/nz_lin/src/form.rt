@@ -102,8 +102,8 @@ impl<T: Drop> From<AllocFailed<T>> for LinStop {
 /// A form: units with their coefficients, by rising numbers, and a number that is added.
 #[derive(Debug, Drop)]
 pub struct Form {
-    parts: Vec<Part>,
-    offset: Frac,
+    pub(crate) parts: Vec<Part>,
+    pub(crate) offset: Frac,
 }
 
 impl Model for Form {

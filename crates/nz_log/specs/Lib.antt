@@ -1,11 +1,17 @@
+pub mod Atoms
+pub mod Axioms
+pub mod Keys
 pub mod Leveled
 pub mod Lits
 pub mod Logs
 pub mod Marked
 pub mod Notes
 pub mod Peaks
+pub mod Rows
+pub mod Same
 pub mod Sound
 pub mod Spelling
 pub mod Stored
+pub mod TermLits
 pub mod Theories
 pub mod Verdicts

@@ -1,0 +1,14 @@
+-- No form: everything holds of it.
+use Rattle.std.proofs.Common.{◌≡◌, ℕ, List, [], Some, refl}
+use Rattle.nz_spec.specs.Infinitesimal.{Infinitesimal}
+use Rattle.nz_spec.specs.PositionMoves.{MovesKeepReady}
+use Rattle.nz_simplex.specs.State.{IsSound, empty_state}
+
+pub sound_empty : MovesKeepReady → IsSound empty_state
+sound_empty moves = record {
+  marked = refl;
+  valued = refl;
+  known = λ k e. absurd (cc);
+  ready = λ ns over. moves.empty;
+  right = λ ns k x over e. absurd (cc);
+}

@@ -1,0 +1,9 @@
+pub mod Checks
+pub mod Choices
+pub mod Faithful
+pub mod FaithfulScalars
+pub mod Moves
+pub mod Standing
+pub mod State
+pub mod Stored
+pub mod Tabled

@@ -1,0 +1,60 @@
+-- What the fields of a simplex are.
+use Rattle.std.specs.Prelude.{◌≡◌, ℕ, ◌≤◌, Bool, true, false, not, List, [], ◌∷◌, map, length, Option, Some, None, option_map, if◌then◌else◌}
+use Rattle.nz_fractions.specs.Fraction.{Fraction}
+use Rattle.nz_spec.specs.Infinitesimal.{Infinitesimal}
+use Rattle.nz_spec.specs.BasisMoves.{numbers}
+use Rattle.nz_tab.specs.Tables.{Table}
+use Rattle.nz_spec.specs.PositionMoves.{is_outside}
+use Rattle.nz_trail.specs.Bounds.{Asserted, TrailState, other_side}
+use Rattle.nz_spec.specs.Basis.{Coefficients}
+use Rattle.nz_trail.specs.declared.limits.Side.{Side}
+use Rattle.nz_simplex.specs.Checks.{multiplier}
+use Rattle.nz_simplex.specs.Choices.{numbers_in, way_of}
+use Rattle.nz_simplex.specs.Standing.{Held, half, standing, told}
+use Rattle.nz_simplex.specs.State.{State, nonbasic_in, IsSound}
+use Rattle.nz_simplex.specs.Tabled.{marks_in}
+
+module _ {S : Type 0} (stands_for : S → Infinitesimal) where
+  abbrev pub state_of : Table → TrailState S → List (Option S) → List (ℕ × Fraction) → State
+  state_of tab trail values why = record {
+    forms = tab.forms;
+    marks = marks_in tab;
+    values = map (option_map stands_for) values;
+    asserted = map (told stands_for) trail.asserted;
+    why = why;
+  }
+
+-- the numbers of the basic forms, in order
+abbrev pub basic_numbers : State → List ℕ
+basic_numbers s = numbers (length s.forms) (λ k. not (nonbasic_in s k))
+
+abbrev pub nonbasic_numbers : State → List ℕ
+nonbasic_numbers s = numbers (length s.forms) (nonbasic_in s)
+
+-- The basic forms and the others are listed, each form is a variable of the trail, and what a check wants has its room.
+pub record IsStored (s : State) (vars : ℕ) (basic nonbasic : List ℕ) (basic_room nonbasic_room why_room : ℕ) : Type 0 where
+  pub sound : IsSound s
+  pub basic_listed : basic ≡ basic_numbers s
+  pub nonbasic_listed : nonbasic ≡ nonbasic_numbers s
+  pub numbered : length s.forms ≤ vars
+  pub room_for_basic : length s.forms ≤ basic_room
+  pub room_for_nonbasic : length s.forms ≤ nonbasic_room
+  pub room_for_why : length s.forms ≤ why_room
+
+-- the reason and the multiplier of a nonbasic form that is held back, by a trail
+abbrev pub held_back : {S : Type 0} → (S → Infinitesimal) → List (Asserted S) → Side → Coefficients → ℕ → List (ℕ × Fraction)
+held_back stands_for bounds side row k = multiplier (map (told stands_for) bounds) side row k
+
+-- whether a nonbasic form with this coefficient can take the form of a row towards a side, by a trail and the values
+abbrev pub has_room_in : Option Held → Side → Infinitesimal → Bool
+has_room_in None side x = true
+has_room_in (Some b) side x = is_outside (half (other_side side)) b.value x
+
+abbrev pub is_helping : {S : Type 0} → (S → Infinitesimal) → List (Asserted S) → List (Option S) → Side → ℕ → Fraction → Bool
+is_helping stands_for bounds values side k c =
+    elim (way_of side c) [ None ↦ false | Some way ↦ has_room_in (standing (map (told stands_for) bounds) k way) way (numbers_in stands_for values k) ]
+
+-- the first of these numbers that passes a test
+abbrev pub first_passing : (ℕ → Bool) → List ℕ → Option ℕ
+first_passing test [] = None
+first_passing test (k ∷ ks) = if test k then Some k else first_passing test ks

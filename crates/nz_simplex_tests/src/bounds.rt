@@ -1,0 +1,158 @@
+//! Bounds asserted and undone against a plain list.
+use crate::forms::{Taken, bounds, constant, delta, pair, put};
+use crate::seeded::next;
+use crate::sums::{all_within, fits};
+use nz_delta::Delta;
+use nz_simplex::{Check, Simplex};
+use nz_term::{TermId, Terms};
+use nz_trail::{Bound, Limit, Side, Var};
+use std::alloc::Global;
+use std::test::Fail;
+
+/// A bound with whole parts, and its reason.
+#[derive(Clone, Copy, Debug, PartialEq, Eq)]
+struct Plain {
+    var: Var,
+    side: Side,
+    value: (i128, i128),
+    reason: usize,
+}
+
+fn is_tighter(side: Side, x: (i128, i128), y: (i128, i128)) -> bool {
+    match side {
+        Side::Lower => x > y,
+        Side::Upper => x < y,
+    }
+}
+
+/// The tightest bound of a form on a side, the first one of its value.
+fn tightest(list: &[Plain], var: Var, side: Side) -> Option<((i128, i128), usize)> {
+    let mut found: Option<((i128, i128), usize)> = None;
+    for b in list {
+        if b.var == var && b.side == side {
+            let is_first = match found {
+                Some((value, _)) => is_tighter(side, b.value, value),
+                None => true,
+            };
+            if is_first {
+                found = Some((b.value, b.reason));
+            }
+        }
+    }
+    found
+}
+
+fn plainly(limit: Option<Limit<Delta>>) -> Option<((i128, i128), usize)> {
+    match limit {
+        Some(limit) => Some(((limit.value.c.num(), limit.value.k.num()), limit.reason)),
+        None => None,
+    }
+}
+
+/// Whether the bounds of each form are the tightest of the list.
+fn agrees(simplex: &Simplex<Delta>, list: &[Plain]) -> bool {
+    for var in 0..simplex.len() {
+        let (lower, upper) = bounds(simplex, var);
+        if plainly(lower) != tightest(list, var, Side::Lower) {
+            return false;
+        }
+        if plainly(upper) != tightest(list, var, Side::Upper) {
+            return false;
+        }
+    }
+    true
+}
+
+/// A bound that looks random.
+fn random_bound(seed: &mut u64, forms: u64, reason: usize) -> Plain {
+    let var = (next(seed) % forms.max(1)) as usize;
+    let side = if next(seed) % 2 == 0 {
+        Side::Lower
+    } else {
+        Side::Upper
+    };
+    let c = (next(seed) % 9) as i128 - 4;
+    let k = (next(seed) % 3) as i128 - 1;
+    Plain {
+        var,
+        side,
+        value: (c, k),
+        reason,
+    }
+}
+
+/// A place of the simplex, and how long the list was there.
+type Mark = (usize, usize);
+
+/// One step that looks random: a mark, an undo, a check or a bound.
+fn step(
+    alloc: Global,
+    simplex: &mut Simplex<Delta>,
+    list: &mut Vec<Plain>,
+    marks: &mut Vec<Mark>,
+    units: &[(TermId, Var)],
+    seed: &mut u64,
+    reason: usize,
+) -> Result<bool, Fail> {
+    match next(seed) % 8 {
+        0 => {
+            marks.push((simplex.mark(), list.len()))?;
+            Ok(true)
+        }
+        1 => {
+            if let Some((mark, long)) = marks.pop() {
+                if mark <= simplex.mark() {
+                    simplex.undo(mark);
+                }
+                list.truncate(long);
+            }
+            Ok(true)
+        }
+        2 => {
+            let mut taken = Taken::new(alloc, 100)?;
+            match simplex.check(&mut taken) {
+                Ok(Check::Feasible) => Ok(fits(simplex, units) && all_within(simplex)),
+                Ok(Check::Clash) => Ok(true),
+                Err(_) => Ok(false),
+            }
+        }
+        _ => {
+            let b = random_bound(seed, simplex.len() as u64, reason);
+            match put(simplex, b.var, b.side, delta(b.value.0, b.value.1)?, reason)? {
+                Bound::Clash(_, _) => {}
+                _ => list.push(b)?,
+            }
+            Ok(true)
+        }
+    }
+}
+
+#[test]
+fn undo_gives_back_the_bounds(rt: HostRuntime) -> Result<(), Fail> {
+    let alloc = rt.alloc();
+    let mut terms = Terms::new(alloc)?;
+    let mut simplex: Simplex<Delta> = Simplex::new(alloc);
+    let x = constant(&mut terms, alloc, b"x")?;
+    let y = constant(&mut terms, alloc, b"y")?;
+    pair(alloc, &mut terms, &mut simplex, (1, x), (2, y))?;
+    pair(alloc, &mut terms, &mut simplex, (3, x), (-1, y))?;
+    let mut list = Vec::new(alloc);
+    let mut marks = Vec::new(alloc);
+    let mut seed = 19;
+    for number in 0..200 {
+        let units = [(x, 0), (y, 1)];
+        assert!(rt;
+            step(
+                alloc,
+                &mut simplex,
+                &mut list,
+                &mut marks,
+                &units,
+                &mut seed,
+                number
+            )?
+        );
+        assert!(rt; agrees(&simplex, list.as_slice()), "at step {number}");
+    }
+    Ok(())
+}

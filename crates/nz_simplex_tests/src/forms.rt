@@ -1,0 +1,225 @@
+//! Forms in a simplex, for tests.
+ghost use Rattle.std.specs.Prelude.{◌<◌, ◌≤◌, ◌≡◌, ◌+◌, ◌∷◌, [], ◌++◌, All, IfOk, length};
+
+use nz_base::{Memory, Text};
+use nz_delta::Delta;
+use nz_frac::Frac;
+use nz_lin::lin;
+use nz_simplex::{Check, Coordinate, Simplex, SimplexStop, Steps};
+use nz_tab::TabStop;
+use nz_term::{Constant, Head, NumberSort, Operator, Sort, TermId, Terms, operators_are_no_leaves};
+use nz_trail::{Bound, Limit, Reason, Side, Var};
+use std::alloc::Global;
+use std::marker::Model;
+use std::test::Fail;
+
+/// A constant of sort Real.
+pub fn constant(terms: &mut Terms, alloc: Global, name: &[u8]) -> Result<TermId, Memory>
+    ensures within { IfOk result (λ id. id < length terms.new) }
+    ensures more { length terms.old ≤ length terms.new }
+{
+    let name = Text::from_slice(alloc, name)?;
+    terms.make(
+        Head::Constant(&Constant {
+            name,
+            sort: Sort::Real,
+        }),
+        &[],
+    )
+}
+
+/// An operator over terms.
+pub fn over(terms: &mut Terms, operator: Operator, kids: &[TermId]) -> Result<TermId, Memory>
+    requires within { All (λ k. k < length terms.old) kids.now }
+    ensures within { IfOk result (λ id. id < length terms.new) }
+    ensures more { length terms.old ≤ length terms.new }
+{
+    operators_are_no_leaves();
+    terms.make(Head::Operator(operator), kids)
+}
+
+/// A natural number times a term.
+pub fn times(terms: &mut Terms, number: u128, id: TermId) -> Result<TermId, Memory>
+    requires fits { number ≤ 170141183460469231731687303715884105727 }
+    requires within { id < length terms.old }
+    ensures within { IfOk result (λ id. id < length terms.new) }
+    ensures more { length terms.old ≤ length terms.new }
+{
+    let number = terms.make(Head::Integer(number), &[])?;
+    over(terms, Operator::Product(NumberSort::Real), &[number, id])
+}
+
+/// An integer times a term.
+pub fn multiple(terms: &mut Terms, number: i32, id: TermId) -> Result<TermId, Memory>
+    requires within { id < length terms.old }
+    ensures within { IfOk result (λ id. id < length terms.new) }
+    ensures more { length terms.old ≤ length terms.new }
+{
+    let term = times(terms, number.unsigned_abs() as u128, id)?;
+    if number >= 0 {
+        return Ok(term);
+    }
+    over(terms, Operator::Difference(NumberSort::Real), &[term])
+}
+
+/// The number of the form of a sum, or why it was not added.
+pub fn added<S: Coordinate>(
+    alloc: Global,
+    terms: &mut Terms,
+    simplex: &mut Simplex<S>,
+    kids: &[TermId],
+) -> Option<Result<Var, TabStop>>
+    requires within { All (λ k. k < length terms.old) kids.now }
+{
+    let sum = over(terms, Operator::Sum(NumberSort::Real), kids).ok()?;
+    if !terms.is_linear(sum) {
+        return None;
+    }
+    let form = lin(alloc, terms, sum).ok()?;
+    Some(simplex.add_form(&form))
+}
+
+/// The number of a form a*x + b*y.
+pub fn pair<S: Coordinate>(
+    alloc: Global,
+    terms: &mut Terms,
+    simplex: &mut Simplex<S>,
+    first: (i32, TermId),
+    second: (i32, TermId),
+) -> Result<Var, Fail>
+    requires first { first.1 < length terms.old }
+    requires second { second.1 < length terms.old }
+{
+    let (a, x) = first;
+    let (b, y) = second;
+    let left = multiple(terms, a, x)?;
+    let right = multiple(terms, b, y)?;
+    match added(alloc, terms, simplex, &[left, right]) {
+        Some(Ok(var)) => Ok(var),
+        _ => Err(Fail::from("no form")),
+    }
+}
+
+/// The number of the form of a unit.
+pub fn unit<S: Coordinate>(
+    alloc: Global,
+    terms: &mut Terms,
+    simplex: &mut Simplex<S>,
+    id: TermId,
+) -> Result<Var, Fail>
+    requires within { id < length terms.old }
+{
+    match added(alloc, terms, simplex, &[id]) {
+        Some(Ok(var)) => Ok(var),
+        _ => Err(Fail::from("no unit")),
+    }
+}
+
+pub fn frac(num: i128, den: i128) -> Result<Frac, Fail> {
+    Ok(Frac::of(num, den).ok_or("no number")?)
+}
+
+/// c + k*δ.
+pub fn delta(c: i128, k: i128) -> Result<Delta, Fail> {
+    Ok(Delta {
+        c: frac(c, 1)?,
+        k: frac(k, 1)?,
+    })
+}
+
+/// Asserts a bound of a form that is known.
+pub fn put<S: Coordinate>(
+    simplex: &mut Simplex<S>,
+    var: Var,
+    side: Side,
+    value: S,
+    reason: Reason,
+) -> Result<Bound, Fail> {
+    if var >= simplex.len() {
+        return Err(Fail::from("no form"));
+    }
+    Ok(simplex.assert_bound(var, side, value, reason)?)
+}
+
+/// The bounds of a form, where it is known.
+pub fn bounds<S: Coordinate>(
+    simplex: &Simplex<S>,
+    var: Var,
+) -> (Option<Limit<S>>, Option<Limit<S>>) {
+    if var < simplex.len() {
+        simplex.bounds(var)
+    } else {
+        (None, None)
+    }
+}
+
+/// The value of a form, where it is known.
+pub fn value<S: Coordinate>(simplex: &Simplex<S>, var: Var) -> Option<S> {
+    if var < simplex.len() && simplex.has_value(var) {
+        Some(simplex.value(var))
+    } else {
+        None
+    }
+}
+
+/// A list of steps with a limit.
+#[derive(Debug, Drop)]
+pub struct Taken {
+    // Has room for every step that is still free.
+    steps: Vec<(Var, Var)>,
+    room: u64,
+}
+
+impl Model for Taken {
+    ghost use Rattle.std.specs.Prelude.{◌+◌, ◌≤◌, vec_len, vec_capacity};
+    ghost use Rattle.nz_simplex_tests.specs.StepLists.{StepList};
+
+    ghost Value = { StepList };
+
+    ghost view = { λ t. record { steps = t.steps.items; room = t.room } };
+
+    ghost invariant = { λ t. vec_len t.steps + t.room ≤ vec_capacity t.steps };
+}
+
+impl Taken {
+    /// No step yet, and room for this many.
+    pub fn new(alloc: Global, limit: u64) -> Result<Taken, Fail> {
+        let mut steps = Vec::new(alloc);
+        steps.reserve(limit as usize)?;
+        Ok(Taken { steps, room: limit })
+    }
+
+    /// The steps that were noted.
+    pub fn steps(&self) -> &[(Var, Var)] {
+        self.steps.as_slice()
+    }
+}
+
+impl Steps for Taken {
+    ghost use Rattle.nz_simplex_tests.specs.StepLists.{takes_one, with_step};
+
+    ghost units_left = { λ t. t.room };
+
+    ghost with_step = { with_step };
+
+    ghost takes_one = { takes_one };
+
+    fn left(&self) -> u64 {
+        self.room
+    }
+
+    fn note(&mut self, leaves: Var, enters: Var) {
+        self.room -= 1;
+        self.steps.push_reserved((leaves, enters));
+    }
+}
+
+/// What a check with room for this many steps answers.
+pub fn checked<S: Coordinate>(
+    alloc: Global,
+    simplex: &mut Simplex<S>,
+    limit: u64,
+) -> Result<Result<Check, SimplexStop>, Fail> {
+    let mut taken = Taken::new(alloc, limit)?;
+    Ok(simplex.check(&mut taken))
+}

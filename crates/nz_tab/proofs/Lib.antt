@@ -1,0 +1,14 @@
+pub mod Adding
+pub mod Blocks
+pub mod Each
+pub mod Exchanged
+pub mod Exchanging
+pub mod Firsts
+pub mod Joined
+pub mod Numbers
+pub mod Pivoting
+pub mod Solving
+pub mod Tableau
+pub mod UnitForms
+pub mod Uniting
+pub mod Widening

@@ -1,0 +1,129 @@
+//! Rows of seeded systems against the units: a row is right where, unit by unit, the nonbasic forms with its coefficients sum to
+//! the form. Over a basis only one row is.
+ghost use Rattle.std.specs.Prelude.{◌<◌, ◌≤◌, All, IfOk, length};
+
+use crate::tables::{added, constant, exchanged, over, times};
+use nz_base::Memory;
+use nz_frac::{Frac, Wide};
+use nz_lin::Part;
+use nz_tab::{Tab, Var};
+use nz_term::{NumberSort, Operator, TermId, Terms};
+use std::alloc::Global;
+use std::test::Fail;
+
+/// The next of numbers that look random.
+fn next(seed: &mut u64) -> u64 {
+    *seed = seed
+        .wrapping_mul(6364136223846793005)
+        .wrapping_add(1442695040888963407);
+    *seed >> 33
+}
+
+/// A unit with a coefficient from -9 to 9.
+fn multiple(terms: &mut Terms, unit: TermId, number: u64) -> Result<TermId, Memory>
+    requires within { unit < length terms.old }
+    ensures within { IfOk result (λ id. id < length terms.new) }
+    ensures more { length terms.old ≤ length terms.new }
+{
+    let term = times(terms, (number % 10) as u128, unit)?;
+    if number % 20 < 10 {
+        return Ok(term);
+    }
+    over(terms, Operator::Difference(NumberSort::Real), &[term])
+}
+
+/// Adds a form over three units.
+fn add_random(
+    alloc: Global,
+    terms: &mut Terms,
+    tab: &mut Tab,
+    units: [TermId; 3],
+    seed: &mut u64,
+) -> Option<Var>
+    requires within { All (λ k. k < length terms.old) units.entry }
+{
+    let [x, y, z] = units;
+    let x = multiple(terms, x, next(seed)).ok()?;
+    let y = multiple(terms, y, next(seed)).ok()?;
+    let z = multiple(terms, z, next(seed)).ok()?;
+    added(alloc, terms, tab, &[x, y, z])
+}
+
+/// The coefficient of a unit in a form.
+fn coefficient_of(parts: &[Part], unit: TermId) -> Frac {
+    for part in parts {
+        if part.unit == unit {
+            return part.coefficient;
+        }
+    }
+    Frac::whole(0)
+}
+
+/// The coefficient of a unit in the sum of nonbasic forms that is the row of a form.
+fn summed(tab: &Tab, i: Var, unit: TermId) -> Result<Frac, Wide> {
+    let mut sum = Frac::whole(0);
+    for j in 0..tab.len() {
+        if i < tab.len() && tab.is_basic(i) && !tab.is_basic(j) {
+            let factor = coefficient_of(tab.form(j), unit);
+            sum = sum.add(tab.row(i).at(j).mul(factor)?)?;
+        }
+    }
+    Ok(sum)
+}
+
+/// Whether each row sums to its form at a unit.
+fn fits(tab: &Tab, unit: TermId) -> bool {
+    for i in 0..tab.len() {
+        if tab.is_basic(i) {
+            let Ok(sum) = summed(tab, i, unit) else {
+                return false;
+            };
+            if sum != coefficient_of(tab.form(i), unit) {
+                return false;
+            }
+        }
+    }
+    true
+}
+
+/// Exchanges forms that look random, and tells how many exchanges were made; None where a row doesn't fit.
+fn exchange_many(tab: &mut Tab, units: [TermId; 3], seed: &mut u64, times: u64) -> Option<u64> {
+    let mut made: u64 = 0;
+    for _ in 0..times {
+        let count = tab.len() as u64;
+        if count == 0 {
+            return None;
+        }
+        let i = (next(seed) % count) as usize;
+        let j = (next(seed) % count) as usize;
+        if let Some(Ok(())) = exchanged(tab, i, j) {
+            made = made.saturating_add(1);
+        }
+        let [x, y, z] = units;
+        if !fits(tab, x) || !fits(tab, y) || !fits(tab, z) {
+            return None;
+        }
+    }
+    Some(made)
+}
+
+#[test]
+fn rows_fit_their_forms(rt: HostRuntime) -> Result<(), Fail> {
+    let alloc = rt.alloc();
+    let mut seed: u64 = 2006;
+    for _ in 0..12 {
+        let mut terms = Terms::new(alloc)?;
+        let mut tab = Tab::new(alloc);
+        let x = constant(&mut terms, alloc, b"x")?;
+        let y = constant(&mut terms, alloc, b"y")?;
+        let z = constant(&mut terms, alloc, b"z")?;
+        let units = [x, y, z];
+        for _ in 0..3 {
+            add_random(alloc, &mut terms, &mut tab, units, &mut seed);
+        }
+        assert!(rt; exchange_many(&mut tab, units, &mut seed, 20).is_some());
+        add_random(alloc, &mut terms, &mut tab, units, &mut seed);
+        assert!(rt; exchange_many(&mut tab, units, &mut seed, 20).is_some_and(|made| made > 0));
+    }
+    Ok(())
+}
