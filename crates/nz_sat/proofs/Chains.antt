@@ -150,15 +150,15 @@ module _ {X : Type 0} where
 
 -- ---- Literals
 
-pub lit_is : (l m : Lit) → l.term ≡ m.term → l.sign ≡ m.sign → l ≡ m
-lit_is l m e f = ap (λ (t : ℕ). record { term = t; sign = l.sign }) e ∙ ap (λ (b : Bool). record { term = m.term; sign = b }) f
+pub lit_is : (l m : Lit) → l.atom ≡ m.atom → l.sign ≡ m.sign → l ≡ m
+lit_is l m e f = ap (λ (t : ℕ). record { atom = t; sign = l.sign }) e ∙ ap (λ (b : Bool). record { atom = m.atom; sign = b }) f
 
 not_true : (b : Bool) → (b ≡ true → ⊥) → not b ≡ true
 not_true true f = absurd (f refl)
 not_true false f = refl
 
 pub twice_negated : (l : Lit) → negated_lit (negated_lit l) ≡ l
-twice_negated l = ap (λ (b : Bool). record { term = l.term; sign = b }) (not-not l.sign)
+twice_negated l = ap (λ (b : Bool). record { atom = l.atom; sign = b }) (not-not l.sign)
 
 -- ---- Resolvents
 

@@ -76,7 +76,7 @@ consult_advances over atoms es log log' held s work work' h same g sound units l
       sound = subst (λ (us : List ℕ). StaysInOrder over us log log') same
           (λ ns levels known within order.
           sound ns levels known
-          (λ k d inside. All-contains (λ (t : ℕ). t < length ns) s.atoms (get_or s.trail.entries k d).literal.term within (h.on_trail k d inside)) order);
+          (λ k d inside. All-contains (λ (t : ℕ). t < length ns) s.atoms (get_or s.trail.entries k d).literal.atom within (h.on_trail k d inside)) order);
       holds_more = record { learned = []; joined = sym (append-nil held); held = held_on log log' held g h.are_held };
       legal = λ ns levels assumed q known only asked before. legal ns q known before;
       notes = units_noted work work' units;

@@ -41,15 +41,15 @@ number_at atoms t has =
       | Some n ↦ λ at. number_place atoms t n at
     ] refl
 
-pub literal_numbered : (ns : List Node) (atoms : List ℕ) (l : Lit) → Contains atoms l.term → literal_by (map (term_in ns) atoms) (numbered atoms l) ≡ literal_of ns l
+pub literal_numbered : (ns : List Node) (atoms : List ℕ) (l : Lit) → Contains atoms l.atom → literal_by (map (term_in ns) atoms) (numbered atoms l) ≡ literal_of ns l
 literal_numbered ns atoms l has =
-    let n = unwrap_or (number_of atoms l.term) 0 in
-    let at = number_at atoms l.term has in
-    let inside : n < length atoms = slice_get_within atoms n l.term at in
+    let n = unwrap_or (number_of atoms l.atom) 0 in
+    let at = number_at atoms l.atom has in
+    let inside : n < length atoms = slice_get_within atoms n l.atom at in
     ap (λ (t : Term). term_literal t l.sign)
-    (get_or-map (term_in ns) atoms n l.term (apply falsum no_terms) inside ∙ ap (term_in ns) (get_or_from_slice_get atoms n l.term l.term at))
+    (get_or-map (term_in ns) atoms n l.atom (apply falsum no_terms) inside ∙ ap (term_in ns) (get_or_from_slice_get atoms n l.atom l.atom at))
 
-pub literals_numbered : (ns : List Node) (atoms : List ℕ) (c : List Lit) → ((l : Lit) → Contains c l → Contains atoms l.term)
+pub literals_numbered : (ns : List Node) (atoms : List ℕ) (c : List Lit) → ((l : Lit) → Contains c l → Contains atoms l.atom)
     → literals_by (map (term_in ns) atoms) (map (numbered atoms) c) ≡ clause_in ns c
 literals_numbered ns atoms [] named = refl
 literals_numbered ns atoms (l ∷ c) named =
@@ -113,20 +113,20 @@ module _ (clauses : ClausesAreTrue) (ns : List Node) (table : IsTable ns) (level
 
   -- a literal and its negation aren't both
   both_hold : (l : Lit) → Holds l → Holds (negated_lit l) → ⊥
-  both_hold l h k = signs_clash l.sign (is_true (value_of a (term_in ns l.term))) h k
+  both_hold l h k = signs_clash l.sign (is_true (value_of a (term_in ns l.atom))) h k
 
   -- what is false on a trail on which each literal holds doesn't hold
   false_fails : (es : List Assigned) → ((e : Assigned) → Contains es e → Holds e.literal) → (l : Lit) → IsFalseOn es l → Holds l → ⊥
   false_fails es each l falsified h =
       let x = false_entry es l falsified in
-      let place = assigned_place es l.term x.0 x.1 in
+      let place = assigned_place es l.atom x.0 x.1 in
       let turned : x.0.literal ≡ negated_lit l = lit_is x.0.literal (negated_lit l) place.0 x.2 in
       both_hold l h (subst Holds turned (each x.0 (has_found es place.1.0 x.0 place.1.1)))
 
   -- ---- The trail
 
   module _ (tells : TellsLits) (atoms : List ℕ) (assumed : List Lit) (es : List Assigned) (implied : EachBehind (IsImplied log) es)
-      (on_trail : All (λ (e : Assigned). Contains atoms e.literal.term) es) (only : All (IsAssumed assumed) es)
+      (on_trail : All (λ (e : Assigned). Contains atoms e.literal.atom) es) (only : All (IsAssumed assumed) es)
       (assumed_hold : AreTrueLiterals a (map (literal_of ns) assumed))
       (decided_hold : AreTrueLiterals a (literals_by (map (term_in ns) atoms) (map (λ (e : Assigned). numbered atoms e.literal) (filter is_decision es)))) where
     decision_holds : (e : Assigned) → Contains es e → is_decision e ≡ true → Holds e.literal
@@ -135,7 +135,7 @@ module _ (clauses : ClausesAreTrue) (ns : List Node) (table : IsTable ns) (level
         let f : Assigned → ℕ × Bool = λ (x : Assigned). numbered atoms x.literal in
         let each = AllByRecursion-map P (literal_by (map (term_in ns) atoms)) (map f (filter is_decision es)) decided_hold in
         let one = recursion_has (λ p. P (literal_by (map (term_in ns) atoms) p)) f (filter is_decision es) e each (filter_has is_decision es e has decides) in
-        subst P (literal_numbered ns atoms e.literal (All-contains (λ (x : Assigned). Contains atoms x.literal.term) es e on_trail has)) one
+        subst P (literal_numbered ns atoms e.literal (All-contains (λ (x : Assigned). Contains atoms x.literal.atom) es e on_trail has)) one
 
     given_holds : (e : Assigned) → Contains es e → e.reason ≡ None → Holds e.literal
     given_holds e has none =

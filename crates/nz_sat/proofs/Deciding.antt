@@ -33,7 +33,7 @@ use Rattle.nz_sat.proofs.Trailing.{assigned_at, each_push, level_within, order_p
 module _ (log : LogState) (held : List Held) (s : Search) (h : IsSearch log held s) (t : ℕ) (sign : Bool)
     (free : assigned s.trail.entries t ≡ None) (atom : Contains s.atoms t) where
   abbrev pub literal : Lit
-  literal = record { term = t; sign = sign }
+  literal = record { atom = t; sign = sign }
 
   abbrev pub entry : Assigned
   entry = decided s.trail.entries literal
@@ -56,7 +56,7 @@ module _ (log : LogState) (held : List Held) (s : Search) (h : IsSearch log held
         listed = h.listed;
         only = h.only;
         named = h.named;
-        on_trail = All-push (λ (e : Assigned). Contains s.atoms e.literal.term) s.trail.entries entry h.on_trail atom;
+        on_trail = All-push (λ (e : Assigned). Contains s.atoms e.literal.atom) s.trail.entries entry h.on_trail atom;
         within = h.within;
         indexed = h.indexed;
         marks = h.marks;
@@ -130,14 +130,14 @@ module _ (log : LogState) (held : List Held) (s : Search) (h : IsSearch log held
       }
 
   -- the number of an atom on the trail is another one
-  other_number : (i : ℕ) (e : Assigned) → slice_get s.trail.entries i ≡ Some e → Contains s.atoms e.literal.term → (numbered s.atoms e.literal).0 ≢ number
+  other_number : (i : ℕ) (e : Assigned) → slice_get s.trail.entries i ≡ Some e → Contains s.atoms e.literal.atom → (numbered s.atoms e.literal).0 ≢ number
   other_number i e at has same =
       let mine = found t atom in
-      let its = found e.literal.term has in
+      let its = found e.literal.atom has in
       let one : its.0 ≡ mine.0 = sym (ap (λ (o : Option ℕ). unwrap_or o 0) its.1) ∙ same ∙ ap (λ (o : Option ℕ). unwrap_or o 0) mine.1 in
-      let term : e.literal.term ≡ t =
-      same_Some e.literal.term t
-      (sym (number_place s.atoms e.literal.term its.0 its.1) ∙ ap (slice_get s.atoms) one ∙ number_place s.atoms t mine.0 mine.1) in
+      let term : e.literal.atom ≡ t =
+      same_Some e.literal.atom t
+      (sym (number_place s.atoms e.literal.atom its.0 its.1) ∙ ap (slice_get s.atoms) one ∙ number_place s.atoms t mine.0 mine.1) in
       let there : assigned s.trail.entries t ≡ Some e =
       ap (assigned s.trail.entries) (sym term) ∙ assigned_at s.trail.entries i e at (h.order i e at).fresh in
       let clash : None ≡ Some e = sym free ∙ there in

@@ -43,7 +43,7 @@ goes_noted log held atoms es es' work g h =
 
 pub goes_first : (es es' : List Assigned) → GoesOn es es' → KeepsFirst es es'
 goes_first es es' g l h =
-    subst (λ (xs : List Assigned). IsTrueOn xs l) (sym (ap (below 0) g.joined ∙ below_join 0 es g.more)) (truth_found (below 0 es) (below 0 g.more) l.term l.sign h)
+    subst (λ (xs : List Assigned). IsTrueOn xs l) (sym (ap (below 0) g.joined ∙ below_join 0 es g.more)) (truth_found (below 0 es) (below 0 g.more) l.atom l.sign h)
 
 pub goes_carries : (s s' : Search) (work : WorkList Note) → s'.atoms ≡ s.atoms → GoesOn s.trail.entries s'.trail.entries → Carries s s' work work
 goes_carries s s' work same g =
@@ -65,8 +65,8 @@ carries_far r s t u v w c d =
       units = omega arith;
     }
 
--- the terms of the trail are atoms
+-- the literals of the trail are on atoms of the search
 pub stays_in_order : (over : List Node → Type 0) (log log' : LogState) (held : List Held) (s : Search) → IsSearch log held s → StaysSound s.trail.entries log log'
     → StaysInOrder over s.atoms log log'
 stays_in_order over log log' held s h sound ns levels known within order =
-    sound ns levels (λ k d inside. All-contains (λ (t : ℕ). t < length ns) s.atoms (get_or s.trail.entries k d).literal.term within (h.on_trail k d inside)) order
+    sound ns levels (λ k d inside. All-contains (λ (t : ℕ). t < length ns) s.atoms (get_or s.trail.entries k d).literal.atom within (h.on_trail k d inside)) order

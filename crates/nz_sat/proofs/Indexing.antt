@@ -73,7 +73,7 @@ added_all s id n old new all h =
       only = h.only;
     }
 
--- the index keeps its terms
+-- the index keeps its atoms
 pub adding_within : (id : ℕ) (c : List Lit) (n : ℕ) (old new : Index) (l : Lit) → IsAdding id c n old new → IsWithin l old → IsWithin l new
 adding_within id c n old new l h w =
     let first = h.size.0 in

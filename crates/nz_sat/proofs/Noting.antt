@@ -41,7 +41,7 @@ use Rattle.nz_sat.proofs.Trailing.{assigned_place, level_within}
 -- A clause that is falsified, and was open when the last decision was taken, has two literals of the last level.
 two_last : (size : ℕ) (es : List Assigned) → EachBehind (IsNext size) es → (c : List Lit) → IsFalsified es c → IsOpen (below (depth es - 1) es) c → HasTwoLast es c
 two_last size es order c falsified (by_true l has holds) =
-    absurd (not_itself l.sign (same_Some l.sign (not l.sign) (sym (below_true size es order (depth es - 1) l.term l.sign holds) ∙ falsified l has)))
+    absurd (not_itself l.sign (same_Some l.sign (not l.sign) (sym (below_true size es order (depth es - 1) l.atom l.sign holds) ∙ falsified l has)))
 two_last size es order c falsified (by_two l m has_l has_m differ free_l free_m) =
     record {
       first = l;
@@ -52,13 +52,13 @@ two_last size es order c falsified (by_two l m has_l has_m differ free_l free_m)
       first_last = last l has_l free_l;
       second_last = last m has_m free_m;
     } where
-      last : (x : Lit) → Contains c x → IsFreeOn (below (depth es - 1) es) x → level_on es x.term ≡ depth es
+      last : (x : Lit) → Contains c x → IsFreeOn (below (depth es - 1) es) x → level_on es x.atom ≡ depth es
       last x has free =
           let high = free_high size es order (depth es - 1) x (falsified x has) free in
           let e = false_entry es x (falsified x has) in
-          let place = (assigned_place es x.term e.0 e.1).1 in
+          let place = (assigned_place es x.atom e.0 e.1).1 in
           let most = level_within size es order place.0 e.0 place.1 in
-          let level = level_found es x.term e.0 e.1 in
+          let level = level_found es x.atom e.0 e.1 in
           omega (arith, high, most, level)
 
 held_two : (size : ℕ) (es : List Assigned) → EachBehind (IsNext size) es → (log : LogState) (held : List Held) → WereOpen log held es → 0 < depth es
@@ -102,27 +102,27 @@ taught falsified search were_open conflict decided noted grows sound learned =
     }
 
 -- the literals of a false clause are of atoms
-pub false_named : (atoms : List ℕ) (es : List Assigned) → All (λ (e : Assigned). Contains atoms e.literal.term) es → (c : List Lit) → IsFalsified es c
-    → (l : Lit) → Contains c l → Contains atoms l.term
+pub false_named : (atoms : List ℕ) (es : List Assigned) → All (λ (e : Assigned). Contains atoms e.literal.atom) es → (c : List Lit) → IsFalsified es c
+    → (l : Lit) → Contains c l → Contains atoms l.atom
 false_named atoms es on_trail c falsified l has =
     let x = false_entry es l (falsified l has) in
-    let place = assigned_place es l.term x.0 x.1 in
-    subst (Contains atoms) place.0 (All-contains (λ (e : Assigned). Contains atoms e.literal.term) es x.0 on_trail (has_found es place.1.0 x.0 place.1.1))
+    let place = assigned_place es l.atom x.0 x.1 in
+    subst (Contains atoms) place.0 (All-contains (λ (e : Assigned). Contains atoms e.literal.atom) es x.0 on_trail (has_found es place.1.0 x.0 place.1.1))
 
 -- the literals of a clause that is held are of atoms
-pub held_named : (atoms : List ℕ) (log : LogState) (us : List ℕ) → All (λ (i : ℕ). All (λ (l : Lit). Contains atoms l.term) (literals_at log i)) us
-    → (i : ℕ) → Contains us i → (l : Lit) → Contains (literals_at log i) l → Contains atoms l.term
+pub held_named : (atoms : List ℕ) (log : LogState) (us : List ℕ) → All (λ (i : ℕ). All (λ (l : Lit). Contains atoms l.atom) (literals_at log i)) us
+    → (i : ℕ) → Contains us i → (l : Lit) → Contains (literals_at log i) l → Contains atoms l.atom
 held_named atoms log us named i has l there =
-    All-contains (λ (m : Lit). Contains atoms m.term) (literals_at log i) l
-    (All-contains (λ (j : ℕ). All (λ (m : Lit). Contains atoms m.term) (literals_at log j)) us i named has) there
+    All-contains (λ (m : Lit). Contains atoms m.atom) (literals_at log i) l
+    (All-contains (λ (j : ℕ). All (λ (m : Lit). Contains atoms m.atom) (literals_at log j)) us i named has) there
 
 -- the log stays in order
-pub stays_in_order : (over : List Node → Type 0) (atoms : List ℕ) (es : List Assigned) → All (λ (e : Assigned). Contains atoms e.literal.term) es → (log log' : LogState) → StaysSound es log log'
+pub stays_in_order : (over : List Node → Type 0) (atoms : List ℕ) (es : List Assigned) → All (λ (e : Assigned). Contains atoms e.literal.atom) es → (log log' : LogState) → StaysSound es log log'
     → StaysInOrder over atoms log log'
 stays_in_order over atoms es on_trail log log' sound ns levels known within =
     sound ns levels
-    (All-weaker (λ (e : Assigned). Contains atoms e.literal.term) (λ (e : Assigned). e.literal.term < length ns)
-    (λ e has. All-contains (λ (t : ℕ). t < length ns) atoms e.literal.term within has) es on_trail)
+    (All-weaker (λ (e : Assigned). Contains atoms e.literal.atom) (λ (e : Assigned). e.literal.atom < length ns)
+    (λ e has. All-contains (λ (t : ℕ). t < length ns) atoms e.literal.atom within has) es on_trail)
 
 -- ---- Decisions of a trail that goes on
 
@@ -156,7 +156,7 @@ module _ (log log' : LogState) (held : List Held) (s : state.Search) (work : Wor
   abbrev lits : List Lit
   lits = literals_at log' l.clause
 
-  pub learned_named : (m : Lit) → Contains lits m → Contains s.atoms m.term
+  pub learned_named : (m : Lit) → Contains lits m → Contains s.atoms m.atom
   learned_named = false_named s.atoms es h.search.on_trail lits h.learned.falsified
 
   pub stays : (over : List Node → Type 0) → StaysInOrder over s.atoms log log'

@@ -47,7 +47,7 @@ module _ (log log' : LogState) (g : Grows log log') (held : List Held) (s : Sear
         are_held = held_on log log' held g h.are_held;
         listed = each_kept (λ i c. (l : Lit) → Contains c l → Contains (ids_of s.index l) i) h.listed;
         only = h.only;
-        named = each_kept (λ i c. All (λ (l : Lit). Contains s.atoms l.term) c) h.named;
+        named = each_kept (λ i c. All (λ (l : Lit). Contains s.atoms l.atom) c) h.named;
         on_trail = h.on_trail;
         within = h.within;
         indexed = h.indexed;
@@ -128,7 +128,7 @@ cut_search log held s s' h rest size f =
       listed = h.listed;
       only = h.only;
       named = h.named;
-      on_trail = front_each (λ (e : Assigned). Contains s.atoms e.literal.term) es es' f h.on_trail;
+      on_trail = front_each (λ (e : Assigned). Contains s.atoms e.literal.atom) es es' f h.on_trail;
       within = subst (λ (n : ℕ). All (λ (t : ℕ). t < n) s.atoms) (sym size) h.within;
       indexed = (h.indexed.0 ∙ sym size, h.indexed.1 ∙ sym size);
       marks = h.marks ∙ sym size;
@@ -179,9 +179,9 @@ module _ (log : LogState) (held : List Held) (s : Search) (h : IsSearch log held
       let same = cut_depth in
       let w = b.greatest.reached (omega arith) in
       let e = false_entry es w.0 (c.falsified w.0 w.1) in
-      let level = level_found es w.0.term e.0 e.1 in
-      let there = found_below b.level w.0.term es e.0 e.1 (omega (arith, level, w.2)) in
-      let now : level_on es' w.0.term ≡ e.0.level = ap (λ (xs : List Assigned). level_on xs w.0.term) b.cut ∙ level_found (below b.level es) w.0.term e.0 there in
+      let level = level_found es w.0.atom e.0 e.1 in
+      let there = found_below b.level w.0.atom es e.0 e.1 (omega (arith, level, w.2)) in
+      let now : level_on es' w.0.atom ≡ e.0.level = ap (λ (xs : List Assigned). level_on xs w.0.atom) b.cut ∙ level_found (below b.level es) w.0.atom e.0 there in
       record { literal = w.0; has = w.1; last = omega (arith, now, level, w.2, same) }
 
   pub cut_assumed : (assumed : List Lit) → All (IsAssumed assumed) es → All (IsAssumed assumed) es'

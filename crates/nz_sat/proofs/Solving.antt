@@ -83,12 +83,12 @@ decided_not_missing None some none = cc
 decided_not_missing (Some e) some none = cc
 
 -- where each atom is decided, a clause that is open has a true literal
-open_true : (es : List Assigned) (atoms : List ℕ) → All (λ (t : ℕ). IsSome (assigned es t)) atoms → (c : List Lit) → ((l : Lit) → Contains c l → Contains atoms l.term)
+open_true : (es : List Assigned) (atoms : List ℕ) → All (λ (t : ℕ). IsSome (assigned es t)) atoms → (c : List Lit) → ((l : Lit) → Contains c l → Contains atoms l.atom)
     → IsOpen es c → (l : Lit) × Contains c l × IsTrueOn es l
 open_true es atoms decided c named (by_true l has holds) = (l, has, holds)
 open_true es atoms decided c named (by_two l m has_l has_m differ free_l free_m) =
     absurd
-    (decided_not_missing (assigned es l.term) (All-contains (λ (t : ℕ). IsSome (assigned es t)) atoms l.term decided (named l has_l)) (free_missing es l.term free_l))
+    (decided_not_missing (assigned es l.atom) (All-contains (λ (t : ℕ). IsSome (assigned es t)) atoms l.atom decided (named l has_l)) (free_missing es l.atom free_l))
 
 some_truth : (o : Option Assigned) → IsSome o → IsSome (option_map (λ (e : Assigned). e.literal.sign) o)
 some_truth None some = some
@@ -99,7 +99,7 @@ pub satisfied : {T : Type 0} → (log : LogState) (held : List Held) (assumed : 
     → AreTruthsOn s.trail.entries t.truths → Satisfies log held assumed atoms s → IsSatisfied log t assumed atoms
 satisfied log held assumed atoms s t same truths h =
     let es = s.trail.entries in
-    let is_true : (l : Lit) → IsTrueOn es l → IsTrueLit t l = λ l on. truths l.term ∙ on in
+    let is_true : (l : Lit) → IsTrueOn es l → IsTrueLit t l = λ l on. truths l.atom ∙ on in
     let clause : (x : Held) → Contains (ids held) x.id → IsTrueClause t (literals_at log x.id) =
     λ x there.
     let l = open_true es s.atoms h.all_decided (literals_at log x.id) (held_named s.atoms log (ids held) h.search.named x.id there)
@@ -109,7 +109,7 @@ satisfied log held assumed atoms s t same truths h =
       clauses = All-same (λ (x : Held). IsTrueClause t (literals_at log x.id)) t.clauses held same (λ k d inside. clause (get_or held k d) (held_has held k d inside));
       assumed_hold = λ k d inside.
           let l = get_or assumed k d in
-          is_true l (below_true s.trail.size es h.search.order 0 l.term l.sign (h.hold k d inside));
+          is_true l (below_true s.trail.size es h.search.order 0 l.atom l.sign (h.hold k d inside));
       atoms_decided = subst (All (λ (u : ℕ). IsSome (truth_of t u))) h.same
           (λ k d inside.
           let u = get_or s.atoms k d in
@@ -125,10 +125,10 @@ entry_true size es order i e at = ap (option_map (λ (x : Assigned). x.literal.s
 -- a true literal is that of an entry
 true_among : (es : List Assigned) (l : Lit) → IsTrueOn es l → Contains (literals_on es) l
 true_among es l on =
-    elim (assigned es l.term) as (λ o. assigned es l.term ≡ o → option_map (λ (x : Assigned). x.literal.sign) o ≡ Some l.sign → Contains (literals_on es) l) [
+    elim (assigned es l.atom) as (λ o. assigned es l.atom ≡ o → option_map (λ (x : Assigned). x.literal.sign) o ≡ Some l.sign → Contains (literals_on es) l) [
       | None ↦ λ none there. let clash : None ≡ Some l.sign = there in cc
       | Some x ↦ λ at there.
-          let place = assigned_place es l.term x at in
+          let place = assigned_place es l.atom x at in
           let is : x.literal ≡ l = lit_is x.literal l place.0 (same_Some x.literal.sign l.sign there) in
           has_found (literals_on es) place.1.0 l
           (slice_get-map (λ (e : Assigned). e.literal) es place.1.0 ∙ ap (option_map (λ (e : Assigned). e.literal)) place.1.1 ∙ ap Some is)
@@ -146,6 +146,6 @@ theory_met has_told is_feasible size es t atoms order truths met =
           (λ l has.
           let e = entry_from es l has in
           let on : IsTrueOn es l = subst (IsTrueOn es) e.3 (entry_true size es order e.0 e.1 e.2) in
-          truths l.term ∙ on);
-      all = λ l atom holds. true_among es l (sym (truths l.term) ∙ holds);
+          truths l.atom ∙ on);
+      all = λ l atom holds. true_among es l (sym (truths l.atom) ∙ holds);
     }

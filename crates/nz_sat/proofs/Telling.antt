@@ -47,17 +47,17 @@ front_step es i e at =
     let inside = slice_get_within es i e at in
     ap literals_on (take_more es i e inside ∙ ap (λ (x : Assigned). take i es ++ x ∷ []) (get_or_from_slice_get es i e e at)) ∙ map_push literal_of (take i es) e
 
--- the literals of a front are of terms of the table
-front_within : (ns : List Node) (n : ℕ) (es : List Assigned) → All (λ (e : Assigned). e.literal.term < length ns) es → AreWithin ns (literals_on (take n es))
+-- the literals of a front are of atoms of the table
+front_within : (ns : List Node) (n : ℕ) (es : List Assigned) → All (λ (e : Assigned). e.literal.atom < length ns) es → AreWithin ns (literals_on (take n es))
 front_within ns n es within =
-    recursion_from_All (λ (l : Lit). l.term < length ns) (literals_on (take n es))
-    (all_from (λ (l : Lit). l.term < length ns) (literals_on (take n es))
+    recursion_from_All (λ (l : Lit). l.atom < length ns) (literals_on (take n es))
+    (all_from (λ (l : Lit). l.atom < length ns) (literals_on (take n es))
     (λ l has.
     let e = entry_from es l (front_among n es l has) in
-    subst (λ (x : Lit). x.term < length ns) e.3
-    (All-contains (λ (x : Assigned). x.literal.term < length ns) es e.1 within (has_found es e.0 e.1 e.2))))
+    subst (λ (x : Lit). x.atom < length ns) e.3
+    (All-contains (λ (x : Assigned). x.literal.atom < length ns) es e.1 within (has_found es e.0 e.1 e.2))))
 
-pub all_within : (ns : List Node) (es : List Assigned) → All (λ (e : Assigned). e.literal.term < length ns) es → AreWithin ns (literals_on es)
+pub all_within : (ns : List Node) (es : List Assigned) → All (λ (e : Assigned). e.literal.atom < length ns) es → AreWithin ns (literals_on es)
 all_within ns es within =
     subst (λ (xs : List Assigned). AreWithin ns (literals_on xs)) (take_all (length es) es (omega arith)) (front_within ns (length es) es within)
 
@@ -122,8 +122,8 @@ tells_clash log es i e at (Some id) c =
 pub clash_falsified : (size : ℕ) (es : List Assigned) → EachBehind (IsNext size) es → (log : LogState) (id : ℕ) → IsClash log (literals_on es) id → IsFalsified es (literals_at log id)
 clash_falsified size es order log id c l has =
     let e = entry_from es (negated_lit l) (c.negations l has) in
-    let there : assigned es e.1.literal.term ≡ Some e.1 = assigned_at es e.0 e.1 e.2 (order e.0 e.1 e.2).fresh in
-    let term : e.1.literal.term ≡ l.term = ap (λ (x : Lit). x.term) e.3 in
+    let there : assigned es e.1.literal.atom ≡ Some e.1 = assigned_at es e.0 e.1 e.2 (order e.0 e.1 e.2).fresh in
+    let term : e.1.literal.atom ≡ l.atom = ap (λ (x : Lit). x.atom) e.3 in
     let sign : e.1.literal.sign ≡ not l.sign = ap (λ (x : Lit). x.sign) e.3 in
     ap (option_map (λ (x : Assigned). x.literal.sign)) (ap (assigned es) (sym term) ∙ there) ∙ ap Some sign
 

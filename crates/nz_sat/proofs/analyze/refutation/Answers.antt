@@ -19,6 +19,6 @@ returns-then-is_empty-clause-refutes c =
 pub returns-clause-sound : goal.returns-clause-sound
 returns-clause-sound c ns levels within order =
     c.chain.ensures.sound ns levels
-    (subst (λ (ks : List Link). All (λ (k : Link). k.literal.term < length ns) ks) (sym c.deref.ensures.value)
+    (subst (λ (ks : List Link). All (λ (k : Link). k.literal.atom < length ns) ks) (sym c.deref.ensures.value)
     (links_within c.args.log.now c.args.trail.now.entries (length ns) c.in_ok-links.links.items within c.in_ok-links.ensures.links))
     order

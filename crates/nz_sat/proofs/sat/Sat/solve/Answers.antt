@@ -15,11 +15,11 @@ use Rattle.nz_sat.proofs.sat.Sat.solve.Goals as goal
 pub new-requires-clause-named : goal.new-requires-clause-named
 new-requires-clause-named g c =
     let same : c.args.self.now.clauses ≡ c.deref.result.now = sym (ap (λ (s : SatState g.row.T.Denot). s.clauses) c.self.view_is) ∙ search rules in
-    subst (All (λ (h : Held). All (λ (l : Lit). Contains (noted_atoms c.args.work.now.lines) l.term) (literals_at c.args.log.now h.id))) same c.requires.atoms.clauses
+    subst (All (λ (h : Held). All (λ (l : Lit). Contains (noted_atoms c.args.work.now.lines) l.atom) (literals_at c.args.log.now h.id))) same c.requires.atoms.clauses
 
 pub run-requires-clause-named : goal.run-requires-clause-named
 run-requires-clause-named g c =
-    subst (λ (us : List ℕ). All (λ (l : Lit). Contains us l.term) c.args.assumed.now) (sym c.in_ok-search.ensures.atoms) c.requires.atoms.assumed_named
+    subst (λ (us : List ℕ). All (λ (l : Lit). Contains us l.atom) c.args.assumed.now) (sym c.in_ok-search.ensures.atoms) c.requires.atoms.assumed_named
 
 pub run-requires-clause-noted : goal.run-requires-clause-noted
 run-requires-clause-noted g c =

@@ -39,7 +39,7 @@ returns-in_err-learned-clause-advances g c =
 
 pub note_learned-requires-clause-named : goal.note_learned-requires-clause-named
 note_learned-requires-clause-named g c =
-    all_from (λ (m : Lit). Contains c.args.self.now.atoms m.term) (literals_at c.learned_clause.new.log c.in_ok-learned.learned.clause)
+    all_from (λ (m : Lit). Contains c.args.self.now.atoms m.atom) (literals_at c.learned_clause.new.log c.in_ok-learned.learned.clause)
     (learned_named c.args.log.now c.learned_clause.new.log c.args.held.now.items c.args.self.now c.args.work.now c.args.falsified c.in_ok-learned.learned
     (taught c.args.falsified c.requires.search c.requires.all_open c.requires.conflict c.requires.decided c.requires.noted c.learned_clause.ensures.grows
     c.learned_clause.ensures.sound c.in_ok-learned.ensures.learned))
@@ -69,14 +69,14 @@ returns-in_err-hold-clause-advances g c =
 pub go_back-requires-clause-free : goal.go_back-requires-clause-free
 go_back-requires-clause-free g c =
     let l = c.in_ok-learned.learned in
-    subst (λ (x : Search). assigned (below l.level x.trail.entries) l.literal.term ≡ None) (sym c.hold.ensures.rest)
+    subst (λ (x : Search). assigned (below l.level x.trail.entries) l.literal.atom ≡ None) (sym c.hold.ensures.rest)
     (literal_missing c.args.log.now c.learned_clause.new.log c.args.held.now.items c.args.self.now c.args.work.now c.args.falsified c.in_ok-learned.learned
     (taught c.args.falsified c.requires.search c.requires.all_open c.requires.conflict c.requires.decided c.requires.noted c.learned_clause.ensures.grows
     c.learned_clause.ensures.sound c.in_ok-learned.ensures.learned))
 
 pub go_back-requires-clause-within : goal.go_back-requires-clause-within
 go_back-requires-clause-within g c =
-    subst (λ (x : Search). c.in_ok-learned.learned.literal.term < x.trail.size) (sym c.hold.ensures.rest)
+    subst (λ (x : Search). c.in_ok-learned.learned.literal.atom < x.trail.size) (sym c.hold.ensures.rest)
     (literal_within c.args.log.now c.learned_clause.new.log c.args.held.now.items c.args.self.now c.args.work.now c.args.falsified c.in_ok-learned.learned
     (taught c.args.falsified c.requires.search c.requires.all_open c.requires.conflict c.requires.decided c.requires.noted c.learned_clause.ensures.grows
     c.learned_clause.ensures.sound c.in_ok-learned.ensures.learned))
