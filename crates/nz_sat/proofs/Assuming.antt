@@ -7,7 +7,8 @@ use Rattle.std.proofs.lemmas.List.Elements.{All-contains, All-push}
 use Rattle.std.proofs.lemmas.List.Sums.{get_or-le-sum_by, sum_by_push}
 use Rattle.std.proofs.lemmas.Option.{IfSome_then, get_or_from_slice_get, slice_get_within}
 use Rattle.nz_log.specs.declared.lits.Lit.{Lit}
-use Rattle.nz_log.specs.Lits.{TellsLits, are_same_lit, negated_lit}
+use Rattle.nz_log.specs.Atoms.{TellsLits}
+use Rattle.nz_log.specs.Lits.{are_same_lit, negated_lit}
 use Rattle.nz_log.specs.Logs.{LogState, literals_at}
 use Rattle.nz_sat.specs.declared.clauses.Held.{Held}
 use Rattle.nz_sat.specs.declared.search.Search.{Search}
@@ -122,6 +123,7 @@ module _ (log : LogState) (held : List Held) (assumed : List Lit) (l : Lit) (s :
           listed = h.listed;
           only = h.only;
           named = h.named;
+          there = h.there;
           on_trail = All-push (λ (e : Assigned). Contains s.atoms e.literal.atom) s.trail.entries entry h.on_trail may.atom;
           within = h.within;
           indexed = h.indexed;

@@ -11,7 +11,8 @@ use Rattle.nz_lists.proofs.Places.{slice_get-push_cases}
 use Rattle.nz_spec.specs.Literal.{with_one, once, without, StandOnce}
 use Rattle.nz_log.specs.declared.lits.Lit.{Lit}
 use Rattle.nz_log.specs.declared.origins.Link.{Link}
-use Rattle.nz_log.specs.Lits.{TellsLits, negated_lit, are_same_lit, lit_resolvent}
+use Rattle.nz_log.specs.Atoms.{TellsLits}
+use Rattle.nz_log.specs.Lits.{negated_lit, are_same_lit, lit_resolvent}
 use Rattle.nz_log.specs.Logs.{LogState, chained, literals_at}
 
 -- ---- Elements of lists

@@ -4,7 +4,8 @@ use Rattle.std.specs.Prelude.{Contains, slice_get, option_map}
 use Rattle.std.proofs.lemmas.Option.{same_Some}
 use Rattle.nz_lists.proofs.Places.{slice_get_kept}
 use Rattle.nz_log.specs.declared.lits.Lit.{Lit}
-use Rattle.nz_log.specs.Lits.{TellsLits, are_same_lit, negated_lit}
+use Rattle.nz_log.specs.Atoms.{TellsLits}
+use Rattle.nz_log.specs.Lits.{are_same_lit, negated_lit}
 use Rattle.nz_sat.specs.declared.trail.Assigned.{Assigned}
 use Rattle.nz_sat.specs.Trails.{IsFreeOn, assigned, truth_on}
 use Rattle.nz_sat.specs.Clauses.{IsOpen, by_true, by_two, Waits}

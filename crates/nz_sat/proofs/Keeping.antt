@@ -58,6 +58,7 @@ goes_search log held s t h size order g implied reasons =
       listed = h.listed;
       only = h.only;
       named = h.named;
+      there = h.there;
       on_trail = subst (All N) (sym g.joined) (All-append N es g.more h.on_trail more_named);
       within = subst (λ (n : ℕ). All (λ (u : ℕ). u < n) s.atoms) (sym size) h.within;
       indexed = subst (λ (n : ℕ). IsOfSize n s.index) (sym size) h.indexed;

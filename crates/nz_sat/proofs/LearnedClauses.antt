@@ -1,6 +1,6 @@
 -- What a conflict teaches: the clause that is put into the log, and its levels.
 use Rattle.std.proofs.Common.{◌≡◌, ◌≢◌, ℕ, ◌<◌, max, Bool, true, false, inl, inr, List, [], ◌∷◌, ◌++◌, length, take, drop, Some, None, refl, sym, ap, subst, ◌∙◌, true≢false, arith}
-use Rattle.std.specs.Prelude.{All, Contains, MatchOption, Option, ◌≤◌}
+use Rattle.std.specs.Prelude.{All, Contains, MatchOption, Option, ◌≤◌, slice_get}
 use Rattle.std.specs.Ordering.{nat_cmp, ord_max}
 use Rattle.std.proofs.lemmas.Bool.{cases_lt}
 use Rattle.std.proofs.lemmas.Bool.Decides.{nat_tests}
@@ -9,7 +9,9 @@ use Rattle.std.proofs.lemmas.List.Elements.{All-contains, All-contains_itself, A
 use Rattle.nz_spec.specs.Literal.{StandOnce}
 use Rattle.nz_log.specs.declared.lits.Lit.{Lit}
 use Rattle.nz_log.specs.declared.origins.Link.{Link}
-use Rattle.nz_log.specs.Lits.{TellsLits}
+use Rattle.nz_spec.specs.Table.{Node}
+use Rattle.nz_log.specs.declared.atoms.Atom.{Atom}
+use Rattle.nz_log.specs.Atoms.{IsLitIn, TellsLits}
 use Rattle.nz_log.specs.Logs.{Entry, LogState, IsLive, Puts, chain_entry, chained, literals_at}
 use Rattle.nz_sat.specs.declared.analyze.Chain.{Chain}
 use Rattle.nz_sat.specs.declared.trail.Assigned.{Assigned}
@@ -140,11 +142,13 @@ puts_literals : (old new : LogState) (id : ℕ) (e : Entry) → Puts old id e ne
 puts_literals old new id e p = ap (λ (o : Option Entry). elim o [ None ↦ [] | Some x ↦ x.literals ]) p.made
 
 -- the links resolve on atoms of the table
-pub links_within : (s : LogState) (es : List Assigned) (n : ℕ) (ks : List Link) → All (λ (e : Assigned). e.literal.atom < n) es → AreLinks s es ks
-    → All (λ (k : Link). k.literal.atom < n) ks
-links_within s es n ks within links =
-    All-weaker (λ (k : Link). IsLive s k.clause × ((e : Assigned) × Contains es e × (e.literal.atom ≡ k.literal.atom))) (λ (k : Link). k.literal.atom < n)
-    (λ k w. let less = All-contains (λ (e : Assigned). e.literal.atom < n) es w.1.0 within w.1.1 in omega (arith, w.1.2, less)) ks links
+pub links_within : (s : LogState) (es : List Assigned) (ns : List Node) (all : List Atom) (ks : List Link) → All (λ (e : Assigned). IsLitIn ns all e.literal) es → AreLinks s es ks
+    → All (λ (k : Link). IsLitIn ns all k.literal) ks
+links_within s es ns all ks within links =
+    All-weaker (λ (k : Link). IsLive s k.clause × ((e : Assigned) × Contains es e × (e.literal.atom ≡ k.literal.atom))) (λ (k : Link). IsLitIn ns all k.literal)
+    (λ k w.
+    let l = All-contains (λ (e : Assigned). IsLitIn ns all e.literal) es w.1.0 within w.1.1 in
+    record { atom = l.atom; at = ap (slice_get all) (sym w.1.2) ∙ l.at; within = l.within }) ks links
 
 -- ---- A conflict that is the learned clause itself
 

@@ -1,6 +1,6 @@
 -- What a search is after it learned a clause: back where that asserts its literal.
 use Rattle.std.proofs.Common.{◌≡◌, if◌then◌else◌, ℕ, suc, ◌+◌, ◌<◌, Bool, false, List, [], ◌∷◌, ◌++◌, length, take, map, Option, Some, None, inl, inr, refl, sym, ap, subst, ◌∙◌, arith}
-use Rattle.std.specs.Prelude.{All, Contains, filter, nat_le, option_map}
+use Rattle.std.specs.Prelude.{All, Contains, IsSome, filter, nat_le, option_map, slice_get}
 use Rattle.std.proofs.lemmas.List.{append-nil, length_push, map-append, take-append-le, take-map}
 use Rattle.std.proofs.lemmas.List.Elements.{All-contains, All-filter, All-push, All-weaker, Contains-append_left, Contains-push, filter-append}
 use Rattle.std.proofs.lemmas.List.Sums.{fold-append, length-filter, sum_by_push}
@@ -29,6 +29,7 @@ use Rattle.nz_sat.proofs.Keeping.{held_live}
 use Rattle.nz_sat.proofs.LearnedClauses.{all_from}
 use Rattle.nz_sat.proofs.Levels.{below_decided, below_depth, below_false, below_free, below_front, below_twice}
 use Rattle.nz_sat.proofs.Noting.{IsTaught, decisions_on, learned_named}
+use Rattle.nz_sat.proofs.Staying.{terms_stay, there_stay}
 use Rattle.nz_sat.proofs.Trailing.{assigned_one, each_front, each_push, each_weaker}
 
 -- ---- Logs that grow
@@ -195,7 +196,8 @@ module _ (log log' : LogState) (held : List Held) (s : state.Search) (work : Wor
       let f : Assigned → ℕ × Bool = λ (e : Assigned). numbered s.atoms e.literal in
       let c = map (numbered s.atoms) lits in
       record {
-        named = λ ns. ap (λ (x : Search). x.atoms) (goes ns) ∙ h.noted.noted.named ns;
+        named = λ ns.
+            ap (λ (x : Search). x.atoms) (goes ns) ∙ h.noted.noted.named ns ∙ sym (terms_stay log.atoms log'.atoms h.grows.atoms ns s.atoms h.search.there);
         decided = λ ns.
             ap (λ (x : Search). x.decided) (goes ns) ∙ ap (take l.level) (h.noted.noted.decided ns) ∙ take-map f l.level (filter is_decision h.noted.all)
             ∙ ap (map f) (kept_decided ∙ sym after_decided);
@@ -250,6 +252,7 @@ module _ (log log' : LogState) (held : List Held) (s : state.Search) (work : Wor
                 | inr same ↦ subst (Contains (ids held')) same (more l.clause (Contains-push (ids held) l.clause))
               ];
           named = subst (λ (us : List ℕ). All (λ (i : ℕ). All (λ (m : Lit). Contains us m.atom) (literals_at log' i)) (ids held')) (sym atoms) named;
+          there = subst (All (λ (t : ℕ). IsSome (slice_get log'.atoms t))) (sym atoms) (there_stay log.atoms log'.atoms h.grows.atoms s.atoms h.search.there);
           on_trail = subst (λ (xs : List Assigned). All (λ (e : Assigned). Contains s'.atoms e.literal.atom) xs) (sym entries)
               (subst (λ (us : List ℕ). All (λ (e : Assigned). Contains us e.literal.atom) (after_learned es l)) (sym atoms) on_trail);
           within = subst (All (λ (t : ℕ). t < s'.trail.size)) (sym atoms) (subst (λ (n : ℕ). All (λ (t : ℕ). t < n) s.atoms) (sym size) h.search.within);

@@ -9,13 +9,13 @@ use Rattle.std.proofs.lemmas.Option.{same_Some}
 use Rattle.nz_spec.specs.Legal.{AreLegal, LegalWorkGoesOn, MayLearn, Task, Search, IsDeadEnd, after_lines, at_first, literal_by, literals_by}
 use Rattle.nz_spec.specs.Literal.{AreSameSet, AreTrueLiterals, IsClauseTrue, Literal, is_literal_true}
 use Rattle.nz_spec.specs.Model.{IsModel}
-use Rattle.nz_spec.specs.Table.{Node, term_in}
+use Rattle.nz_spec.specs.Table.{Node}
 use Rattle.nz_spec.specs.Term.{Term, Assignment, IsTrueUnder}
 use Rattle.nz_spec.specs.Work.{WorkLine, WorkList, UnitLine, LearnedEntry, with_line}
 use Rattle.nz_spec.specs.Reply as reply
 use Rattle.nz_log.specs.declared.lits.Lit.{Lit}
 use Rattle.nz_log.specs.declared.note.Note.{Note}
-use Rattle.nz_log.specs.Lits.{TellsLits}
+use Rattle.nz_log.specs.Atoms.{IsLitIn, TellsLits}
 use Rattle.nz_log.specs.Logs.{LogState, literals_at}
 use Rattle.nz_log.specs.Notes.{noted_line, noted_list}
 use Rattle.nz_log.specs.Sound.{ClausesAreTrue, IsLog}
@@ -26,7 +26,7 @@ use Rattle.nz_sat.specs.declared.trail.Assigned.{Assigned}
 use Rattle.nz_sat.specs.Clauses.{IsAssumed, IsFalsified, IsOpen, by_true, by_two}
 use Rattle.nz_log.specs.Theories.{Grows}
 use Rattle.nz_sat.specs.Conflicts.{HasTwoLast, IsLearned, IsLearnable, StaysSound}
-use Rattle.nz_sat.specs.Numbers.{numbered}
+use Rattle.nz_sat.specs.Numbers.{IsTermAtom, atom_term, numbered}
 use Rattle.nz_sat.specs.Sats.{HoldsMore, IsAsked}
 use Rattle.nz_sat.specs.Searching.{Advances, IsConflict, IsSearch, StaysInOrder, StaysLegal, WasNoted, WereOpen, ids, learned_line}
 use Rattle.nz_sat.specs.Trails.{EachBehind, IsFreeOn, IsFrontOf, IsNext, below, depth, is_decision, level_on}
@@ -36,6 +36,7 @@ use Rattle.nz_sat.proofs.Levels.{below_true, free_high}
 use Rattle.nz_sat.proofs.Marks.{false_entry, level_found, not_itself}
 use Rattle.nz_sat.proofs.Numbering.{unit_noted}
 use Rattle.nz_sat.proofs.Newness.{numbers_once, numbers_within, open_differs}
+use Rattle.nz_sat.proofs.Staying.{atoms_stay, lit_within, terms_stay}
 use Rattle.nz_sat.proofs.Trailing.{assigned_place, level_within}
 
 -- A clause that is falsified, and was open when the last decision was taken, has two literals of the last level.
@@ -121,8 +122,8 @@ pub stays_in_order : (over : List Node → Type 0) (atoms : List ℕ) (es : List
     → StaysInOrder over atoms log log'
 stays_in_order over atoms es on_trail log log' sound ns levels known within =
     sound ns levels
-    (All-weaker (λ (e : Assigned). Contains atoms e.literal.atom) (λ (e : Assigned). e.literal.atom < length ns)
-    (λ e has. All-contains (λ (t : ℕ). t < length ns) atoms e.literal.atom within has) es on_trail)
+    (All-weaker (λ (e : Assigned). Contains atoms e.literal.atom) (λ (e : Assigned). IsLitIn ns log.atoms e.literal)
+    (λ e has. lit_within ns log.atoms e.literal (All-contains (IsTermAtom ns log.atoms) atoms e.literal.atom within has)) es on_trail)
 
 -- ---- Decisions of a trail that goes on
 
@@ -180,15 +181,21 @@ module _ (log log' : LogState) (held : List Held) (s : state.Search) (work : Wor
     order' : IsLog ns levels log'
     order' = stays (λ ns. ⊤) ns levels tt asked.within asked.order
 
+    within' : All (IsTermAtom ns log'.atoms) s.atoms
+    within' = atoms_stay log.atoms log'.atoms h.grows.atoms ns s.atoms asked.within
+
+    terms_same : map (atom_term ns log.atoms) s.atoms ≡ map (atom_term ns log'.atoms) s.atoms
+    terms_same = sym (terms_stay log.atoms log'.atoms h.grows.atoms ns s.atoms h.search.there)
+
     dead_end : IsDeadEnd q at
     dead_end a model assumed_hold decided_hold =
         let hold = subst (AllByRecursion (IsTrueUnder a)) asked.asserted model.asserted_hold in
         let assumed' = subst (AreTrueLiterals a) asked.assumed_literals assumed_hold in
         let noted = h.noted.noted in
         let named' = subst (λ (ts : List Term). AreTrueLiterals a (literals_by ts at.decided)) (noted.named ns) decided_hold in
-        let decided' = subst (λ (ps : List (ℕ × Bool)). AreTrueLiterals a (literals_by (map (term_in ns) s.atoms) ps)) (noted.decided ns) named' in
-        none_falsified clauses ns asked.table levels log asked.order a model.sorts hold tells s.atoms assumed es h.search.implied h.search.on_trail only assumed'
-        (front_decided a (map (term_in ns) s.atoms) (λ (e : Assigned). numbered s.atoms e.literal) es h.noted.all h.noted.front decided')
+        let decided' = subst (λ (ps : List (ℕ × Bool)). AreTrueLiterals a (literals_by (map (atom_term ns log.atoms) s.atoms) ps)) (noted.decided ns) named' in
+        none_falsified clauses ns asked.table levels log asked.order a model.sorts hold tells s.atoms asked.within assumed es h.search.implied h.search.on_trail only assumed'
+        (front_decided a (map (atom_term ns log.atoms) s.atoms) (λ (e : Assigned). numbered s.atoms e.literal) es h.noted.all h.noted.front decided')
         falsified h.conflict.live h.conflict.falsified
 
     follows : (a : Assignment) → IsModel q.asserted [] a → IsClauseTrue a (literals_by at.atoms (map (numbered s.atoms) lits))
@@ -196,7 +203,7 @@ module _ (log log' : LogState) (held : List Held) (s : state.Search) (work : Wor
         let hold = subst (AllByRecursion (IsTrueUnder a)) asked.asserted model.asserted_hold in
         let holds = clause_true clauses ns asked.table levels log' order' a model.sorts hold l.clause h.learned.live in
         subst (λ (ts : List Term). IsClauseTrue a (literals_by ts (map (numbered s.atoms) lits))) (sym (h.noted.noted.named ns))
-        (subst (IsClauseTrue a) (sym (literals_numbered ns s.atoms lits learned_named)) holds)
+        (subst (IsClauseTrue a) (sym (ap (λ (ts : List Term). literals_by ts (map (numbered s.atoms) lits)) terms_same ∙ literals_numbered ns log'.atoms s.atoms within' lits learned_named)) holds)
 
     may_learn : MayLearn q at l.level (map (numbered s.atoms) lits)
     may_learn =
@@ -211,7 +218,7 @@ module _ (log log' : LogState) (held : List Held) (s : state.Search) (work : Wor
           dead_end = dead_end;
           follows = follows;
           named = subst (λ (ts : List Term). All (λ (p : ℕ × Bool). p.0 < length ts) (map (numbered s.atoms) lits)) (sym (h.noted.noted.named ns))
-              (numbers_within s.atoms ns lits learned_named);
+              (numbers_within s.atoms (atom_term ns log.atoms) lits learned_named);
           once = numbers_once s.atoms es lits learned_named h.learned.falsified h.learned.once;
           new = All-weaker (λ (c : List (ℕ × Bool)). (i : ℕ) × Contains (ids held) i × (map (numbered s.atoms) (literals_at log i) ≡ c))
               (λ (c : List (ℕ × Bool)). AreSameSet c (map (numbered s.atoms) lits) → ⊥)

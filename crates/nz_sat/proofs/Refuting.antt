@@ -5,7 +5,8 @@ use Rattle.std.proofs.lemmas.List.{take_all}
 use Rattle.std.proofs.lemmas.List.Elements.{All-contains}
 use Rattle.nz_log.specs.declared.lits.Lit.{Lit}
 use Rattle.nz_log.specs.declared.origins.Link.{Link}
-use Rattle.nz_log.specs.Lits.{TellsLits, negated_lit}
+use Rattle.nz_log.specs.Atoms.{TellsLits}
+use Rattle.nz_log.specs.Lits.{negated_lit}
 use Rattle.nz_log.specs.Logs.{LogState, chained, literals_at}
 use Rattle.nz_sat.specs.declared.trail.Assigned.{Assigned}
 use Rattle.nz_sat.specs.Trails.{EachBehind, IsFalseOn, IsNext, depth}

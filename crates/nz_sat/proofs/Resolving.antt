@@ -8,7 +8,8 @@ use Rattle.std.proofs.lemmas.List.Elements.{All-nil, All-push}
 use Rattle.std.proofs.lemmas.Option.{same_Some}
 use Rattle.nz_log.specs.declared.lits.Lit.{Lit}
 use Rattle.nz_log.specs.declared.origins.Link.{Link}
-use Rattle.nz_log.specs.Lits.{TellsLits, negated_lit, lit_resolvent}
+use Rattle.nz_log.specs.Atoms.{TellsLits}
+use Rattle.nz_log.specs.Lits.{negated_lit, lit_resolvent}
 use Rattle.nz_log.specs.Logs.{LogState, IsLive, chained, literals_at}
 use Rattle.nz_sat.specs.declared.analyze.Chain.{Chain}
 use Rattle.nz_sat.specs.declared.trail.Assigned.{Assigned}

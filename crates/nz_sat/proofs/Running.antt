@@ -190,6 +190,7 @@ runs_ordered {assumed} {start} {s} {new} {log} {held} {work} h rest =
         listed = q.listed;
         only = q.only;
         named = q.named;
+        there = q.there;
         on_trail = q.on_trail;
         within = q.within;
         indexed = q.indexed;

@@ -2,7 +2,7 @@
 use Rattle.std.proofs.Common.{◌≡◌, ℕ, ◌<◌, Bool, List, [], ◌∷◌, ◌++◌, length, map, get_or, Option, Some, None, refl, sym, ap, subst, ◌∙◌, arith, append_assoc, if◌then◌else◌}
 use Rattle.std.specs.Prelude.{All, Contains, IsSome, option_map, slice_get}
 use Rattle.std.proofs.lemmas.List.{append-nil}
-use Rattle.std.proofs.lemmas.List.Elements.{All-contains, All-map, All-nil, All-same, Contains-get_or}
+use Rattle.std.proofs.lemmas.List.Elements.{All-cons, All-contains, All-map, All-nil, All-same, Contains-get_or}
 use Rattle.std.proofs.lemmas.List.Sums.{sum_by-cons}
 use Rattle.std.proofs.lemmas.Option.{same_Some, slice_get-map}
 use Rattle.nz_spec.specs.Legal as legal
@@ -12,6 +12,7 @@ use Rattle.nz_spec.specs.Term.{Term}
 use Rattle.nz_spec.specs.Work.{NoteLine, UnitLine, WorkLine, WorkList, is_unit, unit_count}
 use Rattle.nz_log.specs.declared.lits.Lit.{Lit}
 use Rattle.nz_log.specs.declared.note.Note.{Note}
+use Rattle.nz_log.specs.declared.atoms.Atom as log
 use Rattle.nz_log.specs.declared.note.Note.TheVariants.{Atom}
 use Rattle.nz_log.specs.Logs.{LogState, literals_at}
 use Rattle.nz_log.specs.Notes.{noted_line}
@@ -19,7 +20,7 @@ use Rattle.nz_sat.specs.declared.clauses.Held.{Held}
 use Rattle.nz_sat.specs.declared.search.Search.{Search}
 use Rattle.nz_sat.specs.declared.trail.Assigned.{Assigned}
 use Rattle.nz_sat.specs.Clauses.{IsAssumed, IsOpen, by_true, by_two}
-use Rattle.nz_sat.specs.Numbers.{noted_atoms, numbered}
+use Rattle.nz_sat.specs.Numbers.{AreNotedIn, IsTermAtom, atom_term, noted_atoms, numbered}
 use Rattle.nz_sat.specs.Sats.{IsAsked, IsLegalWork, IsSatisfied, IsTheoryMet, IsTrueClause, IsTrueLit, SatState, truth_of}
 use Rattle.nz_sat.specs.Searching.{IsNoted, Satisfies, StaysInOrder, StaysLegal, assumed_entries, ids}
 use Rattle.nz_sat.specs.Theories.{IsMet}
@@ -47,16 +48,43 @@ after_notes ns r (NoteLine (Atom t) ∷ lines) none =
     after_notes ns (record r { atoms = r.atoms ++ term_in ns t ∷ [] }) lines (omega arith)
     ∙ ap (λ (ts : List Term). record r { atoms = ts }) (append_assoc r.atoms (term_in ns t ∷ []) (map (term_in ns) (noted_atoms lines)))
 
+module _ {X : Type 0} (x y : X) (xs ys : List X) (same : x ∷ xs ≡ y ∷ ys) where
+  same_head : x ≡ y
+  same_head = ap (λ (zs : List X). elim zs [ [] ↦ x | z ∷ rest ↦ z ]) same
+
+  same_tail : xs ≡ ys
+  same_tail = ap (λ (zs : List X). elim zs [ [] ↦ xs | z ∷ rest ↦ rest ]) same
+
+-- the terms of atoms that are noted
+noted_terms : (ns : List Node) (all : List log.Atom) (ts us : List ℕ) → map (slice_get all) us ≡ map (λ (t : ℕ). Some (log.TheVariants.Term t)) ts
+    → map (atom_term ns all) us ≡ map (term_in ns) ts
+noted_terms ns all [] [] same = refl
+noted_terms ns all [] (u ∷ us) same = cc
+noted_terms ns all (t ∷ ts) [] same = cc
+noted_terms ns all (t ∷ ts) (u ∷ us) same =
+    let first = ap (λ (o : Option log.Atom). term_in ns (elim o [ None ↦ 0 | Some (log.TheVariants.Term v) ↦ v | Some (log.TheVariants.AtMost b) ↦ 0 ])) (same_head same) in
+    let rest = noted_terms ns all ts us (same_tail (slice_get all u) (Some (log.TheVariants.Term t)) (map (slice_get all) us) (map (λ (v : ℕ). Some (log.TheVariants.Term v)) ts) same) in
+    λ k. first k ∷ rest k
+
+-- the atoms that are noted are there
+pub noted_there : (all : List log.Atom) (lines : List (WorkLine Note)) (us : List ℕ) → AreNotedIn all lines us → All (λ (u : ℕ). IsSome (slice_get all u)) us
+noted_there all lines us same = there (noted_atoms lines) us same where
+  there : (ts us : List ℕ) → map (slice_get all) us ≡ map (λ (t : ℕ). Some (log.TheVariants.Term t)) ts → All (λ (u : ℕ). IsSome (slice_get all u)) us
+  there ts [] h = All-nil (λ (u : ℕ). IsSome (slice_get all u))
+  there [] (u ∷ us) h = cc
+  there (t ∷ ts) (u ∷ us) h = All-cons (λ (v : ℕ). IsSome (slice_get all v)) u us (subst IsSome (sym (same_head (slice_get all u) (Some (log.TheVariants.Term t)) (map (slice_get all) us) (map (λ (v : ℕ). Some (log.TheVariants.Term v)) ts) h)) refl) (there ts us (same_tail (slice_get all u) (Some (log.TheVariants.Term t)) (map (slice_get all) us) (map (λ (v : ℕ). Some (log.TheVariants.Term v)) ts) h))
+
 -- the work list of a search that begins
-pub first_noted : (log : LogState) (held : List Held) (work : WorkList Note) → unit_count work.lines ≡ 0 → IsNoted log held (noted_atoms work.lines) [] work
-first_noted log held work none =
-    let L : List ℕ → List (ℕ × Bool) → Type 0 =
-    λ atoms c. (i : ℕ) × Contains (ids held) i × (map (numbered atoms) (literals_at log i) ≡ c) in
+pub first_noted : (log : LogState) (held : List Held) (work : WorkList Note) (atoms : List ℕ) → AreNotedIn log.atoms work.lines atoms → unit_count work.lines ≡ 0
+    → IsNoted log held atoms [] work
+first_noted log held work atoms noted none =
+    let L : List (ℕ × Bool) → Type 0 = λ c. (i : ℕ) × Contains (ids held) i × (map (numbered atoms) (literals_at log i) ≡ c) in
     record {
-      named = λ ns. ap (λ (r : legal.Search). r.atoms) (after_notes ns at_first work.lines none);
+      named = λ ns.
+          ap (λ (r : legal.Search). r.atoms) (after_notes ns at_first work.lines none) ∙ sym (noted_terms ns log.atoms (noted_atoms work.lines) atoms noted);
       decided = λ ns. ap (λ (r : legal.Search). r.decided) (after_notes ns at_first work.lines none);
       learned = λ ns.
-          subst (λ (r : legal.Search). All (L (noted_atoms work.lines)) r.learned) (sym (after_notes ns at_first work.lines none)) (All-nil (L (noted_atoms work.lines)));
+          subst (λ (r : legal.Search). All L r.learned) (sym (after_notes ns at_first work.lines none)) (All-nil L);
     }
 
 -- assumed literals are assumed
@@ -68,7 +96,7 @@ assumed_only assumed =
 module _ (over over' : List Node → Type 0) (keeps : (ns : List Node) → over ns → over' ns) (atoms noted : List ℕ) (same : atoms ≡ noted) (log : LogState) where
   pub stays_sound : (log' : LogState) → StaysInOrder over' atoms log log' → StaysInOrder over noted log log'
   stays_sound log' sound ns levels known within order =
-      sound ns levels (keeps ns known) (subst (All (λ (t : ℕ). t < length ns)) (sym same) within) order
+      sound ns levels (keeps ns known) (subst (All (IsTermAtom ns log.atoms)) (sym same) within) order
 
   -- where the old lines are legal, so are the new ones
   pub stays_legal : (assumed : List Lit) (old new : WorkList Note) → StaysLegal over' atoms log (assumed_entries assumed) old new → (ns : List Node) (levels : List (List ℕ))

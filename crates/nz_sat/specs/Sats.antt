@@ -88,6 +88,7 @@ pub record AreNamed (log : LogState) (held : List Held) (assumed : List Lit) (at
 pub record IsAsked (ns : List Node) (levels : List (List ℕ)) (log : LogState) (atoms : List ℕ) (assumed : List Lit) (q : Task) : Type 0 where
   pub table : IsTable ns
   pub within : All (IsTermAtom ns log.atoms) atoms
+  pub named : All (λ (l : Lit). Contains atoms l.atom) assumed
   pub order : IsLog ns levels log
   pub asserted : q.asserted ≡ asserted_terms ns levels
   pub assumed_literals : q.assumed ≡ map (literal_in ns log.atoms) assumed

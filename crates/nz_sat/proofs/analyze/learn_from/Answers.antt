@@ -3,6 +3,7 @@ use Rattle.std.proofs.Common.{◌<◌, List, length, subst, sym, ◌∙◌}
 use Rattle.std.specs.Prelude.{All, Contains}
 use Rattle.nz_log.specs.declared.lits.Lit.{Lit}
 use Rattle.nz_log.specs.declared.origins.Link.{Link}
+use Rattle.nz_log.specs.Atoms.{IsLitIn}
 use Rattle.nz_log.specs.Logs.{Puts, chain_entry}
 use Rattle.nz_sat.specs.Conflicts.{IsGreatestBut}
 use Rattle.nz_sat.proofs.LearnedClauses.{all_from, links_within, literals_are, literals_within, taught}
@@ -27,8 +28,8 @@ pub returns-clause-sound : goal.returns-clause-sound
 returns-clause-sound c ns levels within order =
     let chain = c.in_ok-links.field-0 in
     c.in_ok-clause.ensures.sound ns levels
-    (subst (λ (ks : List Link). All (λ (k : Link). k.literal.atom < length ns) ks) (sym c.deref.ensures.value)
-    (links_within c.args.log.now c.args.trail.now.entries (length ns) chain.links.items within c.in_ok-links.ensures.chain.links))
+    (subst (λ (ks : List Link). All (λ (k : Link). IsLitIn ns c.args.log.now.atoms k.literal) ks) (sym c.deref.ensures.value)
+    (links_within c.args.log.now c.args.trail.now.entries ns c.args.log.now.atoms chain.links.items within c.in_ok-links.ensures.chain.links))
     order
 
 pub returns-clause-learned : goal.returns-clause-learned

@@ -8,7 +8,7 @@ use Rattle.nz_log.specs.declared.lits.Lit.{Lit}
 use Rattle.nz_log.specs.Logs.{LogState}
 use Rattle.nz_sat.specs.declared.clauses.Held.{Held}
 use Rattle.nz_sat.specs.Clauses.{IsAssumed}
-use Rattle.nz_log.specs.Lits.{AreConsistent}
+use Rattle.nz_sat.specs.Sats.{AreConsistent}
 use Rattle.nz_sat.specs.declared.search.Search.{Search}
 use Rattle.nz_sat.specs.Searching.{AreOpen, IsSearch, MayAssume}
 use Rattle.nz_sat.specs.Trails.{IsTrueOn}
