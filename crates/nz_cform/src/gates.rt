@@ -2,9 +2,9 @@
 ghost use Rattle.std.specs.Prelude.{◌≡◌, ℕ, ◌<◌, List, length, OnOk};
 ghost use Rattle.nz_spec.specs.Gates.{HasBooleanArguments};
 ghost use Rattle.nz_spec.specs.Table.{term_in};
-ghost use Rattle.nz_log.specs.Lits.{gates_at};
 ghost use Rattle.nz_log.specs.Logs.{LogState};
 ghost use Rattle.nz_log.specs.Sound.{IsLog};
+ghost use Rattle.nz_log.specs.TermLits.{gates_at};
 ghost use Rattle.nz_cform.specs.Covering.{AreAdded, HasGatesBelow, Keeps};
 ghost use Rattle.nz_cform.specs.Forms.{FormState};
 

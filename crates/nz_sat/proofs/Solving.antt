@@ -48,13 +48,6 @@ after_notes ns r (NoteLine (Atom t) ∷ lines) none =
     after_notes ns (record r { atoms = r.atoms ++ term_in ns t ∷ [] }) lines (omega arith)
     ∙ ap (λ (ts : List Term). record r { atoms = ts }) (append_assoc r.atoms (term_in ns t ∷ []) (map (term_in ns) (noted_atoms lines)))
 
-module _ {X : Type 0} (x y : X) (xs ys : List X) (same : x ∷ xs ≡ y ∷ ys) where
-  same_head : x ≡ y
-  same_head = ap (λ (zs : List X). elim zs [ [] ↦ x | z ∷ rest ↦ z ]) same
-
-  same_tail : xs ≡ ys
-  same_tail = ap (λ (zs : List X). elim zs [ [] ↦ xs | z ∷ rest ↦ rest ]) same
-
 -- the terms of atoms that are noted
 noted_terms : (ns : List Node) (all : List log.Atom) (ts us : List ℕ) → map (slice_get all) us ≡ map (λ (t : ℕ). Some (log.TheVariants.Term t)) ts
     → map (atom_term ns all) us ≡ map (term_in ns) ts
@@ -62,17 +55,23 @@ noted_terms ns all [] [] same = refl
 noted_terms ns all [] (u ∷ us) same = cc
 noted_terms ns all (t ∷ ts) [] same = cc
 noted_terms ns all (t ∷ ts) (u ∷ us) same =
-    let first = ap (λ (o : Option log.Atom). term_in ns (elim o [ None ↦ 0 | Some (log.TheVariants.Term v) ↦ v | Some (log.TheVariants.AtMost b) ↦ 0 ])) (same_head same) in
-    let rest = noted_terms ns all ts us (same_tail (slice_get all u) (Some (log.TheVariants.Term t)) (map (slice_get all) us) (map (λ (v : ℕ). Some (log.TheVariants.Term v)) ts) same) in
+    let head : slice_get all u ≡ Some (log.TheVariants.Term t) = cc in
+    let tail : map (slice_get all) us ≡ map (λ (v : ℕ). Some (log.TheVariants.Term v)) ts = cc in
+    let first = ap (λ (o : Option log.Atom). term_in ns (elim o [ None ↦ 0 | Some (log.TheVariants.Term v) ↦ v | Some (log.TheVariants.AtMost b) ↦ 0 ])) head in
+    let rest = noted_terms ns all ts us tail in
     λ k. first k ∷ rest k
 
 -- the atoms that are noted are there
+terms_there : (all : List log.Atom) (ts us : List ℕ) → map (slice_get all) us ≡ map (λ (t : ℕ). Some (log.TheVariants.Term t)) ts → All (λ (u : ℕ). IsSome (slice_get all u)) us
+terms_there all ts [] same = All-nil (λ (u : ℕ). IsSome (slice_get all u))
+terms_there all [] (u ∷ us) same = cc
+terms_there all (t ∷ ts) (u ∷ us) same =
+    let head : slice_get all u ≡ Some (log.TheVariants.Term t) = cc in
+    let tail : map (slice_get all) us ≡ map (λ (v : ℕ). Some (log.TheVariants.Term v)) ts = cc in
+    All-cons (λ (v : ℕ). IsSome (slice_get all v)) u us (subst IsSome (sym head) refl) (terms_there all ts us tail)
+
 pub noted_there : (all : List log.Atom) (lines : List (WorkLine Note)) (us : List ℕ) → AreNotedIn all lines us → All (λ (u : ℕ). IsSome (slice_get all u)) us
-noted_there all lines us same = there (noted_atoms lines) us same where
-  there : (ts us : List ℕ) → map (slice_get all) us ≡ map (λ (t : ℕ). Some (log.TheVariants.Term t)) ts → All (λ (u : ℕ). IsSome (slice_get all u)) us
-  there ts [] h = All-nil (λ (u : ℕ). IsSome (slice_get all u))
-  there [] (u ∷ us) h = cc
-  there (t ∷ ts) (u ∷ us) h = All-cons (λ (v : ℕ). IsSome (slice_get all v)) u us (subst IsSome (sym (same_head (slice_get all u) (Some (log.TheVariants.Term t)) (map (slice_get all) us) (map (λ (v : ℕ). Some (log.TheVariants.Term v)) ts) h)) refl) (there ts us (same_tail (slice_get all u) (Some (log.TheVariants.Term t)) (map (slice_get all) us) (map (λ (v : ℕ). Some (log.TheVariants.Term v)) ts) h))
+noted_there all lines us same = terms_there all (noted_atoms lines) us same
 
 -- the work list of a search that begins
 pub first_noted : (log : LogState) (held : List Held) (work : WorkList Note) (atoms : List ℕ) → AreNotedIn log.atoms work.lines atoms → unit_count work.lines ≡ 0
