@@ -11,6 +11,7 @@ pub mod GatesInOrder
 pub mod Gathering
 pub mod Growing
 pub mod Joining
+pub mod KeptAtoms
 pub mod LastMarked
 pub mod Leveled
 pub mod Linking

@@ -54,6 +54,10 @@ term_place (a ∷ rest) t = if is_of_term t a then 0 else suc (term_place rest t
 abbrev pub HasTerm : List Atom → ℕ → Type 0
 HasTerm atoms t = slice_get atoms (term_place atoms t) ≡ Some (Term t)
 
+-- Where each atom keeps its number, the atom of a term is there as before, under its number.
+abbrev pub TermsKeepAtoms : Type 0
+TermsKeepAtoms = (old new : List Atom) → Stay old new → (t : ℕ) → HasTerm old t → HasTerm new t × (term_place new t ≡ term_place old t)
+
 -- the number is that of the term's atom; with no number, there is no such atom
 abbrev pub IsFoundTerm : List Atom → ℕ → Option ℕ → Type 0
 IsFoundTerm atoms t None = (i : ℕ) → slice_get atoms i ≡ Some (Term t) → ⊥

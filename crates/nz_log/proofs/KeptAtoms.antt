@@ -1,0 +1,71 @@
+-- The atom of a term keeps its number where each atom does.
+use Rattle.std.proofs.Common.{◌≡◌, ℕ, zero, suc, ◌<◌, ◌≤◌, Bool, true, false, List, [], ◌∷◌, Some, inl, inr, refl, sym, ap, ◌∙◌, arith, true≢false, eqb-true, eq-eqb, if◌then◌else◌}
+use Rattle.std.specs.Prelude.{slice_get}
+use Rattle.std.proofs.lemmas.Bool.{cases_lt}
+use Rattle.nz_log.specs.declared.atoms.Atom.{Atom}
+use Rattle.nz_log.specs.declared.atoms.Atom.TheVariants.{Term, AtMost}
+use Rattle.nz_log.specs.Atoms.{HasTerm, Stay, TermsKeepAtoms, is_of_term, term_place}
+
+-- an atom of a term is that one
+of_term : (t : ℕ) (a : Atom) → is_of_term t a ≡ true → a ≡ Term t
+of_term t (Term u) is = ap Term (eqb-true u t is)
+of_term t (AtMost b) is = absurd (true≢false (sym is))
+
+-- it is the first
+place_least : (xs : List Atom) (t i : ℕ) → slice_get xs i ≡ Some (Term t) → term_place xs t ≤ i
+place_least [] t i at = cc
+place_least (a ∷ xs) t i at =
+    elim (is_of_term t a) as (λ b. is_of_term t a ≡ b → (if b then 0 else suc (term_place xs t)) ≤ i) [
+      | true ↦ λ here. omega arith
+      | false ↦ λ other. later i at other
+    ] refl where
+      later : (j : ℕ) → slice_get (a ∷ xs) j ≡ Some (Term t) → is_of_term t a ≡ false → suc (term_place xs t) ≤ j
+      later zero here other =
+          let same : a ≡ Term t = cc in
+          absurd (true≢false (sym (ap (is_of_term t) same ∙ eq-eqb t t refl) ∙ other))
+      later (suc j) here other = let more = place_least xs t j here in omega arith
+
+-- and is found
+place_found : (xs : List Atom) (t i : ℕ) → slice_get xs i ≡ Some (Term t) → slice_get xs (term_place xs t) ≡ Some (Term t)
+place_found [] t i at = cc
+place_found (a ∷ xs) t i at =
+    elim (is_of_term t a) as (λ b. is_of_term t a ≡ b → slice_get (a ∷ xs) (if b then 0 else suc (term_place xs t)) ≡ Some (Term t)) [
+      | true ↦ λ here. ap Some (of_term t a here)
+      | false ↦ λ other. later i at other
+    ] refl where
+      later : (j : ℕ) → slice_get (a ∷ xs) j ≡ Some (Term t) → is_of_term t a ≡ false → slice_get xs (term_place xs t) ≡ Some (Term t)
+      later zero here other =
+          let same : a ≡ Term t = cc in
+          absurd (true≢false (sym (ap (is_of_term t) same ∙ eq-eqb t t refl) ∙ other))
+      later (suc j) here other = place_found xs t j here
+
+-- a number below one that has an atom has one
+some_before : (xs : List Atom) (i j : ℕ) (a : Atom) → slice_get xs j ≡ Some a → i < j → (b : Atom) × (slice_get xs i ≡ Some b)
+some_before [] i j a at less = cc
+some_before (x ∷ xs) zero j a at less = (x, refl)
+some_before (x ∷ xs) (suc i) zero a at less = absurd (omega arith)
+some_before (x ∷ xs) (suc i) (suc j) a at less = some_before xs i j a at (omega arith)
+
+-- ---- A table that grows
+
+module _ (old new : List Atom) (stay : Stay old new) (t : ℕ) (has : HasTerm old t) where
+  there : HasTerm new t
+  there = place_found new t (term_place old t) (stay (term_place old t) (Term t) has)
+
+  same : term_place new t ≡ term_place old t
+  same =
+      let p = term_place old t in
+      let q = term_place new t in
+      let least : q ≤ p = place_least new t p (stay p (Term t) has) in
+      elim (cases_lt q p) [
+        | inr high ↦ omega arith
+        | inl less ↦
+            let before = some_before old q p (Term t) has less in
+            let both : Some before.0 ≡ Some (Term t) = sym (stay q before.0 before.1) ∙ there in
+            let is : before.0 ≡ Term t = cc in
+            let again : p ≤ q = place_least old t q (before.1 ∙ ap Some is) in
+            absurd (omega arith)
+      ]
+
+pub terms_keep_atoms : TermsKeepAtoms
+terms_keep_atoms old new stay t has = (there old new stay t has, same old new stay t has)
