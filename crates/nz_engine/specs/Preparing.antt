@@ -6,9 +6,10 @@ use Rattle.nz_spec.specs.Order.{post_order}
 use Rattle.nz_spec.specs.Decide.{asserted_numbers}
 use Rattle.nz_log.specs.declared.lits.Lit.{Lit}
 use Rattle.nz_log.specs.Leveled.{IsLeveled}
-use Rattle.nz_log.specs.Lits.{yes}
+use Rattle.nz_log.specs.Atoms.{HasTerm, lit_of, term_place}
 use Rattle.nz_log.specs.Logs.{LogState, gate_of, empty_log, literals_at, told_level, Drops}
 use Rattle.nz_log.specs.Sound.{IsLog, live_at}
+use Rattle.nz_log.specs.TermLits.{yes}
 use Rattle.nz_log.specs.declared.theory.NoNumbers.{NoNumbers}
 use Rattle.nz_cform.specs.Covering.{AreAdded, Covers, Keeps, origin_at}
 use Rattle.nz_cform.specs.Forms.{FormState, Cuts, Grows, covered_at, empty_form}
@@ -34,9 +35,13 @@ nothing_prepared = record {
   above = false;
 }
 
+-- the numbers of the atoms of the covered terms
+abbrev pub atoms_of : PreparedState → List ℕ
+atoms_of p = map (term_place p.log.atoms) p.form.terms
+
 -- the clause that a term is true
-abbrev pub unit_of : ℕ → List Lit
-unit_of t = yes t ∷ []
+abbrev pub unit_of : LogState → ℕ → List Lit
+unit_of log t = lit_of log.atoms (yes t) ∷ []
 
 -- The term is among what one of these terms is made of.
 pub record IsMadeOf (ns : List Node) (roots : List ℕ) (t : ℕ) : Type 0 where
@@ -49,7 +54,8 @@ pub record IsMadeOf (ns : List Node) (roots : List ℕ) (t : ℕ) : Type 0 where
 pub record HoldsUnit (levels : List (List ℕ)) (p : PreparedState) (k t : ℕ) : Type 0 where
   pub held : Held
   pub there : Contains p.sat.clauses held
-  pub literals : literals_at p.log held.id ≡ unit_of t
+  pub named : HasTerm p.log.atoms t
+  pub literals : literals_at p.log held.id ≡ unit_of p.log t
   pub behind : count_in levels held.level ≤ k
 
 -- The clauses are in order over the levels of assertions. What is covered is made of roots by level: of the assertions, and in a level above them of what

@@ -71,7 +71,7 @@ impl Log {
     }
 
     /// Where memory comes from.
-    pub(crate) fn alloc(&self) -> Global {
+    pub fn alloc(&self) -> Global {
         *self.clauses.allocator()
     }
 
@@ -170,7 +170,7 @@ impl Log {
 
     /// The literals on these terms.
     #[tactic(auto, using(crate::proofs::Joining::joins_twice))]
-    fn lits_of(&mut self, clause: &[TermLit]) -> Result<Vec<Lit>, Memory>
+    pub fn lits_of(&mut self, clause: &[TermLit]) -> Result<Vec<Lit>, Memory>
         ensures literals { IfOk result (λ v. v.items ≡ lits_of self.new.atoms clause.now) }
         ensures there { OnOk result (All (λ l. HasTerm self.new.atoms l.term) clause.now) }
         ensures joins { JoinsAtoms self.old self.new }
