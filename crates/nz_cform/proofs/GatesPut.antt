@@ -3,7 +3,7 @@ use Rattle.std.proofs.Common.{◌≡◌, ℕ, suc, ◌<◌, ◌≤◌, ◌⊎◌
 use Rattle.std.specs.Prelude.{Contains, IsSome, option_map, unwrap_or, slice_index_or}
 use Rattle.std.proofs.lemmas.List.Elements.{All-push, Contains-append_left, Contains-get_or, Contains-push, Contains-push_cases}
 use Rattle.nz_spec.specs.Table.{Node}
-use Rattle.nz_log.specs.Atoms.{TermsKeepAtoms}
+use Rattle.nz_log.specs.Atoms.{AtomsOfTerms}
 use Rattle.nz_log.specs.Logs.{Origin, gate_of, Entry, LogState, entry_at, IsLive, level_at, told_of, told_level, gate_entry, Puts}
 use Rattle.nz_log.specs.TermLits.{gates_at}
 use Rattle.nz_cform.specs.Forms.{FormState, covered_at}
@@ -40,8 +40,8 @@ module _ (old new : LogState) (id : ℕ) (e : Entry) (puts : Puts old id e new) 
       ]
 
   -- a gate stays
-  pub put_gate : TermsKeepAtoms → (ns : List Node) (t j n : ℕ) → HasGate ns old t j n → HasGate ns new t j n
-  put_gate keep ns t j n h = gate_stays keep old new puts.atoms ns t j n h (put_kept h.0 (subst (λ o. IsSome o) (sym h.1) refl))
+  pub put_gate : AtomsOfTerms → (ns : List Node) (t j n : ℕ) → HasGate ns old t j n → HasGate ns new t j n
+  put_gate own ns t j n h = gate_stays own old new puts.atoms ns t j n h (put_kept h.0 (subst (λ o. IsSome o) (sym h.1) refl))
 
 -- ---- The clauses that are put are told
 
@@ -90,7 +90,7 @@ module _ (start old new : LogState) (ids : List ℕ) (id : ℕ) (e : Entry) (put
 
 -- ---- The gates of a term so far
 
-module _ (keep : TermsKeepAtoms) (ns : List Node) (old new : LogState) (s : FormState) (t k id : ℕ) (puts : Puts old id (gate_entry ns new t k) new)
+module _ (own : AtomsOfTerms) (ns : List Node) (old new : LogState) (s : FormState) (t k id : ℕ) (puts : Puts old id (gate_entry ns new t k) new)
     (there : AreNamed ns new.atoms t k) (inside : k < length (gates_at ns t)) (has : HasGatesBelow ns old s t k) where
   -- the level told of the term is that at which it is covered
   same_told : (u : ℕ) → told_of new u ≡ told_of old u
@@ -116,9 +116,9 @@ module _ (keep : TermsKeepAtoms) (ns : List Node) (old new : LogState) (s : Form
               subst (λ v. HasGate ns new v j n) (sym same)
               (subst (λ i. HasGate ns new t i n) (sym number) (subst (HasGate ns new t k) level (id, made, there)))
           | inr other ↦
-              put_gate old new id _ puts keep ns u j n (has.gates u n j at within (λ e. let more : j < suc k = below e in omega arith))
+              put_gate old new id _ puts own ns u j n (has.gates u n j at within (λ e. let more : j < suc k = below e in omega arith))
         ]
-        | inr other ↦ put_gate old new id _ puts keep ns u j n (has.gates u n j at within (λ e. absurd (other e)))
+        | inr other ↦ put_gate old new id _ puts own ns u j n (has.gates u n j at within (λ e. absurd (other e)))
       ]
 
   -- each gate is of a covered term, at its level

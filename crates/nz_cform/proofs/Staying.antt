@@ -12,7 +12,7 @@ use Rattle.nz_lists.proofs.Elements.{AllByRecursion-weaker}
 use Rattle.nz_lists.proofs.Places.{slice_get_kept}
 use Rattle.nz_log.specs.declared.atoms.Atom.{Atom}
 use Rattle.nz_log.specs.declared.term_lits.TermLit.{TermLit}
-use Rattle.nz_log.specs.Atoms.{HasTerm, TermsKeepAtoms, lits_of}
+use Rattle.nz_log.specs.Atoms.{HasTerm, AtomsOfTerms, lits_of}
 use Rattle.nz_spec.specs.Literal.{once}
 use Rattle.nz_log.specs.Lits.{are_same_lit}
 use Rattle.nz_log.specs.TermLits.{yes, no, is_boolean_at, gates_at}
@@ -91,9 +91,9 @@ covers_wider stays ns more log s table covers =
 -- ---- A clause is put that is no gate
 
 -- what is covered stays so
-covers_put : TermsKeepAtoms → (ns : List Node) (old new : LogState) (s : FormState) (id : ℕ) (e : Entry) → Puts old id e new → ((t j : ℕ) → e.origin ≢ gate_of t j)
+covers_put : AtomsOfTerms → (ns : List Node) (old new : LogState) (s : FormState) (id : ℕ) (e : Entry) → Puts old id e new → ((t j : ℕ) → e.origin ≢ gate_of t j)
     → Covers ns old s → Covers ns new s
-covers_put keep ns old new s id e puts other covers =
+covers_put own ns old new s id e puts other covers =
     let has = covers.gates in
     let was = λ (i t j : ℕ) (at : origin_at new i ≡ Some (gate_of t j)). elim (put_cases old new id e puts i (gate_of t j) at) as
     (λ _. (entry_at new i ≡ entry_at old i) × (origin_at old i ≡ Some (gate_of t j))) [
@@ -103,7 +103,7 @@ covers_put keep ns old new s id e puts other covers =
     record {
       within = covers.within;
       gates = record {
-        gates = λ t n j at inside. put_gate old new id e puts keep ns t j n (has.gates t n j at inside);
+        gates = λ t n j at inside. put_gate old new id e puts own ns t j n (has.gates t n j at inside);
         of_covered = λ i t j at.
             let before = was i t j at in
             has.of_covered i t j before.1 ∙ ap Some (sym (ap (λ o. elim o [ None ↦ 0 | Some f ↦ f.level ]) before.0));
@@ -116,15 +116,15 @@ covers_put keep ns old new s id e puts other covers =
 -- ---- Atoms join
 
 -- what is covered stays so
-covers_joined : TermsKeepAtoms → (ns : List Node) (old new : LogState) (s : FormState) → JoinsAtoms old new → Covers ns old s → Covers ns new s
-covers_joined keep ns old new s joins covers =
+covers_joined : AtomsOfTerms → (ns : List Node) (old new : LogState) (s : FormState) → JoinsAtoms old new → Covers ns old s → Covers ns new s
+covers_joined own ns old new s joins covers =
     let has = covers.gates in
     record {
       within = covers.within;
       gates = record {
         gates = λ t n j at inside.
             let gate = has.gates t n j at inside in
-            gate_stays keep old new joins.atoms ns t j n gate (same_entry old new joins.entries gate.0);
+            gate_stays own old new joins.atoms ns t j n gate (same_entry old new joins.entries gate.0);
         of_covered = λ i t j at.
             has.of_covered i t j (sym (same_origin old new joins.entries i) ∙ at) ∙ ap Some (sym (same_level old new joins.entries i));
         once = λ i k t j at also. has.once i k t j (sym (same_origin old new joins.entries i) ∙ at) (sym (same_origin old new joins.entries k) ∙ also);
@@ -207,12 +207,12 @@ covers_start ns =
     none_there : (t n : ℕ) → covered_at empty_form t ≡ Some n → ⊥
     none_there t n at = cc
 
-pub covers_stay : TermStays → TermsKeepAtoms → CoversStay
-covers_stay stays keep =
+pub covers_stay : TermStays → AtomsOfTerms → CoversStay
+covers_stay stays own =
     record {
       start = covers_start;
       table = covers_wider stays;
-      put = covers_put keep;
-      joined = covers_joined keep;
+      put = covers_put own;
+      joined = covers_joined own;
       dropped = covers_dropped;
     }

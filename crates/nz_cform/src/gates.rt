@@ -9,7 +9,7 @@ ghost use Rattle.nz_cform.specs.Covering.{AreAdded, HasGatesBelow, Keeps};
 ghost use Rattle.nz_cform.specs.Forms.{FormState};
 
 use nz_base::Memory;
-use nz_log::laws::terms_keep_atoms;
+use nz_log::laws::atoms_of_terms;
 use nz_log::{ClauseId, Log, gate_count};
 use nz_term::{TermId, Terms};
 
@@ -27,7 +27,7 @@ pub fn add_gates(
     ensures told { log.new.told ≡ log.old.told }
     ensures sound { (levels : List (List ℕ)) → HasBooleanArguments (term_in terms.now term) → IsLog terms.now levels log.old → IsLog terms.now levels log.new }
 {
-    terms_keep_atoms();
+    atoms_of_terms();
     for j in 0..gate_count(terms, term) {
         let clause = log.gate(terms, term, j)?;
         clauses.push(clause)?;

@@ -22,7 +22,7 @@ use crate::levels::Levels;
 use nz_base::{Memory, Work};
 use nz_cform::ClauseForm;
 use nz_cform::laws::covers_stay;
-use nz_log::laws::{gates_are_named, logs_stay_leveled, terms_keep_atoms};
+use nz_log::laws::{gates_are_named, logs_stay_leveled, atoms_of_terms};
 use nz_log::{AtomId, ClauseId, Lit, Log, NoNumbers, Note, Step, Stop, TermLit};
 use nz_sat::Sat;
 use nz_spec::derivation::gates_decide;
@@ -263,7 +263,7 @@ fn atoms_of(log: &mut Log, terms: &[TermId]) -> Result<Vec<AtomId>, Memory>
     ensures joins { JoinsAtoms log.old log.new }
     ensures all { AreAtoms log.new.atoms }
 {
-    terms_keep_atoms();
+    atoms_of_terms();
     log.atom_count();
     let mut atoms = Vec::new(log.alloc());
     for term in terms {

@@ -4,40 +4,38 @@ use Rattle.std.specs.Prelude.{slice_get}
 use Rattle.std.proofs.lemmas.Bool.{cases_lt}
 use Rattle.nz_log.specs.declared.atoms.Atom.{Atom}
 use Rattle.nz_log.specs.declared.atoms.Atom.TheVariants.{Term, AtMost}
-use Rattle.nz_log.specs.Atoms.{HasTerm, Stay, TermsKeepAtoms, is_of_term, term_place}
+use Rattle.nz_log.specs.Atoms.{AreAtoms, AtomsOfTerms, HasTerm, Stay, is_of_term, term_place}
 
 -- an atom of a term is that one
 of_term : (t : ℕ) (a : Atom) → is_of_term t a ≡ true → a ≡ Term t
 of_term t (Term u) is = ap Term (eqb-true u t is)
 of_term t (AtMost b) is = absurd (true≢false (sym is))
 
+-- its own atom is one of the term
+own_atom : (t : ℕ) (a : Atom) → Some a ≡ Some (Term t) → is_of_term t a ≡ true
+own_atom t a at = let same : a ≡ Term t = cc in ap (is_of_term t) same ∙ eq-eqb t t refl
+
 -- it is the first
 place_least : (xs : List Atom) (t i : ℕ) → slice_get xs i ≡ Some (Term t) → term_place xs t ≤ i
 place_least [] t i at = cc
-place_least (a ∷ xs) t i at =
-    elim (is_of_term t a) as (λ b. is_of_term t a ≡ b → (if b then 0 else suc (term_place xs t)) ≤ i) [
-      | true ↦ λ here. omega arith
-      | false ↦ λ other. later i at other
-    ] refl where
-      later : (j : ℕ) → slice_get (a ∷ xs) j ≡ Some (Term t) → is_of_term t a ≡ false → suc (term_place xs t) ≤ j
-      later zero here other =
-          let same : a ≡ Term t = cc in
-          absurd (true≢false (sym (ap (is_of_term t) same ∙ eq-eqb t t refl) ∙ other))
-      later (suc j) here other = let more = place_least xs t j here in omega arith
+place_least (a ∷ xs) t zero at =
+    let here : term_place (a ∷ xs) t ≡ 0 = ap (λ (b : Bool). if b then 0 else suc (term_place xs t)) (own_atom t a at) in
+    omega (arith, here)
+place_least (a ∷ xs) t (suc i) at =
+    let more = place_least xs t i at in
+    elim (is_of_term t a) as (λ b. (if b then 0 else suc (term_place xs t)) ≤ suc i) [ true ↦ omega arith | false ↦ omega (arith, more) ]
 
 -- and is found
 place_found : (xs : List Atom) (t i : ℕ) → slice_get xs i ≡ Some (Term t) → slice_get xs (term_place xs t) ≡ Some (Term t)
 place_found [] t i at = cc
-place_found (a ∷ xs) t i at =
+place_found (a ∷ xs) t zero at =
+    ap (slice_get (a ∷ xs)) (ap (λ (b : Bool). if b then 0 else suc (term_place xs t)) (own_atom t a at)) ∙ at
+place_found (a ∷ xs) t (suc i) at =
+    let more = place_found xs t i at in
     elim (is_of_term t a) as (λ b. is_of_term t a ≡ b → slice_get (a ∷ xs) (if b then 0 else suc (term_place xs t)) ≡ Some (Term t)) [
       | true ↦ λ here. ap Some (of_term t a here)
-      | false ↦ λ other. later i at other
-    ] refl where
-      later : (j : ℕ) → slice_get (a ∷ xs) j ≡ Some (Term t) → is_of_term t a ≡ false → slice_get xs (term_place xs t) ≡ Some (Term t)
-      later zero here other =
-          let same : a ≡ Term t = cc in
-          absurd (true≢false (sym (ap (is_of_term t) same ∙ eq-eqb t t refl) ∙ other))
-      later (suc j) here other = place_found xs t j here
+      | false ↦ λ other. more
+    ] refl
 
 -- a number below one that has an atom has one
 some_before : (xs : List Atom) (i j : ℕ) (a : Atom) → slice_get xs j ≡ Some a → i < j → (b : Atom) × (slice_get xs i ≡ Some b)
@@ -67,5 +65,22 @@ module _ (old new : List Atom) (stay : Stay old new) (t : ℕ) (has : HasTerm ol
             absurd (omega arith)
       ]
 
-pub terms_keep_atoms : TermsKeepAtoms
-terms_keep_atoms old new stay t has = (there old new stay t has, same old new stay t has)
+-- ---- The law
+
+-- what stands under a term's number is its atom
+only_atom : (xs : List Atom) (t : ℕ) (a : Atom) → slice_get xs (term_place xs t) ≡ Some a → a ≡ Term t
+only_atom [] t a at = cc
+only_atom (x ∷ xs) t a at =
+    elim (is_of_term t x) as (λ b. is_of_term t x ≡ b → slice_get (x ∷ xs) (if b then 0 else suc (term_place xs t)) ≡ Some a → a ≡ Term t) [
+      | true ↦ λ here first. let same : x ≡ a = cc in sym same ∙ of_term t x here
+      | false ↦ λ other later. only_atom xs t a later
+    ] refl at
+
+pub atoms_of_terms : AtomsOfTerms
+atoms_of_terms =
+    record {
+      keep = λ old new stay t has. (there old new stay t has, same old new stay t has);
+      there = λ atoms i t at. place_found atoms t i at;
+      only = only_atom;
+      one = λ atoms h i t at. h.once i (term_place atoms t) (Term t) at (place_found atoms t i at);
+    }

@@ -54,9 +54,12 @@ term_place (a ∷ rest) t = if is_of_term t a then 0 else suc (term_place rest t
 abbrev pub HasTerm : List Atom → ℕ → Type 0
 HasTerm atoms t = slice_get atoms (term_place atoms t) ≡ Some (Term t)
 
--- Where each atom keeps its number, the atom of a term is there as before, under its number.
-abbrev pub TermsKeepAtoms : Type 0
-TermsKeepAtoms = (old new : List Atom) → Stay old new → (t : ℕ) → HasTerm old t → HasTerm new t × (term_place new t ≡ term_place old t)
+-- The atom of a term keeps its number where each atom does; where a number has it, that is the term's, if each atom has one number.
+pub record AtomsOfTerms : Type 0 where
+  pub keep : (old new : List Atom) → Stay old new → (t : ℕ) → HasTerm old t → HasTerm new t × (term_place new t ≡ term_place old t)
+  pub there : (atoms : List Atom) (i t : ℕ) → slice_get atoms i ≡ Some (Term t) → HasTerm atoms t
+  pub only : (atoms : List Atom) (t : ℕ) (a : Atom) → slice_get atoms (term_place atoms t) ≡ Some a → a ≡ Term t
+  pub one : (atoms : List Atom) → AreAtoms atoms → (i t : ℕ) → slice_get atoms i ≡ Some (Term t) → i ≡ term_place atoms t
 
 -- the number is that of the term's atom; with no number, there is no such atom
 abbrev pub IsFoundTerm : List Atom → ℕ → Option ℕ → Type 0

@@ -1,6 +1,6 @@
 //! Laws of logs in order, and of clauses by the numbers of terms.
 ghost use Rattle.nz_log.specs.Leveled.{LogsStayLeveled};
-ghost use Rattle.nz_log.specs.Atoms.{TellsLits, TermsKeepAtoms};
+ghost use Rattle.nz_log.specs.Atoms.{TellsLits, AtomsOfTerms};
 ghost use Rattle.nz_log.specs.Sound.{ClausesAreTrue, GatesAreNamed, LogsStay};
 
 use nz_spec::derivation::{
@@ -16,9 +16,9 @@ pub fn tells_lits()
     one_number();
 }
 
-/// The atom of a term keeps its number, whatever atoms join.
-pub fn terms_keep_atoms()
-    ensures keep { TermsKeepAtoms }
+/// The atom of a term keeps its number, whatever atoms join, and no other number has it.
+pub fn atoms_of_terms()
+    ensures atoms { AtomsOfTerms }
 {}
 
 /// Each clause of a log in order is true under every assignment that makes the assertions live at its level true.

@@ -25,7 +25,7 @@ loop-j-preserved c =
     let inside : j < length (gates_at ns t) = omega (arith, c.gate_count-j-end.ensures.count) in
     let before = c.loop-j.invariant in
     record {
-      gates = λ s has. rw add-one (below_more c.terms_keep_atoms.ensures.keep ns old new s t j id puts c.in_ok-clause.ensures.there inside (before.gates s has));
+      gates = λ s has. rw add-one (below_more c.atoms_of_terms.ensures.atoms ns old new s t j id puts c.in_ok-clause.ensures.there inside (before.gates s has));
       added = λ start added.
           subst (λ l. AreAdded start l new) (sym c.in_ok-push.ensures.items)
           (added_more start old new c.loop-j.clauses.items id (gate_entry ns new t j) puts t j refl (before.added start added));
