@@ -15,7 +15,7 @@ use Rattle.nz_sat.specs.declared.trail.Assigned.{Assigned}
 use Rattle.nz_sat.specs.Clauses.{IsAssumed}
 use Rattle.nz_log.specs.Theories.{Grows}
 use Rattle.nz_sat.specs.Numbers.{IsTermAtom}
-use Rattle.nz_sat.specs.Sats.{AreHeld}
+use Rattle.nz_sat.specs.Sats.{AreHeld, AreOn}
 use Rattle.nz_sat.specs.Searching.{Advances, StaysInOrder, Steps}
 use Rattle.nz_sat.proofs.Staying.{atoms_stay, literals_stay, term_some}
 
@@ -50,6 +50,12 @@ held_on a b held g h k d inside =
     let i = (get_or held k d).id in
     (g.live i x.0, ap (λ (o : Option Entry). elim o [ None ↦ 0 | Some e ↦ e.level ]) (g.kept i x.0) ∙ x.1)
 
+-- and each is over the same atoms
+pub on_kept : (a b : LogState) (atoms : List ℕ) (held : List Held) → Grows a b → AreHeld a held → AreOn a atoms held → AreOn b atoms held
+on_kept a b atoms held g h named k d inside =
+    subst (All (λ (l : Lit). Contains atoms l.atom)) (sym (ap (λ (o : Option Entry). elim o [ None ↦ [] | Some e ↦ e.literals ]) (g.kept (get_or held k d).id (h k d inside).0)))
+    (named k d inside)
+
 -- ---- Steps
 
 module _ (over : List Node → Type 0) where
@@ -61,6 +67,7 @@ module _ (over : List Node → Type 0) where
         grows = g;
         sound = sound;
         holds_more = record { learned = []; joined = sym (append-nil held); held = held_on a b held g h };
+        named = on_kept a b atoms held g h;
         legal = λ ns levels assumed q known only asked legal. legal;
         notes = refl;
         limit = refl;
@@ -85,6 +92,7 @@ far_advances over over' keeps atoms es es' a b c h h' h'' w w' w'' only p q =
         joined = q.holds_more.joined ∙ ap (λ (xs : List Held). xs ++ q.holds_more.learned) p.holds_more.joined ∙ append_assoc h p.holds_more.learned q.holds_more.learned;
         held = q.holds_more.held;
       };
+      named = λ on. q.named (p.named on);
       legal = λ ns levels assumed task known assumed_only asked legal.
           q.legal ns levels assumed task (keeps ns known) (only assumed assumed_only)
           (record {

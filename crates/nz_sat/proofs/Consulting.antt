@@ -22,7 +22,7 @@ use Rattle.nz_sat.specs.Sats.{IsLegalWork}
 use Rattle.nz_sat.specs.Searching.{Advances, Carries, ComesTo, Follows, IsConflict, IsNoted, IsSearch, Learns, MayFollow, OpenOrConflict, OpenOrFalsified, Settles, StaysInOrder, Steps, Turns, TurnsOn, WasNoted, WereOpen}
 use Rattle.nz_sat.specs.Theories.{IsMet, IsTold, StaysSoundOver}
 use Rattle.nz_sat.specs.Trails.{GoesOn, IsTrueOn, below, depth, literals_on}
-use Rattle.nz_sat.proofs.Advancing.{far_advances, held_on, log_advances, steps_behind}
+use Rattle.nz_sat.proofs.Advancing.{far_advances, held_on, log_advances, on_kept, steps_behind}
 use Rattle.nz_sat.proofs.Following.{carries_far, goes_first, goes_noted, stays_in_order}
 use Rattle.nz_sat.proofs.Keeping.{goes_assumed, held_live}
 use Rattle.nz_sat.proofs.Levels.{below_twice}
@@ -82,6 +82,7 @@ consult_advances over atoms es log log' held s work work' h same g sound units l
           let l = (get_or s.trail.entries k d).literal in
           lit_within ns log.atoms l (All-contains (IsTermAtom ns log.atoms) s.atoms l.atom within (h.on_trail k d inside))) order);
       holds_more = record { learned = []; joined = sym (append-nil held); held = held_on log log' held g h.are_held };
+      named = on_kept log log' atoms held g h.are_held;
       legal = λ ns levels assumed q known only asked before. legal ns q known before;
       notes = units_noted work work' units;
       limit = units_limit work work' units;

@@ -175,6 +175,7 @@ module _ (log : LogState) (held : List Held) (s : Search) (h : IsSearch log held
         grows = grows_none log;
         sound = λ ns levels known within order. order;
         holds_more = record { learned = []; joined = sym (append-nil held); held = h.are_held };
+        named = λ on. on;
         legal = λ ns levels assumed q known only asked legal. decided_legal goes_on ns q work n legal;
         notes = unit_noted work.lines (DecisionEntry number sign);
         limit = refl;

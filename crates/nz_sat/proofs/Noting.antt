@@ -27,9 +27,10 @@ use Rattle.nz_sat.specs.Clauses.{IsAssumed, IsFalsified, IsOpen, by_true, by_two
 use Rattle.nz_log.specs.Theories.{Grows}
 use Rattle.nz_sat.specs.Conflicts.{HasTwoLast, IsLearned, IsLearnable, StaysSound}
 use Rattle.nz_sat.specs.Numbers.{IsTermAtom, atom_term, numbered}
-use Rattle.nz_sat.specs.Sats.{HoldsMore, IsAsked}
+use Rattle.nz_sat.specs.Sats.{AreOn, HoldsMore, IsAsked}
 use Rattle.nz_sat.specs.Searching.{Advances, IsConflict, IsSearch, StaysInOrder, StaysLegal, WasNoted, WereOpen, ids, learned_line}
 use Rattle.nz_sat.specs.Trails.{EachBehind, IsFreeOn, IsFrontOf, IsNext, below, depth, is_decision, level_on}
+use Rattle.nz_sat.proofs.Advancing.{on_kept}
 use Rattle.nz_sat.proofs.Chains.{has_found}
 use Rattle.nz_sat.proofs.DeadEnds.{clause_true, literals_numbered, none_falsified, recursion_left}
 use Rattle.nz_sat.proofs.Levels.{below_true, free_high}
@@ -234,14 +235,15 @@ module _ (log log' : LogState) (held : List Held) (s : state.Search) (work : Wor
       (goes_on q at_first (noted_list ns work).lines line legal (may_learn tells clauses ns levels assumed q only asked))
 
   -- a step that adds it
-  pub line_advances : TellsLits → ClausesAreTrue → LegalWorkGoesOn → (over : List Node → Type 0) (held' : List Held) → HoldsMore log' held held' → (work' : WorkList Note)
-      → work' ≡ with_line work (learned_line s.atoms log' l) → Advances over s.atoms es log log' held held' work work'
-  line_advances tells clauses goes_on over held' more work' is =
+  pub line_advances : TellsLits → ClausesAreTrue → LegalWorkGoesOn → (over : List Node → Type 0) (held' : List Held) → HoldsMore log' held held' → (AreOn log' s.atoms held → AreOn log' s.atoms held')
+      → (work' : WorkList Note) → work' ≡ with_line work (learned_line s.atoms log' l) → Advances over s.atoms es log log' held held' work work'
+  line_advances tells clauses goes_on over held' more on work' is =
       subst (Advances over s.atoms es log log' held held' work) (sym is)
       (record {
         grows = h.grows;
         sound = stays over;
         holds_more = more;
+        named = λ named. on (on_kept log log' s.atoms held h.grows h.search.are_held named);
         legal = line_legal tells clauses goes_on over;
         notes = unit_noted work.lines (LearnedEntry l.level (map (numbered s.atoms) (literals_at log' l.clause)));
         limit = refl;

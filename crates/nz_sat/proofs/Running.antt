@@ -165,6 +165,7 @@ first_advances {over} {assumed} start {mid} {log} {log'} {held} {held'} {work} {
       grows = step'.grows;
       sound = step'.sound;
       holds_more = step'.holds_more;
+      named = step'.named;
       legal = λ ns levels all q known only. step'.legal ns levels all q known (assumed_wider assumed all only mid.trail.entries a.assumed_only);
       notes = step'.notes;
       limit = step'.limit;

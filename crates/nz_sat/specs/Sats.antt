@@ -66,6 +66,10 @@ held_of log id = record { id = id; level = level_at log id }
 abbrev pub held_up_to : ℕ → List Held → List Held
 held_up_to level held = filter (λ (h : Held). nat_le h.level level) held
 
+-- each literal of a clause is on one of these atoms
+abbrev pub AreOn : LogState → List ℕ → List Held → Type 0
+AreOn log atoms held = All (λ (h : Held). All (λ (l : Lit). Contains atoms l.atom) (literals_at log h.id)) held
+
 -- The clauses that were held still are, then those that were learned.
 pub record HoldsMore (log : LogState) (old new : List Held) : Type 0 where
   pub learned : List Held
@@ -80,7 +84,7 @@ AreConsistent ls = All (λ (l : Lit). Contains ls (negated_lit l) → ⊥) ls
 
 -- Each literal of a clause is on one of these atoms, and each assumed literal. No atom stands twice.
 pub record AreNamed (log : LogState) (held : List Held) (assumed : List Lit) (atoms : List ℕ) : Type 0 where
-  pub clauses : All (λ (h : Held). All (λ (l : Lit). Contains atoms l.atom) (literals_at log h.id)) held
+  pub clauses : AreOn log atoms held
   pub assumed_named : All (λ (l : Lit). Contains atoms l.atom) assumed
   pub once : StandOnce atoms
 

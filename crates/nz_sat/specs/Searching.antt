@@ -21,7 +21,7 @@ use Rattle.nz_sat.specs.Clauses.{HasReasonOf, IsAssumed, IsFalsified, IsImplied,
 use Rattle.nz_log.specs.Theories.{Grows}
 use Rattle.nz_sat.specs.Conflicts.{AreUnmarked, IsFalsifiedUnder}
 use Rattle.nz_sat.specs.Numbers.{IsTermAtom, atom_term, noted_atoms, number_of, numbered}
-use Rattle.nz_sat.specs.Sats.{AreConsistent, AreHeld, HoldsMore, IsAsked, IsLegalWork}
+use Rattle.nz_sat.specs.Sats.{AreConsistent, AreHeld, AreOn, HoldsMore, IsAsked, IsLegalWork}
 use Rattle.nz_sat.specs.Theories.{IsMet, IsTold}
 
 abbrev pub ids : List Held → List ℕ
@@ -128,6 +128,7 @@ pub record Advances (over : List Node → Type 0) (atoms : List ℕ) (es : List 
   pub grows : Grows log log'
   pub sound : StaysInOrder over atoms log log'
   pub holds_more : HoldsMore log' held held'
+  pub named : AreOn log atoms held → AreOn log' atoms held'
   pub legal : StaysLegal over atoms log es work work'
   pub notes : noted_atoms work'.lines ≡ noted_atoms work.lines
   pub limit : work'.limit ≡ work.limit

@@ -10,7 +10,7 @@ ghost use Rattle.nz_log.specs.Sound.{IsLog};
 ghost use Rattle.nz_log.specs.Theories.{Grows};
 ghost use Rattle.nz_sat.specs.Conflicts.{Refutes};
 ghost use Rattle.nz_sat.specs.Numbers.{AreNotedIn, IsTermAtom, noted_atoms};
-ghost use Rattle.nz_sat.specs.Sats.{AreConsistent, AreHeld, AreNamed, HoldsMore, IsAsked, IsLegalWork, IsSatisfied, IsTheoryMet, held_of, held_up_to, literal_truth};
+ghost use Rattle.nz_sat.specs.Sats.{AreConsistent, AreHeld, AreNamed, AreOn, HoldsMore, IsAsked, IsLegalWork, IsSatisfied, IsTheoryMet, held_of, held_up_to, literal_truth};
 
 use crate::clauses::Held;
 use crate::consult::take_back;
@@ -98,6 +98,8 @@ impl<T: Theory> Sat<T> {
         ensures refuted { IfOk result (λ r. IfSome r (λ id. IsLive log.new id × Refutes assumed.now (literals_at log.new id))) }
         ensures grows { Grows log.old log.new }
         ensures held { HoldsMore log.new self.old.clauses self.new.clauses }
+        // What was learned is over the same atoms.
+        ensures named { AreOn log.new atoms.now self.new.clauses }
         ensures over { (ns : List Node) → T.is_over self.old.theory ns → T.is_over self.new.theory ns }
         // Where the atoms are terms of a table in which what the theory knows of terms is so, the log stays in order.
         ensures sound { (ns : List Node) (levels : List (List ℕ)) → T.is_over self.old.theory ns → All (IsTermAtom ns log.old.atoms) atoms.now → IsLog ns levels log.old → IsLog ns levels log.new }

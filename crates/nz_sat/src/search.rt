@@ -11,7 +11,7 @@ ghost use Rattle.nz_sat.specs.Clauses.{Adds, AreUsable, IsImplied, IsWithin};
 ghost use Rattle.nz_log.specs.Theories.{AddsUnits, Grows};
 ghost use Rattle.nz_sat.specs.Conflicts.{GoesBackTo, HasLast, RefutesFrom, StaysSound};
 ghost use Rattle.nz_sat.specs.Numbers.{numbered};
-ghost use Rattle.nz_sat.specs.Sats.{AreConsistent, AreHeld, HoldsMore, held_of};
+ghost use Rattle.nz_sat.specs.Sats.{AreConsistent, AreHeld, AreOn, HoldsMore, held_of};
 ghost use Rattle.nz_sat.specs.Searching.{Advances, Assumes, AssumesAll, ComesTo, Follows, MayAssume, MayFollow, Starts, Decides, IsConflict, IsSearch, Learns, WasNoted, WereOpen, after_learned, learned_line};
 ghost use Rattle.nz_sat.specs.Theories.{IsMet, IsTold};
 ghost use Rattle.nz_sat.specs.Trails.{EachBehind, GoesOn, IsFrontOf, IsTrail, assigned, below, depth};
@@ -266,6 +266,7 @@ impl Search {
         ensures rest { self.new ≡ record self.old { index = self.new.index } }
         ensures more { HoldsMore log.now held.old.items held.new.items }
         ensures held { OnOk result (held.new.items ≡ held.old.items ++ held_of log.now id ∷ []) }
+        ensures named { (atoms : List ℕ) → All (λ l. Contains atoms l.atom) (literals_at log.now id) → AreOn log.now atoms held.old.items → AreOn log.now atoms held.new.items }
         ensures added { OnOk result (Adds log.now id self.old.index self.new.index) }
     {
         held.push(Held {

@@ -64,7 +64,8 @@ returns-in_err-hold-clause-advances g c =
     line_advances c.args.log.now c.learned_clause.new.log c.args.held.now.items c.args.self.now c.args.work.now c.args.falsified c.in_ok-learned.learned
     (taught c.args.falsified c.requires.search c.requires.all_open c.requires.conflict c.requires.decided c.requires.noted c.learned_clause.ensures.grows
     c.learned_clause.ensures.sound c.in_ok-learned.ensures.learned)
-    c.tells_lits.ensures.tells c.clauses_are_true.ensures.clauses c.legal_work_goes_on.ensures.goes_on (g.T.Theory.is_over c.args.theory.now) c.hold.new.held.items c.hold.ensures.more c.note_learned.new.work c.in_ok-note_learned.ensures.noted
+    c.tells_lits.ensures.tells c.clauses_are_true.ensures.clauses c.legal_work_goes_on.ensures.goes_on (g.T.Theory.is_over c.args.theory.now) c.hold.new.held.items c.hold.ensures.more
+    (c.hold.ensures.named c.args.self.now.atoms (note_learned-requires-clause-named g c)) c.note_learned.new.work c.in_ok-note_learned.ensures.noted
 
 pub go_back-requires-clause-free : goal.go_back-requires-clause-free
 go_back-requires-clause-free g c =
@@ -86,7 +87,8 @@ returns-clause-advances g c =
     line_advances c.args.log.now c.learned_clause.new.log c.args.held.now.items c.args.self.now c.args.work.now c.args.falsified c.in_ok-learned.learned
     (taught c.args.falsified c.requires.search c.requires.all_open c.requires.conflict c.requires.decided c.requires.noted c.learned_clause.ensures.grows
     c.learned_clause.ensures.sound c.in_ok-learned.ensures.learned)
-    c.tells_lits.ensures.tells c.clauses_are_true.ensures.clauses c.legal_work_goes_on.ensures.goes_on (g.T.Theory.is_over c.args.theory.now) c.hold.new.held.items c.hold.ensures.more c.note_learned.new.work c.in_ok-note_learned.ensures.noted
+    c.tells_lits.ensures.tells c.clauses_are_true.ensures.clauses c.legal_work_goes_on.ensures.goes_on (g.T.Theory.is_over c.args.theory.now) c.hold.new.held.items c.hold.ensures.more
+    (c.hold.ensures.named c.args.self.now.atoms (note_learned-requires-clause-named g c)) c.note_learned.new.work c.in_ok-note_learned.ensures.noted
 
 pub returns-clause-learned : goal.returns-clause-learned
 returns-clause-learned g c =
