@@ -1,6 +1,6 @@
 -- How covered terms stay so: when the table grows, when a clause is put, and when levels are dropped.
 use Rattle.std.proofs.Common.{◌≡◌, ◌≢◌, ℕ, ◌<◌, ◌≤◌, inl, inr, Bool, List, [], ◌∷◌, ◌++◌, length, get_or, Option, Some, None, refl, sym, ap, subst, ◌∙◌, arith}
-use Rattle.std.specs.Prelude.{All, slice_get, option_map, unwrap_or, slice_index_or, if◌then◌else◌}
+use Rattle.std.specs.Prelude.{All, IsSome, slice_get, option_map, unwrap_or, slice_index_or, if◌then◌else◌}
 use Rattle.std.specs.List.{AllByRecursion}
 use Rattle.std.proofs.lemmas.List.{length-append}
 use Rattle.std.proofs.lemmas.List.Elements.{All-weaker, recursion_from_All}
@@ -16,7 +16,8 @@ use Rattle.nz_log.specs.Atoms.{HasTerm, AtomsOfTerms, lits_of}
 use Rattle.nz_spec.specs.Literal.{once}
 use Rattle.nz_log.specs.Lits.{are_same_lit}
 use Rattle.nz_log.specs.TermLits.{yes, no, is_boolean_at, gates_at}
-use Rattle.nz_log.specs.Logs.{Origin, gate_of, Entry, LogState, empty_log, entry_at, level_at, kept_below, told_below, JoinsAtoms, Puts, Drops}
+use Rattle.nz_log.specs.Logs.{Origin, gate_of, Entry, LogState, empty_log, entry_at, IsLive, level_at, kept_below, told_below, JoinsAtoms, Puts, Drops}
+use Rattle.nz_log.specs.Theories.{Grows}
 use Rattle.nz_cform.specs.Forms.{FormState, covered_at, empty_form, IsCoveredWithin, Cuts}
 use Rattle.nz_cform.specs.Covering.{AreNamed, Covers, gate_clause, gate_terms, kids_at, origin_at}
 use Rattle.nz_cform.specs.Laws.{CoversStay}
@@ -133,12 +134,42 @@ covers_joined own ns old new s joins covers =
       arguments = covers.arguments;
     }
 
--- ---- Levels are dropped
+-- ---- A search has learned
 
 -- a clause that was made is there
 some_entry : (o : Option Entry) (g : Origin) → option_map (λ (e : Entry). e.origin) o ≡ Some g → (e : Entry) × (o ≡ Some e) × (e.origin ≡ g)
 some_entry None g at = cc
 some_entry (Some e) g at = let same : e.origin ≡ g = cc in (e, refl, same)
+
+module _ (own : AtomsOfTerms) (ns : List Node) (old new : LogState) (s : FormState) (grows : Grows old new) (covers : Covers ns old s) where
+  -- a gate was there
+  gate_was : (i t j : ℕ) → origin_at new i ≡ Some (gate_of t j) → IsLive old i
+  gate_was i t j at =
+      let here = some_entry (entry_at new i) (gate_of t j) at in
+      grows.gates i here.0 t j here.1 here.2
+
+  origin_was : (i t j : ℕ) → origin_at new i ≡ Some (gate_of t j) → origin_at old i ≡ Some (gate_of t j)
+  origin_was i t j at = ap (option_map (λ (e : Entry). e.origin)) (sym (grows.kept i (gate_was i t j at))) ∙ at
+
+  covers_learned : Covers ns new s
+  covers_learned =
+      let was = covers.gates in
+      record {
+        within = covers.within;
+        gates = record {
+          gates = λ t n j at inside.
+              let gate = was.gates t n j at inside in
+              gate_stays own old new grows.atoms ns t j n gate (grows.kept gate.0 (subst (λ o. IsSome o) (sym gate.1) refl));
+          of_covered = λ i t j at.
+              was.of_covered i t j (origin_was i t j at)
+              ∙ ap Some (sym (ap (λ o. elim o [ None ↦ 0 | Some e ↦ e.level ]) (grows.kept i (gate_was i t j at))));
+          once = λ i k t j at also. was.once i k t j (origin_was i t j at) (origin_was k t j also);
+          told = λ t. ap (λ ls. slice_index_or ls t None) grows.told ∙ was.told t;
+        };
+        arguments = covers.arguments;
+      }
+
+-- ---- Levels are dropped
 
 module _ (ns : List Node) (old new : LogState) (s cut : FormState) (level : ℕ) (drops : Drops old level new) (cuts : Cuts s level cut) (covers : Covers ns old s) where
   -- what is covered was so, at a level that is left; and what was so at such a level still is
@@ -214,5 +245,6 @@ covers_stay stays own =
       table = covers_wider stays;
       put = covers_put own;
       joined = covers_joined own;
+      learned = covers_learned own;
       dropped = covers_dropped;
     }

@@ -4,7 +4,7 @@ ghost use Rattle.nz_cform.specs.Laws.{CoversStay, GatesTellValues};
 use nz_log::laws::atoms_of_terms;
 use nz_spec::table::{term_of_node, term_stays};
 
-/// What is covered stays so when the table grows, when another clause is put, when atoms join, and when log and clause form drop the same levels.
+/// What is covered stays so when the table grows, when another clause is put, when atoms join, when a search has learned, and when log and clause form drop the same levels.
 pub fn covers_stay()
     ensures stay { CoversStay }
 {
