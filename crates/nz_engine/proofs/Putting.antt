@@ -123,7 +123,7 @@ gate_inside named ns table levels s i e t j (gate_of u k) same made =
     is_there f (Some z) o e some = (z, refl)
 
 -- a literal of a mapped list is of one of its elements
-from_lits : (atoms : List Atom) (c : List TermLit) (l : Lit) → Contains (lits_of atoms c) l → (m : TermLit) × Contains c m × (lit_of atoms m ≡ l)
+pub from_lits : (atoms : List Atom) (c : List TermLit) (l : Lit) → Contains (lits_of atoms c) l → (m : TermLit) × Contains c m × (lit_of atoms m ≡ l)
 from_lits atoms c l has =
     let P = λ (x : Lit). x ≡ l → (m : TermLit) × Contains c m × (lit_of atoms m ≡ l) in
     All-contains P (lits_of atoms c) l
