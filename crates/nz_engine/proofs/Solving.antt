@@ -1,5 +1,5 @@
 -- A search over what is prepared: its atoms, its work, and what it found.
-use Rattle.std.proofs.Common.{◌≡◌, ◌≢◌, ℕ, zero, suc, ◌<◌, ◌≤◌, Bool, true, false, List, [], ◌∷◌, ◌++◌, length, get_or, map, Option, Some, None, refl, sym, ap, subst, ◌∙◌, arith}
+use Rattle.std.proofs.Common.{◌≡◌, ◌≢◌, ℕ, zero, suc, ◌<◌, ◌≤◌, Bool, true, false, not, List, [], ◌∷◌, ◌++◌, length, get_or, map, Option, Some, None, refl, sym, ap, subst, ◌∙◌, arith}
 use Rattle.std.specs.Prelude.{◌↔◌, All, Contains, IsSome, IsSomeAnd, flat_map, slice_get, unwrap_or, option_map}
 use Rattle.std.specs.List.{AllByRecursion, AllPairs}
 use Rattle.std.proofs.lemmas.Option.{get_or_from_slice_get, same_Some, slice_get-get_or, slice_get-map, slice_get_within}
@@ -21,10 +21,10 @@ use Rattle.nz_log.specs.declared.term_lits.TermLit.{TermLit}
 use Rattle.nz_log.specs.declared.note.Note.{Note}
 use Rattle.nz_log.specs.Atoms.{AreAtoms, AtomsOfTerms, HasTerm, Stay, atom_in, lit_of, literal_in, lits_of, term_place, terms_of, with_sign}
 use Rattle.nz_log.specs.Leveled.{IsToldWithin, LogsStayLeveled}
-use Rattle.nz_log.specs.Lits.{are_same_lit}
+use Rattle.nz_log.specs.Lits.{are_same_lit, negated_lit}
 use Rattle.nz_log.specs.Logs.{gate_of, Entry, JoinsAtoms, LogState, entry_at, literals_at, told_of}
 use Rattle.nz_log.specs.Sound.{IsLog, LogsStay, live_at}
-use Rattle.nz_log.specs.TermLits.{gates_at, literal_of, yes}
+use Rattle.nz_log.specs.TermLits.{AreConsistent, gates_at, literal_of, yes}
 use Rattle.nz_log.specs.Theories as theories
 use Rattle.nz_log.specs.Verdicts.{task_in}
 use Rattle.nz_cform.specs.Covering.{HasGate, gate_terms, kids_at, origin_at}
@@ -32,6 +32,7 @@ use Rattle.nz_cform.specs.Forms.{IsListed, IsCoveredWithin, covered_at}
 use Rattle.nz_cform.specs.Laws.{CoversStay}
 use Rattle.nz_sat.specs.declared.clauses.Held.{Held}
 use Rattle.nz_sat.specs.Numbers.{AreNotedIn, IsTermAtom, noted_atoms}
+use Rattle.nz_sat.specs.Sats as sat
 use Rattle.nz_sat.specs.Sats.{AreNamed, AreOn, HoldsMore, IsAsked, IsLegalWork, IsSatisfied, IsTrueClause, IsTrueLit, held_of, truth_of}
 use Rattle.nz_engine.specs.Checking.{AreGatedAt, IsPosed, NotesFirst, Works, terms_named, truth_in, with_atoms}
 use Rattle.nz_engine.specs.Preparing.{PreparedState, AreOnTerms, HoldsUnit, IsOnTerm, IsPrepared, atoms_of, unit_of}
@@ -119,6 +120,18 @@ says ns atoms (l ∷ c) has =
     signed : (u : Term.Term) (sign : Bool) → with_sign sign (term_literal u true) ≡ term_literal u sign
     signed u true = refl
     signed u false = refl
+
+-- no assumed literal is the negation of another
+pub consistent_lits : (atoms : List Atom) (ls : List TermLit) → All (λ (l : TermLit). HasTerm atoms l.term) ls → AreConsistent ls → sat.AreConsistent (lits_of atoms ls)
+consistent_lits atoms ls has apart =
+    All-map (λ (l : Lit). Contains (lits_of atoms ls) (negated_lit l) → ⊥) (lit_of atoms) ls
+    (λ k d below c.
+    let m = get_or ls k d in
+    let from = from_lits atoms ls (negated_lit (lit_of atoms m)) c in
+    let there = All-contains (λ (l : TermLit). HasTerm atoms l.term) ls from.0 has from.1 in
+    let term : from.0.term ≡ m.term = same_terms atoms from.0.term m.term there (has k d below) (ap (λ (l : Lit). l.atom) from.2) in
+    let sign : from.0.sign ≡ not m.sign = ap (λ (l : Lit). l.sign) from.2 in
+    apart k d below (subst (Contains ls) (λ i. record { term = term i; sign = sign i }) from.1))
 
 -- ---- Atoms
 

@@ -11,7 +11,7 @@ use Rattle.nz_log.specs.declared.decide.Verdict.{Verdict}
 use Rattle.nz_log.specs.declared.decide.Verdict.TheVariants.{Sat, Unsat}
 use Rattle.nz_log.specs.declared.atoms.Atom.{Atom}
 use Rattle.nz_log.specs.declared.term_lits.TermLit.{TermLit}
-use Rattle.nz_log.specs.Atoms.{term_place}
+use Rattle.nz_log.specs.Atoms.{HasTerm, term_place}
 use Rattle.nz_log.specs.Logs.{LogState}
 use Rattle.nz_log.specs.TermLits.{literal_of, AreNegations}
 use Rattle.nz_log.specs.Verdicts.{task_in}
@@ -35,6 +35,11 @@ AreGatedAt ns ts = All (λ t. IsGated (term_in ns t)) ts
 -- the terms that the literals name are covered
 abbrev pub AreCovered : PreparedState → List TermLit → Type 0
 AreCovered p ls = All (λ (l : TermLit). IsSome (covered_at p.form l.term)) ls
+
+-- The covered terms have their atoms, and so have those that the literals name.
+pub record HaveAtoms (p : PreparedState) (ls : List TermLit) : Type 0 where
+  pub covered : All (HasTerm p.log.atoms) p.form.terms
+  pub named : All (λ (l : TermLit). HasTerm p.log.atoms l.term) ls
 
 -- A search may begin: each assertion has its clause, and the terms of the assumed literals are covered.
 pub record IsPosed (ns : List Node) (levels : List (List ℕ)) (assumed : List TermLit) (p : PreparedState) : Type 0 where

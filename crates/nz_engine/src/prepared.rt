@@ -5,7 +5,7 @@ ghost use Rattle.nz_spec.specs.Table.{Node, term_in};
 ghost use Rattle.nz_spec.specs.Term.{holds_number};
 ghost use Rattle.nz_spec.specs.Work.{IsSpent};
 ghost use Rattle.nz_log.specs.declared.term_lits.TermLit.{TermLit};
-ghost use Rattle.nz_log.specs.Atoms.{AreAtoms, HasTerm, lits_of, term_place};
+ghost use Rattle.nz_log.specs.Atoms.{AreAtoms, lits_of};
 ghost use Rattle.nz_log.specs.Logs.{IsLive, JoinsAtoms, told_level};
 ghost use Rattle.nz_log.specs.Spelling.{AreStepsOf};
 ghost use Rattle.nz_log.specs.TermLits.{AreConsistent, AreNegations};
@@ -13,7 +13,7 @@ ghost use Rattle.nz_log.specs.Verdicts.{OnSpent, task_in};
 ghost use Rattle.nz_cform.specs.Covering.{Covers};
 ghost use Rattle.nz_cform.specs.Forms.{IsListed, covered_at};
 ghost use Rattle.nz_sat.specs.Sats.{IsSatisfied, held_of, truth_of};
-ghost use Rattle.nz_engine.specs.Checking.{AreCovered, AreGatedAt, IsPosed, NotesFirst, Works, terms_named, truth_in, value_at, with_atoms};
+ghost use Rattle.nz_engine.specs.Checking.{AreCovered, AreGatedAt, HaveAtoms, IsPosed, NotesFirst, Works, terms_named, truth_in, value_at, with_atoms};
 ghost use Rattle.nz_engine.specs.Engines.{literals_in};
 ghost use Rattle.nz_engine.specs.Levels.{IsPlaced, count_of};
 ghost use Rattle.nz_engine.specs.Preparing.{CoversAlso, CutsTo, IsAssumable, IsPrepared, IsStanding, atoms_of, nothing_prepared};
@@ -22,7 +22,7 @@ use crate::levels::Levels;
 use nz_base::{Memory, Work};
 use nz_cform::ClauseForm;
 use nz_cform::laws::covers_stay;
-use nz_log::laws::{gates_are_named, logs_stay_leveled, atoms_of_terms};
+use nz_log::laws::{atoms_of_terms, gates_are_named, logs_stay, logs_stay_leveled};
 use nz_log::{AtomId, ClauseId, Lit, Log, NoNumbers, Note, Step, Stop, TermLit};
 use nz_sat::Sat;
 use nz_spec::derivation::gates_decide;
@@ -42,6 +42,13 @@ pub struct Prepared {
     given: usize,
     // Whether terms are covered for assumed literals alone.
     above: bool,
+}
+
+/// The atoms of a search, and the literals that it assumes.
+#[derive(Debug, Drop)]
+struct Named {
+    atoms: Vec<AtomId>,
+    literals: Vec<Lit>,
 }
 
 impl Model for Prepared {
@@ -97,6 +104,7 @@ impl Prepared {
         covers_stay();
         logs_stay_leveled();
         gates_are_named();
+        atoms_of_terms();
         let Some(given) = self.given.checked_add(1) else {
             return Err(Memory);
         };
@@ -138,6 +146,7 @@ impl Prepared {
     {
         known_table(terms);
         gates_are_named();
+        atoms_of_terms();
         if self.form.is_covered(term) {
             return Ok(());
         }
@@ -190,11 +199,28 @@ impl Prepared {
         gates_decide();
         one_number();
         covers_stay();
-        let terms = self.form.terms();
-        note_atoms(terms, work)?;
-        let atoms = atoms_of(&mut self.log, terms)?;
-        let assumed = self.log.lits_of(assumed)?;
-        self.sat.solve(&mut self.log, &atoms, &assumed, work)
+        logs_stay();
+        logs_stay_leveled();
+        atoms_of_terms();
+        note_atoms(self.form.terms(), work)?;
+        let named = self.named(assumed)?;
+        self.sat
+            .solve(&mut self.log, &named.atoms, &named.literals, work)
+    }
+
+    /// The atoms of the covered terms, and the assumed literals on them. Atoms join the log's where they aren't there.
+    fn named(&mut self, assumed: &[TermLit]) -> Result<Named, Memory>
+        ensures rest { self.new ≡ record self.old { log = self.new.log } }
+        ensures joins { JoinsAtoms self.old.log self.new.log }
+        ensures all { AreAtoms self.new.log.atoms }
+        ensures atoms { IfOk result (λ n. n.atoms.items ≡ atoms_of self.new) }
+        ensures literals { IfOk result (λ n. n.literals.items ≡ lits_of self.new.log.atoms assumed.now) }
+        ensures there { OnOk result (HaveAtoms self.new assumed.now) }
+    {
+        atoms_of_terms();
+        let atoms = self.log.term_atoms(self.form.terms())?;
+        let literals = self.log.lits_of(assumed)?;
+        Ok(Named { atoms, literals })
     }
 
     /// Takes back what stands above a level, up to which these levels go. Takes no memory.
@@ -254,23 +280,6 @@ fn note_atoms(atoms: &[TermId], work: &mut Work<Note>) -> Result<(), Memory>
         work.note(Note::Atom(*term))?;
     }
     Ok(())
-}
-
-/// The numbers of the atoms of these terms, which join the others where they aren't there.
-fn atoms_of(log: &mut Log, terms: &[TermId]) -> Result<Vec<AtomId>, Memory>
-    ensures atoms { IfOk result (λ v. v.items ≡ map (term_place log.new.atoms) terms.now) }
-    ensures there { OnOk result (All (HasTerm log.new.atoms) terms.now) }
-    ensures joins { JoinsAtoms log.old log.new }
-    ensures all { AreAtoms log.new.atoms }
-{
-    atoms_of_terms();
-    log.atom_count();
-    let mut atoms = Vec::new(log.alloc());
-    for term in terms {
-        let atom = log.term_atom(*term)?;
-        atoms.push(atom)?;
-    }
-    Ok(atoms)
 }
 
 /// The truth of a term, where it has one.

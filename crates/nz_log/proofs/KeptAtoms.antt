@@ -1,7 +1,10 @@
 -- The atom of a term keeps its number where each atom does.
-use Rattle.std.proofs.Common.{◌≡◌, ℕ, zero, suc, ◌<◌, ◌≤◌, Bool, true, false, List, [], ◌∷◌, Some, inl, inr, refl, sym, ap, ◌∙◌, arith, true≢false, eqb-true, eq-eqb, if◌then◌else◌}
+use Rattle.std.proofs.Common.{◌≡◌, ℕ, zero, suc, ◌+◌, ◌<◌, ◌≤◌, ◌++◌, Bool, true, false, List, [], ◌∷◌, length, take, get_or, map, Some, inl, inr, refl, sym, ap, subst, ◌∙◌, arith, true≢false, eqb-true, eq-eqb, if◌then◌else◌}
 use Rattle.std.specs.Prelude.{slice_get}
+use Rattle.std.specs.List.{AllByRecursion}
 use Rattle.std.proofs.lemmas.Bool.{cases_lt}
+use Rattle.std.proofs.lemmas.List.{map_push, take_more}
+use Rattle.nz_lists.proofs.Elements.{AllByRecursion-append}
 use Rattle.nz_log.specs.declared.atoms.Atom.{Atom}
 use Rattle.nz_log.specs.declared.atoms.Atom.TheVariants.{Term, AtMost}
 use Rattle.nz_log.specs.Atoms.{AreAtoms, AtomsOfTerms, HasTerm, Stay, is_of_term, term_place}
@@ -64,6 +67,25 @@ module _ (old new : List Atom) (stay : Stay old new) (t : ℕ) (has : HasTerm ol
             let again : p ≤ q = place_least old t q (before.1 ∙ ap Some is) in
             absurd (omega arith)
       ]
+
+-- the numbers of some terms' atoms, and of one more
+places_stay : (old new : List Atom) → Stay old new → (ts : List ℕ) → AllByRecursion (HasTerm old) ts
+    → (map (term_place new) ts ≡ map (term_place old) ts) × AllByRecursion (HasTerm new) ts
+places_stay old new stay [] h = (refl, tt)
+places_stay old new stay (t ∷ ts) h =
+    let rest = places_stay old new stay ts h.1 in
+    (λ i. same old new stay t h.0 i ∷ rest.0 i, (there old new stay t h.0, rest.1))
+
+pub places_more : (old new : List Atom) → Stay old new → (ts : List ℕ) (i d : ℕ) → i < length ts → AllByRecursion (HasTerm old) (take i ts) → HasTerm new (get_or ts i d)
+    → (ids next : List ℕ) → ids ≡ map (term_place old) (take i ts) → next ≡ ids ++ term_place new (get_or ts i d) ∷ []
+    → (next ≡ map (term_place new) (take (i + 1) ts)) × AllByRecursion (HasTerm new) (take (i + 1) ts)
+places_more old new stay ts i d within has own ids next so_far is =
+    let t = get_or ts i d in
+    let kept = places_stay old new stay (take i ts) has in
+    let longer : take (i + 1) ts ≡ take i ts ++ t ∷ [] = take_more ts i d within in (
+      is ∙ ap (λ (ns : List ℕ). ns ++ term_place new t ∷ []) (so_far ∙ sym kept.0) ∙ sym (map_push (term_place new) (take i ts) t) ∙ ap (map (term_place new)) (sym longer),
+      subst (AllByRecursion (HasTerm new)) (sym longer) (AllByRecursion-append (HasTerm new) (take i ts) (t ∷ []) kept.1 (own, tt)),
+    )
 
 -- ---- The law
 

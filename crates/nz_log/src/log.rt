@@ -1,5 +1,5 @@
 //! The log of clauses.
-ghost use Rattle.std.specs.Prelude.{◌≡◌, ◌≢◌, ℕ, suc, ◌<◌, ◌∷◌, [], List, length, false, option_copied, option_map, slice_index_or, take, None, All, Some, OnOk, OnErr, IfOk, IsOkAnd, slice_get, unwrap_or};
+ghost use Rattle.std.specs.Prelude.{◌≡◌, ◌≢◌, ℕ, suc, ◌<◌, ◌∷◌, [], List, length, map, false, option_copied, option_map, slice_index_or, take, None, All, Some, OnOk, OnErr, IfOk, IsOkAnd, slice_get, unwrap_or};
 ghost use Rattle.nz_spec.specs.Table.{Node, term_in};
 ghost use Rattle.nz_spec.specs.Gates.{HasBooleanArguments};
 ghost use Rattle.nz_spec.specs.Literal.{once};
@@ -166,6 +166,26 @@ impl Log {
                 sign: literal.sign,
             }),
         }
+    }
+
+    /// The numbers of the atoms of these terms, which join the others where they aren't there.
+    ///
+    /// # Errors
+    ///
+    /// `Memory`. Then at most atoms have joined the others.
+    pub fn term_atoms(&mut self, terms: &[TermId]) -> Result<Vec<AtomId>, Memory>
+        ensures numbers { IfOk result (λ v. v.items ≡ map (term_place self.new.atoms) terms.now) }
+        ensures there { OnOk result (All (HasTerm self.new.atoms) terms.now) }
+        ensures joins { JoinsAtoms self.old self.new }
+        ensures atoms { AreAtoms self.new.atoms }
+    {
+        self.atom_count();
+        let mut atoms = Vec::new(self.alloc());
+        for term in terms {
+            let atom = self.term_atom(*term)?;
+            atoms.push(atom)?;
+        }
+        Ok(atoms)
     }
 
     /// The literals on these terms.
