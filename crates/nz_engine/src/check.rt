@@ -6,7 +6,7 @@ ghost use Rattle.nz_spec.specs.Literal.{AreTrueLiterals};
 ghost use Rattle.nz_spec.specs.Table.{Node, assignment_by, term_in};
 ghost use Rattle.nz_spec.specs.Work.{IsSpent};
 ghost use Rattle.nz_log.specs.declared.term_lits.TermLit.{TermLit};
-ghost use Rattle.nz_log.specs.Atoms.{lits_of};
+ghost use Rattle.nz_log.specs.Atoms.{HasTerm, lits_of};
 ghost use Rattle.nz_log.specs.TermLits.{AreConsistent, AreOfTerms, literal_of};
 ghost use Rattle.nz_log.specs.Verdicts.{OnSpent, task_in};
 ghost use Rattle.nz_cform.specs.Covering.{Covers};
@@ -113,7 +113,7 @@ fn posed(
 /// Values of constants under which what is asserted and the assumed literals are true: the truths that the search found.
 fn model(alloc: Global, terms: &Terms, prepared: &Prepared) -> Result<Assign, Memory>
     requires covers { Covers terms.now prepared.now.log prepared.now.form }
-    ensures model { IfOk result (λ ps. (levels : List (List ℕ)) (assumed : List TermLit) → IsPosed terms.now levels assumed prepared.now → IsSatisfied prepared.now.log prepared.now.sat (lits_of prepared.now.log.atoms assumed) (atoms_of prepared.now) → AreModelValues terms.now (asserted_terms terms.now levels) [] ps × AreTrueLiterals (assignment_by terms.now ps) (map (literal_of terms.now) assumed)) }
+    ensures model { IfOk result (λ ps. (levels : List (List ℕ)) (assumed : List TermLit) → IsPosed terms.now levels assumed prepared.now → All (λ l. HasTerm prepared.now.log.atoms l.term) assumed → IsSatisfied prepared.now.log prepared.now.sat (lits_of prepared.now.log.atoms assumed) (atoms_of prepared.now) → AreModelValues terms.now (asserted_terms terms.now levels) [] ps × AreTrueLiterals (assignment_by terms.now ps) (map (literal_of terms.now) assumed)) }
 {
     one_number();
     term_of_node();

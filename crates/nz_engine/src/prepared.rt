@@ -192,6 +192,7 @@ impl Prepared {
         requires no_steps { work.old.lines ≡ [] }
         ensures posed { OnOk result ((ns : List Node) (levels : List (List ℕ)) → IsPosed ns levels assumed.now self.old → IsPosed ns levels assumed.now self.new) }
         ensures satisfied { IfOk result (λ r. r ≡ None → IsSatisfied self.new.log self.new.sat (lits_of self.new.log.atoms assumed.now) (atoms_of self.new)) }
+        ensures there { OnOk result (HaveAtoms self.new assumed.now) }
         ensures refuted { IfOk result (λ r. IfSome r (λ id. AreNegations assumed.now (literals_in self.new.log id))) }
         ensures works { (ns : List Node) (levels : List (List ℕ)) → IsPosed ns levels assumed.now self.old → Works ns (task_in ns levels assumed.now) work.old work.new }
         ensures spent { IfErr result (λ s. OnSpent s (IsSpent work.new)) }
