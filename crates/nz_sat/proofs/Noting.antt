@@ -33,6 +33,7 @@ use Rattle.nz_sat.specs.Trails.{EachBehind, IsFreeOn, IsFrontOf, IsNext, below, 
 use Rattle.nz_sat.proofs.Advancing.{on_kept}
 use Rattle.nz_sat.proofs.Chains.{has_found}
 use Rattle.nz_sat.proofs.DeadEnds.{clause_true, literals_numbered, none_falsified, recursion_left}
+use Rattle.nz_sat.proofs.LearnedClauses.{all_from}
 use Rattle.nz_sat.proofs.Levels.{below_true, free_high}
 use Rattle.nz_sat.proofs.Marks.{false_entry, level_found, not_itself}
 use Rattle.nz_sat.proofs.Numbering.{unit_noted}
@@ -160,6 +161,10 @@ module _ (log log' : LogState) (held : List Held) (s : state.Search) (work : Wor
 
   pub learned_named : (m : Lit) → Contains lits m → Contains s.atoms m.atom
   learned_named = false_named s.atoms es h.search.on_trail lits h.learned.falsified
+
+  -- each literal of the clause
+  pub lits_named : All (λ (m : Lit). Contains s.atoms m.atom) lits
+  lits_named = all_from (λ (m : Lit). Contains s.atoms m.atom) lits learned_named
 
   pub stays : (over : List Node → Type 0) → StaysInOrder over s.atoms log log'
   stays over = stays_in_order over s.atoms es h.search.on_trail log log' h.sound

@@ -2,9 +2,9 @@
 use Rattle.std.proofs.Common.{◌≡◌, ℕ, true, false, [], List, take, ap, sym, subst, ◌∙◌, rules}
 use Rattle.std.specs.Prelude.{All, Contains, is_none}
 use Rattle.nz_log.specs.declared.lits.Lit.{Lit}
-use Rattle.nz_log.specs.Logs.{literals_at}
+use Rattle.nz_log.specs.Logs.{LogState, literals_at}
 use Rattle.nz_sat.specs.declared.clauses.Held.{Held}
-use Rattle.nz_sat.specs.Sats.{IsTheoryMet, SatState}
+use Rattle.nz_sat.specs.Sats.{AreOn, IsTheoryMet, SatState}
 use Rattle.nz_sat.specs.Searching.{IsNoted, Satisfies}
 use Rattle.nz_sat.specs.Trails.{AreTruthsOn, literals_on}
 use Rattle.nz_sat.proofs.Solving.{first_noted, noted_there, satisfied, stays_legal, stays_sound, theory_met}
@@ -33,6 +33,35 @@ pub run-requires-clause-told : goal.run-requires-clause-told
 run-requires-clause-told g c =
     let told = subst (λ (s : SatState g.row.T.Denot). (ls : List Lit) × g.T.Theory.has_told s.theory ls) (sym c.self.view_is) c.requires.told in
     c.take_back.ensures.told told.0 told.1
+
+-- what is held is over these atoms
+on_atoms : (log log' : LogState) (atoms us : List ℕ) (held held' : List Held) → us ≡ atoms → (AreOn log us held → AreOn log' us held') → AreOn log atoms held → AreOn log' atoms held'
+on_atoms log log' atoms us held held' same on named =
+    subst (λ (vs : List ℕ). AreOn log' vs held') same (on (subst (λ (vs : List ℕ). AreOn log vs held) (sym same) named))
+
+pub returns-in_err-search-clause-named : goal.returns-in_err-search-clause-named
+returns-in_err-search-clause-named g c =
+    subst (λ (s : SatState g.row.T.Denot). AreOn c.args.log.now c.args.atoms.now s.clauses) (sym c.self.view_is) c.requires.named.clauses
+
+pub returns-in_err-refuted-clause-named : goal.returns-in_err-refuted-clause-named
+returns-in_err-refuted-clause-named g c =
+    on_atoms c.args.log.now c.run.new.log c.args.atoms.now c.in_ok-search.search.atoms c.self.inside.clauses.items c.run.new.held.items c.in_ok-search.ensures.atoms
+    c.run.ensures.steps.advances.named (subst (λ (s : SatState g.row.T.Denot). AreOn c.args.log.now c.args.atoms.now s.clauses) (sym c.self.view_is) c.requires.named.clauses)
+
+pub returns-in_err-self-inside-clause-named : goal.returns-in_err-self-inside-clause-named
+returns-in_err-self-inside-clause-named g c =
+    on_atoms c.args.log.now c.run.new.log c.args.atoms.now c.in_ok-search.search.atoms c.self.inside.clauses.items c.run.new.held.items c.in_ok-search.ensures.atoms
+    c.run.ensures.steps.advances.named (subst (λ (s : SatState g.row.T.Denot). AreOn c.args.log.now c.args.atoms.now s.clauses) (sym c.self.view_is) c.requires.named.clauses)
+
+pub returns-clause-named : goal.returns-clause-named
+returns-clause-named g c =
+    let on = on_atoms c.args.log.now c.run.new.log c.args.atoms.now c.in_ok-search.search.atoms c.self.inside.clauses.items c.run.new.held.items c.in_ok-search.ensures.atoms
+    c.run.ensures.steps.advances.named (subst (λ (s : SatState g.row.T.Denot). AreOn c.args.log.now c.args.atoms.now s.clauses) (sym c.self.view_is) c.requires.named.clauses) in
+    let P : SatState g.row.T.Denot → Type 0 = λ t. AreOn c.run.new.log c.args.atoms.now t.clauses in
+    elim c.if-is_none.branch [
+      | then-is_none+in_ok-self-inside w ↦ subst P (sym w.self-is) on
+      | else-is_none w ↦ subst P (sym w.self-is) on
+    ]
 
 pub returns-in_err-refuted-clause-sound : goal.returns-in_err-refuted-clause-sound
 returns-in_err-refuted-clause-sound g c =
