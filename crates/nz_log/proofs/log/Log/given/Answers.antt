@@ -1,12 +1,12 @@
 -- The atom of the term joins, and then the clause is put.
-use Rattle.std.proofs.Common.{◌≡◌, ℕ, List, [], ◌∷◌, ap, sym, subst, ◌∙◌, rules}
-use Rattle.std.specs.Prelude.{IfOk, OnErr}
+use Rattle.std.proofs.Common.{◌≡◌, List, [], ◌∷◌, ap, sym, subst, ◌∙◌, rules}
+use Rattle.std.specs.Prelude.{IfOk}
 use Rattle.nz_spec.specs.Literal.{once}
 use Rattle.nz_log.specs.declared.atoms.Atom.{Atom}
 use Rattle.nz_log.specs.declared.lits.Lit.{Lit}
 use Rattle.nz_log.specs.Atoms.{AreAtoms, HasTerm, lit_of}
 use Rattle.nz_log.specs.Lits.{are_same_lit}
-use Rattle.nz_log.specs.Logs.{assertion_of, given_entry, made_entry, JoinsAtoms, Puts}
+use Rattle.nz_log.specs.Logs.{assertion_of, given_entry, made_entry, Puts}
 use Rattle.nz_log.specs.TermLits.{yes}
 use Rattle.nz_log.proofs.Dropping.{joined_in_order}
 use Rattle.nz_log.proofs.Joining.{err_joins, puts_made}

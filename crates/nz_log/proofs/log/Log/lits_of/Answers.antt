@@ -1,6 +1,5 @@
 -- One literal more.
-use Rattle.std.proofs.Common.{◌≡◌, ◌∷◌, [], ◌++◌, List, get_or, false, rules}
-use Rattle.nz_log.specs.declared.lits.Lit.{Lit}
+use Rattle.std.proofs.Common.{◌≡◌, ◌∷◌, [], ◌++◌, get_or, false, rules}
 use Rattle.nz_log.specs.declared.term_lits.TermLit.{TermLit}
 use Rattle.nz_log.specs.Atoms.{HasTerm, lit_of}
 use Rattle.nz_log.proofs.AtomLiterals.{lits_more}
