@@ -170,11 +170,7 @@ fn a_chain_is_resolved_link_by_link(rt: HostRuntime) -> Result<(), Fail> {
     let (short, long) = chains(rt.alloc(), &mut log, &terms)?;
 
     // Of the clauses `not 3, p, q, r`, `3`, `not 4, not p, q` and `4`. What both have stands where it was, and once.
-    let wanted = [
-        TermLit::holds(1),
-        TermLit::holds(2),
-        TermLit::fails(4),
-    ];
+    let wanted = [TermLit::holds(1), TermLit::holds(2), TermLit::fails(4)];
     assert_eq!(rt; short.literals.as_slice(), wanted.as_slice());
     assert_eq!(rt; short.level, 1);
     assert_eq!(rt; long.literals.as_slice(), &wanted[..2]);
