@@ -1,18 +1,18 @@
 -- What literals say stays when atoms join, and when the table of terms grows.
-use Rattle.std.proofs.Common.{◌≡◌, ℕ, ◌<◌, Bool, true, false, List, [], ◌∷◌, ◌++◌, length, map, Option, Some, None, refl, sym, ap, subst, ◌∙◌, append_assoc, arith}
+use Rattle.std.proofs.Common.{◌≡◌, ℕ, ◌<◌, true, List, [], ◌∷◌, ◌++◌, length, Some, None, refl, sym, ap, subst, ◌∙◌, append_assoc, arith}
 use Rattle.std.specs.Prelude.{slice_get}
 use Rattle.std.specs.List.{AllByRecursion}
 use Rattle.std.proofs.lemmas.List.{length-append}
 use Rattle.nz_spec.specs.Farkas as farkas
 use Rattle.nz_spec.specs.Farkas.{bound_of}
 use Rattle.nz_spec.specs.FormOf.{number_in}
-use Rattle.nz_spec.specs.Literal.{Literal, term_literal}
+use Rattle.nz_spec.specs.Literal.{term_literal}
 use Rattle.nz_spec.specs.Steps.{link_step, unit_step, farkas_step, branch_step, cut_step, step_clause, IsSortedStep}
 use Rattle.nz_spec.specs.Table.{Node, IsTable, TermStays, term_in}
 use Rattle.nz_spec.specs.Term.{sort_of}
 use Rattle.nz_term.specs.Constants as sorts
 use Rattle.nz_lin.specs.declared.form.Part.{Part}
-use Rattle.nz_lin.specs.Bounds.{HasUnits, bounded}
+use Rattle.nz_lin.specs.Bounds.{bounded}
 use Rattle.nz_lin.specs.Forms.{NamesUnit, parts_over}
 use Rattle.nz_log.specs.declared.atoms.Atom.{Atom}
 use Rattle.nz_log.specs.declared.atoms.Atom.TheVariants.{Term, AtMost}

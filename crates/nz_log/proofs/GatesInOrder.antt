@@ -1,5 +1,5 @@
 -- A clause of the gate table is in order.
-use Rattle.std.proofs.Common.{◌≡◌, ℕ, ◌<◌, Bool, true, false, List, [], ◌∷◌, length, map, get_or, Some, None, refl, sym, ap, subst, ◌∙◌, arith}
+use Rattle.std.proofs.Common.{◌≡◌, ℕ, ◌<◌, Bool, true, false, List, [], ◌∷◌, length, get_or, Some, None, refl, sym, ap, subst, ◌∙◌, arith}
 use Rattle.std.specs.Prelude.{All, slice_get, option_map, unwrap_or}
 use Rattle.std.specs.List.{AllByRecursion}
 use Rattle.std.proofs.lemmas.Option.{slice_get-get_or, slice_get-map, unwrap_or-slice_get}
@@ -9,7 +9,6 @@ use Rattle.nz_spec.specs.Literal.{term_literal, clause_of, once, TellsLiterals}
 use Rattle.nz_spec.specs.Gates.{clauses_over, HasBooleanArguments}
 use Rattle.nz_log.specs.declared.atoms.Atom.{Atom}
 use Rattle.nz_log.specs.declared.atoms.Atom.TheVariants.{Term}
-use Rattle.nz_log.specs.declared.lits.Lit.{Lit}
 use Rattle.nz_log.specs.declared.term_lits.TermLit.{TermLit}
 use Rattle.nz_log.specs.Atoms.{AreAtoms, AreWithin, HasTerm, IsLitIn, clause_in, lit_of, literal_in, lits_of, with_sign}
 use Rattle.nz_log.specs.Lits.{are_same_lit}

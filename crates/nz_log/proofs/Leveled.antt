@@ -1,19 +1,18 @@
 -- The level of a clause stays at or above those told of the terms that it names.
 use Rattle.std.proofs.Common.{◌≡◌, ◌≢◌, inl, inr, ℕ, ◌≤◌, max, List, [], ◌∷◌, Option, Some, None, refl, sym, ap, subst, ◌∙◌, arith}
-use Rattle.std.specs.Prelude.{All, Contains, IsSome, IsSomeAnd, slice_get, slice_index_or, unwrap_or, if◌then◌else◌}
+use Rattle.std.specs.Prelude.{Contains, IsSome, IsSomeAnd, slice_get, slice_index_or, unwrap_or, if◌then◌else◌}
 use Rattle.std.specs.List.{AllByRecursion}
 use Rattle.std.proofs.lemmas.Bool.{le-leb}
 use Rattle.std.proofs.lemmas.Bool.Decides.{eqb_tells}
 use Rattle.std.proofs.lemmas.List.Elements.{All-contains, All-contains_itself, All-from_recursion, All-weaker, recursion_from_All}
 use Rattle.nz_lists.proofs.Elements.{AllByRecursion-weaker}
-use Rattle.nz_log.specs.declared.atoms.Atom.{Atom}
 use Rattle.nz_log.specs.declared.atoms.Atom.TheVariants.{Term}
 use Rattle.nz_log.specs.declared.lits.Lit.{Lit}
 use Rattle.nz_log.specs.declared.origins.Link.{Link}
 use Rattle.nz_log.specs.declared.term_lits.TermLit.{TermLit}
 use Rattle.nz_log.specs.Atoms.{HasTerm, Stay, lit_of, lits_of, terms_at, terms_of}
 use Rattle.nz_log.specs.Lits.{are_same_lit, lit_resolvent}
-use Rattle.nz_log.specs.Leveled.{AreTold, AreToldTerms, IsLeveled, IsToldWithin, LogsStayLeveled, Names}
+use Rattle.nz_log.specs.Leveled.{AreTold, IsLeveled, IsToldWithin, LogsStayLeveled, Names}
 use Rattle.nz_log.specs.Logs.{Entry, LogState, axiom_entry, chain_entry, gate_entry, given_entry, entry_at, level_at, literals_at, level_of_links, level_of_terms, level_with, told_of, told_level, told_below, lowest, chained, Puts}
 use Rattle.nz_log.specs.TermLits.{gates_at, yes}
 use Rattle.nz_spec.specs.Literal.{once}

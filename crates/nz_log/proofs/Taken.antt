@@ -1,5 +1,5 @@
 -- The step of a clause that holds by arithmetic alone gives it.
-use Rattle.std.proofs.Common.{◌≡◌, List, [], ◌++◌, Some, refl, sym, subst, ◌∙◌}
+use Rattle.std.proofs.Common.{◌≡◌, List, [], Some, refl, sym, subst, ◌∙◌}
 use Rattle.std.proofs.lemmas.List.{append-nil}
 use Rattle.nz_spec.specs.Form.{Numbering}
 use Rattle.nz_spec.specs.FormOf.{number_in}

@@ -7,7 +7,6 @@ use Rattle.nz_spec.specs.Model.{IsAssignment}
 use Rattle.nz_spec.specs.Decide.{asserted_numbers, with_number}
 use Rattle.nz_spec.specs.Literal.{clause_of, IsClauseTrue}
 use Rattle.nz_spec.specs.Gates.{holds, gate_clauses, HasBooleanArguments}
-use Rattle.nz_log.specs.declared.lits.Lit.{Lit}
 use Rattle.nz_log.specs.declared.origins.Link.{Link}
 use Rattle.nz_log.specs.Atoms.{AreAtoms, AreWithin, IsLitIn, clause_in}
 use Rattle.nz_log.specs.Axioms.{IsAxiom}

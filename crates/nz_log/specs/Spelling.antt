@@ -78,7 +78,7 @@ literal_read ns (Term l) = literal_of ns l
 literal_read ns (AtMost b sign) = with_sign sign (literal_over ns b.now)
 
 abbrev pub multiple_read : List Node → LiteralMultiple → farkas.Multiple
-multiple_read ns m = record { literal = literal_read ns m.literal; multiplier = m.multiplier }
+multiple_read ns m = record { literal = literal_read ns m.literal; multiplier = m.multiplier.now }
 
 abbrev pub multiples_read : List Node → List LiteralMultiple → List farkas.Multiple
 multiples_read ns ms = map (multiple_read ns) ms

@@ -45,7 +45,7 @@ impl Literal<'_> {
 #[derive(Clone, Copy, Debug)]
 pub struct LiteralMultiple<'a> {
     pub literal: Literal<'a>,
-    pub multiplier: Frac,
+    pub multiplier: &'a Frac,
 }
 
 /// A step of a derivation. Steps are numbered from 0.
@@ -146,7 +146,7 @@ fn spell<'a>(
     steps: &mut Vec<Step<'a>>,
     log: &'a Log,
     places: &[usize],
-    origin: &Origin,
+    origin: &'a Origin,
 ) -> Result<usize, Memory>
     requires within { IsWithin (length places.now) (origin_of origin.now) }
     ensures spelled { OnOk result ((ns : List Node) → steps_of ns steps.new.items ≡ steps_of ns steps.old.items ++ origin_steps ns log.now.atoms places.now (length steps.old.items) (origin_of origin.now)) }
@@ -171,7 +171,7 @@ fn spell<'a>(
 }
 
 /// The step of a clause that holds by arithmetic alone.
-fn axiom_step<'a>(log: &'a Log, made: &Axiom) -> Result<Step<'a>, Memory>
+fn axiom_step<'a>(log: &'a Log, made: &'a Axiom) -> Result<Step<'a>, Memory>
     ensures step { IfOk result (λ s. (ns : List Node) → step_of ns s ≡ axiom_step ns log.now.atoms (axiom_in made.now)) }
 {
     match made {
@@ -195,14 +195,14 @@ fn axiom_step<'a>(log: &'a Log, made: &Axiom) -> Result<Step<'a>, Memory>
 fn read_multiples<'a>(
     read: &mut Vec<LiteralMultiple<'a>>,
     log: &'a Log,
-    multiples: &[Multiple],
+    multiples: &'a [Multiple],
 ) -> Result<(), Memory>
     ensures multiples { OnOk result ((ns : List Node) → multiples_read ns read.new.items ≡ multiples_read ns read.old.items ++ multiples_in ns log.now.atoms multiples.now) }
 {
     for multiple in multiples {
         read.push(LiteralMultiple {
             literal: log.literal(multiple.literal),
-            multiplier: multiple.multiplier,
+            multiplier: &multiple.multiplier,
         })?;
     }
     Ok(())

@@ -1,22 +1,27 @@
 //! The clauses of the link table, against all small assignments.
-use crate::terms::{MOST, constant, numeral, over};
+use crate::terms::MOST;
 use crate::values::{Values, are_true};
 use nz_base::Memory;
 use nz_frac::{Frac, Op};
 use nz_lin::LinStop;
 use nz_log::{ClauseId, Log, link_count};
 use nz_term::{NumberSort, Operator, Sort, TermId, Terms, add_companions};
+use nz_term_samples::{constant, numeral, operation};
 use std::alloc::Global;
 use std::test::Fail;
 
-/// All clauses of a comparison.
+/// All clauses of a term, where it is linear. The companions that the clauses name join the table.
 fn links(
     alloc: Global,
     log: &mut Log,
-    terms: &Terms,
+    terms: &mut Terms,
     term: TermId,
 ) -> Result<Vec<ClauseId>, LinStop> {
+    add_companions(alloc, terms, 0)?;
     let mut clauses = Vec::new(alloc);
+    if terms.len() <= term || !terms.is_linear(term) {
+        return Ok(clauses);
+    }
     for j in 0..link_count(terms, term) {
         clauses.push(log.link(terms, term, j)?)?;
     }
@@ -26,11 +31,11 @@ fn links(
 /// The clauses of a comparison of two integers are true just where it has its truth.
 fn agree(alloc: Global, operator: Operator, holds: fn(i64, i64) -> bool) -> Result<bool, Fail> {
     let mut terms = Terms::new(alloc)?;
-    let x = constant(&mut terms, alloc, b"x", Sort::Int)?;
-    let y = constant(&mut terms, alloc, b"y", Sort::Int)?;
-    let term = over(&mut terms, operator, &[x, y])?;
+    let x = constant(alloc, &mut terms, b"x", Sort::Int)?;
+    let y = constant(alloc, &mut terms, b"y", Sort::Int)?;
+    let term = operation(&mut terms, operator, &[x, y])?;
     let mut log = Log::new(alloc)?;
-    let clauses = links(alloc, &mut log, &terms, term)?;
+    let clauses = links(alloc, &mut log, &mut terms, term)?;
     let mut agree = clauses.len() >= 2;
     for a in -1..2 {
         for b in -1..2 {
@@ -82,25 +87,24 @@ fn rounds(
 fn a_test_of_rounding_is_tied_to_bounds(rt: HostRuntime) -> Result<(), Fail> {
     let alloc = rt.alloc();
     let mut terms = Terms::new(alloc)?;
-    let r = constant(&mut terms, alloc, b"r", Sort::Real)?;
-    let test = over(&mut terms, Operator::IsInt, &[r])?;
-    add_companions(alloc, &mut terms, 0)?;
-    let rounded = over(&mut terms, Operator::ToInt, &[r])?;
+    let r = constant(alloc, &mut terms, b"r", Sort::Real)?;
+    let test = operation(&mut terms, Operator::IsInt, &[r])?;
+    let rounded = operation(&mut terms, Operator::ToInt, &[r])?;
     let mut log = Log::new(alloc)?;
-    let clauses = links(alloc, &mut log, &terms, test)?;
+    let clauses = links(alloc, &mut log, &mut terms, test)?;
     assert!(rt; rounds(&log, &clauses, test, r, rounded)?);
     Ok(())
 }
 
 /// `(< (* M x) (* -1 x))`, whose difference has a coefficient that leaves the numbers.
 fn wide(terms: &mut Terms, alloc: Global) -> Result<TermId, Memory> {
-    let x = constant(terms, alloc, b"x", Sort::Int)?;
+    let x = constant(alloc, terms, b"x", Sort::Int)?;
     let most = numeral(terms, MOST)?;
     let one = numeral(terms, 1)?;
-    let less = over(terms, Operator::Difference(NumberSort::Int), &[one])?;
-    let left = over(terms, Operator::Product(NumberSort::Int), &[most, x])?;
-    let right = over(terms, Operator::Product(NumberSort::Int), &[less, x])?;
-    over(terms, Operator::Less, &[left, right])
+    let less = operation(terms, Operator::Difference(NumberSort::Int), &[one])?;
+    let left = operation(terms, Operator::Product(NumberSort::Int), &[most, x])?;
+    let right = operation(terms, Operator::Product(NumberSort::Int), &[less, x])?;
+    operation(terms, Operator::Less, &[left, right])
 }
 
 #[test]
@@ -109,7 +113,7 @@ fn a_wide_link_is_named(rt: HostRuntime) -> Result<(), Fail> {
     let mut terms = Terms::new(alloc)?;
     let term = wide(&mut terms, alloc)?;
     let mut log = Log::new(alloc)?;
-    match log.link(&terms, term, 0) {
+    match links(alloc, &mut log, &mut terms, term) {
         Err(LinStop::Wide(wide)) => {
             assert!(rt; wide.op == Op::Sub);
             assert_eq!(rt; wide.a.num(), MOST as i128);

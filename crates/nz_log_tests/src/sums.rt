@@ -1,9 +1,10 @@
 //! Clauses by sums of bounds: contradictions, branches and cuts.
-use crate::terms::{MOST, constant, numeral, over};
+use crate::terms::{MOST, form};
 use nz_frac::{Frac, Op};
-use nz_lin::{Bound, LinStop, lin};
+use nz_lin::{Bound, LinStop};
 use nz_log::{Lit, Log, Multiple, Step};
 use nz_term::{NumberSort, Operator, Sort, TermId, Terms};
+use nz_term_samples::{constant, numeral, operation};
 use std::alloc::Global;
 use std::test::Fail;
 
@@ -17,13 +18,13 @@ fn sum(
 ) -> Result<TermId, Fail> {
     let factor = numeral(terms, factor)?;
     let number = numeral(terms, number)?;
-    let times = over(terms, Operator::Product(NumberSort::Int), &[factor, x])?;
-    Ok(over(terms, Operator::Sum(NumberSort::Int), &[times, y, number])?)
+    let times = operation(terms, Operator::Product(NumberSort::Int), &[factor, x])?;
+    Ok(operation(terms, Operator::Sum(NumberSort::Int), &[times, y, number])?)
 }
 
 /// The literal that a term is at most 0.
 fn at_most_zero(alloc: Global, log: &mut Log, terms: &Terms, term: TermId) -> Result<Lit, LinStop> {
-    let form = lin(alloc, terms, term)?;
+    let form = form(alloc, terms, term)?;
     Ok(log.bound_literal(Bound::at_most_zero(form))?)
 }
 
@@ -39,10 +40,10 @@ fn times(literal: Lit, multiplier: i64) -> Multiple {
 fn a_bound_and_its_negation_have_one_atom(rt: HostRuntime) -> Result<(), Fail> {
     let alloc = rt.alloc();
     let mut terms = Terms::new(alloc)?;
-    let x = constant(&mut terms, alloc, b"x", Sort::Int)?;
+    let x = constant(alloc, &mut terms, b"x", Sort::Int)?;
     let mut log = Log::new(alloc)?;
     let at_most = at_most_zero(alloc, &mut log, &terms, x)?;
-    let above = Bound::at_most_zero(lin(alloc, &terms, x)?).not(alloc)?;
+    let above = Bound::at_most_zero(form(alloc, &terms, x)?).not(alloc)?;
     let other = log.bound_literal(above)?;
     assert!(rt; other.is(at_most.not()));
     assert_eq!(rt; log.atom_count(), 1);
@@ -53,8 +54,8 @@ fn a_bound_and_its_negation_have_one_atom(rt: HostRuntime) -> Result<(), Fail> {
 fn bounds_with_a_false_sum_are_refuted(rt: HostRuntime) -> Result<(), Fail> {
     let alloc = rt.alloc();
     let mut terms = Terms::new(alloc)?;
-    let x = constant(&mut terms, alloc, b"x", Sort::Int)?;
-    let y = constant(&mut terms, alloc, b"y", Sort::Int)?;
+    let x = constant(alloc, &mut terms, b"x", Sort::Int)?;
+    let y = constant(alloc, &mut terms, b"y", Sort::Int)?;
     let low = sum(&mut terms, x, y, 1, 1)?;
     let twice = sum(&mut terms, x, y, 1, 0)?;
     let mut log = Log::new(alloc)?;
@@ -74,8 +75,8 @@ fn bounds_with_a_false_sum_are_refuted(rt: HostRuntime) -> Result<(), Fail> {
 fn a_wide_sum_is_named(rt: HostRuntime) -> Result<(), Fail> {
     let alloc = rt.alloc();
     let mut terms = Terms::new(alloc)?;
-    let x = constant(&mut terms, alloc, b"x", Sort::Int)?;
-    let y = constant(&mut terms, alloc, b"y", Sort::Int)?;
+    let x = constant(alloc, &mut terms, b"x", Sort::Int)?;
+    let y = constant(alloc, &mut terms, b"y", Sort::Int)?;
     let much = sum(&mut terms, x, y, MOST, 1)?;
     let mut log = Log::new(alloc)?;
     let first = at_most_zero(alloc, &mut log, &terms, much)?;
@@ -94,12 +95,12 @@ fn a_wide_sum_is_named(rt: HostRuntime) -> Result<(), Fail> {
 fn a_branch_is_on_an_integer(rt: HostRuntime) -> Result<(), Fail> {
     let alloc = rt.alloc();
     let mut terms = Terms::new(alloc)?;
-    let x = constant(&mut terms, alloc, b"x", Sort::Int)?;
-    let y = constant(&mut terms, alloc, b"y", Sort::Int)?;
+    let x = constant(alloc, &mut terms, b"x", Sort::Int)?;
+    let y = constant(alloc, &mut terms, b"y", Sort::Int)?;
     let low = sum(&mut terms, x, y, 2, 3)?;
     let mut log = Log::new(alloc)?;
     // `2x + y <= -3`, or `2x + y >= -2`.
-    let clause = log.branch(Bound::at_most_zero(lin(alloc, &terms, low)?))?;
+    let clause = log.branch(Bound::at_most_zero(form(alloc, &terms, low)?))?;
     let literals = log.clause(clause);
     assert_eq!(rt; literals.len(), 2);
     assert!(rt;
@@ -115,8 +116,8 @@ fn a_branch_is_on_an_integer(rt: HostRuntime) -> Result<(), Fail> {
 fn a_wide_branch_is_named(rt: HostRuntime) -> Result<(), Fail> {
     let alloc = rt.alloc();
     let mut terms = Terms::new(alloc)?;
-    let x = constant(&mut terms, alloc, b"x", Sort::Int)?;
-    let most = Bound::at_most_zero(lin(alloc, &terms, x)?).with_limit(Frac::integer(MOST as i128));
+    let x = constant(alloc, &mut terms, b"x", Sort::Int)?;
+    let most = Bound::at_most_zero(form(alloc, &terms, x)?).with_limit(Frac::integer(MOST as i128));
     let mut log = Log::new(alloc)?;
     match log.branch(most) {
         Err(LinStop::Wide(wide)) => {
@@ -133,13 +134,13 @@ fn a_wide_branch_is_named(rt: HostRuntime) -> Result<(), Fail> {
 fn a_cut_is_rounded(rt: HostRuntime) -> Result<(), Fail> {
     let alloc = rt.alloc();
     let mut terms = Terms::new(alloc)?;
-    let x = constant(&mut terms, alloc, b"x", Sort::Int)?;
-    let y = constant(&mut terms, alloc, b"y", Sort::Int)?;
+    let x = constant(alloc, &mut terms, b"x", Sort::Int)?;
+    let y = constant(alloc, &mut terms, b"y", Sort::Int)?;
     let low = sum(&mut terms, x, y, 1, 1)?;
     let mut log = Log::new(alloc)?;
     let first = at_most_zero(alloc, &mut log, &terms, low)?;
     // Half of `2x + 2y <= -1`, if that were a literal: `x + y <= -1/2`, and so at most -1.
-    let bound = Bound::at_most_zero(lin(alloc, &terms, low)?).scaled(alloc, Frac::whole(2))?;
+    let bound = Bound::at_most_zero(form(alloc, &terms, low)?).scaled(alloc, Frac::whole(2))?;
     let doubled = log.bound_literal(bound.with_limit(Frac::whole(-1)))?;
     let half = Multiple {
         literal: doubled,
@@ -154,8 +155,10 @@ fn a_cut_is_rounded(rt: HostRuntime) -> Result<(), Fail> {
 fn a_wide_cut_is_named(rt: HostRuntime) -> Result<(), Fail> {
     let alloc = rt.alloc();
     let mut terms = Terms::new(alloc)?;
-    let x = constant(&mut terms, alloc, b"x", Sort::Int)?;
-    let least = Bound::at_most_zero(lin(alloc, &terms, x)?).with_limit(Frac::integer(MOST as i128));
+    let x = constant(alloc, &mut terms, b"x", Sort::Int)?;
+    let least = Bound::at_most_zero(form(alloc, &terms, x)?).with_limit(Frac::integer(
+        MOST as i128,
+    ));
     let mut log = Log::new(alloc)?;
     // It is below its least number, so at most one less.
     let above = log.bound_literal(least)?.not();

@@ -1,22 +1,27 @@
 //! The clauses of the unit table, against all small assignments.
-use crate::terms::{MOST, constant, numeral, over};
+use crate::terms::MOST;
 use crate::values::{Values, are_true};
 use nz_base::Memory;
 use nz_frac::{Frac, Op};
 use nz_lin::LinStop;
 use nz_log::{ClauseId, Log, unit_count};
 use nz_term::{NumberSort, Operator, Sort, TermId, Terms, add_companions};
+use nz_term_samples::{constant, numeral, operation};
 use std::alloc::Global;
 use std::test::Fail;
 
-/// All clauses of a unit.
+/// All clauses of a unit, where it is linear. The companions that the clauses name join the table.
 fn units(
     alloc: Global,
     log: &mut Log,
-    terms: &Terms,
+    terms: &mut Terms,
     term: TermId,
 ) -> Result<Vec<ClauseId>, LinStop> {
+    add_companions(alloc, terms, 0)?;
     let mut clauses = Vec::new(alloc);
+    if terms.len() <= term || !terms.is_linear(term) {
+        return Ok(clauses);
+    }
     for j in 0..unit_count(terms, term) {
         clauses.push(log.unit_axiom(terms, term, j)?)?;
     }
@@ -31,20 +36,19 @@ fn divides(
     value: fn(i64, i64) -> i64,
 ) -> Result<bool, Fail> {
     let mut terms = Terms::new(alloc)?;
-    let x = constant(&mut terms, alloc, b"x", Sort::Int)?;
+    let x = constant(alloc, &mut terms, b"x", Sort::Int)?;
     let mut divisor = numeral(&mut terms, 3)?;
     if negative {
-        divisor = over(
+        divisor = operation(
             &mut terms,
             Operator::Difference(NumberSort::Int),
             &[divisor],
         )?;
     }
-    let unit = over(&mut terms, operator, &[x, divisor])?;
-    add_companions(alloc, &mut terms, 0)?;
-    let quotient = over(&mut terms, Operator::Div, &[x, divisor])?;
+    let unit = operation(&mut terms, operator, &[x, divisor])?;
+    let quotient = operation(&mut terms, Operator::Div, &[x, divisor])?;
     let mut log = Log::new(alloc)?;
-    let clauses = units(alloc, &mut log, &terms, unit)?;
+    let clauses = units(alloc, &mut log, &mut terms, unit)?;
     let by: i64 = if negative { -3 } else { 3 };
     let mut agree = clauses.len() >= 2;
     for a in -7i64..8 {
@@ -88,10 +92,10 @@ fn quotients_and_remainders_are_bounded(rt: HostRuntime) -> Result<(), Fail> {
 fn a_size_is_bounded(rt: HostRuntime) -> Result<(), Fail> {
     let alloc = rt.alloc();
     let mut terms = Terms::new(alloc)?;
-    let x = constant(&mut terms, alloc, b"x", Sort::Int)?;
-    let unit = over(&mut terms, Operator::Abs, &[x])?;
+    let x = constant(alloc, &mut terms, b"x", Sort::Int)?;
+    let unit = operation(&mut terms, Operator::Abs, &[x])?;
     let mut log = Log::new(alloc)?;
-    let clauses = units(alloc, &mut log, &terms, unit)?;
+    let clauses = units(alloc, &mut log, &mut terms, unit)?;
     assert_eq!(rt; clauses.len(), 3);
     for a in -2i64..3 {
         for b in -3i64..4 {
@@ -109,12 +113,12 @@ fn a_size_is_bounded(rt: HostRuntime) -> Result<(), Fail> {
 fn a_choice_is_one_of_its_branches(rt: HostRuntime) -> Result<(), Fail> {
     let alloc = rt.alloc();
     let mut terms = Terms::new(alloc)?;
-    let c = constant(&mut terms, alloc, b"c", Sort::Bool)?;
-    let x = constant(&mut terms, alloc, b"x", Sort::Int)?;
-    let y = constant(&mut terms, alloc, b"y", Sort::Int)?;
-    let unit = over(&mut terms, Operator::Ite(Sort::Int), &[c, x, y])?;
+    let c = constant(alloc, &mut terms, b"c", Sort::Bool)?;
+    let x = constant(alloc, &mut terms, b"x", Sort::Int)?;
+    let y = constant(alloc, &mut terms, b"y", Sort::Int)?;
+    let unit = operation(&mut terms, Operator::Ite(Sort::Int), &[c, x, y])?;
     let mut log = Log::new(alloc)?;
-    let clauses = units(alloc, &mut log, &terms, unit)?;
+    let clauses = units(alloc, &mut log, &mut terms, unit)?;
     assert_eq!(rt; clauses.len(), 4);
     for truth in [false, true] {
         for b in -1..3 {
@@ -137,10 +141,10 @@ fn a_choice_is_one_of_its_branches(rt: HostRuntime) -> Result<(), Fail> {
 fn a_rounded_number_is_bounded(rt: HostRuntime) -> Result<(), Fail> {
     let alloc = rt.alloc();
     let mut terms = Terms::new(alloc)?;
-    let r = constant(&mut terms, alloc, b"r", Sort::Real)?;
-    let unit = over(&mut terms, Operator::ToInt, &[r])?;
+    let r = constant(alloc, &mut terms, b"r", Sort::Real)?;
+    let unit = operation(&mut terms, Operator::ToInt, &[r])?;
     let mut log = Log::new(alloc)?;
-    let clauses = units(alloc, &mut log, &terms, unit)?;
+    let clauses = units(alloc, &mut log, &mut terms, unit)?;
     assert_eq!(rt; clauses.len(), 2);
     for halves in -4..5 {
         let Some(number) = Frac::of(halves, 2) else {
@@ -162,11 +166,11 @@ fn a_rounded_number_is_bounded(rt: HostRuntime) -> Result<(), Fail> {
 
 /// `(abs (+ (* M x) x))`, in whose argument a coefficient leaves the numbers.
 fn wide(terms: &mut Terms, alloc: Global) -> Result<TermId, Memory> {
-    let x = constant(terms, alloc, b"x", Sort::Int)?;
+    let x = constant(alloc, terms, b"x", Sort::Int)?;
     let most = numeral(terms, MOST)?;
-    let times = over(terms, Operator::Product(NumberSort::Int), &[most, x])?;
-    let sum = over(terms, Operator::Sum(NumberSort::Int), &[times, x])?;
-    over(terms, Operator::Abs, &[sum])
+    let times = operation(terms, Operator::Product(NumberSort::Int), &[most, x])?;
+    let sum = operation(terms, Operator::Sum(NumberSort::Int), &[times, x])?;
+    operation(terms, Operator::Abs, &[sum])
 }
 
 #[test]
@@ -175,7 +179,7 @@ fn a_wide_unit_is_named(rt: HostRuntime) -> Result<(), Fail> {
     let mut terms = Terms::new(alloc)?;
     let unit = wide(&mut terms, alloc)?;
     let mut log = Log::new(alloc)?;
-    match log.unit_axiom(&terms, unit, 1) {
+    match units(alloc, &mut log, &mut terms, unit) {
         Err(LinStop::Wide(wide)) => {
             assert!(rt; wide.op == Op::Add);
             assert_eq!(rt; wide.a.num(), MOST as i128);

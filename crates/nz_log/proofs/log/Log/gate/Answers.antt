@@ -1,13 +1,13 @@
 -- The atoms of the clause's terms join, and then the clause is put.
-use Rattle.std.proofs.Common.{◌≡◌, ℕ, List, [], All, Option, Some, ap, sym, subst, ◌∙◌, rules}
-use Rattle.std.specs.Prelude.{IfOk, OnErr, slice_get, unwrap_or}
+use Rattle.std.proofs.Common.{◌≡◌, List, [], All, ap, sym, subst, ◌∙◌, rules}
+use Rattle.std.specs.Prelude.{IfOk, slice_get, unwrap_or}
 use Rattle.nz_spec.specs.Literal.{once}
 use Rattle.nz_log.specs.declared.atoms.Atom.{Atom}
 use Rattle.nz_log.specs.declared.lits.Lit.{Lit}
 use Rattle.nz_log.specs.declared.term_lits.TermLit.{TermLit}
 use Rattle.nz_log.specs.Atoms.{AreAtoms, HasTerm, lits_of}
 use Rattle.nz_log.specs.Lits.{are_same_lit}
-use Rattle.nz_log.specs.Logs.{gate_entry, gate_of, made_entry, JoinsAtoms, Puts}
+use Rattle.nz_log.specs.Logs.{gate_entry, gate_of, made_entry, Puts}
 use Rattle.nz_log.specs.TermLits.{gates_at}
 use Rattle.nz_log.proofs.Dropping.{joined_in_order}
 use Rattle.nz_log.proofs.GatesInOrder.{gate_in_order}

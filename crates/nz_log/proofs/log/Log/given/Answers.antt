@@ -1,12 +1,12 @@
 -- The atom of the term joins, and then the clause is put.
-use Rattle.std.proofs.Common.{◌≡◌, ℕ, List, [], ◌∷◌, ap, sym, subst, ◌∙◌, rules}
-use Rattle.std.specs.Prelude.{IfOk, OnErr}
+use Rattle.std.proofs.Common.{◌≡◌, List, [], ◌∷◌, ap, sym, subst, ◌∙◌, rules}
+use Rattle.std.specs.Prelude.{IfOk}
 use Rattle.nz_spec.specs.Literal.{once}
 use Rattle.nz_log.specs.declared.atoms.Atom.{Atom}
 use Rattle.nz_log.specs.declared.lits.Lit.{Lit}
 use Rattle.nz_log.specs.Atoms.{AreAtoms, HasTerm, lit_of}
 use Rattle.nz_log.specs.Lits.{are_same_lit}
-use Rattle.nz_log.specs.Logs.{assertion_of, given_entry, made_entry, JoinsAtoms, Puts}
+use Rattle.nz_log.specs.Logs.{assertion_of, given_entry, made_entry, Puts}
 use Rattle.nz_log.specs.TermLits.{yes}
 use Rattle.nz_log.proofs.Dropping.{joined_in_order}
 use Rattle.nz_log.proofs.Joining.{err_joins, puts_made}
@@ -41,7 +41,7 @@ returns-clause-sound c ns levels within live order =
     let atoms = subst AreAtoms (sym c.put_leaf.ensures.atoms) c.term_lit.ensures.atoms in
     rule_in_order s r e c.put_leaf.result (put_entry (goal.at.returns-clause-sound c).After-put_leaf)
     (err_joins s c.term_lit.new.self r c.put_leaf.result c.term_lit.ensures.joins c.put_leaf.ensures.unchanged) atoms ns levels
-    (λ id above. given_in_order ns levels (record s { atoms = r.atoms }) id c.args.k c.args.term c.args.level _ (level_grows r c.args.level _) within has live) order
+    (λ id above. given_in_order ns levels (record s { atoms = r.atoms }) id c.args.k c.args.term c.args.level _ (level_grows r c.args.level (lit_of r.atoms (yes c.args.term) ∷ [])) within has live) order
 
 pub returns-in_err-literal-clause-sound : goal.returns-in_err-literal-clause-sound
 returns-in_err-literal-clause-sound c ns levels within live order =

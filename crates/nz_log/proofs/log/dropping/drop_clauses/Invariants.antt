@@ -2,7 +2,7 @@ use Rattle.std.proofs.Common.{◌≡◌, ℕ, ◌<◌, ◌≤◌, get_or, None}
 use Rattle.std.specs.Prelude.{option_map}
 use Rattle.nz_log.specs.Logs.{kept_below}
 use Rattle.nz_log.specs.Stored.{entry_of}
-use Rattle.nz_log.proofs.log.drop_clauses.Given as goal
+use Rattle.nz_log.proofs.log.dropping.drop_clauses.Given as goal
 
 -- what is behind is done, and what is ahead is as it was
 abbrev pub invariant-loop-slot : goal.invariant-loop-slot

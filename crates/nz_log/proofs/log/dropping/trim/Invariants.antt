@@ -1,5 +1,5 @@
 use Rattle.std.proofs.Common.{◌≡◌, ℕ, ◌≤◌, get_or, None, vec_len}
-use Rattle.nz_log.proofs.log.trim.Given as goal
+use Rattle.nz_log.proofs.log.dropping.trim.Given as goal
 
 -- behind what is kept there are gaps alone
 abbrev pub invariant-loop-kept : goal.invariant-loop-kept

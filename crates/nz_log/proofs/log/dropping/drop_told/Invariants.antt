@@ -1,6 +1,6 @@
 use Rattle.std.proofs.Common.{◌≡◌, ℕ, ◌<◌, ◌≤◌, get_or, None}
 use Rattle.nz_log.specs.Logs.{told_below}
-use Rattle.nz_log.proofs.log.drop_told.Given as goal
+use Rattle.nz_log.proofs.log.dropping.drop_told.Given as goal
 
 -- what is behind is done, and what is ahead is as it was
 abbrev pub invariant-loop-slot : goal.invariant-loop-slot
