@@ -11,10 +11,10 @@ loop-term-preserved c =
     let x = get_or c.args.terms.now i 0 in
     let old = c.loop-term.self in
     let new = c.term_atom.new.self in
-    let pushed : c.push.new.atoms.items ≡ c.loop-term.atoms.items ++ term_place new.atoms x ∷ [] = search rules in
+    let pushed : c.push.new.self.items ≡ c.loop-term.atoms.items ++ term_place new.atoms x ∷ [] = search rules in
     let own : HasTerm new.atoms x = search rules in
     let more = places_more old.atoms new.atoms c.term_atom.ensures.joins.atoms c.args.terms.now i 0 c.loop-term-test.true c.loop-term.invariant.there own
-    c.loop-term.atoms.items c.push.new.atoms.items c.loop-term.invariant.so_far pushed in
+    c.loop-term.atoms.items c.push.new.self.items c.loop-term.invariant.so_far pushed in
     record {
       so_far = more.0;
       there = more.1;
