@@ -71,6 +71,15 @@ same_terms atoms t u has_t has_u same =
 truth_there : (p : PreparedState) (t : ℕ) → HasTerm p.log.atoms t → truth_in p t ≡ truth_of p.sat (term_place p.log.atoms t)
 truth_there p t has = ap (λ (o : Option Atom). elim o [ None ↦ None | Some a ↦ truth_of p.sat (term_place p.log.atoms t) ]) has
 
+-- and that of one whose atom isn't there
+pub truth_missing : (own : AtomsOfTerms) (p : PreparedState) (t : ℕ) → ((i : ℕ) → slice_get p.log.atoms i ≡ Some (Term t) → ⊥) → truth_in p t ≡ None
+truth_missing own p t missing =
+    let place = term_place p.log.atoms t in
+    elim (slice_get p.log.atoms place) as (λ o. slice_get p.log.atoms place ≡ o → elim o [ None ↦ None | Some a ↦ truth_of p.sat place ] ≡ None) [
+      | None ↦ λ at. refl
+      | Some a ↦ λ at. absurd (missing place (at ∙ ap Some (own.only p.log.atoms t a at)))
+    ] refl
+
 -- the atoms of terms that are noted are these terms'
 noted_in : (atoms : List Atom) (ts : List ℕ) → All (HasTerm atoms) ts → map (slice_get atoms) (map (term_place atoms) ts) ≡ map (λ (t : ℕ). Some (Term t)) ts
 noted_in atoms [] has = refl

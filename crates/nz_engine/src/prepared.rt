@@ -287,6 +287,7 @@ fn note_atoms(atoms: &[TermId], work: &mut Work<Note>) -> Result<(), Memory>
 fn truth(prepared: &Prepared, term: TermId) -> Option<bool>
     ensures truth { result ≡ truth_in prepared.now term }
 {
+    atoms_of_terms();
     let atom = prepared.log.find_term(term)?;
     prepared.sat.truth(Lit { atom, sign: true })
 }

@@ -1,11 +1,11 @@
 -- The atoms are noted and named, and the search runs over them.
-use Rattle.std.proofs.Common.{◌≡◌, ℕ, List, None, IfOk, OnOk, refl, sym, ap, ◌∙◌, subst}
+use Rattle.std.proofs.Common.{◌≡◌, ℕ, List, map, None, IfOk, OnOk, refl, sym, ap, ◌∙◌, subst}
 use Rattle.std.specs.Prelude.{◌↔◌, Contains, IsSome, IfSome}
 use Rattle.nz_lists.proofs.Results.{on_ok}
 use Rattle.nz_spec.specs.Table.{Node}
 use Rattle.nz_spec.specs.Work.{unit_count}
 use Rattle.nz_log.specs.declared.lits.Lit.{Lit}
-use Rattle.nz_log.specs.Atoms.{lits_of}
+use Rattle.nz_log.specs.Atoms.{term_place}
 use Rattle.nz_log.specs.Logs.{IsLive, literals_at}
 use Rattle.nz_cform.specs.Forms.{covered_at}
 use Rattle.nz_sat.specs.Conflicts.{Refutes}
@@ -177,5 +177,5 @@ returns-clause-works c = λ ns levels posed.
     (λ ns' levels' q asked legal.
     c.solve.ensures.legal ns' levels' q tt
     (subst (λ (us : List ℕ). IsAsked ns' levels' mid.log us c.deref-2.result.now q) (sym named.ids_of)
-    (subst (λ (ls : List Lit). IsAsked ns' levels' mid.log _ ls q) (sym named.lits_on) asked)) legal)
+    (subst (λ (ls : List Lit). IsAsked ns' levels' mid.log (map (term_place mid.log.atoms) ts) ls q) (sym named.lits_on) asked)) legal)
     c.solve.ensures.notes c.solve.ensures.limit
