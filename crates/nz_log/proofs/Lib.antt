@@ -4,9 +4,11 @@ pub mod AtomLiterals
 pub mod AtomTables
 pub mod Axiomatic
 pub mod Chaining
+pub mod Comparing
 pub mod Dropping
 pub mod Entries
 pub mod Extending
+pub mod Formed
 pub mod GatesInOrder
 pub mod Gathering
 pub mod Growing
@@ -30,3 +32,4 @@ pub mod Summing
 pub mod Tabling
 pub mod Taken
 pub mod Truths
+pub mod UnitLinking

@@ -3,6 +3,7 @@
 #![tactic(auto)]
 
 mod atoms;
+mod axioms;
 mod bounds;
 mod climb;
 mod decide;

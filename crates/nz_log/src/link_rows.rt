@@ -5,7 +5,7 @@ ghost use Rattle.nz_spec.specs.Linear.{is_linear};
 ghost use Rattle.nz_spec.specs.Links.{link_clauses, links_over};
 ghost use Rattle.nz_spec.specs.Order.{HasCompanions, IsInTable};
 ghost use Rattle.nz_spec.specs.Table.{term_in, terms_at};
-ghost use Rattle.nz_spec.specs.Term.{apply, at_most, is_int, less, no_terms, terms, to_int};
+ghost use Rattle.nz_spec.specs.Term.{apply, at_most, is_int, less, to_int};
 ghost use Rattle.nz_term.specs.Heads.{head_of};
 ghost use Rattle.nz_log.specs.Comparisons.{IsComparison, number_rows};
 ghost use Rattle.nz_log.specs.Rows.{IsLinearIn, IsRowAt, link_rows};
@@ -32,7 +32,7 @@ pub fn link_count(terms: &Terms, term: TermId) -> usize
     requires within { term < length terms.now }
     ensures count { result ≡ length (link_clauses (number_in terms.now) (term_in terms.now term)) }
 {
-    match comparison(terms, term) {
+    match compared(terms, term) {
         Some(Comparison::Less(_, _)) => 2,
         Some(Comparison::AtMost(_, _)) => 2,
         Some(Comparison::Equal(_, _)) => 3,
@@ -48,7 +48,7 @@ pub(crate) fn link_row(alloc: Global, terms: &Terms, term: TermId, j: usize) -> 
     requires companions { HasCompanions terms.now }
     ensures row { IsRowAt terms.now (link_rows terms.now (term_in terms.now term)) j result }
 {
-    match comparison(terms, term) {
+    match compared(terms, term) {
         Some(Comparison::Less(left, right)) => less_row(alloc, terms, term, left, right, j),
         Some(Comparison::AtMost(left, right)) => at_most_row(alloc, terms, term, left, right, j),
         Some(Comparison::Equal(left, right)) => numbers_row(alloc, terms, term, left, right, j),
@@ -58,7 +58,7 @@ pub(crate) fn link_row(alloc: Global, terms: &Terms, term: TermId, j: usize) -> 
 }
 
 /// The comparison of numbers that a term is, if it is one.
-fn comparison(terms: &Terms, term: TermId) -> Option<Comparison>
+fn compared(terms: &Terms, term: TermId) -> Option<Comparison>
     requires within { term < length terms.now }
     ensures compares { IsComparison terms.now (term_in terms.now term) result }
 {
@@ -190,7 +190,7 @@ fn numbers_row(
 fn is_int_row(alloc: Global, terms: &Terms, term: TermId, argument: TermId, j: usize) -> Row
     requires term { term < length terms.now }
     requires argument { IsLinearIn terms.now argument }
-    requires rounded { IsInTable terms.now (apply to_int (terms (term_in terms.now argument) no_terms)) }
+    requires rounded { IsInTable terms.now (apply to_int (terms_at (term_in terms.now) (argument ∷ []))) }
     ensures row { IsRowAt terms.now (links_over (number_in terms.now) (term_in terms.now term) is_int (term_in terms.now argument ∷ [])) j result }
 {
     let rounded = listed(terms, Operator::ToInt, &[argument])?;

@@ -13,10 +13,11 @@ ghost use Rattle.nz_log.specs.Logs.{JoinsAtoms, PutsAxiom};
 ghost use Rattle.nz_log.specs.Rows.{AreSaidIn, IsSaidIn, said_in, saids_in};
 ghost use Rattle.nz_log.specs.Sound.{IsLog};
 
+use crate::link_rows::link_row;
 use crate::lits::Lit;
 use crate::log::Log;
-use crate::origins::{Axiom, ClauseId, Origin};
-use crate::rows::{Said, link_row};
+use crate::origins::{Axiom, ClauseId};
+use crate::rows::Said;
 use nz_base::Memory;
 use nz_lin::LinStop;
 use nz_spec::derivation::tells_literals;
@@ -49,12 +50,10 @@ impl Log {
         term_stays();
         known_table(terms);
         self.atom_count();
-        let Some(row) = link_row(self.alloc(), terms, term, j)? else {
-            unreachable!()
-        };
-        let literals = self.said_lits(row)?;
-        let id = self.put_leaf(&literals, 0, Origin::Axiom(Axiom::Link(term, j)))?;
-        Ok(id)
+        match link_row(self.alloc(), terms, term, j)? {
+            Some(row) => Ok(self.put_row(row, Axiom::Link(term, j))?),
+            None => unreachable!(),
+        }
     }
 
     /// The literals of a row, whose atoms join the others where they aren't there.

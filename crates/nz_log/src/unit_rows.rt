@@ -39,7 +39,7 @@ pub fn unit_count(terms: &Terms, term: TermId) -> usize
     requires within { term < length terms.now }
     ensures count { result ≡ length (unit_clauses (number_in terms.now) (term_in terms.now term)) }
 {
-    match meaning(terms, term) {
+    match meaning_of(terms, term) {
         Some(Meaning::Choice(_, _, _)) => 4,
         Some(Meaning::Quotient(_, _, _)) => 2,
         Some(Meaning::Remainder(_, _, _)) => 4,
@@ -56,7 +56,7 @@ pub(crate) fn unit_row(alloc: Global, terms: &Terms, term: TermId, j: usize) -> 
     requires companions { HasCompanions terms.now }
     ensures row { IsRowAt terms.now (unit_rows terms.now (term_in terms.now term)) j result }
 {
-    match meaning(terms, term) {
+    match meaning_of(terms, term) {
         Some(Meaning::Choice(condition, left, right)) => {
             choice_row(alloc, terms, term, condition, left, right, j)
         }
@@ -74,7 +74,7 @@ pub(crate) fn unit_row(alloc: Global, terms: &Terms, term: TermId, j: usize) -> 
 }
 
 /// What a term stands for, if it is a unit with arguments.
-fn meaning(terms: &Terms, term: TermId) -> Option<Meaning>
+fn meaning_of(terms: &Terms, term: TermId) -> Option<Meaning>
     requires within { term < length terms.now }
     ensures meaning { IsMeaning terms.now (term_in terms.now term) result }
 {
