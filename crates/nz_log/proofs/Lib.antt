@@ -1,10 +1,10 @@
 pub mod Agreeing
+pub mod Arities
 pub mod AtomKeys
 pub mod AtomLiterals
 pub mod AtomTables
 pub mod Axiomatic
 pub mod Chaining
-pub mod Comparing
 pub mod Dropping
 pub mod Entries
 pub mod Extending

@@ -1,5 +1,5 @@
 -- What units with arguments stand for, over a table of terms, and their rows of the unit table.
-use Rattle.std.specs.Prelude.{◌≡◌, ℕ, ◌<◌, List, [], ◌∷◌, length, Option, Some, None}
+use Rattle.std.specs.Prelude.{◌≡◌, ℕ, ◌<◌, List, [], ◌∷◌, length, Option, Some, None, IsSome}
 use Rattle.nz_spec.specs.Computation.{Computation, at_once}
 use Rattle.nz_spec.specs.Form.{Numbering}
 use Rattle.nz_spec.specs.Gates.{fails, holds}
@@ -34,8 +34,8 @@ pub record IsChoice (ns : List Node) (u : Term) (c a b : ℕ) : Type 0 where
 -- the unit stands for this; with none, it has no row
 abbrev pub IsMeaning : List Node → Term → Option Meaning → Type 0
 IsMeaning ns u (Some (Choice c a b)) = IsChoice ns u c a b
-IsMeaning ns u (Some (Quotient a k q)) = IsBinary ns u integer_quotient a k × (constant_value (term_in ns k) ≡ Some q)
-IsMeaning ns u (Some (Remainder a k q)) = IsBinary ns u modulus a k × (constant_value (term_in ns k) ≡ Some q)
+IsMeaning ns u (Some (Quotient a k)) = IsBinary ns u integer_quotient a k × IsSome (constant_value (term_in ns k))
+IsMeaning ns u (Some (Remainder a k)) = IsBinary ns u modulus a k × IsSome (constant_value (term_in ns k))
 IsMeaning ns u (Some (Size a)) = IsUnary ns u magnitude a
 IsMeaning ns u (Some (Rounded a)) = IsUnary ns u to_int a
 IsMeaning ns u None = unit_rows ns u ≡ []

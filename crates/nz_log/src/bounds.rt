@@ -3,7 +3,7 @@ ghost use Rattle.std.specs.Prelude.{◌≡◌, ◌<◌, List, length};
 ghost use Rattle.nz_fractions.specs.Fraction.{Sum};
 ghost use Rattle.nz_spec.specs.Computation.{Computation, at_once, turned_into};
 ghost use Rattle.nz_spec.specs.Form as spec;
-ghost use Rattle.nz_spec.specs.Form.{negated_form};
+ghost use Rattle.nz_spec.specs.Form.{negated_form, unit_form};
 ghost use Rattle.nz_spec.specs.FormOf.{form_of, number_in};
 ghost use Rattle.nz_spec.specs.LinearLiteral.{is_at_most_zero, is_below_zero};
 ghost use Rattle.nz_spec.specs.Links.{at_most_literal, below_literal, minus, plus};
@@ -42,6 +42,14 @@ pub(crate) fn times(alloc: Global, terms: &Terms, factor: Frac, unit: TermId) ->
 {
     let sort = terms.node(unit).head.sort();
     Ok(Form::times_unit(alloc, factor, unit, sort)?)
+}
+
+/// A unit of the table alone.
+pub(crate) fn unit_alone(alloc: Global, terms: &Terms, unit: TermId) -> Formed
+    requires within { unit < length terms.now }
+    ensures formed { IsFormed terms.now (at_once (unit_form (term_in terms.now unit))) result }
+{
+    times(alloc, terms, Frac::whole(1), unit)
 }
 
 /// The form with the other sign.

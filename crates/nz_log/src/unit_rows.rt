@@ -1,10 +1,10 @@
 //! The rows of the unit table: what a unit with arguments stands for.
-ghost use Rattle.std.specs.Prelude.{◌≡◌, ◌<◌, ◌∷◌, [], All, IsTrue, Some, length};
+ghost use Rattle.std.specs.Prelude.{◌≡◌, ◌<◌, ◌∷◌, [], All, IsTrue, length};
 ghost use Rattle.nz_spec.specs.FormOf.{number_in};
-ghost use Rattle.nz_spec.specs.Linear.{is_linear};
-ghost use Rattle.nz_spec.specs.Order.{HasCompanions, IsInTable};
+ghost use Rattle.nz_spec.specs.Linear.{constant_value, is_linear};
+ghost use Rattle.nz_spec.specs.Order.{HasCompanions};
 ghost use Rattle.nz_spec.specs.Table.{term_in, terms_at};
-ghost use Rattle.nz_spec.specs.Term.{apply, integer_quotient, no_terms, terms, to_int};
+ghost use Rattle.nz_spec.specs.Term.{apply, to_int};
 ghost use Rattle.nz_spec.specs.Units.{greatest_remainder, magnitude_rows, quotient_rows, remainder_rows, unit_clauses, units_over};
 ghost use Rattle.nz_term.specs.Heads.{head_of};
 ghost use Rattle.nz_log.specs.Meanings.{IsMeaning, choice_rows};
@@ -12,7 +12,7 @@ ghost use Rattle.nz_log.specs.Rows.{IsLinearIn, IsRowAt, unit_rows};
 
 use crate::bounds::{
     at_most, at_most_number, at_most_zero, below_number, form_of, minus, opposite, plus, times,
-    units_at_most,
+    unit_alone, units_at_most,
 };
 use crate::rows::{Row, alone, both, listed, pair};
 use crate::term_lits::TermLit;
@@ -25,10 +25,10 @@ use std::alloc::Global;
 pub(crate) enum Meaning {
     /// By a condition, one of two numbers.
     Choice(TermId, TermId, TermId),
-    /// By a constant, with its value.
-    Quotient(TermId, TermId, Frac),
-    /// By a constant, with its value.
-    Remainder(TermId, TermId, Frac),
+    /// Of a number by a constant.
+    Quotient(TermId, TermId),
+    /// Of a number by a constant.
+    Remainder(TermId, TermId),
     Size(TermId),
     /// The greatest integer within a number.
     Rounded(TermId),
@@ -41,8 +41,8 @@ pub fn unit_count(terms: &Terms, term: TermId) -> usize
 {
     match meaning_of(terms, term) {
         Some(Meaning::Choice(_, _, _)) => 4,
-        Some(Meaning::Quotient(_, _, _)) => 2,
-        Some(Meaning::Remainder(_, _, _)) => 4,
+        Some(Meaning::Quotient(_, _)) => 2,
+        Some(Meaning::Remainder(_, _)) => 4,
         Some(Meaning::Size(_)) => 3,
         Some(Meaning::Rounded(_)) => 2,
         None => 0,
@@ -60,12 +60,12 @@ pub(crate) fn unit_row(alloc: Global, terms: &Terms, term: TermId, j: usize) -> 
         Some(Meaning::Choice(condition, left, right)) => {
             choice_row(alloc, terms, term, condition, left, right, j)
         }
-        Some(Meaning::Quotient(dividend, _, divisor)) => {
+        Some(Meaning::Quotient(dividend, divisor)) => {
             quotient_row(alloc, terms, term, dividend, divisor, j)
         }
-        Some(Meaning::Remainder(dividend, divisor, value)) => {
+        Some(Meaning::Remainder(dividend, divisor)) => {
             let quotient = listed(terms, Operator::Div, &[dividend, divisor])?;
-            remainder_row(alloc, terms, term, quotient, dividend, value, j)
+            remainder_row(alloc, terms, term, quotient, dividend, divisor, j)
         }
         Some(Meaning::Size(argument)) => magnitude_row(alloc, terms, term, argument, j),
         Some(Meaning::Rounded(argument)) => rounded_row(alloc, terms, term, argument, j),
@@ -98,14 +98,14 @@ fn meaning_over(terms: &Terms, head: Head<'_>, kids: &[TermId]) -> Option<Meanin
         },
         Operator::Div => match kids {
             [dividend, divisor] => match terms.constant(*divisor) {
-                Some(value) => Some(Meaning::Quotient(*dividend, *divisor, value)),
+                Some(_) => Some(Meaning::Quotient(*dividend, *divisor)),
                 None => None,
             },
             _ => None,
         },
         Operator::Mod => match kids {
             [dividend, divisor] => match terms.constant(*divisor) {
-                Some(value) => Some(Meaning::Remainder(*dividend, *divisor, value)),
+                Some(_) => Some(Meaning::Remainder(*dividend, *divisor)),
                 None => None,
             },
             _ => None,
@@ -155,21 +155,25 @@ fn quotient_row(
     terms: &Terms,
     unit: TermId,
     dividend: TermId,
-    divisor: Frac,
+    divisor: TermId,
     j: usize,
 ) -> Row
     requires unit { unit < length terms.now }
     requires dividend { IsLinearIn terms.now dividend }
-    ensures row { IsRowAt terms.now (quotient_rows (number_in terms.now) (term_in terms.now unit) (term_in terms.now dividend) (Some divisor)) j result }
+    requires divisor { divisor < length terms.now }
+    ensures row { IsRowAt terms.now (quotient_rows (number_in terms.now) (term_in terms.now unit) (term_in terms.now dividend) (constant_value (term_in terms.now divisor))) j result }
 {
     known_table(terms);
+    let Some(factor) = terms.constant(divisor) else {
+        return Ok(None);
+    };
     let form = form_of(alloc, terms, dividend);
-    let multiple = times(alloc, terms, divisor, unit);
+    let multiple = times(alloc, terms, factor, unit);
     match j {
         0 => alone(alloc, at_most_zero(minus(multiple, form))),
         1 => {
             let rest = minus(form, multiple);
-            alone(alloc, at_most_number(rest, greatest_remainder(divisor)))
+            alone(alloc, at_most_number(rest, greatest_remainder(factor)))
         }
         _ => Ok(None),
     }
@@ -183,28 +187,27 @@ fn remainder_row(
     unit: TermId,
     quotient: TermId,
     dividend: TermId,
-    divisor: Frac,
+    divisor: TermId,
     j: usize,
 ) -> Row
     requires unit { unit < length terms.now }
     requires quotient { quotient < length terms.now }
     requires dividend { IsLinearIn terms.now dividend }
-    ensures row { IsRowAt terms.now (remainder_rows (number_in terms.now) (term_in terms.now unit) (term_in terms.now quotient) (term_in terms.now dividend) (Some divisor)) j result }
+    requires divisor { divisor < length terms.now }
+    ensures row { IsRowAt terms.now (remainder_rows (number_in terms.now) (term_in terms.now unit) (term_in terms.now quotient) (term_in terms.now dividend) (constant_value (term_in terms.now divisor))) j result }
 {
     known_table(terms);
-    let own = times(alloc, terms, Frac::whole(1), unit);
+    let Some(factor) = terms.constant(divisor) else {
+        return Ok(None);
+    };
+    let form = form_of(alloc, terms, dividend);
+    let multiple = times(alloc, terms, factor, quotient);
+    let own = unit_alone(alloc, terms, unit);
     match j {
-        0 => {
-            let form = form_of(alloc, terms, dividend);
-            let rest = minus(form, times(alloc, terms, divisor, quotient));
-            alone(alloc, at_most_zero(minus(rest, own)))
-        }
-        1 => {
-            let whole = plus(own, times(alloc, terms, divisor, quotient));
-            alone(alloc, at_most_zero(minus(whole, form_of(alloc, terms, dividend))))
-        }
+        0 => alone(alloc, at_most_zero(minus(minus(form, multiple), own))),
+        1 => alone(alloc, at_most_zero(minus(plus(own, multiple), form))),
         2 => alone(alloc, at_most_zero(opposite(alloc, own))),
-        3 => alone(alloc, units_at_most(own, greatest_remainder(divisor))),
+        3 => alone(alloc, units_at_most(own, greatest_remainder(factor))),
         _ => Ok(None),
     }
 }
@@ -220,12 +223,12 @@ fn magnitude_row(alloc: Global, terms: &Terms, unit: TermId, argument: TermId, j
         0 => alone(alloc, at_most(alloc, terms, argument, unit)),
         1 => {
             let form = opposite(alloc, form_of(alloc, terms, argument));
-            let own = times(alloc, terms, Frac::whole(1), unit);
+            let own = unit_alone(alloc, terms, unit);
             alone(alloc, at_most_zero(minus(form, own)))
         }
         2 => {
             let first = at_most(alloc, terms, unit, argument);
-            let own = times(alloc, terms, Frac::whole(1), unit);
+            let own = unit_alone(alloc, terms, unit);
             let sum = plus(own, form_of(alloc, terms, argument));
             both(alloc, first, at_most_zero(sum))
         }
@@ -243,7 +246,7 @@ fn rounded_row(alloc: Global, terms: &Terms, unit: TermId, argument: TermId, j: 
     match j {
         0 => alone(alloc, at_most(alloc, terms, unit, argument)),
         1 => {
-            let own = times(alloc, terms, Frac::whole(1), unit);
+            let own = unit_alone(alloc, terms, unit);
             let rest = minus(form_of(alloc, terms, argument), own);
             alone(alloc, below_number(rest, Frac::whole(1)))
         }
