@@ -25,6 +25,8 @@ pub mod Ordering
 pub mod Pushing
 pub mod Renumbering
 pub mod Rowing
+pub mod Ruling
+pub mod Saying
 pub mod Soundness
 pub mod Spelled
 pub mod Staying

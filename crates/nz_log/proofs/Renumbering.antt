@@ -96,7 +96,7 @@ module _ (P : Term → Type 0) where
   module _ (closed : (h : Head) (ts : Terms) → P (apply h ts) → AllTerms P ts) (number : Numbering) where
     -- a constant, an operator that is opened, or a unit
     of_in : (o : Option Fraction) (b : Bool) (h : Head) (cs : List (Option Fraction)) (fs : Computation (List Form)) (unit : Form) → AllAmong fs.result → Among unit.parts
-        → Among (elim o [ Some q ↦ at_once (constant_form q) | None ↦ if b then and_then fs (λ gs. head_form number h cs gs unit) else at_once unit ]).result.parts
+        → Among (let form : Computation Form = elim o [ Some q ↦ at_once (constant_form q) | None ↦ if b then and_then fs (λ gs. head_form number h cs gs unit) else at_once unit ] in form).result.parts
     of_in (Some q) b h cs fs unit all own = tt
     of_in None true h cs fs unit all own = head_in number h cs fs.result unit all own
     of_in None false h cs fs unit all own = own

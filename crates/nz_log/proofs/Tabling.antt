@@ -1,6 +1,6 @@
 -- Clauses of the tables of links and units, by their rows.
-use Rattle.std.proofs.Common.{◌≡◌, ℕ, suc, ◌<◌, List, [], ◌∷◌, length, map, get_or, Option, Some, None, Ok, refl, sym, ap, subst, ◌∙◌}
-use Rattle.std.specs.Prelude.{option_map, slice_get, unwrap_or}
+use Rattle.std.proofs.Common.{◌≡◌, ℕ, suc, ◌<◌, List, [], ◌∷◌, length, map, get_or, Option, Some, None, Result, Ok, Err, refl, sym, ap, subst, ◌∙◌}
+use Rattle.std.specs.Prelude.{IfOk, option_map, slice_get, unwrap_or}
 use Rattle.std.specs.declared.vec.Vec.{Vec}
 use Rattle.std.specs.declared.alloc.Global.{Global}
 use Rattle.std.proofs.lemmas.Option.{slice_get-get_or, slice_get-map}
@@ -22,9 +22,10 @@ use Rattle.nz_log.specs.declared.rows.Said.{Said}
 use Rattle.nz_log.specs.Atoms.{AreWithin, IsLitIn, LiteralsAgree, clause_in}
 use Rattle.nz_log.specs.Axioms.{Axiom, IsClauseOf, axiom_step, first_wide_in_step}
 use Rattle.nz_log.specs.Lits.{are_same_lit}
-use Rattle.nz_log.specs.Logs.{LogState, PutsAxiom, PutsRow}
-use Rattle.nz_log.specs.Rows.{IsRowAt, link_rows, saids_in, unit_rows}
+use Rattle.nz_log.specs.Logs.{JoinsAtoms, LogState, Puts, PutsAxiom, PutsRow, axiom_entry}
+use Rattle.nz_log.specs.Rows.{AreLitsOf, AreSaidIn, IsRowAt, link_rows, saids_in, unit_rows}
 use Rattle.nz_log.proofs.Agreeing.{clause_named}
+use Rattle.nz_log.proofs.Joining.{puts_after}
 use Rattle.nz_log.proofs.Members.{each-put}
 
 abbrev Rows : Type 0
@@ -82,14 +83,25 @@ module _ (ns : List Node) (atoms : List Atom) (a : Axiom) (rows : Rows) (j : ℕ
   pub row_puts : (old new : LogState) (id : ℕ) (v : Vec Said Global) → new.atoms ≡ atoms → LiteralsAgree ns atoms → IsRowAt ns rows j (Ok (Some v)) → PutsRow old id a v.items new → PutsAxiom ns old id a new
   row_puts old new id v same agree is puts =
       let lits = puts.literals in
+      let made = subst (λ (list : List Atom). AreLitsOf ns list v.items lits) same (puts.made ns is.2.1) in
       record {
         literals = once are_same_lit lits;
         puts = puts.puts;
         clause =
             subst (λ (list : List Atom). IsClauseOf ns list a (once are_same_lit lits)) (sym same)
-            (table_clause agree is.0 v.items lits is.1 is.2.0 (ap (λ (list : List Atom). clause_in ns list lits) (sym same) ∙ puts.says ns)
-            (subst (λ (list : List Atom). AreWithin ns list lits) same (puts.within ns is.2.1)));
+            (table_clause agree is.0 v.items lits is.1 is.2.0 made.says made.within);
       }
+
+-- the literals of a row have joined, and then their clause is put
+pub row_put : {E : Type 0} (old mid new : LogState) (a : Axiom) (row : List Said) (c d : List Lit) (r : Result ℕ E) → d ≡ c → JoinsAtoms old mid → new.atoms ≡ mid.atoms
+    → ((ns : List Node) → AreSaidIn ns row → AreLitsOf ns mid.atoms row c) → IfOk r (λ id. Puts mid id (axiom_entry new a (once are_same_lit d)) new) → IfOk r (λ id. PutsRow old id a row new)
+row_put old mid new a row c d (Ok id) is j same made puts =
+    record {
+      literals = c;
+      puts = puts_after old mid new id (axiom_entry new a (once are_same_lit c)) j (subst (λ (ls : List Lit). Puts mid id (axiom_entry new a (once are_same_lit ls)) new) is puts);
+      made = λ ns all. subst (λ (atoms : List Atom). AreLitsOf ns atoms row c) (sym same) (made ns all);
+    }
+row_put old mid new a row c d (Err x) is j same made puts = puts
 
 -- ---- Links and units
 

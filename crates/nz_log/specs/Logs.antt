@@ -10,11 +10,11 @@ use Rattle.nz_log.specs.declared.atoms.Atom.{Atom}
 use Rattle.nz_log.specs.declared.lits.Lit.{Lit}
 use Rattle.nz_log.specs.declared.origins.Link.{Link}
 use Rattle.nz_log.specs.declared.rows.Said.{Said}
-use Rattle.nz_log.specs.Atoms.{AreWithin, Stay, clause_in, literal_in, terms_at, lit_of, lits_of}
+use Rattle.nz_log.specs.Atoms.{Stay, literal_in, terms_at, lit_of, lits_of}
 use Rattle.nz_log.specs.declared.multiples.Multiple.{Multiple}
 use Rattle.nz_log.specs.Axioms.{AreMultiplesIn, Axiom, IsClauseOf, branch_of, cut_of}
 use Rattle.nz_log.specs.Lits.{are_same_lit, lit_resolvent}
-use Rattle.nz_log.specs.Rows.{AreSaidIn, saids_in}
+use Rattle.nz_log.specs.Rows.{AreLitsOf, AreSaidIn}
 use Rattle.nz_log.specs.TermLits.{yes, gates_at}
 
 -- how a clause was made
@@ -176,8 +176,7 @@ resolvent_entry s first second l =
 pub record PutsRow (old : LogState) (id : ℕ) (a : Axiom) (row : List Said) (new : LogState) : Type 0 where
   pub literals : List Lit
   pub puts : Puts old id (axiom_entry new a (once are_same_lit literals)) new
-  pub says : (ns : List Node) → clause_in ns new.atoms literals ≡ saids_in ns row
-  pub within : (ns : List Node) → AreSaidIn ns row → AreWithin ns new.atoms literals
+  pub made : (ns : List Node) → AreSaidIn ns row → AreLitsOf ns new.atoms row literals
 
 -- a clause that holds by arithmetic alone is put: over a table it is that of the step
 pub record PutsAxiom (ns : List Node) (old : LogState) (id : ℕ) (a : Axiom) (new : LogState) : Type 0 where

@@ -18,8 +18,11 @@ use Rattle.nz_lin.specs.declared.form.LinStop.{LinStop}
 use Rattle.nz_lin.specs.Bounds.{HasUnits, literal_over}
 use Rattle.nz_lin.specs.Comes.{IsDone}
 use Rattle.nz_lin.specs.Stops.{IsStopAt}
+use Rattle.nz_log.specs.declared.atoms.Atom.{Atom}
+use Rattle.nz_log.specs.declared.lits.Lit.{Lit}
 use Rattle.nz_log.specs.declared.rows.Said.{Said}
 use Rattle.nz_log.specs.declared.rows.Said.TheVariants.{Term, Bound}
+use Rattle.nz_log.specs.Atoms.{AreWithin, clause_in}
 use Rattle.nz_log.specs.TermLits.{literal_of}
 
 -- what a literal of a row says
@@ -37,6 +40,11 @@ IsSaidIn ns (Bound b) = HasUnits ns b
 
 abbrev pub AreSaidIn : List Node → List Said → Type 0
 AreSaidIn ns row = AllByRecursion (IsSaidIn ns) row
+
+-- the literals of a log are those of a row
+pub record AreLitsOf (ns : List Node) (atoms : List Atom) (row : List Said) (c : List Lit) : Type 0 where
+  pub says : clause_in ns atoms c ≡ saids_in ns row
+  pub within : AreWithin ns atoms c
 
 -- the rows of a term
 abbrev pub link_rows : List Node → spec.Term → List (List (Computation Literal))

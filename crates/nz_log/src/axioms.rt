@@ -14,21 +14,21 @@ use nz_base::Memory;
 
 impl Log {
     /// Puts the clause of these literals.
-    pub(crate) fn put_axiom(&mut self, literals: &[Lit], axiom: Axiom) -> Result<ClauseId, Memory>
-        ensures made { IfOk result (λ id. Puts self.old id (axiom_entry self.new (axiom_in axiom) (once are_same_lit literals.now)) self.new) }
+    pub(crate) fn put_axiom(&mut self, literals: &[Lit], reason: Axiom) -> Result<ClauseId, Memory>
+        ensures made { IfOk result (λ id. Puts self.old id (axiom_entry self.new (axiom_in reason) (once are_same_lit literals.now)) self.new) }
         ensures atoms { self.new.atoms ≡ self.old.atoms }
         ensures unchanged { OnErr result (self.new ≡ self.old) }
     {
-        self.put_leaf(literals, 0, Origin::Axiom(axiom))
+        self.put_leaf(literals, 0, Origin::Axiom(reason))
     }
 
     /// Puts the clause of a row, whose atoms join the others where they aren't there.
-    pub(crate) fn put_row(&mut self, row: Vec<Said>, axiom: Axiom) -> Result<ClauseId, Memory>
-        ensures made { IfOk result (λ id. PutsRow self.old id (axiom_in axiom) row.items self.new) }
+    pub(crate) fn put_row(&mut self, row: Vec<Said>, reason: Axiom) -> Result<ClauseId, Memory>
+        ensures made { IfOk result (λ id. PutsRow self.old id (axiom_in reason) row.items self.new) }
         ensures atoms { AreAtoms self.new.atoms }
         ensures unchanged { OnErr result (JoinsAtoms self.old self.new) }
     {
         let literals = self.said_lits(row)?;
-        self.put_axiom(&literals, axiom)
+        self.put_axiom(&literals, reason)
     }
 }
