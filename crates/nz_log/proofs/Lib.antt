@@ -4,6 +4,7 @@ pub mod AtomKeys
 pub mod AtomLiterals
 pub mod AtomTables
 pub mod Axiomatic
+pub mod Branching
 pub mod Chaining
 pub mod Dropping
 pub mod Entries

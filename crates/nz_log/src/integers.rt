@@ -83,7 +83,6 @@ impl Log {
 
 /// A sum of integers isn't at most an integer, the limit of this bound: it is at least the next one.
 fn above(alloc: Global, bound: &Bound) -> Result<Bound, LinStop>
-    requires normal { bound.now.strict ≡ false }
     ensures literal { (ns : List Node) → HasUnits ns bound.now → IsLiteral ns (above_literal ns bound.now) result }
     ensures normal { IfOk result (λ b. b.strict ≡ false) }
 {
