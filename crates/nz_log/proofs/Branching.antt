@@ -1,5 +1,5 @@
 -- Branches on sums of integers: what the two literals say, and the clause that they are.
-use Rattle.std.proofs.Common.{◌≡◌, ◌&&◌, Bool, true, false, List, [], ◌∷◌, ◌++◌, map, Option, Some, None, if◌then◌else◌, refl, sym, ap, subst, ◌∙◌}
+use Rattle.std.proofs.Common.{◌≡◌, ◌&&◌, Bool, true, false, List, [], ◌∷◌, map, Option, Some, None, Ok, if◌then◌else◌, refl, sym, ap, subst, ◌∙◌}
 use Rattle.std.specs.Prelude.{IsTrue, slice_get}
 use Rattle.nz_fractions.specs.Fraction.{Fraction, first_wide}
 use Rattle.nz_spec.specs.Computation.{Computation, at_once, turned_into}
@@ -8,13 +8,13 @@ use Rattle.nz_spec.specs.Farkas.{bound_of}
 use Rattle.nz_spec.specs.Form as form
 use Rattle.nz_spec.specs.Form.{negated_part}
 use Rattle.nz_spec.specs.FormOf.{number_in}
-use Rattle.nz_spec.specs.LinearLiteral.{are_integral, is_whole, parts_of}
+use Rattle.nz_spec.specs.LinearLiteral.{HaveSortedUnits, are_integral, is_whole, parts_of}
 use Rattle.nz_spec.specs.Literal.{Literal, Clause, clause_of, is_at_most, is_below, negation_of, once, term_literal}
-use Rattle.nz_spec.specs.Steps.{Step, branch_step, step_taken}
+use Rattle.nz_spec.specs.Steps.{IsSortedStep, branch_step, step_taken}
 use Rattle.nz_spec.specs.Table.{Node, term_in}
 use Rattle.nz_lin.specs.declared.bound.Bound.{Bound}
 use Rattle.nz_lin.specs.declared.form.LinStop.{LinStop}
-use Rattle.nz_lin.specs.Bounds.{bounded, literal_over}
+use Rattle.nz_lin.specs.Bounds.{HasUnits, IsLiteral, bounded, literal_over}
 use Rattle.nz_lin.specs.Comes.{IsDone}
 use Rattle.nz_lin.specs.Forms.{parts_over}
 use Rattle.nz_lin.specs.Stops.{IsStopAt}
@@ -24,7 +24,7 @@ use Rattle.nz_log.specs.Atoms.{AreWithin, IsLitIn, LiteralsAgree, Stay, atom_in,
 use Rattle.nz_log.specs.Axioms.{IsClauseOf, above_literal, axiom_step, branch_of, first_wide_in_step, next_limit}
 use Rattle.nz_log.specs.Lits.{are_same_lit}
 use Rattle.nz_log.proofs.Agreeing.{clause_named}
-use Rattle.nz_log.proofs.Extending.{literal_at}
+use Rattle.nz_log.proofs.Extending.{lit_stays, literal_at}
 use Rattle.nz_log.proofs.Members.{each-put}
 use Rattle.nz_log.proofs.Summing.{bound_said}
 
@@ -95,3 +95,34 @@ module _ (ps : List form.Part) (k : Fraction) (integral : IsTrue (are_integral p
         clause = ap (λ (c : Computation (Option Clause)). c.result) taken ∙ ap Some (λ i. clause_of (sym at_most i ∷ sym above_ i ∷ [])) ∙ ap Some (sym (clause_named ns atoms agree lits within));
         fits = ap (λ (c : Computation (Option Clause)). first_wide c.operations) taken ∙ sym (ap (λ (q : Fraction). first_wide (next_limit q).operations) limit) ∙ done.fits;
       }
+
+-- ---- The two literals, one after another
+
+module _ (m1 m2 : List Atom) (stay : Stay m1 m2) (b r : Bound) (first second : Lit) (one : (ns : List Node) → literal_in ns m1 first ≡ literal_over ns b)
+    (one_in : (ns : List Node) → HasUnits ns b → IsLitIn ns m1 first) (two : (ns : List Node) → literal_in ns m2 second ≡ literal_over ns r)
+    (two_in : (ns : List Node) → HasUnits ns r → IsLitIn ns m2 second) (next : (ns : List Node) → HasUnits ns b → IsLiteral ns (above_literal ns b) (Ok r)) where
+  pub first_says : (ns : List Node) → literal_in ns m2 first ≡ literal_over ns b
+  first_says ns = bound_kept ns m1 m2 stay first b (one ns)
+
+  pub first_in : (ns : List Node) → HasUnits ns b → IsLitIn ns m2 first
+  first_in ns units = lit_stays ns m1 m2 stay first (one_in ns units)
+
+  second_in : (ns : List Node) → HasUnits ns b → IsLitIn ns m2 second
+  second_in ns units = two_in ns (next ns units).1
+
+  abbrev pub two_lits : List Lit
+  two_lits = once are_same_lit (first ∷ second ∷ [])
+
+  pub both_in : (ns : List Node) → HasUnits ns b → AreWithin ns m2 two_lits
+  both_in ns units = each-put (IsLitIn ns m2) are_same_lit (first ∷ second ∷ []) [] tt (first_in ns units, (second_in ns units, tt))
+
+  pub branch_over : b.strict ≡ false → ((ns : List Node) → HasUnits ns b → IsTrue (are_integral (parts_over ns b.sides.parts))) → IsTrue (is_whole b.sides.offset)
+      → (ns : List Node) → LiteralsAgree ns m2 → HasUnits ns b → IsClauseOf ns m2 (branch_of first) two_lits
+  branch_over normal integral whole_ ns agree units =
+      branch_is (parts_over ns b.sides.parts) b.sides.offset (integral ns units) whole_ ns m2 agree b r first second refl refl normal (first_says ns) (two ns) (next ns units).0
+      (first_in ns units) (second_in ns units)
+
+  -- the step is in order where the units have values of their sorts
+  pub branch_sorted : (ns : List Node) → HaveSortedUnits (parts_over ns b.sides.parts) → IsSortedStep (axiom_step ns m2 (branch_of first))
+  branch_sorted ns sorted =
+      subst IsSortedStep (sym (ap (λ l. branch_step (bound_of l).parts (bound_of l).limit) (first_says ns) ∙ ap (λ x. branch_step x.parts x.limit) (bound_said ns b))) sorted

@@ -6,6 +6,7 @@ pub mod AtomTables
 pub mod Axiomatic
 pub mod Branching
 pub mod Chaining
+pub mod Cutting
 pub mod Dropping
 pub mod Entries
 pub mod Extending
