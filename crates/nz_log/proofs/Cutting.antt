@@ -95,6 +95,12 @@ module _ (ns : List Node) (qs : List farkas.Multiple) (multiples : IsTrue (list_
           fits = ap (λ (c : Computation (Option Clause)). first_wide c.operations) taken ∙ first_behind sum.operations limit.operations summed.fits ∙ done.fits;
         }
 
+pub cut_within : (ns : List Node) (atoms : List Atom) (ms : List Multiple) (last : Lit) → AreMultiplesIn ns atoms ms → IsLitIn ns atoms last
+    → AreWithin ns atoms (once are_same_lit (negated_lits ms ++ last ∷ []))
+cut_within ns atoms ms last inside own =
+    let lits = negated_lits ms ++ last ∷ [] in
+    each-put (IsLitIn ns atoms) are_same_lit lits [] tt (each-append (IsLitIn ns atoms) (negated_lits ms) (last ∷ []) (negations_within ns atoms ms inside) (own, tt))
+
 -- ---- The sorts of the units
 
 sorted_multiples : (ns : List Node) (atoms : List Atom) (ms : List Multiple) → AllByRecursion (λ (m : Multiple). HaveSortedUnits (parts_of (literal_in ns atoms m.literal))) ms
@@ -105,3 +111,7 @@ sorted_multiples ns atoms (m ∷ ms) h = (h.0, sorted_multiples ns atoms ms h.1)
 pub cut_sorted : (ns : List Node) (old new : List Atom) → Stay old new → (ms : List Multiple) → AreMultiplesIn ns old ms
     → AllByRecursion (λ (m : Multiple). HaveSortedUnits (parts_of (literal_in ns old m.literal))) ms → IsSortedStep (axiom_step ns new (cut_of ms))
 cut_sorted ns old new stay ms inside h = subst IsSortedStep (sym (step_stays ns old new stay (cut_of ms) inside)) (sorted_multiples ns old ms h)
+
+-- atoms that stayed are those that are there
+pub joined_stay : (old mid new : List Atom) → Stay old mid → mid ≡ new → Stay old new
+joined_stay old mid new stay same = subst (Stay old) same stay

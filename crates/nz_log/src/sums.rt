@@ -60,6 +60,7 @@ impl Log {
     /// The sum of these multiples. A literal on a term says nothing of a sum.
     pub(crate) fn sum(&self, multiples: &[Multiple]) -> Result<Bound, LinStop>
         ensures sum { (ns : List Node) → IsTable ns → AreMultiplesIn ns self.now.atoms multiples.now → IsBounded ns (sum_in ns self.now.atoms multiples.now) result }
+        ensures units { IfOk result (λ b. (ns : List Node) → AreMultiplesIn ns self.now.atoms multiples.now → HasUnits ns b) }
     {
         let mut sum = Bound::empty(self.alloc());
         for multiple in multiples {
