@@ -1,5 +1,5 @@
 //! Forms and bounds that are made of others, as the kernel's rules need them.
-ghost use Rattle.std.specs.Prelude.{◌≡◌, IfOk, List};
+ghost use Rattle.std.specs.Prelude.{◌≡◌, IfOk, List, false};
 ghost use Rattle.nz_spec.specs.Computation.{at_once};
 ghost use Rattle.nz_spec.specs.Form.{joined, negated_form};
 ghost use Rattle.nz_spec.specs.FormOf.{number_in};

@@ -15,7 +15,7 @@ joins_twice old mid new j k =
     record { entries = k.entries ∙ j.entries; told = k.told ∙ j.told; atoms = λ i a at. k.atoms i a (j.atoms i a at) }
 
 -- a clause is put after them
-puts_after : (old mid new : LogState) (id : ℕ) (e : Entry) → JoinsAtoms old mid → Puts mid id e new → Puts old id e new
+pub puts_after : (old mid new : LogState) (id : ℕ) (e : Entry) → JoinsAtoms old mid → Puts mid id e new → Puts old id e new
 puts_after old mid new id e j puts =
     let same : (i : ℕ) → entry_at mid i ≡ entry_at old i = λ i. ap (λ es. unwrap_or (slice_get es i) None) j.entries in
     let live : (i : ℕ) → IsLive old i → IsLive mid i = λ i h. subst (λ o. IsSome o) (sym (same i)) h in

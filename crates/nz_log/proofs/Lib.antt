@@ -1,12 +1,16 @@
 pub mod Agreeing
+pub mod Arities
 pub mod AtomKeys
 pub mod AtomLiterals
 pub mod AtomTables
 pub mod Axiomatic
+pub mod Branching
 pub mod Chaining
+pub mod Cutting
 pub mod Dropping
 pub mod Entries
 pub mod Extending
+pub mod Formed
 pub mod GatesInOrder
 pub mod Gathering
 pub mod Growing
@@ -24,6 +28,8 @@ pub mod Ordering
 pub mod Pushing
 pub mod Renumbering
 pub mod Rowing
+pub mod Ruling
+pub mod Saying
 pub mod Soundness
 pub mod Spelled
 pub mod Staying
@@ -31,3 +37,4 @@ pub mod Summing
 pub mod Tabling
 pub mod Taken
 pub mod Truths
+pub mod UnitLinking

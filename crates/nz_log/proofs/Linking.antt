@@ -54,7 +54,7 @@ agrees own stays ns more table longer t there =
 
 module _ (number other : Numbering) (P : Term → Type 0) (agree : (t : Term) → P t → number t ≡ other t)
     (closed : (h : Head) (ts : Terms) → P (apply h ts) → AllTerms P ts) where
-  most : (t u : Term) → P t → P u → at_most_literal number t u ≡ at_most_literal other t u
+  pub most : (t u : Term) → P t → P u → at_most_literal number t u ≡ at_most_literal other t u
   most t u p q = ap (turned_into is_at_most_zero) (same_minus P number other agree closed t u p q)
 
   under : (t u : Term) → P t → P u → below_literal number t u ≡ below_literal other t u
@@ -79,7 +79,7 @@ module _ (number other : Numbering) (P : Term → Type 0) (agree : (t : Term) �
 
 -- ---- Clauses
 
-listed : (P : Term → Type 0) (ts : Terms) → AllTerms P ts → AllByRecursion P (list_of ts)
+pub listed : (P : Term → Type 0) (ts : Terms) → AllTerms P ts → AllByRecursion P (list_of ts)
 listed P no_terms h = tt
 listed P (terms t ts) h = (h.0, listed P ts h.1)
 

@@ -1,7 +1,7 @@
 -- The first operation that leaves the numbers, of one list of them and then another.
-use Rattle.std.proofs.Common.{◌≡◌, Bool, true, false, List, [], ◌∷◌, ◌++◌, Option, Some, None, if◌then◌else◌, refl, sym, ap, subst, ◌∙◌, append_assoc}
+use Rattle.std.proofs.Common.{◌≡◌, Bool, true, false, List, [], ◌∷◌, ◌++◌, Option, Some, None, if◌then◌else◌, refl, sym, ap, subst, ◌∙◌}
 use Rattle.nz_fractions.specs.Fraction.{Operation, first_wide, is_wide}
-use Rattle.nz_spec.specs.Computation.{Computation, and_then}
+use Rattle.nz_spec.specs.Computation.{Computation}
 use Rattle.nz_lin.specs.declared.form.LinStop.{LinStop}
 use Rattle.nz_lin.specs.declared.form.LinStop.TheVariants.{Wide, Memory}
 use Rattle.nz_lin.specs.Stops.{IsStopAt}
@@ -31,6 +31,10 @@ first_before (x ∷ xs) ys w e = some_at (is_wide x.operator x.left x.right) x w
 pub stop_before : (xs ys : List Operation) (s : LinStop) → IsStopAt (first_wide xs) s → IsStopAt (first_wide (xs ++ ys)) s
 stop_before xs ys (Wide w) h = first_before xs ys _ h
 stop_before xs ys Memory h = tt
+
+-- the first list has none, and it is that of the second
+pub stop_behind : (xs ys : List Operation) (s : LinStop) → first_wide xs ≡ None → IsStopAt (first_wide ys) s → IsStopAt (first_wide (xs ++ ys)) s
+stop_behind xs ys s none h = subst (λ o. IsStopAt o s) (sym (first_behind xs ys none)) h
 
 pub first_nothing : first_wide [] ≡ None
 unfolding first_wide

@@ -48,7 +48,7 @@ module _ (P : Term → Type 0) where
       placed_in (are_same_term p.unit q.unit) (nat_lt (number q.unit) (number p.unit)) op p q ps (part_joined number op ps q)
       (operated op p.coefficient q.coefficient) h.0 k h.1 (part_in number op ps q h.1 k)
 
-  parts_in : (number : Numbering) (op : Arithmetic) (ps qs : List Part) → Among ps → Among qs → Among (parts_joined number op ps qs).result
+  pub parts_in : (number : Numbering) (op : Arithmetic) (ps qs : List Part) → Among ps → Among qs → Among (parts_joined number op ps qs).result
   parts_in number op ps [] h k = h
   parts_in number op ps (q ∷ qs) h k = parts_in number op (part_joined number op ps q).result qs (part_in number op ps q h k.0) k.1
 
@@ -56,7 +56,7 @@ module _ (P : Term → Type 0) where
   all_in number op f [] h k = h
   all_in number op f (g ∷ gs) h k = all_in number op (joined number op f g).result gs (parts_in number op f.parts g.parts h k.0) k.1
 
-  negated_in : (ps : List Part) → Among ps → Among (map negated_part ps)
+  pub negated_in : (ps : List Part) → Among ps → Among (map negated_part ps)
   negated_in [] h = tt
   negated_in (p ∷ ps) h = (h.0, negated_in ps h.1)
 

@@ -1,20 +1,30 @@
 -- Sums of multiples, one after another.
-use Rattle.std.proofs.Common.{◌≡◌, ℕ, ◌<◌, ◌+◌, List, [], ◌∷◌, ◌++◌, length, drop, get_or, map, None, refl, sym, ap, subst, ◌∙◌, append_assoc, arith}
-use Rattle.std.specs.List.{AllByRecursion}
+use Rattle.std.proofs.Common.{◌≡◌, ℕ, ◌<◌, ◌+◌, Bool, true, false, List, [], ◌∷◌, ◌++◌, length, drop, get_or, Some, Result, Ok, Err, refl, sym, ap, subst, ◌∙◌, append_assoc}
+use Rattle.std.specs.Prelude.{OnOk, slice_get}
 use Rattle.nz_lists.proofs.Places.{drop_read}
 use Rattle.nz_spec.specs.Computation.{Computation, and_then}
 use Rattle.nz_spec.specs.Farkas as farkas
 use Rattle.nz_spec.specs.Farkas.{bound_of, bound_scaled, bounds_joined, empty_bound, multiples_onto}
+use Rattle.nz_spec.specs.Form as form
 use Rattle.nz_spec.specs.Form.{Numbering}
 use Rattle.nz_spec.specs.FormOf.{number_in}
 use Rattle.nz_fractions.specs.Fraction.{Fraction, first_wide}
-use Rattle.nz_spec.specs.Table.{Node}
+use Rattle.nz_spec.specs.Literal.{negation_of, term_literal}
+use Rattle.nz_spec.specs.Table.{Node, term_in}
+use Rattle.nz_spec.specs.Term.{Term}
+use Rattle.nz_lin.specs.declared.bound.Bound.{Bound}
 use Rattle.nz_lin.specs.declared.form.LinStop.{LinStop}
-use Rattle.nz_lin.specs.Comes.{IsDone}
+use Rattle.nz_lin.specs.Bounds.{HasUnits, bound_over, bounded, literal_over}
+use Rattle.nz_lin.specs.Comes.{Comes, IsDone}
+use Rattle.nz_lin.specs.Forms.{parts_over}
 use Rattle.nz_lin.specs.Stops.{IsStopAt}
 use Rattle.nz_log.specs.declared.atoms.Atom.{Atom}
+use Rattle.nz_log.specs.declared.atoms.Atom.TheVariants.{AtMost, Term as TermAtom}
+use Rattle.nz_log.specs.declared.lits.Lit.{Lit}
 use Rattle.nz_log.specs.declared.multiples.Multiple.{Multiple}
+use Rattle.nz_log.specs.Atoms.{IsAtomIn, IsLitIn, literal_in, with_sign}
 use Rattle.nz_log.specs.Axioms.{multiple_in, multiples_in, sum_in}
+use Rattle.nz_log.proofs.Extending.{literal_at}
 use Rattle.nz_log.proofs.Operations.{IsSame, first_behind, first_nothing, stop_before}
 
 -- one multiple is added, and the others are left
@@ -73,3 +83,44 @@ pub sum_starts : (ns : List Node) (atoms : List Atom) (ms : List Multiple) (x : 
     → IsSame (multiples_onto (number_in ns) x (multiples_in ns atoms ms)) (sum_in ns atoms ms)
 sum_starts ns atoms ms x is =
     subst (λ (y : farkas.Bound). IsSame (multiples_onto (number_in ns) y (multiples_in ns atoms ms)) (sum_in ns atoms ms)) (sym is) (record { result = refl; first = refl })
+
+-- ---- One multiple
+
+said_by : (s : Bool) (ps : List form.Part) (q : Fraction) → bound_of (bounded s ps q) ≡ record { parts = ps; limit = q; is_strict = s }
+said_by true ps q = refl
+said_by false ps q = refl
+
+-- what a bound of the code says of a sum
+pub bound_said : (ns : List Node) (b : Bound) → bound_of (literal_over ns b) ≡ bound_over ns b
+bound_said ns b = said_by b.strict (parts_over ns b.sides.parts) b.sides.offset
+
+term_by : (s : Bool) (t : Term) → bound_of (with_sign s (term_literal t true)) ≡ empty_bound
+term_by true t = refl
+term_by false t = refl
+
+-- what a literal says of one, by its atom
+module _ (ns : List Node) (atoms : List Atom) (l : Lit) where
+  pub no_bound : (t : ℕ) → slice_get atoms l.atom ≡ Some (TermAtom t) → bound_of (literal_in ns atoms l) ≡ empty_bound
+  no_bound t at = ap bound_of (literal_at ns atoms l (TermAtom t) at) ∙ term_by l.sign (term_in ns t)
+
+  module _ (b : Bound) (at : slice_get atoms l.atom ≡ Some (AtMost b)) where
+    pub other_bound : (o : Bound) → l.sign ≡ false → literal_over ns o ≡ negation_of (literal_over ns b) → bound_of (literal_in ns atoms l) ≡ bound_over ns o
+    other_bound o sign is =
+        ap bound_of (literal_at ns atoms l (AtMost b) at ∙ ap (λ (s : Bool). with_sign s (literal_over ns b)) sign ∙ sym is) ∙ bound_said ns o
+
+    pub units_at : IsLitIn ns atoms l → HasUnits ns b
+    units_at h =
+        let both : Some h.atom ≡ Some (AtMost b) = sym h.at ∙ at in
+        let same : h.atom ≡ AtMost b = cc in
+        subst (IsAtomIn ns) same h.within
+
+-- the multiple that is added is the same
+pub multiple_added : {X : Type 0} (number : Numbering) (x now : farkas.Bound) (m : Fraction) (b c : farkas.Bound) (r : Result X LinStop) → b ≡ c
+    → Comes (and_then (bound_scaled m c) (λ y. bounds_joined number x y)) now r → Comes (and_then (bound_scaled m b) (λ y. bounds_joined number x y)) now r
+multiple_added number x now m b c r e h = subst (λ (d : farkas.Bound). Comes (and_then (bound_scaled m d) (λ y. bounds_joined number x y)) now r) (sym e) h
+
+-- what is asked follows from what is known
+pub units_added : {X E : Type 0} (r : Result X E) (P Q R S : List Node → Type 0) → ((ns : List Node) → S ns → Q ns) → OnOk r ((ns : List Node) → P ns → Q ns → R ns)
+    → OnOk r ((ns : List Node) → P ns → S ns → R ns)
+units_added (Ok x) P Q R S f h = λ ns p s. h ns p (f ns s)
+units_added (Err e) P Q R S f h = h

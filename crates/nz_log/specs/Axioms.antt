@@ -1,13 +1,17 @@
 -- Clauses that hold by arithmetic alone, and what the log says of each: the step that gives it.
-use Rattle.std.specs.Prelude.{◌≡◌, ℕ, ◌<◌, ◌++◌, IsTrue, List, [], length, map, Option, Some, None}
+use Rattle.std.specs.Prelude.{◌≡◌, ℕ, ◌<◌, ◌++◌, IsTrue, List, [], length, map, Option, Some, None, pos}
 use Rattle.std.specs.List.{list_all, AllByRecursion}
-use Rattle.nz_fractions.specs.Fraction.{Operation, first_wide}
-use Rattle.nz_spec.specs.Computation.{Computation}
+use Rattle.nz_fractions.specs.Fraction.{Fraction, whole, neg_ℚ, Difference, Operation, first_wide}
+use Rattle.nz_spec.specs.Computation.{Computation, operated, turned_into}
 use Rattle.nz_spec.specs.Farkas as farkas
 use Rattle.nz_spec.specs.Farkas.{bound_of, is_multiple}
+use Rattle.nz_spec.specs.Form.{negated_part}
 use Rattle.nz_spec.specs.FormOf.{number_in}
+use Rattle.nz_spec.specs.Literal.{Literal, is_at_most}
 use Rattle.nz_spec.specs.Table.{Node, IsTable, term_in}
 use Rattle.nz_spec.specs.Steps.{Step, link_step, unit_step, farkas_step, branch_step, cut_step, step_clause, step_operations, IsSortedStep}
+use Rattle.nz_lin.specs.declared.bound.Bound.{Bound}
+use Rattle.nz_lin.specs.Forms.{parts_over}
 use Rattle.nz_log.specs.declared.atoms.Atom.{Atom}
 use Rattle.nz_log.specs.declared.lits.Lit.{Lit}
 use Rattle.nz_log.specs.declared.multiples.Multiple.{Multiple}
@@ -78,3 +82,11 @@ sum_in ns atoms ms = farkas.sum_of_multiples (number_in ns) (multiples_in ns ato
 -- the negations of the literals
 abbrev pub negated_lits : List Multiple → List Lit
 negated_lits ms = map (λ (m : Multiple). negated_lit m.literal) ms
+
+-- what the negative of an integer is at most where the integer is above this one
+abbrev pub next_limit : Fraction → Computation Fraction
+next_limit k = operated Difference (neg_ℚ k) (whole (pos 1))
+
+-- a sum is at least the next integer
+abbrev pub above_literal : List Node → Bound → Computation Literal
+above_literal ns b = turned_into (λ c. is_at_most (map negated_part (parts_over ns b.sides.parts)) c) (next_limit b.sides.offset)

@@ -1,10 +1,12 @@
 pub mod Atoms
 pub mod Axioms
+pub mod Comparisons
 pub mod Keys
 pub mod Leveled
 pub mod Lits
 pub mod Logs
 pub mod Marked
+pub mod Meanings
 pub mod Notes
 pub mod Peaks
 pub mod Rows

@@ -9,10 +9,12 @@ use Rattle.nz_spec.specs.Literal.{once}
 use Rattle.nz_log.specs.declared.atoms.Atom.{Atom}
 use Rattle.nz_log.specs.declared.lits.Lit.{Lit}
 use Rattle.nz_log.specs.declared.origins.Link.{Link}
+use Rattle.nz_log.specs.declared.rows.Said.{Said}
 use Rattle.nz_log.specs.Atoms.{Stay, literal_in, terms_at, lit_of, lits_of}
 use Rattle.nz_log.specs.declared.multiples.Multiple.{Multiple}
 use Rattle.nz_log.specs.Axioms.{AreMultiplesIn, Axiom, IsClauseOf, branch_of, cut_of}
 use Rattle.nz_log.specs.Lits.{are_same_lit, lit_resolvent}
+use Rattle.nz_log.specs.Rows.{AreLitsOf, AreSaidIn}
 use Rattle.nz_log.specs.TermLits.{yes, gates_at}
 
 -- how a clause was made
@@ -169,6 +171,12 @@ abbrev pub resolvent_entry : LogState → ℕ → ℕ → Lit → Entry
 resolvent_entry s first second l =
     made_entry s (max (level_at s first) (level_at s second)) (lit_resolvent l (literals_at s first) (literals_at s second))
     (chain_of first (record { clause = second; literal = l } ∷ []))
+
+-- the clause of a row is put
+pub record PutsRow (old : LogState) (id : ℕ) (a : Axiom) (row : List Said) (new : LogState) : Type 0 where
+  pub literals : List Lit
+  pub puts : Puts old id (axiom_entry new a (once are_same_lit literals)) new
+  pub made : (ns : List Node) → AreSaidIn ns row → AreLitsOf ns new.atoms row literals
 
 -- a clause that holds by arithmetic alone is put: over a table it is that of the step
 pub record PutsAxiom (ns : List Node) (old : LogState) (id : ℕ) (a : Axiom) (new : LogState) : Type 0 where

@@ -4,22 +4,24 @@ ghost use Rattle.std.specs.List.{AllByRecursion};
 ghost use Rattle.nz_spec.specs.LinearLiteral.{HaveSortedUnits, are_integral, is_whole, parts_of};
 ghost use Rattle.nz_spec.specs.Steps.{branch_step, cut_step};
 ghost use Rattle.nz_spec.specs.Table.{IsTable, Node};
-ghost use Rattle.nz_lin.specs.Bounds.{HasUnits};
+ghost use Rattle.nz_lin.specs.Bounds.{HasUnits, IsLiteral};
+ghost use Rattle.nz_lin.specs.Comes.{IsOperated};
 ghost use Rattle.nz_lin.specs.Forms.{parts_over};
 ghost use Rattle.nz_lin.specs.Stops.{IsStopAt};
 ghost use Rattle.nz_log.specs.Atoms.{AreAtoms, literal_in};
-ghost use Rattle.nz_log.specs.Axioms.{AreMultiples, AreMultiplesIn, first_wide_in_step, multiples_in, sum_in};
+ghost use Rattle.nz_log.specs.Axioms.{AreMultiples, AreMultiplesIn, above_literal, first_wide_in_step, multiples_in, next_limit, sum_in};
 ghost use Rattle.nz_log.specs.Logs.{JoinsAtoms, PutsBranch, PutsCut};
 ghost use Rattle.nz_log.specs.Sound.{IsLog};
 
 use crate::log::Log;
 use crate::multiples::Multiple;
-use crate::origins::{Axiom, ClauseId, Origin};
+use crate::origins::{Axiom, ClauseId};
 use crate::sums::negations;
-use nz_frac::Frac;
+use nz_frac::{Frac, Wide};
 use nz_lin::{Bound, LinStop};
 use nz_spec::derivation::tells_literals;
 use nz_spec::table::{one_number, term_stays};
+use std::alloc::Global;
 
 impl Log {
     /// The clause that a sum of integers is at most an integer, the limit of this bound, or at least the next one.
@@ -42,13 +44,10 @@ impl Log {
         one_number();
         term_stays();
         self.atom_count();
-        let alloc = self.alloc();
-        let next = bound.limit().neg().sub(Frac::whole(1))?;
-        let other = bound.not(alloc)?.with_limit(next);
+        let other = above(self.alloc(), &bound)?;
         let first = self.bound_literal(bound)?;
         let second = self.bound_literal(other)?;
-        let id = self.put_leaf(&[first, second], 0, Origin::Axiom(Axiom::Branch(first)))?;
-        Ok(id)
+        Ok(self.put_axiom(&[first, second], Axiom::Branch(first))?)
     }
 
     /// The clause that one of these literals is false, or the sum of their multiples, which is one of integers, is within its rounded limit.
@@ -78,7 +77,23 @@ impl Log {
         let multiples = Vec::from_slice(alloc, multiples)?;
         let last = self.bound_literal(sum.with_limit(limit))?;
         literals.push(last)?;
-        let id = self.put_leaf(&literals, 0, Origin::Axiom(Axiom::Cut(multiples)))?;
-        Ok(id)
+        Ok(self.put_axiom(&literals, Axiom::Cut(multiples))?)
     }
+}
+
+/// A sum of integers isn't at most an integer, the limit of this bound: it is at least the next one.
+fn above(alloc: Global, bound: &Bound) -> Result<Bound, LinStop>
+    ensures literal { (ns : List Node) → HasUnits ns bound.now → IsLiteral ns (above_literal ns bound.now) result }
+    ensures normal { IfOk result (λ b. b.strict ≡ false) }
+{
+    let limit = next_limit(bound.limit())?;
+    Ok(bound.not(alloc)?.with_limit(limit))
+}
+
+/// What the negative of an integer is at most where the integer is above this one.
+#[tactic(auto, unfolding(nz_fractions::specs::Fraction::first_wide))]
+fn next_limit(limit: Frac) -> Result<Frac, Wide>
+    ensures next { IsOperated (next_limit limit) result }
+{
+    limit.neg().sub(Frac::whole(1))
 }

@@ -3,11 +3,14 @@
 #![tactic(auto)]
 
 mod atoms;
+mod axioms;
+mod bounds;
 mod climb;
 mod decide;
 mod gates;
 mod integers;
 pub mod laws;
+mod link_rows;
 mod links;
 mod lits;
 mod log;
@@ -30,12 +33,12 @@ pub use atoms::Atom;
 pub use climb::{Climb, Peak, Route};
 pub use decide::{Decide, Verdict};
 pub use gates::gate_count;
+pub use link_rows::link_count;
 pub use lits::{AtomId, Lit};
 pub use log::Log;
 pub use multiples::Multiple;
 pub use note::Note;
 pub use origins::{ClauseId, Link};
-pub use rows::link_count;
 pub use steps::{Literal, LiteralMultiple, Step};
 pub use stop::Stop;
 pub use term_lits::TermLit;

@@ -7,16 +7,17 @@ ghost use Rattle.nz_spec.specs.Order.{HasCompanions};
 ghost use Rattle.nz_spec.specs.Steps.{link_step};
 ghost use Rattle.nz_spec.specs.Table.{Node, term_in};
 ghost use Rattle.nz_lin.specs.Stops.{IsStopAt};
-ghost use Rattle.nz_log.specs.Atoms.{AreAtoms, AreWithin, IsLitIn, clause_in, literal_in};
+ghost use Rattle.nz_log.specs.Atoms.{AreAtoms, IsLitIn, literal_in};
 ghost use Rattle.nz_log.specs.Axioms.{first_wide_in_step, link_of};
 ghost use Rattle.nz_log.specs.Logs.{JoinsAtoms, PutsAxiom};
-ghost use Rattle.nz_log.specs.Rows.{AreSaidIn, IsSaidIn, said_in, saids_in};
+ghost use Rattle.nz_log.specs.Rows.{AreLitsOf, AreSaidIn, IsSaidIn, said_in};
 ghost use Rattle.nz_log.specs.Sound.{IsLog};
 
+use crate::link_rows::link_row;
 use crate::lits::Lit;
 use crate::log::Log;
-use crate::origins::{Axiom, ClauseId, Origin};
-use crate::rows::{Said, link_row};
+use crate::origins::{Axiom, ClauseId};
+use crate::rows::Said;
 use nz_base::Memory;
 use nz_lin::LinStop;
 use nz_spec::derivation::tells_literals;
@@ -49,19 +50,16 @@ impl Log {
         term_stays();
         known_table(terms);
         self.atom_count();
-        let Some(row) = link_row(self.alloc(), terms, term, j)? else {
-            unreachable!()
-        };
-        let literals = self.said_lits(row)?;
-        let id = self.put_leaf(&literals, 0, Origin::Axiom(Axiom::Link(term, j)))?;
-        Ok(id)
+        match link_row(self.alloc(), terms, term, j)? {
+            Some(row) => Ok(self.put_row(row, Axiom::Link(term, j))?),
+            None => unreachable!(),
+        }
     }
 
     /// The literals of a row, whose atoms join the others where they aren't there.
     #[tactic(auto, using(crate::proofs::Joining::joins_twice))]
     pub(crate) fn said_lits(&mut self, row: Vec<Said>) -> Result<Vec<Lit>, Memory>
-        ensures literals { IfOk result (λ v. (ns : List Node) → clause_in ns self.new.atoms v.items ≡ saids_in ns row.items) }
-        ensures within { IfOk result (λ v. (ns : List Node) → AreSaidIn ns row.items → AreWithin ns self.new.atoms v.items) }
+        ensures literals { IfOk result (λ v. (ns : List Node) → AreSaidIn ns row.items → AreLitsOf ns self.new.atoms row.items v.items) }
         ensures joins { JoinsAtoms self.old self.new }
         ensures atoms { AreAtoms self.new.atoms }
     {

@@ -21,7 +21,7 @@ use crate::atoms::Atom;
 use crate::lits::Lit;
 use crate::log::Log;
 use crate::multiples::Multiple;
-use crate::origins::{Axiom, ClauseId, Origin};
+use crate::origins::{Axiom, ClauseId};
 use nz_base::Memory;
 use nz_lin::{Bound, LinStop};
 use nz_spec::derivation::tells_literals;
@@ -54,13 +54,13 @@ impl Log {
         let alloc = self.alloc();
         let literals = negations(alloc, multiples)?;
         let multiples = Vec::from_slice(alloc, multiples)?;
-        let id = self.put_leaf(&literals, 0, Origin::Axiom(Axiom::Farkas(multiples)))?;
-        Ok(id)
+        Ok(self.put_axiom(&literals, Axiom::Farkas(multiples))?)
     }
 
     /// The sum of these multiples. A literal on a term says nothing of a sum.
     pub(crate) fn sum(&self, multiples: &[Multiple]) -> Result<Bound, LinStop>
         ensures sum { (ns : List Node) → IsTable ns → AreMultiplesIn ns self.now.atoms multiples.now → IsBounded ns (sum_in ns self.now.atoms multiples.now) result }
+        ensures units { IfOk result (λ b. (ns : List Node) → AreMultiplesIn ns self.now.atoms multiples.now → HasUnits ns b) }
     {
         let mut sum = Bound::empty(self.alloc());
         for multiple in multiples {
@@ -75,18 +75,17 @@ impl Log {
         ensures units { OnOk result ((ns : List Node) → HasUnits ns sum.old → IsLitIn ns self.now.atoms multiple.literal → HasUnits ns sum.new) }
     {
         let alloc = self.alloc();
+        let factor = multiple.multiplier;
         match self.atom_of(multiple.literal) {
             Some(Atom::AtMost(bound)) => {
                 if multiple.literal.sign {
-                    sum.join_multiple(alloc, multiple.multiplier, bound)
+                    sum.join_multiple(alloc, factor, bound)
                 } else {
-                    sum.join_multiple(alloc, multiple.multiplier, &bound.not(alloc)?)
+                    sum.join_multiple(alloc, factor, &bound.not(alloc)?)
                 }
             }
-            Some(Atom::Term(_)) => {
-                sum.join_multiple(alloc, multiple.multiplier, &Bound::empty(alloc))
-            }
-            None => sum.join_multiple(alloc, multiple.multiplier, &Bound::empty(alloc)),
+            Some(Atom::Term(_)) => sum.join_multiple(alloc, factor, &Bound::empty(alloc)),
+            None => sum.join_multiple(alloc, factor, &Bound::empty(alloc)),
         }
     }
 }

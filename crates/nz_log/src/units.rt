@@ -14,7 +14,7 @@ ghost use Rattle.nz_log.specs.Logs.{JoinsAtoms, PutsAxiom};
 ghost use Rattle.nz_log.specs.Sound.{IsLog};
 
 use crate::log::Log;
-use crate::origins::{Axiom, ClauseId, Origin};
+use crate::origins::{Axiom, ClauseId};
 use crate::unit_rows::unit_row;
 use nz_lin::LinStop;
 use nz_spec::derivation::tells_literals;
@@ -47,11 +47,9 @@ impl Log {
         term_stays();
         known_table(terms);
         self.atom_count();
-        let Some(row) = unit_row(self.alloc(), terms, term, j)? else {
-            unreachable!()
-        };
-        let literals = self.said_lits(row)?;
-        let id = self.put_leaf(&literals, 0, Origin::Axiom(Axiom::Unit(term, j)))?;
-        Ok(id)
+        match unit_row(self.alloc(), terms, term, j)? {
+            Some(row) => Ok(self.put_row(row, Axiom::Unit(term, j))?),
+            None => unreachable!(),
+        }
     }
 }

@@ -1,5 +1,5 @@
 -- One multiple more.
-use Rattle.std.proofs.Common.{◌≡◌, ◌<◌, List, length, Err, sym, ap, subst, ◌∙◌, arith}
+use Rattle.std.proofs.Common.{◌≡◌, ◌<◌, List, length, Err, sym, ap, subst, ◌∙◌, arith, rules}
 use Rattle.std.proofs.lemmas.List.{drop_all}
 use Rattle.std.proofs.lemmas.Result.{err_from_is_err_and}
 use Rattle.nz_spec.specs.Table.{Node}
@@ -32,6 +32,7 @@ returns-in_err-add_multiple c =
           subst (λ r. IsBounded ns (sum_in ns atoms ms) r) (sym (error.1 ∙ ap Err error.2))
           (sum_stops ns atoms ms i (bound_over ns c.loop-multiple.sum) (c.loop-multiple.invariant.left ns table within) m inside c.multiple-item.is
           c.in_err-add_multiple.field-0.0 (c.in_err-add_multiple.ensures.comes ns table (c.loop-multiple.invariant.units ns within) own));
+      units = search rules;
     }
 
 pub loop-multiple-preserved : goal.loop-multiple-preserved
@@ -61,4 +62,5 @@ returns c =
             sum_done ns atoms ms i (bound_over ns c.loop-multiple.sum) (c.loop-multiple.invariant.left ns table within) (drop_all i ms (omega arith)),
             c.loop-multiple.invariant.units ns within,
           );
+      units = c.loop-multiple.invariant.units;
     }
