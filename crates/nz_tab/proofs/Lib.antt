@@ -5,9 +5,14 @@ pub mod Exchanged
 pub mod Exchanging
 pub mod Firsts
 pub mod Joined
+pub mod Numbering
 pub mod Numbers
 pub mod Pivoting
+pub mod Pushing
+pub mod RoomLeft
+pub mod SameRow
 pub mod Solving
+pub mod Summing
 pub mod Tableau
 pub mod UnitForms
 pub mod Uniting
