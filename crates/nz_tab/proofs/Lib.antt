@@ -12,6 +12,7 @@ pub mod Pushing
 pub mod RoomLeft
 pub mod SameRow
 pub mod Solving
+pub mod Storing
 pub mod Summing
 pub mod Tableau
 pub mod UnitForms

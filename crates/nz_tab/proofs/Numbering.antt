@@ -69,30 +69,31 @@ module _ (ns : List Node) (number : (i : ℕ) → i < length ns → number_in ns
 number_below : (fs : List (List Part)) (u k : ℕ) → unit_number fs u ≡ Some k → k < length fs
 number_below fs u k e = (number_found [] fs u k e).0
 
+-- the units that join, and the addends, by what number the first part's unit has
+abbrev units_by : List (List Part) → Part → List Part → Option ℕ → List (List Part)
+units_by fs p ps o = if is_some o then new_units fs ps else unit_of p ∷ new_units fs ps
+
+abbrev addends_by : List (List Part) → Part → List Part → ℕ → Option ℕ → List (ℕ × Fraction)
+addends_by fs p ps next o =
+    elim o [
+      | Some k ↦ (k, p.coefficient) ∷ addends fs next ps
+      | None ↦ (next, p.coefficient) ∷ addends fs (suc next) ps
+    ]
+
 -- the numbers of a form's units are those of forms, or of units that join
 pub addends_within : (fs : List (List Part)) (ps : List Part) (next : ℕ) → length fs ≤ next → AllByRecursion (λ (a : ℕ × Fraction). a.0 < next + length (new_units fs ps)) (addends fs next ps)
 addends_within fs [] next past = _
 addends_within fs (p ∷ ps) next past = by_number (unit_number fs p.unit) refl (addends_within fs ps)
   where
-    abbrev units : Option ℕ → List (List Part)
-    units o = if is_some o then new_units fs ps else unit_of p ∷ new_units fs ps
-
-    abbrev added : Option ℕ → List (ℕ × Fraction)
-    added o =
-        elim o [
-          | Some k ↦ (k, p.coefficient) ∷ addends fs next ps
-          | None ↦ (next, p.coefficient) ∷ addends fs (suc next) ps
-        ]
-
     by_number : (o : Option ℕ) → unit_number fs p.unit ≡ o
         → ((m : ℕ) → length fs ≤ m → AllByRecursion (λ (a : ℕ × Fraction). a.0 < m + length (new_units fs ps)) (addends fs m ps))
-        → AllByRecursion (λ (a : ℕ × Fraction). a.0 < next + length (units (unit_number fs p.unit))) (added (unit_number fs p.unit))
+        → AllByRecursion (λ (a : ℕ × Fraction). a.0 < next + length (units_by fs p ps (unit_number fs p.unit))) (addends_by fs p ps next (unit_number fs p.unit))
     by_number (Some k) e rest =
-        subst (λ (o : Option ℕ). AllByRecursion (λ (a : ℕ × Fraction). a.0 < next + length (units o)) (added o)) (sym e)
+        subst (λ (o : Option ℕ). AllByRecursion (λ (a : ℕ × Fraction). a.0 < next + length (units_by fs p ps o)) (addends_by fs p ps next o)) (sym e)
         (omega (arith, number_below fs p.unit k e, past), rest next past)
     by_number None e rest =
         let far : suc next + length (new_units fs ps) ≡ next + suc (length (new_units fs ps)) = omega arith in
-        subst (λ (o : Option ℕ). AllByRecursion (λ (a : ℕ × Fraction). a.0 < next + length (units o)) (added o)) (sym e)
+        subst (λ (o : Option ℕ). AllByRecursion (λ (a : ℕ × Fraction). a.0 < next + length (units_by fs p ps o)) (addends_by fs p ps next o)) (sym e)
         (omega arith, subst (λ (m : ℕ). AllByRecursion (λ (a : ℕ × Fraction). a.0 < m) (addends fs (suc next) ps)) far (rest (suc next) (omega (arith, past))))
 
 pub all_addends_within : (fs : List (List Part)) (ps : List Part) → All (λ (a : ℕ × Fraction). a.0 < length fs + length (new_units fs ps)) (addends fs (length fs) ps)

@@ -7,7 +7,7 @@ use Rattle.std.proofs.lemmas.List.{drop-append-le, get_or-append_right, get_or-m
 use Rattle.nz_fractions.specs.Fraction.{Fraction, whole}
 use Rattle.nz_spec.specs.Basis.{Coefficients}
 use Rattle.nz_spec.specs.BasisMoves.{numbers}
-use Rattle.nz_tab.specs.Rows.{Grid, basic, is_marked, is_nonbasic, row_in, rows_of, size_of}
+use Rattle.nz_tab.specs.Rows.{ArePlaces, Grid, IsGrid, basic, is_marked, is_nonbasic, row_in, rows_of, size_of}
 use Rattle.nz_tab.specs.Sums.{IsSummed, sum_over}
 use Rattle.nz_tab.proofs.Blocks.{marked_within, row_within}
 use Rattle.nz_tab.proofs.Numbers.{number_at, one_fails, one_passes, place_within}
@@ -126,3 +126,11 @@ module _ (g : Grid) (row : List Fraction) where
         ∙ more
         ∙ ap (λ (m : ℕ). m * length (numbers n f)) (sym (ap length basics_more ∙ length_push (numbers n (basic f)) n ∙ add-one (length (numbers n (basic f)))))
         ∙ ap (λ (l : List ℕ). length (numbers (length pushed.marks) (basic (is_nonbasic pushed))) * length l) (sym columns_stay)
+
+    -- and all is stored as it was
+    pub pushed_grid : (places later : List ℕ) (width : ℕ) → IsGrid g.marks places width g.block → ArePlaces pushed.marks later → length row ≡ length (numbers n f) → IsGrid pushed.marks later width pushed.block
+    pushed_grid places later width is placed long = record {
+      placed = placed;
+      wide = is.wide ∙ sym (ap length columns_stay);
+      whole_block = pushed_block long;
+    }

@@ -31,17 +31,14 @@ use Rattle.nz_tab.proofs.Uniting.{Holds, addends_numbered, joined_to, numbered, 
 module _ (ns : List Node) (number : (i : ℕ) → i < length ns → number_in ns (term_in ns i) ≡ i) (gs : List (List Part)) (ks : List ℕ) (f : ℕ → Bool) (rows later : Rows) (same : (m : ℕ) → m < length gs → f m ≡ false → later m ≡ rows m) where
   one_is_part : (c : Coefficients) (p : Part) → NamesUnit ns p → number_of ns number gs p < length gs
       → one_added ks f later c (number_of ns number gs p, p.coefficient) ≡ part_added ks f rows (number_by ns gs) c (part_over ns p)
-  one_is_part c p names inside = by_test (f m) refl ∙ ap (λ (k : ℕ). one_added ks f rows c (k, p.coefficient)) (sym (number_is ns number gs p names))
+  one_is_part c p names inside =
+      by_test (number_of ns number gs p) inside (f (number_of ns number gs p)) refl ∙ ap (λ (k : ℕ). one_added ks f rows c (k, p.coefficient)) (sym (number_is ns number gs p names))
     where
-      abbrev m : ℕ
-      m = number_of ns number gs p
-
-      abbrev at_place : Computation Coefficients
-      at_place = one_added ks (λ (k : ℕ). true) rows c (m, p.coefficient)
-
-      by_test : (b : Bool) → f m ≡ b → (if b then at_place else plus_multiple ks c p.coefficient (later m)) ≡ (if b then at_place else plus_multiple ks c p.coefficient (rows m))
-      by_test true e = refl
-      by_test false e = ap (plus_multiple ks c p.coefficient) (same m inside e)
+      by_test : (m : ℕ) → m < length gs → (b : Bool) → f m ≡ b
+          → (if b then one_added ks (λ (k : ℕ). true) rows c (m, p.coefficient) else plus_multiple ks c p.coefficient (later m))
+          ≡ (if b then one_added ks (λ (k : ℕ). true) rows c (m, p.coefficient) else plus_multiple ks c p.coefficient (rows m))
+      by_test m within true e = refl
+      by_test m within false e = ap (plus_multiple ks c p.coefficient) (same m within e)
 
   pub all_are_parts : (ps : List Part) (c : Coefficients) → AllByRecursion (NamesUnit ns) ps → AllByRecursion (λ (p : Part). number_of ns number gs p < length gs) ps
       → all_added ks f later c (numbered gs ps) ≡ parts_added ks f rows (number_by ns gs) c (parts_over ns ps)

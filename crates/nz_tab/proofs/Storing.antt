@@ -1,0 +1,68 @@
+-- What a table stores stays in order when units and forms join, and when more room is made.
+use Rattle.std.proofs.Common.{◌≡◌, ℕ, ◌+◌, ◌≤◌, Bool, true, false, List, [], ◌∷◌, ◌++◌, length, Option, Some, None, refl, sym, ap, ◌∙◌, arith}
+use Rattle.std.specs.Prelude.{if◌then◌else◌, ◌==◌, ◌&&◌}
+use Rattle.std.proofs.lemmas.List.{length_push}
+use Rattle.nz_spec.specs.BasisMoves.{JoinsKeepBasis}
+use Rattle.nz_spec.specs.FormOf.{TermHasItsNumber}
+use Rattle.nz_lin.specs.declared.form.Part.{Part}
+use Rattle.nz_tab.specs.Rows.{Grid, HasRoom}
+use Rattle.nz_tab.specs.Sums.{HasRoomForSum, IsSummed, IsWidened}
+use Rattle.nz_tab.specs.Tables.{IsStored}
+use Rattle.nz_tab.specs.Units.{addends, is_form_of, is_one, is_unit_form, new_units, unit_number, unit_of, with_units}
+use Rattle.nz_tab.proofs.Joined.{unit_tableau}
+use Rattle.nz_tab.proofs.RoomLeft.{room_for_sum, room_for_units}
+use Rattle.nz_tab.proofs.Summing.{sum_tableau, units_count}
+use Rattle.nz_tab.proofs.UnitForms.{number_behind, number_stays}
+
+-- ---- A form that is no unit
+
+and_fails : (b : Bool) → (b && false) ≡ false
+and_fails true = refl
+and_fails false = refl
+
+no_unit : (f : List Part) (u : ℕ) → is_unit_form f ≡ false → is_form_of u f ≡ false
+no_unit [] u e = refl
+no_unit (p ∷ []) u e = ap (λ (b : Bool). (p.unit == u) && b) e ∙ and_fails (p.unit == u)
+no_unit (p ∷ q ∷ ps) u e = refl
+
+-- it takes no number from a unit
+pub same_number_behind : (fs : List (List Part)) (f : List Part) (u : ℕ) → is_unit_form f ≡ false → unit_number (fs ++ f ∷ []) u ≡ unit_number fs u
+same_number_behind fs f u e = by_number (unit_number fs u) refl
+  where
+    by_number : (o : Option ℕ) → unit_number fs u ≡ o → unit_number (fs ++ f ∷ []) u ≡ unit_number fs u
+    by_number (Some k) h = number_stays fs (f ∷ []) u k h ∙ sym h
+    by_number None h = number_behind fs f u h ∙ ap (λ (b : Bool). if b then Some (length fs) else None) (no_unit f u e) ∙ sym h
+
+module _ (forms : List (List Part)) (old : Grid) (unit_at : ℕ → Option ℕ) (columns solved spare : ℕ) (s : IsStored forms old unit_at columns solved spare) (unit_then : ℕ → Option ℕ) (c d e : ℕ) where
+  -- more room
+  pub stored_still : ((u : ℕ) → unit_then u ≡ unit_at u) → columns ≤ c → solved ≤ d → spare ≤ e → IsStored forms old unit_then c d e
+  stored_still same more_columns more_solved more_spare = record {
+    count = s.count;
+    tableau = s.tableau;
+    units = λ u. same u ∙ s.units u;
+    room = record {
+      for_columns = omega (arith, s.room.for_columns, more_columns);
+      for_solved = omega (arith, s.room.for_solved, more_solved);
+      for_block = omega (arith, s.room.for_block, more_spare);
+    };
+  }
+
+  module _ (law : JoinsKeepBasis) (numbers : TermHasItsNumber) (mid : Grid) where
+    pub stored_unit : (p : Part) → unit_number forms p.unit ≡ None → IsWidened old mid 1 → HasRoomForSum old 1 c d e
+        → ((u : ℕ) → unit_then u ≡ unit_number (forms ++ unit_of p ∷ []) u) → IsStored (forms ++ unit_of p ∷ []) mid unit_then c d e
+    stored_unit p none w room units = record {
+      count = w.count ∙ ap (λ (n : ℕ). n + 1) s.count ∙ sym (length_push forms (unit_of p));
+      tableau = unit_tableau law numbers forms old mid p s.count none w s.tableau;
+      units = units;
+      room = room_for_units old mid 1 w c d e room;
+    }
+
+    pub stored_sum : (f : List Part) → is_unit_form f ≡ false → IsWidened old mid (length (new_units forms f)) → HasRoomForSum old (length (new_units forms f)) c d e
+        → (new : Grid) → IsSummed mid new (addends forms (length forms) f) → ((u : ℕ) → unit_then u ≡ unit_number (with_units forms f) u)
+        → IsStored (with_units forms f ++ f ∷ []) new unit_then c d e
+    stored_sum f none w room new joined units = record {
+      count = joined.count ∙ ap (λ (n : ℕ). n + 1) (units_count forms f old mid s.count w) ∙ sym (length_push (with_units forms f) f);
+      tableau = sum_tableau law numbers forms f old mid new s.count w joined s.tableau;
+      units = λ u. units u ∙ sym (same_number_behind (with_units forms f) f u none);
+      room = room_for_sum old mid (length (new_units forms f)) w c d e room new (addends forms (length forms) f) joined;
+    }
