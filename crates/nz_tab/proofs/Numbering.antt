@@ -1,8 +1,8 @@
 -- The units of a form have their numbers among the forms with them.
-use Rattle.std.proofs.Common.{◌≡◌, ℕ, suc, ◌+◌, ◌<◌, ◌≤◌, Bool, true, false, List, [], ◌∷◌, ◌++◌, length, map, Option, Some, None, refl, sym, ap, ◌∙◌, subst, arith}
+use Rattle.std.proofs.Common.{◌≡◌, ℕ, suc, add-one, ◌+◌, ◌<◌, ◌≤◌, Bool, true, false, List, [], ◌∷◌, ◌++◌, length, map, Option, Some, None, refl, sym, ap, ◌∙◌, subst, arith}
 use Rattle.std.specs.Prelude.{if◌then◌else◌, All, unwrap_or, is_some}
 use Rattle.std.specs.List.{AllByRecursion}
-use Rattle.std.proofs.lemmas.List.{length-map, length_push}
+use Rattle.std.proofs.lemmas.List.{append_assoc, length-map}
 use Rattle.std.proofs.lemmas.List.Elements.{All-from_recursion}
 use Rattle.nz_fractions.specs.Fraction.{Fraction}
 use Rattle.nz_spec.specs.FormOf.{number_in}
@@ -79,6 +79,18 @@ addends_by fs p ps next o =
       | Some k ↦ (k, p.coefficient) ∷ addends fs next ps
       | None ↦ (next, p.coefficient) ∷ addends fs (suc next) ps
     ]
+
+-- one addend more
+pub addends_step : (fs : List (List Part)) (p : Part) (ps : List Part) (next later : ℕ) (o : Option ℕ) → o ≡ unit_number fs p.unit → later ≡ (if is_some o then next else next + 1) → (done : List (ℕ × Fraction))
+    → (done ++ (unwrap_or o next, p.coefficient) ∷ []) ++ addends fs later ps ≡ done ++ addends fs next (p ∷ ps)
+addends_step fs p ps next later (Some k) e g done =
+    append_assoc done ((k, p.coefficient) ∷ []) (addends fs later ps)
+    ∙ ap (λ (n : ℕ). done ++ (k, p.coefficient) ∷ addends fs n ps) g
+    ∙ ap (λ (o : Option ℕ). done ++ addends_by fs p ps next o) e
+addends_step fs p ps next later None e g done =
+    append_assoc done ((next, p.coefficient) ∷ []) (addends fs later ps)
+    ∙ ap (λ (n : ℕ). done ++ (next, p.coefficient) ∷ addends fs n ps) (g ∙ add-one next)
+    ∙ ap (λ (o : Option ℕ). done ++ addends_by fs p ps next o) e
 
 -- the numbers of a form's units are those of forms, or of units that join
 pub addends_within : (fs : List (List Part)) (ps : List Part) (next : ℕ) → length fs ≤ next → AllByRecursion (λ (a : ℕ × Fraction). a.0 < next + length (new_units fs ps)) (addends fs next ps)

@@ -8,7 +8,7 @@ use Rattle.nz_lin.specs.declared.form.Part.{Part}
 use Rattle.nz_tab.specs.Rows.{Grid, HasRoom}
 use Rattle.nz_tab.specs.Sums.{HasRoomForSum, IsSummed, IsWidened}
 use Rattle.nz_tab.specs.Tables.{IsStored}
-use Rattle.nz_tab.specs.Units.{addends, is_form_of, is_one, is_unit_form, new_units, unit_number, unit_of, with_units}
+use Rattle.nz_tab.specs.Units.{AreNumbers, addends, is_form_of, is_one, is_unit_form, new_units, unit_number, unit_of, with_units}
 use Rattle.nz_tab.proofs.Joined.{unit_tableau}
 use Rattle.nz_tab.proofs.RoomLeft.{room_for_sum, room_for_units}
 use Rattle.nz_tab.proofs.Summing.{sum_tableau, units_count}
@@ -49,7 +49,7 @@ module _ (forms : List (List Part)) (old : Grid) (unit_at : ℕ → Option ℕ) 
 
   module _ (law : JoinsKeepBasis) (numbers : TermHasItsNumber) (mid : Grid) where
     pub stored_unit : (p : Part) → unit_number forms p.unit ≡ None → IsWidened old mid 1 → HasRoomForSum old 1 c d e
-        → ((u : ℕ) → unit_then u ≡ unit_number (forms ++ unit_of p ∷ []) u) → IsStored (forms ++ unit_of p ∷ []) mid unit_then c d e
+        → AreNumbers unit_then (forms ++ unit_of p ∷ []) → IsStored (forms ++ unit_of p ∷ []) mid unit_then c d e
     stored_unit p none w room units = record {
       count = w.count ∙ ap (λ (n : ℕ). n + 1) s.count ∙ sym (length_push forms (unit_of p));
       tableau = unit_tableau law numbers forms old mid p s.count none w s.tableau;
@@ -58,7 +58,7 @@ module _ (forms : List (List Part)) (old : Grid) (unit_at : ℕ → Option ℕ) 
     }
 
     pub stored_sum : (f : List Part) → is_unit_form f ≡ false → IsWidened old mid (length (new_units forms f)) → HasRoomForSum old (length (new_units forms f)) c d e
-        → (new : Grid) → IsSummed mid new (addends forms (length forms) f) → ((u : ℕ) → unit_then u ≡ unit_number (with_units forms f) u)
+        → (new : Grid) → IsSummed mid new (addends forms (length forms) f) → AreNumbers unit_then (with_units forms f)
         → IsStored (with_units forms f ++ f ∷ []) new unit_then c d e
     stored_sum f none w room new joined units = record {
       count = joined.count ∙ ap (λ (n : ℕ). n + 1) (units_count forms f old mid s.count w) ∙ sym (length_push (with_units forms f) f);

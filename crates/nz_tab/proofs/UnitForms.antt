@@ -1,10 +1,10 @@
 -- The numbers of units among forms.
 use Rattle.std.proofs.Common.{◌≡◌, ℕ, zero, suc, add-one, ◌+◌, ◌<◌, ◌≤◌, Bool, true, false, List, [], ◌∷◌, ◌++◌, length, map, get_or, Option, Some, None, pos, refl, sym, ap, ◌∙◌, subst, true≢false, arith}
-use Rattle.std.specs.Prelude.{if◌then◌else◌, ◌==◌, ◌≢◌, ◌&&◌, Contains, option_map, is_some}
+use Rattle.std.specs.Prelude.{if◌then◌else◌, cond, nat_eq, ◌==◌, ◌≢◌, ◌&&◌, Contains, option_map, is_some}
 use Rattle.std.specs.Ordering.{int_eq}
 use Rattle.std.specs.List.{AllByRecursion}
 use Rattle.std.proofs.lemmas.Bool.{and_parts}
-use Rattle.std.proofs.lemmas.Bool.Decides.{Decides-int_eq}
+use Rattle.std.proofs.lemmas.Bool.Decides.{Decides-int_eq, nat_tests}
 use Rattle.std.proofs.lemmas.List.{get_or-map, get_or_default, length-map}
 use Rattle.std.proofs.lemmas.List.Elements.{All-from_recursion}
 use Rattle.nz_fractions.specs.Fraction.{Fraction, whole}
@@ -16,7 +16,7 @@ use Rattle.nz_spec.specs.Basis.{form_at}
 use Rattle.nz_lin.specs.declared.form.Part.{Part}
 use Rattle.nz_lin.specs.Forms.{AreUnits, NamesUnit, part_over, parts_over}
 use Rattle.nz_tab.specs.Tables.{forms_over}
-use Rattle.nz_tab.specs.Units.{is_form_of, is_one, unit_number, unit_of}
+use Rattle.nz_tab.specs.Units.{AreNumbers, is_form_of, is_one, is_unit_form, unit_number, unit_of}
 use Rattle.nz_tab.proofs.Numbers.{equal-number, other-number, same-number}
 
 -- ---- One form
@@ -153,3 +153,48 @@ number_behind (g ∷ fs) f u e = by_test (number_behind fs f u) (is_form_of u g)
         ap (λ (b : Bool). if b then Some 0 else option_map suc (unit_number (fs ++ f ∷ []) u)) h
         ∙ ap (λ (o : Option ℕ). option_map suc o) (rest q)
         ∙ out (is_form_of u f)
+
+-- ---- Numbers that are stored
+
+-- the unit of a part has the next number, where it had none
+pub number_joins : (fs : List (List Part)) (f : List Part) (p : Part) (old new : ℕ → Option ℕ) → is_unit_form f ≡ true → p ≡ get_or f 0 p → AreNumbers old fs → is_some (old p.unit) ≡ false
+    → ((u : ℕ) → new u ≡ cond (nat_eq p.unit u) (Some (length fs)) (old u)) → AreNumbers new (fs ++ f ∷ [])
+number_joins fs [] p old new is first agree none put u = absurd (true≢false (sym is))
+number_joins fs (q ∷ r ∷ ps) p old new is first agree none put u = absurd (true≢false (sym is))
+number_joins fs (q ∷ []) p old new is first agree none put u = by_number (old u) refl
+  where
+    apart : (k : ℕ) → old u ≡ Some k → (b : Bool) → nat_eq p.unit u ≡ b → cond b (Some (length fs)) (Some k) ≡ Some k
+    apart k e true h =
+        let same : p.unit ≡ u = grind (arith, nat_tests, h) in
+        absurd (true≢false (sym (ap (λ (m : ℕ). is_some (old m)) same ∙ ap is_some e) ∙ none))
+    apart k e false h = refl
+
+    tests : (b : Bool) → cond b (Some (length fs)) None ≡ (if b && true then Some (length fs) else None)
+    tests true = refl
+    tests false = refl
+
+    by_number : (o : Option ℕ) → old u ≡ o → new u ≡ unit_number (fs ++ (q ∷ []) ∷ []) u
+    by_number (Some k) e = put u ∙ ap (cond (nat_eq p.unit u) (Some (length fs))) e ∙ apart k e (nat_eq p.unit u) refl ∙ sym (number_stays fs ((q ∷ []) ∷ []) u k (sym (agree u) ∙ e))
+    by_number None e =
+        put u
+        ∙ ap (cond (nat_eq p.unit u) (Some (length fs))) e
+        ∙ ap (λ (x : Part). cond (nat_eq x.unit u) (Some (length fs)) None) first
+        ∙ tests (q.unit == u)
+        ∙ ap (λ (b : Bool). if (q.unit == u) && b then Some (length fs) else None) (sym is)
+        ∙ sym (number_behind fs (q ∷ []) u (sym (agree u) ∙ e))
+
+-- one that has its number keeps it
+pub number_known : (fs : List (List Part)) (f : List Part) (p : Part) (old : ℕ → Option ℕ) → is_unit_form f ≡ true → p ≡ get_or f 0 p → AreNumbers old fs → is_some (old p.unit) ≡ true → AreNumbers old (fs ++ f ∷ [])
+number_known fs [] p old is first agree some u = absurd (true≢false (sym is))
+number_known fs (q ∷ r ∷ ps) p old is first agree some u = absurd (true≢false (sym is))
+number_known fs (q ∷ []) p old is first agree some u = by_number (old u) refl
+  where
+    apart : old u ≡ None → (b : Bool) → (q.unit == u) ≡ b → (if b && is_one q.coefficient then Some (length fs) else None) ≡ None
+    apart e true h =
+        let same : p.unit ≡ u = ap (λ (x : Part). x.unit) first ∙ same-number q.unit u h in
+        absurd (true≢false (sym some ∙ ap (λ (m : ℕ). is_some (old m)) same ∙ ap is_some e))
+    apart e false h = refl
+
+    by_number : (o : Option ℕ) → old u ≡ o → old u ≡ unit_number (fs ++ (q ∷ []) ∷ []) u
+    by_number (Some k) e = e ∙ sym (number_stays fs ((q ∷ []) ∷ []) u k (sym (agree u) ∙ e))
+    by_number None e = e ∙ sym (apart e (q.unit == u) refl) ∙ sym (number_behind fs (q ∷ []) u (sym (agree u) ∙ e))
