@@ -1,3 +1,4 @@
+pub mod Added
 pub mod Adding
 pub mod Blocks
 pub mod Each

@@ -1,10 +1,10 @@
 -- The sum that joins behind its units has the row that is computed, and leaves a tableau.
-use Rattle.std.proofs.Common.{◌≡◌, ℕ, suc, ◌+◌, ◌<◌, ◌≤◌, Bool, true, false, ◌⊎◌, inl, inr, List, [], ◌∷◌, ◌++◌, length, map, pos, refl, sym, ap, ◌∙◌, subst, true≢false, arith}
+use Rattle.std.proofs.Common.{◌≡◌, ℕ, suc, ◌+◌, ◌<◌, ◌≤◌, Bool, true, false, ◌⊎◌, inl, inr, List, [], ◌∷◌, ◌++◌, Err, None, length, map, pos, refl, sym, ap, ◌∙◌, subst, true≢false, arith}
 use Rattle.std.specs.Prelude.{if◌then◌else◌, nat_lt}
 use Rattle.std.specs.List.{AllByRecursion}
 use Rattle.std.proofs.Math.Path.{fun_ext}
 use Rattle.std.proofs.lemmas.List.{length-append, length-map, length_push, map_push}
-use Rattle.nz_fractions.specs.Fraction.{Fraction, whole, ◌=ℚ◌}
+use Rattle.nz_fractions.specs.Fraction.{Fraction, first_wide, whole, ◌=ℚ◌}
 use Rattle.nz_fractions.proofs.Laws.{=ℚ-from_same, =ℚ_sym, =ℚ_trans}
 use Rattle.nz_spec.specs.Computation.{Computation, and_then}
 use Rattle.nz_spec.specs.Form as spec
@@ -14,9 +14,11 @@ use Rattle.nz_spec.specs.Basis.{Coefficients, IsBasis, IsRow}
 use Rattle.nz_spec.specs.BasisMoves.{AreRows, JoinsKeepBasis, Rows, joining_row, numbers, part_added, parts_added, plus_multiple}
 use Rattle.nz_lin.specs.declared.form.Part.{Part}
 use Rattle.nz_lin.specs.Forms.{AreInOrder, AreUnits, NamesUnit, part_over, parts_over}
-use Rattle.nz_tab.specs.Joins.{IsFormJoined, joining, number_by, with_nonbasic_units}
+use Rattle.nz_tab.specs.Joins.{IsFormJoined, Joins, joining, number_by, with_nonbasic_units}
+use Rattle.nz_tab.specs.declared.tab.TabStop.{TabStop}
+use Rattle.nz_tab.specs.declared.tab.TabStop.TheVariants.{Memory, Wide}
 use Rattle.nz_tab.specs.Rows.{Grid, is_nonbasic, row_of, rows_of}
-use Rattle.nz_tab.specs.Sums.{IsSummed, IsWidened, all_added, one_added, sum_over}
+use Rattle.nz_tab.specs.Sums.{IsSummed, IsWidened, SumJoins, all_added, one_added, sum_over}
 use Rattle.nz_tab.specs.Tables.{HasRows, IsTableau, Table, forms_over}
 use Rattle.nz_tab.specs.Units.{addends, new_units, with_units}
 use Rattle.nz_tab.proofs.Blocks.{no_coefficient}
@@ -182,3 +184,21 @@ sum_tableau law numbers forms f old mid new count w s is ns table all =
     let own = (back_all (AreUnits ns) (with_units forms f) (f ∷ []) all).0 in
     let before = front_all (AreUnits ns) forms (new_units forms f) units in
     form_has_rows forms f old mid count w ns (numbers ns table) own new s law before (is ns table before)
+
+-- ---- What is told of it
+
+module _ (law : TermHasItsNumber) (forms : List (List Part)) (f : List Part) (old : Grid) (count : length old.marks ≡ length forms) (ns : List Node) (table : IsTable ns) (units : AreUnits ns f) where
+  abbrev start : Table
+  start = record { forms = forms; grid = old }
+
+  pub sum_joined : (mid new : Grid) → IsWidened old mid (length (new_units forms f)) → IsSummed mid new (addends forms (length forms) f) → first_wide (sum_over mid (addends forms (length forms) f)).operations ≡ None
+      → IsFormJoined ns start (record { forms = with_units forms f ++ f ∷ []; grid = new }) f (length (with_units forms f)) × (first_wide (joining ns start f).operations ≡ None)
+  sum_joined mid new w s fits = (
+    form_joined forms f old mid count w ns (law ns table) units new s,
+    ap (λ (x : Computation Coefficients). first_wide x.operations) (sym (sum_is_joining forms f old mid count w ns (law ns table) units)) ∙ fits
+  )
+
+  pub sum_stopped : (X : Type 0) (new : Grid) (then : Table) (s : TabStop) → SumJoins {X = X} old new (length (new_units forms f)) (addends forms (length forms) f) (Err s) → Joins ns start then f (Err s)
+  sum_stopped X new then Memory joined = _
+  sum_stopped X new then (Wide x) joined =
+      ap (λ (c : Computation Coefficients). first_wide c.operations) (sym (sum_is_joining forms f old joined.0 count joined.1 ns (law ns table) units)) ∙ joined.2

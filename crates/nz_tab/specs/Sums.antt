@@ -53,8 +53,12 @@ SumPushed old new qs (Ok x) = IsSummed old new qs × (first_wide (sum_over old q
 SumPushed old new qs (Err (Wide w)) = first_wide (sum_over old qs).operations ≡ Some (operation_of w)
 SumPushed old new qs (Err Memory) = ⊤
 
--- the same behind some units
+-- the sum has joined behind some units
+abbrev pub HasJoined : Grid → Grid → ℕ → List (ℕ × Fraction) → Type 0
+HasJoined old new units qs = (mid : Grid) × IsWidened old mid units × IsSummed mid new qs × (first_wide (sum_over mid qs).operations ≡ None)
+
+-- what comes of it behind some units
 abbrev pub SumJoins : {X : Type 0} → Grid → Grid → ℕ → List (ℕ × Fraction) → Result X TabStop → Type 0
-SumJoins old new units qs (Ok x) = (mid : Grid) × IsWidened old mid units × IsSummed mid new qs × (first_wide (sum_over mid qs).operations ≡ None)
+SumJoins old new units qs (Ok x) = HasJoined old new units qs
 SumJoins old new units qs (Err (Wide w)) = (mid : Grid) × IsWidened old mid units × (first_wide (sum_over mid qs).operations ≡ Some (operation_of w))
 SumJoins old new units qs (Err Memory) = ⊤
