@@ -42,10 +42,10 @@ module _ (forms : List (List Part)) (f : List Part) (us : List (Vec Part Global)
       (subst (λ (m : ℕ). All (λ (a : ℕ × Fraction). a.0 < m) (addends forms (length forms) f)) bound (all_addends_within forms f))
 
   -- it stops where the row stops
-  pub stopped : (X : Type 0) (new : Grid) (then : Table) (s : TabStop) → SumJoins {X = X} old new count qs (Err s) → TermHasItsNumber → (ns : List Node) → IsTable ns → AreUnits ns f
-      → Joins ns (record { forms = forms; grid = old }) then f (Err s)
-  stopped X new then s joined law ns table units =
-      sum_stopped law forms f old marks ns table units X new then s
+  pub stopped : (X : Type 0) (new : Grid) (after : Table) (s : TabStop) → SumJoins {X = X} old new count qs (Err s) → TermHasItsNumber → (ns : List Node) → IsTable ns → AreUnits ns f
+      → Joins ns (record { forms = forms; grid = old }) after f (Err s)
+  stopped X new after s joined law ns table units =
+      sum_stopped law forms f old marks ns table units X new after s
       (subst (λ (m : ℕ). SumJoins {X = X} old new m (addends forms (length forms) f) (Err s)) p.many
       (subst (λ (l : List (ℕ × Fraction)). SumJoins {X = X} old new count l (Err s)) p.listed joined))
 

@@ -198,7 +198,7 @@ module _ (law : TermHasItsNumber) (forms : List (List Part)) (f : List Part) (ol
     ap (λ (x : Computation Coefficients). first_wide x.operations) (sym (sum_is_joining forms f old mid count w ns (law ns table) units)) ∙ fits
   )
 
-  pub sum_stopped : (X : Type 0) (new : Grid) (then : Table) (s : TabStop) → SumJoins {X = X} old new (length (new_units forms f)) (addends forms (length forms) f) (Err s) → Joins ns start then f (Err s)
-  sum_stopped X new then Memory joined = _
-  sum_stopped X new then (Wide x) joined =
+  pub sum_stopped : (X : Type 0) (new : Grid) (after : Table) (s : TabStop) → SumJoins {X = X} old new (length (new_units forms f)) (addends forms (length forms) f) (Err s) → Joins ns start after f (Err s)
+  sum_stopped X new after Memory joined = _
+  sum_stopped X new after (Wide x) joined =
       ap (λ (c : Computation Coefficients). first_wide c.operations) (sym (sum_is_joining forms f old joined.0 count joined.1 ns (law ns table) units)) ∙ joined.2

@@ -1,5 +1,5 @@
 -- The units that aren't there join, and the form behind them.
-use Rattle.std.proofs.Common.{Vec, Global, ◌≡◌, ◌+◌, ◌++◌, [], ◌∷◌, ℕ, true, List, Err, None, length, map, refl, rules, sym, ap, subst, ◌∙◌, arith}
+use Rattle.std.proofs.Common.{Vec, Global, Unit, ◌≡◌, ◌+◌, ◌++◌, [], ◌∷◌, ℕ, true, List, Err, None, length, map, refl, rules, sym, ap, subst, ◌∙◌, arith}
 use Rattle.std.specs.HashMap.{get}
 use Rattle.std.specs.Prelude.{All, nat_eq, vec_capacity}
 use Rattle.std.proofs.lemmas.List.{length-map}
@@ -36,10 +36,10 @@ returns-in_err-join-clause-joins c = λ ns table are.
     let made = prepared t.forms us f c.len.result c.len-5.result qs c.len.ensures c.len-5.ensures (c.in_ok-units.ensures.units forms s.units) (c.as_slice.ensures.value ∙ c.in_ok-addends.ensures.addends forms s.units) in
     let stop : TabStop = c.in_err-join.field-0.0 in
     let error : c.from_residual-in_err-join.result ≡ Err stop = search rules in
-    let then : Table = record { forms = map items c.reserve-2.new.self.items; grid = c.join.new.self } in
-    subst (λ r. Joins ns c.args.self.now then f r) (sym error)
-    (subst (λ (x : Table). Joins ns x then f (Err stop)) c.self.view_is
-    (stopped forms f us.items c.len-5.result qs made t.rows s.count _ c.join.new.self then stop c.in_err-join.ensures.joined c.term_has_its_number.ensures.number ns table are))
+    let after : Table = record { forms = map items c.reserve-2.new.self.items; grid = c.join.new.self } in
+    subst (λ r. Joins ns c.args.self.now after f r) (sym error)
+    (subst (λ (x : Table). Joins ns x after f (Err stop)) c.self.view_is
+    (stopped forms f us.items c.len-5.result qs made t.rows s.count (Unit {0}) c.join.new.self after stop c.in_err-join.ensures.joined c.term_has_its_number.ensures.number ns table are))
 
 pub number_units-requires-clause-units : goal.number_units-requires-clause-units
 number_units-requires-clause-units c =
@@ -68,7 +68,12 @@ invariant_of-self-2 c =
     let first : length forms ≡ c.len-6.result = length-map t.forms.items items ∙ omega (arith, c.len-6.ensures, c.reserve-2.ensures.len, t.forms.ok.0) in
     let numbers : AreNumbers now (with_units forms f) =
     units_then forms f us.items c.len-5.result qs made t.rows s.count now c.as_slice-2.result.now c.as_slice-2.ensures.value (c.number_units.ensures.numbers forms first agree) in
-    let room : HasRoomForSum t.rows c.len-5.result columns solved spare = ? in
+    let room : HasRoomForSum t.rows c.len-5.result columns solved spare =
+    subst (λ (n : ℕ). HasRoomForSum t.rows n columns solved spare) (c.len-2.ensures ∙ sym c.len-5.ensures)
+    (subst (λ (n : ℕ). HasRoomForSum t.rows c.len-2.result n solved spare) (sym c.join.ensures.columns)
+    (subst (λ (n : ℕ). HasRoomForSum t.rows c.len-2.result (vec_capacity c.reserve.new.self.columns) n spare) (sym c.join.ensures.solved)
+    (subst (λ (n : ℕ). HasRoomForSum t.rows c.len-2.result (vec_capacity c.reserve.new.self.columns) (vec_capacity c.reserve.new.self.solved) n) (sym c.join.ensures.spare)
+    c.in_ok-reserve.ensures.room))) in
     subst (λ (l : List (List Part)). IsStored l c.join.new.self now columns solved spare) (sym listed)
     (kept forms f us.items c.len-5.result qs made t.rows s.count c.join.new.self c.in_ok-join.ensures.joined (get nat_eq t.units) now (vec_capacity t.room.columns) (vec_capacity t.room.solved) (vec_capacity t.room.spare)
     columns solved spare s c.joins_keep_basis.ensures.kept c.term_has_its_number.ensures.number c.requires.sum room numbers)
