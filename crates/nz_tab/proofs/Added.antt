@@ -1,7 +1,7 @@
 -- A sum that is added to a table: what is prepared for it, and what comes of it.
-use Rattle.std.proofs.Common.{Vec, Global, ◌≡◌, ℕ, ◌+◌, ◌<◌, Bool, false, List, [], ◌∷◌, ◌++◌, Err, None, length, map, Option, sym, ap, ◌∙◌, subst, arith}
+use Rattle.std.proofs.Common.{Vec, Global, ◌≡◌, ℕ, ◌+◌, ◌<◌, false, List, [], ◌∷◌, ◌++◌, Err, None, length, map, Option, sym, ap, ◌∙◌, subst, arith}
 use Rattle.std.specs.Prelude.{All, vec_len}
-use Rattle.std.proofs.lemmas.List.{append_assoc, length-append, length-map, map-append, map_push}
+use Rattle.std.proofs.lemmas.List.{length-append, length-map, map-append, map_push}
 use Rattle.nz_fractions.specs.Fraction.{Fraction, first_wide}
 use Rattle.nz_spec.specs.BasisMoves.{JoinsKeepBasis}
 use Rattle.nz_spec.specs.FormOf.{TermHasItsNumber}

@@ -1,5 +1,5 @@
 -- A row that joins behind others: the rows before it stay.
-use Rattle.std.proofs.Common.{◌≡◌, ℕ, zero, suc, add-one, ◌+◌, ◌-◌, ◌*◌, ◌<◌, ◌≤◌, Bool, true, false, ◌⊎◌, inl, inr, List, [], ◌∷◌, ◌++◌, length, map, get_or, take, drop, pos, refl, sym, ap, ◌∙◌, subst, arith}
+use Rattle.std.proofs.Common.{◌≡◌, ℕ, zero, suc, add-one, ◌+◌, ◌-◌, ◌*◌, ◌<◌, ◌≤◌, Bool, true, false, ◌⊎◌, inl, inr, List, [], ◌∷◌, ◌++◌, length, map, get_or, take, drop, pos, refl, sym, ap, ◌∙◌, arith}
 use Rattle.std.specs.Prelude.{if◌then◌else◌, not, slice_index_or}
 use Rattle.std.proofs.Math.Path.{fun_ext}
 use Rattle.std.proofs.Math.Seq.{drop-append_seam}
@@ -7,7 +7,7 @@ use Rattle.std.proofs.lemmas.List.{drop-append-le, get_or-append_right, get_or-m
 use Rattle.nz_fractions.specs.Fraction.{Fraction, whole}
 use Rattle.nz_spec.specs.Basis.{Coefficients}
 use Rattle.nz_spec.specs.BasisMoves.{numbers}
-use Rattle.nz_tab.specs.Rows.{ArePlaces, Grid, IsGrid, basic, is_marked, is_nonbasic, row_in, rows_of, size_of}
+use Rattle.nz_tab.specs.Rows.{ArePlaces, Grid, IsGrid, basic, is_nonbasic, row_in, rows_of, size_of}
 use Rattle.nz_tab.specs.Sums.{IsSummed, sum_over}
 use Rattle.nz_tab.proofs.Blocks.{marked_within, row_within}
 use Rattle.nz_tab.proofs.Numbers.{number_at, one_fails, one_passes, place_within}

@@ -8,10 +8,10 @@ use Rattle.nz_spec.specs.BasisMoves.{JoinsKeepBasis}
 use Rattle.nz_spec.specs.FormOf.{TermHasItsNumber}
 use Rattle.nz_lin.specs.declared.form.Part.{Part}
 use Rattle.nz_tab.specs.Joins.{IsUnitJoined}
-use Rattle.nz_tab.specs.Rows.{Grid, HasRoom}
+use Rattle.nz_tab.specs.Rows.{Grid}
 use Rattle.nz_tab.specs.Sums.{HasRoomForSum, IsSummed, IsWidened}
 use Rattle.nz_tab.specs.Tables.{IsStored}
-use Rattle.nz_tab.specs.Units.{AreNumbers, addends, is_form_of, is_one, is_unit_form, new_units, unit_number, unit_of, with_units}
+use Rattle.nz_tab.specs.Units.{AreNumbers, addends, is_form_of, is_unit_form, new_units, unit_number, unit_of, with_units}
 use Rattle.nz_tab.proofs.Joined.{unit_tableau}
 use Rattle.nz_tab.proofs.RoomLeft.{room_for_sum, room_for_units}
 use Rattle.nz_tab.proofs.Summing.{sum_tableau, units_count, units_nonbasic}

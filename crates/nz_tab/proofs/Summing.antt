@@ -1,10 +1,10 @@
 -- The sum that joins behind its units has the row that is computed, and leaves a tableau.
-use Rattle.std.proofs.Common.{◌≡◌, ℕ, suc, ◌+◌, ◌<◌, ◌≤◌, Bool, true, false, ◌⊎◌, inl, inr, List, [], ◌∷◌, ◌++◌, Err, None, length, map, pos, refl, sym, ap, ◌∙◌, subst, true≢false, arith}
-use Rattle.std.specs.Prelude.{if◌then◌else◌, nat_lt}
+use Rattle.std.proofs.Common.{◌≡◌, ℕ, ◌+◌, ◌<◌, ◌≤◌, Bool, true, false, ◌⊎◌, inl, inr, List, [], ◌∷◌, ◌++◌, Err, None, length, pos, refl, sym, ap, ◌∙◌, subst, true≢false, arith}
+use Rattle.std.specs.Prelude.{if◌then◌else◌}
 use Rattle.std.specs.List.{AllByRecursion}
 use Rattle.std.proofs.Math.Path.{fun_ext}
 use Rattle.std.proofs.lemmas.List.{length-append, length-map, length_push, map_push}
-use Rattle.nz_fractions.specs.Fraction.{Fraction, first_wide, whole, ◌=ℚ◌}
+use Rattle.nz_fractions.specs.Fraction.{first_wide, whole, ◌=ℚ◌}
 use Rattle.nz_fractions.proofs.Laws.{=ℚ-from_same, =ℚ_sym, =ℚ_trans}
 use Rattle.nz_spec.specs.Computation.{Computation, and_then}
 use Rattle.nz_spec.specs.Form as spec
@@ -13,7 +13,7 @@ use Rattle.nz_spec.specs.Table.{IsTable, Node, term_in}
 use Rattle.nz_spec.specs.Basis.{Coefficients, IsBasis, IsRow}
 use Rattle.nz_spec.specs.BasisMoves.{AreRows, JoinsKeepBasis, Rows, joining_row, numbers, part_added, parts_added, plus_multiple}
 use Rattle.nz_lin.specs.declared.form.Part.{Part}
-use Rattle.nz_lin.specs.Forms.{AreInOrder, AreUnits, NamesUnit, part_over, parts_over}
+use Rattle.nz_lin.specs.Forms.{AreUnits, NamesUnit, part_over, parts_over}
 use Rattle.nz_tab.specs.Joins.{IsFormJoined, Joins, joining, number_by, with_nonbasic_units}
 use Rattle.nz_tab.specs.declared.tab.TabStop.{TabStop}
 use Rattle.nz_tab.specs.declared.tab.TabStop.TheVariants.{Memory, Wide}
@@ -22,7 +22,7 @@ use Rattle.nz_tab.specs.Sums.{IsSummed, IsWidened, SumJoins, all_added, one_adde
 use Rattle.nz_tab.specs.Tables.{HasRows, IsTableau, Table, forms_over}
 use Rattle.nz_tab.specs.Units.{addends, new_units, with_units}
 use Rattle.nz_tab.proofs.Blocks.{no_coefficient}
-use Rattle.nz_tab.proofs.Joined.{back_all, front_all, nonbasic_then, widened_holds}
+use Rattle.nz_tab.proofs.Joined.{back_all, front_all, nonbasic_then}
 use Rattle.nz_tab.proofs.Numbering.{HasNumber, all_within, are_numbered, has_its_units, number_is, number_of, units_numbered}
 use Rattle.nz_tab.proofs.Numbers.{same_or_below}
 use Rattle.nz_tab.proofs.SameRow.{same_row}

@@ -1,5 +1,5 @@
 -- Rows that grow: by units, and by a sum of forms.
-use Rattle.std.specs.Prelude.{◌≡◌, ℕ, ◌<◌, ◌≤◌, ◌+◌, ◌*◌, ◌==◌, Bool, true, false, List, [], ◌∷◌, ◌++◌, Result, Ok, Err, Some, None, ⊤, length, map, pos, if◌then◌else◌}
+use Rattle.std.specs.Prelude.{◌≡◌, ℕ, ◌<◌, ◌≤◌, ◌+◌, ◌*◌, ◌==◌, Bool, true, List, [], ◌∷◌, Result, Ok, Err, Some, None, ⊤, length, pos, if◌then◌else◌}
 use Rattle.nz_fractions.specs.Fraction.{Fraction, Sum, first_wide, outcome, whole}
 use Rattle.nz_spec.specs.Computation.{Computation, and_then, at_once}
 use Rattle.nz_spec.specs.Basis.{Coefficients}

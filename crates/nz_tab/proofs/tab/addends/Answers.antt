@@ -1,5 +1,5 @@
 -- One addend more.
-use Rattle.std.proofs.Common.{◌≡◌, ◌++◌, ◌+◌, [], ◌∷◌, ℕ, List, Option, drop, rules, sym, ap, ◌∙◌}
+use Rattle.std.proofs.Common.{◌≡◌, ◌++◌, ◌+◌, [], ◌∷◌, ℕ, List, drop, rules, sym, ap, ◌∙◌}
 use Rattle.std.specs.HashMap.{get}
 use Rattle.std.specs.Prelude.{if◌then◌else◌, is_some, nat_eq, unwrap_or}
 use Rattle.nz_fractions.specs.Fraction.{Fraction}

@@ -1,5 +1,5 @@
 -- A unit that has no number gets this one.
-use Rattle.std.proofs.Common.{◌≡◌, ℕ, Bool, true, false, List, Option, Some, Result, Ok, Err, sym, ap, rules, true≢false, ◌∙◌}
+use Rattle.std.proofs.Common.{◌≡◌, ℕ, true, false, Some, Result, Ok, Err, sym, ap, rules, true≢false, ◌∙◌}
 use Rattle.std.specs.Prelude.{IsOk, OnOk, cond, is_some, nat_eq}
 use Rattle.std.specs.HashMap.{get}
 use Rattle.nz_lin.specs.declared.form.Part.{Part}

@@ -1,5 +1,5 @@
 -- The row that was computed stands behind the others.
-use Rattle.std.proofs.Common.{◌≡◌, ℕ, List, length, map, sym, ap, subst, ◌∙◌}
+use Rattle.std.proofs.Common.{◌≡◌, length, map, sym, ap, subst, ◌∙◌}
 use Rattle.std.proofs.lemmas.List.{length-map}
 use Rattle.nz_spec.specs.BasisMoves.{numbers}
 use Rattle.nz_tab.specs.Rows.{Grid, is_marked, is_nonbasic, size_of}

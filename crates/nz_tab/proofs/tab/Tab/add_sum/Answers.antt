@@ -1,5 +1,5 @@
 -- The units that aren't there join, and the form behind them.
-use Rattle.std.proofs.Common.{Vec, Global, Unit, ◌≡◌, ◌+◌, ◌++◌, [], ◌∷◌, ℕ, true, List, Err, None, length, map, refl, rules, sym, ap, subst, ◌∙◌, arith}
+use Rattle.std.proofs.Common.{Vec, Global, ◌≡◌, ◌+◌, ◌++◌, [], ◌∷◌, ℕ, true, List, Err, None, length, map, refl, rules, sym, ap, subst, ◌∙◌, arith}
 use Rattle.std.specs.HashMap.{get}
 use Rattle.std.specs.Prelude.{All, nat_eq, vec_capacity}
 use Rattle.std.proofs.lemmas.List.{length-map}
