@@ -17,10 +17,26 @@ fn two_forms_and_an_exchange(rt: HostRuntime) -> Result<(), Fail> {
     assert!(rt; added(alloc, &mut terms, &mut tab, &[x, y]) == Some(3));
     assert!(rt; added(alloc, &mut terms, &mut tab, &[y]) == Some(1));
     assert_eq!(rt; tab.len(), 4);
-    assert!(rt; have(&tab, &[(2, 0, 2, 1), (2, 1, 3, 1), (3, 0, 1, 1), (3, 2, 0, 1)]));
+    assert!(rt;
+        have(
+            &tab,
+            &[(2, 0, 2, 1), (2, 1, 3, 1), (3, 0, 1, 1), (3, 2, 0, 1)]
+        )
+    );
     assert!(rt; may_exchange(&mut tab, 2, 0));
     assert!(rt; !have(&tab, &[(2, 1, 3, 1)]));
-    assert!(rt; have(&tab, &[(0, 1, -3, 2), (0, 2, 1, 2), (0, 0, 0, 1), (3, 1, -1, 2), (3, 2, 1, 2)]));
+    assert!(rt;
+        have(
+            &tab,
+            &[
+                (0, 1, -3, 2),
+                (0, 2, 1, 2),
+                (0, 0, 0, 1),
+                (3, 1, -1, 2),
+                (3, 2, 1, 2)
+            ]
+        )
+    );
     Ok(())
 }
 
@@ -37,9 +53,26 @@ fn a_form_joins_over_basic_units(rt: HostRuntime) -> Result<(), Fail> {
     assert!(rt; may_exchange(&mut tab, 2, 0));
     let thrice = times(&mut terms, 3, z)?;
     assert!(rt; added(alloc, &mut terms, &mut tab, &[x, thrice]) == Some(4));
-    assert!(rt; have(&tab, &[(0, 1, -1, 2), (0, 2, 1, 2), (0, 3, 0, 1), (4, 1, -1, 2), (4, 2, 1, 2), (4, 3, 3, 1)]));
+    assert!(rt;
+        have(
+            &tab,
+            &[
+                (0, 1, -1, 2),
+                (0, 2, 1, 2),
+                (0, 3, 0, 1),
+                (4, 1, -1, 2),
+                (4, 2, 1, 2),
+                (4, 3, 3, 1)
+            ]
+        )
+    );
     assert!(rt; may_exchange(&mut tab, 4, 3));
-    assert!(rt; have(&tab, &[(3, 1, 1, 6), (3, 2, -1, 6), (3, 4, 1, 3), (0, 4, 0, 1)]));
+    assert!(rt;
+        have(
+            &tab,
+            &[(3, 1, 1, 6), (3, 2, -1, 6), (3, 4, 1, 3), (0, 4, 0, 1)]
+        )
+    );
     Ok(())
 }
 
