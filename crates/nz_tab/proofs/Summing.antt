@@ -195,7 +195,7 @@ module _ (law : TermHasItsNumber) (forms : List (List Part)) (f : List Part) (ol
       → IsFormJoined ns start (record { forms = with_units forms f ++ f ∷ []; grid = new }) f (length (with_units forms f)) × (first_wide (joining ns start f).operations ≡ None)
   sum_joined mid new w s fits = (
     form_joined forms f old mid count w ns (law ns table) units new s,
-    ap (λ (x : Computation Coefficients). first_wide x.operations) (sym (sum_is_joining forms f old mid count w ns (law ns table) units)) ∙ fits
+    ap (λ (x : Computation Coefficients). first_wide x.operations) (sym (sum_is_joining forms f old mid count w ns (law ns table) units)) ∙ fits,
   )
 
   pub sum_stopped : (X : Type 0) (new : Grid) (after : Table) (s : TabStop) → SumJoins {X = X} old new (length (new_units forms f)) (addends forms (length forms) f) (Err s) → Joins ns start after f (Err s)

@@ -13,7 +13,8 @@ returns-clause-pushed c =
     let qs = c.args.addends.now in
     let ks = numbers (length g.marks) (is_nonbasic g) in
     let stands : c.as_slice.result.now ≡ map (sum_over g qs).result ks = c.as_slice.ensures.value ∙ c.in_ok-sum.ensures.sum.result in
-    let full : length g.block ≡ size_of (length g.marks) (is_nonbasic g) = subst (λ (x : Grid). length x.block ≡ size_of (length x.marks) (is_marked x.marks)) c.self.view_is c.self.invariant.whole_block in
-    (subst (λ (x : Grid). IsSummed g x qs) (sym c.in_ok-push.ensures.pushed)
-    (is_summed g c.as_slice.result.now full qs stands (ap length stands ∙ length-map ks (sum_over g qs).result)),
-    c.in_ok-sum.ensures.sum.fits)
+    let full : length g.block ≡ size_of (length g.marks) (is_nonbasic g) = subst (λ (x : Grid). length x.block ≡ size_of (length x.marks) (is_marked x.marks)) c.self.view_is c.self.invariant.whole_block in (
+      subst (λ (x : Grid). IsSummed g x qs) (sym c.in_ok-push.ensures.pushed)
+          (is_summed g c.as_slice.result.now full qs stands (ap length stands ∙ length-map ks (sum_over g qs).result)),
+      c.in_ok-sum.ensures.sum.fits,
+    )
