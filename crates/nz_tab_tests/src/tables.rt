@@ -9,8 +9,16 @@ use nz_tab::{Tab, Var};
 use nz_term::{Constant, Head, NumberSort, Operator, Sort, TermId, Terms, operators_are_no_leaves};
 use std::alloc::Global;
 
+/// The units of these tests.
+pub fn units(terms: &mut Terms, alloc: Global) -> Result<[TermId; 3], Memory> {
+    let x = constant(terms, alloc, b"x")?;
+    let y = constant(terms, alloc, b"y")?;
+    let z = constant(terms, alloc, b"z")?;
+    Ok([x, y, z])
+}
+
 /// A constant of sort Real.
-pub fn constant(terms: &mut Terms, alloc: Global, name: &[u8]) -> Result<TermId, Memory> {
+fn constant(terms: &mut Terms, alloc: Global, name: &[u8]) -> Result<TermId, Memory> {
     let name = Text::from_slice(alloc, name)?;
     leaf(
         terms,
@@ -59,11 +67,11 @@ pub fn times(terms: &mut Terms, number: u128, id: TermId) -> Result<TermId, Memo
 /// The number of the form of a sum in the table.
 pub fn added(alloc: Global, terms: &mut Terms, tab: &mut Tab, kids: &[TermId]) -> Option<Var> {
     let sum = over(terms, Operator::Sum(NumberSort::Real), kids).ok()?;
-    add_term(alloc, terms, tab, sum)
+    add_linear(alloc, terms, tab, sum)
 }
 
-/// The number of the form of a term in the table.
-fn add_term(alloc: Global, terms: &Terms, tab: &mut Tab, id: TermId) -> Option<Var> {
+/// The number of the form of a linear term in the table.
+fn add_linear(alloc: Global, terms: &Terms, tab: &mut Tab, id: TermId) -> Option<Var> {
     if terms.len() <= id || !terms.is_linear(id) {
         return None;
     }
@@ -71,22 +79,8 @@ fn add_term(alloc: Global, terms: &Terms, tab: &mut Tab, id: TermId) -> Option<V
     tab.add_form(&form).ok()
 }
 
-/// The coefficient of a form at another: its numerator, and its denominator.
-pub type Cell = (Var, Var, i128, i128);
-
-/// Whether the rows have these coefficients.
-pub fn have(tab: &Tab, cells: &[Cell]) -> bool {
-    for cell in cells {
-        if !has(tab, *cell) {
-            return false;
-        }
-    }
-    true
-}
-
-/// Whether a row has this coefficient.
-fn has(tab: &Tab, cell: Cell) -> bool {
-    let (i, j, num, den) = cell;
+/// Whether a row has a coefficient with this numerator and this denominator.
+pub fn has(tab: &Tab, i: Var, j: Var, num: i128, den: i128) -> bool {
     if i >= tab.len() || !tab.is_basic(i) {
         return false;
     }
@@ -103,9 +97,4 @@ pub fn exchanged(tab: &mut Tab, i: Var, j: Var) -> Option<Result<(), Wide>> {
         return None;
     }
     Some(tab.pivot(i, j))
-}
-
-/// Whether two forms are exchanged.
-pub fn may_exchange(tab: &mut Tab, i: Var, j: Var) -> bool {
-    matches!(exchanged(tab, i, j), Some(Ok(())))
 }
