@@ -43,9 +43,9 @@ fn add_random(
 
 /// The coefficient of a unit in a form.
 fn coefficient_of(parts: &[Part], unit: TermId) -> Frac {
-    for part in parts {
-        if part.unit == unit {
-            return part.coefficient;
+    for place in 0..parts.len() {
+        if parts[place].unit == unit {
+            return parts[place].coefficient;
         }
     }
     Frac::whole(0)

@@ -20,21 +20,21 @@ pub fn units(terms: &mut Terms, alloc: Global) -> Result<[TermId; 3], Memory> {
 /// A constant of sort Real.
 fn constant(terms: &mut Terms, alloc: Global, name: &[u8]) -> Result<TermId, Memory> {
     let name = Text::from_slice(alloc, name)?;
-    leaf(
-        terms,
+    terms.make(
         Head::Constant(&Constant {
             name,
             sort: Sort::Real,
         }),
+        &[],
     )
 }
 
-/// The term of a head without arguments.
-fn leaf(terms: &mut Terms, head: Head<'_>) -> Result<TermId, Memory> {
-    if !head.fits() {
+/// A numeral, of at most the largest number.
+fn numeral(terms: &mut Terms, number: u128) -> Result<TermId, Memory> {
+    if number > 170141183460469231731687303715884105727 {
         return Err(Memory);
     }
-    terms.make(head, &[])
+    terms.make(Head::Integer(number), &[])
 }
 
 /// An operator over terms.
@@ -60,7 +60,7 @@ fn are_below(ids: &[TermId], count: usize) -> bool
 
 /// A number times a term.
 pub fn times(terms: &mut Terms, number: u128, id: TermId) -> Result<TermId, Memory> {
-    let number = leaf(terms, Head::Integer(number))?;
+    let number = numeral(terms, number)?;
     over(terms, Operator::Product(NumberSort::Real), &[number, id])
 }
 
