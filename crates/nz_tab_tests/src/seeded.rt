@@ -1,8 +1,6 @@
 //! Rows of seeded systems against the units: a row is right where, unit by unit, the nonbasic forms with its coefficients sum to
 //! the form. Over a basis only one row is.
-ghost use Rattle.std.specs.Prelude.{◌<◌, ◌≤◌, All, IfOk, length};
-
-use crate::tables::{added, constant, exchanged, over, times};
+use crate::tables::{added, exchanged, over, times, units};
 use nz_base::Memory;
 use nz_frac::{Frac, Wide};
 use nz_lin::Part;
@@ -20,11 +18,7 @@ fn next(seed: &mut u64) -> u64 {
 }
 
 /// A unit with a coefficient from -9 to 9.
-fn multiple(terms: &mut Terms, unit: TermId, number: u64) -> Result<TermId, Memory>
-    requires within { unit < length terms.old }
-    ensures within { IfOk result (λ id. id < length terms.new) }
-    ensures more { length terms.old ≤ length terms.new }
-{
+fn multiple(terms: &mut Terms, unit: TermId, number: u64) -> Result<TermId, Memory> {
     let term = times(terms, (number % 10) as u128, unit)?;
     if number % 20 < 10 {
         return Ok(term);
@@ -39,9 +33,7 @@ fn add_random(
     tab: &mut Tab,
     units: [TermId; 3],
     seed: &mut u64,
-) -> Option<Var>
-    requires within { All (λ k. k < length terms.old) units.entry }
-{
+) -> Option<Var> {
     let [x, y, z] = units;
     let x = multiple(terms, x, next(seed)).ok()?;
     let y = multiple(terms, y, next(seed)).ok()?;
@@ -51,9 +43,9 @@ fn add_random(
 
 /// The coefficient of a unit in a form.
 fn coefficient_of(parts: &[Part], unit: TermId) -> Frac {
-    for part in parts {
-        if part.unit == unit {
-            return part.coefficient;
+    for place in 0..parts.len() {
+        if parts[place].unit == unit {
+            return parts[place].coefficient;
         }
     }
     Frac::whole(0)
@@ -107,23 +99,33 @@ fn exchange_many(tab: &mut Tab, units: [TermId; 3], seed: &mut u64, times: u64) 
     Some(made)
 }
 
+/// How many exchanges were made in a system that looks random, after its last form joined; None where a row doesn't fit.
+fn exchanges(alloc: Global, seed: &mut u64) -> Option<u64> {
+    let mut terms = Terms::new(alloc).ok()?;
+    let mut tab = Tab::new(alloc);
+    let units = units(&mut terms, alloc).ok()?;
+    for _ in 0..3 {
+        add_random(alloc, &mut terms, &mut tab, units, seed);
+    }
+    exchange_many(&mut tab, units, seed, 20)?;
+    add_random(alloc, &mut terms, &mut tab, units, seed);
+    exchange_many(&mut tab, units, seed, 20)
+}
+
+/// Whether the rows of some systems fit, and each of them has exchanges.
+fn all_fit(alloc: Global, systems: u64) -> bool {
+    let mut seed: u64 = 2006;
+    for _ in 0..systems {
+        let made = exchanges(alloc, &mut seed);
+        if made.is_none() || made == Some(0) {
+            return false;
+        }
+    }
+    true
+}
+
 #[test]
 fn rows_fit_their_forms(rt: HostRuntime) -> Result<(), Fail> {
-    let alloc = rt.alloc();
-    let mut seed: u64 = 2006;
-    for _ in 0..12 {
-        let mut terms = Terms::new(alloc)?;
-        let mut tab = Tab::new(alloc);
-        let x = constant(&mut terms, alloc, b"x")?;
-        let y = constant(&mut terms, alloc, b"y")?;
-        let z = constant(&mut terms, alloc, b"z")?;
-        let units = [x, y, z];
-        for _ in 0..3 {
-            add_random(alloc, &mut terms, &mut tab, units, &mut seed);
-        }
-        assert!(rt; exchange_many(&mut tab, units, &mut seed, 20).is_some());
-        add_random(alloc, &mut terms, &mut tab, units, &mut seed);
-        assert!(rt; exchange_many(&mut tab, units, &mut seed, 20).is_some_and(|made| made > 0));
-    }
+    assert!(rt; all_fit(rt.alloc(), 12));
     Ok(())
 }
