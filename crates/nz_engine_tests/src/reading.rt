@@ -1,21 +1,45 @@
 //! A second reading of derivations, which takes nothing of the engine but its steps.
 
-ghost use Rattle.std.specs.Prelude.{◌≡◌};
-ghost use Rattle.std.specs.List.{list_any};
-ghost use Rattle.nz_log.specs.Lits.{are_same_lit};
-
 use nz_base::Memory;
-use nz_log::{Lit, Step};
+use nz_log::{Literal, Step, TermLit};
 use nz_term::{Head, Operator, Sort, TermId, Terms};
 use std::alloc::Global;
+
+/// A step as the tests read it: what is of no gate is another one.
+#[derive(Clone, Copy, Debug)]
+pub enum Line {
+    Given(usize),
+    Gate(TermId, usize),
+    Resolve(usize, usize, TermLit),
+    Other,
+}
+
+/// The lines of these steps.
+pub fn lines_of(alloc: Global, steps: &[Step<'_>]) -> Result<Vec<Line>, Memory> {
+    let mut lines = Vec::new(alloc);
+    for step in steps {
+        lines.push(line_of(step))?;
+    }
+    Ok(lines)
+}
+
+/// The line of a step.
+fn line_of(step: &Step<'_>) -> Line {
+    match step {
+        Step::Given(place) => Line::Given(*place),
+        Step::Gate(term, j) => Line::Gate(*term, *j),
+        Step::Resolve(i, j, Literal::Term(literal)) => Line::Resolve(*i, *j, *literal),
+        _ => Line::Other,
+    }
+}
 
 /// The clause that the last of these steps gives over these assertions. There is none where some step isn't in order.
 pub fn last_clause(
     alloc: Global,
     terms: &Terms,
     asserted: &[TermId],
-    steps: &[Step],
-) -> Result<Option<Vec<Lit>>, Memory> {
+    steps: &[Line],
+) -> Result<Option<Vec<TermLit>>, Memory> {
     let mut clauses = Vec::new(alloc);
     for step in steps {
         match clause_of(alloc, terms, asserted, &clauses, step)? {
@@ -31,36 +55,35 @@ fn clause_of(
     alloc: Global,
     terms: &Terms,
     asserted: &[TermId],
-    clauses: &[Vec<Lit>],
-    step: &Step,
-) -> Result<Option<Vec<Lit>>, Memory> {
+    clauses: &[Vec<TermLit>],
+    step: &Line,
+) -> Result<Option<Vec<TermLit>>, Memory> {
     match step {
-        Step::Given(place) => match asserted.get(*place) {
-            Some(term) => Ok(Some([Lit::holds(*term)].to_vec(alloc)?)),
+        Line::Given(place) => match asserted.get(*place) {
+            Some(term) => Ok(Some([TermLit::holds(*term)].to_vec(alloc)?)),
             None => Ok(None),
         },
-        Step::Gate(term, j) => gate(alloc, terms, *term, *j),
-        Step::Resolve(i, j, literal) => match (clauses.get(*i), clauses.get(*j)) {
+        Line::Gate(term, j) => gate(alloc, terms, *term, *j),
+        Line::Resolve(i, j, literal) => match (clauses.get(*i), clauses.get(*j)) {
             (Some(left), Some(right)) => resolvent(alloc, left, right, *literal),
             _ => Ok(None),
         },
+        Line::Other => Ok(None),
     }
 }
 
 /// Whether a literal is one of these.
-pub fn has(literals: &[Lit], literal: Lit) -> bool
-    ensures has { result ≡ list_any (are_same_lit literal) literals.now }
-{
-    literals.iter().any(|one| literal.is(*one))
+pub fn has(literals: &[TermLit], literal: TermLit) -> bool {
+    literals.contains(&literal)
 }
 
 /// The resolvent on a literal of the first clause, whose negation is in the second.
 fn resolvent(
     alloc: Global,
-    left: &[Lit],
-    right: &[Lit],
-    literal: Lit,
-) -> Result<Option<Vec<Lit>>, Memory> {
+    left: &[TermLit],
+    right: &[TermLit],
+    literal: TermLit,
+) -> Result<Option<Vec<TermLit>>, Memory> {
     if !has(left, literal) || !has(right, literal.not()) {
         return Ok(None);
     }
@@ -71,9 +94,9 @@ fn resolvent(
 }
 
 /// Adds the literals of a clause but for one, each once.
-fn add_others(clause: &mut Vec<Lit>, literals: &[Lit], left_out: Lit) -> Result<(), Memory> {
+fn add_others(clause: &mut Vec<TermLit>, literals: &[TermLit], left_out: TermLit) -> Result<(), Memory> {
     for literal in literals {
-        if !literal.is(left_out) && !has(clause, *literal) {
+        if *literal != left_out && !has(clause, *literal) {
             clause.push(*literal)?;
         }
     }
@@ -81,7 +104,7 @@ fn add_others(clause: &mut Vec<Lit>, literals: &[Lit], left_out: Lit) -> Result<
 }
 
 /// The clause of this number of a term in the gate table.
-fn gate(alloc: Global, terms: &Terms, term: TermId, j: usize) -> Result<Option<Vec<Lit>>, Memory> {
+fn gate(alloc: Global, terms: &Terms, term: TermId, j: usize) -> Result<Option<Vec<TermLit>>, Memory> {
     if term >= terms.len() {
         return Ok(None);
     }
@@ -104,19 +127,19 @@ fn group_clause(
     kids: &[TermId],
     sign: bool,
     j: usize,
-) -> Result<Option<Vec<Lit>>, Memory> {
+) -> Result<Option<Vec<TermLit>>, Memory> {
     let mut clause = Vec::new(alloc);
     if let Some(kid) = kids.get(j) {
-        clause.push(Lit { term, sign: !sign })?;
-        clause.push(Lit { term: *kid, sign })?;
+        clause.push(TermLit { term, sign: !sign })?;
+        clause.push(TermLit { term: *kid, sign })?;
         return Ok(Some(clause));
     }
     if j > kids.len() {
         return Ok(None);
     }
-    clause.push(Lit { term, sign })?;
+    clause.push(TermLit { term, sign })?;
     for kid in kids {
-        let literal = Lit {
+        let literal = TermLit {
             term: *kid,
             sign: !sign,
         };
@@ -161,7 +184,7 @@ fn row_clause(
     term: TermId,
     kids: &[TermId],
     row: &[i8],
-) -> Result<Option<Vec<Lit>>, Memory> {
+) -> Result<Option<Vec<TermLit>>, Memory> {
     let mut clause = Vec::new(alloc);
     for number in row {
         let place = number.unsigned_abs() as usize;
@@ -172,7 +195,7 @@ fn row_clause(
         let Some(term) = named else {
             return Ok(None);
         };
-        let literal = Lit {
+        let literal = TermLit {
             term,
             sign: *number > 0,
         };

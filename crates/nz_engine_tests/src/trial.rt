@@ -3,9 +3,9 @@
 use crate::bench::{Answer, Bench};
 use crate::build::{literals_of, term_of};
 use crate::formula::{Part, value};
-use crate::reading::{has, last_clause};
+use crate::reading::{Line, has, last_clause};
 use nz_base::Memory;
-use nz_log::{Lit, Step};
+use nz_log::TermLit;
 use nz_term::{Assign, TermId, Value};
 use std::alloc::Global;
 use std::test::Fail;
@@ -87,7 +87,7 @@ impl Trial {
         let literals = literals_of(self.alloc, &mut self.bench, assumed)?.ok_or("no formulas")?;
         match self.bench.check(&literals, units)? {
             Answer::Sat(values) => self.try_model(assumed, &values),
-            Answer::Unsat(steps) => self.try_refutation(&literals, &steps),
+            Answer::Unsat(lines) => self.try_refutation(&literals, &lines),
             Answer::Spent => Ok(Tried::Spent),
             Answer::Unasked => Err(Fail::new("the engine can't be asked")),
         }
@@ -103,8 +103,8 @@ impl Trial {
     }
 
     /// Fails where these aren't steps of a clause whose literals are negations of these.
-    fn try_refutation(&self, literals: &[Lit], steps: &[Step]) -> Result<Tried, Fail> {
-        if !self.is_refutation(literals, steps)? {
+    fn try_refutation(&self, literals: &[TermLit], lines: &[Line]) -> Result<Tried, Fail> {
+        if !self.is_refutation(literals, lines)? {
             return Err(Fail::new("steps don't derive negations of assumed literals"));
         }
         Ok(Tried::Unsat)
@@ -150,12 +150,12 @@ impl Trial {
     }
 
     /// Whether these are steps of a clause whose literals are negations of these.
-    fn is_refutation(&self, literals: &[Lit], steps: &[Step]) -> Result<bool, Memory> {
+    fn is_refutation(&self, literals: &[TermLit], lines: &[Line]) -> Result<bool, Memory> {
         let mut asserted = Vec::new(self.alloc);
         for one in &self.asserted {
             asserted.push(one.term)?;
         }
-        let derived = last_clause(self.alloc, self.bench.terms(), &asserted, steps)?;
+        let derived = last_clause(self.alloc, self.bench.terms(), &asserted, lines)?;
         Ok(match derived {
             Some(clause) => clause.iter().all(|literal| has(literals, literal.not())),
             None => false,
