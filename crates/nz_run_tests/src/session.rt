@@ -60,7 +60,7 @@ impl Decide for OnceOnly {
         self.engine.check(terms, assumed, work)
     }
 
-    fn steps(&self, id: ClauseId) -> Result<Vec<Step>, Memory> {
+    fn steps(&self, id: ClauseId) -> Result<Vec<Step<'_>>, Memory> {
         self.engine.steps(id)
     }
 }
