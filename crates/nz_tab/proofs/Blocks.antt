@@ -9,7 +9,7 @@ use Rattle.nz_fractions.specs.Fraction.{Fraction, whole}
 use Rattle.nz_spec.specs.Basis.{Coefficients}
 use Rattle.nz_spec.specs.BasisMoves.{numbers, exchanged}
 use Rattle.nz_tab.specs.Rows.{ArePlaces, DenseRow, IsGrid, basic, coefficient, counted, is_marked, place_of, row_in, row_of, rows_of}
-use Rattle.nz_tab.proofs.Numbers.{count_both, one_fails, one_passes, equal-number, same-number, number_at, place_within, count_counted, counted_at}
+use Rattle.nz_tab.proofs.Numbers.{below_or_past, count_both, one_fails, one_passes, equal-number, same-number, number_at, place_within, count_counted, counted_at}
 
 -- ---- Rows in a block
 
@@ -61,12 +61,9 @@ no_coefficient row k e = ap (λ (b : Bool). if b then slice_index_or row.coeffic
 
 -- ---- Places
 
-place_or_past : (k n : ℕ) → (k < n) ⊎ (n ≤ k)
-place_or_past k n = grind arith
-
 -- only what is listed is marked
 pub marked_within : (marks : List Bool) (k : ℕ) → is_marked marks k ≡ true → k < length marks
-marked_within marks k e = by_place (place_or_past k (length marks))
+marked_within marks k e = by_place (below_or_past k (length marks))
   where
     by_place : (k < length marks) ⊎ (length marks ≤ k) → k < length marks
     by_place (inl inside) = inside

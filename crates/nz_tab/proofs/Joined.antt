@@ -14,7 +14,7 @@ use Rattle.nz_tab.specs.Rows.{Grid, is_nonbasic, rows_of}
 use Rattle.nz_tab.specs.Sums.{IsWidened}
 use Rattle.nz_tab.specs.Tables.{HasRows, IsTableau, forms_over}
 use Rattle.nz_tab.specs.Units.{unit_number, unit_of}
-use Rattle.nz_tab.proofs.Numbers.{equal-number, other-number}
+use Rattle.nz_tab.proofs.Numbers.{below_or_past, below_same_or_past, equal-number, other-number}
 use Rattle.nz_tab.proofs.Uniting.{Holds, below, joined_to, not_below, unit_joins}
 
 -- ---- Fronts
@@ -55,11 +55,8 @@ module _ (law : JoinsKeepBasis) (ns : List Node) (number : (i : ℕ) → i < len
       record { basis = subst (IsBasis (forms_over ns fs)) same h.basis; rows = rows }
     where
       rows : AreRows (forms_over ns fs) (is_nonbasic mid) (rows_of mid)
-      rows r inside b = by_place (two r (length old.marks))
+      rows r inside b = by_place (below_or_past r (length old.marks))
         where
-          two : (k n : ℕ) → (k < n) ⊎ (n ≤ k)
-          two k n = grind arith
-
           by_place : (r < length old.marks) ⊎ (length old.marks ≤ r) → IsRow (forms_over ns fs) (is_nonbasic mid) r (rows_of mid r)
           by_place (inr far) = absurd (true≢false (sym (w.behind r far (omega (arith, inside, count, length-map fs (parts_over ns)))) ∙ b))
           by_place (inl e) =
@@ -72,11 +69,8 @@ module _ (law : JoinsKeepBasis) (ns : List Node) (number : (i : ℕ) → i < len
 
 -- one form more that is nonbasic
 one_more : (f : ℕ → Bool) (n : ℕ) → ((m : ℕ) → n ≤ m → f m ≡ false) → (k : ℕ) → with_nonbasic f n k ≡ joined_to f n (n + 1) k
-one_more f n past k = by_place (three k n)
+one_more f n past k = by_place (below_same_or_past k n)
   where
-    three : (k n : ℕ) → (k < n) ⊎ ((k ≡ n) ⊎ (n < k))
-    three k n = grind arith
-
     by_place : (k < n) ⊎ ((k ≡ n) ⊎ (n < k)) → with_nonbasic f n k ≡ joined_to f n (n + 1) k
     by_place (inl e) =
         ap (λ (b : Bool). if b then true else f k) (other-number k n (λ q. omega (arith, q, e)))

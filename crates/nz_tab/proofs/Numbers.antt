@@ -28,6 +28,12 @@ one_passes f n e = ap (λ b. if b then numbers n f ++ n ∷ [] else numbers n f)
 pub one_fails : (f : ℕ → Bool) (n : ℕ) → f n ≡ false → numbers (suc n) f ≡ numbers n f
 one_fails f n e = ap (λ b. if b then numbers n f ++ n ∷ [] else numbers n f) e
 
+pub below_or_past : (k n : ℕ) → (k < n) ⊎ (n ≤ k)
+below_or_past k n = grind arith
+
+pub below_same_or_past : (k n : ℕ) → (k < n) ⊎ ((k ≡ n) ⊎ (n < k))
+below_same_or_past k n = grind arith
+
 pub same_or_below : (k n : ℕ) → k < suc n → (k ≡ n) ⊎ (k < n)
 same_or_below k n h = grind (arith, h)
 

@@ -10,7 +10,7 @@ use Rattle.nz_spec.specs.BasisMoves.{numbers}
 use Rattle.nz_tab.specs.Rows.{ArePlaces, Grid, IsGrid, basic, is_nonbasic, row_in, rows_of, size_of}
 use Rattle.nz_tab.specs.Sums.{IsSummed, sum_over}
 use Rattle.nz_tab.proofs.Blocks.{marked_within, row_within}
-use Rattle.nz_tab.proofs.Numbers.{number_at, one_fails, one_passes, place_within}
+use Rattle.nz_tab.proofs.Numbers.{below_or_past, number_at, one_fails, one_passes, place_within}
 
 -- ---- Rows in longer blocks
 
@@ -33,9 +33,6 @@ only_false : (m : ℕ) → get_or (false ∷ []) m false ≡ false
 only_false zero = refl
 only_false (suc m) = refl
 
-place_or_past : (k n : ℕ) → (k < n) ⊎ (n ≤ k)
-place_or_past k n = grind arith
-
 -- the coefficient at a form, by the nonbasic ones
 abbrev read : (ℕ → Bool) → List Fraction → Coefficients
 read h cs k = if h k then slice_index_or cs (length (numbers k h)) (whole (pos 0)) else whole (pos 0)
@@ -54,7 +51,7 @@ module _ (g : Grid) (row : List Fraction) where
   unmarked = get_or_past g.marks n false (omega arith)
 
   mark_stays : (k : ℕ) → is_nonbasic pushed k ≡ f k
-  mark_stays k = by_place (place_or_past k n)
+  mark_stays k = by_place (below_or_past k n)
     where
       by_place : (k < n) ⊎ (n ≤ k) → is_nonbasic pushed k ≡ f k
       by_place (inl inside) = get_or_append_left g.marks (false ∷ []) false k inside

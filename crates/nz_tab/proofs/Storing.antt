@@ -4,6 +4,7 @@ use Rattle.std.specs.Prelude.{if◌then◌else◌, ◌==◌, ◌&&◌, All, is_s
 use Rattle.std.specs.List.{AllByRecursion}
 use Rattle.std.proofs.lemmas.List.Elements.{All-from_recursion}
 use Rattle.std.proofs.lemmas.List.{length_push}
+use Rattle.nz_lists.proofs.Elements.{AllByRecursion-map}
 use Rattle.nz_spec.specs.BasisMoves.{JoinsKeepBasis}
 use Rattle.nz_spec.specs.FormOf.{TermHasItsNumber}
 use Rattle.nz_lin.specs.declared.form.Part.{Part}
@@ -86,15 +87,11 @@ all_units fs (p ∷ ps) = by_test (is_some (unit_number fs p.unit)) (all_units f
     by_test true h = h
     by_test false h = (refl, h)
 
-each_unit : (us : List (Vec Part Global)) → AllByRecursion (λ (f : List Part). is_unit_form f ≡ true) (map items us) → AllByRecursion (λ (x : Vec Part Global). is_unit_form x.items ≡ true) us
-each_unit [] h = _
-each_unit (u ∷ us) h = (h.0, each_unit us h.1)
-
 -- what joins are forms of units
 pub units_are : (fs : List (List Part)) (ps : List Part) (us : List (Vec Part Global)) → map items us ≡ new_units fs ps → All (λ (x : Vec Part Global). is_unit_form x.items ≡ true) us
 units_are fs ps us e =
     All-from_recursion (λ (x : Vec Part Global). is_unit_form x.items ≡ true) us
-    (each_unit us (subst (AllByRecursion (λ (f : List Part). is_unit_form f ≡ true)) (sym e) (all_units fs ps)))
+    (AllByRecursion-map (λ (f : List Part). is_unit_form f ≡ true) items us (subst (AllByRecursion (λ (f : List Part). is_unit_form f ≡ true)) (sym e) (all_units fs ps)))
 
 -- ---- A unit alone
 

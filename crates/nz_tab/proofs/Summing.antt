@@ -24,7 +24,7 @@ use Rattle.nz_tab.specs.Units.{addends, new_units, with_units}
 use Rattle.nz_tab.proofs.Blocks.{no_coefficient}
 use Rattle.nz_tab.proofs.Joined.{back_all, front_all, nonbasic_then}
 use Rattle.nz_tab.proofs.Numbering.{HasNumber, all_within, are_numbered, has_its_units, number_is, number_of, units_numbered}
-use Rattle.nz_tab.proofs.Numbers.{same_or_below}
+use Rattle.nz_tab.proofs.Numbers.{below_or_past, same_or_below}
 use Rattle.nz_tab.proofs.SameRow.{same_row}
 use Rattle.nz_tab.proofs.Uniting.{Holds, addends_numbered, joined_to, numbered, units_join}
 
@@ -70,12 +70,9 @@ module _ (forms : List (List Part)) (f : List Part) (old mid : Grid) (count : le
       ∙ ap (λ (m : ℕ). joined_to (is_nonbasic old) (length old.marks) m k) (sym units_long)
       ∙ ap (λ (n : ℕ). joined_to (is_nonbasic old) n (length gs) k) count
 
-  place_or_past : (k n : ℕ) → (k < n) ⊎ (n ≤ k)
-  place_or_past k n = grind arith
-
   -- only the forms that were there are basic
   basic_rows : (m : ℕ) → m < length gs → is_nonbasic mid m ≡ false → rows_of mid m ≡ rows_of old m
-  basic_rows m inside e = by_place (place_or_past m (length old.marks))
+  basic_rows m inside e = by_place (below_or_past m (length old.marks))
     where
       by_place : (m < length old.marks) ⊎ (length old.marks ≤ m) → rows_of mid m ≡ rows_of old m
       by_place (inl here) = w.rows m here

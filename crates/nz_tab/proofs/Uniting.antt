@@ -1,5 +1,5 @@
 -- Units join a basis, one after another, and the units of a form have their numbers then.
-use Rattle.std.proofs.Common.{◌≡◌, ℕ, suc, ◌+◌, ◌<◌, ◌≤◌, Bool, true, false, ◌⊎◌, inl, inr, List, [], ◌∷◌, ◌++◌, length, map, Option, Some, None, refl, sym, ap, ◌∙◌, subst, true≢false, arith}
+use Rattle.std.proofs.Common.{◌≡◌, ℕ, suc, ◌<◌, ◌≤◌, Bool, true, false, ◌⊎◌, inl, inr, List, [], ◌∷◌, ◌++◌, length, map, Option, Some, None, refl, sym, ap, ◌∙◌, subst, true≢false, arith}
 use Rattle.std.specs.Prelude.{if◌then◌else◌, ◌&&◌, nat_lt, Contains, is_some, unwrap_or}
 use Rattle.std.specs.List.{AllByRecursion}
 use Rattle.std.proofs.Math.Path.{fun_ext}
@@ -16,7 +16,7 @@ use Rattle.nz_lin.specs.declared.form.Part.{Part}
 use Rattle.nz_lin.specs.Forms.{AreInOrder, AreUnits, NamesUnit, parts_over}
 use Rattle.nz_tab.specs.Tables.{forms_over}
 use Rattle.nz_tab.specs.Units.{addends, new_units, unit_number, unit_of, with_units}
-use Rattle.nz_tab.proofs.Numbers.{equal-number, other-number, same_or_below}
+use Rattle.nz_tab.proofs.Numbers.{below_or_past, below_same_or_past, equal-number, other-number, same_or_below}
 use Rattle.nz_tab.proofs.UnitForms.{number_behind, number_stays, unit_parts, unit_unlisted}
 
 pub below : (k n : ℕ) → k < n → nat_lt k n ≡ true
@@ -152,11 +152,8 @@ module _ (law : JoinsKeepBasis) (ns : List Node) (number : (i : ℕ) → i < len
     }
 
   joined_step : (f : ℕ → Bool) (n m : ℕ) → n < m → (k : ℕ) → joined_to (with_nonbasic f n) (suc n) m k ≡ joined_to f n m k
-  joined_step f n m h k = by_place (three k n)
+  joined_step f n m h k = by_place (below_same_or_past k n)
     where
-      three : (k n : ℕ) → (k < n) ⊎ ((k ≡ n) ⊎ (n < k))
-      three k n = grind arith
-
       by_place : (k < n) ⊎ ((k ≡ n) ⊎ (n < k)) → joined_to (with_nonbasic f n) (suc n) m k ≡ joined_to f n m k
       by_place (inl e) =
           ap (λ (b : Bool). if b then with_nonbasic f n k else nat_lt k m) (below k (suc n) (omega (arith, e)))
@@ -173,11 +170,8 @@ module _ (law : JoinsKeepBasis) (ns : List Node) (number : (i : ℕ) → i < len
 
   -- with no unit
   joined_none : (fs : List (List Part)) (f : ℕ → Bool) → IsBasis (forms_over ns fs) f → (k : ℕ) → f k ≡ joined_to f (length fs) (length fs) k
-  joined_none fs f b k = by_place (two k (length fs)) (f k) refl
+  joined_none fs f b k = by_place (below_or_past k (length fs)) (f k) refl
     where
-      two : (k n : ℕ) → (k < n) ⊎ (n ≤ k)
-      two k n = grind arith
-
       by_place : (k < length fs) ⊎ (length fs ≤ k) → (x : Bool) → f k ≡ x → f k ≡ joined_to f (length fs) (length fs) k
       by_place (inl e) x g = ap (λ (y : Bool). if y then f k else nat_lt k (length fs)) (sym (below k (length fs) e))
       by_place (inr e) true g = absurd (omega (arith, b.listed k g, over_long fs, e))

@@ -8,7 +8,7 @@ use Rattle.nz_spec.specs.BasisMoves.{numbers}
 use Rattle.nz_tab.specs.Rows.{Grid, basic, coefficient, is_marked, is_nonbasic, row_in, row_of, rows_of, size_of}
 use Rattle.nz_tab.specs.Sums.{IsWidened}
 use Rattle.nz_tab.proofs.Blocks.{block_long, coefficient_found, no_coefficient}
-use Rattle.nz_tab.proofs.Numbers.{one_passes}
+use Rattle.nz_tab.proofs.Numbers.{below_or_past, one_passes}
 
 -- ---- Numbers below a bound
 
@@ -46,9 +46,6 @@ numbers_all f n (suc m) all =
     ∙ omega (arith, numbers_all f n m (λ k e h. all k e (omega (arith, h))))
 
 -- ---- Rows over more forms
-
-place_or_past : (k n : ℕ) → (k < n) ⊎ (n ≤ k)
-place_or_past k n = grind arith
 
 -- a row without coefficients
 nothing : (marks : List Bool) (k : ℕ) (b : Bool) → is_marked marks k ≡ b → coefficient (record { marks = marks; coefficients = [] }) k ≡ whole (pos 0)
@@ -107,14 +104,14 @@ module _ (g : Grid) (units : ℕ) where
 
     -- a form that isn't nonbasic has no coefficient, here and there
     unmarked : (k : ℕ) → is_marked wider k ≡ false → is_nonbasic g k ≡ false
-    unmarked k e = by_place (place_or_past k n)
+    unmarked k e = by_place (below_or_past k n)
       where
         by_place : (k < n) ⊎ (n ≤ k) → is_nonbasic g k ≡ false
         by_place (inl inside) = sym (before k inside) ∙ e
         by_place (inr far) = get_or_past g.marks k false far
 
     marked_inside : (k : ℕ) → is_marked wider k ≡ true → k < length wider
-    marked_inside k e = by_place (place_or_past k (length wider))
+    marked_inside k e = by_place (below_or_past k (length wider))
       where
         by_place : (k < length wider) ⊎ (length wider ≤ k) → k < length wider
         by_place (inl inside) = inside

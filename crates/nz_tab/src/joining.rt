@@ -127,7 +127,7 @@ impl Rows {
         ensures solved { vec_capacity room.new.solved ≡ vec_capacity room.old.solved }
         ensures spare { vec_capacity room.new.spare ≡ vec_capacity room.old.spare }
     {
-        // The block is as long as its rows.
+        // Read, so that it is known to be as long as all rows.
         let _ = &self.block;
         self.sum(room, addends)?;
         self.push(room.solved.as_slice())?;

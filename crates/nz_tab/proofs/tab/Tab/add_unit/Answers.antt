@@ -1,5 +1,5 @@
 -- A unit that isn't there joins the forms, the numbers and the rows.
-use Rattle.std.proofs.Common.{Vec, Global, ◌≡◌, ◌+◌, ◌++◌, [], ◌∷◌, ℕ, List, None, length, map, rules, sym, ap, subst, ◌∙◌, arith}
+use Rattle.std.proofs.Common.{Vec, Global, ◌≡◌, ◌++◌, [], ◌∷◌, ℕ, List, None, length, map, rules, sym, ap, subst, ◌∙◌, arith}
 use Rattle.std.specs.HashMap.{get}
 use Rattle.std.specs.Prelude.{nat_eq, vec_capacity}
 use Rattle.std.proofs.lemmas.List.{length-map, map_push}
