@@ -20,7 +20,7 @@ use Rattle.nz_lin.specs.Forms.{parts_over}
 use Rattle.nz_lin.specs.Stops.{IsStopAt}
 use Rattle.nz_log.specs.declared.atoms.Atom.{Atom}
 use Rattle.nz_log.specs.declared.lits.Lit.{Lit}
-use Rattle.nz_log.specs.Atoms.{AreWithin, IsLitIn, LiteralsAgree, Stay, atom_in, clause_in, literal_in, with_sign}
+use Rattle.nz_log.specs.Atoms.{AreWithin, IsLitIn, LiteralsAgree, Stay, atom_in, literal_in, with_sign}
 use Rattle.nz_log.specs.Axioms.{IsClauseOf, above_literal, axiom_step, branch_of, first_wide_in_step, next_limit}
 use Rattle.nz_log.specs.Lits.{are_same_lit}
 use Rattle.nz_log.proofs.Agreeing.{clause_named}

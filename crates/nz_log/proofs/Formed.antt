@@ -1,7 +1,7 @@
 -- Forms and bounds that are made of others, some of which may have stopped.
-use Rattle.std.proofs.Common.{◌≡◌, List, [], None, Result, Ok, Err, refl, sym, ap, subst, ◌∙◌}
+use Rattle.std.proofs.Common.{◌≡◌, List, None, Result, Ok, Err, ap, subst, ◌∙◌}
 use Rattle.std.specs.Prelude.{ℕ, IfErr, IfOk}
-use Rattle.nz_fractions.specs.Fraction.{Fraction, Arithmetic, first_wide}
+use Rattle.nz_fractions.specs.Fraction.{Arithmetic, first_wide}
 use Rattle.nz_spec.specs.Computation.{Computation, at_once, turned_into, and_then}
 use Rattle.nz_spec.specs.Form.{Form, joined}
 use Rattle.nz_spec.specs.FormOf.{first_wide_in_form, form_of, number_in}

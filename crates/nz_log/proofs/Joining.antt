@@ -1,9 +1,7 @@
 -- Atoms join, and then a clause is put.
-use Rattle.std.proofs.Common.{◌≡◌, ℕ, ◌<◌, List, Option, Some, None, Result, Ok, Err, refl, sym, ap, subst, ◌∙◌}
+use Rattle.std.proofs.Common.{◌≡◌, ℕ, List, None, Result, Ok, Err, refl, sym, ap, subst, ◌∙◌}
 use Rattle.std.specs.Prelude.{slice_get, unwrap_or, IsSome, IfOk, OnErr}
-use Rattle.nz_log.specs.declared.atoms.Atom.{Atom}
 use Rattle.nz_log.specs.declared.lits.Lit.{Lit}
-use Rattle.nz_log.specs.Atoms.{Stay}
 use Rattle.nz_log.specs.Logs.{Entry, IsLive, JoinsAtoms, LogState, Origin, Puts, entry_at, made_entry}
 
 pub nothing_joins : (s : LogState) → JoinsAtoms s s

@@ -8,9 +8,8 @@ use Rattle.nz_spec.specs.Form.{Form, Numbering, joined, negated_form, unit_form}
 use Rattle.nz_spec.specs.FormOf.{form_of, number_in, TermHasItsNumber}
 use Rattle.nz_spec.specs.Gates.{fails, holds, list_of}
 use Rattle.nz_spec.specs.Linear.{constant_value}
-use Rattle.nz_spec.specs.LinearLiteral.{is_at_most_zero}
 use Rattle.nz_spec.specs.Links.{IsArithmetic, at_most_literal, minus, plus}
-use Rattle.nz_spec.specs.Literal.{Clause, is_at_most}
+use Rattle.nz_spec.specs.Literal.{is_at_most}
 use Rattle.nz_spec.specs.Order.{HasCompanions, IsInTable, companions_of}
 use Rattle.nz_spec.specs.Steps.{clause_at, step_clause, unit_step}
 use Rattle.nz_spec.specs.Table.{Node, IsTable, TermOfNode, TermStays, term_in}
