@@ -132,7 +132,7 @@ module _ (own : TermHasItsNumber) (stays : TermStays) (node : TermOfNode) (ns mo
       (same_units (number_in (ns ++ more)) (number_in ns) (IsInTable ns) (agrees own stays ns more table longer) (closed node ns table) (apply h ts) h (list_of ts) there
       (listed (IsInTable ns) ts (closed node ns table h ts there)) (λ a k. companion ns h ts a k companion_there))
 
-  pub same_unit : (t j : ℕ) → t < length ns
+  same_unit : (t j : ℕ) → t < length ns
       → step_clause (number_in (ns ++ more)) [] [] (unit_step (term_in (ns ++ more) t) j) ≡ step_clause (number_in ns) [] [] (unit_step (term_in ns t) j)
   same_unit t j within =
       ap (λ u. (clause_at (unit_clauses (number_in (ns ++ more)) u) j).result) (stays ns more t within)
