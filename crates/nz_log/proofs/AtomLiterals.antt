@@ -90,10 +90,6 @@ pub other_said : (atoms : List Atom) (id : ℕ) (b o : Bound) → slice_get atom
 other_said atoms id b o at is ns =
     literal_at ns atoms (record { atom = id; sign = false }) (AtMost o) at ∙ ap negation_of (is ns) ∙ negated_twice (literal_over ns b)
 
-pub own_said : (atoms : List Atom) (id : ℕ) (b : Bound) → slice_get atoms id ≡ Some (AtMost b) → (ns : List Node)
-    → literal_in ns atoms (record { atom = id; sign = true }) ≡ literal_over ns b
-own_said atoms id b at ns = literal_at ns atoms (record { atom = id; sign = true }) (AtMost b) at
-
 pub bound_within : (atoms : List Atom) (id : ℕ) (sign : Bool) (b : Bound) → slice_get atoms id ≡ Some (AtMost b) → (ns : List Node) → HasUnits ns b
     → IsLitIn ns atoms (record { atom = id; sign = sign })
 bound_within atoms id sign b at ns units = record { atom = AtMost b; at = at; within = units }

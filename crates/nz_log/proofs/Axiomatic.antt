@@ -72,11 +72,6 @@ axiom_grows old new id a c puts told =
       leveled = logs_stay_leveled.arithmetic old new id a c puts told;
     }
 
-pub axiom_grows_ok : {E : Type 0} (old new : LogState) (a : Axiom) (c : List Lit) (result : Result ℕ E) → IfOk result (λ id. Puts old id (axiom_entry new a c) new)
-    → OnOk result (AreTold new c → Grows old new)
-axiom_grows_ok old new a c (Ok id) puts = λ told. axiom_grows old new id a c puts told
-axiom_grows_ok old new a c (Err x) puts = puts
-
 -- ---- Sums that are contradictions
 
 module _ (ns : List Node) (atoms : List Atom) where

@@ -20,7 +20,7 @@ use Rattle.nz_lin.specs.Forms.{parts_over}
 use Rattle.nz_lin.specs.Stops.{IsStopAt}
 use Rattle.nz_log.specs.declared.atoms.Atom.{Atom}
 use Rattle.nz_log.specs.declared.lits.Lit.{Lit}
-use Rattle.nz_log.specs.Atoms.{AreWithin, IsLitIn, LiteralsAgree, Stay, atom_in, clause_in, literal_in, with_sign}
+use Rattle.nz_log.specs.Atoms.{AreWithin, IsLitIn, LiteralsAgree, Stay, atom_in, literal_in, with_sign}
 use Rattle.nz_log.specs.Axioms.{IsClauseOf, above_literal, axiom_step, branch_of, first_wide_in_step, next_limit}
 use Rattle.nz_log.specs.Lits.{are_same_lit}
 use Rattle.nz_log.proofs.Agreeing.{clause_named}
@@ -58,7 +58,7 @@ at_bound ns (Some a) sign s ps q e = (a, refl)
 at_bound ns None sign true ps q e = let both : term_literal (term_in ns 0) sign ≡ is_below ps q = e in absurd cc
 at_bound ns None sign false ps q e = let both : term_literal (term_in ns 0) sign ≡ is_at_most ps q = e in absurd cc
 
-pub bound_kept : (ns : List Node) (old new : List Atom) → Stay old new → (l : Lit) (b : Bound) → literal_in ns old l ≡ literal_over ns b → literal_in ns new l ≡ literal_over ns b
+bound_kept : (ns : List Node) (old new : List Atom) → Stay old new → (l : Lit) (b : Bound) → literal_in ns old l ≡ literal_over ns b → literal_in ns new l ≡ literal_over ns b
 bound_kept ns old new stay l b e =
     let there = at_bound ns (slice_get old l.atom) l.sign b.strict (parts_over ns b.sides.parts) b.sides.offset e in
     literal_at ns new l there.0 (stay l.atom there.0 there.1) ∙ sym (literal_at ns old l there.0 there.1) ∙ e
@@ -76,7 +76,7 @@ module _ (ps : List form.Part) (k : Fraction) (integral : IsTrue (are_integral p
   pub branch_stops : (ns : List Node) (s : LinStop) → IsStopAt (first_wide (next_limit k).operations) s → IsStopAt (first_wide_in_step ns (branch_step ps k)) s
   branch_stops ns s h = subst (λ (c : Computation (Option Clause)). IsStopAt (first_wide c.operations) s) (sym branch_taken) h
 
-  pub branch_is : (ns : List Node) (atoms : List Atom) → LiteralsAgree ns atoms → (b r : Bound) (first second : Lit) → parts_over ns b.sides.parts ≡ ps → b.sides.offset ≡ k → b.strict ≡ false
+  branch_is : (ns : List Node) (atoms : List Atom) → LiteralsAgree ns atoms → (b r : Bound) (first second : Lit) → parts_over ns b.sides.parts ≡ ps → b.sides.offset ≡ k → b.strict ≡ false
       → literal_in ns atoms first ≡ literal_over ns b → literal_in ns atoms second ≡ literal_over ns r → IsDone (above_literal ns b) (literal_over ns r)
       → IsLitIn ns atoms first → IsLitIn ns atoms second → IsClauseOf ns atoms (branch_of first) (once are_same_lit (first ∷ second ∷ []))
   branch_is ns atoms agree b r first second parts limit normal one two done own other =

@@ -1,27 +1,19 @@
 -- Forms and bounds that are made of others, some of which may have stopped.
-use Rattle.std.proofs.Common.{◌≡◌, List, [], None, Result, Ok, Err, refl, sym, ap, subst, ◌∙◌}
-use Rattle.std.specs.Prelude.{ℕ, IfErr, IfOk}
-use Rattle.nz_fractions.specs.Fraction.{Fraction, Arithmetic, first_wide}
+use Rattle.std.proofs.Common.{◌≡◌, List, None, Result, Ok, Err, ap, subst, ◌∙◌}
+use Rattle.nz_fractions.specs.Fraction.{Arithmetic, first_wide}
 use Rattle.nz_spec.specs.Computation.{Computation, at_once, turned_into, and_then}
 use Rattle.nz_spec.specs.Form.{Form, joined}
-use Rattle.nz_spec.specs.FormOf.{first_wide_in_form, form_of, number_in}
+use Rattle.nz_spec.specs.FormOf.{number_in}
 use Rattle.nz_spec.specs.Literal.{Literal}
-use Rattle.nz_spec.specs.Table.{Node, term_in}
+use Rattle.nz_spec.specs.Table.{Node}
 use Rattle.nz_lin.specs.declared.bound.Bound.{Bound}
 use Rattle.nz_lin.specs.declared.form.LinStop.{LinStop}
 use Rattle.nz_lin.specs.Bounds.{HasUnits, IsLiteral, literal_over}
 use Rattle.nz_lin.specs.Comes.{IsDone, IsFormed}
-use Rattle.nz_lin.specs.Forms.{AreUnits, IsFormOf, Numbered, form_over}
-use Rattle.nz_lin.specs.Stops.{IsStopAt}
+use Rattle.nz_lin.specs.Forms.{AreUnits, Numbered, form_over}
 use Rattle.nz_log.proofs.Operations.{first_behind, first_nothing, stop_before, stop_behind}
 
 -- ---- One form
-
--- the form of a term
-pub formed_of : (ns : List Node) (id : ℕ) (r : Result Numbered LinStop) → IfOk r (λ f. IsFormOf ns id f)
-    → IfErr r (λ s. IsStopAt (first_wide_in_form (number_in ns) (term_in ns id)) s) → IsFormed ns (form_of (number_in ns) (term_in ns id)) r
-formed_of ns id (Ok f) ok err = (record { result = ok.form; fits = ok.fits }, ok.units)
-formed_of ns id (Err s) ok err = err
 
 -- what needs no operation
 pub made_at_once : {A : Type 0} (x y : A) → y ≡ x → IsDone (at_once x) y

@@ -1,16 +1,15 @@
 -- The clauses of the link table stay when the table of terms grows: they number no term but those of the table.
-use Rattle.std.proofs.Common.{◌≡◌, ℕ, suc, ◌<◌, Bool, true, false, List, [], ◌∷◌, ◌++◌, length, map, get_or, Some, None, if◌then◌else◌, refl, sym, ap, subst, ◌∙◌, arith}
-use Rattle.std.specs.Prelude.{All, slice_get}
+use Rattle.std.proofs.Common.{◌≡◌, ℕ, suc, ◌<◌, List, [], ◌∷◌, ◌++◌, length, map, get_or, Some, if◌then◌else◌, refl, sym, ap, subst, ◌∙◌, arith}
+use Rattle.std.specs.Prelude.{slice_get}
 use Rattle.std.specs.List.{AllByRecursion}
 use Rattle.std.proofs.lemmas.List.{length-append}
 use Rattle.std.proofs.lemmas.Option.{slice_get-get_or}
-use Rattle.nz_spec.specs.Computation.{Computation, at_once, in_turn, turned_into}
+use Rattle.nz_spec.specs.Computation.{at_once, in_turn, turned_into}
 use Rattle.nz_spec.specs.Form.{Numbering}
 use Rattle.nz_spec.specs.FormOf.{number_in, TermHasItsNumber}
 use Rattle.nz_spec.specs.Gates.{fails, holds, is_boolean_term, list_of}
 use Rattle.nz_spec.specs.LinearLiteral.{is_at_most_zero, is_below_zero}
 use Rattle.nz_spec.specs.Links.{IsArithmetic, at_most_literal, below_literal, link_clauses, links_over}
-use Rattle.nz_spec.specs.Literal.{Literal, Clause}
 use Rattle.nz_spec.specs.Order.{HasCompanions, IsInTable, companions_of}
 use Rattle.nz_spec.specs.Steps.{clause_at, link_step, step_clause}
 use Rattle.nz_spec.specs.Table.{Node, IsTable, TermOfNode, TermStays, term_in, terms_at}

@@ -1,5 +1,5 @@
 -- The first operation that leaves the numbers, of one list of them and then another.
-use Rattle.std.proofs.Common.{◌≡◌, Bool, true, false, List, [], ◌∷◌, ◌++◌, Option, Some, None, if◌then◌else◌, refl, sym, ap, subst, ◌∙◌}
+use Rattle.std.proofs.Common.{◌≡◌, Bool, true, false, List, [], ◌∷◌, ◌++◌, Some, None, if◌then◌else◌, refl, sym, subst}
 use Rattle.nz_fractions.specs.Fraction.{Operation, first_wide, is_wide}
 use Rattle.nz_spec.specs.Computation.{Computation}
 use Rattle.nz_lin.specs.declared.form.LinStop.{LinStop}

@@ -1,13 +1,12 @@
 -- The literals of a row, one after another, while atoms join.
 use Rattle.std.proofs.Common.{◌≡◌, List, [], ◌∷◌, ◌++◌, length, refl, sym, ap, ◌∙◌, arith}
-use Rattle.std.specs.List.{AllByRecursion}
 use Rattle.std.proofs.lemmas.List.{map-append}
 use Rattle.nz_spec.specs.Literal.{Literal}
 use Rattle.nz_spec.specs.Table.{Node}
 use Rattle.nz_log.specs.declared.atoms.Atom.{Atom}
 use Rattle.nz_log.specs.declared.lits.Lit.{Lit}
 use Rattle.nz_log.specs.declared.rows.Said.{Said}
-use Rattle.nz_log.specs.Atoms.{IsLitIn, Stay, clause_in, literal_in}
+use Rattle.nz_log.specs.Atoms.{IsLitIn, Stay, literal_in}
 use Rattle.nz_log.specs.Rows.{AreLitsOf, AreSaidIn, IsSaidIn, said_in, saids_in}
 use Rattle.nz_log.proofs.Extending.{all_stay, clause_stays}
 use Rattle.nz_log.proofs.Members.{each-append}

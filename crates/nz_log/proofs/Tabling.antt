@@ -63,7 +63,7 @@ row_there rows j within none =
 
 module _ (ns : List Node) (atoms : List Atom) (a : Axiom) (rows : Rows) (j : ℕ) (taken : step_taken (number_in ns) [] [] (axiom_step ns atoms a) ≡ clause_at (map in_turn rows) j) where
   -- the literals of a row are the clause of the step
-  pub table_clause : LiteralsAgree ns atoms → (row : List (Computation Literal)) (v : List Said) (c : List Lit) → slice_get rows j ≡ Some row → IsDone (in_turn row) (saids_in ns v)
+  table_clause : LiteralsAgree ns atoms → (row : List (Computation Literal)) (v : List Said) (c : List Lit) → slice_get rows j ≡ Some row → IsDone (in_turn row) (saids_in ns v)
       → clause_in ns atoms c ≡ saids_in ns v → AreWithin ns atoms c → IsClauseOf ns atoms a (once are_same_lit c)
   table_clause agree row v c at done says within =
       let made : step_taken (number_in ns) [] [] (axiom_step ns atoms a) ≡ turned_into (λ d. Some (clause_of d)) (in_turn row) = taken ∙ row_taken rows j row at in
@@ -108,7 +108,7 @@ row_put old mid new a row c d (Err x) is j same made puts = puts
 pub links_are : (ns : List Node) (t : Term) → link_clauses (number_in ns) t ≡ map in_turn (link_rows ns t)
 links_are ns (apply h ts) = refl
 
-pub units_are : (ns : List Node) (t : Term) → unit_clauses (number_in ns) t ≡ map in_turn (unit_rows ns t)
+units_are : (ns : List Node) (t : Term) → unit_clauses (number_in ns) t ≡ map in_turn (unit_rows ns t)
 units_are ns (apply h ts) = refl
 
 pub link_taken : (ns : List Node) (t : Term) (j : ℕ) → step_taken (number_in ns) [] [] (link_step t j) ≡ clause_at (map in_turn (link_rows ns t)) j

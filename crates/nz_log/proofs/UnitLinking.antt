@@ -8,9 +8,8 @@ use Rattle.nz_spec.specs.Form.{Form, Numbering, joined, negated_form, unit_form}
 use Rattle.nz_spec.specs.FormOf.{form_of, number_in, TermHasItsNumber}
 use Rattle.nz_spec.specs.Gates.{fails, holds, list_of}
 use Rattle.nz_spec.specs.Linear.{constant_value}
-use Rattle.nz_spec.specs.LinearLiteral.{is_at_most_zero}
 use Rattle.nz_spec.specs.Links.{IsArithmetic, at_most_literal, minus, plus}
-use Rattle.nz_spec.specs.Literal.{Clause, is_at_most}
+use Rattle.nz_spec.specs.Literal.{is_at_most}
 use Rattle.nz_spec.specs.Order.{HasCompanions, IsInTable, companions_of}
 use Rattle.nz_spec.specs.Steps.{clause_at, step_clause, unit_step}
 use Rattle.nz_spec.specs.Table.{Node, IsTable, TermOfNode, TermStays, term_in}
@@ -133,7 +132,7 @@ module _ (own : TermHasItsNumber) (stays : TermStays) (node : TermOfNode) (ns mo
       (same_units (number_in (ns ++ more)) (number_in ns) (IsInTable ns) (agrees own stays ns more table longer) (closed node ns table) (apply h ts) h (list_of ts) there
       (listed (IsInTable ns) ts (closed node ns table h ts there)) (λ a k. companion ns h ts a k companion_there))
 
-  pub same_unit : (t j : ℕ) → t < length ns
+  same_unit : (t j : ℕ) → t < length ns
       → step_clause (number_in (ns ++ more)) [] [] (unit_step (term_in (ns ++ more) t) j) ≡ step_clause (number_in ns) [] [] (unit_step (term_in ns t) j)
   same_unit t j within =
       ap (λ u. (clause_at (unit_clauses (number_in (ns ++ more)) u) j).result) (stays ns more t within)

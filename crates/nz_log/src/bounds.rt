@@ -1,6 +1,5 @@
 //! Forms and bounds of the tables' rows. Each operation takes forms that may have stopped, and hands on the first stop.
-ghost use Rattle.std.specs.Prelude.{◌≡◌, ◌<◌, List, length};
-ghost use Rattle.nz_fractions.specs.Fraction.{Sum};
+ghost use Rattle.std.specs.Prelude.{◌<◌, List, length};
 ghost use Rattle.nz_spec.specs.Computation.{Computation, at_once, turned_into};
 ghost use Rattle.nz_spec.specs.Form as spec;
 ghost use Rattle.nz_spec.specs.Form.{negated_form, unit_form};

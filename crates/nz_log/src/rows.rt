@@ -7,7 +7,6 @@ ghost use Rattle.nz_spec.specs.Table.{Node, term_in, terms_at};
 ghost use Rattle.nz_spec.specs.Term.{apply};
 ghost use Rattle.nz_lin.specs.Bounds.{IsLiteral};
 ghost use Rattle.nz_term.specs.Heads.{operator_of};
-ghost use Rattle.nz_log.specs.declared.rows.Said.TheVariants as said;
 ghost use Rattle.nz_log.specs.Rows.{IsRowOf, IsTermOf};
 ghost use Rattle.nz_log.specs.TermLits.{literal_of};
 
@@ -83,11 +82,7 @@ fn with(row: Vec<Said>, said: Said) -> Result<Vec<Said>, Memory>
 }
 
 /// The number of the term of an operator over arguments, which is in the table.
-pub(crate) fn listed(
-    terms: &Terms,
-    operator: Operator,
-    kids: &[TermId],
-) -> Result<TermId, Memory>
+pub(crate) fn listed(terms: &Terms, operator: Operator, kids: &[TermId]) -> Result<TermId, Memory>
     requires within { All (λ k. k < length terms.now) kids.now }
     requires listed { IsInTable terms.now (apply (operator_of operator) (terms_at (term_in terms.now) kids.now)) }
     ensures term { IfOk result (IsTermOf terms.now (apply (operator_of operator) (terms_at (term_in terms.now) kids.now))) }

@@ -200,12 +200,18 @@ fn remainder_row(
     let Some(factor) = terms.constant(divisor) else {
         return Ok(None);
     };
-    let form = form_of(alloc, terms, dividend);
-    let multiple = times(alloc, terms, factor, quotient);
     let own = unit_alone(alloc, terms, unit);
     match j {
-        0 => alone(alloc, at_most_zero(minus(minus(form, multiple), own))),
-        1 => alone(alloc, at_most_zero(minus(plus(own, multiple), form))),
+        0 => {
+            let form = form_of(alloc, terms, dividend);
+            let multiple = times(alloc, terms, factor, quotient);
+            alone(alloc, at_most_zero(minus(minus(form, multiple), own)))
+        }
+        1 => {
+            let form = form_of(alloc, terms, dividend);
+            let multiple = times(alloc, terms, factor, quotient);
+            alone(alloc, at_most_zero(minus(plus(own, multiple), form)))
+        }
         2 => alone(alloc, at_most_zero(opposite(alloc, own))),
         3 => alone(alloc, units_at_most(own, greatest_remainder(factor))),
         _ => Ok(None),

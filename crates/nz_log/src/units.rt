@@ -1,5 +1,5 @@
 //! Clauses by the unit table.
-ghost use Rattle.std.specs.Prelude.{◌≡◌, ◌<◌, ℕ, List, length, IfErr, IfOk, IsTrue, OnErr};
+ghost use Rattle.std.specs.Prelude.{◌<◌, ℕ, List, length, IfErr, IfOk, IsTrue, OnErr};
 ghost use Rattle.nz_spec.specs.FormOf.{number_in};
 ghost use Rattle.nz_spec.specs.Linear.{is_linear};
 ghost use Rattle.nz_spec.specs.Links.{IsArithmetic};

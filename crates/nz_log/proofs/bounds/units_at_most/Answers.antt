@@ -1,5 +1,5 @@
 -- No operation more.
-use Rattle.std.proofs.Common.{◌≡◌, List, map, ap, subst, sym, ◌∙◌}
+use Rattle.std.proofs.Common.{List, ap, subst, sym, ◌∙◌}
 use Rattle.nz_spec.specs.Form as spec
 use Rattle.nz_spec.specs.Literal.{is_at_most}
 use Rattle.nz_lin.specs.declared.form.Part.{Part}

@@ -1,5 +1,5 @@
 -- Each row in its place.
-use Rattle.std.proofs.Common.{◌∷◌, [], true, false, refl}
+use Rattle.std.proofs.Common.{true, false, refl}
 use Rattle.nz_spec.specs.FormOf.{number_in}
 use Rattle.nz_spec.specs.Links.{at_most_literal, below_literal}
 use Rattle.nz_spec.specs.Table.{term_in}

@@ -46,8 +46,8 @@ returns-in-1 c =
     let own : Computation Form = at_once (unit_form u) in
     let sum = plus number own multiple in
     let table = c.known_table.ensures.table in
-    let first = c.plus.ensures.formed ns own multiple table c.unit_alone-own.ensures.formed c.times-multiple.ensures.formed in
-    let second = c.minus-in-1.ensures.formed ns sum f table first c.form_of-form.ensures.formed in
+    let first = c.plus.ensures.formed ns own multiple table c.unit_alone-own.ensures.formed c.times-multiple-in-1.ensures.formed in
+    let second = c.minus-in-1.ensures.formed ns sum f table first c.form_of-form-in-1.ensures.formed in
     let literal = at_most_zero (minus number sum f) in
     let here = row_at ns (remainder_rows number u q a (Some k)) c.args.j 1 (literal ∷ []) c.alone-in-1.result c.in-1.is refl
     (c.alone-in-1.ensures.row ns literal (c.at_most_zero-in-1.ensures.literal ns (minus number sum f) second)) in

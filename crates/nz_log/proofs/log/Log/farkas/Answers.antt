@@ -1,6 +1,6 @@
 -- The sum is made, and then the clause is put.
 use Rattle.std.proofs.Common.{◌≡◌, ◌++◌, ℕ, List, Result, Ok, Err, ap, sym, subst, ◌∙◌, rules}
-use Rattle.std.specs.Prelude.{IfErr, IfOk, OnErr}
+use Rattle.std.specs.Prelude.{IfErr}
 use Rattle.std.proofs.lemmas.Result.{err_from_is_err_and}
 use Rattle.nz_base.specs.declared.errors.Memory.{Memory}
 use Rattle.nz_fractions.specs.Fraction.{first_wide}
@@ -19,7 +19,6 @@ use Rattle.nz_log.specs.Lits.{are_same_lit}
 use Rattle.nz_log.specs.Logs.{Puts, axiom_entry}
 use Rattle.nz_log.proofs.Agreeing.{literals_agree}
 use Rattle.nz_log.proofs.Axiomatic.{axiom_grows, axiom_in_order, axiom_made, farkas_gives, farkas_is, farkas_operations, refuted_within}
-use Rattle.nz_log.proofs.Extending.{axiom_in_wider}
 use Rattle.nz_log.proofs.log.Log.farkas.Goals as goal
 use Rattle.nz_log.proofs.log.Log.farkas.Goals.{In_ok-put_axiom}
 

@@ -1,8 +1,7 @@
 -- One multiple more.
-use Rattle.std.proofs.Common.{◌≡◌, ◌<◌, List, length, Err, sym, ap, subst, ◌∙◌, arith, rules}
+use Rattle.std.proofs.Common.{◌<◌, length, Err, sym, ap, subst, ◌∙◌, arith, rules}
 use Rattle.std.proofs.lemmas.List.{drop_all}
 use Rattle.std.proofs.lemmas.Result.{err_from_is_err_and}
-use Rattle.nz_spec.specs.Table.{Node}
 use Rattle.nz_lin.specs.Bounds.{IsBounded, bound_over}
 use Rattle.nz_log.specs.declared.multiples.Multiple.{Multiple}
 use Rattle.nz_log.specs.Atoms.{IsLitIn}
