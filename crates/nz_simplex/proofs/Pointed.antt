@@ -73,19 +73,39 @@ onto_same c x y t (k ∷ ks) h =
 
 -- ---- The point
 
+-- each nonbasic form has a value
+abbrev pub AreKnown : State → Type 0
+AreKnown s = (k : ℕ) → nonbasic_in s k ≡ true → IsSome (value_in s k)
+
+-- the forms with a value at the point are the nonbasic ones
+pub known_marks : (s : State) → AreKnown s → (k : ℕ) → is_nonbasic (point_in s) k ≡ nonbasic_in s k
+known_marks s known k = by_test (nonbasic_in s k) refl
+  where
+    by_test : (b : Bool) → nonbasic_in s k ≡ b → is_some (if b then value_in s k else None) ≡ b
+    by_test true e = known k e
+    by_test false e = refl
+
 module _ (s : State) (sound : IsSound s) where
-  -- the forms with a value at the point are the nonbasic ones
   pub point_marks : (k : ℕ) → is_nonbasic (point_in s) k ≡ nonbasic_in s k
-  point_marks k = by_test (nonbasic_in s k) refl
-    where
-      by_test : (b : Bool) → nonbasic_in s k ≡ b → is_some (if b then value_in s k else None) ≡ b
-      by_test true e = sound.known k e
-      by_test false e = refl
+  point_marks k = known_marks s sound.known k
 
   pub point_value : (k : ℕ) → nonbasic_in s k ≡ true → bland.value_in (point_in s) k ≡ unwrap_or (value_in s k) zero_infinitesimal
   point_value k e = ap (λ (b : Bool). unwrap_or (if b then value_in s k else None) zero_infinitesimal) e
 
 -- ---- Rows
+
+module _ {S : Type 0} (stands_for : S → Infinitesimal) (tab : Table) (trail : TrailState S) (values : List (Option S)) (why : List (ℕ × Fraction)) where
+  abbrev seen : State
+  seen = state_of stands_for tab trail values why
+
+  pub known_row : AreKnown seen → IsTableau tab → (ns : List Node) → IsOver ns seen → (i : ℕ) → i < length tab.forms → nonbasic_in seen i ≡ false
+      → IsRow (position_over ns seen).forms (is_nonbasic (position_over ns seen).point) i (rows_in tab i)
+  known_row known tableau ns over i inside basic =
+      let rows = (tableau ns over.table over.units).rows i (subst (λ (n : ℕ). i < n) (sym (length-map tab.forms (parts_over ns))) inside) basic in
+      record {
+        at_basic = λ k e. rows.at_basic k (sym (known_marks seen known k) ∙ e);
+        equal = rows.equal;
+      }
 
 module _ {S : Type 0} (stands_for : S → Infinitesimal) (tab : Table) (trail : TrailState S) (values : List (Option S)) (why : List (ℕ × Fraction)) (sound : IsSound (state_of stands_for tab trail values why)) where
   abbrev here : State
@@ -93,14 +113,9 @@ module _ {S : Type 0} (stands_for : S → Infinitesimal) (tab : Table) (trail : 
 
   pub row_told : IsTableau tab → (ns : List Node) → IsOver ns here → (i : ℕ) → i < length tab.forms → nonbasic_in here i ≡ false
       → IsRow (position_over ns here).forms (is_nonbasic (position_over ns here).point) i (rows_in tab i)
-  row_told tableau ns over i inside basic =
-      let rows = (tableau ns over.table over.units).rows i (subst (λ (n : ℕ). i < n) (sym (length-map tab.forms (parts_over ns))) inside) basic in
-      record {
-        at_basic = λ k e. rows.at_basic k (sym (point_marks here sound k) ∙ e);
-        equal = rows.equal;
-      }
+  row_told = known_row stands_for tab trail values why sound.known
 
-  numbers_at : (k : ℕ) → nonbasic_in here k ≡ true → numbers_in stands_for values k ≡ bland.value_in (point_in here) k
+  pub numbers_at : (k : ℕ) → nonbasic_in here k ≡ true → numbers_in stands_for values k ≡ bland.value_in (point_in here) k
   numbers_at k e =
       ap (λ (o : Option Infinitesimal). unwrap_or o zero_infinitesimal) (sym (slice_index_or-map (option_map stands_for) values k None))
       ∙ sym (point_value here sound k e)
@@ -140,7 +155,7 @@ module _ {S : Type 0} (stands_for : S → Infinitesimal) (tab : Table) (trail : 
             (subst (λ (y : Infinitesimal). y =δ sum_at (length tab.forms) c (bland.value_in (point_in here))) (sym (e ∙ computed_result c)) sum);
       }
 
-  rows_told : IsTableau tab → (ns : List Node) → IsOver ns here → AreRows (position_over ns here).forms (is_nonbasic (position_over ns here).point) (rows_in tab)
+  pub rows_told : IsTableau tab → (ns : List Node) → IsOver ns here → AreRows (position_over ns here).forms (is_nonbasic (position_over ns here).point) (rows_in tab)
   rows_told tableau ns over r inside basic =
       row_told tableau ns over r (subst (λ (n : ℕ). r < n) (length-map tab.forms (parts_over ns)) inside) (sym (point_marks here sound r) ∙ basic)
 

@@ -109,6 +109,7 @@ Answers ns s left (Err Spent) = (left ≡ 0) × ((p : Pivot) × MayPivot (positi
 pub record IsRenewed (old new : State) : Type 0 where
   pub values : List (Option Infinitesimal)
   pub rest : new ≡ record old { values = values }
+  pub point : (k : ℕ) → point_in new k ≡ point_in old k
   pub kept : (k : ℕ) (x : Infinitesimal) → value_in old k ≡ Some x → value_in new k ≡ Some x
 
 -- what a call that only computes values tells

@@ -12,7 +12,8 @@ use Rattle.nz_spec.specs.BasisMoves.{Rows, AreRows, joining_row}
 use Rattle.nz_spec.specs.Computation.{Computation}
 use Rattle.nz_fractions.specs.Fraction.{first_wide}
 use Rattle.nz_frac.specs.Operations.{operation_of}
-use Rattle.nz_tab.specs.Joins.{is_unit_form, new_units, with_units, unit_number, number_by}
+use Rattle.nz_tab.specs.Joins.{number_by}
+use Rattle.nz_tab.specs.Units.{is_unit_form, new_units, with_units, unit_number}
 use Rattle.nz_tab.specs.declared.tab.TabStop.{TabStop}
 use Rattle.nz_tab.specs.declared.tab.TabStop.TheVariants.{Wide, Memory}
 use Rattle.nz_trail.specs.declared.limits.Side.{Side}

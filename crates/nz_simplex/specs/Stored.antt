@@ -8,8 +8,9 @@ use Rattle.nz_spec.specs.PositionMoves.{is_outside}
 use Rattle.nz_trail.specs.Bounds.{Asserted, TrailState, other_side}
 use Rattle.nz_spec.specs.Basis.{Coefficients}
 use Rattle.nz_trail.specs.declared.limits.Side.{Side}
-use Rattle.nz_simplex.specs.Checks.{multiplier}
-use Rattle.nz_simplex.specs.Choices.{numbers_in, way_of}
+use Rattle.nz_spec.specs.Term.{is_zero}
+use Rattle.nz_simplex.specs.Checks.{holding_side}
+use Rattle.nz_simplex.specs.Choices.{numbers_in, size_of, way_of}
 use Rattle.nz_simplex.specs.Standing.{Held, half, standing, told}
 use Rattle.nz_simplex.specs.State.{State, nonbasic_in, IsSound}
 use Rattle.nz_simplex.specs.Tabled.{marks_in}
@@ -41,9 +42,17 @@ pub record IsStored (s : State) (vars : ℕ) (basic nonbasic : List ℕ) (basic_
   pub room_for_nonbasic : length s.forms ≤ nonbasic_room
   pub room_for_why : length s.forms ≤ why_room
 
--- the reason and the multiplier of a nonbasic form that is held back, by a trail
-abbrev pub held_back : {S : Type 0} → (S → Infinitesimal) → List (Asserted S) → Side → Coefficients → ℕ → List (ℕ × Fraction)
-held_back stands_for bounds side row k = multiplier (map (told stands_for) bounds) side row k
+-- the reason and the multiplier of a nonbasic form with this coefficient, where it isn't 0 and a bound holds the form back
+abbrev pub held_by : List Held → Side → ℕ → Fraction → Option (ℕ × Fraction)
+held_by bs side k c = if is_zero c then None else option_map (λ (b : Held). (b.reason, size_of c)) (standing bs k (holding_side side c))
+
+-- the same of a form of a row, as a list
+abbrev pub one_or_none : {A : Type 0} → Option A → List A
+one_or_none None = []
+one_or_none (Some x) = x ∷ []
+
+abbrev pub held_back : List Held → Side → Coefficients → ℕ → List (ℕ × Fraction)
+held_back bs side row k = one_or_none (held_by bs side k (row k))
 
 -- whether a nonbasic form with this coefficient can take the form of a row towards a side, by a trail and the values
 abbrev pub has_room_in : Option Held → Side → Infinitesimal → Bool

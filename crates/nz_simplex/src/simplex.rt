@@ -1,9 +1,9 @@
 //! The simplex: forms over a basis, their bounds, and the point.
-ghost use Rattle.std.specs.Prelude.{◌≡◌, ◌≢◌, ◌↔◌, ◌<◌, ◌≤◌, ◌&&◌, if◌then◌else◌, ℕ, [], ◌∷◌, List, All, IfOk, OnOk, OnErr, IfErr, IfSome, IfNone, IsSome, IsTrue, None, Some, Ok, Err, false, true, not, pos, flat_map, length, map, option_map, slice_index_or, take, vec_capacity, vec_len};
+ghost use Rattle.std.specs.Prelude.{◌≡◌, ◌≢◌, ◌↔◌, ◌<◌, ◌≤◌, ◌+◌, ◌++◌, ◌&&◌, if◌then◌else◌, ℕ, [], ◌∷◌, List, All, IfOk, OnOk, OnErr, IfErr, IfSome, IfNone, IsSome, IsTrue, None, Some, Ok, Err, false, true, not, pos, flat_map, length, map, option_map, slice_index_or, take, vec_capacity, vec_len};
 ghost use Rattle.nz_lin.specs.Forms.{AreUnits};
-ghost use Rattle.nz_simplex.specs.Checks.{Answers, IsFirstBroken, IsRenewed, IsStepped, Renews, StopsAt, multipliers};
-ghost use Rattle.nz_simplex.specs.Choices.{is_past_known, moving_side, size_of};
-ghost use Rattle.nz_simplex.specs.Stored.{first_passing, held_back, is_helping};
+ghost use Rattle.nz_simplex.specs.Checks.{Answers, IsFeasible, IsFirstBroken, IsRefuted, IsRenewed, IsStepped, Renews, StopsAt};
+ghost use Rattle.nz_simplex.specs.Choices.{is_past_known};
+ghost use Rattle.nz_simplex.specs.Stored.{first_passing, held_back, held_by, is_helping, one_or_none};
 ghost use Rattle.nz_simplex.specs.Moves.{IsBounded, IsJoined, IsSettled, JoinStops, joined_over};
 ghost use Rattle.nz_simplex.specs.Standing.{half, standing, told, told_on};
 ghost use Rattle.nz_simplex.specs.State.{IsOver, IsSound, empty_state, nonbasic_in, position_over, value_in};
@@ -355,9 +355,10 @@ impl<S: Coordinate> Simplex<S> {
         requires valued { (k : ℕ) → k < length self.now.forms → IsSome (value_in self.now k) }
         ensures found { IfSome result (λ b. (standing self.now.asserted b.var b.side ≡ Some (told_on S.stands_for b.var b.side b.limit))
             × ((ns : List Node) → IsOver ns self.now → IsFirstBroken (position_over ns self.now) (half b.side) (S.stands_for b.limit.value) b.var)) }
-        ensures none { IfNone result ((ns : List Node) → IsOver ns self.now → (side : bland.Side) → (bound : Infinitesimal) → (i : ℕ) → Breaks (position_over ns self.now) side bound i → ⊥) }
+        ensures none { IfNone result ((ns : List Node) → IsOver ns self.now → IsFeasible ns self.now) }
     {
         positions_have_values();
+        infinitesimals_move();
         for var in self.basic.as_slice() {
             let (lower, upper) = self.trail.bounds(*var);
             if let Some((side, limit)) = broken_bound(self.value(*var), lower, upper) {
@@ -424,11 +425,13 @@ impl<S: Coordinate> Simplex<S> {
         requires known { broken.now.var < length self.old.forms }
         requires basic { nonbasic_in self.old broken.now.var ≡ false }
         requires stands { standing self.old.asserted broken.now.var broken.now.side ≡ Some (told_on S.stands_for broken.now.var broken.now.side broken.now.limit) }
+        requires broken { (ns : List Node) → IsOver ns self.old → Breaks (position_over ns self.old) (half broken.now.side) (S.stands_for broken.now.limit.value) broken.now.var }
         requires helpless { (ns : List Node) → IsOver ns self.old → (j : ℕ) → CanHelp (position_over ns self.old) broken.now.var (bland.other_side (half broken.now.side)) j → ⊥ }
-        ensures why { (ns : List Node) → IsOver ns self.old → (row : Coefficients) × (IsRow (position_over ns self.old).forms (is_nonbasic (position_over ns self.old).point) broken.now.var row)
-            × (self.new ≡ record self.old { why = multipliers self.old broken.now.var broken.now.side row }) }
+        ensures rest { self.new ≡ record self.old { why = self.new.why } }
+        ensures refuted { (ns : List Node) → IsOver ns self.old → IsRefuted ns self.new }
     {
-        rows_tell();
+        positions_have_values();
+        infinitesimals_move();
         known_tableau(&self.tab);
         put_multipliers(
             &self.tab,
@@ -506,19 +509,30 @@ fn put_multipliers<S: Coordinate>(
     requires listed { All (λ k. k < trail.now.vars) nonbasic.now }
     requires room { length nonbasic.now < vec_capacity why.old }
     ensures capacity { vec_capacity why.new ≡ vec_capacity why.old }
-    ensures put { why.new.items ≡ (broken.now.limit.reason, whole (pos 1)) ∷ flat_map (held_back S.stands_for trail.now.asserted broken.now.side (rows_in tab.now broken.now.var)) nonbasic.now }
+    ensures put { why.new.items ≡ (broken.now.limit.reason, whole (pos 1)) ∷ flat_map (held_back (map (told S.stands_for) trail.now.asserted) broken.now.side (rows_in tab.now broken.now.var)) nonbasic.now }
 {
     why.clear();
     why.push_reserved((broken.limit.reason, Frac::whole(1)));
     let row = tab.row(broken.var);
     for var in nonbasic {
-        if let Some(multiplier) = multiplier_of(trail, *var, opposite(broken.side), row.at(*var)) {
-            why.push_reserved(multiplier);
-        }
+        put_multiplier(why, multiplier_of(trail, *var, broken.side, row.at(*var)));
     }
 }
 
-/// The reason and the multiplier of the bound that keeps a nonbasic form from moving, where its coefficient isn't 0.
+/// Puts a multiplier behind others, where there is one.
+fn put_multiplier(why: &mut Vec<(Reason, Frac)>, multiplier: Option<(Reason, Frac)>)
+    requires room { vec_len why.old < vec_capacity why.old }
+    ensures put { why.new.items ≡ why.old.items ++ one_or_none multiplier }
+    ensures len { vec_len why.new ≤ vec_len why.old + 1 }
+    ensures capacity { vec_capacity why.new ≡ vec_capacity why.old }
+{
+    if let Some(multiplier) = multiplier {
+        why.push_reserved(multiplier);
+    }
+}
+
+/// The reason and the multiplier of the bound that keeps a nonbasic form from helping, where the form of the row, in which it
+/// has this coefficient, breaks its bound of a side. None where the coefficient is 0.
 fn multiplier_of<S: Coordinate>(
     trail: &Trail<S>,
     var: Var,
@@ -526,12 +540,10 @@ fn multiplier_of<S: Coordinate>(
     coefficient: Frac,
 ) -> Option<(Reason, Frac)>
     requires known { var < trail.now.vars }
-    ensures still { is_zero coefficient ≡ true → result ≡ None }
-    ensures held { is_zero coefficient ≡ false → result ≡ option_map (λ l. (l.reason, size_of coefficient))
-        (standing (map (told S.stands_for) trail.now.asserted) var (moving_side side coefficient)) }
+    ensures held { result ≡ held_by (map (told S.stands_for) trail.now.asserted) side var coefficient }
 {
-    let side = way(side, coefficient)?;
-    let limit = bound_of(trail, side, var)?;
+    let towards = way(opposite(side), coefficient)?;
+    let limit = bound_of(trail, towards, var)?;
     Some((limit.reason, size(coefficient)))
 }
 
