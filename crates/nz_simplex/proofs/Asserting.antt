@@ -69,7 +69,7 @@ module _ {S : Type 0} (stands_for : S → Infinitesimal) (order : S → S → Or
       where
         by_test : (h : Held) → Any (IsIt b.var b.side h) list → (c : Bool) → is_outside (half b.side) (stands_for b.value) h.value ≡ c → c ≡ true
         by_test h found true e = refl
-        by_test h (k, x, inside, at, on, is) false e =
+        by_test h (k, x, inside, at, there) false e =
             absurd
             (news
             (
@@ -77,12 +77,11 @@ module _ {S : Type 0} (stands_for : S → Infinitesimal) (order : S → S → Or
               x,
               inside,
               at,
-              on,
-              λ tighter.
+              (there.0, λ tighter.
                   true≢false
                   (sym (tighter_news stands_for order total same b.side b.value x.value tighter)
-                  ∙ ap (λ (g : Held). is_outside (half b.side) (stands_for b.value) g.value) is
-                  ∙ e),
+                  ∙ ap (λ (g : Held). is_outside (half b.side) (stands_for b.value) g.value) there.1
+                  ∙ e)),
             ))
 
         by_standing : (o : Option Held) → standing (map (told stands_for) list) b.var b.side ≡ o → is_news b.side (stands_for b.value) o ≡ true
@@ -104,15 +103,14 @@ module _ {S : Type 0} (stands_for : S → Infinitesimal) (order : S → S → Or
         by_standing (Some h) e is out =
             let found = standing_there b.var (other_side b.side) h list e in
             let x = found.1 in
-            let value : other ≡ stands_for x.value = sym (ap (λ (o : Option Infinitesimal). unwrap_or o other) is) ∙ ap (λ (g : Held). g.value) (sym found.5) in
+            let value : other ≡ stands_for x.value = sym (ap (λ (o : Option Infinitesimal). unwrap_or o other) is) ∙ ap (λ (g : Held). g.value) (sym found.4.1) in
             agrees
             (
               found.0,
               x,
               found.2,
               found.3,
-              found.4,
-              apart_told b.side b.value x.value (subst (λ (z : Infinitesimal). IsOutside (half (other_side b.side)) z (stands_for b.value)) value out),
+              (found.4.0, apart_told b.side b.value x.value (subst (λ (z : Infinitesimal). IsOutside (half (other_side b.side)) z (stands_for b.value)) value out)),
             )
 
 -- ---- What stands with one bound more
@@ -146,22 +144,21 @@ module _ (bs : List Held) (b : Held) (news : is_news b.side b.value (standing bs
 
 module _ (p : Position) (bs : List Held) (lower : p.lower ≡ bound_in bs Lower) (upper : p.upper ≡ bound_in bs Upper) (v : ℕ) (x : Infinitesimal) (r : ℕ) where
   pub bound_more : (side own : Side) (k : ℕ) → is_news own x (standing bs v own) ≡ true → bound_in (bs ++ asserted v own x r ∷ []) side k ≡ bounds_with (half side) (half own) p v x k
-  bound_more side own k news = ap (option_map (λ (h : Held). h.value)) (standing_more bs (asserted v own x r) news k side) ∙ by_sides side own (k == v)
+  bound_more side own k news = ap (option_map (λ (h : Held). h.value)) (standing_more bs (asserted v own x r) news k side) ∙ by_sides side own
     where
-      by_sides : (side own : Side) (c : Bool)
-          → option_map (λ (h : Held). h.value) (if c && is_side side own then Some (asserted v own x r) else standing bs k side)
-          ≡ (elim side [
-            | Lower ↦ elim own [ Lower ↦ (if c then Some x else p.lower k) | Upper ↦ p.lower k ]
-            | Upper ↦ elim own [ Lower ↦ p.upper k | Upper ↦ (if c then Some x else p.upper k) ]
-          ])
-      by_sides Lower Lower true = refl
-      by_sides Lower Lower false = ap (λ (f : ℕ → Option Infinitesimal). f k) (sym lower)
-      by_sides Lower Upper true = ap (λ (f : ℕ → Option Infinitesimal). f k) (sym lower)
-      by_sides Lower Upper false = ap (λ (f : ℕ → Option Infinitesimal). f k) (sym lower)
-      by_sides Upper Lower true = ap (λ (f : ℕ → Option Infinitesimal). f k) (sym upper)
-      by_sides Upper Lower false = ap (λ (f : ℕ → Option Infinitesimal). f k) (sym upper)
-      by_sides Upper Upper true = refl
-      by_sides Upper Upper false = ap (λ (f : ℕ → Option Infinitesimal). f k) (sym upper)
+      taken : (c : Bool) (o : Option Held) → option_map (λ (h : Held). h.value) (if c && true then Some (asserted v own x r) else o) ≡ (if c then Some x else option_map (λ (h : Held). h.value) o)
+      taken true o = refl
+      taken false o = refl
+
+      passed : (c : Bool) (o : Option Held) → option_map (λ (h : Held). h.value) (if c && false then Some (asserted v own x r) else o) ≡ option_map (λ (h : Held). h.value) o
+      passed true o = refl
+      passed false o = refl
+
+      by_sides : (a b : Side) → option_map (λ (h : Held). h.value) (if (k == v) && is_side a b then Some (asserted v own x r) else standing bs k a) ≡ bounds_with (half a) (half b) p v x k
+      by_sides Lower Lower = taken (k == v) (standing bs k Lower) ∙ ap (λ (f : ℕ → Option Infinitesimal). if k == v then Some x else f k) (sym lower)
+      by_sides Lower Upper = passed (k == v) (standing bs k Lower) ∙ ap (λ (f : ℕ → Option Infinitesimal). f k) (sym lower)
+      by_sides Upper Lower = passed (k == v) (standing bs k Upper) ∙ ap (λ (f : ℕ → Option Infinitesimal). f k) (sym upper)
+      by_sides Upper Upper = taken (k == v) (standing bs k Upper) ∙ ap (λ (f : ℕ → Option Infinitesimal). if k == v then Some x else f k) (sym upper)
 
 -- ---- The point with one bound more
 
@@ -170,7 +167,7 @@ abbrev pub is_moving : {S : Type 0} → (S → Infinitesimal) → Table → List
 is_moving stands_for tab values v side bound = slice_index_or (marks_in tab) v false && is_past_known stands_for side bound (slice_index_or values v None)
 
 module _ {S : Type 0} (stands_for : S → Infinitesimal) (side : Side) (bound : S) where
-  abbrev within : Option Infinitesimal → Option Infinitesimal
+  abbrev pub within : Option Infinitesimal → Option Infinitesimal
   within o = option_map (moved_within (half side) (stands_for bound)) o
 
   -- a value within the bound stays, and another one comes to it

@@ -46,7 +46,7 @@ module _ {X Y : Type 0} (f : X → Y) where
 
   -- the parts of a list that is mapped come of parts of the list
   unmapped_parts : (xs : List X) (before : List Y) (y : Y) (after : List Y) → map f xs ≡ before ++ y ∷ after
-      → (as : List X) × (a : X) × (bs : List X) × (xs ≡ as ++ a ∷ bs) × (map f as ≡ before) × (f a ≡ y) × (map f bs ≡ after)
+      → (front : List X) × (a : X) × (rest : List X) × (xs ≡ front ++ a ∷ rest) × (map f front ≡ before) × (f a ≡ y) × (map f rest ≡ after)
   unmapped_parts [] [] y after e = absurd (cc)
   unmapped_parts [] (z ∷ zs) y after e = absurd (cc)
   unmapped_parts (x ∷ xs) [] y after e =
@@ -169,7 +169,10 @@ module _ {S : Type 0} (stands_for : S → Infinitesimal) (order : S → S → Or
             let var : e.var ≡ b.var = ap (λ (h : Held). h.var) found.1 in
             let side : e.side ≡ other_side b.side = ap (λ (h : Held). h.side) found.1 in
             let reason : e.reason ≡ other = ap (λ (h : Held). h.reason) found.1 in
-            let is : e ≡ asserted b.var (other_side b.side) e.value other = cc in
+            let is : e ≡ asserted b.var (other_side b.side) e.value other =
+            ap (λ (v : ℕ). asserted v e.side e.value e.reason) var
+            ∙ ap (λ (s : Side). asserted b.var s e.value e.reason) side
+            ∙ ap (asserted b.var (other_side b.side) e.value) reason in
             record {
               value = e.value;
               tightest = subst (IsTightest order list) is found.2;

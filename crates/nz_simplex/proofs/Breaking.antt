@@ -8,7 +8,7 @@ use Rattle.nz_spec.specs.Infinitesimal.{Infinitesimal, ◌=δ◌}
 use Rattle.nz_spec.specs.InfinitesimalMoves.{InfinitesimalsMove}
 use Rattle.nz_spec.specs.Bland as bland
 use Rattle.nz_spec.specs.Bland.{lower_side, upper_side, Breaks, IsOutside, PositionsHaveValues, bound_on, zero_infinitesimal}
-use Rattle.nz_spec.specs.PositionMoves.{is_outside}
+use Rattle.nz_spec.specs.PositionMoves.{IsReadyToCheck, is_outside}
 use Rattle.nz_spec.specs.Table.{Node}
 use Rattle.nz_lin.specs.Forms.{parts_over}
 use Rattle.nz_trail.specs.declared.limits.Side.{Side}
@@ -117,9 +117,10 @@ module _ (s : State) (sound : IsSound s) (values : PositionsHaveValues) (law : I
   feasible_told none = record {
     known = known;
     within = within;
-    meets = λ y has. values.feasible (position_over ns s) y ready.basis has ready.fit within;
+    meets = λ y has. values.feasible (position_over ns s) y ready.basis (λ k inside. has k (listed k inside)) ready.fit within;
   }
     where
+      ready : IsReadyToCheck (position_over ns s)
       ready = sound.ready ns over
 
       within : (side : bland.Side) (bound : Infinitesimal) (i : ℕ) → Breaks (position_over ns s) side bound i → ⊥

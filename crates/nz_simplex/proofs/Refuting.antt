@@ -42,7 +42,7 @@ refuted p side bound i breaks none =
 
 -- ---- The multipliers
 
-told_one : (o : Option Held) (c : Fraction) → IsSome o → one_or_none (option_map (λ (b : Held). (b.reason, size_of c)) o) ≡ (unwrap_or (option_map (λ (b : Held). b.reason) o) 0, size_of c) ∷ []
+told_one : (o : Option Held) (c : Fraction) → IsSome o → one_or_none {A = ℕ × Fraction} (option_map (λ (b : Held). (b.reason, size_of c)) o) ≡ (unwrap_or (option_map (λ (b : Held). b.reason) o) 0, size_of c) ∷ []
 told_one None c some = absurd (true≢false (sym some))
 told_one (Some b) c some = refl
 
@@ -72,7 +72,7 @@ module _ (ns : List Node) (s : State) (side : Side) (bound : Infinitesimal) (i :
   told_multiplier k = by_test (is_zero (row k)) refl
     where
       by_test : (z : Bool) → is_zero (row k) ≡ z
-          → one_or_none (if z then None else option_map (λ (b : Held). (b.reason, size_of (row k))) (standing s.asserted k (holding_side side (row k))))
+          → one_or_none {A = ℕ × Fraction} (if z then None else option_map (λ (b : Held). (b.reason, size_of (row k))) (standing s.asserted k (holding_side side (row k))))
           ≡ (if z then [] else (reason_in s.asserted (holding_side side (row k)) k, size_of (row k)) ∷ [])
       by_test true e = refl
       by_test false e = told_one (standing s.asserted k (holding_side side (row k))) (row k) (held_stands k (is_below_zero (row k)) e refl)

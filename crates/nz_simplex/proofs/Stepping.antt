@@ -169,10 +169,11 @@ module _ {S : Type 0} (stands_for : S → Infinitesimal) (old_tab new_tab : Tabl
 
         followed_value : (k : ℕ) (y : S) → k < length new_tab.forms → nonbasic_in there k ≡ false
             → IsFollowed stands_for (slice_index_or old i None) target (rows_in new_tab k i) (slice_index_or old k None) (Some y) → HasValue after k (stands_for y)
+        unfolding step_after chosen_step
         followed_value k y inside basic (w, x, from, x_was, value) =
             equal_value law after k (stands_for y) (stands_for x +δ scaled (stands_for target -δ stands_for w) (rows_in new_tab k i)) value
             (kept.moves before after i j k (stands_for x) (stands_for w) (rows_in new_tab k i) basis step
-            (subst (λ (n : ℕ). k < n) (ap length (sym pivoted.forms) ∙ sym (length-map old_tab.forms (parts_over ns))) inside)
+            (subst (λ (n : ℕ). k < n) (ap length pivoted.forms ∙ sym (length-map old_tab.forms (parts_over ns))) inside)
             (old_value k x x_was)
             (old_value i w from)
             (record {

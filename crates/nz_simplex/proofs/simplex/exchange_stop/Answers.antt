@@ -1,0 +1,14 @@
+-- scratch
+use Rattle.nz_simplex.proofs.Firsts.{first_least}
+use Rattle.nz_simplex.proofs.Signs.{above_told}
+use Rattle.nz_simplex.proofs.Helping.{help_told}
+use Rattle.nz_simplex.proofs.ValuesAfter.{some_told}
+use Rattle.nz_simplex.proofs.Stepping.{sound_after}
+use Rattle.nz_simplex.proofs.Choosing.{chosen_found}
+use Rattle.nz_simplex.proofs.Breaking.{feasible_told}
+use Rattle.nz_simplex.proofs.Refuting.{is_refuted}
+use Rattle.nz_simplex.proofs.Moving.{right_there}
+use Rattle.nz_simplex.proofs.Bounding.{clash_same}
+use Rattle.nz_simplex.proofs.Asserting.{bound_more}
+use Rattle.nz_simplex.proofs.Bounded.{sound_moved}
+use Rattle.nz_simplex.proofs.Settling.{settled_renewed}
