@@ -11,30 +11,19 @@ use Rattle.nz_spec.specs.Bland.{lower_side, upper_side, Breaks, IsOutside, Posit
 use Rattle.nz_spec.specs.PositionMoves.{IsReadyToCheck, is_outside}
 use Rattle.nz_spec.specs.Table.{Node}
 use Rattle.nz_lin.specs.Forms.{parts_over}
+use Rattle.nz_trail.specs.declared.limits.Limit.{Limit}
 use Rattle.nz_trail.specs.declared.limits.Side.{Side}
 use Rattle.nz_trail.specs.declared.limits.Side.TheVariants.{Lower, Upper}
 use Rattle.nz_simplex.specs.Checks.{IsFeasible, IsFirstBroken}
 use Rattle.nz_simplex.specs.Standing.{Held, half, standing, bound_in}
 use Rattle.nz_simplex.specs.State.{State, nonbasic_in, value_in, IsOver, IsSound, position_over}
-use Rattle.nz_simplex.specs.Stored.{basic_numbers, first_passing}
+use Rattle.nz_simplex.specs.Stored.{IsPastBound, basic_numbers, breaks_held, first_passing, is_breaking, is_broken}
 use Rattle.nz_simplex.proofs.Firsts.{IsLeast, first_least, first_none}
 use Rattle.nz_simplex.proofs.Helping.{bound_told, outside_test}
 use Rattle.nz_simplex.proofs.Pointed.{point_marks}
 use Rattle.nz_simplex.proofs.Undoing.{outside_told}
 
 -- ---- The test
-
--- whether a value breaks what stands
-abbrev pub breaks_held : Side → Option Held → Infinitesimal → Bool
-breaks_held side None x = false
-breaks_held side (Some b) x = is_outside (half side) b.value x
-
--- whether the value of a form breaks a bound
-abbrev pub is_broken : State → ℕ → Infinitesimal → Bool
-is_broken s k x = breaks_held Lower (standing s.asserted k Lower) x || breaks_held Upper (standing s.asserted k Upper) x
-
-abbrev pub is_breaking : State → ℕ → Bool
-is_breaking s k = is_broken s k (unwrap_or (value_in s k) zero_infinitesimal)
 
 held_tested : (side : Side) (o : Option Held) (bound x : Infinitesimal) → option_map (λ (b : Held). b.value) o ≡ Some bound → IsOutside (half side) bound x → breaks_held side o x ≡ true
 held_tested side None bound x e h = absurd (cc)
@@ -111,6 +100,12 @@ module _ (s : State) (sound : IsSound s) (values : PositionsHaveValues) (law : I
       turned : (b : Bool) → not b ≡ true → b ≡ false
       turned true e = sym e
       turned false e = refl
+
+  pub past_told : {S : Type 0} (stands_for : S → Infinitesimal) (i : ℕ) (side : Side) (limit : Limit S) → first_passing (is_breaking s) (basic_numbers s) ≡ Some i
+      → IsPastBound stands_for s i side limit → IsFirstBroken (position_over ns s) (half side) (stands_for limit.value) i
+  past_told stands_for i side limit found past =
+      first_broken_told i side (stands_for limit.value) past.value found past.valued (ap (option_map (λ (b : Held). b.value)) past.stands)
+      (outside_told (half side) (stands_for limit.value) past.value past.past)
 
   -- where none passes, the point is within all bounds
   pub feasible_told : first_passing (is_breaking s) (basic_numbers s) ≡ None → IsFeasible ns s

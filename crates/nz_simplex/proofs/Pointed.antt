@@ -1,8 +1,8 @@
 -- The point of a simplex, its rows, and the value of a form from its row.
-use Rattle.std.proofs.Common.{◌≡◌, ℕ, zero, suc, ◌<◌, Bool, true, false, List, [], ◌∷◌, ◌++◌, length, map, Option, Some, None, refl, sym, ap, ◌∙◌, subst, arith}
+use Rattle.std.proofs.Common.{◌≡◌, ℕ, zero, suc, ◌<◌, ◌≤◌, ◌⊎◌, inl, inr, Bool, true, false, true≢false, List, [], ◌∷◌, ◌++◌, length, map, Option, Some, None, refl, sym, ap, ◌∙◌, subst, arith}
 use Rattle.std.specs.Prelude.{All, IsSome, is_some, option_map, unwrap_or, slice_index_or, if◌then◌else◌}
 use Rattle.std.specs.List.{AllByRecursion}
-use Rattle.std.proofs.lemmas.List.{length-map}
+use Rattle.std.proofs.lemmas.List.{length-map, length_push}
 use Rattle.std.proofs.lemmas.List.Elements.{All-from_recursion}
 use Rattle.nz_lists.proofs.Places.{slice_index_or-map}
 use Rattle.nz_fractions.specs.Fraction.{Fraction, Operation, first_wide}
@@ -58,6 +58,32 @@ numbers_pass (suc n) f = by_test (f n) refl (numbers_pass n f)
     by_test : (b : Bool) → f n ≡ b → AllByRecursion (λ k. f k ≡ true) (numbers n f) → AllByRecursion (λ k. f k ≡ true) (if b then numbers n f ++ n ∷ [] else numbers n f)
     by_test true e h = append_all (λ k. f k ≡ true) (numbers n f) n h e
     by_test false e h = h
+
+-- so they are below any greater bound
+pub all_below : (n m : ℕ) (f : ℕ → Bool) → n ≤ m → All (λ k. k < m) (numbers n f)
+all_below n m f h =
+    All-from_recursion (λ k. k < m) (numbers n f) (all_weaker (λ k. k < n) (λ k. k < m) (numbers n f) (λ k below. omega (arith, h, below)) (numbers_below n f))
+
+-- where one of the numbers fails, there are fewer
+count_at_most : (n : ℕ) (f : ℕ → Bool) → length (numbers n f) ≤ n
+count_at_most zero f = omega arith
+count_at_most (suc n) f = by_test (f n) (count_at_most n f)
+  where
+    by_test : (b : Bool) → length (numbers n f) ≤ n → length (if b then numbers n f ++ n ∷ [] else numbers n f) ≤ suc n
+    by_test true h = omega (arith, h, length_push (numbers n f) n)
+    by_test false h = omega (arith, h)
+
+pub count_below : (n : ℕ) (f : ℕ → Bool) (i : ℕ) → i < n → f i ≡ false → length (numbers n f) < n
+count_below zero f i h e = absurd (omega (arith, h))
+count_below (suc n) f i h e = by_test (f n) refl (one_or_below i n h) (λ below. count_below n f i below e)
+  where
+    one_or_below : (i n : ℕ) → i < suc n → (i ≡ n) ⊎ (i < n)
+    one_or_below i n h = grind (arith, h)
+
+    by_test : (b : Bool) → f n ≡ b → (i ≡ n) ⊎ (i < n) → (i < n → length (numbers n f) < n) → length (if b then numbers n f ++ n ∷ [] else numbers n f) < suc n
+    by_test true g (inl same) rest = absurd (true≢false (sym g ∙ ap f (sym same) ∙ e))
+    by_test true g (inr below) rest = let fewer = rest below in omega (arith, fewer, length_push (numbers n f) n)
+    by_test false g place rest = let fewer = count_at_most n f in omega (arith, fewer)
 
 -- only the values of the listed forms count
 pub onto_same : (c : Coefficients) (x y : ℕ → Infinitesimal) (t : Infinitesimal) (ks : List ℕ) → AllByRecursion (λ k. x k ≡ y k) ks

@@ -1,9 +1,9 @@
 //! The simplex: forms over a basis, their bounds, and the point.
-ghost use Rattle.std.specs.Prelude.{◌≡◌, ◌≢◌, ◌↔◌, ◌<◌, ◌≤◌, ◌+◌, ◌++◌, ◌&&◌, if◌then◌else◌, ℕ, [], ◌∷◌, List, All, IfOk, OnOk, OnErr, IfErr, IfSome, IfNone, IsSome, IsTrue, None, Some, Ok, Err, false, true, not, pos, flat_map, length, map, option_map, slice_index_or, take, vec_capacity, vec_len};
+ghost use Rattle.std.specs.Prelude.{◌≡◌, ◌≢◌, ◌↔◌, ◌<◌, ◌≤◌, ◌+◌, ◌++◌, ◌&&◌, if◌then◌else◌, ℕ, [], ◌∷◌, List, All, IfOk, OnOk, OnErr, IfErr, IfSome, IfNone, IsSome, IsTrue, is_some, None, Some, Ok, Err, false, true, not, pos, flat_map, length, map, option_map, slice_index_or, take, vec_capacity, vec_len};
 ghost use Rattle.nz_lin.specs.Forms.{AreUnits};
 ghost use Rattle.nz_simplex.specs.Checks.{Answers, IsFeasible, IsFirstBroken, IsRefuted, IsRenewed, IsStepped, Renews, StopsAt};
 ghost use Rattle.nz_simplex.specs.Choices.{is_past_known};
-ghost use Rattle.nz_simplex.specs.Stored.{first_passing, held_back, held_by, is_helping, one_or_none};
+ghost use Rattle.nz_simplex.specs.Stored.{IsPastBound, first_passing, held_back, held_by, is_breaking, is_helping, one_or_none};
 ghost use Rattle.nz_simplex.specs.Moves.{IsBounded, IsJoined, IsSettled, JoinStops, joined_over};
 ghost use Rattle.nz_simplex.specs.Standing.{half, standing, told, told_on};
 ghost use Rattle.nz_simplex.specs.State.{IsOver, IsSound, empty_state, nonbasic_in, position_over, value_in};
@@ -359,17 +359,37 @@ impl<S: Coordinate> Simplex<S> {
     {
         positions_have_values();
         infinitesimals_move();
-        for var in self.basic.as_slice() {
-            let (lower, upper) = self.trail.bounds(*var);
-            if let Some((side, limit)) = broken_bound(self.value(*var), lower, upper) {
-                return Some(Broken {
-                    var: *var,
-                    side,
-                    limit,
-                });
+        known_state(self);
+        self.first_breaking(self.basis())
+    }
+
+    /// The first of these forms that breaks a bound.
+    fn first_breaking(&self, forms: &[Var]) -> Option<Broken<S>>
+        requires listed { All (λ k. k < length self.now.forms) forms.now }
+        requires valued { (k : ℕ) → k < length self.now.forms → IsSome (value_in self.now k) }
+        ensures found { IfSome result (λ b. (first_passing (is_breaking self.now) forms.now ≡ Some b.var) × IsPastBound S.stands_for self.now b.var b.side b.limit) }
+        ensures none { IfNone result (first_passing (is_breaking self.now) forms.now ≡ None) }
+    {
+        for var in forms {
+            if let Some(broken) = self.broken_at(*var) {
+                return Some(broken);
             }
         }
         None
+    }
+
+    /// A form with the bound that its value is past, where there is one.
+    fn broken_at(&self, var: Var) -> Option<Broken<S>>
+        requires known { var < length self.now.forms }
+        requires valued { IsSome (value_in self.now var) }
+        ensures past { IfSome result (λ b. (b.var ≡ var) × IsPastBound S.stands_for self.now b.var b.side b.limit) }
+        ensures breaks { is_some result ≡ is_breaking self.now var }
+    {
+        let (lower, upper) = self.bounds(var);
+        match broken_bound(self.value(var), lower, upper) {
+            Some((side, limit)) => Some(Broken { var, side, limit }),
+            None => None,
+        }
     }
 
     /// Exchanges a form that breaks a bound with the least-numbered nonbasic form that can help, moves it to the bound, and notes
