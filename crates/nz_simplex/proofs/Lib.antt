@@ -4,6 +4,7 @@ pub mod Bounding
 pub mod Breaking
 pub mod Choosing
 pub mod Empty
+pub mod Exchanging
 pub mod Firsts
 pub mod Following
 pub mod Helping

@@ -118,6 +118,15 @@ module _ (s : State) (sound : IsSound s) where
   pub point_value : (k : ℕ) → nonbasic_in s k ≡ true → bland.value_in (point_in s) k ≡ unwrap_or (value_in s k) zero_infinitesimal
   point_value k e = ap (λ (b : Bool). unwrap_or (if b then value_in s k else None) zero_infinitesimal) e
 
+-- a value that is shown is stored
+some_back : {S : Type 0} (stands_for : S → Infinitesimal) (o : Option S) → IsSome (option_map stands_for o) → IsSome o
+some_back stands_for None h = h
+some_back stands_for (Some v) h = refl
+
+pub some_at : {S : Type 0} (stands_for : S → Infinitesimal) (values : List (Option S)) (k : ℕ) → IsSome (slice_index_or (map (option_map stands_for) values) k None) → IsSome (slice_index_or values k None)
+some_at stands_for values k h =
+    some_back stands_for (slice_index_or values k None) (subst (λ (o : Option Infinitesimal). IsSome o) (slice_index_or-map (option_map stands_for) values k None) h)
+
 -- ---- Rows
 
 module _ {S : Type 0} (stands_for : S → Infinitesimal) (tab : Table) (trail : TrailState S) (values : List (Option S)) (why : List (ℕ × Fraction)) where
@@ -197,10 +206,6 @@ module _ {S : Type 0} (stands_for : S → Infinitesimal) (tab : Table) (trail : 
   }
 
   -- the nonbasic forms are listed, and their values known
-  some_back : (o : Option S) → IsSome (option_map stands_for o) → IsSome o
-  some_back None h = h
-  some_back (Some v) h = refl
-
   pub all_listed : All (λ k. k < length values) (nonbasic_numbers here)
   all_listed =
       All-from_recursion (λ k. k < length values) (nonbasic_numbers here)
@@ -210,5 +215,5 @@ module _ {S : Type 0} (stands_for : S → Infinitesimal) (tab : Table) (trail : 
   all_known =
       All-from_recursion (λ k. IsSome (slice_index_or values k None)) (nonbasic_numbers here)
       (all_weaker (λ k. nonbasic_in here k ≡ true) (λ k. IsSome (slice_index_or values k None)) (nonbasic_numbers here)
-      (λ k e. some_back (slice_index_or values k None) (subst (λ (o : Option Infinitesimal). IsSome o) (slice_index_or-map (option_map stands_for) values k None) (sound.known k e)))
+      (λ k e. some_at stands_for values k (sound.known k e))
       (numbers_pass (length tab.forms) (nonbasic_in here)))

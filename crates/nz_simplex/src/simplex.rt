@@ -29,7 +29,7 @@ use nz_base::Memory;
 use nz_frac::{Frac, Wide};
 use nz_lin::{Form, Part};
 use nz_spec::basis::{
-    check_steps_keep_basis, joins_keep_basis, moves_keep_ready, no_help_refutes,
+    check_steps_keep_basis, joins_keep_basis, moves_keep_ready, nonbasic_form_is_itself,
     positions_have_values, rows_tell, sum_moves, value_is_computed,
 };
 use nz_spec::computation::infinitesimals_move;
@@ -338,7 +338,6 @@ impl<S: Coordinate> Simplex<S> {
     {
         pivots_are_runs();
         positions_have_values();
-        no_help_refutes();
         self.renew()?;
         while let Some(broken) = self.first_broken() {
             if !self.step(&broken, work)? {
@@ -412,6 +411,8 @@ impl<S: Coordinate> Simplex<S> {
         check_steps_keep_basis();
         moves_keep_ready();
         rows_tell();
+        infinitesimals_move();
+        nonbasic_form_is_itself();
         known_tableau(&self.tab);
         let Some(enters) = first_helper(
             &self.tab,
@@ -428,6 +429,7 @@ impl<S: Coordinate> Simplex<S> {
         if let Err(wide) = self.tab.pivot(broken.var, enters) {
             return Err(exchange_stop(wide, broken.var, enters));
         }
+        known_tableau(&self.tab);
         move_to(
             &self.tab,
             self.values.as_mut_slice(),
