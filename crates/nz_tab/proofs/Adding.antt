@@ -1,11 +1,10 @@
 -- A row to which forms are added one by one, qs a list of its coefficients.
-use Rattle.std.proofs.Common.{◌≡◌, ℕ, zero, suc, ◌+◌, ◌<◌, ◌≤◌, Bool, true, false, ◌⊎◌, inl, inr, List, [], ◌∷◌, ◌++◌, length, map, flat_map, get_or, take, drop, set, Some, None, pos, refl, sym, ap, ◌∙◌, subst, arith}
+use Rattle.std.proofs.Common.{◌≡◌, ℕ, zero, suc, ◌+◌, ◌<◌, ◌≤◌, Bool, true, false, ◌⊎◌, inl, inr, List, [], ◌∷◌, ◌++◌, length, map, get_or, take, drop, set, Some, None, pos, refl, sym, ap, ◌∙◌, subst, arith}
 use Rattle.std.specs.Prelude.{if◌then◌else◌, ◌==◌, ◌≢◌}
-use Rattle.std.proofs.Math.Path.{fun_ext}
 use Rattle.std.proofs.lemmas.Grind.{flat_map-append}
-use Rattle.std.proofs.lemmas.List.{append-nil, append_assoc, drop_all, drop_more, get_or-map, get_or_at, length-map, length-take-le, length_push, map-append, map_push, set-append_left, set_at, take-append-drop, take_all, take_more}
+use Rattle.std.proofs.lemmas.List.{append-nil, append_assoc, drop_all, drop_more, get_or-map, get_or_at, length-map, length-take-le, map_push, set-append_left, set_at, take-append-drop, take_all, take_more}
 use Rattle.nz_fractions.specs.Fraction.{Fraction, Operation, Product, Sum, first_wide, outcome, whole}
-use Rattle.nz_spec.specs.Computation.{Computation, and_then, at_once, operated, turned_into}
+use Rattle.nz_spec.specs.Computation.{Computation, and_then, operated, turned_into}
 use Rattle.nz_spec.specs.Basis.{Coefficients}
 use Rattle.nz_spec.specs.BasisMoves.{Rows, numbers, plus_multiple}
 use Rattle.nz_tab.specs.Comes.{IsDone}

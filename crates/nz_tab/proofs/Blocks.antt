@@ -9,7 +9,7 @@ use Rattle.nz_fractions.specs.Fraction.{Fraction, whole}
 use Rattle.nz_spec.specs.Basis.{Coefficients}
 use Rattle.nz_spec.specs.BasisMoves.{numbers, exchanged}
 use Rattle.nz_tab.specs.Rows.{ArePlaces, DenseRow, IsGrid, basic, coefficient, counted, is_marked, place_of, row_in, row_of, rows_of}
-use Rattle.nz_tab.proofs.Numbers.{count_both, one_fails, one_passes, equal-number, other-number, same-number, number_at, place_within, count_counted, counted_at}
+use Rattle.nz_tab.proofs.Numbers.{count_both, one_fails, one_passes, equal-number, same-number, number_at, place_within, count_counted, counted_at}
 
 -- ---- Rows in a block
 

@@ -1,10 +1,9 @@
 -- What an exchange of rows comes to as a whole, and how large it is.
-use Rattle.std.proofs.Common.{◌≡◌, ℕ, suc, ◌+◌, ◌*◌, ◌<◌, ◌≤◌, Bool, true, false, ◌⊎◌, inl, inr, List, [], ◌∷◌, ◌++◌, length, map, flat_map, Some, None, Result, Ok, Err, pos, refl, sym, ap, ◌∙◌, subst, true≢false, arith}
+use Rattle.std.proofs.Common.{◌≡◌, ℕ, ◌*◌, ◌<◌, Bool, true, false, List, length, map, flat_map, Some, None, refl, sym, ap, ◌∙◌, true≢false, arith}
 use Rattle.std.specs.Prelude.{◌==◌, ◌&&◌, if◌then◌else◌, not, set, ◌≢◌}
 use Rattle.std.proofs.Math.Path.{fun_ext}
 use Rattle.std.proofs.lemmas.List.{length-set}
-use Rattle.nz_fractions.specs.Fraction.{Fraction, Operation, first_wide, whole}
-use Rattle.nz_spec.specs.Basis.{Coefficients}
+use Rattle.nz_fractions.specs.Fraction.{Fraction, Operation, first_wide}
 use Rattle.nz_spec.specs.BasisMoves.{Rows, exchange, exchanged, numbers, replaced, solved}
 use Rattle.nz_tab.specs.Comes.{IsDone}
 use Rattle.nz_tab.specs.Each.{each}
@@ -13,7 +12,7 @@ use Rattle.nz_tab.specs.Rows.{basic, counted, is_marked, size_of}
 use Rattle.nz_tab.proofs.Blocks.{marked_within, marks_exchanged}
 use Rattle.nz_tab.proofs.Exchanging.{entering, rows_operations, rows_same, solved_operations, solved_same}
 use Rattle.nz_tab.proofs.Firsts.{first_wide-none, first_wide-some}
-use Rattle.nz_tab.proofs.Numbers.{equal-number, other-number, same-number, count_both, count_more}
+use Rattle.nz_tab.proofs.Numbers.{equal-number, other-number, count_both, count_more}
 
 -- ---- Sizes
 

@@ -1,11 +1,11 @@
 -- An exchange that goes over the columns one by one is the exchange of the definitions.
-use Rattle.std.proofs.Common.{◌≡◌, ℕ, Bool, true, false, List, [], ◌∷◌, ◌++◌, map, flat_map, pos, refl, sym, ap, ◌∙◌, true≢false}
+use Rattle.std.proofs.Common.{◌≡◌, ℕ, Bool, true, false, List, [], ◌∷◌, map, flat_map, pos, refl, sym, ap, ◌∙◌, true≢false}
 use Rattle.std.specs.Prelude.{◌==◌, not, ◌&&◌, if◌then◌else◌, ◌≢◌}
 use Rattle.std.specs.List.{AllByRecursion}
 use Rattle.std.proofs.lemmas.List.Concat.{flat_map_single}
 use Rattle.nz_lists.proofs.Elements.{AllByRecursion-weaker}
 use Rattle.nz_fractions.specs.Fraction.{Fraction, whole, neg_ℚ, outcome, Sum, Product, Quotient, Operation}
-use Rattle.nz_spec.specs.Computation.{Computation, operated, at_once, turned_into}
+use Rattle.nz_spec.specs.Computation.{operated, at_once, turned_into}
 use Rattle.nz_spec.specs.Term.{is_zero}
 use Rattle.nz_spec.specs.Basis.{Coefficients}
 use Rattle.nz_spec.specs.BasisMoves.{numbers, Rows, plus_multiple, exchanged, solved, replaced}

@@ -1,15 +1,15 @@
 -- What joins leaves a tableau.
-use Rattle.std.proofs.Common.{◌≡◌, ℕ, suc, ◌+◌, ◌<◌, ◌≤◌, Bool, true, false, ◌⊎◌, inl, inr, List, [], ◌∷◌, ◌++◌, length, map, Option, Some, None, refl, sym, ap, ◌∙◌, subst, true≢false, arith}
+use Rattle.std.proofs.Common.{◌≡◌, ℕ, ◌+◌, ◌<◌, ◌≤◌, Bool, true, false, ◌⊎◌, inl, inr, List, [], ◌∷◌, ◌++◌, length, None, sym, ap, ◌∙◌, subst, true≢false, arith}
 use Rattle.std.specs.Prelude.{if◌then◌else◌, nat_lt}
 use Rattle.std.specs.List.{AllByRecursion}
 use Rattle.std.proofs.Math.Path.{fun_ext}
-use Rattle.std.proofs.lemmas.List.{get_or_past, length-append, length-map, length_push}
+use Rattle.std.proofs.lemmas.List.{get_or_past, length-map, length_push}
 use Rattle.nz_spec.specs.FormOf.{TermHasItsNumber, number_in}
-use Rattle.nz_spec.specs.Table.{IsTable, Node, term_in}
+use Rattle.nz_spec.specs.Table.{Node, term_in}
 use Rattle.nz_spec.specs.Basis.{IsBasis, IsRow}
 use Rattle.nz_spec.specs.BasisMoves.{AreRows, JoinsKeepBasis, with_nonbasic}
 use Rattle.nz_lin.specs.declared.form.Part.{Part}
-use Rattle.nz_lin.specs.Forms.{AreUnits, NamesUnit, parts_over}
+use Rattle.nz_lin.specs.Forms.{AreUnits, parts_over}
 use Rattle.nz_tab.specs.Rows.{Grid, is_nonbasic, rows_of}
 use Rattle.nz_tab.specs.Sums.{IsWidened}
 use Rattle.nz_tab.specs.Tables.{HasRows, IsTableau, forms_over}

@@ -1,3 +1,4 @@
+pub mod Added
 pub mod Adding
 pub mod Blocks
 pub mod Each
@@ -5,9 +6,15 @@ pub mod Exchanged
 pub mod Exchanging
 pub mod Firsts
 pub mod Joined
+pub mod Numbering
 pub mod Numbers
 pub mod Pivoting
+pub mod Pushing
+pub mod RoomLeft
+pub mod SameRow
 pub mod Solving
+pub mod Storing
+pub mod Summing
 pub mod Tableau
 pub mod UnitForms
 pub mod Uniting

@@ -1,6 +1,6 @@
 -- What an exchange of rows leaves, from what its steps ensure.
-use Rattle.std.proofs.Common.{◌≡◌, ℕ, ◌*◌, ◌<◌, ◌≤◌, Bool, true, false, List, [], Some, None, length, map, flat_map, refl, sym, ap, ◌∙◌, subst, arith}
-use Rattle.std.specs.Prelude.{All, not, set, ◌≢◌}
+use Rattle.std.proofs.Common.{◌≡◌, ℕ, ◌*◌, ◌<◌, ◌≤◌, Bool, true, false, List, [], Some, None, length, map, flat_map, sym, ap, ◌∙◌, subst, arith}
+use Rattle.std.specs.Prelude.{All, set, ◌≢◌}
 use Rattle.std.proofs.lemmas.List.{length-map}
 use Rattle.std.proofs.lemmas.List.Elements.{All-from_recursion}
 use Rattle.nz_fractions.specs.Fraction.{Fraction, Operation, first_wide}
@@ -13,7 +13,7 @@ use Rattle.nz_tab.specs.Exchanges.{IsExchanged, row_after, solved_row}
 use Rattle.nz_tab.specs.Rows.{DenseRow, Grid, HasRoom, basic, coefficient, counted, is_marked, is_nonbasic, row_of, rows_of, size_of}
 use Rattle.nz_tab.proofs.Blocks.{block_long, coefficient_found, columns_within, marked_within, no_coefficient}
 use Rattle.nz_tab.proofs.Exchanging.{entering, without_enters}
-use Rattle.nz_tab.proofs.Exchanged.{apart, count_exchanged, count_rows, exchange_block, exchange_fits, exchange_stops_first, exchange_stops_later, marks_after, marks_are, marks_long, size_exchanged, size_stays, solved_list}
+use Rattle.nz_tab.proofs.Exchanged.{apart, count_exchanged, exchange_block, exchange_fits, exchange_stops_first, exchange_stops_later, marks_are, marks_long, size_exchanged, size_stays, solved_list}
 
 module _ (g : Grid) (i j : ℕ) (inside : i < length g.marks) (leaves : is_nonbasic g i ≡ false) (enters : is_nonbasic g j ≡ true) where
   abbrev f : ℕ → Bool

@@ -1,5 +1,5 @@
 -- Rows that are put one behind another come to those of the definitions.
-use Rattle.std.proofs.Common.{◌≡◌, ℕ, ◌<◌, Bool, true, false, List, [], ◌∷◌, ◌++◌, length, get_or, map, Some, None, Result, Ok, Err, pos, refl, sym, ap, ◌∙◌, subst}
+use Rattle.std.proofs.Common.{◌≡◌, ℕ, ◌<◌, Bool, true, false, List, [], ◌++◌, length, get_or, map, Some, Result, Ok, Err, pos, sym, ap, ◌∙◌, subst}
 use Rattle.std.specs.Prelude.{◌==◌, if◌then◌else◌, ◌≢◌}
 use Rattle.std.specs.List.{AllByRecursion}
 use Rattle.std.proofs.lemmas.List.{append-nil, get_or-map}
@@ -7,7 +7,7 @@ use Rattle.nz_fractions.specs.Fraction.{Fraction, Operation, Product, Quotient, 
 use Rattle.nz_spec.specs.Computation.{Computation, and_then, at_once, operated, turned_into}
 use Rattle.nz_spec.specs.Term.{is_zero}
 use Rattle.nz_spec.specs.Basis.{Coefficients}
-use Rattle.nz_spec.specs.BasisMoves.{Rows, exchanged, plus_multiple, replaced}
+use Rattle.nz_spec.specs.BasisMoves.{Rows, exchanged, plus_multiple}
 use Rattle.nz_frac.specs.declared.frac.Wide.{Wide}
 use Rattle.nz_tab.specs.Comes.{Comes, IsDone}
 use Rattle.nz_tab.specs.Each.{behind, with_multiple}

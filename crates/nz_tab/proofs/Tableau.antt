@@ -9,15 +9,14 @@ use Rattle.nz_spec.specs.Table.{Node}
 use Rattle.nz_spec.specs.Term.{is_zero}
 use Rattle.nz_spec.specs.Basis.{IsBasis, IsRow}
 use Rattle.nz_spec.specs.BasisMoves.{AreRows, MayExchange, ExchangeKeepsBasis, exchange, exchanged}
-use Rattle.nz_fractions.proofs.Laws.{=ℚ_refl, =ℚ-from_same, =ℚ_sym}
-use Rattle.nz_spec.proofs.FractionSolver.{◌∙ℚ◌}
-use Rattle.nz_spec.proofs.BasisExchange.{row-same}
+use Rattle.nz_fractions.proofs.Laws.{=ℚ_refl, =ℚ-from_same, =ℚ_sym, =ℚ_trans}
 use Rattle.nz_lin.specs.declared.form.Part.{Part}
 use Rattle.nz_lin.specs.Forms.{parts_over}
 use Rattle.nz_frac.specs.declared.frac.Wide.{Wide}
 use Rattle.nz_tab.specs.Rows.{Grid, HasRoom, is_nonbasic, rows_of}
 use Rattle.nz_tab.specs.Exchanges.{IsExchanged}
 use Rattle.nz_tab.specs.Tables.{HasRows, IsStored, IsTableau, forms_over}
+use Rattle.nz_tab.proofs.SameRow.{same_row}
 
 module _ (law : ExchangeKeepsBasis) (forms : List (List Part)) (old new : Grid) (i j : ℕ) (count : length old.marks ≡ length forms) (inside : i < length old.marks) (leaves : is_nonbasic old i ≡ false) (enters : is_nonbasic old j ≡ true) (nonzero : is_zero (rows_of old i j) ≡ false) (h : IsExchanged old new i j) where
   abbrev f : ℕ → Bool
@@ -60,12 +59,12 @@ module _ (law : ExchangeKeepsBasis) (forms : List (List Part)) (old new : Grid) 
       where
         by_test : (b : Bool) → is_nonbasic new k ≡ b → rows_of new r k =ℚ (exchange n f (rows_of old) i j).result r k
         by_test true g = =ℚ-from_same (h.rows r k here (omega (arith, long, basis.listed k (sym (h.nonbasic k) ∙ g))) e g)
-        by_test false g = =ℚ-from_same (h.zeros r k g) ∙ℚ =ℚ_sym (row.at_basic k (sym (h.nonbasic k) ∙ g))
+        by_test false g = =ℚ_trans (=ℚ-from_same (h.zeros r k g)) (=ℚ_sym (row.at_basic k (sym (h.nonbasic k) ∙ g)))
 
     exchanged_rows : AreRows fs (exchanged f i j) (rows_of new)
     exchanged_rows r here e =
         let row = computed r here e in
-        row-same fs (exchanged f i j) r ((exchange n f (rows_of old) i j).result r) (rows_of new r)
+        same_row fs (exchanged f i j) r ((exchange n f (rows_of old) i j).result r) (rows_of new r)
         (stored r (omega (arith, long, here)) (h.nonbasic r ∙ e) row) row
 
     has_rows : HasRows ns (record { forms = forms; grid = new })

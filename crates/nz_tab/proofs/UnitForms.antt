@@ -1,23 +1,23 @@
 -- The numbers of units among forms.
-use Rattle.std.proofs.Common.{◌≡◌, ℕ, zero, suc, add-one, ◌+◌, ◌<◌, ◌≤◌, Bool, true, false, List, [], ◌∷◌, ◌++◌, length, map, get_or, Option, Some, None, pos, refl, sym, ap, ◌∙◌, subst, true≢false, arith}
-use Rattle.std.specs.Prelude.{if◌then◌else◌, ◌==◌, ◌≢◌, ◌&&◌, Contains, option_map, is_some}
+use Rattle.std.proofs.Common.{◌≡◌, ℕ, zero, suc, ◌+◌, ◌<◌, Bool, true, false, List, [], ◌∷◌, ◌++◌, length, get_or, Option, Some, None, pos, refl, sym, ap, ◌∙◌, true≢false, arith}
+use Rattle.std.specs.Prelude.{if◌then◌else◌, cond, nat_eq, ◌==◌, ◌≢◌, ◌&&◌, Contains, option_map, is_some}
 use Rattle.std.specs.Ordering.{int_eq}
 use Rattle.std.specs.List.{AllByRecursion}
 use Rattle.std.proofs.lemmas.Bool.{and_parts}
-use Rattle.std.proofs.lemmas.Bool.Decides.{Decides-int_eq}
+use Rattle.std.proofs.lemmas.Bool.Decides.{Decides-int_eq, nat_tests}
 use Rattle.std.proofs.lemmas.List.{get_or-map, get_or_default, length-map}
 use Rattle.std.proofs.lemmas.List.Elements.{All-from_recursion}
 use Rattle.nz_fractions.specs.Fraction.{Fraction, whole}
 use Rattle.nz_spec.specs.Form as spec
 use Rattle.nz_spec.specs.Form.{unit_form}
-use Rattle.nz_spec.specs.FormOf.{TermHasItsNumber, number_in}
-use Rattle.nz_spec.specs.Table.{IsTable, Node, term_in}
+use Rattle.nz_spec.specs.FormOf.{number_in}
+use Rattle.nz_spec.specs.Table.{Node, term_in}
 use Rattle.nz_spec.specs.Basis.{form_at}
 use Rattle.nz_lin.specs.declared.form.Part.{Part}
-use Rattle.nz_lin.specs.Forms.{AreUnits, NamesUnit, part_over, parts_over}
+use Rattle.nz_lin.specs.Forms.{AreUnits, part_over, parts_over}
 use Rattle.nz_tab.specs.Tables.{forms_over}
-use Rattle.nz_tab.specs.Units.{is_form_of, is_one, unit_number, unit_of}
-use Rattle.nz_tab.proofs.Numbers.{equal-number, other-number, same-number}
+use Rattle.nz_tab.specs.Units.{AreNumbers, is_form_of, is_one, is_unit_form, unit_number}
+use Rattle.nz_tab.proofs.Numbers.{equal-number, same-number}
 
 -- ---- One form
 
@@ -81,22 +81,21 @@ unit_listed ns fs u k e =
     let inside : k < length (forms_over ns fs) = omega (arith, found.0, length-map fs (parts_over ns)) in
     (k, inside, get_or_default (forms_over ns fs) k (unit_parts ns u) [] inside ∙ found.1)
 
+no_number : (o : Option ℕ) (k : ℕ) → o ≡ None → o ≡ Some k → ⊥
+no_number o k e g = cc
+
 -- where a unit's form is, it has a number
 never_none : (fs : List (List Part)) (u k : ℕ) → k < length fs → is_form_of u (get_or fs k []) ≡ true → unit_number fs u ≡ None → ⊥
 never_none [] u k h e n = omega (arith, h)
 never_none (f ∷ fs) u zero h e n =
-    let first : None ≡ Some 0 = sym n ∙ ap (λ (b : Bool). if b then Some 0 else option_map suc (unit_number fs u)) e in
-    cc
+    no_number (unit_number (f ∷ fs) u) 0 n (ap (λ (b : Bool). if b then Some 0 else option_map suc (unit_number fs u)) e)
 never_none (f ∷ fs) u (suc k) h e n = by_test (never_none fs u k (omega (arith, h)) e) (is_form_of u f) refl (unit_number fs u) refl
   where
     by_test : (unit_number fs u ≡ None → ⊥) → (b : Bool) → is_form_of u f ≡ b → (o : Option ℕ) → unit_number fs u ≡ o → ⊥
-    by_test rest true g o q =
-        let first : None ≡ Some 0 = sym n ∙ ap (λ (b : Bool). if b then Some 0 else option_map suc (unit_number fs u)) g in
-        cc
+    by_test rest true g o q = no_number (unit_number (f ∷ fs) u) 0 n (ap (λ (b : Bool). if b then Some 0 else option_map suc (unit_number fs u)) g)
     by_test rest false g None q = rest q
     by_test rest false g (Some m) q =
-        let later : None ≡ Some (suc m) = sym n ∙ ap (λ (b : Bool). if b then Some 0 else option_map suc (unit_number fs u)) g ∙ ap (λ (o : Option ℕ). option_map suc o) q in
-        cc
+        no_number (unit_number (f ∷ fs) u) (suc m) n (ap (λ (b : Bool). if b then Some 0 else option_map suc (unit_number fs u)) g ∙ ap (λ (o : Option ℕ). option_map suc o) q)
 
 pub unit_unlisted : (ns : List Node) → ((i : ℕ) → i < length ns → number_in ns (term_in ns i) ≡ i) → (fs : List (List Part)) → AllByRecursion (AreUnits ns) fs → (u : ℕ) → u < length ns → unit_number fs u ≡ None → Contains (forms_over ns fs) (unit_parts ns u) → ⊥
 unit_unlisted ns number fs all u inside none there =
@@ -143,13 +142,57 @@ number_behind (g ∷ fs) f u e = by_test (number_behind fs f u) (is_form_of u g)
     out false = refl
 
     by_test : (unit_number fs u ≡ None → unit_number (fs ++ f ∷ []) u ≡ (if is_form_of u f then Some (length fs) else None)) → (b : Bool) → is_form_of u g ≡ b → (o : Option ℕ) → unit_number fs u ≡ o → (if is_form_of u g then Some 0 else option_map suc (unit_number (fs ++ f ∷ []) u)) ≡ (if is_form_of u f then Some (suc (length fs)) else None)
-    by_test rest true h o q =
-        let first : None ≡ Some 0 = sym e ∙ ap (λ (b : Bool). if b then Some 0 else option_map suc (unit_number fs u)) h in
-        absurd (cc)
+    by_test rest true h o q = absurd (no_number (unit_number (g ∷ fs) u) 0 e (ap (λ (b : Bool). if b then Some 0 else option_map suc (unit_number fs u)) h))
     by_test rest false h (Some m) q =
-        let later : None ≡ Some (suc m) = sym e ∙ ap (λ (b : Bool). if b then Some 0 else option_map suc (unit_number fs u)) h ∙ ap (λ (o : Option ℕ). option_map suc o) q in
-        absurd (cc)
+        absurd
+        (no_number (unit_number (g ∷ fs) u) (suc m) e
+        (ap (λ (b : Bool). if b then Some 0 else option_map suc (unit_number fs u)) h ∙ ap (λ (o : Option ℕ). option_map suc o) q))
     by_test rest false h None q =
         ap (λ (b : Bool). if b then Some 0 else option_map suc (unit_number (fs ++ f ∷ []) u)) h
         ∙ ap (λ (o : Option ℕ). option_map suc o) (rest q)
         ∙ out (is_form_of u f)
+
+-- ---- Numbers that are stored
+
+-- the unit of a part has the next number, where it had none
+pub number_joins : (fs : List (List Part)) (f : List Part) (p : Part) (old new : ℕ → Option ℕ) → is_unit_form f ≡ true → p ≡ get_or f 0 p → AreNumbers old fs → is_some (old p.unit) ≡ false
+    → ((u : ℕ) → new u ≡ cond (nat_eq p.unit u) (Some (length fs)) (old u)) → AreNumbers new (fs ++ f ∷ [])
+number_joins fs [] p old new is first agree none put u = absurd (true≢false (sym is))
+number_joins fs (q ∷ r ∷ ps) p old new is first agree none put u = absurd (true≢false (sym is))
+number_joins fs (q ∷ []) p old new is first agree none put u = by_number (old u) refl
+  where
+    apart : (k : ℕ) → old u ≡ Some k → (b : Bool) → nat_eq p.unit u ≡ b → cond b (Some (length fs)) (Some k) ≡ Some k
+    apart k e true h =
+        let same : p.unit ≡ u = grind (arith, nat_tests, h) in
+        absurd (true≢false (sym (ap (λ (m : ℕ). is_some (old m)) same ∙ ap is_some e) ∙ none))
+    apart k e false h = refl
+
+    tests : (b : Bool) → cond b (Some (length fs)) None ≡ (if b && true then Some (length fs) else None)
+    tests true = refl
+    tests false = refl
+
+    by_number : (o : Option ℕ) → old u ≡ o → new u ≡ unit_number (fs ++ (q ∷ []) ∷ []) u
+    by_number (Some k) e = put u ∙ ap (cond (nat_eq p.unit u) (Some (length fs))) e ∙ apart k e (nat_eq p.unit u) refl ∙ sym (number_stays fs ((q ∷ []) ∷ []) u k (sym (agree u) ∙ e))
+    by_number None e =
+        put u
+        ∙ ap (cond (nat_eq p.unit u) (Some (length fs))) e
+        ∙ ap (λ (x : Part). cond (nat_eq x.unit u) (Some (length fs)) None) first
+        ∙ tests (q.unit == u)
+        ∙ ap (λ (b : Bool). if (q.unit == u) && b then Some (length fs) else None) (sym is)
+        ∙ sym (number_behind fs (q ∷ []) u (sym (agree u) ∙ e))
+
+-- one that has its number keeps it
+pub number_known : (fs : List (List Part)) (f : List Part) (p : Part) (old : ℕ → Option ℕ) → is_unit_form f ≡ true → p ≡ get_or f 0 p → AreNumbers old fs → is_some (old p.unit) ≡ true → AreNumbers old (fs ++ f ∷ [])
+number_known fs [] p old is first agree some u = absurd (true≢false (sym is))
+number_known fs (q ∷ r ∷ ps) p old is first agree some u = absurd (true≢false (sym is))
+number_known fs (q ∷ []) p old is first agree some u = by_number (old u) refl
+  where
+    apart : old u ≡ None → (b : Bool) → (q.unit == u) ≡ b → (if b && is_one q.coefficient then Some (length fs) else None) ≡ None
+    apart e true h =
+        let same : p.unit ≡ u = ap (λ (x : Part). x.unit) first ∙ same-number q.unit u h in
+        absurd (true≢false (sym some ∙ ap (λ (m : ℕ). is_some (old m)) same ∙ ap is_some e))
+    apart e false h = refl
+
+    by_number : (o : Option ℕ) → old u ≡ o → old u ≡ unit_number (fs ++ (q ∷ []) ∷ []) u
+    by_number (Some k) e = e ∙ sym (number_stays fs ((q ∷ []) ∷ []) u k (sym (agree u) ∙ e))
+    by_number None e = e ∙ sym (apart e (q.unit == u) refl) ∙ sym (number_behind fs (q ∷ []) u (sym (agree u) ∙ e))

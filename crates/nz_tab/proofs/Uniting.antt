@@ -1,11 +1,11 @@
 -- Units join a basis, one after another, and the units of a form have their numbers then.
-use Rattle.std.proofs.Common.{◌≡◌, ℕ, zero, suc, add-one, ◌+◌, ◌<◌, ◌≤◌, Bool, true, false, ◌⊎◌, inl, inr, List, [], ◌∷◌, ◌++◌, length, map, Option, Some, None, refl, sym, ap, ◌∙◌, subst, true≢false, arith}
-use Rattle.std.specs.Prelude.{if◌then◌else◌, ◌==◌, ◌&&◌, nat_lt, Contains, is_some, unwrap_or}
+use Rattle.std.proofs.Common.{◌≡◌, ℕ, suc, ◌+◌, ◌<◌, ◌≤◌, Bool, true, false, ◌⊎◌, inl, inr, List, [], ◌∷◌, ◌++◌, length, map, Option, Some, None, refl, sym, ap, ◌∙◌, subst, true≢false, arith}
+use Rattle.std.specs.Prelude.{if◌then◌else◌, ◌&&◌, nat_lt, Contains, is_some, unwrap_or}
 use Rattle.std.specs.List.{AllByRecursion}
 use Rattle.std.proofs.Math.Path.{fun_ext}
 use Rattle.std.proofs.lemmas.List.{append-nil, append_assoc, length-append, length-map, length_push, map_push}
 use Rattle.std.proofs.lemmas.Bool.Decides.{nat_tests}
-use Rattle.nz_lists.proofs.Elements.{AllByRecursion-append, AllByRecursion-weaker}
+use Rattle.nz_lists.proofs.Elements.{AllByRecursion-append}
 use Rattle.nz_fractions.specs.Fraction.{Fraction}
 use Rattle.nz_spec.specs.Form as spec
 use Rattle.nz_spec.specs.FormOf.{number_in}
@@ -15,9 +15,9 @@ use Rattle.nz_spec.specs.BasisMoves.{AreRows, JoinsKeepBasis, Rows, with_nonbasi
 use Rattle.nz_lin.specs.declared.form.Part.{Part}
 use Rattle.nz_lin.specs.Forms.{AreInOrder, AreUnits, NamesUnit, parts_over}
 use Rattle.nz_tab.specs.Tables.{forms_over}
-use Rattle.nz_tab.specs.Units.{addends, is_form_of, new_units, unit_number, unit_of, with_units}
+use Rattle.nz_tab.specs.Units.{addends, new_units, unit_number, unit_of, with_units}
 use Rattle.nz_tab.proofs.Numbers.{equal-number, other-number, same_or_below}
-use Rattle.nz_tab.proofs.UnitForms.{number_behind, number_found, number_stays, unit_parts, unit_unlisted}
+use Rattle.nz_tab.proofs.UnitForms.{number_behind, number_stays, unit_parts, unit_unlisted}
 
 pub below : (k n : ℕ) → k < n → nat_lt k n ≡ true
 below k n h = grind (arith, nat_tests, h)

@@ -1,14 +1,14 @@
 -- Units that join: more numbers that pass a test, and the same rows.
-use Rattle.std.proofs.Common.{◌≡◌, ℕ, zero, suc, ◌+◌, ◌-◌, ◌*◌, ◌<◌, ◌≤◌, Bool, true, false, ◌⊎◌, inl, inr, List, [], ◌∷◌, ◌++◌, length, map, flat_map, get_or, replicate, pos, refl, sym, ap, ◌∙◌, subst, true≢false, arith}
+use Rattle.std.proofs.Common.{◌≡◌, ℕ, zero, suc, ◌+◌, ◌-◌, ◌*◌, ◌<◌, ◌≤◌, Bool, true, false, ◌⊎◌, inl, inr, List, [], ◌∷◌, ◌++◌, length, map, flat_map, replicate, take, pos, refl, sym, ap, ◌∙◌, true≢false, arith}
 use Rattle.std.specs.Prelude.{if◌then◌else◌, not, slice_index_or}
 use Rattle.std.proofs.Math.Path.{fun_ext}
-use Rattle.std.proofs.lemmas.List.{get_or-append_right, get_or-replicate, get_or_append_left, get_or_past, length-append, length-replicate}
+use Rattle.std.proofs.lemmas.List.{get_or-append_right, get_or-replicate, get_or_append_left, get_or_past, length-append, length-replicate, length_push, take_all}
 use Rattle.nz_fractions.specs.Fraction.{Fraction, whole}
-use Rattle.nz_spec.specs.Basis.{Coefficients}
 use Rattle.nz_spec.specs.BasisMoves.{numbers}
-use Rattle.nz_tab.specs.Rows.{DenseRow, Grid, basic, coefficient, is_marked, is_nonbasic, row_in, row_of, rows_of, size_of}
+use Rattle.nz_tab.specs.Rows.{Grid, basic, coefficient, is_marked, is_nonbasic, row_in, row_of, rows_of, size_of}
 use Rattle.nz_tab.specs.Sums.{IsWidened}
 use Rattle.nz_tab.proofs.Blocks.{block_long, coefficient_found, no_coefficient}
+use Rattle.nz_tab.proofs.Numbers.{one_passes}
 
 -- ---- Numbers below a bound
 
@@ -33,6 +33,18 @@ numbers_none f n (suc m) none =
     ∙ ap (λ (b : Bool). if b then numbers (n + m) f ++ (n + m) ∷ [] else numbers (n + m) f) (none (n + m) (omega arith) (omega arith))
     ∙ numbers_none f n m (less_far f n m none)
 
+-- what passes adds one each
+pub numbers_all : (f : ℕ → Bool) (n m : ℕ) → ((k : ℕ) → n ≤ k → k < n + m → f k ≡ true) → length (numbers (n + m) f) ≡ length (numbers n f) + m
+numbers_all f n zero all =
+    let none : n + zero ≡ n = omega arith in
+    ap (λ (x : ℕ). length (numbers x f)) none ∙ omega arith
+numbers_all f n (suc m) all =
+    let far : n + suc m ≡ suc (n + m) = omega arith in
+    ap (λ (x : ℕ). length (numbers x f)) far
+    ∙ ap length (one_passes f (n + m) (all (n + m) (omega arith) (omega arith)))
+    ∙ length_push (numbers (n + m) f) (n + m)
+    ∙ omega (arith, numbers_all f n m (λ k e h. all k e (omega (arith, h))))
+
 -- ---- Rows over more forms
 
 place_or_past : (k n : ℕ) → (k < n) ⊎ (n ≤ k)
@@ -52,6 +64,15 @@ module _ (g : Grid) (units : ℕ) where
 
   pub wider_long : length wider ≡ n + units
   wider_long = length-append g.marks (replicate units true) ∙ ap (λ (m : ℕ). n + m) (length-replicate units true)
+
+  -- the marks that were resized
+  pub resized : (old new : List Bool) (count len : ℕ) → old ≡ g.marks → len ≡ length g.marks → count ≡ n + units → new ≡ take count old ++ replicate (count - len) true → new ≡ wider
+  resized old new count len same long more e =
+      let rest : count - len ≡ units = omega (arith, long, more) in
+      e
+      ∙ ap (λ (l : List Bool). take count l ++ replicate (count - len) true) same
+      ∙ ap (λ (l : List Bool). l ++ replicate (count - len) true) (take_all count g.marks (omega (arith, more)))
+      ∙ ap (λ (m : ℕ). g.marks ++ replicate m true) rest
 
   before : (k : ℕ) → k < n → is_marked wider k ≡ is_nonbasic g k
   before k e = get_or_append_left g.marks (replicate units true) false k e

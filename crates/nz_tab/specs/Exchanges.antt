@@ -1,6 +1,6 @@
 -- An exchange, coefficient by coefficient and row by row.
-use Rattle.std.specs.Prelude.{◌≡◌, ℕ, ◌<◌, ◌==◌, Bool, true, false, not, List, [], ◌∷◌, length, map, pos, if◌then◌else◌}
-use Rattle.nz_fractions.specs.Fraction.{Fraction, whole, neg_ℚ, outcome, Quotient}
+use Rattle.std.specs.Prelude.{◌≡◌, ℕ, ◌<◌, ◌==◌, Bool, true, false, List, [], length, map, pos, if◌then◌else◌}
+use Rattle.nz_fractions.specs.Fraction.{Fraction, whole, neg_ℚ, Quotient}
 use Rattle.nz_spec.specs.Computation.{Computation, operated, at_once, turned_into, and_then}
 use Rattle.nz_spec.specs.Basis.{Coefficients}
 use Rattle.nz_spec.specs.BasisMoves.{Rows, exchange, exchanged, replaced}

@@ -1,7 +1,6 @@
 -- Forms that join a table: units that aren't there first, as nonbasic forms, and then the form itself as a basic one.
-use Rattle.std.specs.Prelude.{◌≡◌, ℕ, zero, suc, ◌<◌, ◌==◌, Bool, true, false, ◌&&◌, List, [], ◌∷◌, ◌++◌, length, Option, Some, None, option_map, is_some, unwrap_or, pos, if◌then◌else◌, nat_lt, ⊤, Result, Ok, Err}
-use Rattle.std.specs.Ordering.{int_eq}
-use Rattle.nz_fractions.specs.Fraction.{Fraction, whole, first_wide}
+use Rattle.std.specs.Prelude.{◌≡◌, ℕ, ◌<◌, Bool, true, List, [], ◌∷◌, ◌++◌, length, Some, None, unwrap_or, if◌then◌else◌, nat_lt, ⊤, Result, Ok, Err}
+use Rattle.nz_fractions.specs.Fraction.{first_wide}
 use Rattle.nz_spec.specs.Computation.{Computation}
 use Rattle.nz_spec.specs.FormOf.{number_in}
 use Rattle.nz_spec.specs.Table.{Node}
@@ -15,7 +14,7 @@ use Rattle.nz_tab.specs.declared.tab.TabStop.{TabStop}
 use Rattle.nz_tab.specs.declared.tab.TabStop.TheVariants.{Wide, Memory}
 use Rattle.nz_tab.specs.Rows.{is_nonbasic, rows_of}
 use Rattle.nz_tab.specs.Tables.{Table}
-use Rattle.nz_tab.specs.Units.{new_units, unit_number, with_units}
+use Rattle.nz_tab.specs.Units.{unit_number, with_units}
 
 -- ---- Joins
 

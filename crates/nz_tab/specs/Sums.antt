@@ -1,5 +1,5 @@
 -- Rows that grow: by units, and by a sum of forms.
-use Rattle.std.specs.Prelude.{◌≡◌, ℕ, ◌<◌, ◌≤◌, ◌+◌, ◌*◌, ◌==◌, Bool, true, false, List, [], ◌∷◌, ◌++◌, Result, Ok, Err, Some, None, ⊤, length, map, pos, if◌then◌else◌}
+use Rattle.std.specs.Prelude.{◌≡◌, ℕ, ◌<◌, ◌≤◌, ◌+◌, ◌*◌, ◌==◌, Bool, true, List, [], ◌∷◌, Result, Ok, Err, Some, None, ⊤, length, pos, if◌then◌else◌}
 use Rattle.nz_fractions.specs.Fraction.{Fraction, Sum, first_wide, outcome, whole}
 use Rattle.nz_spec.specs.Computation.{Computation, and_then, at_once}
 use Rattle.nz_spec.specs.Basis.{Coefficients}
@@ -40,18 +40,25 @@ pub record HasRoomForSum (g : Grid) (units columns solved spare : ℕ) : Type 0 
 abbrev pub sum_over : Grid → List (ℕ × Fraction) → Computation Coefficients
 sum_over g = all_added (numbers (length g.marks) (is_nonbasic g)) (is_nonbasic g) (rows_of g) (λ k. whole (pos 0))
 
--- the rows with that row behind them
-abbrev pub with_sum : Grid → List (ℕ × Fraction) → Grid
-with_sum g qs = record { marks = g.marks ++ false ∷ []; block = g.block ++ map (sum_over g qs).result (numbers (length g.marks) (is_nonbasic g)) }
+-- The forms that were there, and behind them a basic one: at the nonbasic forms its row is that of the sum.
+pub record IsSummed (old new : Grid) (qs : List (ℕ × Fraction)) : Type 0 where
+  pub count : length new.marks ≡ length old.marks + 1
+  pub nonbasic : (k : ℕ) → is_nonbasic new k ≡ is_nonbasic old k
+  pub rows : (r : ℕ) → r < length old.marks → rows_of new r ≡ rows_of old r
+  pub row : (k : ℕ) → is_nonbasic new k ≡ true → rows_of new (length old.marks) k ≡ (sum_over old qs).result k
 
 -- what comes of a sum that joins: its row, or the first operation on it that leaves the numbers, or want of memory
 abbrev pub SumPushed : {X : Type 0} → Grid → Grid → List (ℕ × Fraction) → Result X TabStop → Type 0
-SumPushed old new qs (Ok x) = (new ≡ with_sum old qs) × (first_wide (sum_over old qs).operations ≡ None)
+SumPushed old new qs (Ok x) = IsSummed old new qs × (first_wide (sum_over old qs).operations ≡ None)
 SumPushed old new qs (Err (Wide w)) = first_wide (sum_over old qs).operations ≡ Some (operation_of w)
 SumPushed old new qs (Err Memory) = ⊤
 
--- the same behind some units
+-- the sum has joined behind some units
+abbrev pub HasJoined : Grid → Grid → ℕ → List (ℕ × Fraction) → Type 0
+HasJoined old new units qs = (mid : Grid) × IsWidened old mid units × IsSummed mid new qs × (first_wide (sum_over mid qs).operations ≡ None)
+
+-- what comes of it behind some units
 abbrev pub SumJoins : {X : Type 0} → Grid → Grid → ℕ → List (ℕ × Fraction) → Result X TabStop → Type 0
-SumJoins old new units qs (Ok x) = (mid : Grid) × IsWidened old mid units × (new ≡ with_sum mid qs) × (first_wide (sum_over mid qs).operations ≡ None)
+SumJoins old new units qs (Ok x) = HasJoined old new units qs
 SumJoins old new units qs (Err (Wide w)) = (mid : Grid) × IsWidened old mid units × (first_wide (sum_over mid qs).operations ≡ Some (operation_of w))
 SumJoins old new units qs (Err Memory) = ⊤

@@ -9,7 +9,7 @@ use Rattle.nz_lin.specs.declared.form.Part.{Part}
 use Rattle.nz_lin.specs.Forms.{AreUnits, parts_over}
 use Rattle.nz_tab.specs.Exchanges.{IsExchanged}
 use Rattle.nz_tab.specs.Rows.{Grid, HasRoom, empty_grid, is_nonbasic, rows_of}
-use Rattle.nz_tab.specs.Units.{unit_number}
+use Rattle.nz_tab.specs.Units.{AreNumbers}
 
 -- forms by the numbers of their units, which of them are nonbasic, and the rows of the others
 pub record Table : Type 0 where
@@ -36,7 +36,7 @@ IsTableau t = (ns : List Node) → IsTable ns → AllByRecursion (AreUnits ns) t
 pub record IsStored (forms : List (List Part)) (g : Grid) (unit_at : ℕ → Option ℕ) (columns solved spare : ℕ) : Type 0 where
   pub count : length g.marks ≡ length forms
   pub tableau : IsTableau (record { forms = forms; grid = g })
-  pub units : (u : ℕ) → unit_at u ≡ unit_number forms u
+  pub units : AreNumbers unit_at forms
   pub room : HasRoom g columns solved spare
 
 -- the same forms, with i and j exchanged

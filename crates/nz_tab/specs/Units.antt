@@ -1,5 +1,5 @@
 -- Units among forms, and the numbers of the forms that a sum is made of.
-use Rattle.std.specs.Prelude.{ℕ, suc, ◌==◌, Bool, false, ◌&&◌, List, [], ◌∷◌, ◌++◌, Option, Some, None, option_map, is_some, pos, if◌then◌else◌}
+use Rattle.std.specs.Prelude.{◌≡◌, ℕ, suc, ◌==◌, Bool, false, ◌&&◌, List, [], ◌∷◌, ◌++◌, Option, Some, None, option_map, is_some, pos, if◌then◌else◌}
 use Rattle.std.specs.Ordering.{int_eq}
 use Rattle.nz_fractions.specs.Fraction.{Fraction, whole}
 use Rattle.nz_lin.specs.declared.form.Part.{Part}
@@ -22,6 +22,10 @@ is_form_of u ps = false
 abbrev pub unit_number : List (List Part) → ℕ → Option ℕ
 unit_number [] u = None
 unit_number (f ∷ fs) u = if is_form_of u f then Some 0 else option_map suc (unit_number fs u)
+
+-- these are the numbers of all units among forms
+abbrev pub AreNumbers : (ℕ → Option ℕ) → List (List Part) → Type 0
+AreNumbers unit_at fs = (u : ℕ) → unit_at u ≡ unit_number fs u
 
 -- the form of the unit of a part
 abbrev pub unit_of : Part → List Part

@@ -127,6 +127,8 @@ impl Rows {
         ensures solved { vec_capacity room.new.solved ≡ vec_capacity room.old.solved }
         ensures spare { vec_capacity room.new.spare ≡ vec_capacity room.old.spare }
     {
+        // The block is as long as its rows.
+        let _ = &self.block;
         self.sum(room, addends)?;
         self.push(room.solved.as_slice())?;
         Ok(())

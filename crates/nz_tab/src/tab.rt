@@ -1,6 +1,6 @@
 //! The table of forms.
 ghost use Rattle.std.specs.HashMap.{get, spare};
-ghost use Rattle.std.specs.Prelude.{◌≡◌, ◌<◌, ◌≤◌, ◌+◌, ◌++◌, [], ◌∷◌, if◌then◌else◌, All, IfErr, IfOk, List, OnOk, OnErr, ℕ, false, is_some, length, map, nat_eq, not, slice_index_or, true, vec_capacity, vec_len};
+ghost use Rattle.std.specs.Prelude.{◌≡◌, ◌<◌, ◌≤◌, ◌+◌, ◌++◌, ◌^◌, [], ◌∷◌, if◌then◌else◌, All, IfErr, IfOk, List, OnOk, OnErr, ℕ, false, is_some, length, map, nat_eq, not, slice_index_or, true, vec_capacity, vec_len};
 ghost use Rattle.nz_spec.specs.BasisMoves.{exchange};
 ghost use Rattle.nz_spec.specs.Table.{IsTable, Node};
 ghost use Rattle.nz_spec.specs.Term.{is_zero};
@@ -11,7 +11,7 @@ ghost use Rattle.nz_tab.specs.declared.tab.TabStop.TheVariants as stops;
 ghost use Rattle.nz_tab.specs.Joins.{IsUnitJoined, Joins, UnitJoins};
 ghost use Rattle.nz_tab.specs.Rows.{is_nonbasic, row_of, rows_of};
 ghost use Rattle.nz_tab.specs.Tables.{IsPivoted, IsTableau, empty_table};
-ghost use Rattle.nz_tab.specs.Units.{addends, is_one, is_unit_form, new_units, unit_number, unit_of};
+ghost use Rattle.nz_tab.specs.Units.{AreNumbers, addends, is_one, is_unit_form, new_units, unit_of};
 
 use crate::row::{Row, Var};
 use crate::rows::{Room, Rows};
@@ -203,7 +203,8 @@ impl Tab {
         let rows = self.rows.widened(alloc, 1)?;
         self.rows = rows;
         let var = self.forms.len();
-        put_unit(&mut self.forms, &mut self.units, unit);
+        number_unit(&mut self.units, var, unit.as_slice());
+        self.forms.push_reserved(unit);
         Ok(var)
     }
 
@@ -224,7 +225,8 @@ impl Tab {
         self.units.reserve(units.len())?;
         self.rows
             .join(&mut self.room, alloc, units.len(), addends.as_slice())?;
-        put_units(&mut self.forms, &mut self.units, units);
+        number_units(&mut self.units, self.forms.len(), units.as_slice());
+        put_forms(&mut self.forms, units);
         let var = self.forms.len();
         self.forms.push_reserved(form);
         Ok(var)
@@ -265,7 +267,7 @@ fn new_units(
     numbers: &HashMap<TermId, Var>,
     parts: &[Part],
 ) -> Result<Vec<Vec<Part>>, AllocError>
-    ensures units { IfOk result (λ v. (fs : List (List Part)) → ((u : ℕ) → get nat_eq numbers.now u ≡ unit_number fs u) → map (λ x. x.items) v.items ≡ new_units fs parts.now) }
+    ensures units { IfOk result (λ v. (fs : List (List Part)) → AreNumbers (get nat_eq numbers.now) fs → map (λ x. x.items) v.items ≡ new_units fs parts.now) }
 {
     let mut units = Vec::new(alloc);
     for part in parts {
@@ -297,7 +299,7 @@ fn addends(
     count: usize,
     parts: &[Part],
 ) -> Result<Vec<(Var, Frac)>, TabStop>
-    ensures addends { IfOk result (λ v. (fs : List (List Part)) → ((u : ℕ) → get nat_eq numbers.now u ≡ unit_number fs u) → v.items ≡ addends fs count parts.now) }
+    ensures addends { IfOk result (λ v. (fs : List (List Part)) → AreNumbers (get nat_eq numbers.now) fs → v.items ≡ addends fs count parts.now) }
     ensures memory { IfErr result (λ s. s ≡ stops.Memory) }
 {
     let mut next = count;
@@ -320,38 +322,43 @@ fn next_after(known: Option<Var>, next: Var) -> Result<Var, Memory>
     next.checked_add(1).ok_or(Memory)
 }
 
-/// A unit joins the forms.
-fn put_unit(forms: &mut Vec<Vec<Part>>, numbers: &mut HashMap<TermId, Var>, unit: Vec<Part>)
-    requires unit { is_unit_form unit.items ≡ true }
-    requires room { vec_len forms.old < vec_capacity forms.old }
-    requires spare { 0 < spare numbers.old }
-    ensures forms { forms.new.items ≡ forms.old.items ++ unit ∷ [] }
-    ensures numbers { (fs : List (List Part)) → length fs ≡ vec_len forms.old → ((u : ℕ) → get nat_eq numbers.old u ≡ unit_number fs u) → (u : ℕ) → get nat_eq numbers.new u ≡ unit_number (fs ++ unit.items ∷ []) u }
-    ensures len { vec_len forms.new ≡ vec_len forms.old + 1 }
-    ensures capacity { vec_capacity forms.new ≡ vec_capacity forms.old }
-    ensures spare { spare numbers.old ≤ spare numbers.new + 1 }
+/// Gives units the numbers from one on, where they have none.
+fn number_units(numbers: &mut HashMap<TermId, Var>, first: Var, units: &[Vec<Part>])
+    requires units { All (λ x. is_unit_form x.items ≡ true) units.now }
+    requires fits { first + length units.now < 2 ^ 64 }
+    requires spare { length units.now ≤ spare numbers.old }
+    ensures numbers { (fs : List (List Part)) → length fs ≡ first → AreNumbers (get nat_eq numbers.old) fs → AreNumbers (get nat_eq numbers.new) (fs ++ map (λ x. x.items) units.now) }
 {
-    let unit_id = unit[0].unit;
-    if !numbers.contains_key(&unit_id) {
-        let inserted: Result<_, AllocFailed<_>> = numbers.insert(unit_id, forms.len());
-        inserted.unwrap();
+    let mut var = first;
+    for unit in units {
+        number_unit(numbers, var, unit.as_slice());
+        var += 1;
     }
-    forms.push_reserved(unit);
 }
 
-/// Units join the forms.
-fn put_units(forms: &mut Vec<Vec<Part>>, numbers: &mut HashMap<TermId, Var>, units: Vec<Vec<Part>>)
-    requires units { All (λ x. is_unit_form x.items ≡ true) units.items }
-    requires room { vec_len forms.old + length units.items < vec_capacity forms.old }
-    requires spare { length units.items ≤ spare numbers.old }
-    ensures forms { forms.new.items ≡ forms.old.items ++ units.items }
-    ensures numbers { ((u : ℕ) → get nat_eq numbers.old u ≡ unit_number (map (λ x. x.items) forms.old.items) u) → (u : ℕ) → get nat_eq numbers.new u ≡ unit_number (map (λ x. x.items) forms.new.items) u }
-    ensures len { vec_len forms.new ≡ vec_len forms.old + length units.items }
-    ensures capacity { vec_capacity forms.new ≡ vec_capacity forms.old }
+/// Gives a unit its number, where it has none.
+fn number_unit(numbers: &mut HashMap<TermId, Var>, var: Var, unit: &[Part])
+    requires unit { is_unit_form unit.now ≡ true }
+    requires spare { 0 < spare numbers.old }
+    ensures numbers { (fs : List (List Part)) → length fs ≡ var → AreNumbers (get nat_eq numbers.old) fs → AreNumbers (get nat_eq numbers.new) (fs ++ unit.now ∷ []) }
+    ensures spare { spare numbers.old ≤ spare numbers.new + 1 }
 {
-    for unit in units {
-        put_unit(forms, numbers, unit);
+    let id = unit[0].unit;
+    if !numbers.contains_key(&id) {
+        let inserted: Result<_, AllocFailed<_>> = numbers.insert(id, var);
+        inserted.unwrap();
     }
+}
+
+/// Puts forms behind others, where there is room for them.
+fn put_forms(forms: &mut Vec<Vec<Part>>, mut more: Vec<Vec<Part>>)
+    requires room { vec_len forms.old + vec_len more ≤ vec_capacity forms.old }
+    ensures put { forms.new.items ≡ forms.old.items ++ more.items }
+    ensures len { vec_len forms.new ≡ vec_len forms.old + vec_len more }
+    ensures capacity { vec_capacity forms.old ≤ vec_capacity forms.new }
+{
+    let appended: Result<(), AllocError> = forms.append(&mut more);
+    appended.unwrap();
 }
 
 /// Says that each form of a table is just one sum of the nonbasic ones, and that its row is this sum.

@@ -1,5 +1,5 @@
 //! Rows that are known beforehand.
-use crate::tables::{added, constant, exchanged, has, may_exchange, times};
+use crate::tables::{added, constant, exchanged, have, may_exchange, times};
 use nz_tab::Tab;
 use nz_term::Terms;
 use std::test::Fail;
@@ -13,23 +13,30 @@ fn two_forms_and_an_exchange(rt: HostRuntime) -> Result<(), Fail> {
     let y = constant(&mut terms, alloc, b"y")?;
     let twice = times(&mut terms, 2, x)?;
     let thrice = times(&mut terms, 3, y)?;
-    let larger = added(alloc, &mut terms, &mut tab, &[twice, thrice]);
-    assert!(rt; larger == Some(2));
-    let smaller = added(alloc, &mut terms, &mut tab, &[x, y]);
-    assert!(rt; smaller == Some(3));
+    assert!(rt; added(alloc, &mut terms, &mut tab, &[twice, thrice]) == Some(2));
+    assert!(rt; added(alloc, &mut terms, &mut tab, &[x, y]) == Some(3));
     assert!(rt; added(alloc, &mut terms, &mut tab, &[y]) == Some(1));
     assert_eq!(rt; tab.len(), 4);
-    assert!(rt; has(&tab, 2, 0, 2, 1));
-    assert!(rt; has(&tab, 2, 1, 3, 1));
-    assert!(rt; has(&tab, 3, 0, 1, 1));
-    assert!(rt; has(&tab, 3, 2, 0, 1));
+    assert!(rt;
+        have(
+            &tab,
+            &[(2, 0, 2, 1), (2, 1, 3, 1), (3, 0, 1, 1), (3, 2, 0, 1)]
+        )
+    );
     assert!(rt; may_exchange(&mut tab, 2, 0));
-    assert!(rt; !has(&tab, 2, 1, 3, 1));
-    assert!(rt; has(&tab, 0, 1, -3, 2));
-    assert!(rt; has(&tab, 0, 2, 1, 2));
-    assert!(rt; has(&tab, 0, 0, 0, 1));
-    assert!(rt; has(&tab, 3, 1, -1, 2));
-    assert!(rt; has(&tab, 3, 2, 1, 2));
+    assert!(rt; !have(&tab, &[(2, 1, 3, 1)]));
+    assert!(rt;
+        have(
+            &tab,
+            &[
+                (0, 1, -3, 2),
+                (0, 2, 1, 2),
+                (0, 0, 0, 1),
+                (3, 1, -1, 2),
+                (3, 2, 1, 2)
+            ]
+        )
+    );
     Ok(())
 }
 
@@ -46,17 +53,26 @@ fn a_form_joins_over_basic_units(rt: HostRuntime) -> Result<(), Fail> {
     assert!(rt; may_exchange(&mut tab, 2, 0));
     let thrice = times(&mut terms, 3, z)?;
     assert!(rt; added(alloc, &mut terms, &mut tab, &[x, thrice]) == Some(4));
-    assert!(rt; has(&tab, 0, 1, -1, 2));
-    assert!(rt; has(&tab, 0, 2, 1, 2));
-    assert!(rt; has(&tab, 0, 3, 0, 1));
-    assert!(rt; has(&tab, 4, 1, -1, 2));
-    assert!(rt; has(&tab, 4, 2, 1, 2));
-    assert!(rt; has(&tab, 4, 3, 3, 1));
+    assert!(rt;
+        have(
+            &tab,
+            &[
+                (0, 1, -1, 2),
+                (0, 2, 1, 2),
+                (0, 3, 0, 1),
+                (4, 1, -1, 2),
+                (4, 2, 1, 2),
+                (4, 3, 3, 1)
+            ]
+        )
+    );
     assert!(rt; may_exchange(&mut tab, 4, 3));
-    assert!(rt; has(&tab, 3, 1, 1, 6));
-    assert!(rt; has(&tab, 3, 2, -1, 6));
-    assert!(rt; has(&tab, 3, 4, 1, 3));
-    assert!(rt; has(&tab, 0, 4, 0, 1));
+    assert!(rt;
+        have(
+            &tab,
+            &[(3, 1, 1, 6), (3, 2, -1, 6), (3, 4, 1, 3), (0, 4, 0, 1)]
+        )
+    );
     Ok(())
 }
 
@@ -78,8 +94,6 @@ fn a_wide_pivot_leaves_the_rows(rt: HostRuntime) -> Result<(), Fail> {
     };
     assert!(rt; wide.a.num() == 2);
     assert!(rt; wide.b.num() == -(most as i128));
-    assert!(rt; has(&tab, 2, 0, 1, 1));
-    assert!(rt; has(&tab, 3, 0, 2, 1));
-    assert!(rt; has(&tab, 3, 1, 1, 1));
+    assert!(rt; have(&tab, &[(2, 0, 1, 1), (3, 0, 2, 1), (3, 1, 1, 1)]));
     Ok(())
 }

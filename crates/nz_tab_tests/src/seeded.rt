@@ -1,7 +1,5 @@
 //! Rows of seeded systems against the units: a row is right where, unit by unit, the nonbasic forms with its coefficients sum to
 //! the form. Over a basis only one row is.
-ghost use Rattle.std.specs.Prelude.{◌<◌, ◌≤◌, All, IfOk, length};
-
 use crate::tables::{added, constant, exchanged, over, times};
 use nz_base::Memory;
 use nz_frac::{Frac, Wide};
@@ -20,11 +18,7 @@ fn next(seed: &mut u64) -> u64 {
 }
 
 /// A unit with a coefficient from -9 to 9.
-fn multiple(terms: &mut Terms, unit: TermId, number: u64) -> Result<TermId, Memory>
-    requires within { unit < length terms.old }
-    ensures within { IfOk result (λ id. id < length terms.new) }
-    ensures more { length terms.old ≤ length terms.new }
-{
+fn multiple(terms: &mut Terms, unit: TermId, number: u64) -> Result<TermId, Memory> {
     let term = times(terms, (number % 10) as u128, unit)?;
     if number % 20 < 10 {
         return Ok(term);
@@ -39,9 +33,7 @@ fn add_random(
     tab: &mut Tab,
     units: [TermId; 3],
     seed: &mut u64,
-) -> Option<Var>
-    requires within { All (λ k. k < length terms.old) units.entry }
-{
+) -> Option<Var> {
     let [x, y, z] = units;
     let x = multiple(terms, x, next(seed)).ok()?;
     let y = multiple(terms, y, next(seed)).ok()?;

@@ -1,5 +1,6 @@
-//! Forms in a table, for tests.
-ghost use Rattle.std.specs.Prelude.{◌<◌, ◌≤◌, All, IfOk, length};
+//! Forms in a table, for tests: what a call asks is tested here, so that tests have nothing to prove of it.
+ghost use Rattle.std.specs.Prelude.{◌<◌, All};
+ghost use Rattle.std.specs.Bool.{OnTrue};
 
 use nz_base::{Memory, Text};
 use nz_frac::Wide;
@@ -9,55 +10,83 @@ use nz_term::{Constant, Head, NumberSort, Operator, Sort, TermId, Terms, operato
 use std::alloc::Global;
 
 /// A constant of sort Real.
-pub fn constant(terms: &mut Terms, alloc: Global, name: &[u8]) -> Result<TermId, Memory>
-    ensures within { IfOk result (λ id. id < length terms.new) }
-    ensures more { length terms.old ≤ length terms.new }
-{
+pub fn constant(terms: &mut Terms, alloc: Global, name: &[u8]) -> Result<TermId, Memory> {
     let name = Text::from_slice(alloc, name)?;
-    terms.make(
+    leaf(
+        terms,
         Head::Constant(&Constant {
             name,
             sort: Sort::Real,
         }),
-        &[],
     )
 }
 
+/// The term of a head without arguments.
+fn leaf(terms: &mut Terms, head: Head<'_>) -> Result<TermId, Memory> {
+    if !head.fits() {
+        return Err(Memory);
+    }
+    terms.make(head, &[])
+}
+
 /// An operator over terms.
-pub fn over(terms: &mut Terms, operator: Operator, kids: &[TermId]) -> Result<TermId, Memory>
-    requires within { All (λ k. k < length terms.old) kids.now }
-    ensures within { IfOk result (λ id. id < length terms.new) }
-    ensures more { length terms.old ≤ length terms.new }
-{
+pub fn over(terms: &mut Terms, operator: Operator, kids: &[TermId]) -> Result<TermId, Memory> {
     operators_are_no_leaves();
+    if !are_below(kids, terms.len()) {
+        return Err(Memory);
+    }
     terms.make(Head::Operator(operator), kids)
 }
 
-/// A number times a term.
-pub fn times(terms: &mut Terms, number: u128, id: TermId) -> Result<TermId, Memory>
-    requires fits { number ≤ 170141183460469231731687303715884105727 }
-    requires within { id < length terms.old }
-    ensures within { IfOk result (λ id. id < length terms.new) }
-    ensures more { length terms.old ≤ length terms.new }
+/// Whether each of these is below this number.
+fn are_below(ids: &[TermId], count: usize) -> bool
+    ensures below { OnTrue result (All (λ k. k < count) ids.now) }
 {
-    let number = terms.make(Head::Integer(number), &[])?;
+    for i in 0..ids.len() {
+        if count <= ids[i] {
+            return false;
+        }
+    }
+    true
+}
+
+/// A number times a term.
+pub fn times(terms: &mut Terms, number: u128, id: TermId) -> Result<TermId, Memory> {
+    let number = leaf(terms, Head::Integer(number))?;
     over(terms, Operator::Product(NumberSort::Real), &[number, id])
 }
 
 /// The number of the form of a sum in the table.
-pub fn added(alloc: Global, terms: &mut Terms, tab: &mut Tab, kids: &[TermId]) -> Option<Var>
-    requires within { All (λ k. k < length terms.old) kids.now }
-{
+pub fn added(alloc: Global, terms: &mut Terms, tab: &mut Tab, kids: &[TermId]) -> Option<Var> {
     let sum = over(terms, Operator::Sum(NumberSort::Real), kids).ok()?;
-    if !terms.is_linear(sum) {
+    add_term(alloc, terms, tab, sum)
+}
+
+/// The number of the form of a term in the table.
+fn add_term(alloc: Global, terms: &Terms, tab: &mut Tab, id: TermId) -> Option<Var> {
+    if terms.len() <= id || !terms.is_linear(id) {
         return None;
     }
-    let form = lin(alloc, terms, sum).ok()?;
+    let form = lin(alloc, terms, id).ok()?;
     tab.add_form(&form).ok()
 }
 
+/// The coefficient of a form at another: its numerator, and its denominator.
+pub type Cell = (Var, Var, i128, i128);
+
+/// Whether the rows have these coefficients.
+pub fn have(tab: &Tab, cells: &[Cell]) -> bool {
+    for cell in cells {
+        if !has(tab, *cell) {
+            return false;
+        }
+    }
+    true
+}
+
 /// Whether a row has this coefficient.
-pub fn has(tab: &Tab, i: Var, j: Var, num: i128, den: i128) -> bool {
+fn has(tab: &Tab, cell: Cell) -> bool {
+    let (i, j, num, den) = cell;
     if i >= tab.len() || !tab.is_basic(i) {
         return false;
     }

@@ -1,5 +1,5 @@
 -- A row is solved by one quotient, and then by its coefficients.
-use Rattle.std.proofs.Common.{◌≡◌, List, [], Err, rules, sym, subst}
+use Rattle.std.proofs.Common.{◌≡◌, List, Err, rules, sym, subst}
 use Rattle.nz_fractions.specs.Fraction.{Fraction}
 use Rattle.nz_frac.specs.Operations.{operation_of}
 use Rattle.nz_frac.specs.declared.frac.Wide.{Wide}

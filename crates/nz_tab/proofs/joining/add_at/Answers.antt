@@ -1,5 +1,5 @@
 -- The sum at the place.
-use Rattle.std.proofs.Common.{◌≡◌, ℕ, List, get_or, Some, Err, pos, rules, sym, ap, subst, ◌∙◌, arith}
+use Rattle.std.proofs.Common.{◌≡◌, get_or, Some, Err, pos, rules, sym, ap, subst, ◌∙◌, arith}
 use Rattle.std.specs.Prelude.{set}
 use Rattle.std.proofs.lemmas.List.{get_or_read}
 use Rattle.nz_fractions.specs.Fraction.{Fraction, Sum, first_wide, outcome, whole}

@@ -1,5 +1,5 @@
 -- One column more.
-use Rattle.std.proofs.Common.{◌≡◌, ℕ, List, map, get_or, Some, Err, refl, rules, sym, subst}
+use Rattle.std.proofs.Common.{◌≡◌, map, get_or, Some, Err, refl, rules, sym, subst}
 use Rattle.nz_fractions.specs.Fraction.{Fraction, first_wide}
 use Rattle.nz_spec.specs.Basis.{Coefficients}
 use Rattle.nz_spec.specs.BasisMoves.{plus_multiple}

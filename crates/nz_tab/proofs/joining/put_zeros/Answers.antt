@@ -1,5 +1,5 @@
 -- One column more.
-use Rattle.std.proofs.Common.{◌≡◌, ℕ, ◌++◌, List, [], ◌∷◌, map, get_or, take, pos, sym, ap, ◌∙◌, arith}
+use Rattle.std.proofs.Common.{ℕ, ◌++◌, List, [], ◌∷◌, map, get_or, take, pos, sym, ap, ◌∙◌, arith}
 use Rattle.std.proofs.lemmas.List.{map_push, take_more}
 use Rattle.nz_fractions.specs.Fraction.{Fraction, whole}
 use Rattle.nz_tab.proofs.joining.put_zeros.Goals as goal

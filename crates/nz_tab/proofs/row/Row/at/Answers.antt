@@ -1,9 +1,9 @@
 -- The place of a nonbasic form, and its coefficient there.
-use Rattle.std.proofs.Common.{◌≡◌, ℕ, Bool, true, ◌<◌, List, length, slice_index_or, rules, sym, ap, subst, ◌∙◌, arith, pos}
+use Rattle.std.proofs.Common.{◌≡◌, ℕ, Bool, true, length, slice_index_or, sym, ap, ◌∙◌, arith, pos}
 use Rattle.std.specs.Prelude.{if◌then◌else◌}
 use Rattle.nz_spec.specs.BasisMoves.{numbers}
-use Rattle.nz_fractions.specs.Fraction.{Fraction, whole}
-use Rattle.nz_tab.specs.Rows.{ArePlaces, DenseRow, coefficient, is_marked}
+use Rattle.nz_fractions.specs.Fraction.{whole}
+use Rattle.nz_tab.specs.Rows.{DenseRow, coefficient, is_marked}
 use Rattle.nz_tab.proofs.Blocks.{marked_within, nonbasic_place, places_long}
 use Rattle.nz_tab.proofs.row.Row.at.Goals as goal
 

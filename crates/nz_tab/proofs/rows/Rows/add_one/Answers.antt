@@ -1,5 +1,5 @@
 -- A nonbasic form at its place, a basic one by its row.
-use Rattle.std.proofs.Common.{◌≡◌, ℕ, ◌<◌, Bool, true, false, List, length, map, slice_index_or, sym, ap, subst, ◌∙◌, arith}
+use Rattle.std.proofs.Common.{◌≡◌, ℕ, ◌<◌, true, false, List, length, map, slice_index_or, sym, ap, subst, ◌∙◌, arith}
 use Rattle.nz_spec.specs.BasisMoves.{numbers, plus_multiple}
 use Rattle.nz_fractions.specs.Fraction.{Fraction}
 use Rattle.nz_spec.specs.Basis.{Coefficients}

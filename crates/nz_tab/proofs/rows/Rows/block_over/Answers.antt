@@ -1,5 +1,5 @@
 -- One form more.
-use Rattle.std.proofs.Common.{◌≡◌, List, map, ◌∙◌}
+use Rattle.std.proofs.Common.{map, ◌∙◌}
 use Rattle.nz_tab.specs.Rows.{is_nonbasic, rows_of}
 use Rattle.nz_tab.proofs.Blocks.{rows_behind}
 use Rattle.nz_tab.proofs.rows.Rows.block_over.Goals as goal

@@ -1,8 +1,7 @@
 -- The steps of an exchange, one after another.
-use Rattle.std.proofs.Common.{◌≡◌, ℕ, ◌*◌, ◌≤◌, List, length, map, Some, Err, rules, sym, ap, subst, ◌∙◌, arith}
+use Rattle.std.proofs.Common.{◌≡◌, ℕ, ◌*◌, ◌≤◌, List, length, map, Err, rules, sym, ap, subst, ◌∙◌, arith}
 use Rattle.std.specs.Prelude.{All, vec_capacity, ◌≢◌}
 use Rattle.nz_spec.specs.BasisMoves.{exchange, exchanged, numbers}
-use Rattle.nz_fractions.specs.Fraction.{Fraction}
 use Rattle.nz_spec.specs.Term.{is_zero}
 use Rattle.nz_frac.specs.Operations.{operation_of}
 use Rattle.nz_frac.specs.declared.frac.Wide.{Wide}

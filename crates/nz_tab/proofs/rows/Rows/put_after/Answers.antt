@@ -1,7 +1,6 @@
 -- What comes of a form that is nonbasic then, of the one that enters, and of any other.
-use Rattle.std.proofs.Common.{◌≡◌, Bool, true, false, List, ◌++◌, map, sym, ap, subst, ◌∙◌}
+use Rattle.std.proofs.Common.{true, false, List, ◌++◌, sym, ap, subst, ◌∙◌}
 use Rattle.nz_fractions.specs.Fraction.{Fraction}
-use Rattle.nz_spec.specs.BasisMoves.{exchanged}
 use Rattle.nz_spec.specs.Basis.{Coefficients}
 use Rattle.nz_tab.specs.Comes.{Comes}
 use Rattle.nz_tab.specs.Each.{behind}

@@ -1,5 +1,5 @@
 -- One form more.
-use Rattle.std.proofs.Common.{◌≡◌, ℕ, ◌<◌, List, [], length, Err, rules, sym, subst, ◌∙◌, arith}
+use Rattle.std.proofs.Common.{◌≡◌, ℕ, ◌<◌, [], length, Err, rules, sym, subst, ◌∙◌, arith}
 use Rattle.std.specs.Prelude.{vec_len}
 use Rattle.nz_spec.specs.BasisMoves.{exchanged}
 use Rattle.nz_frac.specs.Operations.{operation_of}

@@ -1,4 +1,4 @@
-use Rattle.std.proofs.Common.{◌≡◌, ◌*◌, List, [], length, map}
+use Rattle.std.proofs.Common.{◌≡◌, ◌*◌, [], length, map}
 use Rattle.std.specs.Prelude.{vec_capacity, vec_len}
 use Rattle.nz_spec.specs.Basis.{Coefficients}
 use Rattle.nz_spec.specs.BasisMoves.{exchanged, numbers}

@@ -1,5 +1,5 @@
 -- The marks are exchanged, and the places follow.
-use Rattle.std.proofs.Common.{Vec, Global, ◌≡◌, ℕ, Bool, true, false, List, length, map, sym, ap, subst, ◌∙◌, arith, ◌<◌}
+use Rattle.std.proofs.Common.{Vec, Global, ◌≡◌, Bool, true, false, List, length, map, sym, ap, subst, ◌∙◌, arith, ◌<◌}
 use Rattle.nz_frac.specs.declared.frac.Frac.{Frac}
 use Rattle.nz_tab.specs.Rows.{Grid, counted, is_marked, place_of, size_of}
 use Rattle.nz_tab.proofs.Blocks.{places_long}

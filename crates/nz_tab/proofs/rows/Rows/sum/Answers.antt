@@ -1,7 +1,7 @@
 -- The columns, zeros, and then the forms one by one.
-use Rattle.std.proofs.Common.{◌≡◌, ℕ, Bool, List, length, map, pos, refl, sym, ap, subst, ◌∙◌, arith}
+use Rattle.std.proofs.Common.{◌≡◌, ℕ, Bool, List, length, map, pos, refl, ap, subst, ◌∙◌, arith}
 use Rattle.nz_spec.specs.BasisMoves.{numbers}
-use Rattle.nz_fractions.specs.Fraction.{Fraction, whole}
+use Rattle.nz_fractions.specs.Fraction.{whole}
 use Rattle.nz_spec.specs.Basis.{Coefficients}
 use Rattle.nz_spec.specs.Computation.{turned_into}
 use Rattle.nz_tab.specs.Comes.{Comes}

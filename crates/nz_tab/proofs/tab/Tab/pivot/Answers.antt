@@ -1,5 +1,5 @@
 -- The rows are those of the forms again.
-use Rattle.std.proofs.Common.{Vec, Global, ◌≡◌, ℕ, ◌<◌, Bool, true, false, List, length, map, sym, ap, subst, ◌∙◌}
+use Rattle.std.proofs.Common.{Vec, Global, ◌≡◌, ℕ, ◌<◌, true, false, length, map, sym, ap, subst, ◌∙◌}
 use Rattle.std.specs.Prelude.{nat_eq, vec_capacity}
 use Rattle.std.specs.HashMap.{get}
 use Rattle.nz_spec.specs.BasisMoves.{exchange}
