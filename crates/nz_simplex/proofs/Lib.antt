@@ -8,6 +8,7 @@ pub mod Exchanging
 pub mod Firsts
 pub mod Following
 pub mod Helping
+pub mod Joined
 pub mod Joining
 pub mod Moving
 pub mod Places

@@ -3,6 +3,7 @@ pub mod Choices
 pub mod Faithful
 pub mod FaithfulScalars
 pub mod Moves
+pub mod Room
 pub mod Standing
 pub mod State
 pub mod Stored

@@ -4,6 +4,7 @@ ghost use Rattle.nz_lin.specs.Forms.{AreUnits};
 ghost use Rattle.nz_simplex.specs.Checks.{Answers, IsFeasible, IsFirstBroken, IsRefuted, IsRenewed, IsStepped, Renews, StopsAt};
 ghost use Rattle.nz_simplex.specs.Choices.{is_past_known};
 ghost use Rattle.nz_simplex.specs.Stored.{IsPastBound, first_passing, held_back, held_by, is_breaking, is_helping, one_or_none};
+ghost use Rattle.nz_simplex.specs.Room.{HasRoomFor};
 ghost use Rattle.nz_simplex.specs.Moves.{IsBounded, IsJoined, IsSettled, JoinStops, joined_over};
 ghost use Rattle.nz_simplex.specs.Standing.{half, standing, told, told_on};
 ghost use Rattle.nz_simplex.specs.State.{IsOver, IsSound, empty_state, nonbasic_in, position_over, value_in};
@@ -29,7 +30,7 @@ use nz_base::Memory;
 use nz_frac::{Frac, Wide};
 use nz_lin::{Form, Part};
 use nz_spec::basis::{
-    check_steps_keep_basis, joins_keep_basis, moves_keep_ready, nonbasic_form_is_itself,
+    check_steps_keep_basis, moves_keep_ready, nonbasic_form_is_itself,
     positions_have_values, rows_tell, sum_moves, value_is_computed,
 };
 use nz_spec::computation::infinitesimals_move;
@@ -186,30 +187,33 @@ impl<S: Coordinate> Simplex<S> {
         ensures stops { IfErr result (λ e. (ns : List Node) → IsOver ns self.old → AreUnits ns form.now.parts → JoinStops ns self.old form.now.parts e) }
         ensures unchanged { OnErr result (self.new ≡ self.old) }
     {
-        self.reserve(form.parts().len())?;
-        joins_keep_basis();
-        moves_keep_ready();
+        positions_have_values();
+        nonbasic_form_is_itself();
+        infinitesimals_move();
+        known_tableau(&self.tab);
+        let count = self.count_with(form.parts().len())?;
+        make_room(
+            count,
+            &mut self.trail,
+            &mut self.values,
+            &mut self.basic,
+            &mut self.nonbasic,
+            &mut self.why,
+        )?;
         let var = self.tab.add_form(form)?;
+        known_tableau(&self.tab);
         extend_values(&self.tab, &mut self.values);
         list_basic(&self.tab, &mut self.basic);
         list_nonbasic(&self.tab, &mut self.nonbasic);
         Ok(var)
     }
 
-    /// Makes room for a form of so many parts, of which each may be a new unit.
-    fn reserve(&mut self, parts: usize) -> Result<(), Memory>
-        ensures unchanged { self.new ≡ self.old }
+    /// How many forms there may be when a form of so many parts has joined, of which each may be a new unit.
+    fn count_with(&self, parts: usize) -> Result<usize, Memory>
+        ensures count { IfOk result (λ n. n ≡ length self.now.forms + parts + 1) }
     {
         let more = parts.checked_add(1).ok_or(Memory)?;
-        let count = self.tab.len().checked_add(more).ok_or(Memory)?;
-        self.values.reserve(more)?;
-        self.basic.reserve(count)?;
-        self.nonbasic.reserve(count)?;
-        self.why.reserve(count)?;
-        while self.trail.len() < count {
-            self.trail.add_var()?;
-        }
-        Ok(())
+        self.tab.len().checked_add(more).ok_or(Memory)
     }
 
     /// Asserts a bound of a form. A nonbasic form that is outside of it moves to it, and the values of the basic forms follow.
@@ -579,6 +583,59 @@ fn bound_of<S: Coordinate>(trail: &Trail<S>, side: Side, var: Var) -> Option<Lim
         Side::Lower => lower,
         Side::Upper => upper,
     }
+}
+
+/// Makes room for so many forms, and a variable for each.
+fn make_room<S: Coordinate>(
+    count: usize,
+    trail: &mut Trail<S>,
+    values: &mut Vec<Option<S>>,
+    basic: &mut Vec<Var>,
+    nonbasic: &mut Vec<Var>,
+    why: &mut Vec<(Reason, Frac)>,
+) -> Result<(), Memory>
+    ensures asserted { trail.new.asserted ≡ trail.old.asserted }
+    ensures vars { trail.old.vars ≤ trail.new.vars }
+    ensures values { values.new.items ≡ values.old.items }
+    ensures len { vec_len values.new ≡ vec_len values.old }
+    ensures basic { basic.new.items ≡ basic.old.items }
+    ensures basic_room { vec_capacity basic.old ≤ vec_capacity basic.new }
+    ensures nonbasic { nonbasic.new.items ≡ nonbasic.old.items }
+    ensures nonbasic_room { vec_capacity nonbasic.old ≤ vec_capacity nonbasic.new }
+    ensures why { why.new.items ≡ why.old.items }
+    ensures why_room { vec_capacity why.old ≤ vec_capacity why.new }
+    ensures room { OnOk result (HasRoomFor count trail.new.vars (vec_capacity values.new) (vec_capacity basic.new) (vec_capacity nonbasic.new) (vec_capacity why.new)) }
+{
+    reserve_in_all(values, count)?;
+    reserve_in_all(basic, count)?;
+    reserve_in_all(nonbasic, count)?;
+    reserve_in_all(why, count)?;
+    add_vars(trail, count)
+}
+
+/// Makes room for so many elements in all.
+fn reserve_in_all<T>(list: &mut Vec<T>, count: usize) -> Result<(), Memory>
+    ensures items { list.new.items ≡ list.old.items }
+    ensures len { vec_len list.new ≡ vec_len list.old }
+    ensures capacity { vec_capacity list.old ≤ vec_capacity list.new }
+    ensures room { OnOk result (count ≤ vec_capacity list.new) }
+{
+    if let Some(more) = count.checked_sub(list.len()) {
+        list.reserve(more)?;
+    }
+    Ok(())
+}
+
+/// Adds variables until there are so many.
+fn add_vars<S: Coordinate>(trail: &mut Trail<S>, count: usize) -> Result<(), Memory>
+    ensures asserted { trail.new.asserted ≡ trail.old.asserted }
+    ensures no_fewer { trail.old.vars ≤ trail.new.vars }
+    ensures many { OnOk result (count ≤ trail.new.vars) }
+{
+    for _ in trail.len()..count {
+        trail.add_var()?;
+    }
+    Ok(())
 }
 
 /// Values for the forms that have joined: a nonbasic one stands at 0, and that of a basic one isn't known yet.
