@@ -1,5 +1,5 @@
 -- Where a form has joined, the position is the one before with its units and the form.
-use Rattle.std.proofs.Common.{◌≡◌, ℕ, zero, suc, ◌+◌, ◌<◌, ◌≤◌, ◌⊎◌, inl, inr, Bool, true, false, true≢false, List, [], ◌∷◌, ◌++◌, length, map, take, Option, Some, None, refl, sym, ap, ap₂, ◌∙◌, subst, arith}
+use Rattle.std.proofs.Common.{◌≡◌, ℕ, zero, suc, ◌+◌, ◌<◌, ◌≤◌, ◌⊎◌, inl, inr, Bool, true, false, true≢false, Err, List, [], ◌∷◌, ◌++◌, length, map, take, Option, Some, None, refl, sym, ap, ap₂, ◌∙◌, subst, arith}
 use Rattle.std.specs.Prelude.{◌==◌, is_some, slice_index_or, nat_lt, if◌then◌else◌}
 use Rattle.std.proofs.lemmas.Bool.Decides.{nat_tests}
 use Rattle.std.proofs.lemmas.List.{append-nil, append_assoc, get_or_past, length-append, length-map, length_push, map-append, map_push}
@@ -10,17 +10,21 @@ use Rattle.nz_spec.specs.Form.{unit_form}
 use Rattle.nz_spec.specs.Infinitesimal.{Infinitesimal}
 use Rattle.nz_spec.specs.Bland.{Point, Position, zero_infinitesimal}
 use Rattle.nz_spec.specs.PositionMoves.{with_form, with_unit}
-use Rattle.nz_spec.specs.Table.{Node}
+use Rattle.nz_spec.specs.Table.{IsTable, Node}
 use Rattle.nz_spec.specs.Term.{Term}
 use Rattle.nz_lin.specs.declared.form.Part.{Part}
-use Rattle.nz_lin.specs.Forms.{parts_over}
-use Rattle.nz_tab.specs.Tables.{Table}
+use Rattle.nz_lin.specs.Forms.{AreUnits, parts_over}
+use Rattle.nz_tab.specs.declared.tab.TabStop.{TabStop}
+use Rattle.nz_tab.specs.declared.tab.TabStop.TheVariants.{Wide, Memory}
+use Rattle.nz_tab.specs.Joins.{Joins}
+use Rattle.nz_tab.specs.Tables.{IsTableau, Table}
 use Rattle.nz_tab.specs.Units.{is_unit_form, new_units, unit_number, unit_of, with_units}
 use Rattle.nz_trail.specs.Bounds.{TrailState}
-use Rattle.nz_simplex.specs.Moves.{joined_over, unit_terms, with_all_units}
-use Rattle.nz_simplex.specs.State.{State, nonbasic_in, value_in, point_in, IsSound, position_over}
+use Rattle.nz_simplex.specs.Moves.{JoinStops, joined_over, unit_terms, with_all_units}
+use Rattle.nz_simplex.specs.State.{State, nonbasic_in, value_in, point_in, IsOver, IsSound, position_over}
 use Rattle.nz_simplex.specs.Stored.{state_of}
-use Rattle.nz_simplex.specs.Tabled.{marks_in}
+use Rattle.nz_simplex.specs.Tabled.{marks_in, rows_in}
+use Rattle.nz_simplex.proofs.Pointed.{rows_told}
 use Rattle.nz_simplex.proofs.Joining.{IsGrown, later_value, lt_false, lt_true, before_or_behind, new_mark, same_point}
 
 -- ---- Units that join one after another
@@ -177,3 +181,16 @@ module _ {S : Type 0} (stands_for : S → Infinitesimal) (origin : S) (at_zero :
   position_is =
       whole_by (is_unit_form f) (ap (map (parts_over ns)) grown.forms ∙ forms_by (is_unit_form f))
       ∙ ap (λ (s : Position). chosen (is_unit_form f) s) (sym (units_joined (position_over ns here) us))
+
+-- ---- Where a form doesn't join
+
+-- it stops where its row leaves the numbers
+pub stops_told : {S : Type 0} (stands_for : S → Infinitesimal) (old new : Table) (trail : TrailState S) (values : List (Option S)) (why : List (ℕ × Fraction)) (sound : IsSound (state_of stands_for old trail values why))
+    → IsTableau old → (f : List Part) (e : TabStop) → (is_unit_form f ≡ true → e ≡ Memory) → (is_unit_form f ≡ false → (ns : List Node) → IsTable ns → AreUnits ns f → Joins ns old new f (Err e))
+    → (ns : List Node) → IsOver ns (state_of stands_for old trail values why) → AreUnits ns f → JoinStops ns (state_of stands_for old trail values why) f e
+stops_told stands_for old new trail values why sound tableau f Memory unit form ns over units = tt
+stops_told stands_for old new trail values why sound tableau f (Wide w) unit form ns over units = by_test (is_unit_form f) refl
+  where
+    by_test : (b : Bool) → is_unit_form f ≡ b → JoinStops ns (state_of stands_for old trail values why) f (Wide w)
+    by_test true e = let never = unit e in absurd (cc)
+    by_test false e = (rows_in old, rows_told stands_for old trail values why sound tableau ns over, form e ns over.table units)

@@ -141,6 +141,10 @@ module _ (old new : Table) (f : List Part) (grown : IsGrown old new f) where
   pub new_mark : (k : ℕ) → length old.forms ≤ k → grids.is_nonbasic new.grid k ≡ nat_lt k (length (with_units old.forms f))
   new_mark k h = grown.nonbasic k ∙ ap (λ (b : Bool). if b then grids.is_nonbasic old.grid k else nat_lt k (length (with_units old.forms f))) (lt_false k (length old.forms) h)
 
+-- the room that was made is enough
+pub fits_in : (old new : Table) (f parts : List Part) → IsGrown old new f → parts ≡ f → (n count : ℕ) → length old.forms ≡ n → count ≡ n + length parts + 1 → length new.forms ≤ count
+fits_in old new f parts grown same n count many e = omega (arith, few_more old new f grown, ap length same, many, e)
+
 -- ---- A simplex
 
 module _ {S : Type 0} (stands_for : S → Infinitesimal) (origin : S) (at_zero : stands_for origin ≡ zero_infinitesimal) (old new : Table) (trail : TrailState S) (before after : List (Option S)) (why : List (ℕ × Fraction))

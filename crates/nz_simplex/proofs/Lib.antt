@@ -20,5 +20,7 @@ pub mod Settling
 pub mod Signs
 pub mod Standings
 pub mod Stepping
+pub mod SumsInOrder
+pub mod Totals
 pub mod Undoing
 pub mod ValuesAfter
