@@ -1,5 +1,5 @@
 -- A form joins: its units stand at 0, what was there stays, and so the simplex is as sound as before.
-use Rattle.std.proofs.Common.{◌≡◌, ℕ, zero, suc, ◌+◌, ◌<◌, ◌≤◌, ◌⊎◌, inl, inr, Bool, true, false, true≢false, List, [], ◌∷◌, ◌++◌, length, map, take, Option, Some, None, pos, refl, sym, ap, ◌∙◌, subst, arith}
+use Rattle.std.proofs.Common.{◌≡◌, ℕ, zero, suc, ◌+◌, ◌-◌, ◌<◌, ◌≤◌, ◌⊎◌, inl, inr, Bool, true, false, true≢false, List, [], ◌∷◌, ◌++◌, length, map, take, Option, Some, None, pos, refl, sym, ap, ◌∙◌, subst, arith}
 use Rattle.std.specs.Prelude.{IsSome, is_some, option_map, unwrap_or, slice_index_or, nat_lt, if◌then◌else◌}
 use Rattle.std.specs.List.{AllByRecursion}
 use Rattle.std.proofs.lemmas.Bool.Decides.{nat_tests}
@@ -53,7 +53,7 @@ true_inside (b ∷ bs) zero e = omega arith
 true_inside (b ∷ bs) (suc k) e = let h = true_inside bs k e in omega (arith, h)
 
 at_front : {X : Type 0} (xs ys : List X) (k : ℕ) (d : X) → take (length xs) ys ≡ xs → k < length xs → slice_index_or ys k d ≡ slice_index_or xs k d
-at_front xs ys k d e h =
+at_front {X = X} xs ys k d e h =
     let there : slice_index_or (take (length xs) ys) k d ≡ slice_index_or ys k d = grind (arith, elements, h) in
     sym there ∙ ap (λ (zs : List X). slice_index_or zs k d) e
 
@@ -65,12 +65,15 @@ front_all P (x ∷ xs) ys h = (h.0, front_all P xs ys h.1)
 
 -- coefficients of 0 behind a sum add nothing
 longer_sum : (n d : ℕ) (c : Coefficients) (y : ℕ → Fraction) → ((k : ℕ) → n ≤ k → c k =ℚ whole (pos 0)) → weighted n c y =ℚ weighted (d + n) c y
-longer_sum n zero c y z = =ℚ-from_same (ap (λ (m : ℕ). weighted m c y) (omega arith))
+longer_sum n zero c y z =
+    let same : n ≡ 0 + n = omega arith in
+    =ℚ-from_same (ap (λ (m : ℕ). weighted m c y) same)
 longer_sum n (suc d) c y z =
+    let next : suc (d + n) ≡ suc d + n = omega arith in
     longer_sum n d c y z
     ∙ℚ solve (weighted (d + n) c y ∷ []) (Atom 0) (Atom 0 ⊕ Literal (pos 0)) refl
     ∙ℚ plus_right (weighted (d + n) c y) (=ℚ_sym (times_left (y (d + n)) (z (d + n) (omega arith)) ∙ℚ zero_times (y (d + n))))
-    ∙ℚ =ℚ-from_same (ap (λ (m : ℕ). weighted m c y) (omega arith))
+    ∙ℚ =ℚ-from_same (ap (λ (m : ℕ). weighted m c y) next)
 
 same_sum : (n m : ℕ) (c : Coefficients) (x y : ℕ → Fraction) → n ≤ m → ((k : ℕ) → k < n → x k ≡ y k) → ((k : ℕ) → n ≤ k → c k =ℚ whole (pos 0)) → weighted n c x =ℚ weighted m c y
 same_sum n m c x y h e z =

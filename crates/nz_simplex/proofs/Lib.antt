@@ -3,6 +3,7 @@ pub mod Bounded
 pub mod Bounding
 pub mod Breaking
 pub mod Choosing
+pub mod Contradicting
 pub mod Empty
 pub mod Exchanging
 pub mod Firsts

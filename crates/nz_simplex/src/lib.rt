@@ -7,6 +7,7 @@
 mod answer;
 mod choice;
 mod coordinate;
+pub mod laws;
 mod simplex;
 mod steps;
 mod values;
