@@ -16,7 +16,7 @@ use Rattle.nz_spec.specs.Term.{is_zero}
 use Rattle.nz_spec.specs.Form.{Numbering, Part}
 use Rattle.nz_spec.specs.Literal.{Literal}
 use Rattle.nz_spec.specs.LinearLiteral.{is_without_units}
-use Rattle.nz_spec.specs.Farkas.{Multiple, bound_of, empty_bound, is_linear_literal, is_multiple, sum_of_multiples}
+use Rattle.nz_spec.specs.Farkas.{Bound, Multiple, bound_of, empty_bound, is_linear_literal, is_multiple, sum_of_multiples}
 use Rattle.nz_spec.specs.Basis.{Coefficients, Valuation, form_at, weighted, worth}
 use Rattle.nz_spec.specs.BasisMoves.{numbers}
 use Rattle.nz_spec.specs.Bland as bland
@@ -219,41 +219,46 @@ module _ (number : Numbering) (literal : ℕ → Literal) (factor : ℕ → Frac
   by_limit b strict (inr h) =
       ap₂ (λ (t u : Bool). fraction_lt b none || t && u) (fraction_eq-same b none h.0) h.1 ∙ either_true (fraction_lt b none)
 
-  -- bounds whose forms come to nothing, and whose numbers come to less
-  pub contradicts : (hs : List (Held × Fraction)) (ms : List Multiple) → Counts hs → AreFor hs ms
-      → ((v : Valuation) → total_of (λ (b : Held). worth v (form_at forms b.var)) hs =ℚ none)
-      → IsBelow (total_of (λ (b : Held). b.value.standard) hs) (total_of (λ (b : Held). b.value.coefficient) hs) → Contradicts number ms
-  contradicts hs ms counts are nothing short = record {
-    multiples = all_multiples hs ms counts are;
-    contradiction = ap₂ (λ (t u : Bool). t && u) (ap is_without_units without) (by_limit sum.limit sum.is_strict (by_short short));
-  }
-    where
-      abbrev sum : _
-      sum = (sum_of_multiples number ms).result
+  module _ (hs : List (Held × Fraction)) (ms : List Multiple) (counts : Counts hs) (are : AreFor hs ms) where
+    abbrev sum : Bound
+    sum = (sum_of_multiples number ms).result
 
-      without : sum.parts ≡ []
-      without =
-          no_units number sum.parts
-          (onto_sum number empty_bound ms (record { rising = tt; nonzero = tt }) (all_sums hs ms counts are))
-          (λ v.
-          onto-worth v number empty_bound ms
-          ∙ℚ zero_left (total (λ (l : Literal). worth v (bound_of l).parts) ms)
-          ∙ℚ total_is (λ (l : Literal). worth v (bound_of l).parts) (λ (b : Held). worth v (form_at forms b.var)) (λ b said. said.parts v) hs ms counts are
-          ∙ℚ nothing v)
+    abbrev standards : Fraction
+    standards = total_of (λ (b : Held). b.value.standard) hs
 
-      limit_is : sum.limit =ℚ total_of (λ (b : Held). b.value.standard) hs
-      limit_is =
-          onto-limit number empty_bound ms
-          ∙ℚ zero_left (total (λ (l : Literal). (bound_of l).limit) ms)
-          ∙ℚ total_is (λ (l : Literal). (bound_of l).limit) (λ (b : Held). b.value.standard) (λ b said. said.limit) hs ms counts are
+    abbrev coefficients : Fraction
+    coefficients = total_of (λ (b : Held). b.value.coefficient) hs
 
-      strict_by : (b : Bool) → sum.is_strict ≡ b → total_of (λ (b : Held). b.value.coefficient) hs <ℚ none → b ≡ true
-      strict_by true e low = refl
-      strict_by false e low = absurd (<ℚ_irrefl low (≤ℚ-from_eq (=ℚ_sym (lax_none hs ms counts are (onto-lax number empty_bound ms e).1))))
+    without : ((v : Valuation) → total_of (λ (b : Held). worth v (form_at forms b.var)) hs =ℚ none) → sum.parts ≡ []
+    without nothing =
+        no_units number sum.parts
+        (onto_sum number empty_bound ms (record { rising = tt; nonzero = tt }) (all_sums hs ms counts are))
+        (λ v.
+        onto-worth v number empty_bound ms
+        ∙ℚ zero_left (total (λ (l : Literal). worth v (bound_of l).parts) ms)
+        ∙ℚ total_is (λ (l : Literal). worth v (bound_of l).parts) (λ (b : Held). worth v (form_at forms b.var)) (λ b said. said.parts v) hs ms counts are
+        ∙ℚ nothing v)
 
-      by_short : IsBelow (total_of (λ (b : Held). b.value.standard) hs) (total_of (λ (b : Held). b.value.coefficient) hs) → (sum.limit <ℚ none) ⊎ ((sum.limit =ℚ none) × (sum.is_strict ≡ true))
-      by_short (inl h) = inl (below_along sum.limit (total_of (λ (b : Held). b.value.standard) hs) limit_is h)
-      by_short (inr h) = inr (limit_is ∙ℚ h.0, strict_by sum.is_strict refl h.1)
+    limit_is : sum.limit =ℚ standards
+    limit_is =
+        onto-limit number empty_bound ms
+        ∙ℚ zero_left (total (λ (l : Literal). (bound_of l).limit) ms)
+        ∙ℚ total_is (λ (l : Literal). (bound_of l).limit) (λ (b : Held). b.value.standard) (λ b said. said.limit) hs ms counts are
+
+    strict_by : (b : Bool) → sum.is_strict ≡ b → coefficients <ℚ none → b ≡ true
+    strict_by true e low = refl
+    strict_by false e low = absurd (<ℚ_irrefl low (≤ℚ-from_eq (=ℚ_sym (lax_none hs ms counts are (onto-lax number empty_bound ms e).1))))
+
+    by_short : IsBelow standards coefficients → (sum.limit <ℚ none) ⊎ ((sum.limit =ℚ none) × (sum.is_strict ≡ true))
+    by_short (inl h) = inl (below_along sum.limit standards limit_is h)
+    by_short (inr h) = inr (limit_is ∙ℚ h.0, strict_by sum.is_strict refl h.1)
+
+    -- bounds whose forms come to nothing, and whose numbers come to less
+    pub contradicts : ((v : Valuation) → total_of (λ (b : Held). worth v (form_at forms b.var)) hs =ℚ none) → IsBelow standards coefficients → Contradicts number ms
+    contradicts nothing short = record {
+      multiples = all_multiples hs ms counts are;
+      contradiction = ap₂ (λ (t u : Bool). t && u) (ap is_without_units (without nothing)) (by_limit sum.limit sum.is_strict (by_short short));
+    }
 
 -- ---- Bounds that stand
 
