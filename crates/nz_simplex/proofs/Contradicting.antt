@@ -358,18 +358,16 @@ module _ (bs : List Held) (side : Side) (row : Coefficients) where
 
     all_total : (n : ℕ) (f : ℕ → Bool) → ((k : ℕ) → f k ≡ false → row k =ℚ none) → total_of has (flat_map holding (numbers n f)) =ℚ signed (trails.other_side side) (weighted n row y)
     all_total zero f zeros = =ℚ_sym (signed_none (trails.other_side side))
-    all_total (suc n) f zeros = by_test (f n) refl
+    all_total (suc n) f zeros = by_test (f n) refl (all_total n f zeros)
       where
-        rest : total_of has (flat_map holding (numbers n f)) =ℚ signed (trails.other_side side) (weighted n row y)
-        rest = all_total n f zeros
-
-        by_test : (b : Bool) → f n ≡ b → total_of has (flat_map holding (if b then numbers n f ++ n ∷ [] else numbers n f)) =ℚ signed (trails.other_side side) (weighted n row y +ℚ row n *ℚ y n)
-        by_test true e =
+        by_test : (b : Bool) → f n ≡ b → total_of has (flat_map holding (numbers n f)) =ℚ signed (trails.other_side side) (weighted n row y)
+            → total_of has (flat_map holding (if b then numbers n f ++ n ∷ [] else numbers n f)) =ℚ signed (trails.other_side side) (weighted n row y +ℚ row n *ℚ y n)
+        by_test true e rest =
             =ℚ-from_same (ap (total_of has) (flat_map-append holding (numbers n f) (n ∷ []) ∙ ap (λ (hs : List (Held × Fraction)). flat_map holding (numbers n f) ++ hs) (append-nil (holding n))))
             ∙ℚ total_of-append has (flat_map holding (numbers n f)) (holding n)
             ∙ℚ +ℚ-same rest (one_total n)
             ∙ℚ =ℚ_sym (signed_sum (trails.other_side side) (weighted n row y) (row n *ℚ y n))
-        by_test false e =
+        by_test false e rest =
             rest
             ∙ℚ signed_same (trails.other_side side)
               (=ℚ_sym (plus_right (weighted n row y) (times_left (y n) (zeros n e) ∙ℚ zero_times (y n)) ∙ℚ +ℚ-zero (weighted n row y)))
@@ -383,13 +381,13 @@ module _ (bs : List Held) (side : Side) (row : Coefficients) where
         by_test true e = tt
         by_test false e = (each k e, tt)
 
+    joined : (hs ks : List (Held × Fraction)) → AllByRecursion P hs → AllByRecursion P ks → AllByRecursion P (hs ++ ks)
+    joined [] ks h rest = rest
+    joined (x ∷ xs) ks h rest = (h.0, joined xs ks h.1 rest)
+
     all_hold : (ks : List ℕ) → AllByRecursion P (flat_map holding ks)
     all_hold [] = tt
-    all_hold (k ∷ ks) = joined (holding k) (one_holds k)
-      where
-        joined : (hs : List (Held × Fraction)) → AllByRecursion P hs → AllByRecursion P (hs ++ flat_map holding ks)
-        joined [] h = all_hold ks
-        joined (x ∷ xs) h = (h.0, joined xs h.1)
+    all_hold (k ∷ ks) = joined (holding k) (flat_map holding ks) (one_holds k) (all_hold ks)
 
 -- the size of a number other than 0 is above 0
 size_above : (c : Fraction) → is_zero c ≡ false → none <ℚ size_of c
