@@ -17,6 +17,7 @@ pub mod Pointed
 pub mod Refuting
 pub mod Renewing
 pub mod RowValues
+pub mod Saying
 pub mod Settling
 pub mod Signs
 pub mod Standings

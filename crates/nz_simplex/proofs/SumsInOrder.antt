@@ -69,7 +69,7 @@ module _ (number : Numbering) where
       (scaled_all (MayPrecede number (record { coefficient = outcome Product m p.coefficient; unit = p.unit })) m ps (λ q c k e. k) (all_weaker (λ q k. k) ps h.0))
       (scaled_rising m ps h.1)
 
-  scaled_sum : (m : Fraction) (ps : List Part) → AreSum number ps → AreSum number (parts_scaled (operated Product m) ps).result
+  pub scaled_sum : (m : Fraction) (ps : List Part) → AreSum number ps → AreSum number (parts_scaled (operated Product m) ps).result
   scaled_sum m ps s = record {
     rising = scaled_rising m ps s.rising;
     nonzero = scaled_all IsNonzero m ps (λ p c k e. e) s.nonzero;

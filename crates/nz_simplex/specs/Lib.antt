@@ -5,6 +5,7 @@ pub mod Faithful
 pub mod FaithfulScalars
 pub mod Moves
 pub mod Room
+pub mod SaidBounds
 pub mod Standing
 pub mod State
 pub mod Stored
