@@ -14,7 +14,7 @@ use Rattle.nz_tab.specs.Tables.{Table}
 use Rattle.nz_trail.specs.Bounds.{AreApart, Asserted, IsExcluded, IsImplied, IsOn, IsTighter, TrailState, asserted, other_side}
 use Rattle.nz_trail.specs.declared.limits.Side.{Side}
 use Rattle.nz_trail.specs.declared.limits.Side.TheVariants.{Lower, Upper}
-use Rattle.nz_simplex.specs.Choices.{is_past_known}
+use Rattle.nz_simplex.specs.Choices.{is_moving, is_past_known}
 use Rattle.nz_simplex.specs.Standing.{Held, half, is_side, is_bound_of, is_news, standing_with, standing, bound_in, told}
 use Rattle.nz_simplex.specs.State.{State, nonbasic_in, value_in, point_in}
 use Rattle.nz_simplex.specs.Stored.{state_of}
@@ -162,10 +162,6 @@ module _ (p : Position) (bs : List Held) (lower : p.lower ≡ bound_in bs Lower)
 
 -- ---- The point with one bound more
 
--- whether a form moves to a bound
-abbrev pub is_moving : {S : Type 0} → (S → Infinitesimal) → Table → List (Option S) → ℕ → Side → S → Bool
-is_moving stands_for tab values v side bound = slice_index_or (marks_in tab) v false && is_past_known stands_for side bound (slice_index_or values v None)
-
 module _ {S : Type 0} (stands_for : S → Infinitesimal) (side : Side) (bound : S) where
   abbrev pub within : Option Infinitesimal → Option Infinitesimal
   within o = option_map (moved_within (half side) (stands_for bound)) o
@@ -186,7 +182,7 @@ module _ {S : Type 0} (stands_for : S → Infinitesimal) (side : Side) (bound : 
     known_value : value_in here v ≡ option_map stands_for (slice_index_or values v None)
     known_value = slice_index_or-map (option_map stands_for) values v None
 
-    pub point_kept : is_moving stands_for tab values v side bound ≡ false → (k : ℕ) → point_in here k ≡ (if k == v then within (point_in here k) else point_in here k)
+    pub point_kept : is_moving stands_for (marks_in tab) values v side bound ≡ false → (k : ℕ) → point_in here k ≡ (if k == v then within (point_in here k) else point_in here k)
     point_kept still k = by_test (k == v) refl
       where
         by_mark : (b : Bool) → nonbasic_in here v ≡ b → (b && is_past_known stands_for side bound (slice_index_or values v None)) ≡ false
@@ -198,14 +194,14 @@ module _ {S : Type 0} (stands_for : S → Infinitesimal) (side : Side) (bound : 
         by_test true e = subst (λ (n : ℕ). point_in here n ≡ within (point_in here n)) (sym (same_number k v e)) (by_mark (nonbasic_in here v) refl still)
         by_test false e = refl
 
-    pub moving_marked : is_moving stands_for tab values v side bound ≡ true → nonbasic_in here v ≡ true
+    pub moving_marked : is_moving stands_for (marks_in tab) values v side bound ≡ true → nonbasic_in here v ≡ true
     moving_marked = by_mark (nonbasic_in here v)
       where
         by_mark : (b : Bool) → (b && is_past_known stands_for side bound (slice_index_or values v None)) ≡ true → b ≡ true
         by_mark true e = refl
         by_mark false e = e
 
-    pub moving_point : is_moving stands_for tab values v side bound ≡ true → within (point_in here v) ≡ Some (stands_for bound)
+    pub moving_point : is_moving stands_for (marks_in tab) values v side bound ≡ true → within (point_in here v) ≡ Some (stands_for bound)
     moving_point = by_mark (nonbasic_in here v)
       where
         by_mark : (b : Bool) → (b && is_past_known stands_for side bound (slice_index_or values v None)) ≡ true → within (if b then value_in here v else None) ≡ Some (stands_for bound)

@@ -19,13 +19,13 @@ use Rattle.nz_tab.specs.Tables.{IsTableau, Table}
 use Rattle.nz_trail.specs.Bounds.{Asserted, IsExcluded, IsImplied, TrailState, asserted, other_side, with_bound}
 use Rattle.nz_trail.specs.declared.limits.Side.{Side}
 use Rattle.nz_trail.specs.declared.limits.Side.TheVariants.{Lower, Upper}
-use Rattle.nz_simplex.specs.Choices.{IsFollowed}
+use Rattle.nz_simplex.specs.Choices.{IsFollowed, is_moving}
 use Rattle.nz_simplex.specs.Moves.{IsBounded}
 use Rattle.nz_simplex.specs.Standing.{Held, half, bound_in, told}
 use Rattle.nz_simplex.specs.State.{State, nonbasic_in, point_in, IsOver, IsSound, position_over}
 use Rattle.nz_simplex.specs.Stored.{state_of}
 use Rattle.nz_simplex.specs.Tabled.{marks_in, rows_in}
-use Rattle.nz_simplex.proofs.Asserting.{bound_more, is_moving, moving_marked, moving_point, news_told, point_kept, value_left, within}
+use Rattle.nz_simplex.proofs.Asserting.{bound_more, moving_marked, moving_point, news_told, point_kept, value_left, within}
 use Rattle.nz_simplex.proofs.Helping.{bound_told, half_other}
 use Rattle.nz_simplex.proofs.Moving.{known_there, point_there, right_there}
 use Rattle.nz_simplex.proofs.ValuesAfter.{same_number}
@@ -85,7 +85,7 @@ module _ {S : Type 0} (stands_for : S → Infinitesimal) (order : S → S → Or
 
   -- ---- A form that stays
 
-  module _ (still : is_moving stands_for tab old v side bound ≡ false) (unchanged : new ≡ old) where
+  module _ (still : is_moving stands_for (marks_in tab) old v side bound ≡ false) (unchanged : new ≡ old) where
     points_kept : Points
     points_kept =
         subst (λ (vs : List (Option S)). (k : ℕ) → point_in (state_of stands_for tab (with_bound trail (asserted v side bound reason)) vs why) k ≡ (if k == v then within stands_for side bound (point_in here k) else point_in here k)) (sym unchanged)
@@ -111,7 +111,7 @@ module _ {S : Type 0} (stands_for : S → Infinitesimal) (order : S → S → Or
 
   -- ---- A form that moves
 
-  module _ (moving : is_moving stands_for tab old v side bound ≡ true)
+  module _ (moving : is_moving stands_for (marks_in tab) old v side bound ≡ true)
       (moved : slice_index_or new v None ≡ Some bound)
       (stays : (k : ℕ) → k ≢ v → slice_index_or (marks_in tab) k false ≡ true → slice_index_or new k None ≡ slice_index_or old k None) where
     abbrev marked : nonbasic_in here v ≡ true
@@ -142,3 +142,21 @@ module _ {S : Type 0} (stands_for : S → Infinitesimal) (order : S → S → Or
       right = λ ns k x over e.
           right_there stands_for tab trail (with_bound trail (asserted v side bound reason)) old new why v bound moved stays sound marked sums values infinitesimals itself tableau long follows ns over k x e;
     }
+
+  -- ---- Either
+
+  pub asserted_bound : MovesKeepReady → SumMoves → PositionsHaveValues → InfinitesimalsMove → NonbasicFormIsItself → IsTableau tab → length new ≡ length tab.forms
+      → (is_moving stands_for (marks_in tab) old v side bound ≡ false → new ≡ old)
+      → (is_moving stands_for (marks_in tab) old v side bound ≡ true → slice_index_or new v None ≡ Some bound)
+      → (is_moving stands_for (marks_in tab) old v side bound ≡ true → (k : ℕ) → k ≢ v → slice_index_or (marks_in tab) k false ≡ true → slice_index_or new k None ≡ slice_index_or old k None)
+      → (is_moving stands_for (marks_in tab) old v side bound ≡ true → (k : ℕ) → k < length tab.forms → slice_index_or (marks_in tab) k false ≡ false
+          → IsFollowed stands_for (slice_index_or old v None) bound (rows_in tab k v) (slice_index_or old k None) (slice_index_or new k None))
+      → IsBounded here there (asserted v side (stands_for bound) reason) × IsSound there
+  asserted_bound law sums values infinitesimals itself tableau long still moved stays follows = by_test (is_moving stands_for (marks_in tab) old v side bound) refl
+    where
+      by_test : (b : Bool) → is_moving stands_for (marks_in tab) old v side bound ≡ b → IsBounded here there (asserted v side (stands_for bound) reason) × IsSound there
+      by_test true e = (
+        bounded_moved e (moved e) (stays e),
+        sound_moved e (moved e) (stays e) law sums values infinitesimals itself tableau long (follows e),
+      )
+      by_test false e = (bounded_still e (still e), sound_still e (still e) law)

@@ -9,6 +9,8 @@ use Rattle.nz_lists.proofs.Places.{slice_index_or-map}
 use Rattle.nz_lists.proofs.Elements.{AllByRecursion-map}
 use Rattle.nz_spec.specs.Infinitesimal.{Infinitesimal, infinitesimal_cmp}
 use Rattle.nz_trail.specs.Bounds.{AreApart, Asserted, ClashesWith, IsExcluded, IsImplied, IsOn, IsTighter, IsTightest, asserted, other_side}
+use Rattle.nz_trail.specs.declared.limits.Bound.{Bound}
+use Rattle.nz_trail.specs.declared.limits.Bound.TheVariants.{Kept, Tighter, Clash}
 use Rattle.nz_trail.specs.declared.limits.Side.{Side}
 use Rattle.nz_trail.specs.declared.limits.Side.TheVariants.{Lower, Upper}
 use Rattle.nz_simplex.specs.Standing.{Held, told}
@@ -178,3 +180,22 @@ module _ {S : Type 0} (stands_for : S → Infinitesimal) (order : S → S → Or
               tightest = subst (IsTightest order list) is found.2;
               apart = apart_from b.side b.value e.value (subst (λ (x : Infinitesimal). AreApart infinitesimal_cmp b.side (stands_for b.value) x) (sym value) c.apart);
             }
+
+    -- ---- What comes of a bound
+
+    pub kept_shown : (b : Asserted S) (o : Bound) → (o ≡ Kept) ↔ IsImplied order list b → (o ≡ Kept) ↔ IsImplied infinitesimal_cmp numbers (told stands_for b)
+    kept_shown b o h = (λ e. (implied_same b).0 (h.0 e), λ i. h.1 ((implied_same b).1 i))
+
+    pub clash_shown : (b : Asserted S) (o : Bound) → ((r : ℕ) → (s : ℕ) → (o ≡ Clash r s) ↔ ((r ≡ b.reason) × ClashesWith order list b s))
+        → (r : ℕ) → (s : ℕ) → (o ≡ Clash r s) ↔ ((r ≡ b.reason) × ClashesWith infinitesimal_cmp numbers (told stands_for b) s)
+    clash_shown b o h r s = (
+      λ e. let there = (h r s).0 e in (there.0, (clash_same b s).0 there.1),
+      λ p. (h r s).1 (p.0, (clash_same b s).1 p.1),
+    )
+
+    pub tighter_shown : (b : Asserted S) (o : Bound) → (o ≡ Tighter) ↔ ((¬ IsImplied order list b) × (¬ IsExcluded order list b))
+        → (o ≡ Tighter) ↔ ((¬ IsImplied infinitesimal_cmp numbers (told stands_for b)) × (¬ IsExcluded infinitesimal_cmp numbers (told stands_for b)))
+    tighter_shown b o h = (
+      λ e. let there = h.0 e in (λ i. there.0 ((implied_same b).1 i), λ x. there.1 ((excluded_same b).1 x)),
+      λ p. h.1 (λ i. p.0 ((implied_same b).0 i), λ x. p.1 ((excluded_same b).0 x)),
+    )

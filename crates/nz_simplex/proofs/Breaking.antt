@@ -47,6 +47,16 @@ unfolding side_of
 half_of lower_side = refl
 half_of upper_side = refl
 
+-- the first basic form that passes is basic
+pub basic_told : (s : State) (i : ℕ) → first_passing (is_breaking s) (basic_numbers s) ≡ Some i → (i < length s.forms) × (nonbasic_in s i ≡ false)
+basic_told s i found =
+    let least = first_least (length s.forms) (λ k. not (nonbasic_in s k)) (is_breaking s) i found in
+    (least.below, turned (nonbasic_in s i) least.is_listed)
+  where
+    turned : (b : Bool) → not b ≡ true → b ≡ false
+    turned true e = sym e
+    turned false e = refl
+
 -- ---- A position
 
 same_outside : InfinitesimalsMove → (side : bland.Side) (bound x y : Infinitesimal) → x =δ y → IsOutside side bound x → IsOutside side bound y
@@ -87,7 +97,7 @@ module _ (s : State) (sound : IsSound s) (values : PositionsHaveValues) (law : I
       record {
         breaks = record {
           listed = subst (λ (n : ℕ). i < n) (sym (length-map s.forms (parts_over ns))) least.below;
-          basic = point_marks s sound i ∙ turned (nonbasic_in s i) least.is_listed;
+          basic = point_marks s sound i ∙ (basic_told s i found).1;
           bounded = bound_told ns s side i ∙ bounded;
           value = x;
           has = sound.right ns i x over valued;
@@ -96,10 +106,6 @@ module _ (s : State) (sound : IsSound s) (values : PositionsHaveValues) (law : I
         least = λ k below half other breaks.
             true≢false (sym (broken_tested half other k breaks) ∙ least.least k below (basic_breaks half other k breaks));
       }
-    where
-      turned : (b : Bool) → not b ≡ true → b ≡ false
-      turned true e = sym e
-      turned false e = refl
 
   pub past_told : {S : Type 0} (stands_for : S → Infinitesimal) (i : ℕ) (side : Side) (limit : Limit S) → first_passing (is_breaking s) (basic_numbers s) ≡ Some i
       → IsPastBound stands_for s i side limit → IsFirstBroken (position_over ns s) (half side) (stands_for limit.value) i

@@ -2,6 +2,7 @@ pub mod Asserting
 pub mod Bounded
 pub mod Bounding
 pub mod Breaking
+pub mod Checking
 pub mod Choosing
 pub mod Empty
 pub mod Exchanging

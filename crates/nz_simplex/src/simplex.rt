@@ -2,7 +2,6 @@
 ghost use Rattle.std.specs.Prelude.{◌≡◌, ◌≢◌, ◌↔◌, ◌<◌, ◌≤◌, ◌+◌, ◌++◌, ◌&&◌, if◌then◌else◌, ℕ, [], ◌∷◌, List, All, IfOk, OnOk, OnErr, IfErr, IfSome, IfNone, IsSome, IsTrue, is_some, None, Some, Ok, Err, false, true, not, pos, flat_map, length, map, option_map, slice_index_or, take, vec_capacity, vec_len};
 ghost use Rattle.nz_lin.specs.Forms.{AreUnits};
 ghost use Rattle.nz_simplex.specs.Checks.{Answers, IsFeasible, IsFirstBroken, IsRefuted, IsRenewed, IsStepped, Renews, StopsAt};
-ghost use Rattle.nz_simplex.specs.Choices.{is_past_known};
 ghost use Rattle.nz_simplex.specs.Stored.{IsPastBound, first_passing, held_back, held_by, is_breaking, is_helping, one_or_none};
 ghost use Rattle.nz_simplex.specs.Moves.{IsBounded, IsJoined, IsSettled, JoinStops, joined_over};
 ghost use Rattle.nz_simplex.specs.Standing.{half, standing, told, told_on};
@@ -21,10 +20,10 @@ ghost use Rattle.nz_trail.specs.Bounds.{ClashesWith, IsExcluded, IsImplied, asse
 ghost use Rattle.nz_trail.specs.declared.limits.Side.TheVariants.{Lower, Upper};
 
 use crate::answer::{Check, Place, SimplexStop, Site};
-use crate::choice::{Broken, broken_bound, has_room, is_outside, opposite, size, way};
+use crate::choice::{Broken, broken_bound, has_room, opposite, size, way};
 use crate::coordinate::Coordinate;
 use crate::steps::Steps;
-use crate::values::{move_to, row_value};
+use crate::values::{move_to, move_within, row_value};
 use nz_base::Memory;
 use nz_frac::{Frac, Wide};
 use nz_lin::{Form, Part};
@@ -236,13 +235,17 @@ impl<S: Coordinate> Simplex<S> {
     {
         moves_keep_ready();
         sum_moves();
-        let outcome = self.trail.assert_bound(var, side, value, reason)?;
-        if outcome == Bound::Tighter
-            && is_to_move(&self.tab, self.values.as_slice(), var, side, value)
-        {
-            move_to(&self.tab, self.values.as_mut_slice(), var, value);
+        positions_have_values();
+        infinitesimals_move();
+        nonbasic_form_is_itself();
+        known_tableau(&self.tab);
+        match self.trail.assert_bound(var, side, value, reason)? {
+            Bound::Tighter => {
+                move_within(&self.tab, self.values.as_mut_slice(), var, side, value);
+                Ok(Bound::Tighter)
+            }
+            outcome => Ok(outcome),
         }
-        Ok(outcome)
     }
 
     /// Moves these nonbasic forms, which have no bounds, to 0.
@@ -271,13 +274,18 @@ impl<S: Coordinate> Simplex<S> {
         ensures settled { IsSettled self.old self.new (var ∷ []) }
     {
         sum_moves();
+        positions_have_values();
+        infinitesimals_move();
+        nonbasic_form_is_itself();
+        known_tableau(&self.tab);
         move_to(&self.tab, self.values.as_mut_slice(), var, S::zero());
     }
 
     /// Computes the values that aren't known from their rows.
     fn renew(&mut self) -> Result<(), SimplexStop>
         ensures renewed { IsRenewed self.old self.new }
-        ensures answer { (ns : List Node) → IsOver ns self.new → Renews ns self.new result }
+        ensures valued { OnOk result ((k : ℕ) → k < length self.new.forms → IsSome (value_in self.new k)) }
+        ensures answer { (ns : List Node) → IsOver ns self.new → IfErr result (λ e. StopsAt ns self.new e) }
     {
         for var in 0..self.values.len() {
             self.renew_one(var)?;
@@ -337,7 +345,6 @@ impl<S: Coordinate> Simplex<S> {
         ensures why { result ≢ Ok Check.Clash → self.new.why ≡ self.old.why }
     {
         pivots_are_runs();
-        positions_have_values();
         self.renew()?;
         while let Some(broken) = self.first_broken() {
             if !self.step(&broken, work)? {
@@ -352,8 +359,10 @@ impl<S: Coordinate> Simplex<S> {
     /// The least-numbered basic form that breaks a bound.
     fn first_broken(&self) -> Option<Broken<S>>
         requires valued { (k : ℕ) → k < length self.now.forms → IsSome (value_in self.now k) }
-        ensures found { IfSome result (λ b. (standing self.now.asserted b.var b.side ≡ Some (told_on S.stands_for b.var b.side b.limit))
-            × ((ns : List Node) → IsOver ns self.now → IsFirstBroken (position_over ns self.now) (half b.side) (S.stands_for b.limit.value) b.var)) }
+        ensures known { IfSome result (λ b. b.var < length self.now.forms) }
+        ensures basic { IfSome result (λ b. nonbasic_in self.now b.var ≡ false) }
+        ensures stands { IfSome result (λ b. standing self.now.asserted b.var b.side ≡ Some (told_on S.stands_for b.var b.side b.limit)) }
+        ensures broken { IfSome result (λ b. (ns : List Node) → IsOver ns self.now → IsFirstBroken (position_over ns self.now) (half b.side) (S.stands_for b.limit.value) b.var) }
         ensures none { IfNone result ((ns : List Node) → IsOver ns self.now → IsFeasible ns self.now) }
     {
         positions_have_values();
@@ -401,6 +410,7 @@ impl<S: Coordinate> Simplex<S> {
         ensures taken { result ≡ Ok true → (j : ℕ) × (work.new ≡ W.with_step work.old broken.now.var j)
             × ((ns : List Node) → IsOver ns self.old → IsCheckStep (position_over ns self.old) (position_over ns self.new) broken.now.var j) }
         ensures helpless { result ≡ Ok false → (ns : List Node) → IsOver ns self.old → (j : ℕ) → CanHelp (position_over ns self.old) broken.now.var (bland.other_side (half broken.now.side)) j → ⊥ }
+        ensures paid { result ≡ Ok true → W.units_left work.new < W.units_left work.old }
         ensures forms { self.new.forms ≡ self.old.forms }
         ensures asserted { self.new.asserted ≡ self.old.asserted }
         ensures why { self.new.why ≡ self.old.why }
@@ -630,21 +640,6 @@ fn list_nonbasic(tab: &Tab, nonbasic: &mut Vec<Var>)
             nonbasic.push_reserved(var);
         }
     }
-}
-
-/// Whether a form is nonbasic, and outside of a bound.
-fn is_to_move<S: Coordinate>(
-    tab: &Tab,
-    values: &[Option<S>],
-    var: Var,
-    side: Side,
-    bound: S,
-) -> bool
-    requires known { var < length tab.now.forms }
-    requires valued { length values.now ≡ length tab.now.forms }
-    ensures moves { result ≡ (slice_index_or (marks_in tab.now) var false && is_past_known S.stands_for side bound (slice_index_or values.now var None)) }
-{
-    !tab.is_basic(var) && values[var].is_some_and(|value| is_outside(side, bound, value))
 }
 
 /// Says what holds of each simplex: its nonbasic forms have values, what is known is the value at the position, and the position is
