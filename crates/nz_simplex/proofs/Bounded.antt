@@ -160,3 +160,41 @@ module _ {S : Type 0} (stands_for : S → Infinitesimal) (order : S → S → Or
         sound_moved e (moved e) (stays e) law sums values infinitesimals itself tableau long (follows e),
       )
       by_test false e = (bounded_still e (still e), sound_still e (still e) law)
+
+-- ---- By what is shown of the simplex
+
+pub record IsBoundedSoundly (old new : State) (b : Held) : Type 0 where
+  pub bounded : IsBounded old new b
+  pub sound : IsSound new
+
+pub asserted_shown : {S : Type 0} (stands_for : S → Infinitesimal) (order : S → S → Ordering) (total : IsTotalOrder order)
+    (same : (x y : S) → order x y ≡ infinitesimal_cmp (stands_for x) (stands_for y))
+    (tab : Table) (trail later : TrailState S) (old now new : List (Option S)) (why : List (ℕ × Fraction)) (seen : State) (v : ℕ) (side : Side) (bound : S) (reason : ℕ)
+    → state_of stands_for tab trail old why ≡ seen → IsSound (state_of stands_for tab trail old why) → v < length seen.forms
+    → (¬ IsImplied order trail.asserted (asserted v side bound reason)) × (¬ IsExcluded order trail.asserted (asserted v side bound reason))
+    → later ≡ with_bound trail (asserted v side bound reason) → MovesKeepReady → SumMoves → PositionsHaveValues → InfinitesimalsMove → NonbasicFormIsItself → IsTableau tab → now ≡ old → length new ≡ length now
+    → (is_moving stands_for (marks_in tab) now v side bound ≡ false → new ≡ now)
+    → (is_moving stands_for (marks_in tab) now v side bound ≡ true → slice_index_or new v None ≡ Some bound)
+    → (is_moving stands_for (marks_in tab) now v side bound ≡ true → (k : ℕ) → k ≢ v → slice_index_or (marks_in tab) k false ≡ true → slice_index_or new k None ≡ slice_index_or now k None)
+    → (is_moving stands_for (marks_in tab) now v side bound ≡ true → (k : ℕ) → k < length tab.forms → slice_index_or (marks_in tab) k false ≡ false
+        → IsFollowed stands_for (slice_index_or now v None) bound (rows_in tab k v) (slice_index_or now k None) (slice_index_or new k None))
+    → IsBoundedSoundly seen (state_of stands_for tab later new why) (asserted v side (stands_for bound) reason)
+asserted_shown {S} stands_for order total same tab trail later old now new why seen v side bound reason view sound listed news grown law sums values infinitesimals itself tableau is_now long still moved stays follows =
+    let listed_here : v < length tab.forms = subst (λ (s : State). v < length s.forms) (sym view) listed in
+    let moving : List (Option S) → Bool = λ vs. is_moving stands_for (marks_in tab) vs v side bound in
+    let both =
+    asserted_bound stands_for order total same tab trail old new why v side bound reason news.0 news.1 sound listed_here law sums values infinitesimals itself tableau
+    (long ∙ ap length is_now ∙ sym (length-map old (option_map stands_for)) ∙ sound.valued)
+    (subst (λ (vs : List (Option S)). moving vs ≡ false → new ≡ vs) is_now still)
+    (subst (λ (vs : List (Option S)). moving vs ≡ true → slice_index_or new v None ≡ Some bound) is_now moved)
+    (subst (λ (vs : List (Option S)). moving vs ≡ true → (k : ℕ) → k ≢ v → slice_index_or (marks_in tab) k false ≡ true → slice_index_or new k None ≡ slice_index_or vs k None) is_now stays)
+    (subst
+    (λ (vs : List (Option S)). moving vs ≡ true → (k : ℕ) → k < length tab.forms → slice_index_or (marks_in tab) k false ≡ false
+        → IsFollowed stands_for (slice_index_or vs v None) bound (rows_in tab k v) (slice_index_or vs k None) (slice_index_or new k None))
+    is_now follows) in
+    record {
+      bounded =
+          subst (λ (t : TrailState S). IsBounded seen (state_of stands_for tab t new why) (asserted v side (stands_for bound) reason)) (sym grown)
+          (subst (λ (s : State). IsBounded s (state_of stands_for tab (with_bound trail (asserted v side bound reason)) new why) (asserted v side (stands_for bound) reason)) view both.0);
+      sound = subst (λ (t : TrailState S). IsSound (state_of stands_for tab t new why)) (sym grown) both.1;
+    }

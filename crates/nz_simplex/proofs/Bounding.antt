@@ -1,6 +1,6 @@
 -- Bounds of scalars, and of the numbers that these stand for: what one more tells, and with which it clashes, is the same.
 use Rattle.std.proofs.Common.{◌≡◌, ℕ, zero, suc, ◌<◌, List, [], ◌∷◌, ◌++◌, length, map, refl, sym, ap, ◌∙◌, subst, arith}
-use Rattle.std.specs.Prelude.{All, Any, slice_index_or, ◌↔◌}
+use Rattle.std.specs.Prelude.{Result, Ok, Err, All, Any, slice_index_or, ◌↔◌}
 use Rattle.std.specs.declared.cmp.Ordering.{Ordering}
 use Rattle.std.specs.declared.cmp.Ordering.TheVariants.{Less, Greater}
 use Rattle.std.proofs.lemmas.List.{length-map, map-append, get_or_default}
@@ -14,6 +14,15 @@ use Rattle.nz_trail.specs.declared.limits.Bound.TheVariants.{Kept, Tighter, Clas
 use Rattle.nz_trail.specs.declared.limits.Side.{Side}
 use Rattle.nz_trail.specs.declared.limits.Side.TheVariants.{Lower, Upper}
 use Rattle.nz_simplex.specs.Standing.{Held, told}
+
+-- ---- Results
+
+pub same_ok : {X E : Type 0} {x y : X} → ◌≡◌ {A = Result X E} (Ok x) (Ok y) → x ≡ y
+same_ok {X} {E} {x} {y} e = ap value e
+  where
+    value : Result X E → X
+    value (Ok z) = z
+    value (Err z) = x
 
 -- ---- Lists that are mapped
 
