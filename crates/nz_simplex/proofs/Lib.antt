@@ -9,6 +9,8 @@ pub mod Exchanging
 pub mod Firsts
 pub mod Following
 pub mod Helping
+pub mod JoinedPositions
+pub mod Joining
 pub mod Moving
 pub mod Places
 pub mod Pointed
@@ -19,5 +21,6 @@ pub mod Settling
 pub mod Signs
 pub mod Standings
 pub mod Stepping
+pub mod SumsLonger
 pub mod Undoing
 pub mod ValuesAfter
