@@ -8,6 +8,7 @@ pub mod Empty
 pub mod Exchanging
 pub mod Firsts
 pub mod Following
+pub mod Grown
 pub mod Helping
 pub mod JoinedPositions
 pub mod Joining

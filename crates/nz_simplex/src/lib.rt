@@ -7,6 +7,7 @@
 mod answer;
 mod choice;
 mod coordinate;
+mod room;
 mod simplex;
 mod steps;
 mod values;

@@ -22,6 +22,7 @@ ghost use Rattle.nz_trail.specs.declared.limits.Side.TheVariants.{Lower, Upper};
 use crate::answer::{Check, Place, SimplexStop, Site};
 use crate::choice::{Broken, broken_bound, has_room, opposite, size, way};
 use crate::coordinate::Coordinate;
+use crate::room::{count_with, reserve};
 use crate::steps::Steps;
 use crate::values::{move_to, move_within, row_value};
 use nz_base::Memory;
@@ -185,30 +186,25 @@ impl<S: Coordinate> Simplex<S> {
         ensures stops { IfErr result (λ e. (ns : List Node) → IsOver ns self.old → AreUnits ns form.now.parts → JoinStops ns self.old form.now.parts e) }
         ensures unchanged { OnErr result (self.new ≡ self.old) }
     {
-        self.reserve(form.parts().len())?;
-        joins_keep_basis();
-        moves_keep_ready();
+        positions_have_values();
+        infinitesimals_move();
+        nonbasic_form_is_itself();
+        known_tableau(&self.tab);
+        let count = count_with(self.tab.len(), form.parts().len())?;
+        reserve(
+            &mut self.trail,
+            &mut self.values,
+            &mut self.basic,
+            &mut self.nonbasic,
+            &mut self.why,
+            count,
+        )?;
         let var = self.tab.add_form(form)?;
+        known_tableau(&self.tab);
         extend_values(&self.tab, &mut self.values);
         list_basic(&self.tab, &mut self.basic);
         list_nonbasic(&self.tab, &mut self.nonbasic);
         Ok(var)
-    }
-
-    /// Makes room for a form of so many parts, of which each may be a new unit.
-    fn reserve(&mut self, parts: usize) -> Result<(), Memory>
-        ensures unchanged { self.new ≡ self.old }
-    {
-        let more = parts.checked_add(1).ok_or(Memory)?;
-        let count = self.tab.len().checked_add(more).ok_or(Memory)?;
-        self.values.reserve(more)?;
-        self.basic.reserve(count)?;
-        self.nonbasic.reserve(count)?;
-        self.why.reserve(count)?;
-        while self.trail.len() < count {
-            self.trail.add_var()?;
-        }
-        Ok(())
     }
 
     /// Asserts a bound of a form. A nonbasic form that is outside of it moves to it, and the values of the basic forms follow.
