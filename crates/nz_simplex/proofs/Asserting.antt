@@ -122,7 +122,7 @@ swapped k v = by_test (k == v) refl
     by_test true e = equal_number v k (sym (same_number k v e))
     by_test false e = other_number v k (λ (is : v ≡ k). true≢false (sym (equal_number k v (sym is)) ∙ e))
 
-side_is : (a b : Side) → is_side a b ≡ true → b ≡ a
+pub side_is : (a b : Side) → is_side a b ≡ true → b ≡ a
 side_is Lower Lower e = refl
 side_is Lower Upper e = absurd (true≢false (sym e))
 side_is Upper Lower e = absurd (true≢false (sym e))

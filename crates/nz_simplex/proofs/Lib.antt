@@ -4,6 +4,7 @@ pub mod Bounding
 pub mod Breaking
 pub mod Checking
 pub mod Choosing
+pub mod Contradicting
 pub mod Empty
 pub mod Exchanging
 pub mod Firsts

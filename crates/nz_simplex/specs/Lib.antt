@@ -1,5 +1,6 @@
 pub mod Checks
 pub mod Choices
+pub mod Contradictions
 pub mod Faithful
 pub mod FaithfulScalars
 pub mod Moves

@@ -6,6 +6,7 @@
 
 mod answer;
 mod choice;
+mod clashes;
 mod coordinate;
 mod room;
 mod simplex;
@@ -13,6 +14,7 @@ mod steps;
 mod values;
 
 pub use answer::{Check, Place, SimplexStop, Site};
+pub use clashes::clashes_contradict;
 pub use coordinate::Coordinate;
 pub use simplex::{Simplex, known_state};
 pub use steps::Steps;
