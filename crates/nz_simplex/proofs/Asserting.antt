@@ -1,5 +1,5 @@
 -- One bound more: what stands then, and the position with it.
-use Rattle.std.proofs.Common.{◌≡◌, ℕ, suc, ◌<◌, ◌⊎◌, inl, inr, Bool, true, false, List, [], ◌∷◌, ◌++◌, length, map, Option, Some, None, refl, sym, ap, ◌∙◌, subst, true≢false, arith}
+use Rattle.std.proofs.Common.{◌≡◌, ℕ, suc, ◌⊎◌, inl, inr, Bool, true, false, List, [], ◌∷◌, ◌++◌, map, Option, Some, None, refl, sym, ap, ◌∙◌, subst, true≢false, arith}
 use Rattle.std.specs.Prelude.{◌==◌, ◌&&◌, Any, fold, option_map, slice_index_or, unwrap_or, if◌then◌else◌}
 use Rattle.std.specs.Ordering.{ordering_reverse}
 use Rattle.std.specs.declared.cmp.Ordering.{Ordering}
@@ -11,7 +11,7 @@ use Rattle.nz_spec.specs.Infinitesimal.{Infinitesimal, infinitesimal_cmp}
 use Rattle.nz_spec.specs.Bland.{IsOutside, Position}
 use Rattle.nz_spec.specs.PositionMoves.{bounds_with, is_outside, moved_within}
 use Rattle.nz_tab.specs.Tables.{Table}
-use Rattle.nz_trail.specs.Bounds.{AreApart, Asserted, IsExcluded, IsImplied, IsOn, IsTighter, TrailState, asserted, other_side}
+use Rattle.nz_trail.specs.Bounds.{AreApart, Asserted, IsExcluded, IsImplied, IsOn, TrailState, asserted, other_side}
 use Rattle.nz_trail.specs.declared.limits.Side.{Side}
 use Rattle.nz_trail.specs.declared.limits.Side.TheVariants.{Lower, Upper}
 use Rattle.nz_simplex.specs.Choices.{is_moving, is_past_known}
@@ -71,17 +71,19 @@ module _ {S : Type 0} (stands_for : S → Infinitesimal) (order : S → S → Or
         by_test h found true e = refl
         by_test h (k, x, inside, at, there) false e =
             absurd
-            (news
-            (
+            (news (
               k,
               x,
               inside,
               at,
-              (there.0, λ tighter.
-                  true≢false
-                  (sym (tighter_news stands_for order total same b.side b.value x.value tighter)
-                  ∙ ap (λ (g : Held). is_outside (half b.side) (stands_for b.value) g.value) there.1
-                  ∙ e)),
+              (
+                there.0,
+                λ tighter.
+                    true≢false
+                    (sym (tighter_news stands_for order total same b.side b.value x.value tighter)
+                    ∙ ap (λ (g : Held). is_outside (half b.side) (stands_for b.value) g.value) there.1
+                    ∙ e),
+              ),
             ))
 
         by_standing : (o : Option Held) → standing (map (told stands_for) list) b.var b.side ≡ o → is_news b.side (stands_for b.value) o ≡ true
@@ -104,8 +106,7 @@ module _ {S : Type 0} (stands_for : S → Infinitesimal) (order : S → S → Or
             let found = standing_there b.var (other_side b.side) h list e in
             let x = found.1 in
             let value : other ≡ stands_for x.value = sym (ap (λ (o : Option Infinitesimal). unwrap_or o other) is) ∙ ap (λ (g : Held). g.value) (sym found.4.1) in
-            agrees
-            (
+            agrees (
               found.0,
               x,
               found.2,

@@ -1,5 +1,5 @@
 -- A simplex with one bound more: a nonbasic form outside of it has moved to it, and nothing else changes.
-use Rattle.std.proofs.Common.{◌≡◌, ℕ, ◌<◌, Bool, true, false, List, [], ◌∷◌, ◌++◌, length, map, Option, Some, None, refl, sym, ap, ◌∙◌, subst}
+use Rattle.std.proofs.Common.{◌≡◌, ℕ, ◌<◌, Bool, true, false, List, [], ◌∷◌, ◌++◌, length, Option, Some, None, refl, sym, ap, ◌∙◌, subst}
 use Rattle.std.specs.Prelude.{◌==◌, ◌≢◌, option_map, slice_index_or, if◌then◌else◌}
 use Rattle.std.specs.declared.cmp.Ordering.{Ordering}
 use Rattle.std.specs.Cmp.{IsTotalOrder}
@@ -16,7 +16,7 @@ use Rattle.nz_spec.specs.PositionMoves.{IsReadyToCheck, MovesKeepReady, bounds_w
 use Rattle.nz_spec.specs.Table.{Node}
 use Rattle.nz_lin.specs.Forms.{parts_over}
 use Rattle.nz_tab.specs.Tables.{IsTableau, Table}
-use Rattle.nz_trail.specs.Bounds.{Asserted, IsExcluded, IsImplied, TrailState, asserted, other_side, with_bound}
+use Rattle.nz_trail.specs.Bounds.{IsExcluded, IsImplied, TrailState, asserted, other_side, with_bound}
 use Rattle.nz_trail.specs.declared.limits.Side.{Side}
 use Rattle.nz_trail.specs.declared.limits.Side.TheVariants.{Lower, Upper}
 use Rattle.nz_simplex.specs.Choices.{IsFollowed, is_moving}
@@ -132,7 +132,7 @@ module _ {S : Type 0} (stands_for : S → Infinitesimal) (order : S → S → Or
 
     pub sound_moved : MovesKeepReady → SumMoves → PositionsHaveValues → InfinitesimalsMove → NonbasicFormIsItself → IsTableau tab → length new ≡ length tab.forms
         → ((k : ℕ) → k < length tab.forms → slice_index_or (marks_in tab) k false ≡ false
-            → IsFollowed stands_for (slice_index_or old v None) bound (rows_in tab k v) (slice_index_or old k None) (slice_index_or new k None))
+        → IsFollowed stands_for (slice_index_or old v None) bound (rows_in tab k v) (slice_index_or old k None) (slice_index_or new k None))
         → IsSound there
     sound_moved law sums values infinitesimals itself tableau long follows = record {
       marked = sound.marked;
@@ -150,7 +150,7 @@ module _ {S : Type 0} (stands_for : S → Infinitesimal) (order : S → S → Or
       → (is_moving stands_for (marks_in tab) old v side bound ≡ true → slice_index_or new v None ≡ Some bound)
       → (is_moving stands_for (marks_in tab) old v side bound ≡ true → (k : ℕ) → k ≢ v → slice_index_or (marks_in tab) k false ≡ true → slice_index_or new k None ≡ slice_index_or old k None)
       → (is_moving stands_for (marks_in tab) old v side bound ≡ true → (k : ℕ) → k < length tab.forms → slice_index_or (marks_in tab) k false ≡ false
-          → IsFollowed stands_for (slice_index_or old v None) bound (rows_in tab k v) (slice_index_or old k None) (slice_index_or new k None))
+      → IsFollowed stands_for (slice_index_or old v None) bound (rows_in tab k v) (slice_index_or old k None) (slice_index_or new k None))
       → IsBounded here there (asserted v side (stands_for bound) reason) × IsSound there
   asserted_bound law sums values infinitesimals itself tableau long still moved stays follows = by_test (is_moving stands_for (marks_in tab) old v side bound) refl
     where
@@ -177,7 +177,7 @@ pub asserted_shown : {S : Type 0} (stands_for : S → Infinitesimal) (order : S 
     → (is_moving stands_for (marks_in tab) now v side bound ≡ true → slice_index_or new v None ≡ Some bound)
     → (is_moving stands_for (marks_in tab) now v side bound ≡ true → (k : ℕ) → k ≢ v → slice_index_or (marks_in tab) k false ≡ true → slice_index_or new k None ≡ slice_index_or now k None)
     → (is_moving stands_for (marks_in tab) now v side bound ≡ true → (k : ℕ) → k < length tab.forms → slice_index_or (marks_in tab) k false ≡ false
-        → IsFollowed stands_for (slice_index_or now v None) bound (rows_in tab k v) (slice_index_or now k None) (slice_index_or new k None))
+    → IsFollowed stands_for (slice_index_or now v None) bound (rows_in tab k v) (slice_index_or now k None) (slice_index_or new k None))
     → IsBoundedSoundly seen (state_of stands_for tab later new why) (asserted v side (stands_for bound) reason)
 asserted_shown {S} stands_for order total same tab trail later old now new why seen v side bound reason view sound listed news grown law sums values infinitesimals itself tableau is_now long still moved stays follows =
     let listed_here : v < length tab.forms = subst (λ (s : State). v < length s.forms) (sym view) listed in
@@ -190,7 +190,7 @@ asserted_shown {S} stands_for order total same tab trail later old now new why s
     (subst (λ (vs : List (Option S)). moving vs ≡ true → (k : ℕ) → k ≢ v → slice_index_or (marks_in tab) k false ≡ true → slice_index_or new k None ≡ slice_index_or vs k None) is_now stays)
     (subst
     (λ (vs : List (Option S)). moving vs ≡ true → (k : ℕ) → k < length tab.forms → slice_index_or (marks_in tab) k false ≡ false
-        → IsFollowed stands_for (slice_index_or vs v None) bound (rows_in tab k v) (slice_index_or vs k None) (slice_index_or new k None))
+    → IsFollowed stands_for (slice_index_or vs v None) bound (rows_in tab k v) (slice_index_or vs k None) (slice_index_or new k None))
     is_now follows) in
     record {
       bounded =

@@ -2,7 +2,6 @@
 use Rattle.std.proofs.Common.{◌≡◌, ℕ, zero, suc, ◌<◌, List, [], ◌∷◌, ◌++◌, length, map, refl, sym, ap, ◌∙◌, subst, arith}
 use Rattle.std.specs.Prelude.{Result, Ok, Err, All, Any, slice_index_or, ◌↔◌}
 use Rattle.std.specs.declared.cmp.Ordering.{Ordering}
-use Rattle.std.specs.declared.cmp.Ordering.TheVariants.{Less, Greater}
 use Rattle.std.proofs.lemmas.List.{length-map, map-append, get_or_default}
 use Rattle.std.proofs.lemmas.List.Elements.{All-map, All-weaker, All-from_recursion, recursion_from_All}
 use Rattle.nz_lists.proofs.Places.{slice_index_or-map}
@@ -143,8 +142,7 @@ module _ {S : Type 0} (stands_for : S → Infinitesimal) (order : S → S → Or
         let front : All (λ e. IsOn b.var b.side e → IsTighter infinitesimal_cmp b.side (stands_for b.value) e.value) (map (told stands_for) found.0) =
         subst
         (λ (l : List Held). All (λ e. IsOn b.var b.side e → IsTighter infinitesimal_cmp b.side (stands_for b.value) e.value) l) (sym found.4)
-        (subst (λ (g : Held). All (λ e. IsOn g.var g.side e → IsTighter infinitesimal_cmp g.side g.value e.value) t.before) (sym found.5) t.first) in
-        (
+        (subst (λ (g : Held). All (λ e. IsOn g.var g.side e → IsTighter infinitesimal_cmp g.side g.value e.value) t.before) (sym found.5) t.first) in (
           b,
           found.5,
           record {

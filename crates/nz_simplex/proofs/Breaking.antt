@@ -1,14 +1,12 @@
 -- Which basic forms break a bound: what is tested is what the definitions say, and where none does, the point is within all bounds.
-use Rattle.std.proofs.Common.{◌≡◌, ℕ, ◌<◌, Bool, true, false, List, length, map, Option, Some, None, refl, sym, ap, ap₂, ◌∙◌, subst, true≢false}
+use Rattle.std.proofs.Common.{◌≡◌, ℕ, ◌<◌, Bool, true, false, List, length, Option, Some, None, refl, sym, ap, ◌∙◌, subst, true≢false}
 use Rattle.std.specs.Prelude.{◌||◌, IsSome, not, option_map, unwrap_or}
-use Rattle.std.specs.Ordering.{is_lt}
-use Rattle.std.specs.declared.cmp.Ordering.{Ordering}
 use Rattle.std.proofs.lemmas.List.{length-map}
 use Rattle.nz_spec.specs.Infinitesimal.{Infinitesimal, ◌=δ◌}
 use Rattle.nz_spec.specs.InfinitesimalMoves.{InfinitesimalsMove}
 use Rattle.nz_spec.specs.Bland as bland
 use Rattle.nz_spec.specs.Bland.{lower_side, upper_side, Breaks, IsOutside, PositionsHaveValues, bound_on, zero_infinitesimal}
-use Rattle.nz_spec.specs.PositionMoves.{IsReadyToCheck, is_outside}
+use Rattle.nz_spec.specs.PositionMoves.{IsReadyToCheck}
 use Rattle.nz_spec.specs.Table.{Node}
 use Rattle.nz_lin.specs.Forms.{parts_over}
 use Rattle.nz_trail.specs.declared.limits.Limit.{Limit}
@@ -18,7 +16,7 @@ use Rattle.nz_simplex.specs.Checks.{IsFeasible, IsFirstBroken}
 use Rattle.nz_simplex.specs.Standing.{Held, half, standing, bound_in}
 use Rattle.nz_simplex.specs.State.{State, nonbasic_in, value_in, IsOver, IsSound, position_over}
 use Rattle.nz_simplex.specs.Stored.{IsPastBound, basic_numbers, breaks_held, first_passing, is_breaking, is_broken}
-use Rattle.nz_simplex.proofs.Firsts.{IsLeast, first_least, first_none}
+use Rattle.nz_simplex.proofs.Firsts.{first_least, first_none}
 use Rattle.nz_simplex.proofs.Helping.{bound_told, outside_test}
 use Rattle.nz_simplex.proofs.Pointed.{point_marks}
 use Rattle.nz_simplex.proofs.Undoing.{outside_told}

@@ -1,6 +1,6 @@
 -- One check step more, and what keeps the position.
 use Rattle.std.proofs.Common.{◌≡◌, ℕ, ◌<◌, length, List, [], ◌∷◌, ◌++◌, refl, sym, ap, ◌∙◌, subst}
-use Rattle.std.specs.Prelude.{Result, Ok, Err, IfErr, IsSome, OnOk, fold}
+use Rattle.std.specs.Prelude.{Result, Ok, Err, IfErr, IsSome, OnOk}
 use Rattle.std.specs.List.{AllByRecursion}
 use Rattle.std.proofs.lemmas.List.Sums.{fold_push}
 use Rattle.nz_fractions.specs.Fraction.{Fraction}

@@ -1,7 +1,7 @@
 -- What joining forms does to a simplex, by what is shown of it.
 use Rattle.std.proofs.Common.{◌≡◌, ℕ, ◌+◌, ◌<◌, ◌≤◌, Bool, true, false, List, [], ◌∷◌, ◌++◌, length, map, take, Option, Some, None, refl, sym, ap, ap₂, ◌∙◌, subst, arith, length-append}
 use Rattle.std.specs.Prelude.{Err, is_some, option_map, slice_index_or, if◌then◌else◌}
-use Rattle.nz_fractions.specs.Fraction.{Fraction, first_wide}
+use Rattle.nz_fractions.specs.Fraction.{Fraction}
 use Rattle.nz_spec.specs.Infinitesimal.{Infinitesimal}
 use Rattle.nz_spec.specs.InfinitesimalMoves.{InfinitesimalsMove}
 use Rattle.nz_spec.specs.Basis.{NonbasicFormIsItself}
@@ -11,7 +11,7 @@ use Rattle.nz_lin.specs.declared.form.Part.{Part}
 use Rattle.nz_lin.specs.Forms.{AreUnits}
 use Rattle.nz_tab.specs.declared.tab.TabStop.{TabStop}
 use Rattle.nz_tab.specs.declared.tab.TabStop.TheVariants.{Wide, Memory}
-use Rattle.nz_tab.specs.Joins.{IsGrown, IsUnitJoined, Joins, UnitJoins}
+use Rattle.nz_tab.specs.Joins.{IsFormJoined, IsUnitJoined, Joins, UnitJoins}
 use Rattle.nz_tab.specs.Tables.{IsTableau, Table}
 use Rattle.nz_tab.specs.Units.{is_unit_form, new_units, unit_number, unit_of, with_units}
 use Rattle.nz_trail.specs.Bounds.{Asserted, TrailState}
@@ -21,12 +21,12 @@ use Rattle.nz_simplex.specs.State.{State, IsOver, IsSound, position_over}
 use Rattle.nz_simplex.specs.Stored.{state_of}
 use Rattle.nz_simplex.specs.Tabled.{marks_in, rows_in}
 use Rattle.nz_simplex.proofs.JoinedPositions.{joined_position}
-use Rattle.nz_simplex.proofs.Joining.{IsTabJoined, joins, sound_joined}
+use Rattle.nz_simplex.proofs.JoinedForms.{IsTabJoined, joins, sound_joined}
 use Rattle.nz_simplex.proofs.Pointed.{rows_told}
 
 -- ---- The table of forms
 
-module _ (old new : Table) (f : List Part) (v : ℕ) (unit : is_unit_form f ≡ true → IsUnitJoined old new f v) (grown : is_unit_form f ≡ false → IsGrown old new f v) where
+module _ (old new : Table) (f : List Part) (v : ℕ) (unit : is_unit_form f ≡ true → IsUnitJoined old new f v) (grown : is_unit_form f ≡ false → IsFormJoined old new f v) where
   pub tab_joined : length new.grid.marks ≡ length new.forms → IsTabJoined old new f
   tab_joined count = by_test (is_unit_form f) refl
     where
@@ -76,7 +76,7 @@ pub record IsJoinedSoundly (old new : State) (f : List Part) (v : ℕ) : Type 0 
 
 pub joined_shown : {S : Type 0} (stands_for : S → Infinitesimal) (origin : S) (old_tab new_tab : Table) (trail later : TrailState S) (old now new : List (Option S)) (why told_why : List (ℕ × Fraction)) (seen : State) (f : List Part) (v : ℕ)
     → stands_for origin ≡ zero_infinitesimal → state_of stands_for old_tab trail old why ≡ seen → IsSound (state_of stands_for old_tab trail old why)
-    → (is_unit_form f ≡ true → IsUnitJoined old_tab new_tab f v) → (is_unit_form f ≡ false → IsGrown old_tab new_tab f v) → length new_tab.grid.marks ≡ length new_tab.forms
+    → (is_unit_form f ≡ true → IsUnitJoined old_tab new_tab f v) → (is_unit_form f ≡ false → IsFormJoined old_tab new_tab f v) → length new_tab.grid.marks ≡ length new_tab.forms
     → later.asserted ≡ trail.asserted → told_why ≡ why → now ≡ old → PositionsHaveValues → InfinitesimalsMove → NonbasicFormIsItself → IsTableau old_tab → IsTableau new_tab
     → length new ≡ length new_tab.forms → take (length now) new ≡ now
     → ((k : ℕ) → length now ≤ k → k < length new_tab.forms → slice_index_or new k None ≡ (if slice_index_or (marks_in new_tab) k false then Some origin else None))
@@ -87,7 +87,7 @@ joined_shown {S} stands_for origin old_tab new_tab trail later old now new why t
     let same : there ≡ state_of stands_for new_tab later new told_why =
     ap₂
     (λ (es : List (Asserted S)) (w : List (ℕ × Fraction)).
-        let s : State = record { forms = new_tab.forms; marks = marks_in new_tab; values = map (option_map stands_for) new; asserted = map (told stands_for) es; why = w } in s)
+    let s : State = record { forms = new_tab.forms; marks = marks_in new_tab; values = map (option_map stands_for) new; asserted = map (told stands_for) es; why = w } in s)
     (sym bounds) (sym same_why) in
     let front_old : take (length old) new ≡ old = subst (λ (vs : List (Option S)). take (length vs) new ≡ vs) is_now front in
     let fresh_old : (k : ℕ) → length old ≤ k → k < length new_tab.forms → slice_index_or new k None ≡ (if slice_index_or (marks_in new_tab) k false then Some origin else None) =

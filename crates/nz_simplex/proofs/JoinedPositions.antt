@@ -1,6 +1,6 @@
 -- The position when forms have joined: with their units, one after another, and then with the form.
-use Rattle.std.proofs.Common.{◌≡◌, ℕ, zero, suc, ◌+◌, ◌<◌, ◌≤◌, ◌⊎◌, inl, inr, Bool, true, false, List, [], ◌∷◌, ◌++◌, length, map, take, Option, Some, None, refl, sym, ap, ap₂, ◌∙◌, subst, true≢false, arith, append_assoc, length-append}
-use Rattle.std.specs.Prelude.{◌==◌, fold, is_some, nat_lt, option_map, slice_index_or, if◌then◌else◌}
+use Rattle.std.proofs.Common.{◌≡◌, ℕ, suc, ◌+◌, ◌<◌, ◌≤◌, ◌⊎◌, inl, inr, Bool, true, false, List, [], ◌∷◌, ◌++◌, length, map, take, Option, Some, None, refl, sym, ap, ap₂, ◌∙◌, true≢false, arith, append_assoc, length-append}
+use Rattle.std.specs.Prelude.{◌==◌, is_some, nat_lt, slice_index_or, if◌then◌else◌}
 use Rattle.std.proofs.Math.Path.{fun_ext}
 use Rattle.std.proofs.lemmas.List.{append-nil, get_or_past, length-map, length_push, map-append}
 use Rattle.nz_fractions.specs.Fraction.{Fraction}
@@ -17,10 +17,10 @@ use Rattle.nz_tab.specs.Tables.{Table}
 use Rattle.nz_tab.specs.Units.{is_unit_form, new_units, unit_number, unit_of, with_units}
 use Rattle.nz_trail.specs.Bounds.{TrailState}
 use Rattle.nz_simplex.specs.Moves.{joined_over, unit_terms, with_all_units}
-use Rattle.nz_simplex.specs.State.{State, nonbasic_in, value_in, point_in, IsSound, position_over}
+use Rattle.nz_simplex.specs.State.{State, value_in, point_in, IsSound, position_over}
 use Rattle.nz_simplex.specs.Stored.{state_of}
 use Rattle.nz_simplex.specs.Tabled.{marks_in}
-use Rattle.nz_simplex.proofs.Joining.{IsTabJoined, below_or_past, lt_below, lt_past, point_new, point_old}
+use Rattle.nz_simplex.proofs.JoinedForms.{IsTabJoined, below_or_past, lt_below, lt_past, point_new, point_old}
 use Rattle.nz_simplex.proofs.ValuesAfter.{equal_number, other_number}
 
 -- ---- Units

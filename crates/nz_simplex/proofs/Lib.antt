@@ -4,15 +4,15 @@ pub mod Bounding
 pub mod Breaking
 pub mod Checking
 pub mod Choosing
-pub mod Contradicting
+pub mod ClashTotals
 pub mod Empty
 pub mod Exchanging
 pub mod Firsts
 pub mod Following
 pub mod Grown
 pub mod Helping
+pub mod JoinedForms
 pub mod JoinedPositions
-pub mod Joining
 pub mod Moving
 pub mod Places
 pub mod Pointed

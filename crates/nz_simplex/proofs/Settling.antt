@@ -1,5 +1,5 @@
 -- Nonbasic forms without bounds settle at 0.
-use Rattle.std.proofs.Common.{◌≡◌, ℕ, zero, suc, arith, ◌<◌, ◌⊎◌, inl, inr, Bool, true, false, List, [], ◌∷◌, ◌++◌, length, map, Option, Some, None, refl, sym, ap, ◌∙◌, subst, true≢false}
+use Rattle.std.proofs.Common.{◌≡◌, ℕ, zero, suc, arith, ◌<◌, ◌⊎◌, inl, inr, Bool, true, false, List, [], ◌∷◌, ◌++◌, length, Option, Some, None, refl, sym, ap, ◌∙◌, subst, true≢false}
 use Rattle.std.specs.Prelude.{◌==◌, ◌≢◌, ◌||◌, option_map, slice_index_or, unwrap_or, is_some, if◌then◌else◌}
 use Rattle.std.proofs.lemmas.List.{length-map}
 use Rattle.nz_fractions.specs.Fraction.{Fraction}
@@ -7,7 +7,7 @@ use Rattle.nz_spec.specs.Infinitesimal.{Infinitesimal}
 use Rattle.nz_spec.specs.InfinitesimalMoves.{InfinitesimalsMove}
 use Rattle.nz_spec.specs.Basis.{NonbasicFormIsItself}
 use Rattle.nz_spec.specs.Bland as bland
-use Rattle.nz_spec.specs.Bland.{IsOutside, NonbasicFormsFit, Position, PositionsHaveValues, SumMoves, bound_on, is_nonbasic, lower_side, upper_side, zero_infinitesimal}
+use Rattle.nz_spec.specs.Bland.{IsOutside, NonbasicFormsFit, PositionsHaveValues, SumMoves, bound_on, lower_side, upper_side, zero_infinitesimal}
 use Rattle.nz_spec.specs.Table.{Node}
 use Rattle.nz_tab.specs.Tables.{IsTableau, Table}
 use Rattle.nz_trail.specs.Bounds.{TrailState}
@@ -16,11 +16,11 @@ use Rattle.nz_simplex.specs.Choices.{IsFollowed}
 use Rattle.nz_simplex.specs.Checks.{IsRenewed}
 use Rattle.nz_simplex.specs.Moves.{IsSettled, is_among}
 use Rattle.nz_simplex.specs.Standing.{Held, standing}
-use Rattle.nz_simplex.specs.State.{State, nonbasic_in, value_in, point_in, IsOver, IsSound, position_over}
+use Rattle.nz_simplex.specs.State.{State, nonbasic_in, value_in, IsOver, IsSound, position_over}
 use Rattle.nz_simplex.specs.Stored.{state_of}
 use Rattle.nz_simplex.specs.Tabled.{marks_in, rows_in}
-use Rattle.nz_simplex.proofs.Moving.{basis_there, known_there, marks_same, over_before, point_stays, right_there, value_moved, value_stays}
-use Rattle.nz_simplex.proofs.ValuesAfter.{equal_number, one_or_other, other_number, same_number}
+use Rattle.nz_simplex.proofs.Moving.{basis_there, known_there, over_before, point_stays, right_there, value_moved, value_stays}
+use Rattle.nz_simplex.proofs.ValuesAfter.{equal_number, one_or_other, same_number}
 
 -- ---- One form
 
@@ -73,7 +73,7 @@ module _ {S : Type 0} (stands_for : S → Infinitesimal) (tab : Table) (trail : 
 
     pub sound_settled : SumMoves → PositionsHaveValues → InfinitesimalsMove → NonbasicFormIsItself → IsTableau tab → length new ≡ length tab.forms
         → ((k : ℕ) → k < length tab.forms → slice_index_or (marks_in tab) k false ≡ false
-            → IsFollowed stands_for (slice_index_or old v None) target (rows_in tab k v) (slice_index_or old k None) (slice_index_or new k None))
+        → IsFollowed stands_for (slice_index_or old v None) target (rows_in tab k v) (slice_index_or old k None) (slice_index_or new k None))
         → IsSound there
     sound_settled sums values infinitesimals itself tableau long follows = record {
       marked = sound.marked;
@@ -102,7 +102,7 @@ pub settled_shown : {S : Type 0} (stands_for : S → Infinitesimal) (tab : Table
     → slice_index_or new v None ≡ Some target
     → ((k : ℕ) → k ≢ v → slice_index_or (marks_in tab) k false ≡ true → slice_index_or new k None ≡ slice_index_or now k None)
     → ((k : ℕ) → k < length tab.forms → slice_index_or (marks_in tab) k false ≡ false
-        → IsFollowed stands_for (slice_index_or now v None) target (rows_in tab k v) (slice_index_or now k None) (slice_index_or new k None))
+    → IsFollowed stands_for (slice_index_or now v None) target (rows_in tab k v) (slice_index_or now k None) (slice_index_or new k None))
     → IsSettledSoundly seen (state_of stands_for tab trail new why) (v ∷ [])
 settled_shown {S} stands_for tab trail old now new why seen v target view sound nonbasic lower upper at_zero sums values infinitesimals itself tableau is_now long moved stays follows =
     let here : State = state_of stands_for tab trail old why in
@@ -110,10 +110,10 @@ settled_shown {S} stands_for tab trail old now new why seen v target view sound 
     let stays_here : (k : ℕ) → k ≢ v → slice_index_or (marks_in tab) k false ≡ true → slice_index_or new k None ≡ slice_index_or old k None =
     subst (λ (vs : List (Option S)). (k : ℕ) → k ≢ v → slice_index_or (marks_in tab) k false ≡ true → slice_index_or new k None ≡ slice_index_or vs k None) is_now stays in
     let follows_here : (k : ℕ) → k < length tab.forms → slice_index_or (marks_in tab) k false ≡ false
-        → IsFollowed stands_for (slice_index_or old v None) target (rows_in tab k v) (slice_index_or old k None) (slice_index_or new k None) =
+    → IsFollowed stands_for (slice_index_or old v None) target (rows_in tab k v) (slice_index_or old k None) (slice_index_or new k None) =
     subst
     (λ (vs : List (Option S)). (k : ℕ) → k < length tab.forms → slice_index_or (marks_in tab) k false ≡ false
-        → IsFollowed stands_for (slice_index_or vs v None) target (rows_in tab k v) (slice_index_or vs k None) (slice_index_or new k None))
+    → IsFollowed stands_for (slice_index_or vs v None) target (rows_in tab k v) (slice_index_or vs k None) (slice_index_or new k None))
     is_now follows in
     record {
       settled = subst (λ (s : State). IsSettled s (state_of stands_for tab trail new why) (v ∷ [])) view (settled_one stands_for tab trail old new why v target moved stays_here sound marked at_zero);

@@ -1,7 +1,7 @@
 -- A sum over more forms, where the others have the value 0.
-use Rattle.std.proofs.Common.{◌≡◌, ℕ, zero, suc, ◌<◌, ◌≤◌, ◌⊎◌, inl, inr, pos, sym, ap, subst, arith}
+use Rattle.std.proofs.Common.{◌≡◌, ℕ, zero, suc, ◌<◌, ◌≤◌, ◌⊎◌, inl, inr, pos, ap, subst, arith}
 use Rattle.nz_fractions.specs.Fraction.{Fraction, whole, ◌=ℚ◌, ◌*ℚ◌}
-use Rattle.nz_fractions.proofs.Laws.{=ℚ_refl, =ℚ-from_same}
+use Rattle.nz_fractions.proofs.Laws.{=ℚ-from_same}
 use Rattle.nz_fractions.proofs.Arithmetic.{+ℚ-zero}
 use Rattle.nz_spec.specs.Infinitesimal.{Infinitesimal, ◌=δ◌}
 use Rattle.nz_spec.specs.Basis.{Coefficients, weighted}

@@ -1,6 +1,6 @@
 pub mod Checks
 pub mod Choices
-pub mod Contradictions
+pub mod ClashSums
 pub mod Faithful
 pub mod FaithfulScalars
 pub mod Moves

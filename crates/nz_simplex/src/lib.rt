@@ -8,13 +8,16 @@ mod answer;
 mod choice;
 mod clashes;
 mod coordinate;
+mod helper;
+mod lists;
+mod multipliers;
 mod room;
 mod simplex;
 mod steps;
 mod values;
 
 pub use answer::{Check, Place, SimplexStop, Site};
-pub use clashes::clashes_contradict;
+pub use clashes::clashes_sum_up;
 pub use coordinate::Coordinate;
 pub use simplex::{Simplex, known_state};
 pub use steps::Steps;

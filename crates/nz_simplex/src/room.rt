@@ -1,5 +1,5 @@
 //! Room for forms that join.
-ghost use Rattle.std.specs.Prelude.{◌≡◌, ◌+◌, ◌≤◌, IfOk, OnOk, vec_capacity, vec_len};
+ghost use Rattle.std.specs.Prelude.{◌≡◌, ◌+◌, ◌≤◌, IfOk, OnOk, vec_capacity};
 ghost use Rattle.nz_simplex.specs.Stored.{HasRoomFor};
 
 use crate::coordinate::Coordinate;

@@ -1,13 +1,13 @@
 -- The units that aren't there join, and then the form.
-use Rattle.std.proofs.Common.{rules, ◌≡◌, ℕ, ◌+◌, ◌<◌, ◌≤◌, Some, None, false, List, length, take, sym, ap, ◌∙◌, subst, arith}
-use Rattle.std.specs.Prelude.{Err, IfErr, Result, slice_index_or, if◌then◌else◌, vec_capacity}
+use Rattle.std.proofs.Common.{rules, ◌≡◌, ℕ, ◌<◌, ◌≤◌, Some, None, false, List, length, take, sym, ap, subst, arith}
+use Rattle.std.specs.Prelude.{Err, IfErr, Result, slice_index_or, if◌then◌else◌}
 use Rattle.nz_spec.specs.Table.{Node}
 use Rattle.nz_lin.specs.Forms.{AreUnits}
 use Rattle.nz_tab.specs.declared.tab.TabStop.{TabStop}
 use Rattle.nz_simplex.specs.Moves.{JoinStops}
-use Rattle.nz_simplex.specs.State.{State, IsOver}
+use Rattle.nz_simplex.specs.State.{IsOver}
 use Rattle.nz_simplex.specs.Tabled.{marks_in}
-use Rattle.nz_simplex.proofs.Grown.{IsJoinedSoundly, few_forms, join_stops, joined_shown}
+use Rattle.nz_simplex.proofs.Grown.{few_forms, join_stops, joined_shown}
 use Rattle.nz_simplex.proofs.simplex.Simplex.add_form.Goals as goal
 
 pub returns-in_err-var-clause-stops : goal.returns-in_err-var-clause-stops
@@ -48,12 +48,12 @@ invariant_of-self-2 g c =
     record {
       sound =
           (joined_shown g.S.Coordinate.stands_for g.S.Scalar.origin x.tab c.add_form.new.self x.trail c.reserve.new.trail x.values.items c.reserve.new.values.items c.extend_values.new.values.items x.why.items c.reserve.new.why.items
-    c.args.self.now c.args.form.now.parts c.in_ok-var.var g.met.S.Coordinate.faithful.zero c.self.view_is c.self.invariant.sound c.in_ok-var.ensures.unit c.in_ok-var.ensures.grown c.known_tableau-2.ensures.count
-    c.reserve.ensures.asserted c.reserve.ensures.why c.reserve.ensures.values c.positions_have_values.ensures.values c.infinitesimals_move.ensures.moves c.nonbasic_form_is_itself.ensures.itself
-    c.known_tableau.ensures.tableau c.known_tableau-2.ensures.tableau c.extend_values.ensures.long (subst (λ (n : ℕ). take n c.extend_values.new.values.items ≡ c.reserve.new.values.items) c.reserve.new.values.ok.0 c.extend_values.ensures.stays) (subst
-    (λ (n : ℕ). (k : ℕ) → n ≤ k → k < length c.add_form.new.self.forms
-        → slice_index_or c.extend_values.new.values.items k None ≡ (if slice_index_or (marks_in c.add_form.new.self) k false then Some g.S.Scalar.origin else None))
-    c.reserve.new.values.ok.0 c.extend_values.ensures.joined)).sound;
+          c.args.self.now c.args.form.now.parts c.in_ok-var.var g.met.S.Coordinate.faithful.zero c.self.view_is c.self.invariant.sound c.in_ok-var.ensures.unit c.in_ok-var.ensures.grown c.known_tableau-2.ensures.marked
+          c.reserve.ensures.asserted c.reserve.ensures.why c.reserve.ensures.values c.positions_have_values.ensures.values c.infinitesimals_move.ensures.moves c.nonbasic_form_is_itself.ensures.itself
+          c.known_tableau.ensures.tableau c.known_tableau-2.ensures.tableau c.extend_values.ensures.long (subst (λ (n : ℕ). take n c.extend_values.new.values.items ≡ c.reserve.new.values.items) c.reserve.new.values.ok.0 c.extend_values.ensures.stays) (subst
+          (λ (n : ℕ). (k : ℕ) → n ≤ k → k < length c.add_form.new.self.forms
+          → slice_index_or c.extend_values.new.values.items k None ≡ (if slice_index_or (marks_in c.add_form.new.self) k false then Some g.S.Scalar.origin else None))
+          c.reserve.new.values.ok.0 c.extend_values.ensures.joined)).sound;
       basic_listed = c.list_basic.ensures.listed;
       nonbasic_listed = c.list_nonbasic.ensures.listed;
       numbered = omega (arith, few, parts, c.len.ensures.count, c.in_ok-count.ensures.count, room.for_bounds);
@@ -66,11 +66,11 @@ pub returns-clause-joined : goal.returns-clause-joined
 returns-clause-joined g c =
     let x = c.self.inside in
     (joined_shown g.S.Coordinate.stands_for g.S.Scalar.origin x.tab c.add_form.new.self x.trail c.reserve.new.trail x.values.items c.reserve.new.values.items c.extend_values.new.values.items x.why.items c.reserve.new.why.items
-    c.args.self.now c.args.form.now.parts c.in_ok-var.var g.met.S.Coordinate.faithful.zero c.self.view_is c.self.invariant.sound c.in_ok-var.ensures.unit c.in_ok-var.ensures.grown c.known_tableau-2.ensures.count
+    c.args.self.now c.args.form.now.parts c.in_ok-var.var g.met.S.Coordinate.faithful.zero c.self.view_is c.self.invariant.sound c.in_ok-var.ensures.unit c.in_ok-var.ensures.grown c.known_tableau-2.ensures.marked
     c.reserve.ensures.asserted c.reserve.ensures.why c.reserve.ensures.values c.positions_have_values.ensures.values c.infinitesimals_move.ensures.moves c.nonbasic_form_is_itself.ensures.itself
     c.known_tableau.ensures.tableau c.known_tableau-2.ensures.tableau c.extend_values.ensures.long (subst (λ (n : ℕ). take n c.extend_values.new.values.items ≡ c.reserve.new.values.items) c.reserve.new.values.ok.0 c.extend_values.ensures.stays) (subst
     (λ (n : ℕ). (k : ℕ) → n ≤ k → k < length c.add_form.new.self.forms
-        → slice_index_or c.extend_values.new.values.items k None ≡ (if slice_index_or (marks_in c.add_form.new.self) k false then Some g.S.Scalar.origin else None))
+    → slice_index_or c.extend_values.new.values.items k None ≡ (if slice_index_or (marks_in c.add_form.new.self) k false then Some g.S.Scalar.origin else None))
     c.reserve.new.values.ok.0 c.extend_values.ensures.joined)).joined
 
 pub returns-clause-position : goal.returns-clause-position
@@ -78,9 +78,9 @@ returns-clause-position g c =
     let x = c.self.inside in
     λ ns over units.
     (joined_shown g.S.Coordinate.stands_for g.S.Scalar.origin x.tab c.add_form.new.self x.trail c.reserve.new.trail x.values.items c.reserve.new.values.items c.extend_values.new.values.items x.why.items c.reserve.new.why.items
-    c.args.self.now c.args.form.now.parts c.in_ok-var.var g.met.S.Coordinate.faithful.zero c.self.view_is c.self.invariant.sound c.in_ok-var.ensures.unit c.in_ok-var.ensures.grown c.known_tableau-2.ensures.count
+    c.args.self.now c.args.form.now.parts c.in_ok-var.var g.met.S.Coordinate.faithful.zero c.self.view_is c.self.invariant.sound c.in_ok-var.ensures.unit c.in_ok-var.ensures.grown c.known_tableau-2.ensures.marked
     c.reserve.ensures.asserted c.reserve.ensures.why c.reserve.ensures.values c.positions_have_values.ensures.values c.infinitesimals_move.ensures.moves c.nonbasic_form_is_itself.ensures.itself
     c.known_tableau.ensures.tableau c.known_tableau-2.ensures.tableau c.extend_values.ensures.long (subst (λ (n : ℕ). take n c.extend_values.new.values.items ≡ c.reserve.new.values.items) c.reserve.new.values.ok.0 c.extend_values.ensures.stays) (subst
     (λ (n : ℕ). (k : ℕ) → n ≤ k → k < length c.add_form.new.self.forms
-        → slice_index_or c.extend_values.new.values.items k None ≡ (if slice_index_or (marks_in c.add_form.new.self) k false then Some g.S.Scalar.origin else None))
+    → slice_index_or c.extend_values.new.values.items k None ≡ (if slice_index_or (marks_in c.add_form.new.self) k false then Some g.S.Scalar.origin else None))
     c.reserve.new.values.ok.0 c.extend_values.ensures.joined)).position ns

@@ -1,5 +1,5 @@
 -- The states are a run of check steps, each noted, and the last one tells the answer.
-use Rattle.std.proofs.Common.{rules, ◌≡◌, ℕ, Bool, true, false, List, Ok, sym, ap, ◌∙◌, subst}
+use Rattle.std.proofs.Common.{rules, ◌≡◌, ℕ, true, false, List, Ok, sym, ap, ◌∙◌, subst}
 use Rattle.nz_spec.specs.Bland as bland
 use Rattle.nz_spec.specs.Bland.{CanHelp}
 use Rattle.nz_spec.specs.Table.{Node}

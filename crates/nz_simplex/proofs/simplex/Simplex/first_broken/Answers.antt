@@ -1,15 +1,10 @@
 -- The first basic form that breaks a bound is the least; where there is none, the point is within all bounds.
-use Rattle.std.proofs.Common.{◌≡◌, ℕ, ◌<◌, List, length, Option, Some, None, sym, ap, ◌∙◌, subst}
+use Rattle.std.proofs.Common.{ℕ, ◌<◌, List, length, Option, Some, None, sym, ap, ◌∙◌, subst}
 use Rattle.std.specs.Prelude.{All, IfNone, not}
 use Rattle.std.proofs.lemmas.List.Elements.{All-from_recursion}
 use Rattle.std.proofs.lemmas.Option.{IfSome_then}
-use Rattle.nz_spec.specs.BasisMoves.{numbers}
-use Rattle.nz_spec.specs.Table.{Node}
-use Rattle.nz_simplex.specs.declared.choice.Broken.{Broken}
-use Rattle.nz_simplex.specs.Checks.{IsFeasible, IsFirstBroken}
-use Rattle.nz_simplex.specs.Standing.{half, standing, told_on}
-use Rattle.nz_simplex.specs.State.{IsOver, nonbasic_in, position_over}
-use Rattle.nz_simplex.specs.Stored.{IsPastBound, basic_numbers, first_passing, is_breaking}
+use Rattle.nz_simplex.specs.State.{nonbasic_in}
+use Rattle.nz_simplex.specs.Stored.{basic_numbers, first_passing, is_breaking}
 use Rattle.nz_simplex.proofs.Breaking.{basic_told, feasible_told, past_told}
 use Rattle.nz_simplex.proofs.Pointed.{numbers_below}
 use Rattle.nz_simplex.proofs.simplex.Simplex.first_broken.Goals as goal

@@ -1,5 +1,5 @@
 -- A nonbasic form without bounds stands at 0, and the basic forms follow.
-use Rattle.std.proofs.Common.{◌≡◌, ℕ, ◌<◌, true, List, ◌∷◌, [], length, Option, None, sym, ap, ◌∙◌, subst, arith}
+use Rattle.std.proofs.Common.{◌≡◌, ℕ, ◌<◌, List, ◌∷◌, [], length, Option, None, sym, ap, ◌∙◌, subst, arith}
 use Rattle.std.specs.Prelude.{IsSome, slice_index_or, vec_capacity}
 use Rattle.nz_simplex.specs.Moves.{IsSettled}
 use Rattle.nz_simplex.specs.State.{State, nonbasic_in}

@@ -1,12 +1,10 @@
 -- The bounds of a clash sum to a false bound on 0.
-use Rattle.std.proofs.Common.{◌≡◌, ℕ, zero, suc, ◌<◌, ◌⊎◌, inl, inr, Bool, true, false, List, [], ◌∷◌, ◌++◌, length, map, flat_map, Option, Some, None, pos, negsuc, refl, sym, ap, ap₂, ◌∙◌, subst, true≢false, arith}
+use Rattle.std.proofs.Common.{◌≡◌, ℕ, zero, suc, ◌<◌, Bool, true, false, List, [], ◌∷◌, ◌++◌, length, map, flat_map, Option, Some, None, pos, negsuc, refl, sym, ap, ap₂, ◌∙◌, subst, true≢false, arith}
 use Rattle.std.specs.Prelude.{◌==◌, ◌&&◌, fold, is_some, option_map, unwrap_or, if◌then◌else◌}
 use Rattle.std.specs.List.{AllByRecursion}
 use Rattle.std.proofs.Math.Path.{fun_ext}
 use Rattle.std.proofs.lemmas.Int.{ints}
 use Rattle.std.specs.Ordering.{ordering_then}
-use Rattle.std.specs.declared.cmp.Ordering.{Ordering}
-use Rattle.std.specs.declared.cmp.Ordering.TheVariants.{Less}
 use Rattle.std.proofs.lemmas.List.{length-map, map-append}
 use Rattle.std.proofs.lemmas.Grind.{flat_map-append}
 use Rattle.nz_lists.proofs.Elements.{AllByRecursion-append}
@@ -15,21 +13,21 @@ use Rattle.nz_fractions.specs.Fraction.{Fraction, whole, denominator, neg_ℚ, f
 use Rattle.nz_fractions.proofs.Laws.{=ℚ_refl, =ℚ_sym, =ℚ-from_same}
 use Rattle.nz_fractions.proofs.Order.{same-fraction_eq}
 use Rattle.nz_fractions.proofs.Arithmetic.{cmp-same, cmp-+ℚ}
-use Rattle.nz_spec.specs.Infinitesimal.{Infinitesimal, ◌=δ◌, infinitesimal_cmp}
+use Rattle.nz_spec.specs.Infinitesimal.{Infinitesimal, infinitesimal_cmp}
 use Rattle.nz_spec.specs.Term.{is_zero}
-use Rattle.nz_spec.specs.Basis.{Coefficients, Valuation, form_at, sum_of, weighted, worth}
+use Rattle.nz_spec.specs.Basis.{Coefficients, form_at, sum_of, weighted, worth}
 use Rattle.nz_spec.specs.BasisMoves.{numbers}
 use Rattle.nz_spec.specs.Bland as bland
-use Rattle.nz_spec.specs.Bland.{IsOutside, IsRefutation, ◌<δ◌, bound_on, sum_at, zero_infinitesimal}
+use Rattle.nz_spec.specs.Bland.{IsOutside, ◌<δ◌, bound_on, sum_at, zero_infinitesimal}
 use Rattle.nz_spec.specs.Table.{Node}
 use Rattle.nz_spec.proofs.FractionSolver.{◌∙ℚ◌, plus_left, plus_right, solve, times_left, times_right}
 use Rattle.nz_lin.specs.Forms.{parts_over}
 use Rattle.nz_trail.specs.Bounds.{other_side}
 use Rattle.nz_trail.specs.declared.limits.Side.{Side}
 use Rattle.nz_trail.specs.declared.limits.Side.TheVariants.{Lower, Upper}
-use Rattle.nz_simplex.specs.Checks.{IsRefuted, holding_side, multiplier, multipliers}
+use Rattle.nz_simplex.specs.Checks.{IsRefuted, holding_side, multiplier}
 use Rattle.nz_simplex.specs.Choices.{is_below_zero, size_of}
-use Rattle.nz_simplex.specs.Contradictions.{AreContradictory, ClashesContradict, Multiple, limit_total, total, turned}
+use Rattle.nz_simplex.specs.ClashSums.{AreContradictory, ClashesSumUp, Multiple, limit_total, total, turned}
 use Rattle.nz_simplex.specs.Standing.{Held, half, is_bound_of, is_news, is_side, reason_in, standing, standing_with}
 use Rattle.nz_simplex.specs.State.{State, nonbasic_in, value_in, position_over}
 use Rattle.nz_simplex.specs.Stored.{one_or_none}
@@ -339,5 +337,5 @@ module _ (ns : List Node) (s : State) (r : IsRefuted ns s) where
           let there = stands_back k e in
           ap (λ (o : Option Held). unwrap_or (option_map (λ (b : Held). b.value) o) (r.bounds k)) (sym is ∙ there.1) ∙ there.2
 
-pub clashes_contradict : ClashesContradict
-clashes_contradict ns s r = (multiples ns s r, told_why ns s r, contradictory ns s r)
+pub clashes_sum_up : ClashesSumUp
+clashes_sum_up ns s r = (multiples ns s r, told_why ns s r, contradictory ns s r)

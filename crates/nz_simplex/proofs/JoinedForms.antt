@@ -1,5 +1,5 @@
 -- Forms that join: units at 0, and a sum whose value isn't known yet. Nothing else changes.
-use Rattle.std.proofs.Common.{◌≡◌, ℕ, zero, suc, ◌+◌, ◌<◌, ◌≤◌, ◌⊎◌, inl, inr, Bool, true, false, List, [], ◌∷◌, ◌++◌, length, map, take, Option, Some, None, refl, sym, ap, ◌∙◌, subst, true≢false, arith, append_assoc, length-append}
+use Rattle.std.proofs.Common.{◌≡◌, ℕ, ◌+◌, ◌<◌, ◌≤◌, ◌⊎◌, inl, inr, Bool, true, false, List, [], ◌∷◌, ◌++◌, length, take, Option, Some, None, refl, sym, ap, ◌∙◌, subst, arith, append_assoc, length-append}
 use Rattle.std.specs.Prelude.{IsSome, nat_lt, is_some, option_map, slice_index_or, unwrap_or, if◌then◌else◌}
 use Rattle.std.specs.List.{AllByRecursion}
 use Rattle.std.proofs.Math.Path.{fun_ext}
@@ -10,7 +10,7 @@ use Rattle.nz_spec.specs.Infinitesimal.{Infinitesimal, ◌=δ◌}
 use Rattle.nz_spec.specs.InfinitesimalMoves.{InfinitesimalsMove}
 use Rattle.nz_spec.specs.Basis.{Coefficients, IsBasis, NonbasicFormIsItself}
 use Rattle.nz_spec.specs.Bland as bland
-use Rattle.nz_spec.specs.Bland.{HasBasis, HasValue, IsOutside, NonbasicFormsFit, Position, PositionsHaveValues, bound_on, is_nonbasic, lower_side, upper_side, sum_at, zero_infinitesimal}
+use Rattle.nz_spec.specs.Bland.{HasBasis, HasValue, IsOutside, NonbasicFormsFit, Position, PositionsHaveValues, bound_on, lower_side, upper_side, sum_at, zero_infinitesimal}
 use Rattle.nz_spec.specs.PositionMoves.{IsReadyToCheck}
 use Rattle.nz_spec.specs.Table.{Node}
 use Rattle.nz_lin.specs.declared.form.Part.{Part}
@@ -24,9 +24,9 @@ use Rattle.nz_simplex.specs.Moves.{IsJoined}
 use Rattle.nz_simplex.specs.State.{State, nonbasic_in, value_in, point_in, IsOver, IsSound, position_over}
 use Rattle.nz_simplex.specs.Stored.{state_of}
 use Rattle.nz_simplex.specs.Tabled.{marks_in, rows_in}
-use Rattle.nz_simplex.proofs.Pointed.{AreKnown, known_marks, known_row, point_marks, row_told}
+use Rattle.nz_simplex.proofs.Pointed.{AreKnown, known_marks, known_row, row_told}
 use Rattle.nz_simplex.proofs.SumsLonger.{sum_longer}
-use Rattle.nz_simplex.proofs.ValuesAfter.{equal_value, point_is_value, some_inside}
+use Rattle.nz_simplex.proofs.ValuesAfter.{point_is_value}
 
 -- ---- Numbers
 
@@ -55,8 +55,7 @@ module _ (old new : Table) (f : List Part) (joined : IsTabJoined old new f) wher
           → (rest : List (List Part)) × (new.forms ≡ old.forms ++ rest) × (length (with_units old.forms f) ≤ length new.forms)
       by_test true e = let same = ap length e in (new_units old.forms f, e, omega (arith, same))
       by_test false e =
-          let same = ap length e in
-          (
+          let same = ap length e in (
             new_units old.forms f ++ f ∷ [],
             e ∙ append_assoc old.forms (new_units old.forms f) (f ∷ []),
             omega (arith, same, length-append (with_units old.forms f) (f ∷ [])),

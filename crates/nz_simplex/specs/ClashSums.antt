@@ -41,5 +41,5 @@ pub record AreContradictory (ns : List Node) (s : State) (ms : List Multiple) : 
 -- ---- Laws
 
 -- What a clash tells are the reasons and multipliers of such bounds.
-abbrev pub ClashesContradict : Type 0
-ClashesContradict = (ns : List Node) (s : State) → IsRefuted ns s → (ms : List Multiple) × (s.why ≡ map (λ m. (m.bound.reason, m.multiplier)) ms) × AreContradictory ns s ms
+abbrev pub ClashesSumUp : Type 0
+ClashesSumUp = (ns : List Node) (s : State) → IsRefuted ns s → (ms : List Multiple) × (s.why ≡ map (λ m. (m.bound.reason, m.multiplier)) ms) × AreContradictory ns s ms
