@@ -4,7 +4,6 @@ pub mod Bounding
 pub mod Breaking
 pub mod Checking
 pub mod Choosing
-pub mod ClashTotals
 pub mod Empty
 pub mod Exchanging
 pub mod Firsts

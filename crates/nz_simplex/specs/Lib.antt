@@ -1,6 +1,5 @@
 pub mod Checks
 pub mod Choices
-pub mod ClashSums
 pub mod Faithful
 pub mod FaithfulScalars
 pub mod Moves

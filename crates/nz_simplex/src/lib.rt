@@ -6,7 +6,6 @@
 
 mod answer;
 mod choice;
-mod clashes;
 mod coordinate;
 mod helper;
 mod lists;
@@ -17,7 +16,6 @@ mod steps;
 mod values;
 
 pub use answer::{Check, Place, SimplexStop, Site};
-pub use clashes::clashes_sum_up;
 pub use coordinate::Coordinate;
 pub use simplex::{Simplex, known_state};
 pub use steps::Steps;
