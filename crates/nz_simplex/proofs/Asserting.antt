@@ -1,5 +1,5 @@
 -- One bound more: what stands then, and the position with it.
-use Rattle.std.proofs.Common.{◌≡◌, ℕ, suc, ◌<◌, ◌⊎◌, inl, inr, Bool, true, false, List, [], ◌∷◌, ◌++◌, length, map, Option, Some, None, refl, sym, ap, ◌∙◌, subst, true≢false, arith}
+use Rattle.std.proofs.Common.{◌≡◌, ℕ, suc, ◌⊎◌, inl, inr, Bool, true, false, List, [], ◌∷◌, ◌++◌, map, Option, Some, None, refl, sym, ap, ◌∙◌, subst, true≢false, arith}
 use Rattle.std.specs.Prelude.{◌==◌, ◌&&◌, Any, fold, option_map, slice_index_or, unwrap_or, if◌then◌else◌}
 use Rattle.std.specs.Ordering.{ordering_reverse}
 use Rattle.std.specs.declared.cmp.Ordering.{Ordering}
@@ -11,10 +11,10 @@ use Rattle.nz_spec.specs.Infinitesimal.{Infinitesimal, infinitesimal_cmp}
 use Rattle.nz_spec.specs.Bland.{IsOutside, Position}
 use Rattle.nz_spec.specs.PositionMoves.{bounds_with, is_outside, moved_within}
 use Rattle.nz_tab.specs.Tables.{Table}
-use Rattle.nz_trail.specs.Bounds.{AreApart, Asserted, IsExcluded, IsImplied, IsOn, IsTighter, TrailState, asserted, other_side}
+use Rattle.nz_trail.specs.Bounds.{AreApart, Asserted, IsExcluded, IsImplied, IsOn, TrailState, asserted, other_side}
 use Rattle.nz_trail.specs.declared.limits.Side.{Side}
 use Rattle.nz_trail.specs.declared.limits.Side.TheVariants.{Lower, Upper}
-use Rattle.nz_simplex.specs.Choices.{is_past_known}
+use Rattle.nz_simplex.specs.Choices.{is_moving, is_past_known}
 use Rattle.nz_simplex.specs.Standing.{Held, half, is_side, is_bound_of, is_news, standing_with, standing, bound_in, told}
 use Rattle.nz_simplex.specs.State.{State, nonbasic_in, value_in, point_in}
 use Rattle.nz_simplex.specs.Stored.{state_of}
@@ -71,17 +71,19 @@ module _ {S : Type 0} (stands_for : S → Infinitesimal) (order : S → S → Or
         by_test h found true e = refl
         by_test h (k, x, inside, at, there) false e =
             absurd
-            (news
-            (
+            (news (
               k,
               x,
               inside,
               at,
-              (there.0, λ tighter.
-                  true≢false
-                  (sym (tighter_news stands_for order total same b.side b.value x.value tighter)
-                  ∙ ap (λ (g : Held). is_outside (half b.side) (stands_for b.value) g.value) there.1
-                  ∙ e)),
+              (
+                there.0,
+                λ tighter.
+                    true≢false
+                    (sym (tighter_news stands_for order total same b.side b.value x.value tighter)
+                    ∙ ap (λ (g : Held). is_outside (half b.side) (stands_for b.value) g.value) there.1
+                    ∙ e),
+              ),
             ))
 
         by_standing : (o : Option Held) → standing (map (told stands_for) list) b.var b.side ≡ o → is_news b.side (stands_for b.value) o ≡ true
@@ -104,8 +106,7 @@ module _ {S : Type 0} (stands_for : S → Infinitesimal) (order : S → S → Or
             let found = standing_there b.var (other_side b.side) h list e in
             let x = found.1 in
             let value : other ≡ stands_for x.value = sym (ap (λ (o : Option Infinitesimal). unwrap_or o other) is) ∙ ap (λ (g : Held). g.value) (sym found.4.1) in
-            agrees
-            (
+            agrees (
               found.0,
               x,
               found.2,
@@ -122,7 +123,7 @@ swapped k v = by_test (k == v) refl
     by_test true e = equal_number v k (sym (same_number k v e))
     by_test false e = other_number v k (λ (is : v ≡ k). true≢false (sym (equal_number k v (sym is)) ∙ e))
 
-side_is : (a b : Side) → is_side a b ≡ true → b ≡ a
+pub side_is : (a b : Side) → is_side a b ≡ true → b ≡ a
 side_is Lower Lower e = refl
 side_is Lower Upper e = absurd (true≢false (sym e))
 side_is Upper Lower e = absurd (true≢false (sym e))
@@ -162,10 +163,6 @@ module _ (p : Position) (bs : List Held) (lower : p.lower ≡ bound_in bs Lower)
 
 -- ---- The point with one bound more
 
--- whether a form moves to a bound
-abbrev pub is_moving : {S : Type 0} → (S → Infinitesimal) → Table → List (Option S) → ℕ → Side → S → Bool
-is_moving stands_for tab values v side bound = slice_index_or (marks_in tab) v false && is_past_known stands_for side bound (slice_index_or values v None)
-
 module _ {S : Type 0} (stands_for : S → Infinitesimal) (side : Side) (bound : S) where
   abbrev pub within : Option Infinitesimal → Option Infinitesimal
   within o = option_map (moved_within (half side) (stands_for bound)) o
@@ -186,7 +183,7 @@ module _ {S : Type 0} (stands_for : S → Infinitesimal) (side : Side) (bound : 
     known_value : value_in here v ≡ option_map stands_for (slice_index_or values v None)
     known_value = slice_index_or-map (option_map stands_for) values v None
 
-    pub point_kept : is_moving stands_for tab values v side bound ≡ false → (k : ℕ) → point_in here k ≡ (if k == v then within (point_in here k) else point_in here k)
+    pub point_kept : is_moving stands_for (marks_in tab) values v side bound ≡ false → (k : ℕ) → point_in here k ≡ (if k == v then within (point_in here k) else point_in here k)
     point_kept still k = by_test (k == v) refl
       where
         by_mark : (b : Bool) → nonbasic_in here v ≡ b → (b && is_past_known stands_for side bound (slice_index_or values v None)) ≡ false
@@ -198,14 +195,14 @@ module _ {S : Type 0} (stands_for : S → Infinitesimal) (side : Side) (bound : 
         by_test true e = subst (λ (n : ℕ). point_in here n ≡ within (point_in here n)) (sym (same_number k v e)) (by_mark (nonbasic_in here v) refl still)
         by_test false e = refl
 
-    pub moving_marked : is_moving stands_for tab values v side bound ≡ true → nonbasic_in here v ≡ true
+    pub moving_marked : is_moving stands_for (marks_in tab) values v side bound ≡ true → nonbasic_in here v ≡ true
     moving_marked = by_mark (nonbasic_in here v)
       where
         by_mark : (b : Bool) → (b && is_past_known stands_for side bound (slice_index_or values v None)) ≡ true → b ≡ true
         by_mark true e = refl
         by_mark false e = e
 
-    pub moving_point : is_moving stands_for tab values v side bound ≡ true → within (point_in here v) ≡ Some (stands_for bound)
+    pub moving_point : is_moving stands_for (marks_in tab) values v side bound ≡ true → within (point_in here v) ≡ Some (stands_for bound)
     moving_point = by_mark (nonbasic_in here v)
       where
         by_mark : (b : Bool) → (b && is_past_known stands_for side bound (slice_index_or values v None)) ≡ true → within (if b then value_in here v else None) ≡ Some (stands_for bound)

@@ -1,17 +1,27 @@
 -- Bounds of scalars, and of the numbers that these stand for: what one more tells, and with which it clashes, is the same.
 use Rattle.std.proofs.Common.{◌≡◌, ℕ, zero, suc, ◌<◌, List, [], ◌∷◌, ◌++◌, length, map, refl, sym, ap, ◌∙◌, subst, arith}
-use Rattle.std.specs.Prelude.{All, Any, slice_index_or, ◌↔◌}
+use Rattle.std.specs.Prelude.{Result, Ok, Err, All, Any, slice_index_or, ◌↔◌}
 use Rattle.std.specs.declared.cmp.Ordering.{Ordering}
-use Rattle.std.specs.declared.cmp.Ordering.TheVariants.{Less, Greater}
 use Rattle.std.proofs.lemmas.List.{length-map, map-append, get_or_default}
 use Rattle.std.proofs.lemmas.List.Elements.{All-map, All-weaker, All-from_recursion, recursion_from_All}
 use Rattle.nz_lists.proofs.Places.{slice_index_or-map}
 use Rattle.nz_lists.proofs.Elements.{AllByRecursion-map}
 use Rattle.nz_spec.specs.Infinitesimal.{Infinitesimal, infinitesimal_cmp}
 use Rattle.nz_trail.specs.Bounds.{AreApart, Asserted, ClashesWith, IsExcluded, IsImplied, IsOn, IsTighter, IsTightest, asserted, other_side}
+use Rattle.nz_trail.specs.declared.limits.Bound.{Bound}
+use Rattle.nz_trail.specs.declared.limits.Bound.TheVariants.{Kept, Tighter, Clash}
 use Rattle.nz_trail.specs.declared.limits.Side.{Side}
 use Rattle.nz_trail.specs.declared.limits.Side.TheVariants.{Lower, Upper}
 use Rattle.nz_simplex.specs.Standing.{Held, told}
+
+-- ---- Results
+
+pub same_ok : {X E : Type 0} {x y : X} → ◌≡◌ {A = Result X E} (Ok x) (Ok y) → x ≡ y
+same_ok {X} {E} {x} {y} e = ap value e
+  where
+    value : Result X E → X
+    value (Ok z) = z
+    value (Err z) = x
 
 -- ---- Lists that are mapped
 
@@ -132,8 +142,7 @@ module _ {S : Type 0} (stands_for : S → Infinitesimal) (order : S → S → Or
         let front : All (λ e. IsOn b.var b.side e → IsTighter infinitesimal_cmp b.side (stands_for b.value) e.value) (map (told stands_for) found.0) =
         subst
         (λ (l : List Held). All (λ e. IsOn b.var b.side e → IsTighter infinitesimal_cmp b.side (stands_for b.value) e.value) l) (sym found.4)
-        (subst (λ (g : Held). All (λ e. IsOn g.var g.side e → IsTighter infinitesimal_cmp g.side g.value e.value) t.before) (sym found.5) t.first) in
-        (
+        (subst (λ (g : Held). All (λ e. IsOn g.var g.side e → IsTighter infinitesimal_cmp g.side g.value e.value) t.before) (sym found.5) t.first) in (
           b,
           found.5,
           record {
@@ -178,3 +187,22 @@ module _ {S : Type 0} (stands_for : S → Infinitesimal) (order : S → S → Or
               tightest = subst (IsTightest order list) is found.2;
               apart = apart_from b.side b.value e.value (subst (λ (x : Infinitesimal). AreApart infinitesimal_cmp b.side (stands_for b.value) x) (sym value) c.apart);
             }
+
+    -- ---- What comes of a bound
+
+    pub kept_shown : (b : Asserted S) (o : Bound) → (o ≡ Kept) ↔ IsImplied order list b → (o ≡ Kept) ↔ IsImplied infinitesimal_cmp numbers (told stands_for b)
+    kept_shown b o h = (λ e. (implied_same b).0 (h.0 e), λ i. h.1 ((implied_same b).1 i))
+
+    pub clash_shown : (b : Asserted S) (o : Bound) → ((r : ℕ) → (s : ℕ) → (o ≡ Clash r s) ↔ ((r ≡ b.reason) × ClashesWith order list b s))
+        → (r : ℕ) → (s : ℕ) → (o ≡ Clash r s) ↔ ((r ≡ b.reason) × ClashesWith infinitesimal_cmp numbers (told stands_for b) s)
+    clash_shown b o h r s = (
+      λ e. let there = (h r s).0 e in (there.0, (clash_same b s).0 there.1),
+      λ p. (h r s).1 (p.0, (clash_same b s).1 p.1),
+    )
+
+    pub tighter_shown : (b : Asserted S) (o : Bound) → (o ≡ Tighter) ↔ ((¬ IsImplied order list b) × (¬ IsExcluded order list b))
+        → (o ≡ Tighter) ↔ ((¬ IsImplied infinitesimal_cmp numbers (told stands_for b)) × (¬ IsExcluded infinitesimal_cmp numbers (told stands_for b)))
+    tighter_shown b o h = (
+      λ e. let there = h.0 e in (λ i. there.0 ((implied_same b).1 i), λ x. there.1 ((excluded_same b).1 x)),
+      λ p. h.1 (λ i. p.0 ((implied_same b).0 i), λ x. p.1 ((excluded_same b).0 x)),
+    )

@@ -1,14 +1,12 @@
 -- Which basic forms break a bound: what is tested is what the definitions say, and where none does, the point is within all bounds.
-use Rattle.std.proofs.Common.{◌≡◌, ℕ, ◌<◌, Bool, true, false, List, length, map, Option, Some, None, refl, sym, ap, ap₂, ◌∙◌, subst, true≢false}
+use Rattle.std.proofs.Common.{◌≡◌, ℕ, ◌<◌, Bool, true, false, List, length, Option, Some, None, refl, sym, ap, ◌∙◌, subst, true≢false}
 use Rattle.std.specs.Prelude.{◌||◌, IsSome, not, option_map, unwrap_or}
-use Rattle.std.specs.Ordering.{is_lt}
-use Rattle.std.specs.declared.cmp.Ordering.{Ordering}
 use Rattle.std.proofs.lemmas.List.{length-map}
 use Rattle.nz_spec.specs.Infinitesimal.{Infinitesimal, ◌=δ◌}
 use Rattle.nz_spec.specs.InfinitesimalMoves.{InfinitesimalsMove}
 use Rattle.nz_spec.specs.Bland as bland
 use Rattle.nz_spec.specs.Bland.{lower_side, upper_side, Breaks, IsOutside, PositionsHaveValues, bound_on, zero_infinitesimal}
-use Rattle.nz_spec.specs.PositionMoves.{IsReadyToCheck, is_outside}
+use Rattle.nz_spec.specs.PositionMoves.{IsReadyToCheck}
 use Rattle.nz_spec.specs.Table.{Node}
 use Rattle.nz_lin.specs.Forms.{parts_over}
 use Rattle.nz_trail.specs.declared.limits.Limit.{Limit}
@@ -18,7 +16,7 @@ use Rattle.nz_simplex.specs.Checks.{IsFeasible, IsFirstBroken}
 use Rattle.nz_simplex.specs.Standing.{Held, half, standing, bound_in}
 use Rattle.nz_simplex.specs.State.{State, nonbasic_in, value_in, IsOver, IsSound, position_over}
 use Rattle.nz_simplex.specs.Stored.{IsPastBound, basic_numbers, breaks_held, first_passing, is_breaking, is_broken}
-use Rattle.nz_simplex.proofs.Firsts.{IsLeast, first_least, first_none}
+use Rattle.nz_simplex.proofs.Firsts.{first_least, first_none}
 use Rattle.nz_simplex.proofs.Helping.{bound_told, outside_test}
 use Rattle.nz_simplex.proofs.Pointed.{point_marks}
 use Rattle.nz_simplex.proofs.Undoing.{outside_told}
@@ -46,6 +44,16 @@ half_of : (side : bland.Side) → half (side_of side) ≡ side
 unfolding side_of
 half_of lower_side = refl
 half_of upper_side = refl
+
+-- the first basic form that passes is basic
+pub basic_told : (s : State) (i : ℕ) → first_passing (is_breaking s) (basic_numbers s) ≡ Some i → (i < length s.forms) × (nonbasic_in s i ≡ false)
+basic_told s i found =
+    let least = first_least (length s.forms) (λ k. not (nonbasic_in s k)) (is_breaking s) i found in
+    (least.below, turned (nonbasic_in s i) least.is_listed)
+  where
+    turned : (b : Bool) → not b ≡ true → b ≡ false
+    turned true e = sym e
+    turned false e = refl
 
 -- ---- A position
 
@@ -87,7 +95,7 @@ module _ (s : State) (sound : IsSound s) (values : PositionsHaveValues) (law : I
       record {
         breaks = record {
           listed = subst (λ (n : ℕ). i < n) (sym (length-map s.forms (parts_over ns))) least.below;
-          basic = point_marks s sound i ∙ turned (nonbasic_in s i) least.is_listed;
+          basic = point_marks s sound i ∙ (basic_told s i found).1;
           bounded = bound_told ns s side i ∙ bounded;
           value = x;
           has = sound.right ns i x over valued;
@@ -96,10 +104,6 @@ module _ (s : State) (sound : IsSound s) (values : PositionsHaveValues) (law : I
         least = λ k below half other breaks.
             true≢false (sym (broken_tested half other k breaks) ∙ least.least k below (basic_breaks half other k breaks));
       }
-    where
-      turned : (b : Bool) → not b ≡ true → b ≡ false
-      turned true e = sym e
-      turned false e = refl
 
   pub past_told : {S : Type 0} (stands_for : S → Infinitesimal) (i : ℕ) (side : Side) (limit : Limit S) → first_passing (is_breaking s) (basic_numbers s) ≡ Some i
       → IsPastBound stands_for s i side limit → IsFirstBroken (position_over ns s) (half side) (stands_for limit.value) i

@@ -15,7 +15,7 @@ use Rattle.nz_simplex.specs.Standing.{half}
 use Rattle.nz_simplex.specs.State.{State, nonbasic_in, IsOver, IsSound, position_over}
 use Rattle.nz_simplex.specs.Stored.{first_passing, is_helping, nonbasic_numbers, state_of}
 use Rattle.nz_simplex.specs.Tabled.{rows_in}
-use Rattle.nz_simplex.proofs.Firsts.{IsLeast, first_least, first_none}
+use Rattle.nz_simplex.proofs.Firsts.{first_least, first_none}
 use Rattle.nz_simplex.proofs.Helping.{half_other, help_told, help_tested}
 use Rattle.nz_simplex.proofs.Pointed.{point_marks}
 use Rattle.nz_simplex.proofs.Stepping.{IsChosen}

@@ -121,12 +121,12 @@ module _ {S : Type 0} (stands_for : S → Infinitesimal) (tab : Table) (trail : 
 
         pub exchanged_sound : MovesKeepReady → CheckStepsKeepBasis → InfinitesimalsMove → NonbasicFormIsItself → IsTableau new_tab → length new ≡ length now
             → ((k : ℕ) → k < length new_tab.forms → slice_index_or (marks_in new_tab) k false ≡ false
-                → IsFollowed stands_for (slice_index_or now i None) target (rows_in new_tab k i) (slice_index_or now k None) (slice_index_or new k None))
+            → IsFollowed stands_for (slice_index_or now i None) target (rows_in new_tab k i) (slice_index_or now k None) (slice_index_or new k None))
             → IsSound there
         exchanged_sound moves kept infinitesimals itself new_tableau long follows =
             sound_after stands_for tab new_tab trail values new why i j target pivoted moved (subst Stays is_now stays) sound side chosen moves kept infinitesimals itself new_tableau
             (long ∙ ap length is_now ∙ sym (length-map values (option_map stands_for)) ∙ sound.valued ∙ ap length (sym pivoted.forms))
             (subst
             (λ (vs : List (Option S)). (k : ℕ) → k < length new_tab.forms → slice_index_or (marks_in new_tab) k false ≡ false
-                → IsFollowed stands_for (slice_index_or vs i None) target (rows_in new_tab k i) (slice_index_or vs k None) (slice_index_or new k None))
+            → IsFollowed stands_for (slice_index_or vs i None) target (rows_in new_tab k i) (slice_index_or vs k None) (slice_index_or new k None))
             is_now follows)

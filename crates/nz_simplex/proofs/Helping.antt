@@ -16,7 +16,7 @@ use Rattle.nz_trail.specs.Bounds.{TrailState, other_side}
 use Rattle.nz_trail.specs.declared.limits.Limit.{Limit}
 use Rattle.nz_trail.specs.declared.limits.Side.{Side}
 use Rattle.nz_trail.specs.declared.limits.Side.TheVariants.{Lower, Upper}
-use Rattle.nz_simplex.specs.Choices.{has_room, is_below_zero, numbers_in, way_of}
+use Rattle.nz_simplex.specs.Choices.{has_room, is_below_zero, numbers_in}
 use Rattle.nz_simplex.specs.Standing.{Held, half, standing, bound_in, told, told_on}
 use Rattle.nz_simplex.specs.State.{State, nonbasic_in, point_in, IsOver, IsSound, position_over}
 use Rattle.nz_simplex.specs.Stored.{has_room_in, is_helping, state_of}

@@ -2,15 +2,17 @@ pub mod Asserting
 pub mod Bounded
 pub mod Bounding
 pub mod Breaking
+pub mod Checking
 pub mod Choosing
 pub mod Contradicting
 pub mod Empty
 pub mod Exchanging
 pub mod Firsts
 pub mod Following
+pub mod Grown
 pub mod Helping
-pub mod Joined
-pub mod Joining
+pub mod JoinedForms
+pub mod JoinedPositions
 pub mod Moving
 pub mod Places
 pub mod Pointed
@@ -23,6 +25,7 @@ pub mod Signs
 pub mod Standings
 pub mod Stepping
 pub mod SumsInOrder
+pub mod SumsLonger
 pub mod Totals
 pub mod Undoing
 pub mod ValuesAfter

@@ -1,5 +1,5 @@
 -- A nonbasic form moves, and the values of the basic forms follow it. Bounds may change too, as values don't depend on them.
-use Rattle.std.proofs.Common.{◌≡◌, ℕ, ◌<◌, ◌⊎◌, inl, inr, Bool, true, false, List, length, map, Option, Some, None, refl, sym, ap, ◌∙◌, subst, true≢false}
+use Rattle.std.proofs.Common.{◌≡◌, ℕ, ◌<◌, ◌⊎◌, inl, inr, Bool, true, false, List, length, Option, Some, None, refl, sym, ap, ◌∙◌, subst, true≢false}
 use Rattle.std.specs.Prelude.{◌==◌, ◌≢◌, IsSome, option_map, slice_index_or, unwrap_or, if◌then◌else◌}
 use Rattle.std.proofs.Math.Path.{fun_ext}
 use Rattle.std.proofs.lemmas.List.{length-map}
@@ -82,7 +82,7 @@ module _ {S : Type 0} (stands_for : S → Infinitesimal) (tab : Table) (trail la
   module _ (sums : SumMoves) (values : PositionsHaveValues) (law : InfinitesimalsMove) (itself : NonbasicFormIsItself) (tableau : IsTableau tab)
       (long : length new ≡ length tab.forms)
       (follows : (k : ℕ) → k < length tab.forms → slice_index_or (marks_in tab) k false ≡ false
-          → IsFollowed stands_for (slice_index_or old v None) target (rows_in tab k v) (slice_index_or old k None) (slice_index_or new k None)) where
+      → IsFollowed stands_for (slice_index_or old v None) target (rows_in tab k v) (slice_index_or old k None) (slice_index_or new k None)) where
     module _ (ns : List Node) (over : IsOver ns there) where
       abbrev was : IsOver ns here
       was = over_before ns over

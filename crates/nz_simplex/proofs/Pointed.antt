@@ -7,7 +7,6 @@ use Rattle.std.proofs.lemmas.List.Elements.{All-from_recursion}
 use Rattle.nz_lists.proofs.Places.{slice_index_or-map}
 use Rattle.nz_fractions.specs.Fraction.{Fraction, Operation, first_wide}
 use Rattle.nz_spec.specs.Infinitesimal.{Infinitesimal, ◌=δ◌}
-use Rattle.nz_spec.specs.Computation.{Computation}
 use Rattle.nz_spec.specs.Basis.{Coefficients, IsRow}
 use Rattle.nz_spec.specs.BasisMoves.{AreRows, numbers}
 use Rattle.nz_spec.specs.Bland as bland

@@ -1,5 +1,5 @@
 -- Nonbasic forms without bounds settle at 0.
-use Rattle.std.proofs.Common.{◌≡◌, ℕ, ◌<◌, ◌⊎◌, inl, inr, Bool, true, false, List, [], ◌∷◌, ◌++◌, length, map, Option, Some, None, refl, sym, ap, ◌∙◌, subst, true≢false}
+use Rattle.std.proofs.Common.{◌≡◌, ℕ, zero, suc, arith, ◌<◌, ◌⊎◌, inl, inr, Bool, true, false, List, [], ◌∷◌, ◌++◌, length, Option, Some, None, refl, sym, ap, ◌∙◌, subst, true≢false}
 use Rattle.std.specs.Prelude.{◌==◌, ◌≢◌, ◌||◌, option_map, slice_index_or, unwrap_or, is_some, if◌then◌else◌}
 use Rattle.std.proofs.lemmas.List.{length-map}
 use Rattle.nz_fractions.specs.Fraction.{Fraction}
@@ -7,7 +7,7 @@ use Rattle.nz_spec.specs.Infinitesimal.{Infinitesimal}
 use Rattle.nz_spec.specs.InfinitesimalMoves.{InfinitesimalsMove}
 use Rattle.nz_spec.specs.Basis.{NonbasicFormIsItself}
 use Rattle.nz_spec.specs.Bland as bland
-use Rattle.nz_spec.specs.Bland.{IsOutside, NonbasicFormsFit, Position, PositionsHaveValues, SumMoves, bound_on, is_nonbasic, lower_side, upper_side, zero_infinitesimal}
+use Rattle.nz_spec.specs.Bland.{IsOutside, NonbasicFormsFit, PositionsHaveValues, SumMoves, bound_on, lower_side, upper_side, zero_infinitesimal}
 use Rattle.nz_spec.specs.Table.{Node}
 use Rattle.nz_tab.specs.Tables.{IsTableau, Table}
 use Rattle.nz_trail.specs.Bounds.{TrailState}
@@ -16,11 +16,11 @@ use Rattle.nz_simplex.specs.Choices.{IsFollowed}
 use Rattle.nz_simplex.specs.Checks.{IsRenewed}
 use Rattle.nz_simplex.specs.Moves.{IsSettled, is_among}
 use Rattle.nz_simplex.specs.Standing.{Held, standing}
-use Rattle.nz_simplex.specs.State.{State, nonbasic_in, value_in, point_in, IsOver, IsSound, position_over}
+use Rattle.nz_simplex.specs.State.{State, nonbasic_in, value_in, IsOver, IsSound, position_over}
 use Rattle.nz_simplex.specs.Stored.{state_of}
 use Rattle.nz_simplex.specs.Tabled.{marks_in, rows_in}
-use Rattle.nz_simplex.proofs.Moving.{basis_there, known_there, marks_same, over_before, point_stays, right_there, value_moved, value_stays}
-use Rattle.nz_simplex.proofs.ValuesAfter.{equal_number, one_or_other, other_number, same_number}
+use Rattle.nz_simplex.proofs.Moving.{basis_there, known_there, over_before, point_stays, right_there, value_moved, value_stays}
+use Rattle.nz_simplex.proofs.ValuesAfter.{equal_number, one_or_other, same_number}
 
 -- ---- One form
 
@@ -35,7 +35,7 @@ module _ {S : Type 0} (stands_for : S → Infinitesimal) (tab : Table) (trail : 
   there = state_of stands_for tab trail new why
 
   pub settled_one : stands_for target ≡ zero_infinitesimal → IsSettled here there (v ∷ [])
-  settled_one zero = record { forms = refl; marks = refl; asserted = refl; why = refl; point = point }
+  settled_one at_zero = record { forms = refl; marks = refl; asserted = refl; why = refl; point = point }
     where
       point : (k : ℕ) → nonbasic_in here k ≡ true → value_in there k ≡ (if is_among k (v ∷ []) then Some zero_infinitesimal else value_in here k)
       point k e = by_test (k == v) refl
@@ -44,7 +44,7 @@ module _ {S : Type 0} (stands_for : S → Infinitesimal) (tab : Table) (trail : 
           by_test true t =
               ap (value_in there) (same_number k v t)
               ∙ value_moved stands_for tab trail trail old new why v target moved stays sound nonbasic
-              ∙ ap Some zero
+              ∙ ap Some at_zero
           by_test false t =
               value_stays stands_for tab trail trail old new why v target moved stays sound nonbasic k (λ (same : k ≡ v). true≢false (sym (equal_number k v same) ∙ t)) e
 
@@ -73,7 +73,7 @@ module _ {S : Type 0} (stands_for : S → Infinitesimal) (tab : Table) (trail : 
 
     pub sound_settled : SumMoves → PositionsHaveValues → InfinitesimalsMove → NonbasicFormIsItself → IsTableau tab → length new ≡ length tab.forms
         → ((k : ℕ) → k < length tab.forms → slice_index_or (marks_in tab) k false ≡ false
-            → IsFollowed stands_for (slice_index_or old v None) target (rows_in tab k v) (slice_index_or old k None) (slice_index_or new k None))
+        → IsFollowed stands_for (slice_index_or old v None) target (rows_in tab k v) (slice_index_or old k None) (slice_index_or new k None))
         → IsSound there
     sound_settled sums values infinitesimals itself tableau long follows = record {
       marked = sound.marked;
@@ -90,6 +90,47 @@ module _ {S : Type 0} (stands_for : S → Infinitesimal) (tab : Table) (trail : 
       right = λ ns k x over e.
           right_there stands_for tab trail trail old new why v target moved stays sound nonbasic sums values infinitesimals itself tableau long follows ns over k x e;
     }
+
+-- what holds of the simplex then, by what is shown of it
+pub record IsSettledSoundly (old new : State) (vars : List ℕ) : Type 0 where
+  pub settled : IsSettled old new vars
+  pub sound : IsSound new
+
+pub settled_shown : {S : Type 0} (stands_for : S → Infinitesimal) (tab : Table) (trail : TrailState S) (old now new : List (Option S)) (why : List (ℕ × Fraction)) (seen : State) (v : ℕ) (target : S)
+    → state_of stands_for tab trail old why ≡ seen → IsSound (state_of stands_for tab trail old why) → nonbasic_in seen v ≡ true → standing seen.asserted v Lower ≡ None → standing seen.asserted v Upper ≡ None
+    → stands_for target ≡ zero_infinitesimal → SumMoves → PositionsHaveValues → InfinitesimalsMove → NonbasicFormIsItself → IsTableau tab → now ≡ old → length new ≡ length now
+    → slice_index_or new v None ≡ Some target
+    → ((k : ℕ) → k ≢ v → slice_index_or (marks_in tab) k false ≡ true → slice_index_or new k None ≡ slice_index_or now k None)
+    → ((k : ℕ) → k < length tab.forms → slice_index_or (marks_in tab) k false ≡ false
+    → IsFollowed stands_for (slice_index_or now v None) target (rows_in tab k v) (slice_index_or now k None) (slice_index_or new k None))
+    → IsSettledSoundly seen (state_of stands_for tab trail new why) (v ∷ [])
+settled_shown {S} stands_for tab trail old now new why seen v target view sound nonbasic lower upper at_zero sums values infinitesimals itself tableau is_now long moved stays follows =
+    let here : State = state_of stands_for tab trail old why in
+    let marked : nonbasic_in here v ≡ true = ap (λ (s : State). nonbasic_in s v) view ∙ nonbasic in
+    let stays_here : (k : ℕ) → k ≢ v → slice_index_or (marks_in tab) k false ≡ true → slice_index_or new k None ≡ slice_index_or old k None =
+    subst (λ (vs : List (Option S)). (k : ℕ) → k ≢ v → slice_index_or (marks_in tab) k false ≡ true → slice_index_or new k None ≡ slice_index_or vs k None) is_now stays in
+    let follows_here : (k : ℕ) → k < length tab.forms → slice_index_or (marks_in tab) k false ≡ false
+    → IsFollowed stands_for (slice_index_or old v None) target (rows_in tab k v) (slice_index_or old k None) (slice_index_or new k None) =
+    subst
+    (λ (vs : List (Option S)). (k : ℕ) → k < length tab.forms → slice_index_or (marks_in tab) k false ≡ false
+    → IsFollowed stands_for (slice_index_or vs v None) target (rows_in tab k v) (slice_index_or vs k None) (slice_index_or new k None))
+    is_now follows in
+    record {
+      settled = subst (λ (s : State). IsSettled s (state_of stands_for tab trail new why) (v ∷ [])) view (settled_one stands_for tab trail old new why v target moved stays_here sound marked at_zero);
+      sound =
+          sound_settled stands_for tab trail old new why v target moved stays_here sound marked
+          (ap (λ (s : State). standing s.asserted v Lower) view ∙ lower)
+          (ap (λ (s : State). standing s.asserted v Upper) view ∙ upper)
+          sums values infinitesimals itself tableau
+          (long ∙ ap length is_now ∙ sym (length-map old (option_map stands_for)) ∙ sound.valued)
+          follows_here;
+    }
+
+-- what is marked is in the list
+pub marked_inside : (marks : List Bool) (k : ℕ) → slice_index_or marks k false ≡ true → k < length marks
+marked_inside [] k e = absurd (true≢false (sym e))
+marked_inside (m ∷ ms) zero e = omega arith
+marked_inside (m ∷ ms) (suc k) e = let rest = marked_inside ms k e in omega (arith, rest)
 
 -- ---- One form after another
 

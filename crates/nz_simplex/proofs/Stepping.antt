@@ -1,5 +1,5 @@
 -- A check step: the form that leaves stands at its bound, the point is otherwise as it was, and the values of the others follow.
-use Rattle.std.proofs.Common.{◌≡◌, ℕ, ◌<◌, ◌⊎◌, inl, inr, Bool, true, false, List, length, map, get_or, Option, Some, None, refl, sym, ap, ◌∙◌, subst, true≢false, arith}
+use Rattle.std.proofs.Common.{◌≡◌, ℕ, ◌<◌, ◌⊎◌, inl, inr, Bool, true, false, List, length, map, Option, Some, None, refl, sym, ap, ◌∙◌, subst, true≢false}
 use Rattle.std.specs.Prelude.{◌==◌, ◌≢◌, IsSome, option_map, slice_index_or, if◌then◌else◌}
 use Rattle.std.specs.List.{AllByRecursion}
 use Rattle.std.proofs.Math.Path.{fun_ext}
@@ -12,7 +12,7 @@ use Rattle.nz_spec.specs.InfinitesimalMoves.{InfinitesimalsMove}
 use Rattle.nz_spec.specs.Basis.{NonbasicFormIsItself}
 use Rattle.nz_spec.specs.BasisMoves.{exchanged}
 use Rattle.nz_spec.specs.Bland as bland
-use Rattle.nz_spec.specs.Bland.{Point, Position, HasBasis, HasValue, CanHelp, CheckStepsKeepBasis, IsCheckStep, exchanged_point, is_nonbasic}
+use Rattle.nz_spec.specs.Bland.{Point, Position, HasBasis, HasValue, CanHelp, CheckStepsKeepBasis, IsCheckStep, exchanged_point}
 use Rattle.nz_spec.specs.Form as spec
 use Rattle.nz_spec.specs.Pivots.{MayPivot, pivot}
 use Rattle.nz_spec.specs.PositionMoves.{MovesKeepReady}
@@ -140,7 +140,7 @@ module _ {S : Type 0} (stands_for : S → Infinitesimal) (old_tab new_tab : Tabl
     module _ (moves : MovesKeepReady) (kept : CheckStepsKeepBasis) (law : InfinitesimalsMove) (itself : NonbasicFormIsItself) (tableau : IsTableau new_tab)
         (long : length new ≡ length new_tab.forms)
         (follows : (k : ℕ) → k < length new_tab.forms → slice_index_or (marks_in new_tab) k false ≡ false
-            → IsFollowed stands_for (slice_index_or old i None) target (rows_in new_tab k i) (slice_index_or old k None) (slice_index_or new k None)) where
+        → IsFollowed stands_for (slice_index_or old i None) target (rows_in new_tab k i) (slice_index_or old k None) (slice_index_or new k None)) where
       module _ (ns : List Node) (over : IsOver ns there) where
         abbrev before : Position
         before = position_over ns here

@@ -1,5 +1,5 @@
 -- What a check does and answers.
-use Rattle.std.specs.Prelude.{◌≡◌, ℕ, ◌<◌, Bool, true, false, List, [], ◌∷◌, length, flat_map, fold, pos, Option, Some, None, IsSome, Result, Ok, Err, if◌then◌else◌}
+use Rattle.std.specs.Prelude.{◌≡◌, ℕ, ◌<◌, false, List, [], ◌∷◌, length, flat_map, fold, pos, Option, Some, IsSome, Result, Ok, Err, if◌then◌else◌}
 use Rattle.nz_fractions.specs.Fraction.{Fraction, whole, first_wide, Operation}
 use Rattle.nz_spec.specs.Infinitesimal.{Infinitesimal}
 use Rattle.nz_spec.specs.Term.{is_zero}

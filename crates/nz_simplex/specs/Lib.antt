@@ -4,7 +4,6 @@ pub mod Contradictions
 pub mod Faithful
 pub mod FaithfulScalars
 pub mod Moves
-pub mod Room
 pub mod SaidBounds
 pub mod Standing
 pub mod State

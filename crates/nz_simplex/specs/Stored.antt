@@ -45,6 +45,14 @@ pub record IsStored (s : State) (vars : ℕ) (basic nonbasic : List ℕ) (basic_
   pub room_for_nonbasic : length s.forms ≤ nonbasic_room
   pub room_for_why : length s.forms ≤ why_room
 
+-- so many forms are variables of the trail, and what is kept of each has its room
+pub record HasRoomFor (count vars values basic nonbasic why : ℕ) : Type 0 where
+  pub for_bounds : count ≤ vars
+  pub for_values : count ≤ values
+  pub for_basic : count ≤ basic
+  pub for_nonbasic : count ≤ nonbasic
+  pub for_why : count ≤ why
+
 -- the reason and the multiplier of a nonbasic form with this coefficient, where it isn't 0 and a bound holds the form back
 abbrev pub held_by : List Held → Side → ℕ → Fraction → Option (ℕ × Fraction)
 held_by bs side k c = if is_zero c then None else option_map (λ (b : Held). (b.reason, size_of c)) (standing bs k (holding_side side c))

@@ -1,37 +1,36 @@
 //! The simplex: forms over a basis, their bounds, and the point.
-ghost use Rattle.std.specs.Prelude.{◌≡◌, ◌≢◌, ◌↔◌, ◌<◌, ◌≤◌, ◌+◌, ◌++◌, ◌&&◌, if◌then◌else◌, ℕ, [], ◌∷◌, List, All, IfOk, OnOk, OnErr, IfErr, IfSome, IfNone, IsSome, IsTrue, is_some, None, Some, Ok, Err, false, true, not, pos, flat_map, length, map, option_map, slice_index_or, take, vec_capacity, vec_len};
+ghost use Rattle.std.specs.Prelude.{◌≡◌, ◌≢◌, ◌↔◌, ◌<◌, ◌≤◌, ℕ, [], ◌∷◌, List, All, IfOk, OnOk, OnErr, IfErr, IfSome, IfNone, IsSome, IsTrue, is_some, None, Some, Ok, Err, false, true, not, length, option_map, slice_index_or, take, vec_capacity};
 ghost use Rattle.nz_lin.specs.Forms.{AreUnits};
 ghost use Rattle.nz_simplex.specs.Checks.{Answers, IsFeasible, IsFirstBroken, IsRefuted, IsRenewed, IsStepped, Renews, StopsAt};
-ghost use Rattle.nz_simplex.specs.Choices.{is_past_known};
-ghost use Rattle.nz_simplex.specs.Stored.{IsPastBound, first_passing, held_back, held_by, is_breaking, is_helping, one_or_none};
-ghost use Rattle.nz_simplex.specs.Room.{HasRoomFor};
+ghost use Rattle.nz_simplex.specs.Stored.{IsPastBound, first_passing, is_breaking};
 ghost use Rattle.nz_simplex.specs.Moves.{IsBounded, IsJoined, IsSettled, JoinStops, joined_over};
-ghost use Rattle.nz_simplex.specs.Standing.{half, standing, told, told_on};
+ghost use Rattle.nz_simplex.specs.Standing.{half, standing, told_on};
 ghost use Rattle.nz_simplex.specs.State.{IsOver, IsSound, empty_state, nonbasic_in, position_over, value_in};
 ghost use Rattle.nz_simplex.specs.Stored.{basic_numbers};
-ghost use Rattle.nz_simplex.specs.Tabled.{coefficients_in, marks_in, rows_in};
+ghost use Rattle.nz_simplex.specs.Tabled.{coefficients_in};
 ghost use Rattle.nz_spec.specs.Bland as bland;
 ghost use Rattle.nz_spec.specs.Bland.{Breaks, CanHelp, HasValue, IsCheckStep, is_nonbasic};
-ghost use Rattle.nz_spec.specs.BasisMoves.{numbers};
-ghost use Rattle.nz_spec.specs.Basis.{Coefficients, IsRow};
-ghost use Rattle.nz_spec.specs.Infinitesimal.{Infinitesimal, infinitesimal_cmp};
-ghost use Rattle.nz_fractions.specs.Fraction.{whole};
+ghost use Rattle.nz_spec.specs.Basis.{IsRow};
+ghost use Rattle.nz_spec.specs.Infinitesimal.{infinitesimal_cmp};
 ghost use Rattle.nz_spec.specs.Table.{Node};
-ghost use Rattle.nz_spec.specs.Term.{is_zero};
-ghost use Rattle.nz_trail.specs.Bounds.{ClashesWith, IsExcluded, IsImplied, asserted, other_side};
+ghost use Rattle.nz_trail.specs.Bounds.{ClashesWith, IsExcluded, IsImplied, asserted};
 ghost use Rattle.nz_trail.specs.declared.limits.Side.TheVariants.{Lower, Upper};
 
 use crate::answer::{Check, Place, SimplexStop, Site};
-use crate::choice::{Broken, broken_bound, has_room, is_outside, opposite, size, way};
+use crate::choice::{Broken, broken_bound};
 use crate::coordinate::Coordinate;
+use crate::helper::first_helper;
+use crate::lists::{extend_values, list_basic, list_nonbasic};
+use crate::multipliers::put_multipliers;
+use crate::room::{count_with, reserve};
 use crate::steps::Steps;
-use crate::values::{move_to, row_value};
+use crate::values::{move_to, move_within, row_value};
 use nz_base::Memory;
 use nz_frac::{Frac, Wide};
 use nz_lin::{Form, Part};
 use nz_spec::basis::{
-    check_steps_keep_basis, moves_keep_ready, nonbasic_form_is_itself,
-    positions_have_values, rows_tell, sum_moves, value_is_computed,
+    check_steps_keep_basis, moves_keep_ready, nonbasic_form_is_itself, positions_have_values,
+    rows_tell, sum_moves, value_is_computed,
 };
 use nz_spec::computation::infinitesimals_move;
 use nz_spec::pivots::pivots_are_runs;
@@ -188,17 +187,17 @@ impl<S: Coordinate> Simplex<S> {
         ensures unchanged { OnErr result (self.new ≡ self.old) }
     {
         positions_have_values();
-        nonbasic_form_is_itself();
         infinitesimals_move();
+        nonbasic_form_is_itself();
         known_tableau(&self.tab);
-        let count = self.count_with(form.parts().len())?;
-        make_room(
-            count,
+        let count = count_with(self.tab.len(), form.parts().len())?;
+        reserve(
             &mut self.trail,
             &mut self.values,
             &mut self.basic,
             &mut self.nonbasic,
             &mut self.why,
+            count,
         )?;
         let var = self.tab.add_form(form)?;
         known_tableau(&self.tab);
@@ -206,14 +205,6 @@ impl<S: Coordinate> Simplex<S> {
         list_basic(&self.tab, &mut self.basic);
         list_nonbasic(&self.tab, &mut self.nonbasic);
         Ok(var)
-    }
-
-    /// How many forms there may be when a form of so many parts has joined, of which each may be a new unit.
-    fn count_with(&self, parts: usize) -> Result<usize, Memory>
-        ensures count { IfOk result (λ n. n ≡ length self.now.forms + parts + 1) }
-    {
-        let more = parts.checked_add(1).ok_or(Memory)?;
-        self.tab.len().checked_add(more).ok_or(Memory)
     }
 
     /// Asserts a bound of a form. A nonbasic form that is outside of it moves to it, and the values of the basic forms follow.
@@ -240,13 +231,17 @@ impl<S: Coordinate> Simplex<S> {
     {
         moves_keep_ready();
         sum_moves();
-        let outcome = self.trail.assert_bound(var, side, value, reason)?;
-        if outcome == Bound::Tighter
-            && is_to_move(&self.tab, self.values.as_slice(), var, side, value)
-        {
-            move_to(&self.tab, self.values.as_mut_slice(), var, value);
+        positions_have_values();
+        infinitesimals_move();
+        nonbasic_form_is_itself();
+        known_tableau(&self.tab);
+        match self.trail.assert_bound(var, side, value, reason)? {
+            Bound::Tighter => {
+                move_within(&self.tab, self.values.as_mut_slice(), var, side, value);
+                Ok(Bound::Tighter)
+            }
+            outcome => Ok(outcome),
         }
-        Ok(outcome)
     }
 
     /// Moves these nonbasic forms, which have no bounds, to 0.
@@ -275,13 +270,18 @@ impl<S: Coordinate> Simplex<S> {
         ensures settled { IsSettled self.old self.new (var ∷ []) }
     {
         sum_moves();
+        positions_have_values();
+        infinitesimals_move();
+        nonbasic_form_is_itself();
+        known_tableau(&self.tab);
         move_to(&self.tab, self.values.as_mut_slice(), var, S::zero());
     }
 
     /// Computes the values that aren't known from their rows.
     fn renew(&mut self) -> Result<(), SimplexStop>
         ensures renewed { IsRenewed self.old self.new }
-        ensures answer { (ns : List Node) → IsOver ns self.new → Renews ns self.new result }
+        ensures valued { OnOk result ((k : ℕ) → k < length self.new.forms → IsSome (value_in self.new k)) }
+        ensures answer { (ns : List Node) → IsOver ns self.new → IfErr result (λ e. StopsAt ns self.new e) }
     {
         for var in 0..self.values.len() {
             self.renew_one(var)?;
@@ -341,7 +341,6 @@ impl<S: Coordinate> Simplex<S> {
         ensures why { result ≢ Ok Check.Clash → self.new.why ≡ self.old.why }
     {
         pivots_are_runs();
-        positions_have_values();
         self.renew()?;
         while let Some(broken) = self.first_broken() {
             if !self.step(&broken, work)? {
@@ -356,8 +355,10 @@ impl<S: Coordinate> Simplex<S> {
     /// The least-numbered basic form that breaks a bound.
     fn first_broken(&self) -> Option<Broken<S>>
         requires valued { (k : ℕ) → k < length self.now.forms → IsSome (value_in self.now k) }
-        ensures found { IfSome result (λ b. (standing self.now.asserted b.var b.side ≡ Some (told_on S.stands_for b.var b.side b.limit))
-            × ((ns : List Node) → IsOver ns self.now → IsFirstBroken (position_over ns self.now) (half b.side) (S.stands_for b.limit.value) b.var)) }
+        ensures known { IfSome result (λ b. b.var < length self.now.forms) }
+        ensures basic { IfSome result (λ b. nonbasic_in self.now b.var ≡ false) }
+        ensures stands { IfSome result (λ b. standing self.now.asserted b.var b.side ≡ Some (told_on S.stands_for b.var b.side b.limit)) }
+        ensures broken { IfSome result (λ b. (ns : List Node) → IsOver ns self.now → IsFirstBroken (position_over ns self.now) (half b.side) (S.stands_for b.limit.value) b.var) }
         ensures none { IfNone result ((ns : List Node) → IsOver ns self.now → IsFeasible ns self.now) }
     {
         positions_have_values();
@@ -405,6 +406,7 @@ impl<S: Coordinate> Simplex<S> {
         ensures taken { result ≡ Ok true → (j : ℕ) × (work.new ≡ W.with_step work.old broken.now.var j)
             × ((ns : List Node) → IsOver ns self.old → IsCheckStep (position_over ns self.old) (position_over ns self.new) broken.now.var j) }
         ensures helpless { result ≡ Ok false → (ns : List Node) → IsOver ns self.old → (j : ℕ) → CanHelp (position_over ns self.old) broken.now.var (bland.other_side (half broken.now.side)) j → ⊥ }
+        ensures paid { result ≡ Ok true → W.units_left work.new < W.units_left work.old }
         ensures forms { self.new.forms ≡ self.old.forms }
         ensures asserted { self.new.asserted ≡ self.old.asserted }
         ensures why { self.new.why ≡ self.old.why }
@@ -477,231 +479,6 @@ fn exchange_stop(wide: Wide, leaves: Var, enters: Var) -> SimplexStop
         wide,
         site: Site::Row { leaves, enters },
     })
-}
-
-/// The least-numbered of these nonbasic forms that can take a form back to its bound.
-fn first_helper<S: Coordinate>(
-    tab: &Tab,
-    trail: &Trail<S>,
-    nonbasic: &[Var],
-    values: &[Option<S>],
-    broken: &Broken<S>,
-) -> Option<Var>
-    requires known { broken.now.var < length tab.now.forms }
-    requires basic { slice_index_or (marks_in tab.now) broken.now.var false ≡ false }
-    requires listed { All (λ k. k < trail.now.vars) nonbasic.now }
-    requires held { All (λ k. k < length values.now) nonbasic.now }
-    requires valued { All (λ k. IsSome (slice_index_or values.now k None)) nonbasic.now }
-    ensures first { result ≡ first_passing (λ k. is_helping S.stands_for trail.now.asserted values.now (other_side broken.now.side) k (rows_in tab.now broken.now.var k)) nonbasic.now }
-{
-    let row = tab.row(broken.var);
-    for var in nonbasic {
-        if can_help(trail, values, *var, opposite(broken.side), row.at(*var)) {
-            return Some(*var);
-        }
-    }
-    None
-}
-
-/// Whether a nonbasic form can take the form of a row, in which it has this coefficient, towards a side.
-fn can_help<S: Coordinate>(
-    trail: &Trail<S>,
-    values: &[Option<S>],
-    var: Var,
-    side: Side,
-    coefficient: Frac,
-) -> bool
-    requires known { var < trail.now.vars }
-    requires held { var < length values.now }
-    requires valued { IsSome (slice_index_or values.now var None) }
-    ensures helps { result ≡ is_helping S.stands_for trail.now.asserted values.now side var coefficient }
-{
-    match way(side, coefficient) {
-        Some(side) => has_room(side, bound_of(trail, side, var), values[var].unwrap()),
-        None => false,
-    }
-}
-
-/// The bounds that keep a form from its bound, with their multipliers, in place of what was there.
-fn put_multipliers<S: Coordinate>(
-    tab: &Tab,
-    trail: &Trail<S>,
-    nonbasic: &[Var],
-    broken: &Broken<S>,
-    why: &mut Vec<(Reason, Frac)>,
-)
-    requires known { broken.now.var < length tab.now.forms }
-    requires basic { slice_index_or (marks_in tab.now) broken.now.var false ≡ false }
-    requires listed { All (λ k. k < trail.now.vars) nonbasic.now }
-    requires room { length nonbasic.now < vec_capacity why.old }
-    ensures capacity { vec_capacity why.new ≡ vec_capacity why.old }
-    ensures put { why.new.items ≡ (broken.now.limit.reason, whole (pos 1)) ∷ flat_map (held_back (map (told S.stands_for) trail.now.asserted) broken.now.side (rows_in tab.now broken.now.var)) nonbasic.now }
-{
-    why.clear();
-    why.push_reserved((broken.limit.reason, Frac::whole(1)));
-    let row = tab.row(broken.var);
-    for var in nonbasic {
-        put_multiplier(why, multiplier_of(trail, *var, broken.side, row.at(*var)));
-    }
-}
-
-/// Puts a multiplier behind others, where there is one.
-fn put_multiplier(why: &mut Vec<(Reason, Frac)>, multiplier: Option<(Reason, Frac)>)
-    requires room { vec_len why.old < vec_capacity why.old }
-    ensures put { why.new.items ≡ why.old.items ++ one_or_none multiplier }
-    ensures len { vec_len why.new ≤ vec_len why.old + 1 }
-    ensures capacity { vec_capacity why.new ≡ vec_capacity why.old }
-{
-    if let Some(multiplier) = multiplier {
-        why.push_reserved(multiplier);
-    }
-}
-
-/// The reason and the multiplier of the bound that keeps a nonbasic form from helping, where the form of the row, in which it
-/// has this coefficient, breaks its bound of a side. None where the coefficient is 0.
-fn multiplier_of<S: Coordinate>(
-    trail: &Trail<S>,
-    var: Var,
-    side: Side,
-    coefficient: Frac,
-) -> Option<(Reason, Frac)>
-    requires known { var < trail.now.vars }
-    ensures held { result ≡ held_by (map (told S.stands_for) trail.now.asserted) side var coefficient }
-{
-    let towards = way(opposite(side), coefficient)?;
-    let limit = bound_of(trail, towards, var)?;
-    Some((limit.reason, size(coefficient)))
-}
-
-/// The bound that stands of a variable on a side.
-fn bound_of<S: Coordinate>(trail: &Trail<S>, side: Side, var: Var) -> Option<Limit<S>>
-    requires known { var < trail.now.vars }
-    ensures bound { option_map (told_on S.stands_for var side) result ≡ standing (map (told S.stands_for) trail.now.asserted) var side }
-{
-    let (lower, upper) = trail.bounds(var);
-    match side {
-        Side::Lower => lower,
-        Side::Upper => upper,
-    }
-}
-
-/// Makes room for so many forms, and a variable for each.
-fn make_room<S: Coordinate>(
-    count: usize,
-    trail: &mut Trail<S>,
-    values: &mut Vec<Option<S>>,
-    basic: &mut Vec<Var>,
-    nonbasic: &mut Vec<Var>,
-    why: &mut Vec<(Reason, Frac)>,
-) -> Result<(), Memory>
-    ensures asserted { trail.new.asserted ≡ trail.old.asserted }
-    ensures vars { trail.old.vars ≤ trail.new.vars }
-    ensures values { values.new.items ≡ values.old.items }
-    ensures len { vec_len values.new ≡ vec_len values.old }
-    ensures basic { basic.new.items ≡ basic.old.items }
-    ensures basic_room { vec_capacity basic.old ≤ vec_capacity basic.new }
-    ensures nonbasic { nonbasic.new.items ≡ nonbasic.old.items }
-    ensures nonbasic_room { vec_capacity nonbasic.old ≤ vec_capacity nonbasic.new }
-    ensures why { why.new.items ≡ why.old.items }
-    ensures why_room { vec_capacity why.old ≤ vec_capacity why.new }
-    ensures room { OnOk result (HasRoomFor count trail.new.vars (vec_capacity values.new) (vec_capacity basic.new) (vec_capacity nonbasic.new) (vec_capacity why.new)) }
-{
-    reserve_in_all(values, count)?;
-    reserve_in_all(basic, count)?;
-    reserve_in_all(nonbasic, count)?;
-    reserve_in_all(why, count)?;
-    add_vars(trail, count)
-}
-
-/// Makes room for so many elements in all.
-fn reserve_in_all<T>(list: &mut Vec<T>, count: usize) -> Result<(), Memory>
-    ensures items { list.new.items ≡ list.old.items }
-    ensures len { vec_len list.new ≡ vec_len list.old }
-    ensures capacity { vec_capacity list.old ≤ vec_capacity list.new }
-    ensures room { OnOk result (count ≤ vec_capacity list.new) }
-{
-    if let Some(more) = count.checked_sub(list.len()) {
-        list.reserve(more)?;
-    }
-    Ok(())
-}
-
-/// Adds variables until there are so many.
-fn add_vars<S: Coordinate>(trail: &mut Trail<S>, count: usize) -> Result<(), Memory>
-    ensures asserted { trail.new.asserted ≡ trail.old.asserted }
-    ensures no_fewer { trail.old.vars ≤ trail.new.vars }
-    ensures many { OnOk result (count ≤ trail.new.vars) }
-{
-    for _ in trail.len()..count {
-        trail.add_var()?;
-    }
-    Ok(())
-}
-
-/// Values for the forms that have joined: a nonbasic one stands at 0, and that of a basic one isn't known yet.
-fn extend_values<S: Coordinate>(tab: &Tab, values: &mut Vec<Option<S>>)
-    requires marked { length (marks_in tab.now) ≡ length tab.now.forms }
-    requires fewer { vec_len values.old ≤ length tab.now.forms }
-    requires room { length tab.now.forms ≤ vec_capacity values.old }
-    ensures long { length values.new.items ≡ length tab.now.forms }
-    ensures stays { take (vec_len values.old) values.new.items ≡ values.old.items }
-    ensures capacity { vec_capacity values.new ≡ vec_capacity values.old }
-    ensures joined { (k : ℕ) → vec_len values.old ≤ k → k < length tab.now.forms
-        → slice_index_or values.new.items k None ≡ (if slice_index_or (marks_in tab.now) k false then Some S.origin else None) }
-{
-    for var in values.len()..tab.len() {
-        values.push_reserved(first_value(tab.is_basic(var)));
-    }
-}
-
-/// The value of a form that joins.
-fn first_value<S: Coordinate>(is_basic: bool) -> Option<S>
-    ensures value { result ≡ (if is_basic then None else Some S.origin) }
-{
-    if is_basic { None } else { Some(S::zero()) }
-}
-
-/// Lists the basic forms.
-fn list_basic(tab: &Tab, basic: &mut Vec<Var>)
-    requires room { length tab.now.forms ≤ vec_capacity basic.old }
-    ensures listed { basic.new.items ≡ numbers (length tab.now.forms) (λ k. not (slice_index_or (marks_in tab.now) k false)) }
-    ensures capacity { vec_capacity basic.new ≡ vec_capacity basic.old }
-{
-    basic.clear();
-    for var in 0..tab.len() {
-        if tab.is_basic(var) {
-            basic.push_reserved(var);
-        }
-    }
-}
-
-/// Lists the nonbasic forms.
-fn list_nonbasic(tab: &Tab, nonbasic: &mut Vec<Var>)
-    requires room { length tab.now.forms ≤ vec_capacity nonbasic.old }
-    ensures listed { nonbasic.new.items ≡ numbers (length tab.now.forms) (λ k. slice_index_or (marks_in tab.now) k false) }
-    ensures capacity { vec_capacity nonbasic.new ≡ vec_capacity nonbasic.old }
-{
-    nonbasic.clear();
-    for var in 0..tab.len() {
-        if !tab.is_basic(var) {
-            nonbasic.push_reserved(var);
-        }
-    }
-}
-
-/// Whether a form is nonbasic, and outside of a bound.
-fn is_to_move<S: Coordinate>(
-    tab: &Tab,
-    values: &[Option<S>],
-    var: Var,
-    side: Side,
-    bound: S,
-) -> bool
-    requires known { var < length tab.now.forms }
-    requires valued { length values.now ≡ length tab.now.forms }
-    ensures moves { result ≡ (slice_index_or (marks_in tab.now) var false && is_past_known S.stands_for side bound (slice_index_or values.now var None)) }
-{
-    !tab.is_basic(var) && values[var].is_some_and(|value| is_outside(side, bound, value))
 }
 
 /// Says what holds of each simplex: its nonbasic forms have values, what is known is the value at the position, and the position is

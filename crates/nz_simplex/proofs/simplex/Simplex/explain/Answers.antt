@@ -1,12 +1,10 @@
 -- The bounds that hold the nonbasic forms back, with their multipliers, refute the broken one.
-use Rattle.std.proofs.Common.{◌≡◌, ℕ, ◌<◌, false, List, ◌∷◌, flat_map, length, map, sym, ap, ◌∙◌, subst, arith}
-use Rattle.std.specs.Prelude.{All, pos, vec_capacity}
-use Rattle.nz_fractions.specs.Fraction.{Fraction, whole}
+use Rattle.std.proofs.Common.{◌≡◌, ℕ, ◌<◌, false, List, ◌∷◌, flat_map, length, sym, ap, ◌∙◌, subst, arith}
+use Rattle.std.specs.Prelude.{All, pos}
+use Rattle.nz_fractions.specs.Fraction.{whole}
 use Rattle.nz_spec.specs.Bland as bland
 use Rattle.nz_spec.specs.Bland.{Breaks, CanHelp}
-use Rattle.nz_spec.specs.Table.{Node}
-use Rattle.nz_simplex.specs.Checks.{IsRefuted}
-use Rattle.nz_simplex.specs.Standing.{half, standing, told, told_on}
+use Rattle.nz_simplex.specs.Standing.{half, standing}
 use Rattle.nz_simplex.specs.State.{State, IsOver, nonbasic_in, position_over}
 use Rattle.nz_simplex.specs.Stored.{held_back, state_of}
 use Rattle.nz_simplex.specs.Tabled.{rows_in}

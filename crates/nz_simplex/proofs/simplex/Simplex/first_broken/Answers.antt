@@ -1,16 +1,11 @@
 -- The first basic form that breaks a bound is the least; where there is none, the point is within all bounds.
-use Rattle.std.proofs.Common.{◌≡◌, ℕ, ◌<◌, List, length, Option, Some, None, sym, ap, ◌∙◌, subst}
+use Rattle.std.proofs.Common.{ℕ, ◌<◌, List, length, Option, Some, None, sym, ap, ◌∙◌, subst}
 use Rattle.std.specs.Prelude.{All, IfNone, not}
 use Rattle.std.proofs.lemmas.List.Elements.{All-from_recursion}
 use Rattle.std.proofs.lemmas.Option.{IfSome_then}
-use Rattle.nz_spec.specs.BasisMoves.{numbers}
-use Rattle.nz_spec.specs.Table.{Node}
-use Rattle.nz_simplex.specs.declared.choice.Broken.{Broken}
-use Rattle.nz_simplex.specs.Checks.{IsFeasible, IsFirstBroken}
-use Rattle.nz_simplex.specs.Standing.{half, standing, told_on}
-use Rattle.nz_simplex.specs.State.{IsOver, nonbasic_in, position_over}
-use Rattle.nz_simplex.specs.Stored.{IsPastBound, basic_numbers, first_passing, is_breaking}
-use Rattle.nz_simplex.proofs.Breaking.{feasible_told, past_told}
+use Rattle.nz_simplex.specs.State.{nonbasic_in}
+use Rattle.nz_simplex.specs.Stored.{basic_numbers, first_passing, is_breaking}
+use Rattle.nz_simplex.proofs.Breaking.{basic_told, feasible_told, past_told}
 use Rattle.nz_simplex.proofs.Pointed.{numbers_below}
 use Rattle.nz_simplex.proofs.simplex.Simplex.first_broken.Goals as goal
 
@@ -24,15 +19,28 @@ first_breaking-requires g c =
       valued = c.requires.valued;
     }
 
-pub returns-clause-found : goal.returns-clause-found
-returns-clause-found g c =
+pub returns-clause-known : goal.returns-clause-known
+returns-clause-known g c =
     let s = c.args.self.now in
-    let stands = g.S.Coordinate.stands_for in
     IfSome_then c.first_breaking.result c.first_breaking.ensures.found
-    (λ b h. (h.1.stands,
-    λ ns over.
-        past_told s c.known_state.ensures.sound c.positions_have_values.ensures.values c.infinitesimals_move.ensures.moves c.requires.valued ns over stands b.var b.side b.limit
-        (sym (ap (first_passing (is_breaking s)) c.basis.ensures.basis) ∙ h.0) h.1))
+    (λ b h. (basic_told s b.var (sym (ap (first_passing (is_breaking s)) c.basis.ensures.basis) ∙ h.0)).0)
+
+pub returns-clause-basic : goal.returns-clause-basic
+returns-clause-basic g c =
+    let s = c.args.self.now in
+    IfSome_then c.first_breaking.result c.first_breaking.ensures.found
+    (λ b h. (basic_told s b.var (sym (ap (first_passing (is_breaking s)) c.basis.ensures.basis) ∙ h.0)).1)
+
+pub returns-clause-stands : goal.returns-clause-stands
+returns-clause-stands g c = IfSome_then c.first_breaking.result c.first_breaking.ensures.found (λ b h. h.1.stands)
+
+pub returns-clause-broken : goal.returns-clause-broken
+returns-clause-broken g c =
+    let s = c.args.self.now in
+    IfSome_then c.first_breaking.result c.first_breaking.ensures.found
+    (λ b h ns over.
+    past_told s c.known_state.ensures.sound c.positions_have_values.ensures.values c.infinitesimals_move.ensures.moves c.requires.valued ns over g.S.Coordinate.stands_for b.var b.side b.limit
+    (sym (ap (first_passing (is_breaking s)) c.basis.ensures.basis) ∙ h.0) h.1)
 
 pub returns-clause-none : goal.returns-clause-none
 returns-clause-none g c =

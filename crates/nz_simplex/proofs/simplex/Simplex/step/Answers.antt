@@ -1,9 +1,7 @@
 -- The least forms are exchanged, and the values follow; or no form can help; or it stops.
-use Rattle.std.proofs.Common.{rules, ◌≡◌, ℕ, ◌<◌, ◌≤◌, refl, true, false, List, length, map, Option, None, sym, ap, ◌∙◌, subst, arith}
-use Rattle.std.specs.Prelude.{◌==◌, if◌then◌else◌, All, IsSome, Err, option_map, slice_index_or, vec_capacity}
-use Rattle.std.proofs.lemmas.List.{length-map}
+use Rattle.std.proofs.Common.{rules, ◌≡◌, ℕ, ◌<◌, refl, true, false, List, length, Option, None, sym, ap, ◌∙◌, subst, arith}
+use Rattle.std.specs.Prelude.{◌==◌, if◌then◌else◌, All, IsSome, Err, slice_index_or, vec_capacity}
 use Rattle.nz_spec.specs.Bland.{IsCheckStep}
-use Rattle.nz_spec.specs.BasisMoves.{exchanged}
 use Rattle.nz_spec.specs.Pivots.{pivot}
 use Rattle.nz_spec.specs.Table.{Node}
 use Rattle.nz_tab.specs.Rows.{is_nonbasic}
@@ -11,7 +9,6 @@ use Rattle.nz_simplex.specs.declared.answer.SimplexStop.{SimplexStop}
 use Rattle.nz_simplex.specs.Checks.{Answers}
 use Rattle.nz_simplex.specs.State.{State, IsOver, nonbasic_in, position_over, value_in}
 use Rattle.nz_simplex.specs.Stored.{IsStored, state_of}
-use Rattle.nz_simplex.specs.Tabled.{marks_in}
 use Rattle.nz_simplex.proofs.Exchanging.{enters_nonbasic, enters_nonzero, exchange_place, exchanged_sound, exchanged_step, helpless, may_step, written_back}
 use Rattle.nz_simplex.proofs.Pointed.{all_below, all_known, all_listed, some_at}
 use Rattle.nz_simplex.proofs.ValuesAfter.{equal_number}
@@ -63,12 +60,12 @@ returns-then-left-eq0-clause-stops g c =
         pivot b.var c.in-Some.enters,
         may_step g.S.Coordinate.stands_for x.tab x.trail x.values.items x.why.items c.args.self.now c.self.view_is c.self.invariant.sound b.var c.requires.known c.requires.basic b.side c.rows_tell.ensures.tell c.known_tableau.ensures.tableau c.in-Some.enters
             (record {
-      slice = c.as_slice-2.result.now;
-      listing = c.as_slice.result.now;
-      is_values = c.as_slice-2.ensures.value;
-      is_nonbasic = c.as_slice.ensures.value ∙ c.self.invariant.nonbasic_listed;
-      found = c.in-Some.ensures.first;
-    })
+              slice = c.as_slice-2.result.now;
+              listing = c.as_slice.result.now;
+              is_values = c.as_slice-2.ensures.value;
+              is_nonbasic = c.as_slice.ensures.value ∙ c.self.invariant.nonbasic_listed;
+              found = c.in-Some.ensures.first;
+            })
             b.limit.value c.requires.broken ns over,
       ),
     )
@@ -138,18 +135,18 @@ invariant_of-self-2 g c =
     let same : new ≡ _ = sym (written_back x.values.len x.values.items new x.values.ok.0 (omega (arith, c.move_to.auto.values, c.as_mut_slice.ensures.len, x.values.ok.0))) in
     subst
     (λ (vs : List (Option g.row.S.Denot)). IsStored (state_of g.S.Coordinate.stands_for c.pivot.new.self x.trail vs x.why.items) x.trail.vars c.list_basic.new.basic.items c.list_nonbasic.new.nonbasic.items
-        (vec_capacity c.list_basic.new.basic) (vec_capacity c.list_nonbasic.new.nonbasic) (vec_capacity x.why))
+    (vec_capacity c.list_basic.new.basic) (vec_capacity c.list_nonbasic.new.nonbasic) (vec_capacity x.why))
     same
     (record {
       sound =
           exchanged_sound g.S.Coordinate.stands_for x.tab x.trail x.values.items x.why.items c.args.self.now c.self.view_is c.self.invariant.sound b.var c.requires.known c.requires.basic b.side c.rows_tell.ensures.tell c.known_tableau.ensures.tableau c.in-Some.enters
           (record {
-      slice = c.as_slice-2.result.now;
-      listing = c.as_slice.result.now;
-      is_values = c.as_slice-2.ensures.value;
-      is_nonbasic = c.as_slice.ensures.value ∙ c.self.invariant.nonbasic_listed;
-      found = c.in-Some.ensures.first;
-    })
+            slice = c.as_slice-2.result.now;
+            listing = c.as_slice.result.now;
+            is_values = c.as_slice-2.ensures.value;
+            is_nonbasic = c.as_slice.ensures.value ∙ c.self.invariant.nonbasic_listed;
+            found = c.in-Some.ensures.first;
+          })
           b.limit.value c.requires.broken c.pivot.new.self c.as_mut_slice.result.now new pivoted c.as_mut_slice.ensures.value c.move_to.ensures.moved c.move_to.ensures.stays
           c.moves_keep_ready.ensures.ready c.check_steps_keep_basis.ensures.kept c.infinitesimals_move.ensures.moves c.nonbasic_form_is_itself.ensures.itself c.known_tableau-2.ensures.tableau c.move_to.auto.values c.move_to.ensures.follows;
       basic_listed = c.list_basic.ensures.listed;
@@ -171,15 +168,15 @@ returns-clause-taken g c =
       c.note.ensures.noted,
       subst
           (λ (vs : List (Option g.row.S.Denot)). (ns : List Node) → IsOver ns c.args.self.now
-              → IsCheckStep (position_over ns c.args.self.now) (position_over ns (state_of g.S.Coordinate.stands_for c.pivot.new.self x.trail vs x.why.items)) b.var c.in-Some.enters)
+          → IsCheckStep (position_over ns c.args.self.now) (position_over ns (state_of g.S.Coordinate.stands_for c.pivot.new.self x.trail vs x.why.items)) b.var c.in-Some.enters)
           (sym (written_back x.values.len x.values.items new x.values.ok.0 (omega (arith, c.move_to.auto.values, c.as_mut_slice.ensures.len, x.values.ok.0))))
           (exchanged_step g.S.Coordinate.stands_for x.tab x.trail x.values.items x.why.items c.args.self.now c.self.view_is c.self.invariant.sound b.var c.requires.known c.requires.basic b.side c.rows_tell.ensures.tell c.known_tableau.ensures.tableau c.in-Some.enters
           (record {
-      slice = c.as_slice-2.result.now;
-      listing = c.as_slice.result.now;
-      is_values = c.as_slice-2.ensures.value;
-      is_nonbasic = c.as_slice.ensures.value ∙ c.self.invariant.nonbasic_listed;
-      found = c.in-Some.ensures.first;
-    })
+            slice = c.as_slice-2.result.now;
+            listing = c.as_slice.result.now;
+            is_values = c.as_slice-2.ensures.value;
+            is_nonbasic = c.as_slice.ensures.value ∙ c.self.invariant.nonbasic_listed;
+            found = c.in-Some.ensures.first;
+          })
           b.limit.value c.requires.broken c.pivot.new.self c.as_mut_slice.result.now new pivoted c.as_mut_slice.ensures.value c.move_to.ensures.moved c.move_to.ensures.stays),
     )

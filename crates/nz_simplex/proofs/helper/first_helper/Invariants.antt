@@ -3,7 +3,7 @@ use Rattle.std.proofs.Common.{◌≡◌, drop}
 use Rattle.nz_trail.specs.Bounds.{other_side}
 use Rattle.nz_simplex.specs.Stored.{first_passing, is_helping}
 use Rattle.nz_simplex.specs.Tabled.{rows_in}
-use Rattle.nz_simplex.proofs.simplex.first_helper.Given as goal
+use Rattle.nz_simplex.proofs.helper.first_helper.Given as goal
 
 abbrev pub invariant-loop-var : goal.invariant-loop-var
 invariant-loop-var g l =

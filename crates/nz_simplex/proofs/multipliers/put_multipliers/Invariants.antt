@@ -5,7 +5,7 @@ use Rattle.nz_fractions.specs.Fraction.{whole}
 use Rattle.nz_simplex.specs.Standing.{told}
 use Rattle.nz_simplex.specs.Stored.{held_back}
 use Rattle.nz_simplex.specs.Tabled.{rows_in}
-use Rattle.nz_simplex.proofs.simplex.put_multipliers.Given as goal
+use Rattle.nz_simplex.proofs.multipliers.put_multipliers.Given as goal
 
 abbrev pub invariant-loop-var : goal.invariant-loop-var
 invariant-loop-var g l = record {

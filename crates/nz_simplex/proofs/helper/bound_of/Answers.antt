@@ -5,7 +5,7 @@ use Rattle.nz_trail.specs.declared.limits.Side.{Side}
 use Rattle.nz_trail.specs.declared.limits.Side.TheVariants.{Lower, Upper}
 use Rattle.nz_simplex.specs.Standing.{standing, told, told_on}
 use Rattle.nz_simplex.proofs.Standings.{standing_told}
-use Rattle.nz_simplex.proofs.simplex.bound_of.Goals as goal
+use Rattle.nz_simplex.proofs.helper.bound_of.Goals as goal
 
 pub returns-in-Lower : goal.returns-in-Lower
 returns-in-Lower g c =
