@@ -14,6 +14,7 @@ pub mod Helping
 pub mod JoinedForms
 pub mod JoinedPositions
 pub mod Moving
+pub mod OverOtherUnits
 pub mod Places
 pub mod Pointed
 pub mod Refuting

@@ -4,6 +4,7 @@ pub mod Contradictions
 pub mod Faithful
 pub mod FaithfulScalars
 pub mod Moves
+pub mod OtherUnits
 pub mod SaidBounds
 pub mod Standing
 pub mod State

@@ -1,11 +1,17 @@
 //! What clashes are worth.
 ghost use Rattle.nz_simplex.specs.Contradictions.{ClashesContradict};
+ghost use Rattle.nz_simplex.specs.OtherUnits.{ContradictionsStay};
 ghost use Rattle.nz_simplex.specs.SaidBounds.{LiteralsSayBounds, SumsStay};
 
 /// Where each bound that was asserted has a literal that says the same, the literals of clashing bounds, with their multipliers, sum to a
 /// contradiction: those that a check tells, and two bounds that leave a form no value.
 pub fn clashes_contradict()
     ensures contradict { ClashesContradict }
+{}
+
+/// Whether a sum of multiples is a contradiction doesn't depend on which terms the units are.
+pub fn contradictions_stay()
+    ensures stay { ContradictionsStay }
 {}
 
 /// Which literals say which bounds of a form.
