@@ -370,7 +370,7 @@ module _ (bs : List Held) (side : Side) (row : Coefficients) where
         by_test false e rest =
             rest
             ∙ℚ signed_same (trails.other_side side)
-              (=ℚ_sym (plus_right (weighted n row y) (times_left (y n) (zeros n e) ∙ℚ zero_times (y n)) ∙ℚ +ℚ-zero (weighted n row y)))
+            (=ℚ_sym (plus_right (weighted n row y) (times_left (y n) (zeros n e) ∙ℚ zero_times (y n)) ∙ℚ +ℚ-zero (weighted n row y)))
 
   -- each of them has what holds of the bounds that stand
   module _ (P : Held × Fraction → Type 0) (each : (k : ℕ) → is_zero (row k) ≡ false → P (held_at bs (holding_side side (row k)) k, size_of (row k))) where

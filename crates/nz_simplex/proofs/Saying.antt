@@ -68,26 +68,26 @@ neg_none = solve [] (Minus (Literal (pos 0))) (Literal (pos 0)) refl
 pub literals_say_bounds : LiteralsSayBounds
 literals_say_bounds = record {
   upper = λ number f ps factor limit b sum positive parts is. (
-      record { linear = refl; sum = sum; positive = positive; parts = parts; limit = is; strict = =ℚ_refl (whole (pos 0)) },
-      record {
-        linear = refl;
-        sum = negated_sum number ps sum;
-        positive = positive;
-        parts = λ v. negated_worth v ps ∙ℚ neg_ℚ-same (parts v) ∙ℚ neg_times factor (worth v f);
-        limit = neg_ℚ-same is ∙ℚ neg_times factor limit;
-        strict = neg_one;
-      },
+    record { linear = refl; sum = sum; positive = positive; parts = parts; limit = is; strict = =ℚ_refl (whole (pos 0)) },
+    record {
+      linear = refl;
+      sum = negated_sum number ps sum;
+      positive = positive;
+      parts = λ v. negated_worth v ps ∙ℚ neg_ℚ-same (parts v) ∙ℚ neg_times factor (worth v f);
+      limit = neg_ℚ-same is ∙ℚ neg_times factor limit;
+      strict = neg_one;
+    },
   );
   lower = λ number f ps factor limit b sum positive parts is. (
-      record { linear = refl; sum = sum; positive = positive; parts = parts; limit = is; strict = neg_none },
-      record {
-        linear = refl;
-        sum = negated_sum number ps sum;
-        positive = positive;
-        parts = λ v. negated_worth v ps ∙ℚ neg_ℚ-same (parts v) ∙ℚ neg_times_neg factor (worth v f);
-        limit = neg_ℚ-same is ∙ℚ neg_times_neg factor limit;
-        strict = =ℚ_refl (whole (negsuc 0));
-      },
+    record { linear = refl; sum = sum; positive = positive; parts = parts; limit = is; strict = neg_none },
+    record {
+      linear = refl;
+      sum = negated_sum number ps sum;
+      positive = positive;
+      parts = λ v. negated_worth v ps ∙ℚ neg_ℚ-same (parts v) ∙ℚ neg_times_neg factor (worth v f);
+      limit = neg_ℚ-same is ∙ℚ neg_times_neg factor limit;
+      strict = =ℚ_refl (whole (negsuc 0));
+    },
   );
 }
 
