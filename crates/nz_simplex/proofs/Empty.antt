@@ -1,6 +1,5 @@
 -- No form: everything holds of it.
-use Rattle.std.proofs.Common.{◌≡◌, ℕ, List, [], Some, refl}
-use Rattle.nz_spec.specs.Infinitesimal.{Infinitesimal}
+use Rattle.std.proofs.Common.{refl}
 use Rattle.nz_spec.specs.PositionMoves.{MovesKeepReady}
 use Rattle.nz_simplex.specs.State.{IsSound, empty_state}
 

@@ -1,5 +1,5 @@
 -- A list that is changed place by place: what holds of the places that were taken, and what of the others.
-use Rattle.std.proofs.Common.{◌≡◌, ℕ, ◌+◌, ◌<◌, ◌≤◌, ◌⊎◌, inl, inr, List, length, get_or, sym, ap, ◌∙◌, subst, arith}
+use Rattle.std.proofs.Common.{◌≡◌, ℕ, ◌+◌, ◌<◌, ◌≤◌, ◌⊎◌, inl, inr, List, length, get_or, sym, ◌∙◌, subst, arith}
 use Rattle.std.specs.Prelude.{◌≢◌, set}
 use Rattle.std.proofs.lemmas.List.{get_or-set_same, get_or-set_other}
 

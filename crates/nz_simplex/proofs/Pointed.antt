@@ -1,13 +1,12 @@
 -- The point of a simplex, its rows, and the value of a form from its row.
-use Rattle.std.proofs.Common.{◌≡◌, ℕ, zero, suc, ◌<◌, Bool, true, false, List, [], ◌∷◌, ◌++◌, length, map, Option, Some, None, refl, sym, ap, ◌∙◌, subst, arith}
+use Rattle.std.proofs.Common.{◌≡◌, ℕ, zero, suc, ◌<◌, ◌≤◌, ◌⊎◌, inl, inr, Bool, true, false, true≢false, List, [], ◌∷◌, ◌++◌, length, map, Option, Some, None, refl, sym, ap, ◌∙◌, subst, arith}
 use Rattle.std.specs.Prelude.{All, IsSome, is_some, option_map, unwrap_or, slice_index_or, if◌then◌else◌}
 use Rattle.std.specs.List.{AllByRecursion}
-use Rattle.std.proofs.lemmas.List.{length-map}
+use Rattle.std.proofs.lemmas.List.{length-map, length_push}
 use Rattle.std.proofs.lemmas.List.Elements.{All-from_recursion}
 use Rattle.nz_lists.proofs.Places.{slice_index_or-map}
 use Rattle.nz_fractions.specs.Fraction.{Fraction, Operation, first_wide}
 use Rattle.nz_spec.specs.Infinitesimal.{Infinitesimal, ◌=δ◌}
-use Rattle.nz_spec.specs.Computation.{Computation}
 use Rattle.nz_spec.specs.Basis.{Coefficients, IsRow}
 use Rattle.nz_spec.specs.BasisMoves.{AreRows, numbers}
 use Rattle.nz_spec.specs.Bland as bland
@@ -59,6 +58,32 @@ numbers_pass (suc n) f = by_test (f n) refl (numbers_pass n f)
     by_test true e h = append_all (λ k. f k ≡ true) (numbers n f) n h e
     by_test false e h = h
 
+-- so they are below any greater bound
+pub all_below : (n m : ℕ) (f : ℕ → Bool) → n ≤ m → All (λ k. k < m) (numbers n f)
+all_below n m f h =
+    All-from_recursion (λ k. k < m) (numbers n f) (all_weaker (λ k. k < n) (λ k. k < m) (numbers n f) (λ k below. omega (arith, h, below)) (numbers_below n f))
+
+-- where one of the numbers fails, there are fewer
+count_at_most : (n : ℕ) (f : ℕ → Bool) → length (numbers n f) ≤ n
+count_at_most zero f = omega arith
+count_at_most (suc n) f = by_test (f n) (count_at_most n f)
+  where
+    by_test : (b : Bool) → length (numbers n f) ≤ n → length (if b then numbers n f ++ n ∷ [] else numbers n f) ≤ suc n
+    by_test true h = omega (arith, h, length_push (numbers n f) n)
+    by_test false h = omega (arith, h)
+
+pub count_below : (n : ℕ) (f : ℕ → Bool) (i : ℕ) → i < n → f i ≡ false → length (numbers n f) < n
+count_below zero f i h e = absurd (omega (arith, h))
+count_below (suc n) f i h e = by_test (f n) refl (one_or_below i n h) (λ below. count_below n f i below e)
+  where
+    one_or_below : (i n : ℕ) → i < suc n → (i ≡ n) ⊎ (i < n)
+    one_or_below i n h = grind (arith, h)
+
+    by_test : (b : Bool) → f n ≡ b → (i ≡ n) ⊎ (i < n) → (i < n → length (numbers n f) < n) → length (if b then numbers n f ++ n ∷ [] else numbers n f) < suc n
+    by_test true g (inl same) rest = absurd (true≢false (sym g ∙ ap f (sym same) ∙ e))
+    by_test true g (inr below) rest = let fewer = rest below in omega (arith, fewer, length_push (numbers n f) n)
+    by_test false g place rest = let fewer = count_at_most n f in omega (arith, fewer)
+
 -- only the values of the listed forms count
 pub onto_same : (c : Coefficients) (x y : ℕ → Infinitesimal) (t : Infinitesimal) (ks : List ℕ) → AllByRecursion (λ k. x k ≡ y k) ks
     → ((value_onto c x t ks).result ≡ (value_onto c y t ks).result) × ((value_onto c x t ks).operations ≡ (value_onto c y t ks).operations)
@@ -73,19 +98,48 @@ onto_same c x y t (k ∷ ks) h =
 
 -- ---- The point
 
+-- each nonbasic form has a value
+abbrev pub AreKnown : State → Type 0
+AreKnown s = (k : ℕ) → nonbasic_in s k ≡ true → IsSome (value_in s k)
+
+-- the forms with a value at the point are the nonbasic ones
+pub known_marks : (s : State) → AreKnown s → (k : ℕ) → is_nonbasic (point_in s) k ≡ nonbasic_in s k
+known_marks s known k = by_test (nonbasic_in s k) refl
+  where
+    by_test : (b : Bool) → nonbasic_in s k ≡ b → is_some (if b then value_in s k else None) ≡ b
+    by_test true e = known k e
+    by_test false e = refl
+
 module _ (s : State) (sound : IsSound s) where
-  -- the forms with a value at the point are the nonbasic ones
   pub point_marks : (k : ℕ) → is_nonbasic (point_in s) k ≡ nonbasic_in s k
-  point_marks k = by_test (nonbasic_in s k) refl
-    where
-      by_test : (b : Bool) → nonbasic_in s k ≡ b → is_some (if b then value_in s k else None) ≡ b
-      by_test true e = sound.known k e
-      by_test false e = refl
+  point_marks k = known_marks s sound.known k
 
   pub point_value : (k : ℕ) → nonbasic_in s k ≡ true → bland.value_in (point_in s) k ≡ unwrap_or (value_in s k) zero_infinitesimal
   point_value k e = ap (λ (b : Bool). unwrap_or (if b then value_in s k else None) zero_infinitesimal) e
 
+-- a value that is shown is stored
+some_back : {S : Type 0} (stands_for : S → Infinitesimal) (o : Option S) → IsSome (option_map stands_for o) → IsSome o
+some_back stands_for None h = h
+some_back stands_for (Some v) h = refl
+
+pub some_at : {S : Type 0} (stands_for : S → Infinitesimal) (values : List (Option S)) (k : ℕ) → IsSome (slice_index_or (map (option_map stands_for) values) k None) → IsSome (slice_index_or values k None)
+some_at stands_for values k h =
+    some_back stands_for (slice_index_or values k None) (subst (λ (o : Option Infinitesimal). IsSome o) (slice_index_or-map (option_map stands_for) values k None) h)
+
 -- ---- Rows
+
+module _ {S : Type 0} (stands_for : S → Infinitesimal) (tab : Table) (trail : TrailState S) (values : List (Option S)) (why : List (ℕ × Fraction)) where
+  abbrev seen : State
+  seen = state_of stands_for tab trail values why
+
+  pub known_row : AreKnown seen → IsTableau tab → (ns : List Node) → IsOver ns seen → (i : ℕ) → i < length tab.forms → nonbasic_in seen i ≡ false
+      → IsRow (position_over ns seen).forms (is_nonbasic (position_over ns seen).point) i (rows_in tab i)
+  known_row known tableau ns over i inside basic =
+      let rows = (tableau ns over.table over.units).rows i (subst (λ (n : ℕ). i < n) (sym (length-map tab.forms (parts_over ns))) inside) basic in
+      record {
+        at_basic = λ k e. rows.at_basic k (sym (known_marks seen known k) ∙ e);
+        equal = rows.equal;
+      }
 
 module _ {S : Type 0} (stands_for : S → Infinitesimal) (tab : Table) (trail : TrailState S) (values : List (Option S)) (why : List (ℕ × Fraction)) (sound : IsSound (state_of stands_for tab trail values why)) where
   abbrev here : State
@@ -93,14 +147,9 @@ module _ {S : Type 0} (stands_for : S → Infinitesimal) (tab : Table) (trail : 
 
   pub row_told : IsTableau tab → (ns : List Node) → IsOver ns here → (i : ℕ) → i < length tab.forms → nonbasic_in here i ≡ false
       → IsRow (position_over ns here).forms (is_nonbasic (position_over ns here).point) i (rows_in tab i)
-  row_told tableau ns over i inside basic =
-      let rows = (tableau ns over.table over.units).rows i (subst (λ (n : ℕ). i < n) (sym (length-map tab.forms (parts_over ns))) inside) basic in
-      record {
-        at_basic = λ k e. rows.at_basic k (sym (point_marks here sound k) ∙ e);
-        equal = rows.equal;
-      }
+  row_told = known_row stands_for tab trail values why sound.known
 
-  numbers_at : (k : ℕ) → nonbasic_in here k ≡ true → numbers_in stands_for values k ≡ bland.value_in (point_in here) k
+  pub numbers_at : (k : ℕ) → nonbasic_in here k ≡ true → numbers_in stands_for values k ≡ bland.value_in (point_in here) k
   numbers_at k e =
       ap (λ (o : Option Infinitesimal). unwrap_or o zero_infinitesimal) (sym (slice_index_or-map (option_map stands_for) values k None))
       ∙ sym (point_value here sound k e)
@@ -140,7 +189,7 @@ module _ {S : Type 0} (stands_for : S → Infinitesimal) (tab : Table) (trail : 
             (subst (λ (y : Infinitesimal). y =δ sum_at (length tab.forms) c (bland.value_in (point_in here))) (sym (e ∙ computed_result c)) sum);
       }
 
-  rows_told : IsTableau tab → (ns : List Node) → IsOver ns here → AreRows (position_over ns here).forms (is_nonbasic (position_over ns here).point) (rows_in tab)
+  pub rows_told : IsTableau tab → (ns : List Node) → IsOver ns here → AreRows (position_over ns here).forms (is_nonbasic (position_over ns here).point) (rows_in tab)
   rows_told tableau ns over r inside basic =
       row_told tableau ns over r (subst (λ (n : ℕ). r < n) (length-map tab.forms (parts_over ns)) inside) (sym (point_marks here sound r) ∙ basic)
 
@@ -156,10 +205,6 @@ module _ {S : Type 0} (stands_for : S → Infinitesimal) (tab : Table) (trail : 
   }
 
   -- the nonbasic forms are listed, and their values known
-  some_back : (o : Option S) → IsSome (option_map stands_for o) → IsSome o
-  some_back None h = h
-  some_back (Some v) h = refl
-
   pub all_listed : All (λ k. k < length values) (nonbasic_numbers here)
   all_listed =
       All-from_recursion (λ k. k < length values) (nonbasic_numbers here)
@@ -169,5 +214,5 @@ module _ {S : Type 0} (stands_for : S → Infinitesimal) (tab : Table) (trail : 
   all_known =
       All-from_recursion (λ k. IsSome (slice_index_or values k None)) (nonbasic_numbers here)
       (all_weaker (λ k. nonbasic_in here k ≡ true) (λ k. IsSome (slice_index_or values k None)) (nonbasic_numbers here)
-      (λ k e. some_back (slice_index_or values k None) (subst (λ (o : Option Infinitesimal). IsSome o) (slice_index_or-map (option_map stands_for) values k None) (sound.known k e)))
+      (λ k e. some_at stands_for values k (sound.known k e))
       (numbers_pass (length tab.forms) (nonbasic_in here)))

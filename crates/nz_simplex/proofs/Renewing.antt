@@ -1,6 +1,6 @@
 -- The value of a basic form is known from now on, and nothing else changes.
-use Rattle.std.proofs.Common.{◌≡◌, ℕ, ◌<◌, Bool, true, false, List, length, map, get_or, Option, Some, None, refl, sym, ap, ◌∙◌, subst, true≢false, arith}
-use Rattle.std.specs.Prelude.{◌==◌, ◌≢◌, IsSome, option_map, unwrap_or, set, if◌then◌else◌}
+use Rattle.std.proofs.Common.{◌≡◌, ℕ, ◌<◌, Bool, true, false, List, length, map, Option, Some, None, refl, sym, ap, ◌∙◌, subst, true≢false, arith}
+use Rattle.std.specs.Prelude.{◌==◌, ◌≢◌, IsSome, is_some, option_map, unwrap_or, set, if◌then◌else◌}
 use Rattle.std.proofs.Math.Path.{fun_ext}
 use Rattle.std.proofs.lemmas.List.{length-map, length-set, get_or-set_same, get_or-set_other}
 use Rattle.nz_lists.proofs.Places.{slice_index_or-map}
@@ -88,6 +88,7 @@ module _ {S : Type 0} (stands_for : S → Infinitesimal) (tab : Table) (trail : 
   renewed = record {
     values = map (option_map stands_for) (set values var (Some x));
     rest = refl;
+    point = point_at;
     kept = kept_value;
   }
     where
@@ -100,3 +101,73 @@ module _ {S : Type 0} (stands_for : S → Infinitesimal) (tab : Table) (trail : 
               let none : None ≡ Some y = sym unknown ∙ ap (value_in here) (sym same) ∙ e in
               absurd (cc)
           by_test false t = same_other k (number_other k var t) ∙ e
+
+-- ---- By what is shown of the simplex
+
+none_known : (o : Option Infinitesimal) → (IsSome o → ⊥) → o ≡ None
+none_known None n = refl
+none_known (Some x) n = absurd (n refl)
+
+-- a form without a value is basic
+pub basic_form : (s : State) → IsSound s → (k : ℕ) → (IsSome (value_in s k) → ⊥) → nonbasic_in s k ≡ false
+basic_form s sound k n = by_test (nonbasic_in s k) refl
+  where
+    by_test : (b : Bool) → nonbasic_in s k ≡ b → b ≡ false
+    by_test true e = absurd (n (sound.known k e))
+    by_test false e = refl
+
+-- what holds when the value of a form is known
+pub record IsRenewedAt (old new : State) (var : ℕ) : Type 0 where
+  pub sound : IsSound new
+  pub renewed : IsRenewed old new
+  pub valued : IsSome (value_in new var)
+
+pub renewed_at : {S : Type 0} (stands_for : S → Infinitesimal) (tab : Table) (trail : TrailState S) (values : List (Option S)) (why : List (ℕ × Fraction)) (var : ℕ) (x : S) (seen : State)
+    → state_of stands_for tab trail values why ≡ seen → IsSound (state_of stands_for tab trail values why) → var < length seen.forms → (IsSome (value_in seen var) → ⊥)
+    → ((ns : List Node) → IsOver ns seen → HasValue (position_over ns seen) var (stands_for x))
+    → IsRenewedAt seen (state_of stands_for tab trail (set values var (Some x)) why) var
+renewed_at {S} stands_for tab trail values why var x seen view sound listed unknown right =
+    let here : State = state_of stands_for tab trail values why in
+    let none : value_in here var ≡ None = ap (λ (s : State). value_in s var) view ∙ none_known (value_in seen var) unknown in
+    let unknown_here : IsSome (value_in here var) → ⊥ = λ some. true≢false (sym some ∙ ap is_some none) in
+    let basic : nonbasic_in here var ≡ false = basic_form here sound var unknown_here in
+    let inside : var < length values =
+    subst (λ (m : ℕ). var < m) (sym sound.valued ∙ length-map values (option_map stands_for)) (subst (λ (s : State). var < length s.forms) (sym view) listed) in
+    let right_here : (ns : List Node) → IsOver ns here → HasValue (position_over ns here) var (stands_for x) =
+    subst (λ (s : State). (ns : List Node) → IsOver ns s → HasValue (position_over ns s) var (stands_for x)) (sym view) right in
+    record {
+      sound = sound_renewed stands_for tab trail values why var x sound inside basic none right_here;
+      renewed = subst (λ (s : State). IsRenewed s (state_of stands_for tab trail (set values var (Some x)) why)) view (renewed stands_for tab trail values why var x sound inside basic none right_here);
+      valued =
+          subst (λ (o : Option Infinitesimal). IsSome o) (sym (same_var stands_for tab trail values why var x sound inside basic none right_here))
+          refl;
+    }
+
+-- ---- One renewal after another
+
+pub renewed_itself : (s : State) → IsRenewed s s
+renewed_itself s = record { values = s.values; rest = refl; point = λ k. refl; kept = λ k x e. e }
+
+pub renewed_along : {s t u : State} → IsRenewed s t → IsRenewed t u → IsRenewed s u
+renewed_along h k = record {
+  values = k.values;
+  rest = k.rest ∙ ap (λ (s : State). record s { values = k.values }) h.rest;
+  point = λ n. k.point n ∙ h.point n;
+  kept = λ n x e. k.kept n x (h.kept n x e);
+}
+
+pub renewed_position : (ns : List Node) {s t : State} → IsRenewed s t → position_over ns t ≡ position_over ns s
+renewed_position ns {s} {t} h =
+    ap (λ (u : State). let q : Position = record { forms = (position_over ns u).forms; point = point_in t; lower = (position_over ns u).lower; upper = (position_over ns u).upper } in q) h.rest
+    ∙ ap (λ (p : Point). let q : Position = record { forms = (position_over ns s).forms; point = p; lower = (position_over ns s).lower; upper = (position_over ns s).upper } in q)
+    (fun_ext h.point)
+
+pub renewed_forms : {s t : State} → IsRenewed s t → t.forms ≡ s.forms
+renewed_forms h = ap (λ (u : State). u.forms) h.rest
+
+pub renewed_some : {s t : State} → IsRenewed s t → (k : ℕ) → IsSome (value_in s k) → IsSome (value_in t k)
+renewed_some {s} {t} h k = by_value (value_in s k) refl
+  where
+    by_value : (o : Option Infinitesimal) → value_in s k ≡ o → IsSome o → IsSome (value_in t k)
+    by_value None e some = absurd (true≢false (sym some))
+    by_value (Some x) e some = subst (λ (o : Option Infinitesimal). IsSome o) (sym (h.kept k x e)) refl

@@ -1,6 +1,6 @@
 -- A value from its row, one nonbasic form after another.
 use Rattle.std.proofs.Common.{◌≡◌, ℕ, List, [], ◌∷◌, ◌++◌, Some, None, refl, sym, ap, ◌∙◌, append_assoc}
-use Rattle.nz_fractions.specs.Fraction.{Fraction, Operation, first_wide}
+use Rattle.nz_fractions.specs.Fraction.{Operation, first_wide}
 use Rattle.nz_spec.specs.FirstOperations.{FirstOfTwo}
 use Rattle.nz_spec.specs.Infinitesimal.{Infinitesimal}
 use Rattle.nz_spec.specs.Basis.{Coefficients}

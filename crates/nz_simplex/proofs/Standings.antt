@@ -8,7 +8,7 @@ use Rattle.std.specs.Cmp.{IsTotalOrder}
 use Rattle.std.proofs.lemmas.List.Elements.{All-head, All-tail}
 use Rattle.nz_spec.specs.Infinitesimal.{Infinitesimal, infinitesimal_cmp}
 use Rattle.nz_spec.specs.PositionMoves.{is_outside}
-use Rattle.nz_trail.specs.Bounds.{Asserted, IsOn, IsTighter, IsTightest, Stands, asserted}
+use Rattle.nz_trail.specs.Bounds.{Asserted, IsOn, IsTighter, Stands, asserted}
 use Rattle.nz_trail.specs.declared.limits.Limit.{Limit}
 use Rattle.nz_trail.specs.declared.limits.Side.{Side}
 use Rattle.nz_trail.specs.declared.limits.Side.TheVariants.{Lower, Upper}
@@ -52,7 +52,7 @@ and_second false b e = cc
 
 module _ {S : Type 0} (stands_for : S → Infinitesimal) (order : S → S → Ordering) (total : IsTotalOrder order)
     (same : (x y : S) → order x y ≡ infinitesimal_cmp (stands_for x) (stands_for y)) where
-  tighter_news : (side : Side) (x y : S) → IsTighter order side x y → is_outside (half side) (stands_for x) (stands_for y) ≡ true
+  pub tighter_news : (side : Side) (x y : S) → IsTighter order side x y → is_outside (half side) (stands_for x) (stands_for y) ≡ true
   tighter_news Lower x y e = ap is_lt (sym (same y x) ∙ total.antisymm y x ∙ ap ordering_reverse e)
   tighter_news Upper x y e = ap is_lt (sym (same x y) ∙ e)
 
@@ -61,7 +61,7 @@ module _ {S : Type 0} (stands_for : S → Infinitesimal) (order : S → S → Or
   slack_kept Upper x y n = ap is_lt (sym (same x y)) ∙ not_less (order x y) n
 
   module _ (v : ℕ) (side : Side) where
-    on_told : (e : Asserted S) → is_bound_of v side (told stands_for e) ≡ true → IsOn v side e
+    pub on_told : (e : Asserted S) → is_bound_of v side (told stands_for e) ≡ true → IsOn v side e
     on_told e t = record {
       var = number_same e.var v (and_first (e.var == v) (is_side side e.side) t);
       side = side_same side e.side (and_second (e.var == v) (is_side side e.side) t);

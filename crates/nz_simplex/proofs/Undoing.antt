@@ -1,5 +1,5 @@
 -- Bounds at the front of a list are looser than those of the whole list, so a simplex whose newest bounds are taken back is sound.
-use Rattle.std.proofs.Common.{◌≡◌, ℕ, zero, suc, ◌<◌, Bool, true, false, List, [], ◌∷◌, length, take, Option, Some, None, refl, sym, ap, ◌∙◌, subst}
+use Rattle.std.proofs.Common.{◌≡◌, ℕ, zero, suc, Bool, true, false, List, [], ◌∷◌, take, Option, Some, None, refl, sym, ap, ◌∙◌, subst}
 use Rattle.std.specs.Prelude.{◌&&◌, fold, option_map, unwrap_or, if◌then◌else◌}
 use Rattle.std.specs.Ordering.{is_lt}
 use Rattle.std.specs.declared.cmp.Ordering.{Ordering}
@@ -8,12 +8,12 @@ use Rattle.nz_spec.specs.Infinitesimal.{Infinitesimal, infinitesimal_cmp}
 use Rattle.nz_spec.specs.InfinitesimalMoves.{InfinitesimalsMove}
 use Rattle.nz_spec.specs.Bland as bland
 use Rattle.nz_spec.specs.Bland.{lower_side, upper_side, IsOutside, bound_on, HasValue}
-use Rattle.nz_spec.specs.PositionMoves.{is_outside, AreLooser, IsReadyToCheck, MovesKeepReady}
+use Rattle.nz_spec.specs.PositionMoves.{is_outside, IsReadyToCheck, MovesKeepReady}
 use Rattle.nz_spec.specs.Table.{Node}
 use Rattle.nz_trail.specs.declared.limits.Side.{Side}
 use Rattle.nz_trail.specs.declared.limits.Side.TheVariants.{Lower, Upper}
 use Rattle.nz_simplex.specs.Standing.{Held, half, is_bound_of, is_news, standing_with, standing, bound_in}
-use Rattle.nz_simplex.specs.State.{State, IsOver, IsSound, position_over}
+use Rattle.nz_simplex.specs.State.{State, IsSound, position_over}
 
 less_told : (o : Ordering) → is_lt o ≡ true → o ≡ Less
 less_told Less e = refl

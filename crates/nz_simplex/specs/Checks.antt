@@ -1,5 +1,5 @@
 -- What a check does and answers.
-use Rattle.std.specs.Prelude.{◌≡◌, ℕ, ◌<◌, Bool, true, false, List, [], ◌∷◌, length, flat_map, fold, pos, Option, Some, None, IsSome, Result, Ok, Err, if◌then◌else◌}
+use Rattle.std.specs.Prelude.{◌≡◌, ℕ, ◌<◌, false, List, [], ◌∷◌, length, flat_map, fold, pos, Option, Some, IsSome, Result, Ok, Err, if◌then◌else◌}
 use Rattle.nz_fractions.specs.Fraction.{Fraction, whole, first_wide, Operation}
 use Rattle.nz_spec.specs.Infinitesimal.{Infinitesimal}
 use Rattle.nz_spec.specs.Term.{is_zero}
@@ -109,6 +109,7 @@ Answers ns s left (Err Spent) = (left ≡ 0) × ((p : Pivot) × MayPivot (positi
 pub record IsRenewed (old new : State) : Type 0 where
   pub values : List (Option Infinitesimal)
   pub rest : new ≡ record old { values = values }
+  pub point : (k : ℕ) → point_in new k ≡ point_in old k
   pub kept : (k : ℕ) (x : Infinitesimal) → value_in old k ≡ Some x → value_in new k ≡ Some x
 
 -- what a call that only computes values tells

@@ -1,9 +1,8 @@
 -- How the forms of a step are chosen, by tests, and how values follow.
-use Rattle.std.specs.Prelude.{◌≡◌, ℕ, Bool, true, false, List, [], ◌∷◌, slice_index_or, pos, int_lt, Option, Some, None, IfSome, option_map, unwrap_or, if◌then◌else◌}
+use Rattle.std.specs.Prelude.{◌≡◌, ℕ, Bool, true, false, ◌&&◌, List, slice_index_or, pos, int_lt, Option, Some, None, IfSome, option_map, unwrap_or, if◌then◌else◌}
 use Rattle.nz_fractions.specs.Fraction.{Fraction, neg_ℚ}
 use Rattle.nz_spec.specs.Infinitesimal.{Infinitesimal, ◌=δ◌, ◌+δ◌, ◌-δ◌, scaled}
 use Rattle.nz_spec.specs.Term.{is_zero}
-use Rattle.nz_spec.specs.Bland as bland
 use Rattle.nz_spec.specs.Computation.{Computation, and_then}
 use Rattle.nz_spec.specs.Bland.{zero_infinitesimal, times, plus}
 use Rattle.nz_spec.specs.PositionMoves.{is_outside}
@@ -31,10 +30,6 @@ size_of c = if is_below_zero c then neg_ℚ c else c
 abbrev pub way_of : Side → Fraction → Option Side
 way_of side c = if is_zero c then None else if is_below_zero c then Some (other_side side) else Some side
 
--- that side, where the coefficient isn't 0
-abbrev pub moving_side : Side → Fraction → Side
-moving_side side c = if is_below_zero c then other_side side else side
-
 -- ---- Room and bounds that are broken
 
 module _ {S : Type 0} (stands_for : S → Infinitesimal) where
@@ -45,6 +40,10 @@ module _ {S : Type 0} (stands_for : S → Infinitesimal) where
   abbrev pub is_past_known : Side → S → Option S → Bool
   is_past_known side bound None = false
   is_past_known side bound (Some x) = is_past side bound x
+
+  -- whether a form is nonbasic, and its value breaks a bound of this side
+  abbrev pub is_moving : List Bool → List (Option S) → ℕ → Side → S → Bool
+  is_moving marks values v side bound = slice_index_or marks v false && is_past_known side bound (slice_index_or values v None)
 
   abbrev pub has_room : Side → Option (Limit S) → S → Bool
   has_room side None x = true

@@ -1,11 +1,11 @@
 -- Fractions and pairs of them are faithful to the infinitesimal numbers that they stand for.
-use Rattle.std.specs.Prelude.{◌≡◌, Bool, false, List, [], ◌∷◌, pos, refl, Some, None, if◌then◌else◌}
+use Rattle.std.specs.Prelude.{◌≡◌, Bool, false, [], ◌∷◌, pos, refl, Some, None, if◌then◌else◌}
 use Rattle.std.specs.Ordering.{ordering_then}
 use Rattle.std.specs.declared.cmp.Ordering.{Ordering}
 use Rattle.std.specs.declared.cmp.Ordering.TheVariants.{Less, Equal, Greater}
 use Rattle.std.proofs.Common.{sym, ap, subst, ◌∙◌, lit≤}
 use Rattle.nz_ints.specs.Division.{gcd, gcd_within}
-use Rattle.nz_fractions.specs.Fraction.{Fraction, denominator, whole, ◌=ℚ◌, ◌+ℚ◌, ◌-ℚ◌, ◌*ℚ◌, neg_ℚ, fraction_cmp, outcome, Sum, Difference, Product, Operation, first_wide, is_wide, IsNumber}
+use Rattle.nz_fractions.specs.Fraction.{Fraction, denominator, whole, ◌=ℚ◌, ◌+ℚ◌, ◌-ℚ◌, ◌*ℚ◌, fraction_cmp, outcome, Sum, Difference, Product, Operation, first_wide, is_wide, IsNumber}
 use Rattle.nz_spec.specs.Infinitesimal as spec
 use Rattle.nz_spec.specs.Infinitesimal.{Infinitesimal, ◌+δ◌, ◌-δ◌, infinitesimal_cmp}
 use Rattle.nz_spec.specs.Bland.{standing}

@@ -1,8 +1,7 @@
 -- What the calls outside of a check leave.
-use Rattle.std.specs.Prelude.{◌≡◌, ℕ, zero, suc, ◌<◌, ◌==◌, ◌||◌, Bool, true, false, not, List, [], ◌∷◌, ◌++◌, map, length, take, nat_lt, Option, Some, None, fold, if◌then◌else◌}
-use Rattle.nz_spec.specs.Infinitesimal.{Infinitesimal}
+use Rattle.std.specs.Prelude.{◌≡◌, ℕ, ◌<◌, ◌==◌, ◌||◌, Bool, true, false, List, [], ◌∷◌, ◌++◌, length, nat_lt, Some, None, fold, if◌then◌else◌}
 use Rattle.nz_spec.specs.Bland.{zero_infinitesimal, is_nonbasic, Position}
-use Rattle.nz_spec.specs.PositionMoves.{is_outside, with_unit, with_form, with_bound}
+use Rattle.nz_spec.specs.PositionMoves.{with_unit, with_form, with_bound}
 use Rattle.nz_spec.specs.Table.{Node, term_in}
 use Rattle.nz_spec.specs.Term.{Term}
 use Rattle.nz_lin.specs.declared.form.Part.{Part}
@@ -12,10 +11,10 @@ use Rattle.nz_spec.specs.BasisMoves.{Rows, AreRows, joining_row}
 use Rattle.nz_spec.specs.Computation.{Computation}
 use Rattle.nz_fractions.specs.Fraction.{first_wide}
 use Rattle.nz_frac.specs.Operations.{operation_of}
-use Rattle.nz_tab.specs.Joins.{is_unit_form, new_units, with_units, unit_number, number_by}
+use Rattle.nz_tab.specs.Joins.{number_by}
+use Rattle.nz_tab.specs.Units.{is_unit_form, new_units, with_units, unit_number}
 use Rattle.nz_tab.specs.declared.tab.TabStop.{TabStop}
 use Rattle.nz_tab.specs.declared.tab.TabStop.TheVariants.{Wide, Memory}
-use Rattle.nz_trail.specs.declared.limits.Side.{Side}
 use Rattle.nz_simplex.specs.Standing.{Held, half}
 use Rattle.nz_simplex.specs.State.{State, nonbasic_in, value_in, IsOver, position_over}
 

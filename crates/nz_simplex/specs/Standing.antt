@@ -1,5 +1,5 @@
 -- Which bound of a form stands: the tightest that was asserted and not undone, the first one of its value.
-use Rattle.std.specs.Prelude.{ℕ, ◌==◌, Bool, true, false, ◌&&◌, List, [], ◌∷◌, fold, Option, Some, None, option_map, unwrap_or, if◌then◌else◌}
+use Rattle.std.specs.Prelude.{ℕ, ◌==◌, Bool, true, false, ◌&&◌, List, fold, Option, Some, None, option_map, unwrap_or, if◌then◌else◌}
 use Rattle.nz_spec.specs.Infinitesimal.{Infinitesimal}
 use Rattle.nz_spec.specs.Bland as bland
 use Rattle.nz_spec.specs.PositionMoves.{is_outside}

@@ -1,10 +1,9 @@
 -- What a contract sees of a simplex, and the position that it is over a table of terms.
-use Rattle.std.specs.Prelude.{◌≡◌, ℕ, ◌<◌, Bool, true, false, not, List, [], map, length, slice_index_or, Option, Some, None, IsSome, if◌then◌else◌}
+use Rattle.std.specs.Prelude.{◌≡◌, ℕ, Bool, true, false, List, [], map, length, slice_index_or, Option, Some, None, IsSome, if◌then◌else◌}
 use Rattle.std.specs.List.{AllByRecursion}
 use Rattle.nz_fractions.specs.Fraction.{Fraction}
 use Rattle.nz_spec.specs.Infinitesimal.{Infinitesimal}
 use Rattle.nz_spec.specs.Bland.{Point, Position, HasValue}
-use Rattle.nz_spec.specs.BasisMoves.{numbers}
 use Rattle.nz_spec.specs.PositionMoves.{IsReadyToCheck}
 use Rattle.nz_spec.specs.Table.{Node, IsTable}
 use Rattle.nz_lin.specs.declared.form.Part.{Part}

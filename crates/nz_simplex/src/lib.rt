@@ -7,6 +7,11 @@
 mod answer;
 mod choice;
 mod coordinate;
+mod helper;
+pub mod laws;
+mod lists;
+mod multipliers;
+mod room;
 mod simplex;
 mod steps;
 mod values;

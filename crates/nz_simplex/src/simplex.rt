@@ -1,36 +1,36 @@
 //! The simplex: forms over a basis, their bounds, and the point.
-ghost use Rattle.std.specs.Prelude.{◌≡◌, ◌≢◌, ◌↔◌, ◌<◌, ◌≤◌, ◌&&◌, if◌then◌else◌, ℕ, [], ◌∷◌, List, All, IfOk, OnOk, OnErr, IfErr, IfSome, IfNone, IsSome, IsTrue, None, Some, Ok, Err, false, true, not, pos, flat_map, length, map, option_map, slice_index_or, take, vec_capacity, vec_len};
+ghost use Rattle.std.specs.Prelude.{◌≡◌, ◌≢◌, ◌↔◌, ◌<◌, ◌≤◌, ℕ, [], ◌∷◌, List, All, IfOk, OnOk, OnErr, IfErr, IfSome, IfNone, IsSome, IsTrue, is_some, None, Some, Ok, Err, false, true, not, length, option_map, slice_index_or, take, vec_capacity};
 ghost use Rattle.nz_lin.specs.Forms.{AreUnits};
-ghost use Rattle.nz_simplex.specs.Checks.{Answers, IsFirstBroken, IsRenewed, IsStepped, Renews, StopsAt, multipliers};
-ghost use Rattle.nz_simplex.specs.Choices.{is_past_known, moving_side, size_of};
-ghost use Rattle.nz_simplex.specs.Stored.{first_passing, held_back, is_helping};
+ghost use Rattle.nz_simplex.specs.Checks.{Answers, IsFeasible, IsFirstBroken, IsRefuted, IsRenewed, IsStepped, Renews, StopsAt};
+ghost use Rattle.nz_simplex.specs.Stored.{IsPastBound, first_passing, is_breaking};
 ghost use Rattle.nz_simplex.specs.Moves.{IsBounded, IsJoined, IsSettled, JoinStops, joined_over};
-ghost use Rattle.nz_simplex.specs.Standing.{half, standing, told, told_on};
+ghost use Rattle.nz_simplex.specs.Standing.{half, standing, told_on};
 ghost use Rattle.nz_simplex.specs.State.{IsOver, IsSound, empty_state, nonbasic_in, position_over, value_in};
 ghost use Rattle.nz_simplex.specs.Stored.{basic_numbers};
-ghost use Rattle.nz_simplex.specs.Tabled.{coefficients_in, marks_in, rows_in};
+ghost use Rattle.nz_simplex.specs.Tabled.{coefficients_in};
 ghost use Rattle.nz_spec.specs.Bland as bland;
 ghost use Rattle.nz_spec.specs.Bland.{Breaks, CanHelp, HasValue, IsCheckStep, is_nonbasic};
-ghost use Rattle.nz_spec.specs.BasisMoves.{numbers};
-ghost use Rattle.nz_spec.specs.Basis.{Coefficients, IsRow};
-ghost use Rattle.nz_spec.specs.Infinitesimal.{Infinitesimal, infinitesimal_cmp};
-ghost use Rattle.nz_fractions.specs.Fraction.{whole};
+ghost use Rattle.nz_spec.specs.Basis.{IsRow};
+ghost use Rattle.nz_spec.specs.Infinitesimal.{infinitesimal_cmp};
 ghost use Rattle.nz_spec.specs.Table.{Node};
-ghost use Rattle.nz_spec.specs.Term.{is_zero};
-ghost use Rattle.nz_trail.specs.Bounds.{ClashesWith, IsExcluded, IsImplied, asserted, other_side};
+ghost use Rattle.nz_trail.specs.Bounds.{ClashesWith, IsExcluded, IsImplied, asserted};
 ghost use Rattle.nz_trail.specs.declared.limits.Side.TheVariants.{Lower, Upper};
 
 use crate::answer::{Check, Place, SimplexStop, Site};
-use crate::choice::{Broken, broken_bound, has_room, is_outside, opposite, size, way};
+use crate::choice::{Broken, broken_bound};
 use crate::coordinate::Coordinate;
+use crate::helper::first_helper;
+use crate::lists::{extend_values, list_basic, list_nonbasic};
+use crate::multipliers::put_multipliers;
+use crate::room::{count_with, reserve};
 use crate::steps::Steps;
-use crate::values::{move_to, row_value};
+use crate::values::{move_to, move_within, row_value};
 use nz_base::Memory;
 use nz_frac::{Frac, Wide};
 use nz_lin::{Form, Part};
 use nz_spec::basis::{
-    check_steps_keep_basis, joins_keep_basis, moves_keep_ready, no_help_refutes,
-    positions_have_values, rows_tell, sum_moves, value_is_computed,
+    check_steps_keep_basis, moves_keep_ready, nonbasic_form_is_itself, positions_have_values,
+    rows_tell, sum_moves, value_is_computed,
 };
 use nz_spec::computation::infinitesimals_move;
 use nz_spec::pivots::pivots_are_runs;
@@ -186,30 +186,25 @@ impl<S: Coordinate> Simplex<S> {
         ensures stops { IfErr result (λ e. (ns : List Node) → IsOver ns self.old → AreUnits ns form.now.parts → JoinStops ns self.old form.now.parts e) }
         ensures unchanged { OnErr result (self.new ≡ self.old) }
     {
-        self.reserve(form.parts().len())?;
-        joins_keep_basis();
-        moves_keep_ready();
+        positions_have_values();
+        infinitesimals_move();
+        nonbasic_form_is_itself();
+        known_tableau(&self.tab);
+        let count = count_with(self.tab.len(), form.parts().len())?;
+        reserve(
+            &mut self.trail,
+            &mut self.values,
+            &mut self.basic,
+            &mut self.nonbasic,
+            &mut self.why,
+            count,
+        )?;
         let var = self.tab.add_form(form)?;
+        known_tableau(&self.tab);
         extend_values(&self.tab, &mut self.values);
         list_basic(&self.tab, &mut self.basic);
         list_nonbasic(&self.tab, &mut self.nonbasic);
         Ok(var)
-    }
-
-    /// Makes room for a form of so many parts, of which each may be a new unit.
-    fn reserve(&mut self, parts: usize) -> Result<(), Memory>
-        ensures unchanged { self.new ≡ self.old }
-    {
-        let more = parts.checked_add(1).ok_or(Memory)?;
-        let count = self.tab.len().checked_add(more).ok_or(Memory)?;
-        self.values.reserve(more)?;
-        self.basic.reserve(count)?;
-        self.nonbasic.reserve(count)?;
-        self.why.reserve(count)?;
-        while self.trail.len() < count {
-            self.trail.add_var()?;
-        }
-        Ok(())
     }
 
     /// Asserts a bound of a form. A nonbasic form that is outside of it moves to it, and the values of the basic forms follow.
@@ -236,13 +231,17 @@ impl<S: Coordinate> Simplex<S> {
     {
         moves_keep_ready();
         sum_moves();
-        let outcome = self.trail.assert_bound(var, side, value, reason)?;
-        if outcome == Bound::Tighter
-            && is_to_move(&self.tab, self.values.as_slice(), var, side, value)
-        {
-            move_to(&self.tab, self.values.as_mut_slice(), var, value);
+        positions_have_values();
+        infinitesimals_move();
+        nonbasic_form_is_itself();
+        known_tableau(&self.tab);
+        match self.trail.assert_bound(var, side, value, reason)? {
+            Bound::Tighter => {
+                move_within(&self.tab, self.values.as_mut_slice(), var, side, value);
+                Ok(Bound::Tighter)
+            }
+            outcome => Ok(outcome),
         }
-        Ok(outcome)
     }
 
     /// Moves these nonbasic forms, which have no bounds, to 0.
@@ -271,13 +270,18 @@ impl<S: Coordinate> Simplex<S> {
         ensures settled { IsSettled self.old self.new (var ∷ []) }
     {
         sum_moves();
+        positions_have_values();
+        infinitesimals_move();
+        nonbasic_form_is_itself();
+        known_tableau(&self.tab);
         move_to(&self.tab, self.values.as_mut_slice(), var, S::zero());
     }
 
     /// Computes the values that aren't known from their rows.
     fn renew(&mut self) -> Result<(), SimplexStop>
         ensures renewed { IsRenewed self.old self.new }
-        ensures answer { (ns : List Node) → IsOver ns self.new → Renews ns self.new result }
+        ensures valued { OnOk result ((k : ℕ) → k < length self.new.forms → IsSome (value_in self.new k)) }
+        ensures answer { (ns : List Node) → IsOver ns self.new → IfErr result (λ e. StopsAt ns self.new e) }
     {
         for var in 0..self.values.len() {
             self.renew_one(var)?;
@@ -337,8 +341,6 @@ impl<S: Coordinate> Simplex<S> {
         ensures why { result ≢ Ok Check.Clash → self.new.why ≡ self.old.why }
     {
         pivots_are_runs();
-        positions_have_values();
-        no_help_refutes();
         self.renew()?;
         while let Some(broken) = self.first_broken() {
             if !self.step(&broken, work)? {
@@ -353,22 +355,45 @@ impl<S: Coordinate> Simplex<S> {
     /// The least-numbered basic form that breaks a bound.
     fn first_broken(&self) -> Option<Broken<S>>
         requires valued { (k : ℕ) → k < length self.now.forms → IsSome (value_in self.now k) }
-        ensures found { IfSome result (λ b. (standing self.now.asserted b.var b.side ≡ Some (told_on S.stands_for b.var b.side b.limit))
-            × ((ns : List Node) → IsOver ns self.now → IsFirstBroken (position_over ns self.now) (half b.side) (S.stands_for b.limit.value) b.var)) }
-        ensures none { IfNone result ((ns : List Node) → IsOver ns self.now → (side : bland.Side) → (bound : Infinitesimal) → (i : ℕ) → Breaks (position_over ns self.now) side bound i → ⊥) }
+        ensures known { IfSome result (λ b. b.var < length self.now.forms) }
+        ensures basic { IfSome result (λ b. nonbasic_in self.now b.var ≡ false) }
+        ensures stands { IfSome result (λ b. standing self.now.asserted b.var b.side ≡ Some (told_on S.stands_for b.var b.side b.limit)) }
+        ensures broken { IfSome result (λ b. (ns : List Node) → IsOver ns self.now → IsFirstBroken (position_over ns self.now) (half b.side) (S.stands_for b.limit.value) b.var) }
+        ensures none { IfNone result ((ns : List Node) → IsOver ns self.now → IsFeasible ns self.now) }
     {
         positions_have_values();
-        for var in self.basic.as_slice() {
-            let (lower, upper) = self.trail.bounds(*var);
-            if let Some((side, limit)) = broken_bound(self.value(*var), lower, upper) {
-                return Some(Broken {
-                    var: *var,
-                    side,
-                    limit,
-                });
+        infinitesimals_move();
+        known_state(self);
+        self.first_breaking(self.basis())
+    }
+
+    /// The first of these forms that breaks a bound.
+    fn first_breaking(&self, forms: &[Var]) -> Option<Broken<S>>
+        requires listed { All (λ k. k < length self.now.forms) forms.now }
+        requires valued { (k : ℕ) → k < length self.now.forms → IsSome (value_in self.now k) }
+        ensures found { IfSome result (λ b. (first_passing (is_breaking self.now) forms.now ≡ Some b.var) × IsPastBound S.stands_for self.now b.var b.side b.limit) }
+        ensures none { IfNone result (first_passing (is_breaking self.now) forms.now ≡ None) }
+    {
+        for var in forms {
+            if let Some(broken) = self.broken_at(*var) {
+                return Some(broken);
             }
         }
         None
+    }
+
+    /// A form with the bound that its value is past, where there is one.
+    fn broken_at(&self, var: Var) -> Option<Broken<S>>
+        requires known { var < length self.now.forms }
+        requires valued { IsSome (value_in self.now var) }
+        ensures past { IfSome result (λ b. (b.var ≡ var) × IsPastBound S.stands_for self.now b.var b.side b.limit) }
+        ensures breaks { is_some result ≡ is_breaking self.now var }
+    {
+        let (lower, upper) = self.bounds(var);
+        match broken_bound(self.value(var), lower, upper) {
+            Some((side, limit)) => Some(Broken { var, side, limit }),
+            None => None,
+        }
     }
 
     /// Exchanges a form that breaks a bound with the least-numbered nonbasic form that can help, moves it to the bound, and notes
@@ -381,6 +406,7 @@ impl<S: Coordinate> Simplex<S> {
         ensures taken { result ≡ Ok true → (j : ℕ) × (work.new ≡ W.with_step work.old broken.now.var j)
             × ((ns : List Node) → IsOver ns self.old → IsCheckStep (position_over ns self.old) (position_over ns self.new) broken.now.var j) }
         ensures helpless { result ≡ Ok false → (ns : List Node) → IsOver ns self.old → (j : ℕ) → CanHelp (position_over ns self.old) broken.now.var (bland.other_side (half broken.now.side)) j → ⊥ }
+        ensures paid { result ≡ Ok true → W.units_left work.new < W.units_left work.old }
         ensures forms { self.new.forms ≡ self.old.forms }
         ensures asserted { self.new.asserted ≡ self.old.asserted }
         ensures why { self.new.why ≡ self.old.why }
@@ -391,6 +417,8 @@ impl<S: Coordinate> Simplex<S> {
         check_steps_keep_basis();
         moves_keep_ready();
         rows_tell();
+        infinitesimals_move();
+        nonbasic_form_is_itself();
         known_tableau(&self.tab);
         let Some(enters) = first_helper(
             &self.tab,
@@ -407,6 +435,7 @@ impl<S: Coordinate> Simplex<S> {
         if let Err(wide) = self.tab.pivot(broken.var, enters) {
             return Err(exchange_stop(wide, broken.var, enters));
         }
+        known_tableau(&self.tab);
         move_to(
             &self.tab,
             self.values.as_mut_slice(),
@@ -424,11 +453,13 @@ impl<S: Coordinate> Simplex<S> {
         requires known { broken.now.var < length self.old.forms }
         requires basic { nonbasic_in self.old broken.now.var ≡ false }
         requires stands { standing self.old.asserted broken.now.var broken.now.side ≡ Some (told_on S.stands_for broken.now.var broken.now.side broken.now.limit) }
+        requires broken { (ns : List Node) → IsOver ns self.old → Breaks (position_over ns self.old) (half broken.now.side) (S.stands_for broken.now.limit.value) broken.now.var }
         requires helpless { (ns : List Node) → IsOver ns self.old → (j : ℕ) → CanHelp (position_over ns self.old) broken.now.var (bland.other_side (half broken.now.side)) j → ⊥ }
-        ensures why { (ns : List Node) → IsOver ns self.old → (row : Coefficients) × (IsRow (position_over ns self.old).forms (is_nonbasic (position_over ns self.old).point) broken.now.var row)
-            × (self.new ≡ record self.old { why = multipliers self.old broken.now.var broken.now.side row }) }
+        ensures rest { self.new ≡ record self.old { why = self.new.why } }
+        ensures refuted { (ns : List Node) → IsOver ns self.old → IsRefuted ns self.new }
     {
-        rows_tell();
+        positions_have_values();
+        infinitesimals_move();
         known_tableau(&self.tab);
         put_multipliers(
             &self.tab,
@@ -448,169 +479,6 @@ fn exchange_stop(wide: Wide, leaves: Var, enters: Var) -> SimplexStop
         wide,
         site: Site::Row { leaves, enters },
     })
-}
-
-/// The least-numbered of these nonbasic forms that can take a form back to its bound.
-fn first_helper<S: Coordinate>(
-    tab: &Tab,
-    trail: &Trail<S>,
-    nonbasic: &[Var],
-    values: &[Option<S>],
-    broken: &Broken<S>,
-) -> Option<Var>
-    requires known { broken.now.var < length tab.now.forms }
-    requires basic { slice_index_or (marks_in tab.now) broken.now.var false ≡ false }
-    requires listed { All (λ k. k < trail.now.vars) nonbasic.now }
-    requires held { All (λ k. k < length values.now) nonbasic.now }
-    requires valued { All (λ k. IsSome (slice_index_or values.now k None)) nonbasic.now }
-    ensures first { result ≡ first_passing (λ k. is_helping S.stands_for trail.now.asserted values.now (other_side broken.now.side) k (rows_in tab.now broken.now.var k)) nonbasic.now }
-{
-    let row = tab.row(broken.var);
-    for var in nonbasic {
-        if can_help(trail, values, *var, opposite(broken.side), row.at(*var)) {
-            return Some(*var);
-        }
-    }
-    None
-}
-
-/// Whether a nonbasic form can take the form of a row, in which it has this coefficient, towards a side.
-fn can_help<S: Coordinate>(
-    trail: &Trail<S>,
-    values: &[Option<S>],
-    var: Var,
-    side: Side,
-    coefficient: Frac,
-) -> bool
-    requires known { var < trail.now.vars }
-    requires held { var < length values.now }
-    requires valued { IsSome (slice_index_or values.now var None) }
-    ensures helps { result ≡ is_helping S.stands_for trail.now.asserted values.now side var coefficient }
-{
-    match way(side, coefficient) {
-        Some(side) => has_room(side, bound_of(trail, side, var), values[var].unwrap()),
-        None => false,
-    }
-}
-
-/// The bounds that keep a form from its bound, with their multipliers, in place of what was there.
-fn put_multipliers<S: Coordinate>(
-    tab: &Tab,
-    trail: &Trail<S>,
-    nonbasic: &[Var],
-    broken: &Broken<S>,
-    why: &mut Vec<(Reason, Frac)>,
-)
-    requires known { broken.now.var < length tab.now.forms }
-    requires basic { slice_index_or (marks_in tab.now) broken.now.var false ≡ false }
-    requires listed { All (λ k. k < trail.now.vars) nonbasic.now }
-    requires room { length nonbasic.now < vec_capacity why.old }
-    ensures capacity { vec_capacity why.new ≡ vec_capacity why.old }
-    ensures put { why.new.items ≡ (broken.now.limit.reason, whole (pos 1)) ∷ flat_map (held_back S.stands_for trail.now.asserted broken.now.side (rows_in tab.now broken.now.var)) nonbasic.now }
-{
-    why.clear();
-    why.push_reserved((broken.limit.reason, Frac::whole(1)));
-    let row = tab.row(broken.var);
-    for var in nonbasic {
-        if let Some(multiplier) = multiplier_of(trail, *var, opposite(broken.side), row.at(*var)) {
-            why.push_reserved(multiplier);
-        }
-    }
-}
-
-/// The reason and the multiplier of the bound that keeps a nonbasic form from moving, where its coefficient isn't 0.
-fn multiplier_of<S: Coordinate>(
-    trail: &Trail<S>,
-    var: Var,
-    side: Side,
-    coefficient: Frac,
-) -> Option<(Reason, Frac)>
-    requires known { var < trail.now.vars }
-    ensures still { is_zero coefficient ≡ true → result ≡ None }
-    ensures held { is_zero coefficient ≡ false → result ≡ option_map (λ l. (l.reason, size_of coefficient))
-        (standing (map (told S.stands_for) trail.now.asserted) var (moving_side side coefficient)) }
-{
-    let side = way(side, coefficient)?;
-    let limit = bound_of(trail, side, var)?;
-    Some((limit.reason, size(coefficient)))
-}
-
-/// The bound that stands of a variable on a side.
-fn bound_of<S: Coordinate>(trail: &Trail<S>, side: Side, var: Var) -> Option<Limit<S>>
-    requires known { var < trail.now.vars }
-    ensures bound { option_map (told_on S.stands_for var side) result ≡ standing (map (told S.stands_for) trail.now.asserted) var side }
-{
-    let (lower, upper) = trail.bounds(var);
-    match side {
-        Side::Lower => lower,
-        Side::Upper => upper,
-    }
-}
-
-/// Values for the forms that have joined: a nonbasic one stands at 0, and that of a basic one isn't known yet.
-fn extend_values<S: Coordinate>(tab: &Tab, values: &mut Vec<Option<S>>)
-    requires marked { length (marks_in tab.now) ≡ length tab.now.forms }
-    requires fewer { vec_len values.old ≤ length tab.now.forms }
-    requires room { length tab.now.forms ≤ vec_capacity values.old }
-    ensures long { length values.new.items ≡ length tab.now.forms }
-    ensures stays { take (vec_len values.old) values.new.items ≡ values.old.items }
-    ensures capacity { vec_capacity values.new ≡ vec_capacity values.old }
-    ensures joined { (k : ℕ) → vec_len values.old ≤ k → k < length tab.now.forms
-        → slice_index_or values.new.items k None ≡ (if slice_index_or (marks_in tab.now) k false then Some S.origin else None) }
-{
-    for var in values.len()..tab.len() {
-        values.push_reserved(first_value(tab.is_basic(var)));
-    }
-}
-
-/// The value of a form that joins.
-fn first_value<S: Coordinate>(is_basic: bool) -> Option<S>
-    ensures value { result ≡ (if is_basic then None else Some S.origin) }
-{
-    if is_basic { None } else { Some(S::zero()) }
-}
-
-/// Lists the basic forms.
-fn list_basic(tab: &Tab, basic: &mut Vec<Var>)
-    requires room { length tab.now.forms ≤ vec_capacity basic.old }
-    ensures listed { basic.new.items ≡ numbers (length tab.now.forms) (λ k. not (slice_index_or (marks_in tab.now) k false)) }
-    ensures capacity { vec_capacity basic.new ≡ vec_capacity basic.old }
-{
-    basic.clear();
-    for var in 0..tab.len() {
-        if tab.is_basic(var) {
-            basic.push_reserved(var);
-        }
-    }
-}
-
-/// Lists the nonbasic forms.
-fn list_nonbasic(tab: &Tab, nonbasic: &mut Vec<Var>)
-    requires room { length tab.now.forms ≤ vec_capacity nonbasic.old }
-    ensures listed { nonbasic.new.items ≡ numbers (length tab.now.forms) (λ k. slice_index_or (marks_in tab.now) k false) }
-    ensures capacity { vec_capacity nonbasic.new ≡ vec_capacity nonbasic.old }
-{
-    nonbasic.clear();
-    for var in 0..tab.len() {
-        if !tab.is_basic(var) {
-            nonbasic.push_reserved(var);
-        }
-    }
-}
-
-/// Whether a form is nonbasic, and outside of a bound.
-fn is_to_move<S: Coordinate>(
-    tab: &Tab,
-    values: &[Option<S>],
-    var: Var,
-    side: Side,
-    bound: S,
-) -> bool
-    requires known { var < length tab.now.forms }
-    requires valued { length values.now ≡ length tab.now.forms }
-    ensures moves { result ≡ (slice_index_or (marks_in tab.now) var false && is_past_known S.stands_for side bound (slice_index_or values.now var None)) }
-{
-    !tab.is_basic(var) && values[var].is_some_and(|value| is_outside(side, bound, value))
 }
 
 /// Says what holds of each simplex: its nonbasic forms have values, what is known is the value at the position, and the position is

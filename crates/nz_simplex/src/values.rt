@@ -1,18 +1,19 @@
 //! Values of forms: how they follow a nonbasic form that moves, and how one is computed from its row.
 ghost use Rattle.std.specs.Prelude.{◌≡◌, ◌≢◌, ◌<◌, ℕ, All, IfOk, IfSome, IsSome, Some, None, true, false, length, slice_index_or};
 ghost use Rattle.nz_delta.specs.Refused.{refused};
-ghost use Rattle.nz_simplex.specs.Choices.{IsAfter, IsFollowed, multiple_onto, numbers_in};
+ghost use Rattle.nz_simplex.specs.Choices.{IsAfter, IsFollowed, is_moving, multiple_onto, numbers_in};
 ghost use Rattle.nz_simplex.specs.Tabled.{coefficients_in, marks_in, rows_in};
 ghost use Rattle.nz_spec.specs.Bland.{value_onto, zero_infinitesimal};
 ghost use Rattle.nz_fractions.specs.Fraction.{first_wide};
 ghost use Rattle.nz_spec.specs.Term.{is_zero};
 ghost use Rattle.nz_spec.specs.Infinitesimal.{◌=δ◌, ◌+δ◌, ◌-δ◌, scaled};
 
+use crate::choice::is_outside;
 use crate::coordinate::Coordinate;
 use nz_frac::{Frac, Wide};
 use nz_spec::computation::{first_of_two, infinitesimals_move};
 use nz_tab::{Row, Tab};
-use nz_trail::Var;
+use nz_trail::{Side, Var};
 
 /// Moves a nonbasic form to a value, and the values of the basic forms follow it. A value that would leave the numbers isn't known
 /// then.
@@ -33,6 +34,47 @@ pub(crate) fn move_to<S: Coordinate>(tab: &Tab, values: &mut [Option<S>], var: V
         values[form] = value_after(tab, form, var, values[form], distance);
     }
     values[var] = Some(target);
+}
+
+/// Moves a nonbasic form that is outside of a bound to it, and the values of the basic forms follow.
+pub(crate) fn move_within<S: Coordinate>(
+    tab: &Tab,
+    values: &mut [Option<S>],
+    var: Var,
+    side: Side,
+    bound: S,
+)
+    requires marked { length (marks_in tab.now) ≡ length tab.now.forms }
+    requires valued { length values.old ≡ length tab.now.forms }
+    requires known { var < length tab.now.forms }
+    requires some { slice_index_or (marks_in tab.now) var false ≡ true → IsSome (slice_index_or values.old var None) }
+    ensures still { is_moving S.stands_for (marks_in tab.now) values.old var side bound ≡ false → values.new ≡ values.old }
+    ensures moved { is_moving S.stands_for (marks_in tab.now) values.old var side bound ≡ true → slice_index_or values.new var None ≡ Some bound }
+    ensures stays { is_moving S.stands_for (marks_in tab.now) values.old var side bound ≡ true
+        → (k : ℕ) → k ≢ var → slice_index_or (marks_in tab.now) k false ≡ true → slice_index_or values.new k None ≡ slice_index_or values.old k None }
+    ensures follows { is_moving S.stands_for (marks_in tab.now) values.old var side bound ≡ true
+        → (k : ℕ) → k < length tab.now.forms → slice_index_or (marks_in tab.now) k false ≡ false
+        → IsFollowed S.stands_for (slice_index_or values.old var None) bound (rows_in tab.now k var) (slice_index_or values.old k None) (slice_index_or values.new k None) }
+{
+    if !is_to_move(tab, values, var, side, bound) {
+        return;
+    }
+    move_to(tab, values, var, bound);
+}
+
+/// Whether a form is nonbasic, and outside of a bound.
+fn is_to_move<S: Coordinate>(
+    tab: &Tab,
+    values: &[Option<S>],
+    var: Var,
+    side: Side,
+    bound: S,
+) -> bool
+    requires known { var < length tab.now.forms }
+    requires valued { length values.now ≡ length tab.now.forms }
+    ensures moves { result ≡ is_moving S.stands_for (marks_in tab.now) values.now var side bound }
+{
+    !tab.is_basic(var) && values[var].is_some_and(|value| is_outside(side, bound, value))
 }
 
 /// The value of a form when a nonbasic one moves by a distance: a nonbasic form stays.

@@ -1,5 +1,5 @@
 //! Bounds asserted and undone against a plain list.
-use crate::forms::{Taken, bounds, constant, delta, pair, put};
+use crate::forms::{Taken, bounds, constant, delta, pair, put, undo_to};
 use crate::seeded::next;
 use crate::sums::{all_within, fits};
 use nz_delta::Delta;
@@ -101,9 +101,7 @@ fn step(
         }
         1 => {
             if let Some((mark, long)) = marks.pop() {
-                if mark <= simplex.mark() {
-                    simplex.undo(mark);
-                }
+                undo_to(simplex, mark);
                 list.truncate(long);
             }
             Ok(true)

@@ -1,5 +1,7 @@
 //! Small systems that are known beforehand.
-use crate::forms::{Taken, checked, constant, delta, frac, pair, put, unit, value};
+use crate::forms::{
+    Taken, checked, constant, delta, frac, pair, put, settled, undo_to, unit, value,
+};
 use crate::sums::{all_within, contradicts, fits};
 use nz_delta::Delta;
 use nz_frac::Frac;
@@ -67,9 +69,7 @@ fn a_cycle_of_strict_bounds_clashes(rt: HostRuntime) -> Result<(), Fail> {
     ];
     assert_eq!(rt; simplex.why().len(), 3);
     assert!(rt; contradicts(&simplex, &given, &[x, y, z]));
-    if mark <= simplex.mark() {
-        simplex.undo(mark);
-    }
+    undo_to(&mut simplex, mark);
     assert!(rt; matches!(checked(alloc, &mut simplex, 20)?, Ok(Check::Feasible)));
     assert!(rt; all_within(&simplex));
     Ok(())
@@ -117,10 +117,8 @@ fn settled_forms_stand_at_zero(rt: HostRuntime) -> Result<(), Fail> {
     put(&mut simplex, 1, Side::Lower, frac(7, 2)?, 1)?;
     assert!(rt; matches!(checked(alloc, &mut simplex, 0)?, Ok(Check::Feasible)));
     assert!(rt; value(&simplex, sum).is_some_and(|v| v.num() == 17 && v.den() == 2));
-    if mark <= simplex.mark() {
-        simplex.undo(mark);
-    }
-    assert!(rt; simplex.settle(&[0]).is_ok());
+    undo_to(&mut simplex, mark);
+    assert!(rt; matches!(settled(&mut simplex, 0), Some(Ok(()))));
     assert!(rt; value(&simplex, 0).is_some_and(|v| v.is_zero()));
     assert!(rt; value(&simplex, sum).is_some_and(|v| v.num() == 7 && v.den() == 2));
     assert!(rt; unit(alloc, &mut terms, &mut simplex, y)? == 1);

@@ -1,5 +1,6 @@
-//! Forms in a simplex, for tests.
-ghost use Rattle.std.specs.Prelude.{◌<◌, ◌≤◌, ◌≡◌, ◌+◌, ◌∷◌, [], ◌++◌, All, IfOk, length};
+//! Forms in a simplex, for tests: what a call asks is tested here, so that tests have nothing to prove of it.
+ghost use Rattle.std.specs.Prelude.{◌<◌, All};
+ghost use Rattle.std.specs.Bool.{OnTrue};
 
 use nz_base::{Memory, Text};
 use nz_delta::Delta;
@@ -14,47 +15,54 @@ use std::marker::Model;
 use std::test::Fail;
 
 /// A constant of sort Real.
-pub fn constant(terms: &mut Terms, alloc: Global, name: &[u8]) -> Result<TermId, Memory>
-    ensures within { IfOk result (λ id. id < length terms.new) }
-    ensures more { length terms.old ≤ length terms.new }
-{
+pub fn constant(terms: &mut Terms, alloc: Global, name: &[u8]) -> Result<TermId, Memory> {
     let name = Text::from_slice(alloc, name)?;
-    terms.make(
+    leaf(
+        terms,
         Head::Constant(&Constant {
             name,
             sort: Sort::Real,
         }),
-        &[],
     )
 }
 
+/// The term of a head without arguments.
+fn leaf(terms: &mut Terms, head: Head<'_>) -> Result<TermId, Memory> {
+    if !head.fits() {
+        return Err(Memory);
+    }
+    terms.make(head, &[])
+}
+
 /// An operator over terms.
-pub fn over(terms: &mut Terms, operator: Operator, kids: &[TermId]) -> Result<TermId, Memory>
-    requires within { All (λ k. k < length terms.old) kids.now }
-    ensures within { IfOk result (λ id. id < length terms.new) }
-    ensures more { length terms.old ≤ length terms.new }
-{
+fn over(terms: &mut Terms, operator: Operator, kids: &[TermId]) -> Result<TermId, Memory> {
     operators_are_no_leaves();
+    if !are_below(kids, terms.len()) {
+        return Err(Memory);
+    }
     terms.make(Head::Operator(operator), kids)
 }
 
-/// A natural number times a term.
-pub fn times(terms: &mut Terms, number: u128, id: TermId) -> Result<TermId, Memory>
-    requires fits { number ≤ 170141183460469231731687303715884105727 }
-    requires within { id < length terms.old }
-    ensures within { IfOk result (λ id. id < length terms.new) }
-    ensures more { length terms.old ≤ length terms.new }
+/// Whether each of these is below this number.
+fn are_below(ids: &[TermId], count: usize) -> bool
+    ensures below { OnTrue result (All (λ k. k < count) ids.now) }
 {
-    let number = terms.make(Head::Integer(number), &[])?;
+    for i in 0..ids.len() {
+        if count <= ids[i] {
+            return false;
+        }
+    }
+    true
+}
+
+/// A natural number times a term.
+pub fn times(terms: &mut Terms, number: u128, id: TermId) -> Result<TermId, Memory> {
+    let number = leaf(terms, Head::Integer(number))?;
     over(terms, Operator::Product(NumberSort::Real), &[number, id])
 }
 
 /// An integer times a term.
-pub fn multiple(terms: &mut Terms, number: i32, id: TermId) -> Result<TermId, Memory>
-    requires within { id < length terms.old }
-    ensures within { IfOk result (λ id. id < length terms.new) }
-    ensures more { length terms.old ≤ length terms.new }
-{
+fn multiple(terms: &mut Terms, number: i32, id: TermId) -> Result<TermId, Memory> {
     let term = times(terms, number.unsigned_abs() as u128, id)?;
     if number >= 0 {
         return Ok(term);
@@ -68,14 +76,22 @@ pub fn added<S: Coordinate>(
     terms: &mut Terms,
     simplex: &mut Simplex<S>,
     kids: &[TermId],
-) -> Option<Result<Var, TabStop>>
-    requires within { All (λ k. k < length terms.old) kids.now }
-{
+) -> Option<Result<Var, TabStop>> {
     let sum = over(terms, Operator::Sum(NumberSort::Real), kids).ok()?;
-    if !terms.is_linear(sum) {
+    add_term(alloc, terms, simplex, sum)
+}
+
+/// The number of the form of a term, or why it was not added.
+fn add_term<S: Coordinate>(
+    alloc: Global,
+    terms: &Terms,
+    simplex: &mut Simplex<S>,
+    id: TermId,
+) -> Option<Result<Var, TabStop>> {
+    if terms.len() <= id || !terms.is_linear(id) {
         return None;
     }
-    let form = lin(alloc, terms, sum).ok()?;
+    let form = lin(alloc, terms, id).ok()?;
     Some(simplex.add_form(&form))
 }
 
@@ -86,10 +102,7 @@ pub fn pair<S: Coordinate>(
     simplex: &mut Simplex<S>,
     first: (i32, TermId),
     second: (i32, TermId),
-) -> Result<Var, Fail>
-    requires first { first.1 < length terms.old }
-    requires second { second.1 < length terms.old }
-{
+) -> Result<Var, Fail> {
     let (a, x) = first;
     let (b, y) = second;
     let left = multiple(terms, a, x)?;
@@ -106,9 +119,7 @@ pub fn unit<S: Coordinate>(
     terms: &mut Terms,
     simplex: &mut Simplex<S>,
     id: TermId,
-) -> Result<Var, Fail>
-    requires within { id < length terms.old }
-{
+) -> Result<Var, Fail> {
     match added(alloc, terms, simplex, &[id]) {
         Some(Ok(var)) => Ok(var),
         _ => Err(Fail::from("no unit")),
@@ -159,6 +170,32 @@ pub fn value<S: Coordinate>(simplex: &Simplex<S>, var: Var) -> Option<S> {
         Some(simplex.value(var))
     } else {
         None
+    }
+}
+
+/// Whether a form is known and basic.
+pub fn is_basic<S: Coordinate>(simplex: &Simplex<S>, var: Var) -> bool {
+    var < simplex.len() && simplex.is_basic(var)
+}
+
+/// Takes the bounds back to a mark, where it was reached.
+pub fn undo_to<S: Coordinate>(simplex: &mut Simplex<S>, mark: usize) {
+    if mark <= simplex.mark() {
+        simplex.undo(mark);
+    }
+}
+
+/// Settles a form, where it is nonbasic and without bounds.
+pub fn settled<S: Coordinate>(
+    simplex: &mut Simplex<S>,
+    var: Var,
+) -> Option<Result<(), SimplexStop>> {
+    if var >= simplex.len() || simplex.is_basic(var) {
+        return None;
+    }
+    match simplex.bounds(var) {
+        (None, None) => Some(simplex.settle(&[var])),
+        _ => None,
     }
 }
 

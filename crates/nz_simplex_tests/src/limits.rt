@@ -1,5 +1,7 @@
 //! Checks that stop: at the last unit of work, and at numbers that don't fit.
-use crate::forms::{Taken, added, checked, constant, frac, pair, put, times, unit};
+use crate::forms::{
+    Taken, added, checked, constant, frac, is_basic, pair, put, times, undo_to, unit, value,
+};
 use nz_frac::{Frac, Op};
 use nz_simplex::{Check, Simplex, SimplexStop, Site};
 use nz_term::Terms;
@@ -18,11 +20,11 @@ fn a_check_spends_its_units(rt: HostRuntime) -> Result<(), Fail> {
     put(&mut simplex, sum, Side::Lower, frac(3, 1)?, 0)?;
     put(&mut simplex, difference, Side::Lower, frac(4, 1)?, 1)?;
     assert!(rt; matches!(checked(alloc, &mut simplex, 0)?, Err(SimplexStop::Spent)));
-    assert!(rt; simplex.is_basic(sum));
+    assert!(rt; is_basic(&simplex, sum));
     let mut taken = Taken::new(alloc, 1)?;
     assert!(rt; matches!(simplex.check(&mut taken), Err(SimplexStop::Spent)));
     assert_eq!(rt; taken.steps().len(), 1);
-    assert!(rt; !simplex.is_basic(sum));
+    assert!(rt; !is_basic(&simplex, sum));
     let mut taken = Taken::new(alloc, 5)?;
     assert!(rt; matches!(simplex.check(&mut taken), Ok(Check::Feasible)));
     assert_eq!(rt; taken.steps().len(), 1);
@@ -67,7 +69,7 @@ fn an_exchange_leaves_the_numbers(rt: HostRuntime) -> Result<(), Fail> {
     );
     assert!(rt; place.wide.op == Op::Mul);
     assert!(rt; place.wide.a == Frac::whole(2));
-    assert!(rt; simplex.is_basic(2));
+    assert!(rt; is_basic(&simplex, 2));
     Ok(())
 }
 
@@ -91,15 +93,11 @@ fn a_value_leaves_the_numbers(rt: HostRuntime) -> Result<(), Fail> {
     assert!(rt; place.wide.op == Op::Add);
     assert!(rt; place.wide.a == most && place.wide.b == most);
     // Back from there the value is known again.
-    if mark <= simplex.mark() {
-        simplex.undo(mark);
-    }
+    undo_to(&mut simplex, mark);
     put(&mut simplex, 0, Side::Upper, frac(1, 1)?, 2)?;
     put(&mut simplex, 1, Side::Upper, frac(0, 1)?, 3)?;
     assert!(rt; matches!(checked(alloc, &mut simplex, 5)?, Ok(Check::Feasible)));
-    assert!(rt;
-        sum < simplex.len() && simplex.has_value(sum) && simplex.value(sum) == Frac::whole(1)
-    );
+    assert!(rt; value(&simplex, sum).is_some_and(|v| v == Frac::whole(1)));
     assert!(rt; unit(alloc, &mut terms, &mut simplex, x)? == 0);
     Ok(())
 }

@@ -9,14 +9,14 @@ use Rattle.nz_spec.specs.Table.{IsTable, Node}
 use Rattle.nz_lin.specs.declared.form.Part.{Part}
 use Rattle.nz_lin.specs.Forms.{AreUnits}
 use Rattle.nz_tab.specs.declared.tab.TabStop.{TabStop}
-use Rattle.nz_tab.specs.Joins.{IsFormJoined, Joins, joining}
+use Rattle.nz_tab.specs.Joins.{HasOwnRow, IsFormJoined, Joins}
 use Rattle.nz_tab.specs.Rows.{Grid}
 use Rattle.nz_tab.specs.Sums.{HasJoined, HasRoomForSum, IsSummed, IsWidened, SumJoins, sum_over}
 use Rattle.nz_tab.specs.Tables.{IsStored, Table}
 use Rattle.nz_tab.specs.Units.{AreNumbers, addends, is_unit_form, new_units, with_units}
 use Rattle.nz_tab.proofs.Numbering.{all_addends_within}
 use Rattle.nz_tab.proofs.Storing.{items, stored_sum}
-use Rattle.nz_tab.proofs.Summing.{sum_joined, sum_stopped}
+use Rattle.nz_tab.proofs.Summing.{form_joined, sum_joined, sum_stopped}
 
 -- the units that join, how many they are, and the addends
 pub record IsPrepared (forms : List (List Part)) (f : List Part) (us : List (Vec Part Global)) (count : ℕ) (qs : List (ℕ × Fraction)) : Type 0 where
@@ -56,9 +56,11 @@ module _ (forms : List (List Part)) (f : List Part) (us : List (Vec Part Global)
     summed : IsSummed joined.0 new (addends forms (length forms) f)
     summed = subst (IsSummed joined.0 new) p.listed joined.2
 
+    pub grown : IsFormJoined (record { forms = forms; grid = old }) (record { forms = with_units forms f ++ f ∷ []; grid = new }) f (length (with_units forms f))
+    grown = form_joined forms f old joined.0 marks wide new summed
+
     pub told : TermHasItsNumber → (ns : List Node) → IsTable ns → AreUnits ns f
-        → IsFormJoined ns (record { forms = forms; grid = old }) (record { forms = with_units forms f ++ f ∷ []; grid = new }) f (length (with_units forms f))
-        × (first_wide (joining ns (record { forms = forms; grid = old }) f).operations ≡ None)
+        → HasOwnRow ns (record { forms = forms; grid = old }) (record { forms = with_units forms f ++ f ∷ []; grid = new }) f (length (with_units forms f))
     told law ns table units =
         sum_joined law forms f old marks ns table units joined.0 new wide summed
         (ap (λ (l : List (ℕ × Fraction)). first_wide (sum_over joined.0 l).operations) (sym p.listed) ∙ joined.3)

@@ -14,7 +14,7 @@ use Rattle.nz_spec.specs.Basis.{Coefficients, IsBasis, IsRow}
 use Rattle.nz_spec.specs.BasisMoves.{AreRows, JoinsKeepBasis, Rows, joining_row, numbers, part_added, parts_added, plus_multiple}
 use Rattle.nz_lin.specs.declared.form.Part.{Part}
 use Rattle.nz_lin.specs.Forms.{AreUnits, NamesUnit, part_over, parts_over}
-use Rattle.nz_tab.specs.Joins.{IsFormJoined, Joins, joining, number_by, with_nonbasic_units}
+use Rattle.nz_tab.specs.Joins.{HasOwnRow, IsFormJoined, Joins, joining, number_by, with_nonbasic_units}
 use Rattle.nz_tab.specs.declared.tab.TabStop.{TabStop}
 use Rattle.nz_tab.specs.declared.tab.TabStop.TheVariants.{Memory, Wide}
 use Rattle.nz_tab.specs.Rows.{Grid, is_nonbasic, row_of, rows_of}
@@ -78,6 +78,14 @@ module _ (forms : List (List Part)) (f : List Part) (old mid : Grid) (count : le
       by_place (inl here) = w.rows m here
       by_place (inr far) = absurd (true≢false (sym (w.behind m far (omega (arith, inside, units_long))) ∙ e))
 
+  pub form_joined : (new : Grid) → IsSummed mid new (addends forms (length forms) f) → IsFormJoined before (record { forms = gs ++ f ∷ []; grid = new }) f (length gs)
+  form_joined new s = record {
+    forms = refl;
+    number = refl;
+    nonbasic = λ k. s.nonbasic k ∙ units_nonbasic k;
+    rows = λ r inside. s.rows r (omega (arith, w.count, count, inside)) ∙ w.rows r (omega (arith, count, inside));
+  }
+
   module _ (ns : List Node) (number : (i : ℕ) → i < length ns → number_in ns (term_in ns i) ≡ i) (units : AreUnits ns f) where
     has : AllByRecursion (HasNumber gs) f
     has = units_numbered f forms units.in_order
@@ -90,17 +98,11 @@ module _ (forms : List (List Part)) (f : List Part) (old mid : Grid) (count : le
         ∙ ap (λ (h : ℕ → Bool). joining_row (length gs) h (rows_of old) (number_by ns gs) (parts_over ns f)) (fun_ext units_nonbasic)
 
     module _ (new : Grid) (s : IsSummed mid new (addends forms (length forms) f)) where
-      pub form_joined : IsFormJoined ns before (record { forms = gs ++ f ∷ []; grid = new }) f (length gs)
-      form_joined = record {
-        forms = refl;
-        number = refl;
-        nonbasic = λ k. s.nonbasic k ∙ units_nonbasic k;
-        rows = λ r inside. s.rows r (omega (arith, w.count, count, inside)) ∙ w.rows r (omega (arith, count, inside));
-        row = λ k e.
-            ap (λ (v : ℕ). rows_of new v k) (sym units_count)
-            ∙ s.row k e
-            ∙ ap (λ (x : Computation Coefficients). x.result k) sum_is_joining;
-      }
+      row_told : (k : ℕ) → is_nonbasic new k ≡ true → rows_of new (length gs) k ≡ (joining ns before f).result k
+      row_told k e =
+          ap (λ (v : ℕ). rows_of new v k) (sym units_count)
+          ∙ s.row k e
+          ∙ ap (λ (x : Computation Coefficients). x.result k) sum_is_joining
 
       module _ (law : JoinsKeepBasis) (names : AllByRecursion (AreUnits ns) forms) (rows : HasRows ns before) where
         abbrev fs : List (List spec.Part)
@@ -189,11 +191,11 @@ module _ (law : TermHasItsNumber) (forms : List (List Part)) (f : List Part) (ol
   start = record { forms = forms; grid = old }
 
   pub sum_joined : (mid new : Grid) → IsWidened old mid (length (new_units forms f)) → IsSummed mid new (addends forms (length forms) f) → first_wide (sum_over mid (addends forms (length forms) f)).operations ≡ None
-      → IsFormJoined ns start (record { forms = with_units forms f ++ f ∷ []; grid = new }) f (length (with_units forms f)) × (first_wide (joining ns start f).operations ≡ None)
-  sum_joined mid new w s fits = (
-    form_joined forms f old mid count w ns (law ns table) units new s,
-    ap (λ (x : Computation Coefficients). first_wide x.operations) (sym (sum_is_joining forms f old mid count w ns (law ns table) units)) ∙ fits,
-  )
+      → HasOwnRow ns start (record { forms = with_units forms f ++ f ∷ []; grid = new }) f (length (with_units forms f))
+  sum_joined mid new w s fits = record {
+    row = row_told forms f old mid count w ns (law ns table) units new s;
+    fits = ap (λ (x : Computation Coefficients). first_wide x.operations) (sym (sum_is_joining forms f old mid count w ns (law ns table) units)) ∙ fits;
+  }
 
   pub sum_stopped : (X : Type 0) (new : Grid) (after : Table) (s : TabStop) → SumJoins {X = X} old new (length (new_units forms f)) (addends forms (length forms) f) (Err s) → Joins ns start after f (Err s)
   sum_stopped X new after Memory joined = _

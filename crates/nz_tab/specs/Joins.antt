@@ -39,17 +39,21 @@ pub record IsUnitJoined (old new : Table) (f : List Part) (v : ℕ) : Type 0 whe
   pub rows : (r : ℕ) → r < length old.forms → rows_of new.grid r ≡ rows_of old.grid r
   pub number : (p : Part) → f ≡ p ∷ [] → unit_number new.forms p.unit ≡ Some v
 
--- Any other form joins behind its units, as basic. The rows that were there stay, and at the nonbasic forms its own is the one that is computed.
-pub record IsFormJoined (ns : List Node) (old new : Table) (f : List Part) (v : ℕ) : Type 0 where
+-- Any other form joins behind its units, as basic. The rows that were there stay.
+pub record IsFormJoined (old new : Table) (f : List Part) (v : ℕ) : Type 0 where
   pub forms : new.forms ≡ with_units old.forms f ++ f ∷ []
   pub number : v ≡ length (with_units old.forms f)
   pub nonbasic : (k : ℕ) → is_nonbasic new.grid k ≡ with_nonbasic_units old f k
   pub rows : (r : ℕ) → r < length old.forms → rows_of new.grid r ≡ rows_of old.grid r
-  pub row : (k : ℕ) → is_nonbasic new.grid k ≡ true → rows_of new.grid v k ≡ (joining ns old f).result k
 
--- what comes of a form that joins: its number, or the first operation on its row that leaves the numbers, or want of memory
+-- At the nonbasic forms its own row is the one that is computed, and none of the operations leaves the numbers.
+pub record HasOwnRow (ns : List Node) (old new : Table) (f : List Part) (v : ℕ) : Type 0 where
+  pub row : (k : ℕ) → is_nonbasic new.grid k ≡ true → rows_of new.grid v k ≡ (joining ns old f).result k
+  pub fits : first_wide (joining ns old f).operations ≡ None
+
+-- what comes of a form that joins: its row, or the first operation on it that leaves the numbers, or want of memory
 abbrev pub Joins : List Node → Table → Table → List Part → Result ℕ TabStop → Type 0
-Joins ns old new f (Ok v) = IsFormJoined ns old new f v × (first_wide (joining ns old f).operations ≡ None)
+Joins ns old new f (Ok v) = HasOwnRow ns old new f v
 Joins ns old new f (Err (Wide w)) = first_wide (joining ns old f).operations ≡ Some (operation_of w)
 Joins ns old new f (Err Memory) = ⊤
 

@@ -8,7 +8,7 @@ ghost use Rattle.nz_tab.specs.Comes.{Stops};
 ghost use Rattle.nz_lin.specs.declared.form.Part.{Part};
 ghost use Rattle.nz_lin.specs.Forms.{AreUnits};
 ghost use Rattle.nz_tab.specs.declared.tab.TabStop.TheVariants as stops;
-ghost use Rattle.nz_tab.specs.Joins.{IsUnitJoined, Joins, UnitJoins};
+ghost use Rattle.nz_tab.specs.Joins.{IsFormJoined, IsUnitJoined, Joins, UnitJoins};
 ghost use Rattle.nz_tab.specs.Rows.{is_nonbasic, row_of, rows_of};
 ghost use Rattle.nz_tab.specs.Tables.{IsPivoted, IsTableau, empty_table};
 ghost use Rattle.nz_tab.specs.Units.{AreNumbers, addends, is_one, is_unit_form, new_units, unit_of};
@@ -173,6 +173,7 @@ impl Tab {
     /// `Wide` with the first operation on the new row that leaves the numbers; `Memory`. Then the table is as before.
     pub fn add_form(&mut self, form: &Form) -> Result<Var, TabStop>
         ensures unit { is_unit_form form.now.parts ≡ true → UnitJoins self.old self.new form.now.parts result }
+        ensures grown { is_unit_form form.now.parts ≡ false → IfOk result (λ v. IsFormJoined self.old self.new form.now.parts v) }
         ensures joins { is_unit_form form.now.parts ≡ false → (ns : List Node) → IsTable ns → AreUnits ns form.now.parts → Joins ns self.old self.new form.now.parts result }
         ensures unchanged { OnErr result (self.new ≡ self.old) }
     {
@@ -211,6 +212,7 @@ impl Tab {
     /// Adds a form that isn't a unit alone.
     fn add_sum(&mut self, parts: &[Part]) -> Result<Var, TabStop>
         requires sum { is_unit_form parts.now ≡ false }
+        ensures grown { IfOk result (λ v. IsFormJoined self.old self.new parts.now v) }
         ensures joins { (ns : List Node) → IsTable ns → AreUnits ns parts.now → Joins ns self.old self.new parts.now result }
         ensures unchanged { OnErr result (self.new ≡ self.old) }
     {
@@ -361,9 +363,10 @@ fn put_forms(forms: &mut Vec<Vec<Part>>, mut more: Vec<Vec<Part>>)
     appended.unwrap();
 }
 
-/// Says that each form of a table is just one sum of the nonbasic ones, and that its row is this sum.
+/// Says that each form of a table is just one sum of the nonbasic ones, that its row is this sum, and that each form is marked.
 pub fn known_tableau(tab: &Tab)
     ensures tableau { IsTableau tab.now }
+    ensures marked { length tab.now.grid.marks ≡ length tab.now.forms }
 {
     let _ = &tab.rows;
 }

@@ -1,8 +1,7 @@
 -- One nonbasic form more.
-use Rattle.std.proofs.Common.{rules, ◌≡◌, ℕ, ◌+◌, ◌<◌, List, [], ◌∷◌, length, get_or, drop, Option, None, Some, Result, Ok, Err, sym, ap, subst, ◌∙◌, refl, arith}
+use Rattle.std.proofs.Common.{rules, ◌≡◌, ℕ, ◌+◌, ◌<◌, List, [], ◌∷◌, length, get_or, drop, Option, None, Some, Result, Err, sym, ap, ◌∙◌, arith}
 use Rattle.std.specs.Prelude.{slice_index_or, option_map, unwrap_or}
 use Rattle.std.proofs.lemmas.List.{drop_all, drop_more, get_or_read}
-use Rattle.std.proofs.lemmas.List.Elements.{All-contains}
 use Rattle.nz_fractions.specs.Fraction.{first_wide}
 use Rattle.nz_spec.specs.Infinitesimal.{Infinitesimal}
 use Rattle.nz_spec.specs.Bland.{value_onto, zero_infinitesimal}

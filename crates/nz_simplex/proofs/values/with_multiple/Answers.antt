@@ -1,5 +1,5 @@
 -- The product stops first, and then the sum.
-use Rattle.std.proofs.Common.{rules, ◌≡◌, ◌++◌, None, Some, Result, Err, sym, ap, ◌∙◌}
+use Rattle.std.proofs.Common.{rules, ◌≡◌, None, Some, Result, Err, sym, ap, ◌∙◌}
 use Rattle.nz_fractions.specs.Fraction.{first_wide}
 use Rattle.nz_spec.specs.Infinitesimal.{Infinitesimal}
 use Rattle.nz_spec.specs.Bland.{times, plus}

@@ -1,11 +1,8 @@
 -- The value of a form from its row, or the operation at which it stops.
-use Rattle.std.proofs.Common.{rules, ◌≡◌, ℕ, ◌<◌, List, length, Option, Some, None, false, sym, ap, ◌∙◌, subst}
+use Rattle.std.proofs.Common.{◌≡◌, ℕ, ◌<◌, List, length, Option, None, sym, ap, ◌∙◌, subst}
 use Rattle.std.specs.Prelude.{All, IsSome, slice_index_or}
-use Rattle.nz_spec.specs.Basis.{Coefficients}
 use Rattle.nz_spec.specs.Bland.{value_onto, zero_infinitesimal, HasValue}
-use Rattle.nz_spec.specs.Computation.{Computation}
 use Rattle.nz_fractions.specs.Fraction.{first_wide}
-use Rattle.nz_spec.specs.Infinitesimal.{Infinitesimal}
 use Rattle.nz_spec.specs.Table.{Node}
 use Rattle.nz_tab.specs.Rows.{DenseRow}
 use Rattle.nz_simplex.specs.declared.answer.Site.TheVariants as sites

@@ -1,7 +1,7 @@
 -- No form.
-use Rattle.std.proofs.Common.{rules, ◌≡◌, ℕ, ◌≤◌, List, [], Option, refl, sym, ap, ◌∙◌, subst, arith, length}
+use Rattle.std.proofs.Common.{rules, ◌≡◌, sym, ap, subst, arith, length}
 use Rattle.nz_simplex.specs.State.{State, IsSound, empty_state}
-use Rattle.nz_simplex.specs.Stored.{state_of, basic_numbers, nonbasic_numbers}
+use Rattle.nz_simplex.specs.Stored.{state_of}
 use Rattle.nz_simplex.proofs.Empty.{sound_empty}
 use Rattle.nz_simplex.proofs.simplex.Simplex.new.Goals as goal
 

@@ -1,10 +1,10 @@
 -- The row of the table is that of the position.
-use Rattle.std.proofs.Common.{rules, ◌≡◌, ℕ, ◌<◌, false, List, length, sym, ap, ◌∙◌, subst}
-use Rattle.nz_spec.specs.Basis.{Coefficients, IsRow}
+use Rattle.std.proofs.Common.{◌≡◌, ◌<◌, false, List, length, sym, ap, ◌∙◌, subst}
+use Rattle.nz_spec.specs.Basis.{IsRow}
 use Rattle.nz_spec.specs.Bland.{is_nonbasic}
 use Rattle.nz_spec.specs.Table.{Node}
 use Rattle.nz_tab.specs.Rows.{DenseRow}
-use Rattle.nz_simplex.specs.State.{State, IsOver, IsSound, nonbasic_in, position_over}
+use Rattle.nz_simplex.specs.State.{State, IsOver, nonbasic_in, position_over}
 use Rattle.nz_simplex.specs.Stored.{state_of}
 use Rattle.nz_simplex.specs.Tabled.{coefficients_in}
 use Rattle.nz_simplex.proofs.Pointed.{row_told}

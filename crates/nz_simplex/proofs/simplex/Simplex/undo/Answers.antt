@@ -1,8 +1,8 @@
 -- The bounds at the front are left, and the simplex is as sound as before.
-use Rattle.std.proofs.Common.{rules, ◌≡◌, ℕ, ◌≤◌, List, map, length, take, refl, sym, ap, ◌∙◌, subst}
+use Rattle.std.proofs.Common.{◌≡◌, ℕ, ◌≤◌, List, map, length, take, sym, ap, ◌∙◌, subst}
 use Rattle.std.specs.Prelude.{vec_capacity}
 use Rattle.std.proofs.lemmas.List.{length-map, take-map}
-use Rattle.nz_trail.specs.Bounds.{Asserted, TrailState}
+use Rattle.nz_trail.specs.Bounds.{TrailState}
 use Rattle.nz_simplex.specs.Standing.{Held, told}
 use Rattle.nz_simplex.specs.State.{State, IsSound}
 use Rattle.nz_simplex.specs.Stored.{IsStored, state_of}

@@ -6,11 +6,11 @@ use Rattle.std.proofs.lemmas.List.{length-map}
 use Rattle.nz_fractions.specs.Fraction.{first_wide}
 use Rattle.nz_lin.specs.declared.form.Part.{Part}
 use Rattle.nz_tab.specs.declared.tab.TabStop.{TabStop}
-use Rattle.nz_tab.specs.Joins.{IsFormJoined, Joins, joining}
+use Rattle.nz_tab.specs.Joins.{HasOwnRow, IsFormJoined, Joins}
 use Rattle.nz_tab.specs.Sums.{HasRoomForSum}
 use Rattle.nz_tab.specs.Tables.{IsStored, Table}
 use Rattle.nz_tab.specs.Units.{AreNumbers, is_unit_form, with_units}
-use Rattle.nz_tab.proofs.Added.{forms_then, kept, long_then, prepared, stopped, told, units_then, within}
+use Rattle.nz_tab.proofs.Added.{forms_then, grown, kept, long_then, prepared, stopped, told, units_then, within}
 use Rattle.nz_tab.proofs.Storing.{items, units_are}
 use Rattle.nz_tab.proofs.tab.Tab.add_sum.Goals as goal
 
@@ -78,6 +78,28 @@ invariant_of-self-2 c =
     (kept forms f us.items c.len-5.result qs made t.rows s.count c.join.new.self c.in_ok-join.ensures.joined (get nat_eq t.units) now (vec_capacity t.room.columns) (vec_capacity t.room.solved) (vec_capacity t.room.spare)
     columns solved spare s c.joins_keep_basis.ensures.kept c.term_has_its_number.ensures.number c.requires.sum room numbers)
 
+pub returns-clause-grown : goal.returns-clause-grown
+returns-clause-grown c =
+    let t = c.self.inside in
+    let s = c.self.invariant in
+    let f = c.args.parts.now in
+    let forms = map items t.forms.items in
+    let us = c.in_ok-units.units in
+    let qs = c.as_slice.result.now in
+    let made = prepared t.forms us f c.len.result c.len-5.result qs c.len.ensures c.len-5.ensures (c.in_ok-units.ensures.units forms s.units) (c.as_slice.ensures.value ∙ c.in_ok-addends.ensures.addends forms s.units) in
+    let listed : map items c.push_reserved.new.self.items ≡ with_units forms f ++ f ∷ [] =
+    forms_then forms f us.items c.len-5.result qs made t.rows s.count t.forms.items c.push_reserved.new.self.items c.in_ok-form.form refl c.in_ok-form.ensures.items
+    (c.push_reserved.ensures.items
+    ∙ ap (λ (l : List (Vec Part Global)). l ++ c.in_ok-form.form ∷ []) (c.put_forms.ensures.put ∙ ap (λ (l : List (Vec Part Global)). l ++ us.items) c.reserve-2.ensures.items)) in
+    let first : c.len-6.result ≡ length forms = sym (length-map t.forms.items items ∙ omega (arith, c.len-6.ensures, c.reserve-2.ensures.len, t.forms.ok.0)) in
+    let last : c.len-var.result ≡ c.len-6.result + c.len-5.result = omega (arith, c.len-var.ensures, c.put_forms.ensures.len, c.len-6.ensures, c.len-5.ensures) in
+    let own : c.len-var.result ≡ length (with_units forms f) = long_then forms f us.items c.len-5.result qs made t.rows s.count c.len-var.result c.len-6.result first last in
+    let new : List (List Part) → Table = λ l. record { forms = l; grid = c.join.new.self } in
+    subst (λ (x : Table). IsFormJoined x (new (map items c.push_reserved.new.self.items)) f c.len-var.result) c.self.view_is
+    (subst (λ (l : List (List Part)). IsFormJoined (record { forms = forms; grid = t.rows }) (new l) f c.len-var.result) (sym listed)
+    (subst (λ (v : ℕ). IsFormJoined (record { forms = forms; grid = t.rows }) (new (with_units forms f ++ f ∷ [])) f v) (sym own)
+    (grown forms f us.items c.len-5.result qs made t.rows s.count c.join.new.self c.in_ok-join.ensures.joined)))
+
 pub returns-clause-joins : goal.returns-clause-joins
 returns-clause-joins c = λ ns table are.
     let t = c.self.inside in
@@ -95,7 +117,7 @@ returns-clause-joins c = λ ns table are.
     let last : c.len-var.result ≡ c.len-6.result + c.len-5.result = omega (arith, c.len-var.ensures, c.put_forms.ensures.len, c.len-6.ensures, c.len-5.ensures) in
     let own : c.len-var.result ≡ length (with_units forms f) = long_then forms f us.items c.len-5.result qs made t.rows s.count c.len-var.result c.len-6.result first last in
     let new : List (List Part) → Table = λ l. record { forms = l; grid = c.join.new.self } in
-    subst (λ (x : Table). IsFormJoined ns x (new (map items c.push_reserved.new.self.items)) f c.len-var.result × (first_wide (joining ns x f).operations ≡ None)) c.self.view_is
-    (subst (λ (l : List (List Part)). IsFormJoined ns (record { forms = forms; grid = t.rows }) (new l) f c.len-var.result × (first_wide (joining ns (record { forms = forms; grid = t.rows }) f).operations ≡ None)) (sym listed)
-    (subst (λ (v : ℕ). IsFormJoined ns (record { forms = forms; grid = t.rows }) (new (with_units forms f ++ f ∷ [])) f v × (first_wide (joining ns (record { forms = forms; grid = t.rows }) f).operations ≡ None)) (sym own)
+    subst (λ (x : Table). HasOwnRow ns x (new (map items c.push_reserved.new.self.items)) f c.len-var.result) c.self.view_is
+    (subst (λ (l : List (List Part)). HasOwnRow ns (record { forms = forms; grid = t.rows }) (new l) f c.len-var.result) (sym listed)
+    (subst (λ (v : ℕ). HasOwnRow ns (record { forms = forms; grid = t.rows }) (new (with_units forms f ++ f ∷ [])) f v) (sym own)
     (told forms f us.items c.len-5.result qs made t.rows s.count c.join.new.self c.in_ok-join.ensures.joined c.term_has_its_number.ensures.number ns table are)))

@@ -2,7 +2,7 @@
 use Rattle.std.proofs.Common.{◌≡◌, ℕ, ◌<◌, ◌≤◌, Some, None, false, get_or, length, take}
 use Rattle.std.specs.Prelude.{if◌then◌else◌, vec_len, vec_capacity}
 use Rattle.nz_simplex.specs.Tabled.{marks_in}
-use Rattle.nz_simplex.proofs.simplex.extend_values.Given as goal
+use Rattle.nz_simplex.proofs.lists.extend_values.Given as goal
 
 abbrev pub invariant-loop-var : goal.invariant-loop-var
 invariant-loop-var g l = record {

@@ -3,7 +3,7 @@ use Rattle.std.proofs.Common.{◌≡◌, ◌≤◌, false, get_or}
 use Rattle.std.specs.Prelude.{vec_len, vec_capacity}
 use Rattle.nz_spec.specs.BasisMoves.{numbers}
 use Rattle.nz_simplex.specs.Tabled.{marks_in}
-use Rattle.nz_simplex.proofs.simplex.list_nonbasic.Given as goal
+use Rattle.nz_simplex.proofs.lists.list_nonbasic.Given as goal
 
 abbrev pub invariant-loop-var : goal.invariant-loop-var
 invariant-loop-var l = record {
