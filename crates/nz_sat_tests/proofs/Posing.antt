@@ -1,12 +1,14 @@
 -- Clauses of a log that a search holds, as log, search and atoms change.
-use Rattle.std.proofs.Common.{◌≡◌, ℕ, ◌<◌, List, [], ◌∷◌, ◌++◌, length, Option, Some, None, refl, sym, ap, subst, ◌∙◌, arith}
+use Rattle.std.proofs.Common.{◌≡◌, ℕ, ◌<◌, true, List, [], ◌∷◌, ◌++◌, length, replicate, Option, Some, None, Result, Ok, Err, OnOk, OnErr, refl, sym, ap, subst, ◌∙◌, arith}
 use Rattle.std.specs.Prelude.{All, Contains, IsSome, slice_get, unwrap_or}
 use Rattle.std.proofs.lemmas.List.Elements.{All-append, All-from_recursion, All-weaker, Contains-append_left}
+use Rattle.std.proofs.lemmas.List.{length-replicate}
+use Rattle.nz_spec.specs.Literal.{StandOnce}
 use Rattle.nz_log.specs.declared.lits.Lit.{Lit}
 use Rattle.nz_log.specs.declared.theory.NoNumbers.{NoNumbers}
 use Rattle.nz_log.specs.Logs.{LogState, Entry, JoinsAtoms, entry_at, IsLive, literals_at, level_at, Puts}
 use Rattle.nz_sat.specs.declared.clauses.Held.{Held}
-use Rattle.nz_sat.specs.Sats.{SatState, AreHeld, AreOn, held_of}
+use Rattle.nz_sat.specs.Sats.{SatState, AreHeld, AreNamed, AreOn, HoldsMore, held_of}
 use Rattle.nz_sat_tests.specs.Problems.{IsPosed}
 
 -- ---- The log changes
@@ -57,3 +59,24 @@ held_posed log old new atoms id live on more h =
       held = subst (AreHeld log) (sym more) (All-append H old.clauses (held_of log id ∷ []) h.held (All-from_recursion H (held_of log id ∷ []) ((live, refl), tt)));
       named = subst (AreOn log atoms) (sym more) (All-append N old.clauses (held_of log id ∷ []) h.named (All-from_recursion N (held_of log id ∷ []) (on, tt)));
     }
+
+-- where there was memory for it
+pub add_posed : {A E : Type 0} (log : LogState) (old new : SatState NoNumbers) (atoms : List ℕ) (id : ℕ) (r : Result A E) → IsLive log id
+    → All (λ (l : Lit). Contains atoms l.atom) (literals_at log id) → OnOk r (new.clauses ≡ old.clauses ++ held_of log id ∷ []) → OnErr r (new ≡ old)
+    → IsPosed log old atoms → IsPosed log new atoms
+add_posed log old new atoms id (Ok x) live on more same h = held_posed log old new atoms id live on more h
+add_posed log old new atoms id (Err x) live on more same h = subst (λ s. IsPosed log s atoms) (sym same) h
+
+-- ---- A search
+
+pub searched_posed : (log : LogState) (old new : SatState NoNumbers) (atoms : List ℕ) → HoldsMore log old.clauses new.clauses → AreOn log atoms new.clauses → IsPosed log new atoms
+searched_posed log old new atoms more on = record { held = more.held; named = on }
+
+-- what a search asks of its clauses and of what is assumed
+pub posed_named : (log : LogState) (sat : SatState NoNumbers) (atoms : List ℕ) (assumed : List Lit) → IsPosed log sat atoms → All (λ (l : Lit). Contains atoms l.atom) assumed → StandOnce atoms
+    → AreNamed log sat.clauses assumed atoms
+posed_named log sat atoms assumed h on once = record { clauses = h.named; assumed_named = on; once = once }
+
+-- some literals were told, as many as there were
+pub any_told : (n : ℕ) → (ls : List Lit) × (n ≡ length ls)
+any_told n = let l : Lit = record { atom = 0; sign = true } in (replicate n l, sym (length-replicate n l))

@@ -1,6 +1,6 @@
 //! Problems for the search: constants, and the clauses of terms over them in a log. What a call asks of its arguments is tested here, so
 //! that the tests have nothing to prove: the problem's invariant is known to no other file.
-ghost use Rattle.std.specs.Prelude.{◌≡◌, ◌<◌, [], All, Contains, IfOk, IfSome, IsTrue, length};
+ghost use Rattle.std.specs.Prelude.{◌≡◌, ◌<◌, [], All, Contains, IfOk, IfSome, IsTrue, OnOk, length};
 ghost use Rattle.std.specs.Bool.{OnTrue};
 ghost use Rattle.nz_spec.specs.Literal.{StandOnce};
 ghost use Rattle.nz_spec.specs.Table.{HasItsArguments};
@@ -178,13 +178,7 @@ impl Held {
         requires empty { work.old.lines ≡ [] }
     {
         let literals = self.log.lits_of(assumed)?;
-        if !note_atoms(&self.log, &self.atoms, work)?
-            || !stand_once(&self.atoms)
-            || !are_on(&literals, &self.atoms)
-            || !are_consistent(&literals)
-        {
-            return Err(Stop::Memory);
-        }
+        note_question(&self.log, &self.atoms, &literals, work)?;
         let refuted = self
             .sat
             .solve(&mut self.log, &self.atoms, &literals, work)?;
@@ -221,6 +215,28 @@ fn on_terms(
         }
     }
     Ok(Some(literals))
+}
+
+/// Notes the terms of these atoms, where a search over them may assume these literals.
+fn note_question(
+    log: &Log,
+    atoms: &[AtomId],
+    assumed: &[Lit],
+    work: &mut Work<Note>,
+) -> Result<(), Memory>
+    requires empty { work.old.lines ≡ [] }
+    ensures noted { OnOk result (AreNotedIn log.now.atoms work.new.lines atoms.now) }
+    ensures units { OnOk result (unit_count work.new.lines ≡ 0) }
+    ensures once { OnOk result (StandOnce atoms.now) }
+    ensures among { OnOk result (All (λ l. Contains atoms.now l.atom) assumed.now) }
+    ensures consistent { OnOk result (AreConsistent assumed.now) }
+{
+    let noted = note_atoms(log, atoms, work)?;
+    if noted && stand_once(atoms) && are_on(assumed, atoms) && are_consistent(assumed) {
+        Ok(())
+    } else {
+        Err(Memory)
+    }
 }
 
 /// Notes the terms of these atoms. Answers whether each of them is one.
