@@ -17,6 +17,7 @@ pub mod Growing
 pub mod Joining
 pub mod LastMarked
 pub mod Leveled
+pub mod LinearArguments
 pub mod Linking
 pub mod Marking
 pub mod Members
