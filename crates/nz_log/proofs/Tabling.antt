@@ -1,9 +1,9 @@
 -- Clauses of the tables of links and units, by their rows.
-use Rattle.std.proofs.Common.{◌≡◌, ℕ, suc, ◌<◌, List, [], ◌∷◌, length, map, get_or, Option, Some, None, Result, Ok, Err, refl, sym, ap, subst, ◌∙◌}
-use Rattle.std.specs.Prelude.{IfOk, option_map, slice_get, unwrap_or}
+use Rattle.std.proofs.Common.{◌≡◌, ℕ, List, [], map, Option, Some, None, Result, Ok, Err, refl, sym, ap, subst, ◌∙◌}
+use Rattle.std.specs.Prelude.{IfOk, option_map, slice_get}
 use Rattle.std.specs.declared.vec.Vec.{Vec}
 use Rattle.std.specs.declared.alloc.Global.{Global}
-use Rattle.std.proofs.lemmas.Option.{slice_get-get_or, slice_get-map}
+use Rattle.std.proofs.lemmas.Option.{slice_get-map}
 use Rattle.nz_spec.specs.Computation.{Computation, at_once, in_turn, turned_into}
 use Rattle.nz_spec.specs.FormOf.{number_in}
 use Rattle.nz_fractions.specs.Fraction.{first_wide}
@@ -13,14 +13,12 @@ use Rattle.nz_spec.specs.Steps.{clause_at, link_step, step_taken, unit_step}
 use Rattle.nz_spec.specs.Table.{Node}
 use Rattle.nz_spec.specs.Term.{Term, apply}
 use Rattle.nz_spec.specs.Units.{unit_clauses}
-use Rattle.nz_lin.specs.declared.form.LinStop.{LinStop}
 use Rattle.nz_lin.specs.Comes.{IsDone}
-use Rattle.nz_lin.specs.Stops.{IsStopAt}
 use Rattle.nz_log.specs.declared.atoms.Atom.{Atom}
 use Rattle.nz_log.specs.declared.lits.Lit.{Lit}
 use Rattle.nz_log.specs.declared.rows.Said.{Said}
 use Rattle.nz_log.specs.Atoms.{AreWithin, IsLitIn, LiteralsAgree, clause_in}
-use Rattle.nz_log.specs.Axioms.{Axiom, IsClauseOf, axiom_step, first_wide_in_step}
+use Rattle.nz_log.specs.Axioms.{Axiom, IsClauseOf, axiom_step}
 use Rattle.nz_log.specs.Lits.{are_same_lit}
 use Rattle.nz_log.specs.Logs.{JoinsAtoms, LogState, Puts, PutsAxiom, PutsRow, axiom_entry}
 use Rattle.nz_log.specs.Rows.{AreLitsOf, AreSaidIn, IsRowAt, link_rows, saids_in, unit_rows}
