@@ -1,5 +1,5 @@
 -- Literals whose atoms join the others.
-use Rattle.std.proofs.Common.{◌≡◌, ℕ, suc, ◌<◌, ◌+◌, Bool, true, false, List, [], ◌∷◌, ◌++◌, length, map, take, get_or, Option, Some, Result, Ok, Err, refl, sym, ap, subst, ◌∙◌, add-one}
+use Rattle.std.proofs.Common.{◌≡◌, ℕ, ◌<◌, ◌+◌, Bool, true, false, List, [], ◌∷◌, ◌++◌, length, map, take, get_or, Option, Some, Result, Ok, Err, refl, sym, ap, subst, ◌∙◌, add-one}
 use Rattle.std.proofs.Math.Seq.{take-suc}
 use Rattle.std.specs.Prelude.{slice_get, IfOk, OnOk}
 use Rattle.std.specs.List.{AllByRecursion}
@@ -15,15 +15,13 @@ use Rattle.nz_log.specs.declared.atoms.Atom.{Atom}
 use Rattle.nz_log.specs.declared.atoms.Atom.TheVariants.{Term, AtMost}
 use Rattle.nz_log.specs.declared.lits.Lit.{Lit}
 use Rattle.nz_log.specs.declared.origins.Stored.{Stored}
-use Rattle.nz_log.specs.declared.rows.Said.{Said}
 use Rattle.nz_log.specs.declared.term_lits.TermLit.{TermLit}
-use Rattle.nz_log.specs.Atoms.{AreAtoms, AreWithin, HasTerm, IsLitIn, Stay, clause_in, lit_of, literal_in, lits_of, term_place}
+use Rattle.nz_log.specs.Atoms.{AreAtoms, HasTerm, IsLitIn, Stay, lit_of, literal_in, lits_of, term_place}
 use Rattle.nz_log.specs.Logs.{JoinsAtoms}
-use Rattle.nz_log.specs.Rows.{AreSaidIn, IsSaidIn, said_in, saids_in}
 use Rattle.nz_log.specs.Stored.{log_of}
 use Rattle.nz_log.proofs.Agreeing.{negated_twice}
 use Rattle.nz_log.proofs.AtomTables.{place_is, place_stays, place_there}
-use Rattle.nz_log.proofs.Extending.{all_stay, clause_stays, literal_at}
+use Rattle.nz_log.proofs.Extending.{literal_at}
 use Rattle.nz_log.proofs.Members.{each-append}
 
 -- ---- Of the log

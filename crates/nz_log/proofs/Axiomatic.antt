@@ -1,11 +1,10 @@
 -- Clauses that hold by arithmetic alone, and logs that they are put into.
-use Rattle.std.proofs.Common.{◌≡◌, ℕ, ◌<◌, Bool, true, false, List, [], ◌∷◌, ◌++◌, Some, None, Result, Ok, Err, if◌then◌else◌, inl, inr, refl, sym, ap, subst, ◌∙◌, arith}
-use Rattle.std.specs.Prelude.{IsTrue, IfOk, IsSome, OnErr, OnOk}
-use Rattle.std.specs.List.{AllByRecursion, list_all}
+use Rattle.std.proofs.Common.{◌≡◌, ℕ, ◌<◌, Bool, List, [], ◌∷◌, ◌++◌, Some, None, Result, if◌then◌else◌, inl, inr, refl, sym, ap, subst, ◌∙◌, arith}
+use Rattle.std.specs.Prelude.{IsTrue, IfOk, IsSome, OnErr}
 use Rattle.std.proofs.lemmas.Bool.Decides.{eqb_tells}
 use Rattle.nz_spec.specs.Computation.{at_once, turned_into}
 use Rattle.nz_spec.specs.Farkas as farkas
-use Rattle.nz_spec.specs.Farkas.{farkas_clause, is_contradiction, is_multiple, negations_of}
+use Rattle.nz_spec.specs.Farkas.{farkas_clause, is_contradiction, negations_of}
 use Rattle.nz_spec.specs.FormOf.{number_in}
 use Rattle.nz_fractions.specs.Fraction.{first_wide}
 use Rattle.nz_spec.specs.Literal.{Clause, clause_of, once}
@@ -15,12 +14,12 @@ use Rattle.nz_lin.specs.Comes.{IsDone}
 use Rattle.nz_log.specs.declared.atoms.Atom.{Atom}
 use Rattle.nz_log.specs.declared.lits.Lit.{Lit}
 use Rattle.nz_log.specs.declared.multiples.Multiple.{Multiple}
-use Rattle.nz_log.specs.Atoms.{AreAtoms, AreWithin, IsLitIn, LiteralsAgree, Stay, clause_in}
+use Rattle.nz_log.specs.Atoms.{AreAtoms, AreWithin, IsLitIn, LiteralsAgree, clause_in}
 use Rattle.nz_log.specs.Axioms.{AreMultiples, AreMultiplesIn, Axiom, IsAxiom, IsAxiomIn, IsClauseOf, axiom_step, farkas_of, multiples_in, negated_lits, sum_in}
 use Rattle.nz_log.specs.Leveled.{AreTold}
-use Rattle.nz_log.specs.Lits.{are_same_lit, negated_lit}
-use Rattle.nz_log.specs.Logs.{Entry, IsLive, JoinsAtoms, LogState, Puts, axiom_entry, axiom_of, entry_at, gate_of}
-use Rattle.nz_log.specs.Sound.{IsEntry, IsLog}
+use Rattle.nz_log.specs.Lits.{are_same_lit}
+use Rattle.nz_log.specs.Logs.{Entry, JoinsAtoms, LogState, Puts, axiom_entry, axiom_of, entry_at, gate_of}
+use Rattle.nz_log.specs.Sound.{IsLog}
 use Rattle.nz_log.specs.Theories.{Grows}
 use Rattle.nz_log.proofs.Agreeing.{clause_named, literal_turned}
 use Rattle.nz_log.proofs.Extending.{all_wider, axiom_in_wider, clause_stays, step_stays}

@@ -18,6 +18,7 @@ pub mod Joining
 pub mod KeptAtoms
 pub mod LastMarked
 pub mod Leveled
+pub mod LinearArguments
 pub mod Linking
 pub mod Marking
 pub mod Members

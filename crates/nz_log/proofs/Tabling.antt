@@ -1,9 +1,9 @@
 -- Clauses of the tables of links and units, by their rows.
-use Rattle.std.proofs.Common.{◌≡◌, ℕ, suc, ◌<◌, List, [], ◌∷◌, length, map, get_or, Option, Some, None, Result, Ok, Err, refl, sym, ap, subst, ◌∙◌}
-use Rattle.std.specs.Prelude.{IfOk, option_map, slice_get, unwrap_or}
+use Rattle.std.proofs.Common.{◌≡◌, ℕ, List, [], map, Option, Some, None, Result, Ok, Err, refl, sym, ap, subst, ◌∙◌}
+use Rattle.std.specs.Prelude.{IfOk, option_map, slice_get}
 use Rattle.std.specs.declared.vec.Vec.{Vec}
 use Rattle.std.specs.declared.alloc.Global.{Global}
-use Rattle.std.proofs.lemmas.Option.{slice_get-get_or, slice_get-map}
+use Rattle.std.proofs.lemmas.Option.{slice_get-map}
 use Rattle.nz_spec.specs.Computation.{Computation, at_once, in_turn, turned_into}
 use Rattle.nz_spec.specs.FormOf.{number_in}
 use Rattle.nz_fractions.specs.Fraction.{first_wide}
@@ -13,14 +13,12 @@ use Rattle.nz_spec.specs.Steps.{clause_at, link_step, step_taken, unit_step}
 use Rattle.nz_spec.specs.Table.{Node}
 use Rattle.nz_spec.specs.Term.{Term, apply}
 use Rattle.nz_spec.specs.Units.{unit_clauses}
-use Rattle.nz_lin.specs.declared.form.LinStop.{LinStop}
 use Rattle.nz_lin.specs.Comes.{IsDone}
-use Rattle.nz_lin.specs.Stops.{IsStopAt}
 use Rattle.nz_log.specs.declared.atoms.Atom.{Atom}
 use Rattle.nz_log.specs.declared.lits.Lit.{Lit}
 use Rattle.nz_log.specs.declared.rows.Said.{Said}
 use Rattle.nz_log.specs.Atoms.{AreWithin, IsLitIn, LiteralsAgree, clause_in}
-use Rattle.nz_log.specs.Axioms.{Axiom, IsClauseOf, axiom_step, first_wide_in_step}
+use Rattle.nz_log.specs.Axioms.{Axiom, IsClauseOf, axiom_step}
 use Rattle.nz_log.specs.Lits.{are_same_lit}
 use Rattle.nz_log.specs.Logs.{JoinsAtoms, LogState, Puts, PutsAxiom, PutsRow, axiom_entry}
 use Rattle.nz_log.specs.Rows.{AreLitsOf, AreSaidIn, IsRowAt, link_rows, saids_in, unit_rows}
@@ -38,29 +36,6 @@ row_taken : (rows : Rows) (j : ℕ) (row : List (Computation Literal)) → slice
 row_taken rows j row at =
     ap (λ o. elim o [ None ↦ at_once None | Some c ↦ turned_into (λ d. Some (clause_of d)) c ]) (slice_get-map in_turn rows j ∙ ap (option_map in_turn) at)
 
-no_row : (o : Option (List (Computation Literal)))
-    → (let taken : Computation (Option Clause) = elim (option_map in_turn o) [ None ↦ at_once None | Some c ↦ turned_into (λ d. Some (clause_of d)) c ] in taken).operations
-    ≡ (in_turn (unwrap_or o [])).operations
-no_row None = refl
-no_row (Some row) = refl
-
-row_operations : (rows : Rows) (j : ℕ) → (clause_at (map in_turn rows) j).operations ≡ (in_turn (unwrap_or (slice_get rows j) [])).operations
-row_operations rows j =
-    ap (λ o. (let taken : Computation (Option Clause) = elim o [ None ↦ at_once None | Some c ↦ turned_into (λ d. Some (clause_of d)) c ] in taken).operations)
-    (slice_get-map in_turn rows j)
-    ∙ no_row (slice_get rows j)
-
-pub length_mapped : (rows : Rows) → length (map in_turn rows) ≡ length rows
-length_mapped [] = refl
-length_mapped (r ∷ rs) = ap suc (length_mapped rs)
-
--- a table has its rows
-pub row_there : (rows : Rows) (j : ℕ) → j < length (map in_turn rows) → slice_get rows j ≡ None → ⊥
-row_there rows j within none =
-    let there : slice_get rows j ≡ Some (get_or rows j []) = slice_get-get_or rows j [] (subst (λ n. j < n) (length_mapped rows) within) in
-    let both : None ≡ Some (get_or rows j []) = sym none ∙ there in
-    cc
-
 module _ (ns : List Node) (atoms : List Atom) (a : Axiom) (rows : Rows) (j : ℕ) (taken : step_taken (number_in ns) [] [] (axiom_step ns atoms a) ≡ clause_at (map in_turn rows) j) where
   -- the literals of a row are the clause of the step
   table_clause : LiteralsAgree ns atoms → (row : List (Computation Literal)) (v : List Said) (c : List Lit) → slice_get rows j ≡ Some row → IsDone (in_turn row) (saids_in ns v)
@@ -73,11 +48,6 @@ module _ (ns : List Node) (atoms : List Atom) (a : Axiom) (rows : Rows) (j : ℕ
             ∙ ap Some (sym (clause_named ns atoms agree c within));
         fits = ap (λ (k : Computation (Option Clause)). first_wide k.operations) made ∙ done.fits;
       }
-
-  -- where a row stops, the step does
-  pub table_stops : (s : LinStop) → IsStopAt (first_wide (in_turn (unwrap_or (slice_get rows j) [])).operations) s → IsStopAt (first_wide_in_step ns (axiom_step ns atoms a)) s
-  table_stops s h =
-      subst (λ o. IsStopAt (first_wide o) s) (sym (ap (λ (k : Computation (Option Clause)). k.operations) taken ∙ row_operations rows j)) h
 
   -- the clause of a row that was put
   pub row_puts : (old new : LogState) (id : ℕ) (v : Vec Said Global) → new.atoms ≡ atoms → LiteralsAgree ns atoms → IsRowAt ns rows j (Ok (Some v)) → PutsRow old id a v.items new → PutsAxiom ns old id a new

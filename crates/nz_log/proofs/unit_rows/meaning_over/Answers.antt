@@ -11,6 +11,15 @@ use Rattle.nz_term.specs.Heads.{head_of}
 use Rattle.nz_log.proofs.Arities.{choice_of_three, units_of_one, units_of_two}
 use Rattle.nz_log.proofs.unit_rows.meaning_over.Goals as goal
 
+pub returns-in_default-kids : goal.returns-in_default-kids
+returns-in_default-kids c =
+    let f = term_in c.args.terms.now in
+    let number = number_in c.args.terms.now in
+    let ks = c.args.kids.now in
+    let t = apply (head_of c.args.head) (terms_at f ks) in
+    let others : length ks ≡ 3 → ⊥ = λ e. omega arith in
+    record { meaning = ap (λ h. units_over number t h (list_of (terms_at f ks))) (ap head_of (c.in-Operator.is ∙ ap Operator c.in-Ite.is)) ∙ (choice_of_three number t f (sort_of c.in-Ite.field-0) ks others) }
+
 pub returns-in_default-kids-6 : goal.returns-in_default-kids-6
 returns-in_default-kids-6 c =
     let f = term_in c.args.terms.now in
