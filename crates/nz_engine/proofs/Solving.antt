@@ -34,7 +34,7 @@ use Rattle.nz_sat.specs.declared.clauses.Held.{Held}
 use Rattle.nz_sat.specs.Numbers.{AreNotedIn, IsTermAtom, noted_atoms}
 use Rattle.nz_sat.specs.Sats as sat
 use Rattle.nz_sat.specs.Sats.{AreNamed, AreOn, HoldsMore, IsAsked, IsLegalWork, IsSatisfied, IsTrueClause, IsTrueLit, held_of, truth_of}
-use Rattle.nz_engine.specs.Checking.{AreGatedAt, HaveAtoms, IsPosed, NotesFirst, Works, terms_named, truth_in, with_atoms}
+use Rattle.nz_engine.specs.Checking.{AreGatedAt, AreHanded, HaveAtoms, IsPosed, NotesFirst, Works, terms_named, truth_in, with_atoms}
 use Rattle.nz_engine.specs.Preparing.{PreparedState, AreOnTerms, HoldsUnit, IsOnTerm, IsPrepared, atoms_of, unit_of}
 use Rattle.nz_engine.proofs.Deciding.{IsFound, IsTrueTerms}
 use Rattle.nz_engine.proofs.GateNames.{once_from}
@@ -412,33 +412,10 @@ module _ (own : AtomsOfTerms) (covers : CoversStay) (ns : List Node) (levels : L
 
 -- ---- Atoms of a search
 
--- What a search is handed: the covered terms' atoms, and the assumed literals on atoms.
-pub record IsNamed (p : PreparedState) (assumed : List TermLit) (ts ids : List ℕ) (lits : List Lit) : Type 0 where
-  pub once : AllPairs (λ t u. t ≢ u) ts
-  pub covered : (t : ℕ) → Contains ts t ↔ IsSome (covered_at p.form t)
-  pub terms : ts ≡ p.form.terms
-  pub ids_of : ids ≡ map (term_place p.log.atoms) ts
-  pub lits_on : lits ≡ lits_of p.log.atoms assumed
-  pub there : All (HasTerm p.log.atoms) ts
-  pub assumed_there : All (λ (l : TermLit). HasTerm p.log.atoms l.term) assumed
-
--- the state before, the one whose log has the atoms, and that as the search is handed it
-pub is_named : (p q mid : PreparedState) (assumed : List TermLit) (ts ids : List ℕ) (lits : List Lit) → q ≡ record p { log = q.log } → mid ≡ q → ts ≡ p.form.terms
-    → AllPairs (λ t u. t ≢ u) ts → ((t : ℕ) → Contains ts t ↔ IsSome (covered_at p.form t)) → HaveAtoms q assumed → ids ≡ atoms_of q → lits ≡ lits_of q.log.atoms assumed
-    → IsNamed mid assumed ts ids lits
-is_named p q mid assumed ts ids lits rest same terms once covered have is on =
-    let form : q.form ≡ p.form = ap (λ (s : PreparedState). s.form) rest in
-    let own : q.form.terms ≡ ts = ap (λ f. f.terms) form ∙ sym terms in
-    subst (λ (s : PreparedState). IsNamed s assumed ts ids lits) (sym same)
-    (record {
-      once = once;
-      covered = subst (λ f. (t : ℕ) → Contains ts t ↔ IsSome (covered_at f t)) (sym form) covered;
-      terms = sym own;
-      ids_of = is ∙ ap (map (term_place q.log.atoms)) own;
-      lits_on = on;
-      there = subst (All (HasTerm q.log.atoms)) own have.covered;
-      assumed_there = have.named;
-    })
+-- the log has the atoms, as the search is handed it
+pub handed : (q mid : PreparedState) (assumed : List TermLit) (ids is : List ℕ) (lits ls : List Lit) → AreHanded q assumed is ls → mid ≡ q → ids ≡ is → lits ≡ ls → AreHanded mid assumed ids lits
+handed q mid assumed ids is lits ls h same own on =
+    subst (λ (s : PreparedState). AreHanded s assumed ids lits) (sym same) (record { listed = h.listed; terms = own ∙ h.terms; on_atoms = on ∙ h.on_atoms; there = h.there })
 
 -- a search may go on where atoms have joined
 pub posed_named : AtomsOfTerms → CoversStay → LogsStay → LogsStayLeveled → (ns : List Node) (levels : List (List ℕ)) (assumed : List TermLit) (p q mid : PreparedState)
@@ -448,38 +425,41 @@ posed_named own covers stay leveled ns levels assumed p q mid rest same joins al
     (posed_joined own covers ns levels assumed p q (ap (λ (s : PreparedState). s.form) rest) (ap (λ (s : PreparedState). s.given) rest) (ap (λ (s : PreparedState). s.above) rest) stay leveled
     joins all (ap (λ (s : PreparedState). s.sat.clauses) rest) posed)
 
-module _ (own : AtomsOfTerms) (p : PreparedState) (assumed : List TermLit) (ts ids : List ℕ) (lits : List Lit) (n : IsNamed p assumed ts ids lits) where
-  pub named_noted : (lines : List (WorkLine Note)) → noted_atoms lines ≡ ts → AreNotedIn p.log.atoms lines ids
-  named_noted lines noted = are_noted p.log.atoms lines ts ids noted n.ids_of n.there
+module _ (own : AtomsOfTerms) (p : PreparedState) (assumed : List TermLit) (ids : List ℕ) (lits : List Lit) (n : AreHanded p assumed ids lits) where
+  abbrev ts : List ℕ
+  ts = p.form.terms
+
+  pub named_noted : (lines : List (WorkLine Note)) → noted_atoms lines ≡ p.form.terms → AreNotedIn p.log.atoms lines ids
+  named_noted lines noted = are_noted p.log.atoms lines ts ids noted n.terms n.there.covered
 
   pub named_consistent : AreConsistent assumed → sat.AreConsistent lits
-  named_consistent apart = subst sat.AreConsistent (sym n.lits_on) (consistent_lits p.log.atoms assumed n.assumed_there apart)
+  named_consistent apart = subst sat.AreConsistent (sym n.on_atoms) (consistent_lits p.log.atoms assumed n.there.named apart)
 
   pub named_atoms : GatedTermsArePlain → (ns : List Node) (levels : List (List ℕ)) → IsPosed ns levels assumed p → AreNamed p.log p.sat.clauses lits ids
   named_atoms law ns levels posed =
-      subst (λ (ls : List Lit). AreNamed p.log p.sat.clauses ls ids) (sym n.lits_on)
-      (subst (AreNamed p.log p.sat.clauses (lits_of p.log.atoms assumed)) (sym n.ids_of) (are_atoms law ns levels assumed p posed ts n.once n.covered own n.there))
+      subst (λ (ls : List Lit). AreNamed p.log p.sat.clauses ls ids) (sym n.on_atoms)
+      (subst (AreNamed p.log p.sat.clauses (lits_of p.log.atoms assumed)) (sym n.terms) (are_atoms law ns levels assumed p posed ts n.listed.once n.listed.covered own n.there.covered))
 
   pub named_within : GatedTermsArePlain → (ns : List Node) (levels : List (List ℕ)) → IsPosed ns levels assumed p → All (IsTermAtom ns p.log.atoms) ids
-  named_within law ns levels posed = subst (All (IsTermAtom ns p.log.atoms)) (sym n.ids_of) (ids_within law ns levels assumed p posed ts n.once n.covered own n.there)
+  named_within law ns levels posed = subst (All (IsTermAtom ns p.log.atoms)) (sym n.terms) (ids_within law ns levels assumed p posed ts n.listed.once n.listed.covered own n.there.covered)
 
   -- what is there in a log that grows
   module _ (q : PreparedState) (grows : theories.Grows p.log q.log) (form : q.form ≡ p.form) where
     pub named_have : HaveAtoms q assumed
     named_have =
         record {
-          covered = subst (All (HasTerm q.log.atoms)) (n.terms ∙ sym (ap (λ f. f.terms) form)) (terms_stay own p.log.atoms q.log.atoms grows.atoms ts n.there);
-          named = lit_terms_stay own p.log.atoms q.log.atoms grows.atoms assumed n.assumed_there;
+          covered = subst (All (HasTerm q.log.atoms)) (sym (ap (λ f. f.terms) form)) (terms_stay own p.log.atoms q.log.atoms grows.atoms ts n.there.covered);
+          named = lit_terms_stay own p.log.atoms q.log.atoms grows.atoms assumed n.there.named;
         }
 
     pub named_lits : lits ≡ lits_of q.log.atoms assumed
-    named_lits = n.lits_on ∙ sym (lits_stay own p.log.atoms q.log.atoms grows.atoms assumed n.assumed_there)
+    named_lits = n.on_atoms ∙ sym (lits_stay own p.log.atoms q.log.atoms grows.atoms assumed n.there.named)
 
     pub named_ids : ids ≡ atoms_of q
     named_ids =
-        n.ids_of ∙ sym (places_stay own p.log.atoms q.log.atoms grows.atoms ts n.there) ∙ ap (map (term_place q.log.atoms)) (n.terms ∙ sym (ap (λ f. f.terms) form))
+        n.terms ∙ sym (places_stay own p.log.atoms q.log.atoms grows.atoms ts n.there.covered) ∙ ap (map (term_place q.log.atoms)) (sym (ap (λ f. f.terms) form))
 
     pub named_on_terms : AreOn q.log ids q.sat.clauses → AreOnTerms q.log q.sat.clauses
     named_on_terms on =
-        on_terms q.log.atoms ts (terms_stay own p.log.atoms q.log.atoms grows.atoms ts n.there) q.log q.sat.clauses refl
-        (subst (λ (us : List ℕ). AreOn q.log us q.sat.clauses) (n.ids_of ∙ sym (places_stay own p.log.atoms q.log.atoms grows.atoms ts n.there)) on)
+        on_terms q.log.atoms ts (terms_stay own p.log.atoms q.log.atoms grows.atoms ts n.there.covered) q.log q.sat.clauses refl
+        (subst (λ (us : List ℕ). AreOn q.log us q.sat.clauses) (n.terms ∙ sym (places_stay own p.log.atoms q.log.atoms grows.atoms ts n.there.covered)) on)

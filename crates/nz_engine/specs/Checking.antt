@@ -10,19 +10,20 @@ use Rattle.nz_spec.specs.Work.{NoteLine, WorkList}
 use Rattle.nz_log.specs.declared.decide.Verdict.{Verdict}
 use Rattle.nz_log.specs.declared.decide.Verdict.TheVariants.{Sat, Unsat}
 use Rattle.nz_log.specs.declared.atoms.Atom.{Atom}
+use Rattle.nz_log.specs.declared.lits.Lit.{Lit}
 use Rattle.nz_log.specs.declared.term_lits.TermLit.{TermLit}
-use Rattle.nz_log.specs.Atoms.{HasTerm, term_place}
+use Rattle.nz_log.specs.Atoms.{HasTerm, lits_of, term_place}
 use Rattle.nz_log.specs.Logs.{LogState}
 use Rattle.nz_log.specs.TermLits.{literal_of, AreNegations}
 use Rattle.nz_log.specs.Verdicts.{task_in}
 use Rattle.nz_log.specs.declared.note.Note.{Note}
 use Rattle.nz_log.specs.declared.note.Note.TheVariants as notes
 use Rattle.nz_log.specs.Notes.{noted_list, AreNotedWithin}
-use Rattle.nz_cform.specs.Forms.{covered_at}
+use Rattle.nz_cform.specs.Forms.{IsListed, covered_at}
 use Rattle.nz_sat.specs.Sats.{truth_of}
 use Rattle.nz_engine.specs.Engines.{literals_in}
 use Rattle.nz_engine.specs.Levels.{count_of}
-use Rattle.nz_engine.specs.Preparing.{PreparedState, IsStanding}
+use Rattle.nz_engine.specs.Preparing.{PreparedState, IsStanding, atoms_of}
 
 -- the terms that the literals name
 abbrev pub terms_named : List TermLit → List ℕ
@@ -40,6 +41,13 @@ AreCovered p ls = All (λ (l : TermLit). IsSome (covered_at p.form l.term)) ls
 pub record HaveAtoms (p : PreparedState) (ls : List TermLit) : Type 0 where
   pub covered : All (HasTerm p.log.atoms) p.form.terms
   pub named : All (λ (l : TermLit). HasTerm p.log.atoms l.term) ls
+
+-- What a search is handed: the atoms of the covered terms, each once, and the literals on atoms.
+pub record AreHanded (p : PreparedState) (ls : List TermLit) (atoms : List ℕ) (literals : List Lit) : Type 0 where
+  pub listed : IsListed p.form
+  pub terms : atoms ≡ atoms_of p
+  pub on_atoms : literals ≡ lits_of p.log.atoms ls
+  pub there : HaveAtoms p ls
 
 -- A search may begin: each assertion has its clause, and the terms of the assumed literals are covered.
 pub record IsPosed (ns : List Node) (levels : List (List ℕ)) (assumed : List TermLit) (p : PreparedState) : Type 0 where

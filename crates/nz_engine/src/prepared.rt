@@ -13,7 +13,7 @@ ghost use Rattle.nz_log.specs.Verdicts.{OnSpent, task_in};
 ghost use Rattle.nz_cform.specs.Covering.{Covers};
 ghost use Rattle.nz_cform.specs.Forms.{IsListed, covered_at};
 ghost use Rattle.nz_sat.specs.Sats.{IsSatisfied, held_of, truth_of};
-ghost use Rattle.nz_engine.specs.Checking.{AreCovered, AreGatedAt, HaveAtoms, IsPosed, NotesFirst, Works, terms_named, truth_in, value_at, with_atoms};
+ghost use Rattle.nz_engine.specs.Checking.{AreCovered, AreGatedAt, AreHanded, HaveAtoms, IsPosed, NotesFirst, Works, terms_named, truth_in, value_at, with_atoms};
 ghost use Rattle.nz_engine.specs.Engines.{literals_in};
 ghost use Rattle.nz_engine.specs.Levels.{IsPlaced, count_of};
 ghost use Rattle.nz_engine.specs.Preparing.{CoversAlso, CutsTo, IsAssumable, IsPrepared, IsStanding, atoms_of, nothing_prepared};
@@ -214,9 +214,7 @@ impl Prepared {
         ensures rest { self.new ≡ record self.old { log = self.new.log } }
         ensures joins { JoinsAtoms self.old.log self.new.log }
         ensures all { AreAtoms self.new.log.atoms }
-        ensures atoms { IfOk result (λ n. n.atoms.items ≡ atoms_of self.new) }
-        ensures literals { IfOk result (λ n. n.literals.items ≡ lits_of self.new.log.atoms assumed.now) }
-        ensures there { OnOk result (HaveAtoms self.new assumed.now) }
+        ensures handed { IfOk result (λ n. AreHanded self.new assumed.now n.atoms.items n.literals.items) }
     {
         atoms_of_terms();
         let atoms = self.log.term_atoms(self.form.terms())?;
