@@ -1,7 +1,7 @@
 //! Forms and bounds that are made of others, as the kernel's rules need them.
 ghost use Rattle.std.specs.Prelude.{◌≡◌, IfOk, List, false};
 ghost use Rattle.nz_spec.specs.Computation.{at_once};
-ghost use Rattle.nz_spec.specs.Form.{joined, negated_form};
+ghost use Rattle.nz_spec.specs.Form.{joined};
 ghost use Rattle.nz_spec.specs.FormOf.{number_in};
 ghost use Rattle.nz_fractions.specs.Fraction.{Difference, Sum};
 ghost use Rattle.nz_spec.specs.Literal.{is_at_most};
@@ -34,14 +34,6 @@ impl Form {
             parts,
             offset: Frac::whole(0),
         })
-    }
-
-    /// The form with the other sign.
-    pub fn opposite(&self, alloc: Global) -> Result<Form, Memory>
-        ensures negated { IfOk result (λ f. (ns : List Node) → form_over ns f ≡ negated_form (form_over ns self.now)) }
-        ensures units { IfOk result (λ f. (ns : List Node) → AreUnits ns self.now.parts → AreUnits ns f.parts) }
-    {
-        self.negated(alloc)
     }
 
     /// The sum with another form: unit by unit, and what is added last.

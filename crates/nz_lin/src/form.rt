@@ -177,7 +177,11 @@ impl Form {
     }
 
     /// The form with the other sign.
-    pub(crate) fn negated(&self, alloc: Global) -> Result<Form, Memory>
+    ///
+    /// # Errors
+    ///
+    /// `Memory`.
+    pub fn negated(&self, alloc: Global) -> Result<Form, Memory>
         ensures negated { IfOk result (λ f. (ns : List Node) → form_over ns f ≡ negated_form (form_over ns self.now)) }
         ensures units { IfOk result (λ f. (ns : List Node) → AreUnits ns self.now.parts → AreUnits ns f.parts) }
     {

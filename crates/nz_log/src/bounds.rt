@@ -55,7 +55,7 @@ pub(crate) fn unit_alone(alloc: Global, terms: &Terms, unit: TermId) -> Formed
 pub(crate) fn opposite(alloc: Global, form: Formed) -> Formed
     ensures formed { (ns : List Node) (c : Computation spec.Form) → IsFormed ns c form → IsFormed ns (turned_into negated_form c) result }
 {
-    Ok(form?.opposite(alloc)?)
+    Ok(form?.negated(alloc)?)
 }
 
 /// The sum of two forms.

@@ -8,6 +8,6 @@ use Rattle.nz_log.proofs.bounds.opposite.Goals as goal
 pub returns : goal.returns
 returns c = record {
   formed = λ ns d formed.
-      turned_formed ns negated_form d c.in_ok-form.field-0 c.in_ok-opposite.field-0 (c.in_ok-opposite.ensures.negated ns) (c.in_ok-opposite.ensures.units ns)
+      turned_formed ns negated_form d c.in_ok-form.field-0 c.in_ok-negated.field-0 (c.in_ok-negated.ensures.negated ns) (c.in_ok-negated.ensures.units ns)
       (subst (IsFormed ns d) c.in_ok-form.was formed);
 }
