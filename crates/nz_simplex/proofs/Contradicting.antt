@@ -1,6 +1,6 @@
 -- The literals that say clashing bounds, with the multipliers that are told, sum to a contradiction.
-use Rattle.std.proofs.Common.{◌≡◌, ℕ, zero, suc, ◌<◌, Bool, true, false, true≢false, ◌⊎◌, inl, inr, List, [], ◌∷◌, ◌++◌, length, map, flat_map, Option, Some, None, pos, refl, sym, ap, ap₂, ◌∙◌, subst, arith, Ordering, Less, Equal, Greater}
-use Rattle.std.specs.Prelude.{◌==◌, ◌&&◌, ◌||◌, fold, is_some, option_map, unwrap_or, IsTrue, if◌then◌else◌}
+use Rattle.std.proofs.Common.{◌≡◌, ℕ, zero, suc, Bool, true, false, true≢false, ◌⊎◌, inl, inr, List, [], ◌∷◌, ◌++◌, length, map, flat_map, Option, Some, None, pos, refl, sym, ap, ap₂, ◌∙◌, subst, arith, Ordering, Less, Equal, Greater}
+use Rattle.std.specs.Prelude.{◌==◌, ◌&&◌, ◌||◌, fold, is_some, option_map, unwrap_or, if◌then◌else◌}
 use Rattle.std.specs.Ordering.{MatchOrdering, ordering_reverse, ordering_then}
 use Rattle.std.specs.List.{list_all, AllByRecursion}
 use Rattle.std.proofs.lemmas.Int.{ints}
@@ -20,7 +20,7 @@ use Rattle.nz_spec.specs.Farkas.{Bound, Multiple, bound_of, empty_bound, is_line
 use Rattle.nz_spec.specs.Basis.{Coefficients, Valuation, form_at, weighted, worth}
 use Rattle.nz_spec.specs.BasisMoves.{numbers}
 use Rattle.nz_spec.specs.Bland as bland
-use Rattle.nz_spec.specs.Bland.{IsOutside, IsRefutation, Position, bound_on, is_nonbasic, sum_at, zero_infinitesimal}
+use Rattle.nz_spec.specs.Bland.{IsOutside, Position, bound_on, sum_at, zero_infinitesimal}
 use Rattle.nz_spec.specs.Table.{Node}
 use Rattle.nz_spec.proofs.FormValues.{one_times, zero_left, zero_times}
 use Rattle.nz_spec.proofs.FractionSolver.{◌∙ℚ◌, plus_left, plus_right, solve, times_left, times_right}
@@ -31,9 +31,9 @@ use Rattle.nz_trail.specs.Bounds as trails
 use Rattle.nz_trail.specs.Bounds.{AreApart, ClashesWith, asserted}
 use Rattle.nz_trail.specs.declared.limits.Side.{Side}
 use Rattle.nz_trail.specs.declared.limits.Side.TheVariants.{Lower, Upper}
-use Rattle.nz_simplex.specs.Checks.{IsRefuted, holding_side, multiplier, multipliers}
+use Rattle.nz_simplex.specs.Checks.{IsRefuted, holding_side, multiplier}
 use Rattle.nz_simplex.specs.Choices.{is_below_zero, size_of}
-use Rattle.nz_simplex.specs.Contradictions.{AreMultiplesFor, AreSaid, AreSum, ClashesContradict, Contradicts, IsSaid, SaysBound, both_once, signed, strictness}
+use Rattle.nz_simplex.specs.Contradictions.{AreMultiplesFor, AreSaid, AreSum, ClashesContradict, Contradicts, IsSaid, both_once, signed, strictness}
 use Rattle.nz_simplex.specs.Standing.{Held, bound_in, half, is_bound_of, is_news, is_side, reason_in, standing, standing_with}
 use Rattle.nz_simplex.specs.State.{State, nonbasic_in, value_in, position_over}
 use Rattle.nz_simplex.proofs.Helping.{bound_told, half_other}
