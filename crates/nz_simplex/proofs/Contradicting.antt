@@ -162,7 +162,7 @@ module _ (number : Numbering) (literal : ℕ → Literal) (factor : ℕ → Frac
   Said b = IsSaid number literal factor ns s b
 
   abbrev AreFor : List (Held × Fraction) → List Multiple → Type 0
-  AreFor hs ms = AreMultiplesFor number literal factor (map told_of hs) ms
+  AreFor hs ms = AreMultiplesFor literal factor (map told_of hs) ms
 
   -- each is said, and has a multiplier above 0
   abbrev Counts : List (Held × Fraction) → Type 0
@@ -476,9 +476,9 @@ module _ (number : Numbering) (literal : ℕ → Literal) (factor : ℕ → Frac
         whole_total (λ (b : Held). part b.value) (part r.bound) (λ k. part (r.bounds k)) (=ℚ-from_same (ap part broken_stands.1))
         (λ k nonzero. =ℚ-from_same (ap part (stands (holding_side side (row k)) k (r.bounds k) (bound_there k nonzero)).1))
 
-    pub check_contradicts : (ms : List Multiple) → AreMultiplesFor number literal factor s.why ms → Contradicts number ms
+    pub check_contradicts : (ms : List Multiple) → AreMultiplesFor literal factor s.why ms → Contradicts number ms
     check_contradicts ms are =
-        contradicts number literal factor ns s clashing ms counts (subst (λ (ws : List (ℕ × Fraction)). AreMultiplesFor number literal factor ws ms) (sym told) are)
+        contradicts number literal factor ns s clashing ms counts (subst (λ (ws : List (ℕ × Fraction)). AreMultiplesFor literal factor ws ms) (sym told) are)
         form_total
         (below_same
         (apart side r.bound.standard (sum_at (length place.forms) row r.bounds).standard)
@@ -514,7 +514,7 @@ module _ (number : Numbering) (literal : ℕ → Literal) (factor : ℕ → Frac
         +ℚ-same (one_times (signed b.side (has b)))
         (+ℚ-zero (whole (pos 1) *ℚ signed (trails.other_side b.side) (has against)) ∙ℚ one_times (signed (trails.other_side b.side) (has against)))
 
-    pub assert_contradicts : (ms : List Multiple) → AreMultiplesFor number literal factor (both_once b.reason other) ms → Contradicts number ms
+    pub assert_contradicts : (ms : List Multiple) → AreMultiplesFor literal factor (both_once b.reason other) ms → Contradicts number ms
     assert_contradicts ms are =
         contradicts number literal factor ns s both ms ((b_said, one_above), ((against_said, one_above), tt)) are
         (λ v.
