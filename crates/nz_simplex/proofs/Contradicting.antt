@@ -1,6 +1,6 @@
 -- The literals that say clashing bounds, with the multipliers that are told, sum to a contradiction.
-use Rattle.std.proofs.Common.{◌≡◌, ℕ, zero, suc, ◌<◌, Bool, true, false, true≢false, ◌⊎◌, inl, inr, List, [], ◌∷◌, ◌++◌, length, map, flat_map, Option, Some, None, pos, refl, sym, ap, ap₂, ◌∙◌, subst, arith, Ordering, Less, Equal, Greater}
-use Rattle.std.specs.Prelude.{◌==◌, ◌&&◌, ◌||◌, fold, is_some, option_map, unwrap_or, IsTrue, if◌then◌else◌}
+use Rattle.std.proofs.Common.{◌≡◌, ℕ, zero, suc, Bool, true, false, true≢false, ◌⊎◌, inl, inr, List, [], ◌∷◌, ◌++◌, length, map, flat_map, Option, Some, None, pos, refl, sym, ap, ap₂, ◌∙◌, subst, arith, Ordering, Less, Equal, Greater}
+use Rattle.std.specs.Prelude.{◌==◌, ◌&&◌, ◌||◌, fold, is_some, option_map, unwrap_or, if◌then◌else◌}
 use Rattle.std.specs.Ordering.{MatchOrdering, ordering_reverse, ordering_then}
 use Rattle.std.specs.List.{list_all, AllByRecursion}
 use Rattle.std.proofs.lemmas.Int.{ints}
@@ -20,7 +20,7 @@ use Rattle.nz_spec.specs.Farkas.{Bound, Multiple, bound_of, empty_bound, is_line
 use Rattle.nz_spec.specs.Basis.{Coefficients, Valuation, form_at, weighted, worth}
 use Rattle.nz_spec.specs.BasisMoves.{numbers}
 use Rattle.nz_spec.specs.Bland as bland
-use Rattle.nz_spec.specs.Bland.{IsOutside, IsRefutation, Position, bound_on, is_nonbasic, sum_at, zero_infinitesimal}
+use Rattle.nz_spec.specs.Bland.{IsOutside, Position, bound_on, sum_at, zero_infinitesimal}
 use Rattle.nz_spec.specs.Table.{Node}
 use Rattle.nz_spec.proofs.FormValues.{one_times, zero_left, zero_times}
 use Rattle.nz_spec.proofs.FractionSolver.{◌∙ℚ◌, plus_left, plus_right, solve, times_left, times_right}
@@ -31,9 +31,9 @@ use Rattle.nz_trail.specs.Bounds as trails
 use Rattle.nz_trail.specs.Bounds.{AreApart, ClashesWith, asserted}
 use Rattle.nz_trail.specs.declared.limits.Side.{Side}
 use Rattle.nz_trail.specs.declared.limits.Side.TheVariants.{Lower, Upper}
-use Rattle.nz_simplex.specs.Checks.{IsRefuted, holding_side, multiplier, multipliers}
+use Rattle.nz_simplex.specs.Checks.{IsRefuted, holding_side, multiplier}
 use Rattle.nz_simplex.specs.Choices.{is_below_zero, size_of}
-use Rattle.nz_simplex.specs.Contradictions.{AreMultiplesFor, AreSaid, AreSum, ClashesContradict, Contradicts, IsSaid, SaysBound, both_once, signed, strictness}
+use Rattle.nz_simplex.specs.Contradictions.{AreMultiplesFor, AreSaid, AreSum, ClashesContradict, Contradicts, IsSaid, both_once, signed, strictness}
 use Rattle.nz_simplex.specs.Standing.{Held, bound_in, half, is_bound_of, is_news, is_side, reason_in, standing, standing_with}
 use Rattle.nz_simplex.specs.State.{State, nonbasic_in, value_in, position_over}
 use Rattle.nz_simplex.proofs.Helping.{bound_told, half_other}
@@ -162,7 +162,7 @@ module _ (number : Numbering) (literal : ℕ → Literal) (factor : ℕ → Frac
   Said b = IsSaid number literal factor ns s b
 
   abbrev AreFor : List (Held × Fraction) → List Multiple → Type 0
-  AreFor hs ms = AreMultiplesFor number literal factor (map told_of hs) ms
+  AreFor hs ms = AreMultiplesFor literal factor (map told_of hs) ms
 
   -- each is said, and has a multiplier above 0
   abbrev Counts : List (Held × Fraction) → Type 0
@@ -476,9 +476,9 @@ module _ (number : Numbering) (literal : ℕ → Literal) (factor : ℕ → Frac
         whole_total (λ (b : Held). part b.value) (part r.bound) (λ k. part (r.bounds k)) (=ℚ-from_same (ap part broken_stands.1))
         (λ k nonzero. =ℚ-from_same (ap part (stands (holding_side side (row k)) k (r.bounds k) (bound_there k nonzero)).1))
 
-    pub check_contradicts : (ms : List Multiple) → AreMultiplesFor number literal factor s.why ms → Contradicts number ms
+    pub check_contradicts : (ms : List Multiple) → AreMultiplesFor literal factor s.why ms → Contradicts number ms
     check_contradicts ms are =
-        contradicts number literal factor ns s clashing ms counts (subst (λ (ws : List (ℕ × Fraction)). AreMultiplesFor number literal factor ws ms) (sym told) are)
+        contradicts number literal factor ns s clashing ms counts (subst (λ (ws : List (ℕ × Fraction)). AreMultiplesFor literal factor ws ms) (sym told) are)
         form_total
         (below_same
         (apart side r.bound.standard (sum_at (length place.forms) row r.bounds).standard)
@@ -514,7 +514,7 @@ module _ (number : Numbering) (literal : ℕ → Literal) (factor : ℕ → Frac
         +ℚ-same (one_times (signed b.side (has b)))
         (+ℚ-zero (whole (pos 1) *ℚ signed (trails.other_side b.side) (has against)) ∙ℚ one_times (signed (trails.other_side b.side) (has against)))
 
-    pub assert_contradicts : (ms : List Multiple) → AreMultiplesFor number literal factor (both_once b.reason other) ms → Contradicts number ms
+    pub assert_contradicts : (ms : List Multiple) → AreMultiplesFor literal factor (both_once b.reason other) ms → Contradicts number ms
     assert_contradicts ms are =
         contradicts number literal factor ns s both ms ((b_said, one_above), ((against_said, one_above), tt)) are
         (λ v.

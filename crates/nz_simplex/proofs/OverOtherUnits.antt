@@ -1,10 +1,9 @@
 -- A contradiction stays one over other units: nothing but the units changes, and these come to nothing whatever they are worth.
-use Rattle.std.proofs.Common.{◌≡◌, Bool, true, false, true≢false, List, [], ◌∷◌, map, pos, refl, sym, ap, ap₂, ◌∙◌, subst}
+use Rattle.std.proofs.Common.{◌≡◌, Bool, true, false, true≢false, List, [], ◌∷◌, map, pos, refl, sym, ap, ap₂, ◌∙◌}
 use Rattle.std.specs.Prelude.{◌&&◌, ◌||◌}
 use Rattle.std.specs.List.{list_all, AllByRecursion}
 use Rattle.nz_fractions.specs.Fraction.{Fraction, whole, ◌=ℚ◌, ◌+ℚ◌, ◌*ℚ◌, Sum, Product, fraction_lt, outcome}
-use Rattle.nz_fractions.proofs.Laws.{=ℚ_refl, =ℚ-from_same, =ℚ_sym}
-use Rattle.nz_fractions.proofs.Arithmetic.{+ℚ-same}
+use Rattle.nz_fractions.proofs.Laws.{=ℚ-from_same, =ℚ_sym}
 use Rattle.nz_spec.specs.Term.{Term, is_zero}
 use Rattle.nz_spec.specs.Form.{Numbering, Part}
 use Rattle.nz_spec.specs.Literal.{Literal, term_literal, is_at_most, is_below}
@@ -12,7 +11,7 @@ use Rattle.nz_spec.specs.LinearLiteral.{is_without_units}
 use Rattle.nz_spec.specs.Basis.{Valuation, worth}
 use Rattle.nz_spec.specs.Farkas.{Bound, Multiple, bound_of, bound_scaled, bounds_joined, empty_bound, is_linear_literal, is_multiple, multiples_onto, sum_of_multiples}
 use Rattle.nz_spec.proofs.FormValues.{zero_left}
-use Rattle.nz_spec.proofs.FractionSolver.{◌∙ℚ◌, times_right}
+use Rattle.nz_spec.proofs.FractionSolver.{◌∙ℚ◌}
 use Rattle.nz_simplex.specs.Contradictions.{AreSum, Contradicts}
 use Rattle.nz_simplex.specs.OtherUnits.{ContradictionsStay, other_literal, other_multiple, other_part}
 use Rattle.nz_simplex.proofs.SumsInOrder.{no_units, onto_sum}

@@ -9,7 +9,7 @@ use Rattle.nz_fractions.proofs.Order.{fraction_eq-same}
 use Rattle.nz_fractions.proofs.Arithmetic.{+ℚ-zero}
 use Rattle.nz_spec.specs.Term.{Term, is_zero}
 use Rattle.nz_spec.specs.Computation.{operated, at_once, turned_into}
-use Rattle.nz_spec.specs.Form.{Numbering, Part, AreRising, IsSum, MayPrecede, part_alone, part_joined, parts_joined, parts_scaled, with_part}
+use Rattle.nz_spec.specs.Form.{Numbering, Part, AreRising, MayPrecede, part_alone, part_joined, parts_joined, parts_scaled, with_part}
 use Rattle.nz_spec.specs.Same.{are_same_term}
 use Rattle.nz_spec.specs.Basis.{Valuation, unit_coefficient, worth}
 use Rattle.nz_spec.specs.Farkas.{Bound, Multiple, bound_of, bound_scaled, bounds_joined, multiples_onto}

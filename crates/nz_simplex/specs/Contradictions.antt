@@ -1,6 +1,6 @@
 -- What a clash is worth: where each bound that was asserted has a literal that says the same, the literals of the clashing bounds, with the multipliers that
 -- are told, sum to a contradiction.
-use Rattle.std.specs.Prelude.{◌≡◌, ℕ, Bool, true, false, List, [], ◌∷◌, pos, negsuc, IsTrue, ⊤, if◌then◌else◌}
+use Rattle.std.specs.Prelude.{◌≡◌, ℕ, Bool, true, List, [], ◌∷◌, pos, negsuc, IsTrue, ⊤, if◌then◌else◌}
 use Rattle.std.specs.List.{list_all, AllByRecursion}
 use Rattle.nz_fractions.specs.Fraction.{Fraction, whole, ◌=ℚ◌, ◌<ℚ◌, ◌*ℚ◌, neg_ℚ}
 use Rattle.nz_spec.specs.Infinitesimal.{Infinitesimal, infinitesimal_cmp}
@@ -50,6 +50,7 @@ module _ (number : Numbering) (literal : ℕ → Literal) (factor : ℕ → Frac
   abbrev pub AreSaid : List Node → State → Type 0
   AreSaid ns s = AllByRecursion (IsSaid ns s) s.asserted
 
+module _ (literal : ℕ → Literal) (factor : ℕ → Fraction) where
   -- Multiples of the literals of these reasons: what is told for a bound is the multiplier times the literal's factor.
   abbrev pub AreMultiplesFor : List (ℕ × Fraction) → List Multiple → Type 0
   AreMultiplesFor [] [] = ⊤
@@ -72,7 +73,7 @@ both_once r s = (r, whole (pos 1)) ∷ (s, whole (pos 1)) ∷ []
 -- The multiples that are told where a check clashes contradict, and so do two bounds that leave a form no value.
 pub record ClashesContradict : Type 0 where
   pub check : (number : Numbering) (literal : ℕ → Literal) (factor : ℕ → Fraction) (ns : List Node) (s : State) (ms : List Multiple) → IsRefuted ns s
-      → AreSaid number literal factor ns s → AreMultiplesFor number literal factor s.why ms → Contradicts number ms
+      → AreSaid number literal factor ns s → AreMultiplesFor literal factor s.why ms → Contradicts number ms
   pub assert : (number : Numbering) (literal : ℕ → Literal) (factor : ℕ → Fraction) (ns : List Node) (s : State) (b : Held) (other : ℕ) (ms : List Multiple)
       → ClashesWith infinitesimal_cmp s.asserted b other → AreSaid number literal factor ns s → IsSaid number literal factor ns s b
-      → AreMultiplesFor number literal factor (both_once b.reason other) ms → Contradicts number ms
+      → AreMultiplesFor literal factor (both_once b.reason other) ms → Contradicts number ms

@@ -1,5 +1,5 @@
 -- A sum that is added to a table: what is prepared for it, and what comes of it.
-use Rattle.std.proofs.Common.{Vec, Global, ◌≡◌, ℕ, ◌+◌, ◌<◌, false, List, [], ◌∷◌, ◌++◌, Err, None, length, map, Option, sym, ap, ◌∙◌, subst, arith}
+use Rattle.std.proofs.Common.{Vec, Global, ◌≡◌, ℕ, ◌+◌, ◌<◌, false, List, [], ◌∷◌, ◌++◌, Err, length, map, Option, sym, ap, ◌∙◌, subst, arith}
 use Rattle.std.specs.Prelude.{All, vec_len}
 use Rattle.std.proofs.lemmas.List.{length-append, length-map, map-append, map_push}
 use Rattle.nz_fractions.specs.Fraction.{Fraction, first_wide}

@@ -1,9 +1,8 @@
 -- The units that aren't there join, and the form behind them.
-use Rattle.std.proofs.Common.{Vec, Global, ◌≡◌, ◌+◌, ◌++◌, [], ◌∷◌, ℕ, true, List, Err, None, length, map, refl, rules, sym, ap, subst, ◌∙◌, arith}
+use Rattle.std.proofs.Common.{Vec, Global, ◌≡◌, ◌+◌, ◌++◌, [], ◌∷◌, ℕ, true, List, Err, length, map, refl, rules, sym, ap, subst, ◌∙◌, arith}
 use Rattle.std.specs.HashMap.{get}
 use Rattle.std.specs.Prelude.{All, nat_eq, vec_capacity}
 use Rattle.std.proofs.lemmas.List.{length-map}
-use Rattle.nz_fractions.specs.Fraction.{first_wide}
 use Rattle.nz_lin.specs.declared.form.Part.{Part}
 use Rattle.nz_tab.specs.declared.tab.TabStop.{TabStop}
 use Rattle.nz_tab.specs.Joins.{HasOwnRow, IsFormJoined, Joins}
