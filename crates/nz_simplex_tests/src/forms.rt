@@ -1,14 +1,12 @@
 //! Forms in a simplex, for tests: what a call asks is tested here, so that tests have nothing to prove of it.
-ghost use Rattle.std.specs.Prelude.{◌<◌, All};
-ghost use Rattle.std.specs.Bool.{OnTrue};
-
-use nz_base::{Memory, Text};
+use nz_base::Memory;
 use nz_delta::Delta;
 use nz_frac::Frac;
 use nz_lin::lin;
 use nz_simplex::{Check, Coordinate, Simplex, SimplexStop, Steps};
 use nz_tab::TabStop;
-use nz_term::{Constant, Head, NumberSort, Operator, Sort, TermId, Terms, operators_are_no_leaves};
+use nz_term::{NumberSort, Operator, Sort, TermId, Terms};
+use nz_term_samples::{multiple, operation};
 use nz_trail::{Bound, Limit, Reason, Side, Var};
 use std::alloc::Global;
 use std::marker::Model;
@@ -16,58 +14,12 @@ use std::test::Fail;
 
 /// A constant of sort Real.
 pub fn constant(terms: &mut Terms, alloc: Global, name: &[u8]) -> Result<TermId, Memory> {
-    let name = Text::from_slice(alloc, name)?;
-    leaf(
-        terms,
-        Head::Constant(&Constant {
-            name,
-            sort: Sort::Real,
-        }),
-    )
-}
-
-/// The term of a head without arguments.
-fn leaf(terms: &mut Terms, head: Head<'_>) -> Result<TermId, Memory> {
-    if !head.fits() {
-        return Err(Memory);
-    }
-    terms.make(head, &[])
-}
-
-/// An operator over terms.
-fn over(terms: &mut Terms, operator: Operator, kids: &[TermId]) -> Result<TermId, Memory> {
-    operators_are_no_leaves();
-    if !are_below(kids, terms.len()) {
-        return Err(Memory);
-    }
-    terms.make(Head::Operator(operator), kids)
-}
-
-/// Whether each of these is below this number.
-fn are_below(ids: &[TermId], count: usize) -> bool
-    ensures below { OnTrue result (All (λ k. k < count) ids.now) }
-{
-    for i in 0..ids.len() {
-        if count <= ids[i] {
-            return false;
-        }
-    }
-    true
+    nz_term_samples::constant(alloc, terms, name, Sort::Real)
 }
 
 /// A natural number times a term.
 pub fn times(terms: &mut Terms, number: u128, id: TermId) -> Result<TermId, Memory> {
-    let number = leaf(terms, Head::Integer(number))?;
-    over(terms, Operator::Product(NumberSort::Real), &[number, id])
-}
-
-/// An integer times a term.
-fn multiple(terms: &mut Terms, number: i32, id: TermId) -> Result<TermId, Memory> {
-    let term = times(terms, number.unsigned_abs() as u128, id)?;
-    if number >= 0 {
-        return Ok(term);
-    }
-    over(terms, Operator::Difference(NumberSort::Real), &[term])
+    nz_term_samples::times(terms, NumberSort::Real, number, id)
 }
 
 /// The number of the form of a sum, or why it was not added.
@@ -77,7 +29,7 @@ pub fn added<S: Coordinate>(
     simplex: &mut Simplex<S>,
     kids: &[TermId],
 ) -> Option<Result<Var, TabStop>> {
-    let sum = over(terms, Operator::Sum(NumberSort::Real), kids).ok()?;
+    let sum = operation(terms, Operator::Sum(NumberSort::Real), kids).ok()?;
     add_term(alloc, terms, simplex, sum)
 }
 
@@ -105,8 +57,8 @@ pub fn pair<S: Coordinate>(
 ) -> Result<Var, Fail> {
     let (a, x) = first;
     let (b, y) = second;
-    let left = multiple(terms, a, x)?;
-    let right = multiple(terms, b, y)?;
+    let left = multiple(terms, NumberSort::Real, a as i64, x)?;
+    let right = multiple(terms, NumberSort::Real, b as i64, y)?;
     match added(alloc, terms, simplex, &[left, right]) {
         Some(Ok(var)) => Ok(var),
         _ => Err(Fail::from("no form")),

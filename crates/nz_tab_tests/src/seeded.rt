@@ -1,11 +1,12 @@
 //! Rows of seeded systems against the units: a row is right where, unit by unit, the nonbasic forms with its coefficients sum to
 //! the form. Over a basis only one row is.
-use crate::tables::{added, exchanged, over, times, units};
+use crate::tables::{added, exchanged, units};
 use nz_base::Memory;
 use nz_frac::{Frac, Wide};
 use nz_lin::Part;
 use nz_tab::{Tab, Var};
-use nz_term::{NumberSort, Operator, TermId, Terms};
+use nz_term::{NumberSort, TermId, Terms};
+use nz_term_samples::multiple;
 use std::alloc::Global;
 use std::test::Fail;
 
@@ -18,12 +19,10 @@ fn next(seed: &mut u64) -> u64 {
 }
 
 /// A unit with a coefficient from -9 to 9.
-fn multiple(terms: &mut Terms, unit: TermId, number: u64) -> Result<TermId, Memory> {
-    let term = times(terms, (number % 10) as u128, unit)?;
-    if number % 20 < 10 {
-        return Ok(term);
-    }
-    over(terms, Operator::Difference(NumberSort::Real), &[term])
+fn random(terms: &mut Terms, unit: TermId, number: u64) -> Result<TermId, Memory> {
+    let size = (number % 10) as i64;
+    let coefficient = if number % 20 < 10 { size } else { -size };
+    multiple(terms, NumberSort::Real, coefficient, unit)
 }
 
 /// Adds a form over three units.
@@ -35,9 +34,9 @@ fn add_random(
     seed: &mut u64,
 ) -> Option<Var> {
     let [x, y, z] = units;
-    let x = multiple(terms, x, next(seed)).ok()?;
-    let y = multiple(terms, y, next(seed)).ok()?;
-    let z = multiple(terms, z, next(seed)).ok()?;
+    let x = random(terms, x, next(seed)).ok()?;
+    let y = random(terms, y, next(seed)).ok()?;
+    let z = random(terms, z, next(seed)).ok()?;
     added(alloc, terms, tab, &[x, y, z])
 }
 

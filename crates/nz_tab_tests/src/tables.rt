@@ -1,72 +1,28 @@
 //! Forms in a table, for tests: what a call asks is tested here, so that tests have nothing to prove of it.
-ghost use Rattle.std.specs.Prelude.{◌<◌, All};
-ghost use Rattle.std.specs.Bool.{OnTrue};
-
-use nz_base::{Memory, Text};
+use nz_base::Memory;
 use nz_frac::Wide;
 use nz_lin::lin;
 use nz_tab::{Tab, Var};
-use nz_term::{Constant, Head, NumberSort, Operator, Sort, TermId, Terms, operators_are_no_leaves};
+use nz_term::{NumberSort, Operator, Sort, TermId, Terms};
+use nz_term_samples::{constant, operation};
 use std::alloc::Global;
 
 /// The units of these tests.
 pub fn units(terms: &mut Terms, alloc: Global) -> Result<[TermId; 3], Memory> {
-    let x = constant(terms, alloc, b"x")?;
-    let y = constant(terms, alloc, b"y")?;
-    let z = constant(terms, alloc, b"z")?;
+    let x = constant(alloc, terms, b"x", Sort::Real)?;
+    let y = constant(alloc, terms, b"y", Sort::Real)?;
+    let z = constant(alloc, terms, b"z", Sort::Real)?;
     Ok([x, y, z])
 }
 
-/// A constant of sort Real.
-fn constant(terms: &mut Terms, alloc: Global, name: &[u8]) -> Result<TermId, Memory> {
-    let name = Text::from_slice(alloc, name)?;
-    terms.make(
-        Head::Constant(&Constant {
-            name,
-            sort: Sort::Real,
-        }),
-        &[],
-    )
-}
-
-/// A numeral, of at most the largest number.
-fn numeral(terms: &mut Terms, number: u128) -> Result<TermId, Memory> {
-    if number > 170141183460469231731687303715884105727 {
-        return Err(Memory);
-    }
-    terms.make(Head::Integer(number), &[])
-}
-
-/// An operator over terms.
-pub fn over(terms: &mut Terms, operator: Operator, kids: &[TermId]) -> Result<TermId, Memory> {
-    operators_are_no_leaves();
-    if !are_below(kids, terms.len()) {
-        return Err(Memory);
-    }
-    terms.make(Head::Operator(operator), kids)
-}
-
-/// Whether each of these is below this number.
-fn are_below(ids: &[TermId], count: usize) -> bool
-    ensures below { OnTrue result (All (λ k. k < count) ids.now) }
-{
-    for i in 0..ids.len() {
-        if count <= ids[i] {
-            return false;
-        }
-    }
-    true
-}
-
-/// A number times a term.
+/// A natural number times a term.
 pub fn times(terms: &mut Terms, number: u128, id: TermId) -> Result<TermId, Memory> {
-    let number = numeral(terms, number)?;
-    over(terms, Operator::Product(NumberSort::Real), &[number, id])
+    nz_term_samples::times(terms, NumberSort::Real, number, id)
 }
 
 /// The number of the form of a sum in the table.
 pub fn added(alloc: Global, terms: &mut Terms, tab: &mut Tab, kids: &[TermId]) -> Option<Var> {
-    let sum = over(terms, Operator::Sum(NumberSort::Real), kids).ok()?;
+    let sum = operation(terms, Operator::Sum(NumberSort::Real), kids).ok()?;
     add_linear(alloc, terms, tab, sum)
 }
 
