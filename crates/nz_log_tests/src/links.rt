@@ -1,29 +1,30 @@
 //! The clauses of the link table, against all small assignments.
-use crate::terms::MOST;
+use crate::terms::{MOST, complete};
 use crate::values::{Values, are_true};
 use nz_base::Memory;
 use nz_frac::{Frac, Op};
 use nz_lin::LinStop;
-use nz_log::{ClauseId, Log, link_count};
-use nz_term::{NumberSort, Operator, Sort, TermId, Terms, add_companions};
+use nz_log::{Lit, Log, link_count};
+use nz_term::{NumberSort, Operator, Sort, TermId, Terms};
 use nz_term_samples::{constant, numeral, operation};
 use std::alloc::Global;
 use std::test::Fail;
 
-/// All clauses of a term, where it is linear. The companions that the clauses name join the table.
+/// What the clauses of a term say, where it is linear. The companions that they name join the table.
 fn links(
     alloc: Global,
     log: &mut Log,
     terms: &mut Terms,
     term: TermId,
-) -> Result<Vec<ClauseId>, LinStop> {
-    add_companions(alloc, terms, 0)?;
-    let mut clauses = Vec::new(alloc);
+) -> Result<Vec<Vec<Lit>>, LinStop> {
+    complete(alloc, terms)?;
     if terms.len() <= term || !terms.is_linear(term) {
-        return Ok(clauses);
+        return Err(LinStop::Memory);
     }
+    let mut clauses = Vec::new(alloc);
     for j in 0..link_count(terms, term) {
-        clauses.push(log.link(terms, term, j)?)?;
+        let id = log.link(terms, term, j)?;
+        clauses.push(Vec::from_slice(alloc, log.clause(id))?)?;
     }
     Ok(clauses)
 }
@@ -62,7 +63,7 @@ fn comparisons_are_tied_to_bounds(rt: HostRuntime) -> Result<(), Fail> {
 /// The clauses of the test whether rounding changes `argument` are true just where it has its truth, for each half from -2 to 2.
 fn rounds(
     log: &Log,
-    clauses: &[ClauseId],
+    clauses: &[Vec<Lit>],
     term: TermId,
     argument: TermId,
     rounded: TermId,

@@ -1,8 +1,10 @@
 //! Clauses by sums of bounds: contradictions, branches and cuts.
+use crate::rules::{branch, cut, farkas, farkas_alone};
 use crate::terms::{MOST, form};
+use nz_base::Memory;
 use nz_frac::{Frac, Op};
 use nz_lin::{Bound, LinStop};
-use nz_log::{Lit, Log, Multiple, Step};
+use nz_log::{Lit, Literal, Log, Multiple};
 use nz_term::{NumberSort, Operator, Sort, TermId, Terms};
 use nz_term_samples::{constant, numeral, operation};
 use std::alloc::Global;
@@ -62,12 +64,10 @@ fn bounds_with_a_false_sum_are_refuted(rt: HostRuntime) -> Result<(), Fail> {
     // `x + y + 1 <= 0`, and that `x + y <= 0` is false: their sum says `0 < -1`.
     let first = at_most_zero(alloc, &mut log, &terms, low)?;
     let second = at_most_zero(alloc, &mut log, &terms, twice)?.not();
-    let clause = log.farkas(&[times(first, 1), times(second, 1)])?;
-    assert_eq!(rt; log.clause(clause), [first.not(), second.not()].as_slice());
-    assert_eq!(rt; log.level(clause), 0);
-    let steps = log.steps(clause)?;
-    assert_eq!(rt; steps.len(), 1);
-    assert!(rt; matches!(&steps[0], Step::Farkas(multiples) if multiples.len() == 2));
+    let made = farkas(alloc, &mut log, &[times(first, 1), times(second, 1)])?;
+    assert_eq!(rt; made.literals.as_slice(), [first.not(), second.not()].as_slice());
+    assert_eq!(rt; made.level, 0);
+    assert_eq!(rt; made.refuted, Some(2));
     Ok(())
 }
 
@@ -75,20 +75,31 @@ fn bounds_with_a_false_sum_are_refuted(rt: HostRuntime) -> Result<(), Fail> {
 fn a_wide_sum_is_named(rt: HostRuntime) -> Result<(), Fail> {
     let alloc = rt.alloc();
     let mut terms = Terms::new(alloc)?;
-    let x = constant(alloc, &mut terms, b"x", Sort::Int)?;
-    let y = constant(alloc, &mut terms, b"y", Sort::Int)?;
-    let much = sum(&mut terms, x, y, MOST, 1)?;
+    let most = numeral(&mut terms, MOST)?;
     let mut log = Log::new(alloc)?;
-    let first = at_most_zero(alloc, &mut log, &terms, much)?;
-    match log.farkas(&[times(first, 2)]) {
+    // The greatest number is at most 0: so is twice that number, which is none.
+    let first = at_most_zero(alloc, &mut log, &terms, most)?;
+    match farkas_alone(alloc, &mut log, times(first, 2)) {
         Err(LinStop::Wide(wide)) => {
             assert!(rt; wide.op == Op::Mul);
             assert_eq!(rt; wide.a.num(), 2);
-            assert_eq!(rt; wide.b.num(), MOST as i128);
+            assert_eq!(rt; wide.b.num(), -(MOST as i128));
         }
         _ => assert!(rt; false),
     }
     Ok(())
+}
+
+/// What each of these literals says that a sum is at most.
+fn limits(alloc: Global, log: &Log, literals: &[Lit]) -> Result<Vec<Frac>, Memory> {
+    let mut limits = Vec::new(alloc);
+    for i in 0..literals.len() {
+        let Literal::AtMost(bound, true) = log.literal(literals[i]) else {
+            return Err(Memory);
+        };
+        limits.push(bound.limit())?;
+    }
+    Ok(limits)
 }
 
 #[test]
@@ -100,15 +111,9 @@ fn a_branch_is_on_an_integer(rt: HostRuntime) -> Result<(), Fail> {
     let low = sum(&mut terms, x, y, 2, 3)?;
     let mut log = Log::new(alloc)?;
     // `2x + y <= -3`, or `2x + y >= -2`.
-    let clause = log.branch(Bound::at_most_zero(form(alloc, &terms, low)?))?;
-    let literals = log.clause(clause);
-    assert_eq!(rt; literals.len(), 2);
-    assert!(rt;
-        matches!(log.literal(literals[0]), nz_log::Literal::AtMost(bound, true) if bound.limit() == Frac::whole(-3))
-    );
-    assert!(rt;
-        matches!(log.literal(literals[1]), nz_log::Literal::AtMost(bound, true) if bound.limit() == Frac::whole(2))
-    );
+    let bound = Bound::at_most_zero(form(alloc, &terms, low)?);
+    let made = branch(alloc, &mut log, bound)?;
+    assert_eq!(rt; limits(alloc, &log, &made.literals)?.as_slice(), [Frac::whole(-3), Frac::whole(2)].as_slice());
     Ok(())
 }
 
@@ -119,7 +124,7 @@ fn a_wide_branch_is_named(rt: HostRuntime) -> Result<(), Fail> {
     let x = constant(alloc, &mut terms, b"x", Sort::Int)?;
     let most = Bound::at_most_zero(form(alloc, &terms, x)?).with_limit(Frac::integer(MOST as i128));
     let mut log = Log::new(alloc)?;
-    match log.branch(most) {
+    match branch(alloc, &mut log, most) {
         Err(LinStop::Wide(wide)) => {
             assert!(rt; wide.op == Op::Sub);
             assert_eq!(rt; wide.a.num(), -(MOST as i128));
@@ -146,8 +151,8 @@ fn a_cut_is_rounded(rt: HostRuntime) -> Result<(), Fail> {
         literal: doubled,
         multiplier: Frac::of(1, 2).unwrap_or(Frac::whole(1)),
     };
-    let clause = log.cut(&[half])?;
-    assert_eq!(rt; log.clause(clause), [doubled.not(), first].as_slice());
+    let made = cut(alloc, &mut log, &[half])?;
+    assert_eq!(rt; made.literals.as_slice(), [doubled.not(), first].as_slice());
     Ok(())
 }
 
@@ -162,7 +167,7 @@ fn a_wide_cut_is_named(rt: HostRuntime) -> Result<(), Fail> {
     let mut log = Log::new(alloc)?;
     // It is below its least number, so at most one less.
     let above = log.bound_literal(least)?.not();
-    match log.cut(&[times(above, 1)]) {
+    match cut(alloc, &mut log, &[times(above, 1)]) {
         Err(LinStop::Wide(wide)) => {
             assert!(rt; wide.op == Op::Sub);
             assert_eq!(rt; wide.a.num(), -(MOST as i128));

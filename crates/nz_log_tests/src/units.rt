@@ -1,29 +1,30 @@
 //! The clauses of the unit table, against all small assignments.
-use crate::terms::MOST;
+use crate::terms::{MOST, complete};
 use crate::values::{Values, are_true};
 use nz_base::Memory;
 use nz_frac::{Frac, Op};
 use nz_lin::LinStop;
-use nz_log::{ClauseId, Log, unit_count};
-use nz_term::{NumberSort, Operator, Sort, TermId, Terms, add_companions};
+use nz_log::{Lit, Log, unit_count};
+use nz_term::{NumberSort, Operator, Sort, TermId, Terms};
 use nz_term_samples::{constant, numeral, operation};
 use std::alloc::Global;
 use std::test::Fail;
 
-/// All clauses of a unit, where it is linear. The companions that the clauses name join the table.
+/// What the clauses of a unit say, where it is linear. The companions that they name join the table.
 fn units(
     alloc: Global,
     log: &mut Log,
     terms: &mut Terms,
     term: TermId,
-) -> Result<Vec<ClauseId>, LinStop> {
-    add_companions(alloc, terms, 0)?;
-    let mut clauses = Vec::new(alloc);
+) -> Result<Vec<Vec<Lit>>, LinStop> {
+    complete(alloc, terms)?;
     if terms.len() <= term || !terms.is_linear(term) {
-        return Ok(clauses);
+        return Err(LinStop::Memory);
     }
+    let mut clauses = Vec::new(alloc);
     for j in 0..unit_count(terms, term) {
-        clauses.push(log.unit_axiom(terms, term, j)?)?;
+        let id = log.unit_axiom(terms, term, j)?;
+        clauses.push(Vec::from_slice(alloc, log.clause(id))?)?;
     }
     Ok(clauses)
 }
