@@ -1,6 +1,7 @@
 -- Multiples of bounds, over every table: each is one, and that of a bound on no units that excludes 0 excludes it too.
 use Rattle.std.proofs.Common.{◌≡◌, ◌||◌, ◌&&◌, Bool, true, false, List, [], ◌∷◌, pos, refl, sym, ap, ap₂, subst, ◌∙◌, arith}
 use Rattle.std.specs.Prelude.{All, IsTrue}
+use Rattle.std.specs.Bool.{OnTrue}
 use Rattle.std.specs.List.{list_all}
 use Rattle.std.proofs.lemmas.Int.{ints}
 use Rattle.std.proofs.lemmas.List.Elements.{All-head, All-tail}
@@ -26,6 +27,16 @@ use Rattle.nz_log.specs.declared.multiples.Multiple.{Multiple}
 use Rattle.nz_log.specs.Atoms.{literal_in, with_sign}
 use Rattle.nz_log.specs.Axioms.{multiple_in, multiples_in, sum_in}
 use Rattle.nz_log_tests.specs.Sums.{IsMultiple}
+
+-- ---- Tests
+
+pub on_true : {P : Type 0} (b : Bool) → (b ≡ true → P) → OnTrue b P
+on_true true f = f refl
+on_true false f = tt
+
+pub from_true : {P : Type 0} (b : Bool) → OnTrue b P → b ≡ true → P
+from_true true h e = h
+from_true false h e = cc
 
 -- ---- Each is one
 

@@ -1,6 +1,7 @@
 -- Sums of multiples, one after another; sums of integers.
 use Rattle.std.proofs.Common.{◌≡◌, ℕ, ◌<◌, ◌+◌, ◌&&◌, Bool, true, false, List, [], ◌∷◌, length, drop, get_or, Some, None, refl, sym, ap, ap₂, subst, ◌∙◌}
-use Rattle.std.specs.Prelude.{slice_get}
+use Rattle.std.specs.Prelude.{slice_get, Result, Ok, Err, OnOk}
+use Rattle.std.proofs.lemmas.List.Elements.{All-from_recursion, All-get_or}
 use Rattle.std.specs.List.{AllByRecursion, list_all}
 use Rattle.std.proofs.Math.Bool.{and-false, and-true}
 use Rattle.nz_lists.proofs.Places.{drop_read}
@@ -12,7 +13,7 @@ use Rattle.nz_spec.specs.Form as form
 use Rattle.nz_spec.specs.FormOf.{number_in}
 use Rattle.nz_spec.specs.LinearLiteral.{are_integral, is_whole}
 use Rattle.nz_spec.specs.Literal.{Literal, negation_of, term_literal}
-use Rattle.nz_spec.specs.Table.{Node, term_in}
+use Rattle.nz_spec.specs.Table.{Node, IsTable, term_in}
 use Rattle.nz_spec.specs.Term as term
 use Rattle.nz_spec.specs.Term.{are_same_sort, int_sort}
 use Rattle.nz_term.specs.Constants as sorts
@@ -21,6 +22,8 @@ use Rattle.nz_term.specs.declared.heads.Sort.TheVariants.{Bool as Truth, Int, Re
 use Rattle.nz_lin.specs.declared.bound.Bound.{Bound}
 use Rattle.nz_lin.specs.declared.form.Part.{Part}
 use Rattle.nz_lin.specs.Bounds.{HasUnits, bound_over, bounded, is_integral, is_integral_of, literal_over}
+use Rattle.nz_lin.specs.declared.form.LinStop.{LinStop}
+use Rattle.nz_lin.specs.Comes.{Comes}
 use Rattle.nz_lin.specs.Forms.{NamesUnit, parts_over}
 use Rattle.nz_log.specs.declared.atoms.Atom.{Atom}
 use Rattle.nz_log.specs.declared.atoms.Atom.TheVariants.{AtMost}
@@ -28,7 +31,7 @@ use Rattle.nz_log.specs.declared.lits.Lit.{Lit}
 use Rattle.nz_log.specs.declared.multiples.Multiple.{Multiple}
 use Rattle.nz_log.specs.Atoms.{IsAtomIn, IsLitIn, atom_in, literal_in, with_sign}
 use Rattle.nz_log.specs.Axioms.{multiples_in, sum_in}
-use Rattle.nz_log_tests.specs.Sums.{IsAddedOver}
+use Rattle.nz_log_tests.specs.Sums.{IsAdded, IsAddedOver}
 
 -- ---- One multiple after another
 
@@ -78,6 +81,20 @@ added_by ns atoms m o old new same is units =
       sum = is ∙ sym (ap (λ (b : farkas.Bound). (and_then (bound_scaled m.multiplier b) (λ y. bounds_joined (number_in ns) (bound_over ns old) y)).result) same);
       units = units;
     }
+
+pub adds : {X : Type 0} (r : Result X LinStop) (atoms : List Atom) (m : Multiple) (o old new : Bound)
+    → ((ns : List Node) → IsLitIn ns atoms m.literal → (bound_of (literal_in ns atoms m.literal) ≡ bound_over ns o) × HasUnits ns o)
+    → ((ns : List Node) → IsTable ns → HasUnits ns old → HasUnits ns o
+        → Comes (and_then (bound_scaled m.multiplier (bound_over ns o)) (λ y. bounds_joined (number_in ns) (bound_over ns old) y)) (bound_over ns new) r)
+    → OnOk r ((ns : List Node) → HasUnits ns old → HasUnits ns o → HasUnits ns new) → OnOk r (IsAdded atoms m old new)
+adds (Ok x) atoms m o old new is comes units = λ ns table h within.
+    let own = is ns within in
+    added_by ns atoms m o old new own.0 (comes ns table h own.1).result (units ns h own.1)
+adds (Err e) atoms m o old new is comes units = tt
+
+-- what holds of each holds of the one that is read
+pub each_read : {X : Type 0} (P : X → Type 0) (xs : List X) (i : ℕ) (x : X) → i < length xs → x ≡ get_or xs i x → AllByRecursion P xs → P x
+each_read P xs i x within read h = subst P (sym read) (All-get_or P xs i x within (All-from_recursion P xs h))
 
 -- ---- Integers
 

@@ -1,6 +1,6 @@
 -- What the rules on sums of bounds ask of multiples, over every table.
-use Rattle.std.specs.Prelude.{◌≡◌, List, IsTrue}
-use Rattle.nz_fractions.specs.Fraction.{Fraction}
+use Rattle.std.specs.Prelude.{◌≡◌, List, [], pos, IsTrue}
+use Rattle.nz_fractions.specs.Fraction.{fraction_lt, whole}
 use Rattle.nz_spec.specs.Computation.{and_then}
 use Rattle.nz_spec.specs.Farkas.{bound_of, bound_scaled, bounds_joined, is_contradiction, is_multiple}
 use Rattle.nz_spec.specs.FormOf.{number_in}
@@ -49,3 +49,8 @@ AreIntegral atoms ms = (ns : List Node) → IsTable ns → AreMultiplesIn ns ato
 -- the bound is one of integers
 abbrev pub IsOfIntegers : Bound → Type 0
 IsOfIntegers b = (ns : List Node) → HasUnits ns b → IsTrue (are_integral (parts_over ns b.sides.parts))
+
+-- the bound is on no units, and 0 isn't within its limit
+pub record IsFalse (b : Bound) : Type 0 where
+  pub none : b.sides.parts ≡ []
+  pub below : IsTrue (fraction_lt b.sides.offset (whole (pos 0)))

@@ -6,7 +6,7 @@ ghost use Rattle.std.specs.List.{list_all};
 ghost use Rattle.nz_spec.specs.LinearLiteral.{is_whole};
 ghost use Rattle.nz_lin.specs.Bounds.{is_integral};
 ghost use Rattle.nz_log.specs.Logs.{IsLive};
-ghost use Rattle.nz_log_tests.specs.Sums.{AreAllMultiples, AreIntegral, AreRefuted, IsAdded, IsMultiple, IsOfIntegers, IsSum};
+ghost use Rattle.nz_log_tests.specs.Sums.{AreAllMultiples, AreIntegral, AreRefuted, IsAdded, IsFalse, IsMultiple, IsOfIntegers, IsSum};
 
 use nz_base::Memory;
 use nz_frac::Frac;
@@ -121,19 +121,33 @@ fn is_refuted(alloc: Global, log: &Log, multiples: &[Multiple]) -> Result<bool, 
     Ok(sum.is_contradiction())
 }
 
-/// Whether a bound is on no units, and excludes 0, so that its multiple by a number above 0 does.
+/// Whether it is a multiple, by a number above 0, of a bound on no units that excludes 0: then it excludes 0 too.
 fn is_false(log: &Log, multiple: Multiple) -> bool
     ensures refuted { OnTrue result (AreRefuted log.now.atoms (multiple ∷ [])) }
 {
+    let is_above = Frac::whole(0) < multiple.multiplier;
     match log.literal(multiple.literal) {
         Literal::Term(_) => false,
         Literal::AtMost(bound, sign) => {
-            sign
-                && bound.parts().is_empty()
-                && bound.limit() < Frac::whole(0)
-                && Frac::whole(0) < multiple.multiplier
+            if !sign {
+                return false;
+            }
+            if !is_above {
+                return false;
+            }
+            excludes_zero(bound)
         }
     }
+}
+
+/// Whether a bound is on no units, and 0 isn't within its limit.
+fn excludes_zero(bound: &Bound) -> bool
+    ensures excludes { OnTrue result (IsFalse bound.now) }
+{
+    if !bound.parts().is_empty() {
+        return false;
+    }
+    bound.limit() < Frac::whole(0)
 }
 
 /// Whether the sum of multiples is one of integers.

@@ -1,6 +1,6 @@
 //! Whether clauses are true, where terms have these values.
-use nz_frac::{Frac, Wide};
-use nz_lin::Bound;
+use nz_frac::{Frac, Op, Wide};
+use nz_lin::{Bound, LinStop};
 use nz_log::{Lit, Literal, Log};
 use nz_term::TermId;
 
@@ -72,4 +72,17 @@ pub(crate) fn are_true(values: &Values<'_>, log: &Log, clauses: &[Vec<Lit>]) -> 
         }
     }
     Ok(true)
+}
+
+/// Whether making clauses stopped at the operation of this kind over these integers.
+pub(crate) fn is_wide(made: Result<Vec<Vec<Lit>>, LinStop>, op: Op, a: i128, b: i128) -> bool {
+    match made {
+        Err(LinStop::Wide(wide)) => is_of(wide, op, a, b),
+        _ => false,
+    }
+}
+
+/// Whether the operation is of this kind, over these integers.
+pub(crate) fn is_of(wide: Wide, op: Op, a: i128, b: i128) -> bool {
+    wide.op == op && wide.a.num() == a && wide.b.num() == b
 }
