@@ -1,11 +1,12 @@
 -- Multiples of bounds, over every table: each is one, and that of a bound on no units that excludes 0 excludes it too.
-use Rattle.std.proofs.Common.{◌≡◌, ◌||◌, ◌&&◌, Bool, true, false, List, [], ◌∷◌, pos, refl, sym, ap, ap₂, subst, ◌∙◌, arith}
-use Rattle.std.specs.Prelude.{All, IsTrue}
+use Rattle.std.proofs.Common.{◌≡◌, ◌||◌, ◌&&◌, ◌*ℤ◌, Bool, true, false, List, [], ◌∷◌, length, eqb, cond, pos, Less, Equal, Greater, refl, sym, ap, ap₂, subst, ◌∙◌, arith}
+use Rattle.std.specs.Prelude.{All, IsTrue, int_lt}
+use Rattle.std.specs.Ordering.{is_lt}
 use Rattle.std.specs.Bool.{OnTrue}
 use Rattle.std.specs.List.{list_all}
 use Rattle.std.proofs.lemmas.Int.{ints}
 use Rattle.std.proofs.lemmas.List.Elements.{All-head, All-tail}
-use Rattle.nz_fractions.specs.Fraction.{Fraction, Product, Sum, fraction_lt, outcome, whole, ◌=ℚ◌, ◌<ℚ◌, ◌*ℚ◌}
+use Rattle.nz_fractions.specs.Fraction.{Fraction, Product, Sum, denominator, fraction_cmp, fraction_lt, outcome, whole, ◌=ℚ◌, ◌<ℚ◌, ◌*ℚ◌}
 use Rattle.nz_fractions.proofs.Arithmetic.{outcome-product, outcome-sum}
 use Rattle.nz_fractions.proofs.Laws.{=ℚ_trans, <ℚ-≤ℚ_trans, ≤ℚ-<ℚ_trans, ≤ℚ-from_eq}
 use Rattle.nz_spec.specs.Farkas.{empty_bound, is_contradiction, is_linear_literal, is_multiple, multiples_onto}
@@ -37,6 +38,26 @@ on_true false f = tt
 pub from_true : {P : Type 0} (b : Bool) → OnTrue b P → b ≡ true → P
 from_true true h e = h
 from_true false h e = cc
+
+below : (p q : Bool) → is_lt (cond p Less (cond q Greater Equal)) ≡ p
+below true q = refl
+below false true = refl
+below false false = refl
+
+less_is : (p q : Fraction) → is_lt (fraction_cmp p q) ≡ fraction_lt p q
+unfolding fraction_cmp fraction_lt
+less_is p q =
+    let a = p.numerator *ℤ pos (denominator q) in
+    let b = q.numerator *ℤ pos (denominator p) in
+    below (int_lt a b) (int_lt b a)
+
+-- of two numbers that were read
+pub told_less : {p q x y : Fraction} {less : Bool} → less ≡ is_lt (fraction_cmp p q) → p ≡ x → q ≡ y → less ≡ true → fraction_lt x y ≡ true
+told_less {p} {q} compared first second e = sym (compared ∙ less_is p q ∙ ap₂ fraction_lt first second) ∙ e
+
+pub no_parts : (ps : List Part) → eqb (length ps) 0 ≡ true → ps ≡ []
+no_parts [] e = refl
+no_parts (p ∷ ps) e = cc
 
 -- ---- Each is one
 

@@ -150,6 +150,6 @@ fn wide_links(alloc: Global) -> Result<Vec<Vec<Lit>>, LinStop> {
 
 #[test]
 fn a_wide_link_is_named(rt: HostRuntime) -> Result<(), Fail> {
-    assert!(rt; is_wide(wide_links(rt.alloc()), Op::Sub, MOST as i128, -1));
+    assert!(rt; is_wide(&wide_links(rt.alloc()), Op::Sub, MOST as i128, -1));
     Ok(())
 }

@@ -43,9 +43,9 @@ fn times(literal: Lit, multiplier: i64) -> Multiple {
 }
 
 /// Whether a rule stopped at the operation of this kind over these integers.
-fn is_wide(made: Result<Made, LinStop>, op: Op, a: i128, b: i128) -> bool {
+fn is_wide(made: &Result<Made, LinStop>, op: Op, a: i128, b: i128) -> bool {
     match made {
-        Err(LinStop::Wide(wide)) => is_of(wide, op, a, b),
+        Err(LinStop::Wide(wide)) => is_of(*wide, op, a, b),
         _ => false,
     }
 }
@@ -83,7 +83,7 @@ fn a_wide_sum_is_named(rt: HostRuntime) -> Result<(), Fail> {
     let least = Bound::empty(alloc).with_limit(Frac::integer(-(MOST as i128)));
     let first = log.bound_literal(least)?;
     let made = farkas_alone(alloc, &mut log, times(first, 2));
-    assert!(rt; is_wide(made, Op::Mul, 2, -(MOST as i128)));
+    assert!(rt; is_wide(&made, Op::Mul, 2, -(MOST as i128)));
     Ok(())
 }
 
@@ -117,7 +117,7 @@ fn a_wide_branch_is_named(rt: HostRuntime) -> Result<(), Fail> {
     let mut log = Log::new(alloc)?;
     let most = at_most_zero(alloc, 1, 0)?.with_limit(Frac::integer(MOST as i128));
     let made = branch(alloc, &mut log, most);
-    assert!(rt; is_wide(made, Op::Sub, -(MOST as i128), 1));
+    assert!(rt; is_wide(&made, Op::Sub, -(MOST as i128), 1));
     Ok(())
 }
 
@@ -151,6 +151,6 @@ fn a_wide_cut_is_named(rt: HostRuntime) -> Result<(), Fail> {
     // It is above the greatest number: its negative is below the least one, so at most one less.
     let above = log.bound_literal(most)?.not();
     let made = cut(alloc, &mut log, &[times(above, 1)]);
-    assert!(rt; is_wide(made, Op::Sub, -(MOST as i128), 1));
+    assert!(rt; is_wide(&made, Op::Sub, -(MOST as i128), 1));
     Ok(())
 }

@@ -269,6 +269,6 @@ fn wide_units(alloc: Global) -> Result<Vec<Vec<Lit>>, LinStop> {
 
 #[test]
 fn a_wide_unit_is_named(rt: HostRuntime) -> Result<(), Fail> {
-    assert!(rt; is_wide(wide_units(rt.alloc()), Op::Add, MOST as i128, 1));
+    assert!(rt; is_wide(&wide_units(rt.alloc()), Op::Add, MOST as i128, 1));
     Ok(())
 }

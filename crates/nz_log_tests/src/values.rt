@@ -75,9 +75,9 @@ pub(crate) fn are_true(values: &Values<'_>, log: &Log, clauses: &[Vec<Lit>]) -> 
 }
 
 /// Whether making clauses stopped at the operation of this kind over these integers.
-pub(crate) fn is_wide(made: Result<Vec<Vec<Lit>>, LinStop>, op: Op, a: i128, b: i128) -> bool {
+pub(crate) fn is_wide(made: &Result<Vec<Vec<Lit>>, LinStop>, op: Op, a: i128, b: i128) -> bool {
     match made {
-        Err(LinStop::Wide(wide)) => is_of(wide, op, a, b),
+        Err(LinStop::Wide(wide)) => is_of(*wide, op, a, b),
         _ => false,
     }
 }
