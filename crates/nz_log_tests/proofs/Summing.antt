@@ -85,7 +85,7 @@ added_by ns atoms m o old new same is units =
 pub adds : {X : Type 0} (r : Result X LinStop) (atoms : List Atom) (m : Multiple) (o old new : Bound)
     → ((ns : List Node) → IsLitIn ns atoms m.literal → (bound_of (literal_in ns atoms m.literal) ≡ bound_over ns o) × HasUnits ns o)
     → ((ns : List Node) → IsTable ns → HasUnits ns old → HasUnits ns o
-        → Comes (and_then (bound_scaled m.multiplier (bound_over ns o)) (λ y. bounds_joined (number_in ns) (bound_over ns old) y)) (bound_over ns new) r)
+    → Comes (and_then (bound_scaled m.multiplier (bound_over ns o)) (λ y. bounds_joined (number_in ns) (bound_over ns old) y)) (bound_over ns new) r)
     → OnOk r ((ns : List Node) → HasUnits ns old → HasUnits ns o → HasUnits ns new) → OnOk r (IsAdded atoms m old new)
 adds (Ok x) atoms m o old new is comes units = λ ns table h within.
     let own = is ns within in

@@ -69,13 +69,7 @@ fn divided(
 }
 
 /// Whether the clauses are true just where the unit has this value, of the numbers from -4 to 4, where `x` is `a` and the quotient `whole`.
-fn tell(
-    log: &Log,
-    division: &Division,
-    a: i64,
-    whole: Frac,
-    value: Frac,
-) -> Result<bool, Wide> {
+fn tell(log: &Log, division: &Division, a: i64, whole: Frac, value: Frac) -> Result<bool, Wide> {
     let mut tell = division.clauses.len() >= 2;
     for b in -4..5 {
         let number = Frac::whole(b);
@@ -120,7 +114,11 @@ fn divides(alloc: Global, operator: Operator, negative: bool) -> Result<bool, Li
     for i in 0..cases.len() {
         let (a, quotient, remainder) = cases[i];
         let whole = signed(Frac::whole(quotient), negative);
-        let value = if is_quotient { whole } else { Frac::whole(remainder) };
+        let value = if is_quotient {
+            whole
+        } else {
+            Frac::whole(remainder)
+        };
         divides = divides && tell(&log, &division, a, whole, value)?;
     }
     Ok(divides)
@@ -210,9 +208,11 @@ fn choose(terms: &mut Terms, alloc: Global) -> Result<(), Memory> {
 /// Whether they are true just where the choice is of the first integer, which is 0, where the constant is true, and else of the second, 1.
 fn are_choices(log: &Log, clauses: &[Vec<Lit>]) -> Result<bool, Wide> {
     let numbers = [(1, Frac::whole(0)), (2, Frac::whole(1))];
-    Ok(clauses.len() == 4
-        && are_just(log, clauses, 3, Frac::whole(0), numbers, true)?
-        && are_just(log, clauses, 3, Frac::whole(1), numbers, false)?)
+    Ok(
+        clauses.len() == 4
+            && are_just(log, clauses, 3, Frac::whole(0), numbers, true)?
+            && are_just(log, clauses, 3, Frac::whole(1), numbers, false)?,
+    )
 }
 
 #[test]

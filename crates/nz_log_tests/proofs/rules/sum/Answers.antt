@@ -29,8 +29,8 @@ loop-multiple-preserved c =
     let inside : i < length ms = omega arith in
     let invariant = c.loop-multiple.invariant in
     let added : (ns : List Node) → IsTable ns → AreMultiplesIn ns atoms ms → IsAddedOver ns atoms m c.loop-multiple.sum c.add_multiple.new.sum = λ ns table within.
-        c.in_ok-add_multiple.ensures.added ns table (invariant.units ns table within)
-        (each_read (λ (k : Multiple). IsLitIn ns atoms k.literal) ms i m inside c.multiple-item.is within) in
+    c.in_ok-add_multiple.ensures.added ns table (invariant.units ns table within)
+    (each_read (λ (k : Multiple). IsLitIn ns atoms k.literal) ms i m inside c.multiple-item.is within) in
     record {
       units = λ ns table within. (added ns table within).units;
       left = λ ns table within.
