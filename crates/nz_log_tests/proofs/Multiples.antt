@@ -4,6 +4,7 @@ use Rattle.std.specs.Prelude.{All, IsTrue, int_lt}
 use Rattle.std.specs.Ordering.{is_lt}
 use Rattle.std.specs.Bool.{OnTrue}
 use Rattle.std.specs.List.{list_all}
+use Rattle.std.proofs.lemmas.Bool.{ne_eqb}
 use Rattle.std.proofs.lemmas.Int.{ints}
 use Rattle.std.proofs.lemmas.List.Elements.{All-head, All-tail}
 use Rattle.nz_fractions.specs.Fraction.{Fraction, Product, Sum, denominator, fraction_cmp, fraction_lt, outcome, whole, ◌=ℚ◌, ◌<ℚ◌, ◌*ℚ◌}
@@ -57,7 +58,9 @@ told_less {p} {q} compared first second e = sym (compared ∙ less_is p q ∙ ap
 
 pub no_parts : (ps : List Part) → eqb (length ps) 0 ≡ true → ps ≡ []
 no_parts [] e = refl
-no_parts (p ∷ ps) e = cc
+no_parts (p ∷ ps) e =
+    let some : eqb (length (p ∷ ps)) 0 ≡ false = ne_eqb (length (p ∷ ps)) 0 (λ h. omega arith) in
+    absurd (cc)
 
 -- ---- Each is one
 
