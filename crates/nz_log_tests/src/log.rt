@@ -90,6 +90,8 @@ fn refuted(
     term: TermId,
     negation: TermId,
 ) -> Result<Told, Memory> {
+    // The refutation doesn't rest on this clause, so that its steps don't have it.
+    log.given(9, term, 0)?;
     let holds = log.given(0, term, 0)?;
     let negated = log.given(1, negation, 1)?;
     if negation >= terms.len() || gate_count(terms, negation) == 0 {
@@ -103,18 +105,24 @@ fn refuted(
     tell(alloc, log, empty)
 }
 
+/// A constant (0), and its negation (1).
+fn oppose(terms: &mut Terms, alloc: Global) -> Result<(), Memory> {
+    let p = constant(alloc, terms, b"p", Sort::Bool)?;
+    operation(terms, Operator::Not, &[p])?;
+    Ok(())
+}
+
+/// The refutation of a constant and its negation.
+fn refutation(alloc: Global) -> Result<Told, Memory> {
+    let mut terms = Terms::new(alloc)?;
+    oppose(&mut terms, alloc)?;
+    let mut log = Log::new(alloc)?;
+    refuted(alloc, &mut log, &terms, 0, 1)
+}
+
 #[test]
 fn opposites_are_refuted(rt: HostRuntime) -> Result<(), Fail> {
-    let mut terms = Terms::new(rt.alloc())?;
-    let p = constant(rt.alloc(), &mut terms, b"p", Sort::Bool)?;
-    let not_p = operation(&mut terms, Operator::Not, &[p])?;
-    let mut log = Log::new(rt.alloc())?;
-
-    // The refutation doesn't rest on this clause, so that its steps don't have it.
-    log.given(9, p, 0)?;
-    let empty = refuted(rt.alloc(), &mut log, &terms, p, not_p)?;
-    assert_eq!(rt; empty.literals.len(), 0);
-    assert_eq!(rt; empty.level, 1);
+    let empty = refutation(rt.alloc())?;
     let wanted = [
         TermStep::Given(0),
         TermStep::Given(1),
@@ -122,7 +130,9 @@ fn opposites_are_refuted(rt: HostRuntime) -> Result<(), Fail> {
         TermStep::Resolve(1, 2, TermLit::holds(1)),
         TermStep::Resolve(0, 3, TermLit::holds(0)),
     ];
-    assert_eq!(rt; empty.steps.as_slice(), wanted.as_slice());
+    assert!(rt; empty.literals.is_empty());
+    assert!(rt; empty.level == 1);
+    assert!(rt; empty.steps.as_slice() == wanted.as_slice());
     Ok(())
 }
 
@@ -162,19 +172,23 @@ fn chains(alloc: Global, log: &mut Log, terms: &Terms) -> Result<(Told, Told), M
     Ok((tell(alloc, log, short)?, tell(alloc, log, long)?))
 }
 
+/// Both chains over their terms.
+fn chains_of_terms(alloc: Global) -> Result<(Told, Told), Memory> {
+    let mut terms = Terms::new(alloc)?;
+    fill(&mut terms, alloc)?;
+    let mut log = Log::new(alloc)?;
+    chains(alloc, &mut log, &terms)
+}
+
 #[test]
 fn a_chain_is_resolved_link_by_link(rt: HostRuntime) -> Result<(), Fail> {
-    let mut terms = Terms::new(rt.alloc())?;
-    fill(&mut terms, rt.alloc())?;
-    let mut log = Log::new(rt.alloc())?;
-    let (short, long) = chains(rt.alloc(), &mut log, &terms)?;
-
+    let (short, long) = chains_of_terms(rt.alloc())?;
     // Of the clauses `not 3, p, q, r`, `3`, `not 4, not p, q` and `4`. What both have stands where it was, and once.
     let wanted = [TermLit::holds(1), TermLit::holds(2), TermLit::fails(4)];
-    assert_eq!(rt; short.literals.as_slice(), wanted.as_slice());
-    assert_eq!(rt; short.level, 1);
-    assert_eq!(rt; long.literals.as_slice(), &wanted[..2]);
-    assert_eq!(rt; long.level, 2);
+    assert!(rt; short.literals.as_slice() == wanted.as_slice());
+    assert!(rt; short.level == 1);
+    assert!(rt; long.literals.as_slice() == &wanted[..2]);
+    assert!(rt; long.level == 2);
     Ok(())
 }
 
@@ -188,10 +202,9 @@ fn an_atom_has_one_number(rt: HostRuntime) -> Result<(), Fail> {
     let mut log = Log::new(rt.alloc())?;
     let seven = log.term_atom(7)?;
     let five = log.term_atom(5)?;
-    assert_eq!(rt; log.term_atom(7)?, seven);
-    assert_eq!(rt; log.atom_count(), 2);
-    assert_eq!(rt; log.find_term(5), Some(five));
-    assert_eq!(rt; log.find_term(6), None);
+    let again = log.term_atom(7)?;
+    assert!(rt; again == seven && log.atom_count() == 2);
+    assert!(rt; log.find_term(5) == Some(five) && log.find_term(6) == None);
     assert!(rt; is_of_term(&log, seven, 7));
     Ok(())
 }
@@ -207,11 +220,9 @@ fn what_is_above_a_level_goes(rt: HostRuntime) -> Result<(), Fail> {
     let mut log = Log::new(rt.alloc())?;
     log.place(3, 2)?;
     let (_, low) = given(&mut log, 0, 5, 1)?;
-    assert_eq!(rt; low, 1);
     log.given(1, 3, 1)?;
     log.drop_above(1);
     let (next, level) = given(&mut log, 1, 3, 1)?;
-    assert_eq!(rt; next, 1);
-    assert_eq!(rt; level, 1);
+    assert!(rt; low == 1 && next == 1 && level == 1);
     Ok(())
 }

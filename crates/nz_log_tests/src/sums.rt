@@ -1,31 +1,37 @@
 //! Clauses by sums of bounds: contradictions, branches and cuts.
+use crate::rules::{Made, branch, cut, farkas, farkas_alone};
 use crate::terms::{MOST, form};
+use crate::values::is_of;
+use nz_base::Memory;
 use nz_frac::{Frac, Op};
 use nz_lin::{Bound, LinStop};
-use nz_log::{Lit, Log, Multiple, Step};
+use nz_log::{Lit, Literal, Log, Multiple};
 use nz_term::{NumberSort, Operator, Sort, TermId, Terms};
 use nz_term_samples::{constant, numeral, operation};
 use std::alloc::Global;
 use std::test::Fail;
 
-/// `factor * x + y + number`, of integers.
-fn sum(
-    terms: &mut Terms,
-    x: TermId,
-    y: TermId,
-    factor: u128,
-    number: u128,
-) -> Result<TermId, Fail> {
+/// The term `factor * x + y + number`, of integers. In each table `x` is the first term, and `y` the second.
+fn sum(terms: &mut Terms, alloc: Global, factor: u128, number: u128) -> Result<TermId, Memory> {
+    let x = constant(alloc, terms, b"x", Sort::Int)?;
+    let y = constant(alloc, terms, b"y", Sort::Int)?;
     let factor = numeral(terms, factor)?;
     let number = numeral(terms, number)?;
     let times = operation(terms, Operator::Product(NumberSort::Int), &[factor, x])?;
-    Ok(operation(terms, Operator::Sum(NumberSort::Int), &[times, y, number])?)
+    operation(terms, Operator::Sum(NumberSort::Int), &[times, y, number])
 }
 
-/// The literal that a term is at most 0.
-fn at_most_zero(alloc: Global, log: &mut Log, terms: &Terms, term: TermId) -> Result<Lit, LinStop> {
-    let form = form(alloc, terms, term)?;
-    Ok(log.bound_literal(Bound::at_most_zero(form))?)
+/// The bound `factor * x + y + number <= 0`.
+fn at_most_zero(alloc: Global, factor: u128, number: u128) -> Result<Bound, LinStop> {
+    let mut terms = Terms::new(alloc)?;
+    let term = sum(&mut terms, alloc, factor, number)?;
+    Ok(Bound::at_most_zero(form(alloc, &terms, term)?))
+}
+
+/// Its literal.
+fn literal(alloc: Global, log: &mut Log, factor: u128, number: u128) -> Result<Lit, LinStop> {
+    let bound = at_most_zero(alloc, factor, number)?;
+    Ok(log.bound_literal(bound)?)
 }
 
 /// A multiple by an integer.
@@ -36,139 +42,115 @@ fn times(literal: Lit, multiplier: i64) -> Multiple {
     }
 }
 
+/// Whether a rule stopped at the operation of this kind over these integers.
+fn is_wide(made: &Result<Made, LinStop>, op: Op, a: i128, b: i128) -> bool {
+    match made {
+        Err(LinStop::Wide(wide)) => is_of(*wide, op, a, b),
+        _ => false,
+    }
+}
+
 #[test]
 fn a_bound_and_its_negation_have_one_atom(rt: HostRuntime) -> Result<(), Fail> {
     let alloc = rt.alloc();
-    let mut terms = Terms::new(alloc)?;
-    let x = constant(alloc, &mut terms, b"x", Sort::Int)?;
     let mut log = Log::new(alloc)?;
-    let at_most = at_most_zero(alloc, &mut log, &terms, x)?;
-    let above = Bound::at_most_zero(form(alloc, &terms, x)?).not(alloc)?;
+    let at_most = literal(alloc, &mut log, 1, 0)?;
+    let above = at_most_zero(alloc, 1, 0)?.not(alloc)?;
     let other = log.bound_literal(above)?;
     assert!(rt; other.is(at_most.not()));
-    assert_eq!(rt; log.atom_count(), 1);
+    assert!(rt; log.atom_count() == 1);
     Ok(())
 }
 
 #[test]
 fn bounds_with_a_false_sum_are_refuted(rt: HostRuntime) -> Result<(), Fail> {
     let alloc = rt.alloc();
-    let mut terms = Terms::new(alloc)?;
-    let x = constant(alloc, &mut terms, b"x", Sort::Int)?;
-    let y = constant(alloc, &mut terms, b"y", Sort::Int)?;
-    let low = sum(&mut terms, x, y, 1, 1)?;
-    let twice = sum(&mut terms, x, y, 1, 0)?;
     let mut log = Log::new(alloc)?;
     // `x + y + 1 <= 0`, and that `x + y <= 0` is false: their sum says `0 < -1`.
-    let first = at_most_zero(alloc, &mut log, &terms, low)?;
-    let second = at_most_zero(alloc, &mut log, &terms, twice)?.not();
-    let clause = log.farkas(&[times(first, 1), times(second, 1)])?;
-    assert_eq!(rt; log.clause(clause), [first.not(), second.not()].as_slice());
-    assert_eq!(rt; log.level(clause), 0);
-    let steps = log.steps(clause)?;
-    assert_eq!(rt; steps.len(), 1);
-    assert!(rt; matches!(&steps[0], Step::Farkas(multiples) if multiples.len() == 2));
+    let first = literal(alloc, &mut log, 1, 1)?;
+    let second = literal(alloc, &mut log, 1, 0)?.not();
+    let made = farkas(alloc, &mut log, &[times(first, 1), times(second, 1)])?;
+    assert!(rt; made.literals.as_slice() == [first.not(), second.not()].as_slice());
+    assert!(rt; made.level == 0 && made.refuted == Some(2));
     Ok(())
 }
 
 #[test]
 fn a_wide_sum_is_named(rt: HostRuntime) -> Result<(), Fail> {
     let alloc = rt.alloc();
-    let mut terms = Terms::new(alloc)?;
-    let x = constant(alloc, &mut terms, b"x", Sort::Int)?;
-    let y = constant(alloc, &mut terms, b"y", Sort::Int)?;
-    let much = sum(&mut terms, x, y, MOST, 1)?;
     let mut log = Log::new(alloc)?;
-    let first = at_most_zero(alloc, &mut log, &terms, much)?;
-    match log.farkas(&[times(first, 2)]) {
-        Err(LinStop::Wide(wide)) => {
-            assert!(rt; wide.op == Op::Mul);
-            assert_eq!(rt; wide.a.num(), 2);
-            assert_eq!(rt; wide.b.num(), MOST as i128);
-        }
-        _ => assert!(rt; false),
-    }
+    // 0 is at most the least number, and so at most twice that, which is no number.
+    let least = Bound::empty(alloc).with_limit(Frac::integer(-(MOST as i128)));
+    let first = log.bound_literal(least)?;
+    let made = farkas_alone(alloc, &mut log, times(first, 2));
+    assert!(rt; is_wide(&made, Op::Mul, 2, -(MOST as i128)));
     Ok(())
+}
+
+/// What each of these literals says that a sum is at most.
+fn limits(alloc: Global, log: &Log, literals: &[Lit]) -> Result<Vec<Frac>, Memory> {
+    let mut limits = Vec::new(alloc);
+    for i in 0..literals.len() {
+        match log.literal(literals[i]) {
+            Literal::AtMost(bound, true) => limits.push(bound.limit())?,
+            _ => return Err(Memory),
+        }
+    }
+    Ok(limits)
 }
 
 #[test]
 fn a_branch_is_on_an_integer(rt: HostRuntime) -> Result<(), Fail> {
     let alloc = rt.alloc();
-    let mut terms = Terms::new(alloc)?;
-    let x = constant(alloc, &mut terms, b"x", Sort::Int)?;
-    let y = constant(alloc, &mut terms, b"y", Sort::Int)?;
-    let low = sum(&mut terms, x, y, 2, 3)?;
     let mut log = Log::new(alloc)?;
     // `2x + y <= -3`, or `2x + y >= -2`.
-    let clause = log.branch(Bound::at_most_zero(form(alloc, &terms, low)?))?;
-    let literals = log.clause(clause);
-    assert_eq!(rt; literals.len(), 2);
-    assert!(rt;
-        matches!(log.literal(literals[0]), nz_log::Literal::AtMost(bound, true) if bound.limit() == Frac::whole(-3))
-    );
-    assert!(rt;
-        matches!(log.literal(literals[1]), nz_log::Literal::AtMost(bound, true) if bound.limit() == Frac::whole(2))
-    );
+    let bound = at_most_zero(alloc, 2, 3)?;
+    let made = branch(alloc, &mut log, bound)?;
+    let limits = limits(alloc, &log, &made.literals)?;
+    assert!(rt; limits.as_slice() == [Frac::whole(-3), Frac::whole(2)].as_slice());
     Ok(())
 }
 
 #[test]
 fn a_wide_branch_is_named(rt: HostRuntime) -> Result<(), Fail> {
     let alloc = rt.alloc();
-    let mut terms = Terms::new(alloc)?;
-    let x = constant(alloc, &mut terms, b"x", Sort::Int)?;
-    let most = Bound::at_most_zero(form(alloc, &terms, x)?).with_limit(Frac::integer(MOST as i128));
     let mut log = Log::new(alloc)?;
-    match log.branch(most) {
-        Err(LinStop::Wide(wide)) => {
-            assert!(rt; wide.op == Op::Sub);
-            assert_eq!(rt; wide.a.num(), -(MOST as i128));
-            assert_eq!(rt; wide.b.num(), 1);
-        }
-        _ => assert!(rt; false),
-    }
+    let most = at_most_zero(alloc, 1, 0)?.with_limit(Frac::integer(MOST as i128));
+    let made = branch(alloc, &mut log, most);
+    assert!(rt; is_wide(&made, Op::Sub, -(MOST as i128), 1));
     Ok(())
+}
+
+/// The literal of `2x + 2y <= -1`.
+fn doubled(alloc: Global, log: &mut Log) -> Result<Lit, LinStop> {
+    let twice = at_most_zero(alloc, 1, 0)?.scaled(alloc, Frac::whole(2))?;
+    Ok(log.bound_literal(twice.with_limit(Frac::whole(-1)))?)
 }
 
 #[test]
 fn a_cut_is_rounded(rt: HostRuntime) -> Result<(), Fail> {
     let alloc = rt.alloc();
-    let mut terms = Terms::new(alloc)?;
-    let x = constant(alloc, &mut terms, b"x", Sort::Int)?;
-    let y = constant(alloc, &mut terms, b"y", Sort::Int)?;
-    let low = sum(&mut terms, x, y, 1, 1)?;
     let mut log = Log::new(alloc)?;
-    let first = at_most_zero(alloc, &mut log, &terms, low)?;
-    // Half of `2x + 2y <= -1`, if that were a literal: `x + y <= -1/2`, and so at most -1.
-    let bound = Bound::at_most_zero(form(alloc, &terms, low)?).scaled(alloc, Frac::whole(2))?;
-    let doubled = log.bound_literal(bound.with_limit(Frac::whole(-1)))?;
+    let first = literal(alloc, &mut log, 1, 1)?;
+    // Half of it is `x + y <= -1/2`, and so at most -1.
+    let doubled = doubled(alloc, &mut log)?;
     let half = Multiple {
         literal: doubled,
         multiplier: Frac::of(1, 2).unwrap_or(Frac::whole(1)),
     };
-    let clause = log.cut(&[half])?;
-    assert_eq!(rt; log.clause(clause), [doubled.not(), first].as_slice());
+    let made = cut(alloc, &mut log, &[half])?;
+    assert!(rt; made.literals.as_slice() == [doubled.not(), first].as_slice());
     Ok(())
 }
 
 #[test]
 fn a_wide_cut_is_named(rt: HostRuntime) -> Result<(), Fail> {
     let alloc = rt.alloc();
-    let mut terms = Terms::new(alloc)?;
-    let x = constant(alloc, &mut terms, b"x", Sort::Int)?;
-    let least = Bound::at_most_zero(form(alloc, &terms, x)?).with_limit(Frac::integer(
-        MOST as i128,
-    ));
     let mut log = Log::new(alloc)?;
-    // It is below its least number, so at most one less.
-    let above = log.bound_literal(least)?.not();
-    match log.cut(&[times(above, 1)]) {
-        Err(LinStop::Wide(wide)) => {
-            assert!(rt; wide.op == Op::Sub);
-            assert_eq!(rt; wide.a.num(), -(MOST as i128));
-            assert_eq!(rt; wide.b.num(), 1);
-        }
-        _ => assert!(rt; false),
-    }
+    let most = at_most_zero(alloc, 1, 0)?.with_limit(Frac::integer(MOST as i128));
+    // It is above the greatest number: its negative is below the least one, so at most one less.
+    let above = log.bound_literal(most)?.not();
+    let made = cut(alloc, &mut log, &[times(above, 1)]);
+    assert!(rt; is_wide(&made, Op::Sub, -(MOST as i128), 1));
     Ok(())
 }

@@ -1,6 +1,10 @@
-//! Forms of terms to try.
+//! Terms to try: their forms, and the companions of all.
+ghost use Rattle.std.specs.Prelude.{OnOk};
+ghost use Rattle.nz_spec.specs.Order.{HasCompanions};
+
+use nz_base::Memory;
 use nz_lin::{Form, LinStop, lin};
-use nz_term::{TermId, Terms};
+use nz_term::{TermId, Terms, add_companions};
 use std::alloc::Global;
 
 /// The largest number.
@@ -12,4 +16,11 @@ pub(crate) fn form(alloc: Global, terms: &Terms, id: TermId) -> Result<Form, Lin
         return Err(LinStop::Memory);
     }
     lin(alloc, terms, id)
+}
+
+/// The companions of all terms join the table.
+pub(crate) fn complete(alloc: Global, terms: &mut Terms) -> Result<(), Memory>
+    ensures companions { OnOk result (HasCompanions terms.new) }
+{
+    add_companions(alloc, terms, 0)
 }

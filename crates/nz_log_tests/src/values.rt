@@ -1,7 +1,7 @@
 //! Whether clauses are true, where terms have these values.
-use nz_frac::{Frac, Wide};
-use nz_lin::Bound;
-use nz_log::{ClauseId, Literal, Log};
+use nz_frac::{Frac, Op, Wide};
+use nz_lin::{Bound, LinStop};
+use nz_log::{Lit, Literal, Log};
 use nz_term::TermId;
 
 /// The values of numbers and the truths of Boolean terms.
@@ -14,9 +14,9 @@ pub(crate) struct Values<'a> {
 impl Values<'_> {
     /// The value of a number, 0 where none is told.
     fn number(&self, term: TermId) -> Frac {
-        for (id, number) in self.numbers {
-            if *id == term {
-                return *number;
+        for i in 0..self.numbers.len() {
+            if self.numbers[i].0 == term {
+                return self.numbers[i].1;
             }
         }
         Frac::whole(0)
@@ -24,7 +24,12 @@ impl Values<'_> {
 
     /// Whether a Boolean term is true.
     fn is_true(&self, term: TermId) -> bool {
-        self.truths.iter().any(|(id, truth)| *id == term && *truth)
+        for i in 0..self.truths.len() {
+            if self.truths[i].0 == term {
+                return self.truths[i].1;
+            }
+        }
+        false
     }
 }
 
@@ -50,9 +55,9 @@ fn is_literal_true(values: &Values<'_>, literal: &Literal<'_>) -> Result<bool, W
 }
 
 /// Whether a clause is true.
-fn is_clause_true(values: &Values<'_>, log: &Log, clause: ClauseId) -> Result<bool, Wide> {
-    for literal in log.clause(clause) {
-        if is_literal_true(values, &log.literal(*literal))? {
+fn is_clause_true(values: &Values<'_>, log: &Log, clause: &[Lit]) -> Result<bool, Wide> {
+    for i in 0..clause.len() {
+        if is_literal_true(values, &log.literal(clause[i]))? {
             return Ok(true);
         }
     }
@@ -60,11 +65,24 @@ fn is_clause_true(values: &Values<'_>, log: &Log, clause: ClauseId) -> Result<bo
 }
 
 /// Whether all these clauses are true.
-pub(crate) fn are_true(values: &Values<'_>, log: &Log, clauses: &[ClauseId]) -> Result<bool, Wide> {
-    for clause in clauses {
-        if !is_clause_true(values, log, *clause)? {
+pub(crate) fn are_true(values: &Values<'_>, log: &Log, clauses: &[Vec<Lit>]) -> Result<bool, Wide> {
+    for i in 0..clauses.len() {
+        if !is_clause_true(values, log, &clauses[i])? {
             return Ok(false);
         }
     }
     Ok(true)
+}
+
+/// Whether making clauses stopped at the operation of this kind over these integers.
+pub(crate) fn is_wide(made: &Result<Vec<Vec<Lit>>, LinStop>, op: Op, a: i128, b: i128) -> bool {
+    match made {
+        Err(LinStop::Wide(wide)) => is_of(*wide, op, a, b),
+        _ => false,
+    }
+}
+
+/// Whether the operation is of this kind, over these integers.
+pub(crate) fn is_of(wide: Wide, op: Op, a: i128, b: i128) -> bool {
+    wide.op == op && wide.a.num() == a && wide.b.num() == b
 }
