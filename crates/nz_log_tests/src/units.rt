@@ -208,11 +208,9 @@ fn choose(terms: &mut Terms, alloc: Global) -> Result<(), Memory> {
 /// Whether they are true just where the choice is of the first integer, which is 0, where the constant is true, and else of the second, 1.
 fn are_choices(log: &Log, clauses: &[Vec<Lit>]) -> Result<bool, Wide> {
     let numbers = [(1, Frac::whole(0)), (2, Frac::whole(1))];
-    Ok(
-        clauses.len() == 4
-            && are_just(log, clauses, 3, Frac::whole(0), numbers, true)?
-            && are_just(log, clauses, 3, Frac::whole(1), numbers, false)?,
-    )
+    let first = are_just(log, clauses, 3, Frac::whole(0), numbers, true)?;
+    let second = are_just(log, clauses, 3, Frac::whole(1), numbers, false)?;
+    Ok(clauses.len() == 4 && first && second)
 }
 
 #[test]

@@ -67,11 +67,12 @@ fn is_within(planes: &[Plane], given: &[Given<Delta>], point: (Delta, Delta)) ->
 fn vertex(first: (Plane, Delta), second: (Plane, Delta)) -> Option<(Delta, Delta)> {
     let (p, u) = first;
     let (q, v) = second;
-    let det = (p.a as i64) * (q.b as i64) - (q.a as i64) * (p.b as i64);
-    if det == 0 {
+    let other = (q.a as i64) * (p.b as i64);
+    let determinant = Frac::whole(((p.a as i64) * (q.b as i64)).checked_sub(other)?);
+    if determinant.is_zero() {
         return None;
     }
-    let inverse = Frac::whole(1).div(Frac::whole(det)).ok()?;
+    let inverse = Frac::whole(1).div(determinant).ok()?;
     let across = u.scale(Frac::whole(q.b as i64)).ok()?;
     let x = across.sub(v.scale(Frac::whole(p.b as i64)).ok()?).ok()?;
     let along = v.scale(Frac::whole(p.a as i64)).ok()?;
