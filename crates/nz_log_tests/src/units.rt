@@ -156,7 +156,8 @@ fn are_just(
             numbers: &[(unit, number), others[0], others[1]],
             truths: &[(0, truth)],
         };
-        just = just && are_true(&values, log, clauses)? == (number == value);
+        let holds = are_true(&values, log, clauses)?;
+        just = just && holds == (number == value);
     }
     Ok(just)
 }
@@ -176,7 +177,8 @@ fn are_sizes(log: &Log, clauses: &[Vec<Lit>]) -> Result<bool, Wide> {
     for i in 0..cases.len() {
         let (a, size) = cases[i];
         let x = (0, Frac::whole(a));
-        sizes = sizes && are_just(log, clauses, 1, Frac::whole(size), [x, x], false)?;
+        let just = are_just(log, clauses, 1, Frac::whole(size), [x, x], false)?;
+        sizes = sizes && just;
     }
     Ok(sizes)
 }
@@ -235,7 +237,8 @@ fn are_roundings(log: &Log, clauses: &[Vec<Lit>]) -> Result<bool, Wide> {
     for halves in -4..5 {
         let number = Frac::of(halves, 2).unwrap_or(Frac::whole(0));
         let r = (0, number);
-        rounded = rounded && are_just(log, clauses, 1, number.floor(), [r, r], false)?;
+        let just = are_just(log, clauses, 1, number.floor(), [r, r], false)?;
+        rounded = rounded && just;
     }
     Ok(rounded)
 }
