@@ -159,7 +159,12 @@ impl Prepared {
     /// # Errors
     ///
     /// `Memory`.
-    pub fn assume(&mut self, terms: &Terms, levels: &Levels, assumed: &[TermLit]) -> Result<(), Memory>
+    pub fn assume(
+        &mut self,
+        terms: &Terms,
+        levels: &Levels,
+        assumed: &[TermLit],
+    ) -> Result<(), Memory>
         requires within { All (λ t. t < length terms.now) (terms_named assumed.now) }
         requires gated { AreGatedAt terms.now (terms_named assumed.now) }
         requires stands { IsPrepared terms.now levels.now levels.now self.old }
