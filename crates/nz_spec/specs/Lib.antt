@@ -9,6 +9,7 @@ pub mod Command
 pub mod Computation
 pub mod Cuts
 pub mod Decide
+pub mod Deciding
 pub mod Elaboration
 pub mod Error
 pub mod Example
@@ -53,11 +54,13 @@ pub mod Script
 pub mod Sorts
 pub mod Steps
 pub mod Table
+pub mod Taken
 pub mod Term
 pub mod TermList
 pub mod Text
 pub mod Texts
 pub mod Told
+pub mod ToldBounds
 pub mod Transcript
 pub mod Tree
 pub mod TruthTables
