@@ -6,8 +6,10 @@ use Rattle.nz_lists.proofs.Places.{slice_get-push_cases, slice_index_or-map}
 use Rattle.nz_spec.specs.Literal.{AreSameSet, StandOnce}
 use Rattle.nz_spec.specs.Work.{DecisionEntry, LearnedEntry, PivotEntry, WorkLine, UnitLine, NoteLine}
 use Rattle.nz_spec.specs.Notes.{Note, atom_note, form_note, told_note}
-use Rattle.nz_spec.specs.Bland.{Point}
-use Rattle.nz_spec.specs.Legal.{Task, ToldLiteral, Search, at_first, no_point, MayFollow, after_line, after_lines, Lead, LegalWorkGoesOn, IsWithoutRepeats, LegalWorkDoesNotRepeat}
+use Rattle.nz_spec.specs.Bland.{Point, Position, IsCheckStep}
+use Rattle.nz_spec.specs.Pivots as pivots
+use Rattle.nz_spec.specs.Pivots.{Pivot}
+use Rattle.nz_spec.specs.Legal.{Task, ToldLiteral, Search, at_first, no_point, MayFollow, after_line, after_lines, Lead, LegalWorkGoesOn, IsWithoutRepeats, LegalWorkDoesNotRepeat, position_of, pivot_lines, PivotsAreLegal}
 
 pub goes_on : LegalWorkGoesOn
 goes_on q s x y z [] line same may = (z, subst (λ (p : Point). MayFollow q s p line z) same may, refl)
@@ -129,7 +131,7 @@ untold_numbers ts atom all (k, within, at) =
 
 kept : (q : Task) (s : Search) (x y : Point) (line : WorkLine Note) → MayFollow q s x line y → IsWithoutRepeats s → IsWithoutRepeats (after_line s line)
 kept q s x y (NoteLine (atom_note l)) may h = record { atoms = stand_more s.atoms l h.atoms may.0.fresh; decided = h.decided; told = h.told; learned = h.learned }
-kept q s x y (NoteLine (form_note f)) may h = record { atoms = h.atoms; decided = h.decided; told = h.told; learned = h.learned }
+kept q s x y (NoteLine (form_note atom)) may h = record { atoms = h.atoms; decided = h.decided; told = h.told; learned = h.learned }
 kept q s x y (NoteLine (told_note atom sign)) may h =
     let t : ToldLiteral = record { depth = length s.decided; atom = atom; sign = sign } in
     record {
@@ -159,3 +161,23 @@ stays q s x y (line ∷ lines) legal h = stays q (after_line s line) legal.0 y l
 
 pub does_not_repeat : LegalWorkDoesNotRepeat
 does_not_repeat q lines legal = stays q at_first no_point legal.0 lines legal.1 (record { atoms = λ i j x a b. cc; decided = λ i j x a b. cc; told = λ i j x a b. cc; learned = λ i j c d a b e. cc })
+
+-- ---- Pivots
+
+step_in : (s : Search) (x : Point) (p : Position) (i j : ℕ) → IsCheckStep (position_of s x) p i j → p ≡ position_of s p.point
+step_in s x p i j step = step.after ∙ ap (λ (r : Position). position_of s r.point) (sym step.after)
+
+pivots_lead : (q : Task) (s : Search) (x : Point) (ps : List Pivot) (p : Position) → pivots.Lead (position_of s x) ps p
+    → (p ≡ position_of s p.point) × Lead q s x (pivot_lines ps) p.point
+pivots_lead q s x [] p e = (e ∙ ap (λ (r : Position). position_of s r.point) (sym e), ap (λ (r : Position). r.point) e)
+pivots_lead q s x (v ∷ vs) p (mid, first, rest) =
+    let within : mid ≡ position_of s mid.point = step_in s x mid v.leaves v.enters first in
+    let behind = pivots_lead q s mid.point vs p (subst (λ (r : Position). pivots.Lead r vs p) within rest) in
+    (behind.0, (mid.point, subst (λ (r : Position). IsCheckStep (position_of s x) r v.leaves v.enters) within first, behind.1))
+
+pivots_stay : (s : Search) (ps : List Pivot) → after_lines s (pivot_lines ps) ≡ s
+pivots_stay s [] = refl
+pivots_stay s (p ∷ ps) = pivots_stay s ps
+
+pub pivots_are_legal : PivotsAreLegal
+pivots_are_legal = record { lead = pivots_lead; stays = pivots_stay }

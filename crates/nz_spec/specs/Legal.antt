@@ -4,13 +4,15 @@ use Rattle.std.specs.Prelude.{◌≡◌, ℕ, ◌<◌, nat_le, ◌≢◌, Bool, 
 use Rattle.nz_spec.specs.Computation.{Computation}
 use Rattle.nz_spec.specs.Term.{Term, apply, falsum, no_terms, Assignment}
 use Rattle.nz_spec.specs.Model.{IsModel}
-use Rattle.nz_spec.specs.Form.{Numbering, Part, negated_part}
+use Rattle.nz_spec.specs.Form.{Numbering, Part}
 use Rattle.nz_spec.specs.Literal.{Literal, term_literal, negation_of, is_literal_true, AreTrueLiterals, Clause, IsClauseTrue, AreSameSet, StandOnce}
 use Rattle.nz_spec.specs.Gates.{holds, is_boolean_term}
 use Rattle.nz_spec.specs.Links.{link_clauses}
 use Rattle.nz_spec.specs.Units.{unit_clauses}
 use Rattle.nz_spec.specs.Farkas.{is_linear_literal, bound_of}
 use Rattle.nz_spec.specs.Bland.{Point, Position, IsCheckStep}
+use Rattle.nz_spec.specs.Pivots as pivots
+use Rattle.nz_spec.specs.Pivots.{Pivot}
 use Rattle.nz_spec.specs.LiteralBounds.{joined, position_under, moved_by}
 use Rattle.nz_spec.specs.Work.{DecisionEntry, LearnedEntry, PivotEntry, WorkLine, UnitLine, NoteLine, WorkList, IsSpent}
 use Rattle.nz_spec.specs.Notes.{Note, atom_note, form_note, told_note}
@@ -67,6 +69,10 @@ told_literals s = map (λ (t : ToldLiteral). literal_by s.atoms (t.atom, t.sign)
 abbrev pub position_of : Search → Point → Position
 position_of s x = position_under s.forms x (told_literals s)
 
+-- the sum that an atom bounds
+abbrev pub sum_of_atom : Search → ℕ → List Part
+sum_of_atom s atom = (bound_of (literal_by s.atoms (atom, true))).parts
+
 -- ---- Rules
 
 -- A bound is one of a row of the link table or of the unit table of a listed term, where units stand in some order, or its negation.
@@ -89,9 +95,10 @@ pub record MayName (q : Task) (s : Search) (l : Literal) : Type 0 where
   pub fresh : Contains s.atoms l → ⊥
   pub negation_fresh : Contains s.atoms (negation_of l) → ⊥
 
--- A form that joins is that of an atom, or of its negation.
-abbrev pub MayJoin : Search → List Part → Type 0
-MayJoin s f = (l : Literal) × Contains s.atoms l × IsTrue (is_linear_literal l) × (((bound_of l).parts ≡ f) ⊎ (map negated_part (bound_of l).parts ≡ f))
+-- A form that joins is that of an atom.
+pub record MayJoin (s : Search) (atom : ℕ) : Type 0 where
+  pub named : atom < length s.atoms
+  pub bound : IsTrue (is_linear_literal (literal_by s.atoms (atom, true)))
 
 -- What is decided is an atom that isn't decided yet.
 pub record MayDecide (s : Search) (atom : ℕ) : Type 0 where
@@ -102,10 +109,9 @@ pub record MayDecide (s : Search) (atom : ℕ) : Type 0 where
 abbrev pub IsDeadEnd : Task → Search → Type 0
 IsDeadEnd q s = (a : Assignment) → IsModel q.asserted [] a → AreTrueLiterals a q.assumed → AreTrueLiterals a (literals_by s.atoms s.decided) → ⊥
 
--- What the simplex is told is a bound that follows from them, and that it wasn't told.
+-- What the simplex is told follows from them, and it wasn't told of the atom.
 pub record MayTell (q : Task) (s : Search) (atom : ℕ) (sign : Bool) : Type 0 where
   pub named : atom < length s.atoms
-  pub bound : IsTrue (is_linear_literal (literal_by s.atoms (atom, sign)))
   pub new : All (λ (t : ToldLiteral). t.atom ≢ atom) s.told
   pub follows : (a : Assignment) → IsModel q.asserted [] a → AreTrueLiterals a q.assumed → AreTrueLiterals a (literals_by s.atoms s.decided)
       → IsTrue (is_literal_true a (literal_by s.atoms (atom, sign)))
@@ -125,7 +131,7 @@ pub record MayLearn (q : Task) (s : Search) (keep : ℕ) (clause : List (ℕ × 
 -- where the search stands after a line; with fewer decisions, what was told behind the next one is taken back
 abbrev pub after_line : Search → WorkLine Note → Search
 after_line s (NoteLine (atom_note l)) = record s { atoms = s.atoms ++ l ∷ [] }
-after_line s (NoteLine (form_note f)) = record s { forms = (joined (position_of s no_point) f).forms }
+after_line s (NoteLine (form_note atom)) = record s { forms = (joined (position_of s no_point) (sum_of_atom s atom)).forms }
 after_line s (NoteLine (told_note atom sign)) =
     let t : ToldLiteral = record { depth = length s.decided; atom = atom; sign = sign } in
     record s { told = s.told ++ t ∷ [] }
@@ -145,7 +151,7 @@ after_lines s lines = fold after_line s lines
 -- a check step under the bounds that were told.
 abbrev pub MayFollow : Task → Search → Point → WorkLine Note → Point → Type 0
 MayFollow q s x (NoteLine (atom_note l)) y = MayName q s l × (y ≡ x)
-MayFollow q s x (NoteLine (form_note f)) y = MayJoin s f × (y ≡ (joined (position_of s x) f).point)
+MayFollow q s x (NoteLine (form_note atom)) y = MayJoin s atom × (y ≡ (joined (position_of s x) (sum_of_atom s atom)).point)
 MayFollow q s x (NoteLine (told_note atom sign)) y = MayTell q s atom sign × (y ≡ moved_by s.forms (literal_by s.atoms (atom, sign)) x)
 MayFollow q s x (UnitLine (DecisionEntry atom sign)) y = MayDecide s atom × (y ≡ x)
 MayFollow q s x (UnitLine (LearnedEntry keep clause)) y = MayLearn q s keep clause × (y ≡ x)
@@ -178,6 +184,15 @@ pub record IsWithoutRepeats (s : Search) : Type 0 where
   pub decided : StandOnce (map (λ (p : ℕ × Bool). p.0) s.decided)
   pub told : StandOnce (map (λ (t : ToldLiteral). t.atom) s.told)
   pub learned : (i j : ℕ) (c d : List (ℕ × Bool)) → slice_get s.learned i ≡ Some c → slice_get s.learned j ≡ Some d → AreSameSet c d → i ≡ j
+
+-- The pivots that lead a position somewhere are lines of a search at it, which stays where it is.
+abbrev pub pivot_lines : List Pivot → List (WorkLine Note)
+pivot_lines ps = map (λ (p : Pivot). UnitLine (PivotEntry p.leaves p.enters)) ps
+
+pub record PivotsAreLegal : Type 0 where
+  pub lead : (q : Task) (s : Search) (x : Point) (ps : List Pivot) (p : Position) → pivots.Lead (position_of s x) ps p
+      → (p ≡ position_of s p.point) × Lead q s x (pivot_lines ps) p.point
+  pub stays : (s : Search) (ps : List Pivot) → after_lines s (pivot_lines ps) ≡ s
 
 abbrev pub LegalWorkDoesNotRepeat : Type 0
 LegalWorkDoesNotRepeat = (q : Task) (lines : List (WorkLine Note)) → AreLegal q lines → IsWithoutRepeats (after_lines at_first lines)

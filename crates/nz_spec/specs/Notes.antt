@@ -2,7 +2,6 @@
 use Rattle.std.specs.Prelude.{ℕ, Bool, List}
 use Rattle.nz_fractions.specs.Fraction.{Operation}
 use Rattle.nz_spec.specs.Term.{Term}
-use Rattle.nz_spec.specs.Form.{Part}
 use Rattle.nz_spec.specs.Literal.{Literal}
 use Rattle.nz_spec.specs.Farkas.{Multiple}
 use Rattle.nz_spec.specs.Bland.{Side}
@@ -11,8 +10,8 @@ use Rattle.nz_spec.specs.Bland.{Side}
 pub data Note : Type 0 where
   -- the next atom is this literal
   atom_note : Literal → Note
-  -- a sum joins the forms of the simplex
-  form_note : List Part → Note
+  -- the sum that an atom bounds joins the forms of the simplex
+  form_note : (atom : ℕ) → Note
   -- the simplex is told that an atom has this sign
   told_note : (atom : ℕ) (sign : Bool) → Note
 

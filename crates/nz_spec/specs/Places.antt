@@ -36,15 +36,15 @@ pub record IsOfTerm (q : Task) (t : Term) (op : Operation) : Type 0 where
 -- ---- Rows and values
 
 -- the row of the last form, over the forms before it
-pub record IsOfJoining (s : Search) (x : Point) (op : Operation) : Type 0 where
+pub record IsOfJoining (p : Position) (op : Operation) : Type 0 where
   pub front : List (List Part)
   pub last : List Part
-  pub joins : s.forms ≡ front ++ last ∷ []
+  pub joins : p.forms ≡ front ++ last ∷ []
   pub rows : Rows
-  pub are_rows : AreRows front (is_nonbasic x) rows
+  pub are_rows : AreRows front (is_nonbasic p.point) rows
   pub number : Term → ℕ
   pub numbered : AreNumbered front number last
-  pub of : Contains (joining_row (length front) (is_nonbasic x) rows number last).operations op
+  pub of : Contains (joining_row (length front) (is_nonbasic p.point) rows number last).operations op
 
 -- the exchange of a check step that may be next
 pub record IsOfExchange (p : Position) (leaves enters : ℕ) (op : Operation) : Type 0 where
@@ -68,8 +68,8 @@ abbrev pub IsSizeIn : ℕ → Coefficients → Fraction → Type 0
 IsSizeIn n row m = (m =ℚ whole (pos 1)) ⊎ ((k : ℕ) × (k < n) × ((m =ℚ row k) ⊎ (m =ℚ neg_ℚ (row k))))
 
 -- multiples of literals that were told, by the sizes of the coefficients of a row
-pub record IsOfSum (s : Search) (p : Position) (ms : List Multiple) (op : Operation) : Type 0 where
-  pub told : All (λ (m : Multiple). Contains (told_literals s) m.literal) ms
+pub record IsOfSum (literals : List Literal) (p : Position) (ms : List Multiple) (op : Operation) : Type 0 where
+  pub told : All (λ (m : Multiple). Contains literals m.literal) ms
   pub form : ℕ
   pub listed : form < length p.forms
   pub row : Coefficients
@@ -125,15 +125,20 @@ pub record IsOfModel (p : Position) (form : ℕ) (op : Operation) : Type 0 where
 
 -- ---- Places
 
--- an operation of the computation at a site, where a search stands
+-- an operation of the computation at a site, of a simplex that was told these literals, at a position
+abbrev pub IsOperationIn : List Literal → Position → Site → Operation → Type 0
+IsOperationIn told p (term_site t) op = ⊥
+IsOperationIn told p joining_site op = IsOfJoining p op
+IsOperationIn told p (exchange_site leaves enters) op = IsOfExchange p leaves enters op
+IsOperationIn told p (value_site form) op = IsOfValue p form op
+IsOperationIn told p (sum_site ms) op = IsOfSum told p ms op
+IsOperationIn told p (limit_site form side) op = IsOfLimit p form side op
+IsOperationIn told p (model_site form) op = IsOfModel p form op
+
+-- and where a search stands
 abbrev pub IsOperationAt : Task → Search → Point → Site → Operation → Type 0
 IsOperationAt q s x (term_site t) op = IsOfTerm q t op
-IsOperationAt q s x joining_site op = IsOfJoining s x op
-IsOperationAt q s x (exchange_site leaves enters) op = IsOfExchange (position_of s x) leaves enters op
-IsOperationAt q s x (value_site form) op = IsOfValue (position_of s x) form op
-IsOperationAt q s x (sum_site ms) op = IsOfSum s (position_of s x) ms op
-IsOperationAt q s x (limit_site form side) op = IsOfLimit (position_of s x) form side op
-IsOperationAt q s x (model_site form) op = IsOfModel (position_of s x) form op
+IsOperationAt q s x site op = IsOperationIn (told_literals s) (position_of s x) site op
 
 -- An operation on numbers that leaves them.
 pub record LeavesNumbers (op : Operation) : Type 0 where
