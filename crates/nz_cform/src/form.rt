@@ -1,100 +1,60 @@
-//! Which terms have their gates in a log.
-ghost use Rattle.std.specs.Prelude.{◌≡◌, ◌≢◌, ◌↔◌, ◌⊎◌, ℕ, ◌<◌, ◌≤◌, false, List, length, filter, None, Some, All, Contains, OnErr, OnOk, IfOk, IsSome, is_some, slice_index_or};
-ghost use Rattle.std.specs.List.{AllPairs};
-ghost use Rattle.nz_spec.specs.Gates.{HasBooleanArguments};
-ghost use Rattle.nz_spec.specs.Order.{post_order};
-ghost use Rattle.nz_spec.specs.Table.{term_in};
-ghost use Rattle.nz_spec.specs.Term.{holds_number};
-ghost use Rattle.nz_log.specs.Logs.{LogState, told_below, told_level};
-ghost use Rattle.nz_log.specs.Sound.{IsLog};
-ghost use Rattle.nz_cform.specs.Covering.{AreAdded, Covers, HasGates, Keeps};
-ghost use Rattle.nz_cform.specs.Forms.{Cuts, FormState, Grows, Takes, covered_at, empty_form};
-
-use crate::gates::add_gates;
+//! Which terms have their clauses in a log.
+use crate::listing::Listing;
+use crate::rows::{add_gates, add_links, add_units};
+use crate::stop::FormStop;
 use nz_base::Memory;
-use nz_log::{ClauseId, Log};
-use nz_spec::derivation::gates_are_true;
+use nz_log::{Atom, AtomId, ClauseId, Log};
 use nz_term::{TermId, Terms};
 use std::alloc::Global;
-use std::marker::Model;
 
-/// Which terms have their gates in a log, and at which level they were put there. A contract sees the levels by the numbers of
-/// terms, and the covered terms in the order in which they were covered.
+/// Which terms have their clauses in a log, and at which level they were put there; and which bounds these clauses have.
 #[derive(Debug, Drop)]
 pub struct ClauseForm {
-    // By the numbers of terms.
-    levels: Vec<Option<usize>>,
-    // The covered ones, the oldest first.
-    terms: Vec<TermId>,
-}
-
-impl Model for ClauseForm {
-    ghost use Rattle.nz_cform.specs.Forms.{FormState, IsListed};
-
-    ghost Value = { FormState };
-
-    ghost view = { λ f. record { terms = f.terms.items; levels = f.levels.items } };
-
-    ghost invariant = { λ f. IsListed (record { terms = f.terms.items; levels = f.levels.items }) };
+    terms: Listing,
+    // By the numbers of atoms in the log.
+    bounds: Listing,
 }
 
 impl ClauseForm {
     /// Nothing is covered. Takes no memory.
-    pub fn new(alloc: Global) -> ClauseForm
-        ensures empty { result ≡ empty_form }
-    {
+    pub fn new(alloc: Global) -> ClauseForm {
         ClauseForm {
-            levels: Vec::new(alloc),
-            terms: Vec::new(alloc),
+            terms: Listing::new(alloc),
+            bounds: Listing::new(alloc),
         }
     }
 
     /// The covered terms, each once, the oldest first.
-    pub fn terms(&self) -> &[TermId]
-        ensures terms { result.now ≡ self.now.terms }
-        ensures once { AllPairs (λ t u. t ≢ u) result.now }
-        ensures covered { (t : ℕ) → Contains result.now t ↔ IsSome (covered_at self.now t) }
-    {
-        self.terms.as_slice()
+    pub fn terms(&self) -> &[TermId] {
+        self.terms.ids()
+    }
+
+    /// The bounds that their clauses have, each once, the oldest first.
+    pub fn bounds(&self) -> &[AtomId] {
+        self.bounds.ids()
     }
 
     /// Whether a term is covered.
-    pub fn is_covered(&self, term: TermId) -> bool
-        ensures covered { result ≡ is_some (covered_at self.now term) }
-    {
-        has_level(self.levels.as_slice(), term)
+    pub fn is_covered(&self, term: TermId) -> bool {
+        self.terms.has(term)
     }
 
-    /// Puts the clauses of the gate table of a term, and of all that it is made of, into a log: those of the terms that aren't
-    /// covered, which are then covered at this level. Answers the numbers of these clauses. Takes time and memory in proportion to
-    /// the terms that were not covered and their arguments, however deeply they nest.
+    /// Puts the clauses of a term, and of all that it is made of, into a log: those of the terms that aren't covered, which are then covered at
+    /// this level. Answers the numbers of these clauses. Takes time and memory in proportion to the terms that were not covered and their
+    /// arguments, however deeply they nest.
     ///
     /// # Errors
     ///
-    /// `Memory`. Then some of the terms may be covered without all of their clauses, or without their arguments.
+    /// `Wide` with the first operation that leaves the numbers, and its term; `Memory`. Then some of the terms may be covered without all of
+    /// their clauses, or without their arguments.
     pub fn add_term(
         &mut self,
+        alloc: Global,
         log: &mut Log,
         terms: &Terms,
         id: TermId,
         level: usize,
-    ) -> Result<Vec<ClauseId>, Memory>
-        requires within { id < length terms.now }
-        requires told { (t : ℕ) → told_level log.old t ≤ level }
-        requires covers { Covers terms.now log.old self.old }
-        ensures covered { OnOk result (IsSome (covered_at self.new id)) }
-        ensures covers { OnOk result (Covers terms.now log.new self.new) }
-        ensures answered { IfOk result (λ ids. AreAdded log.old ids.items log.new) }
-
-        // So it is after want of memory too.
-        ensures grown { Grows self.old level self.new }
-        ensures kept { Keeps log.old log.new }
-        ensures told { (t : ℕ) → told_level log.new t ≤ level }
-        ensures made_of { (t : ℕ) → covered_at self.old t ≡ None → IsSome (covered_at self.new t) → Contains (post_order (term_in terms.now id)) (term_in terms.now t) }
-        ensures sound { (levels : List (List ℕ)) → holds_number (term_in terms.now id) ≡ false → IsLog terms.now levels log.old → IsLog terms.now levels log.new }
-    {
-        gates_are_true();
-        let alloc = *self.terms.allocator();
+    ) -> Result<Vec<ClauseId>, FormStop> {
         let mut clauses = Vec::new(alloc);
         let mut waiting = Vec::new(alloc);
         waiting.push(id)?;
@@ -116,84 +76,33 @@ impl ClauseForm {
         term: TermId,
         level: usize,
         clauses: &mut Vec<ClauseId>,
-    ) -> Result<(), Memory>
-        requires within { term < length terms.now }
-        requires uncovered { covered_at self.old term ≡ None }
-        requires told { (t : ℕ) → told_level log.old t ≤ level }
-        ensures taken { OnOk result (Takes self.old term level self.new) }
-        ensures gates { OnOk result (HasGates terms.now log.old self.old → HasGates terms.now log.new self.new) }
-        ensures added { OnOk result ((start : LogState) → AreAdded start clauses.old.items log.old → AreAdded start clauses.new.items log.new) }
-        ensures grown { Grows self.old level self.new }
-        ensures kept { Keeps log.old log.new }
-        ensures told { (t : ℕ) → told_level log.new t ≤ level }
-        ensures only { (t : ℕ) → covered_at self.old t ≡ None → IsSome (covered_at self.new t) → t ≡ term }
-        ensures sound { (levels : List (List ℕ)) → HasBooleanArguments (term_in terms.now term) → IsLog terms.now levels log.old → IsLog terms.now levels log.new }
-    {
+    ) -> Result<(), FormStop> {
         // The level is told before the clauses are put: each of them names the term, and so it is of this level.
         log.place(term, level)?;
-        self.list(term, level)?;
-        add_gates(log, terms, term, clauses)
+        self.terms.put(term, level)?;
+        let from = clauses.len();
+        add_gates(log, terms, term, clauses)?;
+        add_links(log, terms, term, clauses)?;
+        add_units(log, terms, term, clauses)?;
+        for i in from..clauses.len() {
+            self.list_bounds(log, clauses[i], level)?;
+        }
+        Ok(())
     }
 
-    /// Lists a term as covered at a level.
-    fn list(&mut self, term: TermId, level: usize) -> Result<(), Memory>
-        requires uncovered { covered_at self.old term ≡ None }
-        ensures taken { OnOk result (Takes self.old term level self.new) }
-        ensures unchanged { OnErr result (self.new ≡ self.old) }
-    {
-        // Room comes first, so that nothing has changed where there is none.
-        self.terms.reserve(1)?;
-        set_level(&mut self.levels, term, level)?;
-        self.terms.push(term)?;
+    /// Lists the bounds of a clause that aren't listed.
+    fn list_bounds(&mut self, log: &Log, clause: ClauseId, level: usize) -> Result<(), Memory> {
+        for literal in log.clause(clause) {
+            if matches!(log.atom(literal.atom), Atom::AtMost(_)) && !self.bounds.has(literal.atom) {
+                self.bounds.put(literal.atom, level)?;
+            }
+        }
         Ok(())
     }
 
     /// Leaves just what is covered at or below the level. Takes no memory.
-    pub fn cut(&mut self, level: usize)
-        ensures cuts { Cuts self.old level self.new }
-    {
-        uncover_above(&mut self.levels, self.terms.as_slice(), level);
-        keep_covered(&mut self.terms, self.levels.as_slice());
+    pub fn cut(&mut self, level: usize) {
+        self.terms.cut(level);
+        self.bounds.cut(level);
     }
-}
-
-/// Whether the term of a number has a level.
-fn has_level(levels: &[Option<usize>], term: TermId) -> bool
-    ensures level { result ≡ is_some (slice_index_or levels.now term None) }
-{
-    matches!(levels.get(term), Some(Some(_)))
-}
-
-/// Gives the term of a number a level.
-fn set_level(levels: &mut Vec<Option<usize>>, term: TermId, level: usize) -> Result<(), Memory>
-    ensures here { OnOk result (slice_index_or levels.new.items term None ≡ Some level) }
-    ensures others { (t : ℕ) → t ≢ term → slice_index_or levels.new.items t None ≡ slice_index_or levels.old.items t None }
-    ensures unchanged { OnErr result (levels.new.items ≡ levels.old.items) }
-{
-    let Some(count) = term.checked_add(1) else {
-        return Err(Memory);
-    };
-    if levels.len() < count {
-        levels.resize(count, None)?;
-    }
-    levels[term] = Some(level);
-    Ok(())
-}
-
-/// Takes the levels above this one off these terms.
-fn uncover_above(levels: &mut Vec<Option<usize>>, terms: &[TermId], level: usize)
-    requires within { All (λ t. t < length levels.old.items) terms.now }
-    ensures below { All (λ t. slice_index_or levels.new.items t None ≡ told_below level (slice_index_or levels.old.items t None)) terms.now }
-    ensures others { (t : ℕ) → (slice_index_or levels.new.items t None ≡ slice_index_or levels.old.items t None) ⊎ (slice_index_or levels.new.items t None ≡ told_below level (slice_index_or levels.old.items t None)) }
-{
-    for term in terms {
-        levels[*term] = levels[*term].filter(|covered| *covered <= level);
-    }
-}
-
-/// Leaves the terms that have a level.
-fn keep_covered(terms: &mut Vec<TermId>, levels: &[Option<usize>])
-    ensures kept { terms.new.items ≡ filter (λ t. is_some (slice_index_or levels.now t None)) terms.old.items }
-{
-    terms.retain(|term| has_level(levels, *term));
 }

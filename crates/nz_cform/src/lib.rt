@@ -1,9 +1,12 @@
-//! Clause form: the gates of terms and of all that they are made of, each once in a log, however often the terms are shared.
+//! Clause form: the clauses of terms and of all that they are made of, each once in a log, however often the terms are shared.
 //! What is added costs time and memory in proportion to what is new, and not to the table.
 #![tactic(auto)]
 
 mod form;
-mod gates;
+mod listing;
 pub mod laws;
+mod rows;
+mod stop;
 
 pub use form::ClauseForm;
+pub use stop::FormStop;

@@ -95,7 +95,7 @@ fn posed(
     levels: &Levels,
     terms: &Terms,
     assumed: &[TermLit],
-) -> Result<Prepared, Memory>
+) -> Result<Prepared, Stop>
     requires known { AreInTable terms.now levels.now }
     requires within { AreOfTerms terms.now assumed.now }
     requires gated { All (λ i. IsGated (term_in terms.now i)) (asserted_numbers levels.now) }
@@ -111,7 +111,7 @@ fn posed(
 }
 
 /// Values of constants under which what is asserted and the assumed literals are true: the truths that the search found.
-fn model(alloc: Global, terms: &Terms, prepared: &Prepared) -> Result<Assign, Memory>
+fn model(alloc: Global, terms: &Terms, prepared: &Prepared) -> Result<Assign, Stop>
     requires covers { Covers terms.now prepared.now.log prepared.now.form }
     ensures model { IfOk result (λ ps. (levels : List (List ℕ)) (assumed : List TermLit) → IsPosed terms.now levels assumed prepared.now → All (λ l. HasTerm prepared.now.log.atoms l.term) assumed → IsSatisfied prepared.now.log prepared.now.sat (lits_of prepared.now.log.atoms assumed) (atoms_of prepared.now) → AreModelValues terms.now (asserted_terms terms.now levels) [] ps × AreTrueLiterals (assignment_by terms.now ps) (map (literal_of terms.now) assumed)) }
 {
@@ -151,7 +151,7 @@ pub fn decide(
 {
     clauses_are_true();
     let mut prepared = posed(alloc, kept, levels, terms, assumed)?;
-    let refuted = prepared.solve(assumed, work)?;
+    let refuted = prepared.solve(terms, assumed, work)?;
     match refuted {
         Some(clause) => Ok(Found {
             verdict: Verdict::Unsat(clause),

@@ -20,10 +20,11 @@ ghost use Rattle.nz_engine.specs.Preparing.{CoversAlso, CutsTo, IsAssumable, IsP
 
 use crate::levels::Levels;
 use nz_base::{Memory, Work};
-use nz_cform::ClauseForm;
+use nz_cform::{ClauseForm, FormStop};
 use nz_cform::laws::covers_stay;
 use nz_log::laws::{atoms_of_terms, gates_are_named, logs_stay, logs_stay_leveled};
-use nz_log::{AtomId, ClauseId, Lit, Log, NoNumbers, Note, Step, Stop, TermLit};
+use nz_log::{Atom, AtomId, ClauseId, Lit, Log, Note, Place, Site, Step, Stop, TermLit};
+use nz_reals::Reals;
 use nz_sat::Sat;
 use nz_spec::derivation::gates_decide;
 use nz_spec::table::one_number;
@@ -35,9 +36,10 @@ use std::marker::Model;
 /// assumed may be covered above all levels, for one check.
 #[derive(Debug, Drop)]
 pub struct Prepared {
+    alloc: Global,
     log: Log,
     form: ClauseForm,
-    sat: Sat<NoNumbers>,
+    sat: Sat<Reals>,
     // How many assertions have their clause, in the order of the levels.
     given: usize,
     // Whether terms are covered for assumed literals alone.
@@ -65,9 +67,10 @@ impl Prepared {
         ensures empty { IfOk result (λ p. p ≡ nothing_prepared) }
     {
         Ok(Prepared {
+            alloc,
             log: Log::new(alloc)?,
             form: ClauseForm::new(alloc),
-            sat: Sat::new(alloc, NoNumbers::new()),
+            sat: Sat::new(alloc, Reals::new(alloc)),
             given: 0,
             above: false,
         })
@@ -81,19 +84,22 @@ impl Prepared {
     }
 
     /// Adds the clauses of a term, and of all that it is made of, at a level.
-    fn cover(&mut self, terms: &Terms, term: TermId, level: usize) -> Result<(), Memory>
+    fn cover(&mut self, terms: &Terms, term: TermId, level: usize) -> Result<(), Stop>
         requires within { term < length terms.now }
         requires told { (t : ℕ) → told_level self.old.log t ≤ level }
         requires covers { Covers terms.now self.old.log self.old.form }
         ensures covered { OnOk result (CoversAlso terms.now self.old term level self.new) }
         ensures above { self.new.above ≡ self.old.above }
     {
-        let clauses = self.form.add_term(&mut self.log, terms, term, level)?;
-        hold(&mut self.sat, &self.log, &clauses)
+        let alloc = self.alloc;
+        match self.form.add_term(alloc, &mut self.log, terms, term, level) {
+            Ok(clauses) => Ok(hold(&mut self.sat, &self.log, &clauses)?),
+            Err(stop) => Err(stop_of(stop)),
+        }
     }
 
     /// Adds that an assertion is true, which is the next one.
-    fn add_assertion(&mut self, terms: &Terms, term: TermId, level: usize) -> Result<(), Memory>
+    fn add_assertion(&mut self, terms: &Terms, term: TermId, level: usize) -> Result<(), Stop>
         requires within { term < length terms.now }
         requires told { (t : ℕ) → told_level self.old.log t ≤ level }
         requires covers { Covers terms.now self.old.log self.old.form }
@@ -106,7 +112,7 @@ impl Prepared {
         gates_are_named();
         atoms_of_terms();
         let Some(given) = self.given.checked_add(1) else {
-            return Err(Memory);
+            return Err(Stop::Memory);
         };
         self.cover(terms, term, level)?;
         let clause = self.log.given(self.given, term, level)?;
@@ -120,7 +126,7 @@ impl Prepared {
     /// # Errors
     ///
     /// `Memory`.
-    pub fn add_assertions(&mut self, terms: &Terms, levels: &Levels) -> Result<(), Memory>
+    pub fn add_assertions(&mut self, terms: &Terms, levels: &Levels) -> Result<(), Stop>
         requires within { All (λ t. t < length terms.now) (asserted_numbers levels.now) }
         requires gated { AreGatedAt terms.now (asserted_numbers levels.now) }
         requires stands { IsPrepared terms.now levels.now levels.now self.old }
@@ -135,7 +141,7 @@ impl Prepared {
     }
 
     /// Covers the term of an assumed literal above all levels, of which there are so many, unless it is covered.
-    fn assume_term(&mut self, terms: &Terms, term: TermId, level: usize) -> Result<(), Memory>
+    fn assume_term(&mut self, terms: &Terms, term: TermId, level: usize) -> Result<(), Stop>
         requires within { term < length terms.now }
         requires told { (t : ℕ) → told_level self.old.log t ≤ level }
         requires covers { Covers terms.now self.old.log self.old.form }
@@ -159,7 +165,7 @@ impl Prepared {
     /// # Errors
     ///
     /// `Memory`.
-    pub fn assume(&mut self, terms: &Terms, levels: &Levels, assumed: &[TermLit]) -> Result<(), Memory>
+    pub fn assume(&mut self, terms: &Terms, levels: &Levels, assumed: &[TermLit]) -> Result<(), Stop>
         requires within { All (λ t. t < length terms.now) (terms_named assumed.now) }
         requires gated { AreGatedAt terms.now (terms_named assumed.now) }
         requires stands { IsPrepared terms.now levels.now levels.now self.old }
@@ -184,6 +190,7 @@ impl Prepared {
     /// `Spent` where one more unit was wanted than the work list has, and `Memory`.
     pub fn solve(
         &mut self,
+        terms: &Terms,
         assumed: &[TermLit],
         work: &mut Work<Note>,
     ) -> Result<Option<ClauseId>, Stop>
@@ -203,21 +210,28 @@ impl Prepared {
         logs_stay();
         logs_stay_leveled();
         atoms_of_terms();
-        note_atoms(self.form.terms(), work)?;
-        let named = self.named(assumed)?;
+        let named = self.named(terms, assumed)?;
+        note_atoms(self.alloc, &self.log, &named.atoms, work)?;
+        self.sat.theory = reals_of(self.alloc, &self.log, &named.atoms, work)?;
         self.sat
             .solve(&mut self.log, &named.atoms, &named.literals, work)
     }
 
     /// The atoms of the covered terms, and the assumed literals on them. Atoms join the log's where they aren't there.
-    fn named(&mut self, assumed: &[TermLit]) -> Result<Named, Memory>
+    fn named(&mut self, terms: &Terms, assumed: &[TermLit]) -> Result<Named, Memory>
         ensures rest { self.new ≡ record self.old { log = self.new.log } }
         ensures joins { JoinsAtoms self.old.log self.new.log }
         ensures all { AreAtoms self.new.log.atoms }
         ensures handed { IfOk result (λ n. AreHanded self.new assumed.now n.atoms.items n.literals.items) }
     {
         atoms_of_terms();
-        let atoms = self.log.term_atoms(self.form.terms())?;
+        let mut atoms = Vec::new(self.alloc);
+        for term in self.form.terms() {
+            if let Sort::Bool = terms.head(*term).sort() {
+                atoms.push(self.log.term_atom(*term)?)?;
+            }
+        }
+        atoms.extend_from_slice(self.form.bounds())?;
         let literals = self.log.lits_of(assumed)?;
         Ok(Named { atoms, literals })
     }
@@ -238,7 +252,7 @@ impl Prepared {
     /// # Errors
     ///
     /// `Memory`.
-    pub fn values(&self, alloc: Global, terms: &Terms) -> Result<Assign, Memory>
+    pub fn values(&self, alloc: Global, terms: &Terms) -> Result<Assign, Stop>
         requires covers { Covers terms.now self.now.log self.now.form }
         ensures values { IfOk result (λ ps. ps ≡ flat_map (value_at terms.now self.now) self.now.form.terms) }
         ensures listed { IsListed self.now.form }
@@ -260,7 +274,7 @@ impl Prepared {
 }
 
 /// Holds these clauses too.
-fn hold(sat: &mut Sat<NoNumbers>, log: &Log, clauses: &[ClauseId]) -> Result<(), Memory>
+fn hold(sat: &mut Sat<Reals>, log: &Log, clauses: &[ClauseId]) -> Result<(), Memory>
     requires live { All (λ id. IsLive log.now id) clauses.now }
     ensures held { OnOk result (sat.new.clauses ≡ sat.old.clauses ++ map (held_of log.now) clauses.now) }
 {
@@ -270,15 +284,45 @@ fn hold(sat: &mut Sat<NoNumbers>, log: &Log, clauses: &[ClauseId]) -> Result<(),
     Ok(())
 }
 
-/// Notes each of these terms as an atom.
-fn note_atoms(atoms: &[TermId], work: &mut Work<Note>) -> Result<(), Memory>
-    ensures all { OnOk result (work.new ≡ with_atoms work.old atoms.now) }
-    ensures first { NotesFirst atoms.now work.old work.new }
-{
-    for term in atoms {
-        work.note(Note::Atom(*term))?;
+/// What stops the clauses of a term.
+fn stop_of(stop: FormStop) -> Stop {
+    match stop {
+        FormStop::Wide(wide, term) => Stop::Wide(Place {
+            wide,
+            site: Site::Term(term),
+        }),
+        FormStop::Memory => Stop::Memory,
+    }
+}
+
+/// Notes each of these atoms.
+fn note_atoms(
+    alloc: Global,
+    log: &Log,
+    atoms: &[AtomId],
+    work: &mut Work<Note>,
+) -> Result<(), Memory> {
+    for id in atoms {
+        work.note(match log.atom(*id) {
+            Atom::Term(term) => Note::Atom(*term),
+            Atom::AtMost(bound) => Note::Bound(bound.copied(alloc)?),
+        })?;
     }
     Ok(())
+}
+
+/// The theory over the sums that these atoms bound.
+fn reals_of(
+    alloc: Global,
+    log: &Log,
+    atoms: &[AtomId],
+    work: &mut Work<Note>,
+) -> Result<Reals, Stop> {
+    let mut reals = Reals::new(alloc);
+    for number in 0..atoms.len() {
+        reals.add_atom(log, atoms[number], number, work)?;
+    }
+    Ok(reals)
 }
 
 /// The truth of a term, where it has one.
@@ -316,7 +360,7 @@ fn values_of(
     prepared: &Prepared,
     terms: &Terms,
     covered: &[TermId],
-) -> Result<Assign, Memory>
+) -> Result<Assign, Stop>
     requires within { All (λ t. t < length terms.now) covered.now }
     ensures values { IfOk result (λ ps. ps ≡ flat_map (value_at terms.now prepared.now) covered.now) }
 {
@@ -324,5 +368,6 @@ fn values_of(
     for term in covered {
         add_value(prepared, terms, *term, &mut values)?;
     }
+    prepared.sat.theory.add_values(terms, &mut values)?;
     Ok(values)
 }

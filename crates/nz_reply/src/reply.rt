@@ -7,7 +7,7 @@ ghost use Rattle.nz_term.specs.Values.{value_of};
 
 use nz_base::{Error, Lines, Memory};
 use nz_frac::Wide;
-use nz_log::Note;
+use nz_log::{Note, Place};
 use nz_sexpr::PackedHeard;
 use nz_spec::table::term_stays;
 use nz_term::{Constant, Sort, Value};
@@ -156,10 +156,12 @@ pub enum Info {
 }
 
 /// Why a check wasn't decided.
-#[derive(Clone, Copy, Debug, PartialEq, Eq)]
+#[derive(Clone, Copy, Debug)]
 pub enum Reason {
     /// Each of so many units of work was used.
     UnitsSpent(u64),
+    /// An operation left the numbers.
+    Wide(Wide),
 }
 
 /// A reply.
@@ -191,9 +193,9 @@ pub enum Reply {
     Error(Error),
 }
 
-/// The work of a check that used all of its units.
+/// The work of a check that wasn't decided.
 #[derive(Debug, Drop)]
-pub struct SpentList {
+pub struct WorkDone {
     /// How many units the check had.
     pub limit: u64,
     pub work: Lines<Note>,
@@ -203,8 +205,17 @@ pub struct SpentList {
 #[derive(Debug, Drop)]
 pub enum Cause {
     Plain,
-    /// In a box, since few entries have one, and each would be as large as it.
-    Spent(Box<SpentList>),
+    /// Each unit of the work was used. In a box, since few entries have one, and each would be as large as it.
+    Spent(Box<WorkDone>),
+    /// An operation left the numbers at a place, where the work ended.
+    Stopped(Box<Stopped>),
+}
+
+/// Where a check ended that couldn't go on, and its work.
+#[derive(Debug, Drop)]
+pub struct Stopped {
+    pub place: Place,
+    pub done: WorkDone,
 }
 
 /// A thing heard, packed, its reply, and the reply's cause.

@@ -10,62 +10,70 @@ ghost use Rattle.nz_sat.specs.Sats.{IsLegalWork};
 ghost use Rattle.nz_sat.specs.Theories.{IsMet, IsTold, StaysSoundOver};
 ghost use Rattle.nz_sat.specs.Trails.{literals_on};
 
+use crate::atoms::Atoms;
 use crate::trail::Trail;
 use nz_base::Work;
-use nz_log::{ClauseId, Log, Note, Stop, Theory};
+use nz_log::{ClauseId, Lit, Log, Note, Stop, Theory};
 
-/// Tells a theory the literals of a trail that it wasn't told. Answers a clause that says that they can't be true, if the theory sees that.
-fn tell<T: Theory>(log: &mut Log, trail: &Trail, theory: &mut T) -> Result<Option<ClauseId>, Stop>
-    requires told { IsTold (T.has_told theory.old) trail.now.entries }
-    ensures over { (ns : List Node) → T.is_over theory.old ns → T.is_over theory.new ns }
-    ensures told { OnOk result (IsTold (T.has_told theory.new) trail.now.entries) }
-    ensures all { IfOk result (λ r. r ≡ None → T.has_told theory.new (literals_on trail.now.entries)) }
-    ensures clash { IfOk result (λ r. IfSome r (IsClash log.new (literals_on trail.now.entries))) }
-    ensures grows { Grows log.old log.new }
-    ensures sound { StaysSoundOver (T.is_over theory.old) trail.now.entries log.old log.new }
-    ensures memory { IfErr result (λ e. e ≡ stop.Memory) }
-{
-    for i in theory.mark()..trail.len() {
-        let clash = theory.assert_lit(log, trail.entry(i).literal)?;
-        if clash.is_some() {
-            return Ok(clash);
+/// Tells a theory the bounds of a trail from a place on, up to which it was told, and notes each that it takes. Answers a clause that says that they
+/// can't be true, if the theory sees that.
+fn tell<T: Theory>(
+    log: &mut Log,
+    atoms: &Atoms,
+    trail: &Trail,
+    told: &mut usize,
+    theory: &mut T,
+    work: &mut Work<Note>,
+) -> Result<Option<ClauseId>, Stop> {
+    while *told < trail.len() {
+        let literal = trail.entry(*told).literal;
+        if atoms.is_bound(literal.atom) {
+            let clash = tell_one(log, atoms, literal, theory, work)?;
+            if clash.is_some() {
+                return Ok(clash);
+            }
         }
+        *told += 1;
     }
     Ok(None)
 }
 
-/// Tells a theory the literals of a trail that it wasn't told, and has it look for values that meet them. Answers a clause that says that there are
+/// Tells a theory a bound, and notes it where the theory takes it, or finds no numbers for why not.
+fn tell_one<T: Theory>(
+    log: &mut Log,
+    atoms: &Atoms,
+    literal: Lit,
+    theory: &mut T,
+    work: &mut Work<Note>,
+) -> Result<Option<ClauseId>, Stop> {
+    let Some(atom) = atoms.number(literal.atom) else {
+        unreachable!()
+    };
+    match theory.assert_lit(log, literal) {
+        Ok(Some(clash)) => Ok(Some(clash)),
+        told => {
+            work.note(Note::Told {
+                atom,
+                sign: literal.sign,
+            })?;
+            told
+        }
+    }
+}
+
+/// Tells a theory the bounds of a trail that it wasn't told, and has it look for values that meet them. Answers a clause that says that there are
 /// none.
 pub fn consult<T: Theory>(
     log: &mut Log,
+    atoms: &Atoms,
     trail: &Trail,
+    told: &mut usize,
     theory: &mut T,
     work: &mut Work<Note>,
-) -> Result<Option<ClauseId>, Stop>
-    requires told { IsTold (T.has_told theory.old) trail.now.entries }
-    ensures over { (ns : List Node) → T.is_over theory.old ns → T.is_over theory.new ns }
-    ensures told { OnOk result (IsTold (T.has_told theory.new) trail.now.entries) }
-    ensures met { IfOk result (λ r. r ≡ None → IsMet (T.has_told theory.new) (T.is_feasible theory.new) trail.now.entries) }
-    ensures clash { IfOk result (λ r. IfSome r (IsClash log.new (literals_on trail.now.entries))) }
-    ensures grows { Grows log.old log.new }
-    ensures sound { StaysSoundOver (T.is_over theory.old) trail.now.entries log.old log.new }
-    ensures units { AddsUnits work.old work.new }
-    ensures legal { (ns : List Node) (q : Task) → T.is_over theory.old ns → IsLegalWork ns q work.old → IsLegalWork ns q work.new }
-    ensures spent { IfErr result (λ e. e ≡ stop.Spent → IsSpent work.new) }
-{
-    let clash = tell(log, trail, theory)?;
+) -> Result<Option<ClauseId>, Stop> {
+    let clash = tell(log, atoms, trail, told, theory, work)?;
     if clash.is_some() {
         return Ok(clash);
     }
     theory.check(log, work)
-}
-
-/// Takes back what a theory was told after the first literals, so many of them.
-pub fn take_back<T: Theory>(theory: &mut T, count: usize)
-    ensures over { (ns : List Node) → T.is_over theory.old ns → T.is_over theory.new ns }
-    ensures told { (ls : List Lit) → T.has_told theory.old ls → T.has_told theory.new (take count ls) }
-{
-    if count < theory.mark() {
-        theory.undo(count);
-    }
 }

@@ -13,7 +13,6 @@ ghost use Rattle.nz_sat.specs.Numbers.{AreNotedIn, IsTermAtom, noted_atoms};
 ghost use Rattle.nz_sat.specs.Sats.{AreConsistent, AreHeld, AreNamed, AreOn, HoldsMore, IsAsked, IsLegalWork, IsSatisfied, IsTheoryMet, held_of, held_up_to, literal_truth};
 
 use crate::clauses::Held;
-use crate::consult::take_back;
 use crate::search::Search;
 use nz_base::{Memory, Work};
 use nz_log::{AtomId, ClauseId, Lit, Log, Note, Stop, Theory};
@@ -111,7 +110,7 @@ impl<T: Theory> Sat<T> {
         ensures spent { IfErr result (λ e. e ≡ stop.Spent → IsSpent work.new) }
     {
         self.truths.clear();
-        take_back(&mut self.theory, 0);
+        self.theory.undo(0);
         let alloc = *self.clauses.allocator();
         let mut search = Search::new(alloc, log, &self.clauses, atoms)?;
         let refuted = search.run(log, &mut self.clauses, &mut self.theory, assumed, work)?;

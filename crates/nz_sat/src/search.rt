@@ -19,7 +19,7 @@ ghost use Rattle.nz_sat.specs.Trails.{EachBehind, GoesOn, IsFrontOf, IsTrail, as
 use crate::analyze::{Learned, greatest_level, learned_clause, refutation};
 use crate::atoms::Atoms;
 use crate::clauses::{Held, Index};
-use crate::consult::{consult, take_back};
+use crate::consult::consult;
 use crate::order::Order;
 use crate::propagate::{propagate, visit_held};
 use crate::trail::Trail;
@@ -38,6 +38,8 @@ pub struct Search {
     order: Order,
     // By the numbers of atoms, the marks of the conflict analysis: none between two conflicts.
     seen: Vec<bool>,
+    // Up to which place of the trail the theory was told its bounds.
+    told: usize,
 }
 
 impl Search {
@@ -50,7 +52,7 @@ impl Search {
         ensures atoms { IfOk result (λ s. s.atoms ≡ atoms.now) }
         ensures none { IfOk result (λ s. s.trail.entries ≡ []) }
     {
-        let atoms = Atoms::of(alloc, atoms)?;
+        let atoms = Atoms::of(alloc, log, atoms)?;
         let size = atoms.size();
         let order = Order::new(alloc, &atoms)?;
         let mut index = Index::new(alloc, size)?;
@@ -63,6 +65,7 @@ impl Search {
             index,
             order,
             seen: vec![in alloc; false; size]?,
+            told: 0,
         })
     }
 
@@ -156,16 +159,22 @@ impl Search {
         )
     }
 
-    /// Takes the literals above a level off the trail.
-    fn jump(&mut self, level: usize)
+    /// Takes the literals above a level off the trail. Answers how many of them the theory was told.
+    fn jump(&mut self, level: usize) -> usize
         ensures rest { self.new ≡ record self.old { trail = self.new.trail; order = self.new.order } }
         ensures size { self.new.trail.size ≡ self.old.trail.size }
         ensures below { self.new.trail.entries ≡ below level self.old.trail.entries }
         ensures front { IsFrontOf self.new.trail.entries self.old.trail.entries }
     {
+        let mut untold = 0;
         while let Some(literal) = self.trail.pop_above(level) {
+            if self.trail.len() < self.told && self.atoms.is_bound(literal.atom) {
+                untold += 1;
+            }
             self.order.keep(literal);
         }
+        self.told = self.told.min(self.trail.len());
+        untold
     }
 
     /// Takes the literals above a level off the trail, and back from the theory.
@@ -177,8 +186,8 @@ impl Search {
         ensures told { IsTold (T.has_told theory.old) self.old.trail.entries → IsTold (T.has_told theory.new) self.new.trail.entries }
         ensures over { (ns : List Node) → T.is_over theory.old ns → T.is_over theory.new ns }
     {
-        self.jump(level);
-        take_back(theory, self.trail.len());
+        let untold = self.jump(level);
+        theory.undo(theory.mark() - untold);
     }
 
     /// Goes back to the last level of which a clause has a literal.
@@ -230,7 +239,14 @@ impl Search {
         if falsified.is_some() {
             return Ok(falsified);
         }
-        consult(log, &self.trail, theory, work)
+        consult(
+            log,
+            &self.atoms,
+            &self.trail,
+            &mut self.told,
+            theory,
+            work,
+        )
     }
 
     /// Notes a learned clause.

@@ -188,7 +188,7 @@ impl Held {
 
 /// Adds the clauses of a term of the gate table that holds no number.
 fn add_gates(held: &mut Held, terms: &Terms, term: TermId) -> Result<(), Memory> {
-    if terms.len() <= term || terms.holds_number(term) {
+    if terms.len() <= term || terms.holds_integer(term) {
         return Err(Memory);
     }
     for j in 0..gate_count(terms, term) {

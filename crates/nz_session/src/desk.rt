@@ -28,8 +28,8 @@ ghost use Rattle.nz_session.specs.Told.{IsTold};
 use crate::values::values_shown;
 use nz_base::{Error, Memory, Work};
 use nz_elaborate::Typed;
-use nz_log::{Decide, Note, Stop, Verdict};
-use nz_reply::{Binding, Bindings, Cause, Info, Reason, Reply, SpentList};
+use nz_log::{Decide, Note, Place, Stop, Verdict};
+use nz_reply::{Binding, Bindings, Cause, Info, Reason, Reply, Stopped, WorkDone};
 use nz_sexpr::{Tree, What};
 use nz_sort::{Accepted, Act, Info as InfoAsked, Live};
 use nz_spec::script::argument_tells;
@@ -179,23 +179,26 @@ impl<E: Decide> Desk<E> {
                 self.last = Some(LastAnswer::Refutation);
                 said(Reply::Unsat)
             }
-            Err(Stop::Spent) => {
-                let list = SpentList {
-                    limit: self.limit,
-                    work: self.work.take(),
-                };
-                let Ok(list) = Box::new(self.alloc, list) else {
-                    return said(Reply::Error(Error::OutOfMemory));
-                };
-                let reason = Reason::UnitsSpent(self.limit);
-                self.last = Some(LastAnswer::Undecided(reason));
-                Answer {
-                    reply: Reply::Unknown(reason),
-                    cause: Cause::Spent(list),
-                    exits: false,
-                }
-            }
+            Err(Stop::Spent) => self.undecided(Reason::UnitsSpent(self.limit), None),
+            Err(Stop::Wide(place)) => self.undecided(Reason::Wide(place.wide), Some(place)),
             Err(Stop::Memory) => said(Reply::Error(Error::OutOfMemory)),
+        }
+    }
+
+    /// The answer where a check wasn't decided, which is kept for `get-info`.
+    fn undecided(&mut self, reason: Reason, place: Option<Place>) -> Answer {
+        let done = WorkDone {
+            limit: self.limit,
+            work: self.work.take(),
+        };
+        let Ok(cause) = cause_of(self.alloc, place, done) else {
+            return said(Reply::Error(Error::OutOfMemory));
+        };
+        self.last = Some(LastAnswer::Undecided(reason));
+        Answer {
+            reply: Reply::Unknown(reason),
+            cause,
+            exits: false,
         }
     }
 
@@ -278,6 +281,14 @@ impl<E: Decide> Desk<E> {
         drop(work);
         drop(last);
         terms
+    }
+}
+
+/// Why a check wasn't decided: its work, and the place where it ended, if each unit wasn't used.
+fn cause_of(alloc: Global, place: Option<Place>, done: WorkDone) -> Result<Cause, AllocError> {
+    match place {
+        Some(place) => Ok(Cause::Stopped(Box::new(alloc, Stopped { place, done })?)),
+        None => Ok(Cause::Spent(Box::new(alloc, done)?)),
     }
 }
 

@@ -93,7 +93,7 @@ pub(crate) fn has_constant(terms: &Terms, id: TermId, value: Option<Frac>) -> bo
 
 /// Whether the term is linear, and holds a number.
 pub(crate) fn is_linear_number(terms: &Terms, id: TermId) -> bool {
-    id < terms.len() && terms.is_linear(id) && terms.holds_number(id)
+    id < terms.len() && terms.is_linear(id) && terms.holds_integer(id)
 }
 
 /// Whether the term isn't linear.

@@ -1,0 +1,76 @@
+//! Values of the units, once the simplex is feasible.
+use crate::reals::{Reals, stopped};
+use nz_delta::{Delta, choose_delta};
+use nz_frac::Frac;
+use nz_lin::Part;
+use nz_log::{Site, Stop};
+use nz_term::{Assign, Head, TermId, Terms, Value};
+use nz_trail::{Side, Var};
+
+impl Reals {
+    /// Puts a value for each constant among the units behind those of an assignment: the value at the point, where a fraction stands for the
+    /// infinitesimal that keeps all values within their bounds.
+    ///
+    /// # Errors
+    ///
+    /// `Wide` where an operation leaves the numbers; `Memory`.
+    pub fn add_values(&self, terms: &Terms, values: &mut Assign) -> Result<(), Stop> {
+        let delta = self.delta()?;
+        for var in 0..self.simplex.len() {
+            if let Some(unit) = constant_alone(terms, self.simplex.form(var)) {
+                let value = self.value_at(var, delta)?;
+                values.push(unit, Value::Number(value))?;
+            }
+        }
+        Ok(())
+    }
+
+    /// A fraction for the infinitesimal: the least of 1 and what the values with their bounds allow.
+    fn delta(&self) -> Result<Frac, Stop> {
+        let mut least = Frac::whole(1);
+        for var in 0..self.simplex.len() {
+            let value = self.simplex.value(var);
+            let (lower, upper) = self.simplex.bounds(var);
+            if let Some(limit) = lower {
+                least = within(least, (limit.value, value), var, Side::Lower)?;
+            }
+            if let Some(limit) = upper {
+                least = within(least, (value, limit.value), var, Side::Upper)?;
+            }
+        }
+        Ok(least)
+    }
+
+    /// The value of a form where a fraction stands for the infinitesimal.
+    fn value_at(&self, var: Var, delta: Frac) -> Result<Frac, Stop> {
+        let value = self.simplex.value(var);
+        match at(value, delta) {
+            Ok(number) => Ok(number),
+            Err(wide) => Err(stopped(wide, Site::Model { form: var })),
+        }
+    }
+}
+
+/// The lesser of a fraction and what two numbers in order allow.
+fn within(least: Frac, pair: (Delta, Delta), form: Var, side: Side) -> Result<Frac, Stop> {
+    match choose_delta(&[pair]) {
+        Ok(limit) => Ok(if limit < least { limit } else { least }),
+        Err(wide) => Err(stopped(wide, Site::Limit { form, side })),
+    }
+}
+
+/// A number with a fraction for the infinitesimal.
+fn at(value: Delta, delta: Frac) -> Result<Frac, nz_frac::Wide> {
+    value.c.add(value.k.mul(delta)?)
+}
+
+/// The constant that a form is, if it is one alone.
+fn constant_alone(terms: &Terms, parts: &[Part]) -> Option<TermId> {
+    match parts {
+        [part] if part.coefficient == Frac::whole(1) => match terms.head(part.unit) {
+            Head::Constant(_) => Some(part.unit),
+            _ => None,
+        },
+        _ => None,
+    }
+}
