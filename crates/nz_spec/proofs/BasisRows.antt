@@ -1,19 +1,15 @@
 -- Rows over a basis: mixes of coefficients, and what is independent has one coefficient each.
-use Rattle.std.proofs.Common.{◌≡◌, ℕ, ◌<◌, Bool, true, false, List, [], ◌∷◌, length, pos, negsuc, refl, sym, ap, ap₂, ◌∙◌, true≢false, arith}
+use Rattle.std.proofs.Common.{◌≡◌, ℕ, ◌<◌, Bool, true, false, List, [], ◌∷◌, length, pos, negsuc, refl, sym, ap, ◌∙◌, true≢false, arith}
 use Rattle.std.specs.Prelude.{◌==◌, if◌then◌else◌, ◌≢◌}
 use Rattle.nz_ints.proofs.Ring.{Atom, Literal, ◌⊕◌, ◌⊗◌}
 use Rattle.nz_fractions.specs.Fraction.{Fraction, whole, ◌=ℚ◌, ◌+ℚ◌, ◌*ℚ◌}
 use Rattle.nz_spec.specs.Form.{Part}
-use Rattle.nz_spec.specs.Basis.{Valuation, worth, form_at, Coefficients, weighted, mix, IsZeroAtBasic, IsRow, IsBasis, IsCoefficient, AreIndependent, CoefficientsAreUnique, alone, NonbasicFormIsItself, ValueIsWorth}
+use Rattle.nz_spec.specs.Basis.{Valuation, worth, form_at, Coefficients, weighted, mix, IsZeroAtBasic, IsRow, IsBasis, IsCoefficient, AreIndependent, CoefficientsAreUnique, alone, NonbasicFormIsItself}
 use Rattle.nz_fractions.proofs.Laws.{=ℚ_refl, =ℚ_sym}
 use Rattle.nz_fractions.proofs.Arithmetic.{+ℚ-zero, +ℚ-same}
 use Rattle.nz_spec.proofs.FormValues.{zero_times, times_zero, one_times}
 use Rattle.nz_spec.proofs.FractionSolver.{◌∙ℚ◌, solve, solve_by, plus_right, times_left, times_right}
 use Rattle.nz_spec.proofs.BasisSums.{sum-same, sum-plus, sum-scaled, sum-zero, sum-single}
-
-pub value_is_worth : ValueIsWorth
-value_is_worth a [] = refl
-value_is_worth a (p ∷ ps) = ap₂ (λ (x y : Fraction). x +ℚ y) refl (value_is_worth a ps)
 
 -- ---- Sums with coefficients, over any values of the forms
 

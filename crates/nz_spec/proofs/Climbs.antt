@@ -16,7 +16,7 @@ use Rattle.nz_fractions.proofs.Arithmetic.{*ℚ_comm}
 use Rattle.nz_spec.proofs.FractionBounds.{within_sum, times_lt}
 use Rattle.nz_spec.proofs.FractionSolver.{◌∙ℚ◌, solve, plus_left, plus_right}
 use Rattle.nz_spec.proofs.InfinitesimalLaws.{quotient-back}
-use Rattle.nz_spec.proofs.BasisRows.{value_is_worth}
+use Rattle.nz_spec.proofs.FormValues.{value_is_worth}
 use Rattle.nz_fractions.proofs.Rounding.{rounds}
 
 -- ---- Vertices

@@ -20,6 +20,7 @@ pub mod ByteClasses
 pub mod Climbs
 pub mod CutSums
 pub mod Decimals
+pub mod DecidedTerms
 pub mod Derivations
 pub mod Divisions
 pub mod Examples
@@ -49,6 +50,7 @@ pub mod Literals
 pub mod Normal
 pub mod NormalGates
 pub mod NormalSorts
+pub mod OperandSorts
 pub mod Pieces
 pub mod PivotRuns
 pub mod Placed

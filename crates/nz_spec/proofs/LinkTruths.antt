@@ -73,7 +73,7 @@ otherwise_either : (b c d : Bool) → (b ≡ false → (c || (d || false)) ≡ t
 otherwise_either true c d h = refl
 otherwise_either false c d h = h refl
 
-and-true : (b : Bool) → (b && true) ≡ b
+pub and-true : (b : Bool) → (b && true) ≡ b
 and-true true = refl
 and-true false = refl
 
@@ -176,7 +176,7 @@ module _ (numbering : Numbering) (a : Assignment) where
       )
 
   -- a value that is no truth is a number
-  equal_numbers : (s : Sort) (v w : Value) → IsOfSort s v → is_bool s ≡ false → are_equal v w ≡ fraction_eq (number_of v) (number_of w)
+  pub equal_numbers : (s : Sort) (v w : Value) → IsOfSort s v → is_bool s ≡ false → are_equal v w ≡ fraction_eq (number_of v) (number_of w)
   equal_numbers bool_sort v w h e = absurd (true≢false e)
   equal_numbers int_sort (truth b) w h e = absurd h
   equal_numbers int_sort (number q) w h e = refl
