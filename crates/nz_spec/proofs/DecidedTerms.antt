@@ -12,7 +12,7 @@ use Rattle.nz_spec.specs.Term.{NumberSort, over_int, over_real, sort_over, bool_
 use Rattle.nz_spec.specs.Linear.{constant_values, is_linear_node, is_linear, are_linear}
 use Rattle.nz_spec.specs.Model.{IsAssignment}
 use Rattle.nz_spec.specs.Order.{post_order, post_orders}
-use Rattle.nz_spec.specs.Form.{Numbering, unit_value}
+use Rattle.nz_spec.specs.Form.{Numbering, Form, unit_value}
 use Rattle.nz_spec.specs.FormOf.{form_of, forms_of}
 use Rattle.nz_spec.specs.Literal.{Literal, Clause}
 use Rattle.nz_spec.specs.Gates.{holds, fails, is_boolean_term, gate_clauses, IsRow}
@@ -25,7 +25,7 @@ use Rattle.nz_spec.specs.Deciding.{IsMet, HasMetLiteral, MeetsTables, TablesDeci
 use Rattle.nz_fractions.proofs.Laws.{=ℚ_refl, =ℚ_sym, =ℚ_trans, =ℚ-from_same, ≤ℚ-from_eq, ≤ℚ_antisymm, <ℚ_irrefl}
 use Rattle.nz_fractions.proofs.Order.{same-fraction_eq, fraction_eq-same}
 use Rattle.nz_fractions.proofs.Arithmetic.{+ℚ-same, neg_ℚ-same}
-use Rattle.nz_spec.proofs.FormTerms.{term-worth}
+use Rattle.nz_spec.proofs.FormTerms.{Own, term-worth}
 use Rattle.nz_spec.proofs.FormValues.{by_difference, form_worth, form_joined-worth, Match, constant-worth, unit-worth}
 use Rattle.nz_spec.proofs.GateSettling.{AllAre, SaysOne, says_one, others, alone, IsSettled, AreSettled, node_settled}
 use Rattle.nz_spec.proofs.InfinitesimalLaws.{lt-carried, le-carried}
@@ -34,18 +34,11 @@ use Rattle.nz_spec.proofs.LinkTruths.{moved_over, and-true, equal_numbers}
 use Rattle.nz_spec.proofs.OperandSorts.{HaveOperands, operands_are}
 use Rattle.nz_spec.proofs.Sorted.{value_is}
 
-below_apart : (p q : Fraction) → p <ℚ q → fraction_eq p q ≡ false
-below_apart p q h = by_test (fraction_eq p q) refl
+apart : (p q : Fraction) → (p =ℚ q → ⊥) → fraction_eq p q ≡ false
+apart p q n = by_test (fraction_eq p q) refl
   where
     by_test : (b : Bool) → fraction_eq p q ≡ b → fraction_eq p q ≡ false
-    by_test true e = absurd (<ℚ_irrefl h (≤ℚ-from_eq (=ℚ_sym (same-fraction_eq p q e))))
-    by_test false e = e
-
-above_apart : (p q : Fraction) → q <ℚ p → fraction_eq p q ≡ false
-above_apart p q h = by_test (fraction_eq p q) refl
-  where
-    by_test : (b : Bool) → fraction_eq p q ≡ b → fraction_eq p q ≡ false
-    by_test true e = absurd (<ℚ_irrefl h (≤ℚ-from_eq (same-fraction_eq p q e)))
+    by_test true e = absurd (n (same-fraction_eq p q e))
     by_test false e = e
 
 own_term : (t : Term) → Contains (post_order t) t
@@ -70,6 +63,12 @@ module _ (number : Numbering) (a : Assignment) (truths : Term → Option Bool) (
   met_said : (c : Clause) → HasMetLiteral truths v c → OneSaid c
   met_said c h = says_one a Says one_truth c h.0 h.1 h.2
 
+  abbrev HasMetResult : Computation Clause → Type 0
+  HasMetResult c = HasMetLiteral truths v c.result
+
+  all_said : (cs : List (Computation Clause)) → AllByRecursion HasMetResult cs → AllSaid cs
+  all_said cs h = AllByRecursion-weaker HasMetResult (λ (c : Computation Clause). OneSaid c.result) (λ c k. met_said c.result k) cs h
+
   -- what the others say where the first literal denies the term's truth
   rest_said : (t : Term) (sign : Bool) (R : Type 0) → truths t ≡ Some sign → (truths t ≡ Some (not sign)) ⊎ R → R
   rest_said t sign R has h = others a Says one_truth t sign R has h
@@ -88,22 +87,21 @@ module _ (number : Numbering) (a : Assignment) (truths : Term → Option Bool) (
   abbrev worth_of : Term → Fraction
   worth_of t = form_worth v (form_of number t).result
 
+  abbrev difference_of : (x y : Term) → Form
+  difference_of x y = (minus number (form_of number x) (form_of number y)).result
+
   compared : (x y : Term) (p q : Fraction) → worth_of x =ℚ p → worth_of y =ℚ q
-      → fraction_cmp (worth v (minus number (form_of number x) (form_of number y)).result.parts) (neg_ℚ (minus number (form_of number x) (form_of number y)).result.offset) ≡ fraction_cmp p q
+      → fraction_cmp (worth v (difference_of x y).parts) (neg_ℚ (difference_of x y).offset) ≡ fraction_cmp p q
   compared x y p q h k =
-      let f = (minus number (form_of number x) (form_of number y)).result in
+      let f = difference_of x y in
       moved_over (worth v f.parts) f.offset p q
       (=ℚ_trans (form_joined-worth number v Difference by_difference (form_of number x).result (form_of number y).result) (+ℚ-same h (neg_ℚ-same k)))
 
   at_most_said : (x y : Term) (p q : Fraction) → worth_of x =ℚ p → worth_of y =ℚ q → Says (at_most_literal number x y).result → p ≤ℚ q
-  at_most_said x y p q h k m =
-      let f = (minus number (form_of number x) (form_of number y)).result in
-      le-carried (worth v f.parts) (neg_ℚ f.offset) p q (compared x y p q h k) m
+  at_most_said x y p q h k m = le-carried (worth v (difference_of x y).parts) (neg_ℚ (difference_of x y).offset) p q (compared x y p q h k) m
 
   below_said : (x y : Term) (p q : Fraction) → worth_of x =ℚ p → worth_of y =ℚ q → Says (below_literal number x y).result → p <ℚ q
-  below_said x y p q h k m =
-      let f = (minus number (form_of number x) (form_of number y)).result in
-      lt-carried (worth v f.parts) (neg_ℚ f.offset) p q (compared x y p q h k) m
+  below_said x y p q h k m = lt-carried (worth v (difference_of x y).parts) (neg_ℚ (difference_of x y).offset) p q (compared x y p q h k) m
 
   -- ---- Comparisons
 
@@ -158,26 +156,24 @@ module _ (number : Numbering) (a : Assignment) (truths : Term → Option Bool) (
         ap (λ (b : Bool). truth (b && true)) (le_is_not left_value right_value (high (last_said (apply at_most both) false High has m.1.0)))
 
     either_apart : Low ⊎ (High ⊎ ⊥) → fraction_eq left_value right_value ≡ false
-    either_apart (inl m) = below_apart left_value right_value (low m)
-    either_apart (inr m) = above_apart left_value right_value (high (alone a Says one_truth High m))
+    either_apart (inl m) = apart left_value right_value (λ e. <ℚ_irrefl (low m) (≤ℚ-from_eq (=ℚ_sym e)))
+    either_apart (inr m) = apart left_value right_value (λ e. <ℚ_irrefl (high (alone a Says one_truth High m)) (≤ℚ-from_eq e))
 
-    equality_settled : IsOfSort (sort_of x) (value_of a x) → is_boolean_term x ≡ false → AllSaid (link_clauses number (apply equality both)) → Settled (apply equality both)
-    equality_settled s e m = by_sign (other_rows (is_boolean_term x) _ e m)
+    equality_settled : IsOfSort (sort_of x) (value_of a x) → is_boolean_term x ≡ false → AllSaid (link_clauses number (apply equality both))
+        → Settled (apply equality both)
+    equality_settled s e m = let rows = other_rows (is_boolean_term x) _ e m in by_rows rows.0 rows.1.0 rows.1.1.0
       where
+        t : Term
+        t = apply equality both
+
         is : value_of a (apply equality both) ≡ truth (fraction_eq left_value right_value)
         is = ap truth (and-true (are_equal (value_of a x) (value_of a y)) ∙ equal_numbers number a (sort_of x) (value_of a x) (value_of a y) s e)
 
-        by_sign : (OneSaid (fails (apply equality both) ∷ (at_most_literal number x y).result ∷ []))
-            × ((OneSaid (fails (apply equality both) ∷ (at_most_literal number y x).result ∷ []))
-            × ((OneSaid (holds (apply equality both) ∷ (below_literal number x y).result ∷ (below_literal number y x).result ∷ [])) × ⊤)) → Settled (apply equality both)
-        by_sign rows true has =
-            is
-            ∙ ap truth
-            (fraction_eq-same left_value right_value
-            (≤ℚ_antisymm
-            (not_high (last_said (apply equality both) true NotHigh has rows.0))
-            (not_low (last_said (apply equality both) true NotLow has rows.1.0))))
-        by_sign rows false has = is ∙ ap truth (either_apart (rest_said (apply equality both) false (Low ⊎ (High ⊎ ⊥)) has rows.1.1.0))
+        by_rows : (truths t ≡ Some false) ⊎ (NotHigh ⊎ ⊥) → (truths t ≡ Some false) ⊎ (NotLow ⊎ ⊥) → (truths t ≡ Some true) ⊎ (Low ⊎ (High ⊎ ⊥)) → Settled t
+        by_rows h k l true has =
+            let same = ≤ℚ_antisymm (not_high (last_said t true NotHigh has h)) (not_low (last_said t true NotLow has k)) in
+            is ∙ ap truth (fraction_eq-same left_value right_value same)
+        by_rows h k l false has = is ∙ ap truth (either_apart (rest_said t false (Low ⊎ (High ⊎ ⊥)) has l))
 
   -- ---- ite over Real
 
@@ -187,21 +183,24 @@ module _ (number : Numbering) (a : Assignment) (truths : Term → Option Bool) (
       (at_most_said u x (worth_of u) (unit_value a x) (=ℚ_refl (worth_of u)) h m)
       (at_most_said x u (unit_value a x) (worth_of u) h (=ℚ_refl (worth_of u)) k)
 
+  abbrev chosen_of : (c x y : Term) → Term
+  chosen_of c x y = apply (choice real_sort) (terms c (terms x (terms y no_terms)))
+
   choice_has_worth : (c x y : Term) → Settled c → HasWorth x → HasWorth y → (sign : Bool) → truths c ≡ Some sign
-      → AllSaid (unit_clauses number (apply (choice real_sort) (terms c (terms x (terms y no_terms))))) → HasWorth (apply (choice real_sort) (terms c (terms x (terms y no_terms))))
+      → AllSaid (unit_clauses number (chosen_of c x y)) → HasWorth (chosen_of c x y)
   choice_has_worth c x y s h k true has m =
-      let u = apply (choice real_sort) (terms c (terms x (terms y no_terms))) in
-      let Up = Says (at_most_literal number u x).result in
-      let Down = Says (at_most_literal number x u).result in
+      let u = chosen_of c x y in
       =ℚ_trans
-      (chosen u x h (last_said c true Up has m.0) (last_said c true Down has m.1.0))
+      (chosen u x h
+      (last_said c true (Says (at_most_literal number u x).result) has m.0)
+      (last_said c true (Says (at_most_literal number x u).result) has m.1.0))
       (=ℚ-from_same (sym (ap (λ (w : Value). number_of (if is_true w then value_of a x else value_of a y)) (s true has))))
   choice_has_worth c x y s h k false has m =
-      let u = apply (choice real_sort) (terms c (terms x (terms y no_terms))) in
-      let Up = Says (at_most_literal number u y).result in
-      let Down = Says (at_most_literal number y u).result in
+      let u = chosen_of c x y in
       =ℚ_trans
-      (chosen u y k (last_said c false Up has m.1.1.0) (last_said c false Down has m.1.1.1.0))
+      (chosen u y k
+      (last_said c false (Says (at_most_literal number u y).result) has m.1.1.0)
+      (last_said c false (Says (at_most_literal number y u).result) has m.1.1.1.0))
       (=ℚ-from_same (sym (ap (λ (w : Value). number_of (if is_true w then value_of a x else value_of a y)) (s false has))))
 
   -- ---- Terms
@@ -233,14 +232,19 @@ module _ (number : Numbering) (a : Assignment) (truths : Term → Option Bool) (
   over_number over_int t h = h
   over_number over_real t h = h
 
+  arithmetic_has_worth : (h : Head) (ts : Terms) → AllAre false ts → AreDecided ts → is_linear_node h (constant_values ts) ≡ true
+      → Own h (forms_of number ts).result (v (apply h ts) =ℚ unit_value a (apply h ts)) → HasWorth (apply h ts)
+  arithmetic_has_worth h ts b d l own = term-worth a number v h ts (all_match ts b d) l own
+
   module _ (good : IsAssignment a) (parts : List Term) (m : MeetsTables truths v number a parts) where
+    abbrev AreParts : List Term → Type 0
+    AreParts us = (u : Term) → Contains us u → Contains parts u
+
     links_said : (t : Term) → Contains parts t → AllSaid (link_clauses number t)
-    links_said t at =
-        AllByRecursion-weaker (λ (c : Computation Clause). HasMetLiteral truths v c.result) (λ (c : Computation Clause). OneSaid c.result) (λ c h. met_said c.result h) (link_clauses number t) (m.links t at)
+    links_said t at = all_said (link_clauses number t) (m.links t at)
 
     units_said : (t : Term) → Contains parts t → AllSaid (unit_clauses number t)
-    units_said t at =
-        AllByRecursion-weaker (λ (c : Computation Clause). HasMetLiteral truths v c.result) (λ (c : Computation Clause). OneSaid c.result) (λ c h. met_said c.result h) (unit_clauses number t) (m.units t at)
+    units_said t at = all_said (unit_clauses number t) (m.units t at)
 
     gate_settled : (h : Head) (ts : Terms) → IsRow h ts → AllAre true ts → AreDecided ts → Contains parts (apply h ts) → Settled (apply h ts)
     gate_settled h ts r b d at =
@@ -260,10 +264,11 @@ module _ (number : Numbering) (a : Assignment) (truths : Term → Option Bool) (
         → Contains parts (apply equality (terms x (terms y no_terms))) → Settled (apply equality (terms x (terms y no_terms)))
     equality_decided x y s true b d at = gate_settled equality (terms x (terms y no_terms)) tt b d at
     equality_decided x y s false b d at =
-        equality_settled x y (decided_as x false b.0 d.0) (decided_as y false b.1.0 d.1.0) (value_is a good [] x s) b.0 (links_said (apply equality (terms x (terms y no_terms))) at)
+        equality_settled x y (decided_as x false b.0 d.0) (decided_as y false b.1.0 d.1.0) (value_is a good [] x s) b.0
+        (links_said (apply equality (terms x (terms y no_terms))) at)
 
-    node_decided : (h : Head) (ts : Terms) → IsTakenHead h ts → HaveOperands h ts → AreWellSorted [] ts → is_linear_node h (constant_values ts) ≡ true → AreDecided ts
-        → Contains parts (apply h ts) → ((u : Term) → Contains (post_orders ts) u → Contains parts u) → IsDecided (apply h ts)
+    node_decided : (h : Head) (ts : Terms) → IsTakenHead h ts → HaveOperands h ts → AreWellSorted [] ts → is_linear_node h (constant_values ts) ≡ true
+        → AreDecided ts → Contains parts (apply h ts) → AreParts (post_orders ts) → IsDecided (apply h ts)
     node_decided (constant c) no_terms k o s l d at within = constant_decided c at
     node_decided (integer n) no_terms k o s l d at within = constant-worth number v (whole (pos n))
     node_decided (decimal_number n places) no_terms k o s l d at within = constant-worth number v (decimal_value n places)
@@ -284,21 +289,22 @@ module _ (number : Numbering) (a : Assignment) (truths : Term → Option Bool) (
         let known = m.known c (within c (Contains-append_left (post_order c) (post_orders (terms t (terms u no_terms))) c (own_term c))) o.0 in
         choice_has_worth c t u (decided_as c true o.0 d.0) (decided_as t false o.1.0 d.1.0) (decided_as u false o.1.1.0 d.1.1.0) known.0 known.1
         (units_said (apply (choice real_sort) (terms c (terms t (terms u no_terms)))) at)
-    node_decided (sum n) ts k o s l d at within = over_number n (apply (sum n) ts) (term-worth a number v (sum n) ts (all_match ts o d) l tt)
-    node_decided (difference n) ts k o s l d at within = over_number n (apply (difference n) ts) (term-worth a number v (difference n) ts (all_match ts o d) l tt)
-    node_decided (product n) ts k o s l d at within = over_number n (apply (product n) ts) (term-worth a number v (product n) ts (all_match ts o d) l tt)
-    node_decided quotient ts k o s l d at within = term-worth a number v quotient ts (all_match ts o d) l tt
-    node_decided to_real (terms t no_terms) k o s l d at within = term-worth a number v to_real (terms t no_terms) (all_match (terms t no_terms) o d) l tt
+    node_decided (sum n) ts k o s l d at within = over_number n (apply (sum n) ts) (arithmetic_has_worth (sum n) ts o d l tt)
+    node_decided (difference n) ts k o s l d at within = over_number n (apply (difference n) ts) (arithmetic_has_worth (difference n) ts o d l tt)
+    node_decided (product n) ts k o s l d at within = over_number n (apply (product n) ts) (arithmetic_has_worth (product n) ts o d l tt)
+    node_decided quotient ts k o s l d at within = arithmetic_has_worth quotient ts o d l tt
+    node_decided to_real (terms t no_terms) k o s l d at within = arithmetic_has_worth to_real (terms t no_terms) o d l tt
     node_decided h ts k o s l d at within = absurd k
 
     mutual
-      decided : (t : Term) → IsWellSorted [] t → is_linear t ≡ true → HasTakenHeads t → ((u : Term) → Contains (post_order t) u → Contains parts u) → IsDecided t
+      decided : (t : Term) → IsWellSorted [] t → is_linear t ≡ true → HasTakenHeads t → AreParts (post_order t) → IsDecided t
       decided (apply h ts) s l k within =
           let linear = and_parts (is_linear_node h (constant_values ts)) (are_linear ts) l in
-          let arguments = λ (u : Term) (at : Contains (post_orders ts) u). within u (Contains-append_left (post_orders ts) (apply h ts ∷ []) u at) in
-          node_decided h ts k.0 (operands_are h ts s.0) s.1 linear.0 (all_decided ts s.1 linear.1 k.1 arguments) (within (apply h ts) (own_term (apply h ts))) arguments
+          let arguments : AreParts (post_orders ts) = λ u at. within u (Contains-append_left (post_orders ts) (apply h ts ∷ []) u at) in
+          node_decided h ts k.0 (operands_are h ts s.0) s.1 linear.0 (all_decided ts s.1 linear.1 k.1 arguments)
+          (within (apply h ts) (own_term (apply h ts))) arguments
 
-      all_decided : (ts : Terms) → AreWellSorted [] ts → are_linear ts ≡ true → HaveTakenHeads ts → ((u : Term) → Contains (post_orders ts) u → Contains parts u) → AreDecided ts
+      all_decided : (ts : Terms) → AreWellSorted [] ts → are_linear ts ≡ true → HaveTakenHeads ts → AreParts (post_orders ts) → AreDecided ts
       all_decided no_terms s l k within = tt
       all_decided (terms t ts) s l k within =
           let linear = and_parts (is_linear t) (are_linear ts) l in (

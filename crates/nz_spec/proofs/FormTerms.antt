@@ -195,8 +195,8 @@ module _ (a : Assignment) where
 
   module _ (numbering : Numbering) (units : Valuation) where
     -- of constants and one other at most
-    open_product : (cs : List (Option Fraction)) (fs : List Form) (vs : List Value) → Known cs vs → Match numbering units fs vs → nat_lt (variable_count cs) 2 ≡ true
-        → (constant_product cs *ℚ form_worth units (open_form cs fs)) =ℚ product_of vs
+    open_product : (cs : List (Option Fraction)) (fs : List Form) (vs : List Value) → Known cs vs → Match numbering units fs vs
+        → nat_lt (variable_count cs) 2 ≡ true → (constant_product cs *ℚ form_worth units (open_form cs fs)) =ℚ product_of vs
     open_product [] [] [] k m e = =ℚ_trans (one_times _) (zero_left (whole (pos 1)))
     open_product [] (f ∷ fs) [] k m e = absurd m
     open_product [] fs (v ∷ vs) k m e = absurd k
@@ -208,7 +208,8 @@ module _ (a : Assignment) where
         =ℚ_trans (*ℚ_assoc c (constant_product cs) (form_worth units (open_form cs fs)))
         (*ℚ-same (=ℚ-from_same (sym (k.0 c refl))) (open_product cs fs vs k.1 m.1 e))
 
-    product-worth : (s : NumberSort) (cs : List (Option Fraction)) (fs : List Form) (u : Form) (vs : List Value) → Known cs vs → Match numbering units fs vs → nat_lt (variable_count cs) 2 ≡ true
+    product-worth : (s : NumberSort) (cs : List (Option Fraction)) (fs : List Form) (u : Form) (vs : List Value) → Known cs vs
+        → Match numbering units fs vs → nat_lt (variable_count cs) 2 ≡ true
         → form_worth units (head_form numbering (product s) cs fs u).result =ℚ number_of (head_value a (product s) vs)
     product-worth s cs fs u vs k m e =
         let p = (constants_product cs).result in
@@ -234,8 +235,8 @@ module _ (a : Assignment) where
         (=ℚ_trans (*ℚ_comm (reciprocal k) (number_of v))
         (=ℚ_trans (=ℚ_sym (outcome-quotient (number_of v) k)) (=ℚ-from_same (sym (quotient_known v w k is nonzero))))))
 
-    divided-worths : (f : Form) (ks : List (Option Fraction)) (v : Value) (ws : List Value) → form_worth units f =ℚ number_of v → Known ks ws → are_divisors ks ≡ true
-        → form_worth units (divided_by_each f ks).result =ℚ number_of (combined (carried_out Quotient) v ws)
+    divided-worths : (f : Form) (ks : List (Option Fraction)) (v : Value) (ws : List Value) → form_worth units f =ℚ number_of v
+        → Known ks ws → are_divisors ks ≡ true → form_worth units (divided_by_each f ks).result =ℚ number_of (combined (carried_out Quotient) v ws)
     divided-worths f [] v [] h k e = h
     divided-worths f [] v (w ∷ ws) h k e = absurd k
     divided-worths f (d ∷ ks) v [] h k e = absurd k
@@ -247,8 +248,8 @@ module _ (a : Assignment) where
 
     -- ---- The form of a term
 
-    head-worth : (h : Head) (cs : List (Option Fraction)) (fs : List Form) (u : Form) (vs : List Value) → Known cs vs → Match numbering units fs vs → is_linear_node h cs ≡ true
-        → Own h fs (form_worth units u =ℚ number_of (head_value a h vs))
+    head-worth : (h : Head) (cs : List (Option Fraction)) (fs : List Form) (u : Form) (vs : List Value) → Known cs vs
+        → Match numbering units fs vs → is_linear_node h cs ≡ true → Own h fs (form_worth units u =ℚ number_of (head_value a h vs))
         → form_worth units (head_form numbering h cs fs u).result =ℚ number_of (head_value a h vs)
     head-worth (sum s) cs [] u [] k m e own = constant-worth numbering units (whole (pos 0))
     head-worth (sum s) cs [] u (v ∷ vs) k m e own = absurd m
@@ -296,13 +297,14 @@ module _ (a : Assignment) where
         let fs = (forms_of numbering ts).result in
         let unit = apply h ts in
         head-worth h (constant_values ts) fs (unit_form unit) (values_of a ts) (constants_known ts) m e
-        (own_to h fs (units unit =ℚ unit_value a unit) (form_worth units (unit_form unit) =ℚ unit_value a unit) (=ℚ_trans (unit-worth numbering units unit)) own)
+        (own_to h fs (units unit =ℚ unit_value a unit) (form_worth units (unit_form unit) =ℚ unit_value a unit)
+        (=ℚ_trans (unit-worth numbering units unit)) own)
     worth_by h ts None false is o m e own =
         =ℚ_trans (unit-worth numbering units (apply h ts)) (own_of h (forms_of numbering ts).result (units (apply h ts) =ℚ unit_value a (apply h ts)) o own)
 
     -- where the forms of the arguments are worth their values, and the term too, if it is a unit
-    pub term-worth : (h : Head) (ts : Terms) → Match numbering units (forms_of numbering ts).result (values_of a ts) → is_linear_node h (constant_values ts) ≡ true
-        → Own h (forms_of numbering ts).result (units (apply h ts) =ℚ unit_value a (apply h ts))
+    pub term-worth : (h : Head) (ts : Terms) → Match numbering units (forms_of numbering ts).result (values_of a ts)
+        → is_linear_node h (constant_values ts) ≡ true → Own h (forms_of numbering ts).result (units (apply h ts) =ℚ unit_value a (apply h ts))
         → form_worth units (form_of numbering (apply h ts)).result =ℚ unit_value a (apply h ts)
     term-worth h ts = worth_by h ts (head_constant h (constant_values ts)) (is_opened h) refl refl
 

@@ -129,7 +129,8 @@ module _ (numbering : Numbering) (units : Valuation) where
     met p ps q same =
         let v = units p.unit in
         let rest = worth units ps in
-        subst (λ (u : Term). worth units (with_part p.unit (outcome op p.coefficient q.coefficient) ps) =ℚ (worth units (p ∷ ps) +ℚ signed op (q.coefficient *ℚ units u))) same
+        let both = outcome op p.coefficient q.coefficient in
+        subst (λ (u : Term). worth units (with_part p.unit both ps) =ℚ (worth units (p ∷ ps) +ℚ signed op (q.coefficient *ℚ units u))) same
         (=ℚ_trans (with_part-worth p.unit (outcome op p.coefficient q.coefficient) ps)
         (=ℚ_trans
         (+ℚ-same
@@ -140,7 +141,8 @@ module _ (numbering : Numbering) (units : Valuation) where
 
     worth_by : (p : Part) (ps : List Part) (q : Part) (b c : Bool) → are_same_term p.unit q.unit ≡ b
         → worth units (part_joined numbering op ps q).result =ℚ (worth units ps +ℚ part_worth q)
-        → worth units (if b then turned_into (λ d. with_part p.unit d ps) (operated op p.coefficient q.coefficient) else if c then at_once (part_alone op q ∷ p ∷ ps) else turned_into (λ rs. p ∷ rs) (part_joined numbering op ps q)).result
+        → worth units (if b then turned_into (λ d. with_part p.unit d ps) (operated op p.coefficient q.coefficient)
+        else if c then at_once (part_alone op q ∷ p ∷ ps) else turned_into (λ rs. p ∷ rs) (part_joined numbering op ps q)).result
         =ℚ (worth units (p ∷ ps) +ℚ part_worth q)
     worth_by p ps q true c e ih = met p ps q (same_term p.unit q.unit e)
     worth_by p ps q false true e ih = =ℚ_trans (alone-worth q (p ∷ ps)) (+ℚ_comm (part_worth q) (worth units (p ∷ ps)))
@@ -178,8 +180,8 @@ module _ (numbering : Numbering) (units : Valuation) where
   Match (f ∷ fs) [] = ⊥
   Match (f ∷ fs) (v ∷ vs) = (form_worth units f =ℚ number_of v) × Match fs vs
 
-  pub all_joined-worth : (op : Arithmetic) → Joins op → (f : Form) (gs : List Form) (v : Value) (ws : List Value) → form_worth units f =ℚ number_of v → Match gs ws
-      → form_worth units (all_joined numbering op f gs).result =ℚ number_of (combined (carried_out op) v ws)
+  pub all_joined-worth : (op : Arithmetic) → Joins op → (f : Form) (gs : List Form) (v : Value) (ws : List Value)
+      → form_worth units f =ℚ number_of v → Match gs ws → form_worth units (all_joined numbering op f gs).result =ℚ number_of (combined (carried_out op) v ws)
   all_joined-worth op joins f [] v [] h k = h
   all_joined-worth op joins f [] v (w ∷ ws) h k = absurd k
   all_joined-worth op joins f (g ∷ gs) v [] h k = absurd k

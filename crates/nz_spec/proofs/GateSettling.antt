@@ -311,7 +311,8 @@ module _ (a : Assignment) (Says : Literal → Type 0) (consistent : (t : Term) �
     settled (apply h ts) g m =
         let own = Contains-push (post_orders ts) (apply h ts) in
         node_settled h ts g.0 (gated_arguments ts g.1)
-        (AllByRecursion-weaker (HasTrueLiteral HasTruth) SaysOne (λ c n. says_one c (term_literal n.0 n.1) n.2 n.3) (gate_clauses (apply h ts)) (m.clauses (apply h ts) own))
+        (AllByRecursion-weaker (HasTrueLiteral HasTruth) SaysOne (λ c n. says_one c (term_literal n.0 n.1) n.2 n.3)
+        (gate_clauses (apply h ts)) (m.clauses (apply h ts) own))
         (all_settled ts g.1 (fewer (post_orders ts) (post_order (apply h ts)) (Contains-append_left (post_orders ts) (apply h ts ∷ [])) m))
         (λ c sign e has. m.constants c sign (subst (Contains (post_order (apply h ts))) e own) has)
 
