@@ -76,8 +76,7 @@ covers_wider stays ns more log s table covers =
       gates = record {
         gates = λ t n j at inside.
             let in_table = covers.within t n at in
-            let has = covers.gates.gates t n j at (subst (λ cs. j < length cs) (same_gates stays ns more table t in_table) inside) in
-            (
+            let has = covers.gates.gates t n j at (subst (λ cs. j < length cs) (same_gates stays ns more table t in_table) inside) in (
               has.0,
               has.1 ∙ ap Some (sym (same_clause stays ns more table t in_table log.atoms j n)),
               subst (All (λ (l : TermLit). HasTerm log.atoms l.term)) (sym (same_terms stays ns more table t in_table j)) has.2,

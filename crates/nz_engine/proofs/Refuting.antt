@@ -173,7 +173,7 @@ all_turned atoms assumed there (l ∷ c) h =
     let rest = all_turned atoms assumed there c h.1 in (
       turned m ∷ rest.0,
       ap (λ (o : Option TermLit). elim o [ None ↦ None | Some x ↦ option_map (λ (d : List TermLit). x ∷ d) (on_terms atoms c) ]) first
-      ∙ ap (option_map (λ (d : List TermLit). turned m ∷ d)) rest.1,
+          ∙ ap (option_map (λ (d : List TermLit). turned m ∷ d)) rest.1,
       (subst (Contains assumed) (sym (turned_twice m)) from.1, rest.2),
     )
 

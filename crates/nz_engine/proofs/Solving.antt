@@ -273,7 +273,7 @@ module _ (law : GatedTermsArePlain) (ns : List Node) (levels : List (List ℕ)) 
     pub works_on : (own : AtomsOfTerms) (has : All (HasTerm p.log.atoms) atoms) (old mid new : WorkList Note) → HasOneNumberEach ns → old.lines ≡ [] → NotesFirst atoms old mid
         → mid ≡ with_atoms old atoms → All (λ (l : TermLit). HasTerm p.log.atoms l.term) assumed
         → ((ns' : List Node) (levels' : List (List ℕ)) (q : Task) → IsAsked ns' levels' p.log (map (term_place p.log.atoms) atoms) (lits_of p.log.atoms assumed) q → IsLegalWork ns' q mid
-          → IsLegalWork ns' q new)
+        → IsLegalWork ns' q new)
         → noted_atoms new.lines ≡ noted_atoms mid.lines → new.limit ≡ mid.limit → Works ns (task_in ns levels assumed) old new
     works_on own has old mid new one none first all there legal notes limit =
         let lines : mid.lines ≡ notes_of atoms = lines_noted atoms old mid none all in

@@ -19,7 +19,9 @@ use crate::levels::Levels;
 use crate::prepared::Prepared;
 use nz_base::{Memory, Work};
 use nz_cform::laws::covers_stay;
-use nz_log::laws::{atoms_of_terms, clauses_are_true, gates_are_named, logs_stay, logs_stay_leveled};
+use nz_log::laws::{
+    atoms_of_terms, clauses_are_true, gates_are_named, logs_stay, logs_stay_leveled,
+};
 use nz_log::{Note, Stop, TermLit, Verdict};
 use nz_spec::derivation::gates_decide;
 use nz_spec::table::{assigns_by_number, one_number, term_of_node, term_stays};

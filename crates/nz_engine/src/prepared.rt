@@ -165,7 +165,16 @@ impl Prepared {
     /// # Errors
     ///
     /// `Memory`.
+<<<<<<< HEAD
     pub fn assume(&mut self, terms: &Terms, levels: &Levels, assumed: &[TermLit]) -> Result<(), Stop>
+=======
+    pub fn assume(
+        &mut self,
+        terms: &Terms,
+        levels: &Levels,
+        assumed: &[TermLit],
+    ) -> Result<(), Memory>
+>>>>>>> sat
         requires within { All (λ t. t < length terms.now) (terms_named assumed.now) }
         requires gated { AreGatedAt terms.now (terms_named assumed.now) }
         requires stands { IsPrepared terms.now levels.now levels.now self.old }

@@ -67,7 +67,11 @@ pub fn term_of(
 }
 
 /// The literal that a formula is true: of one that ends with `Not`, that the rest is false.
-fn literal_of(alloc: Global, bench: &mut Bench, formula: &[Part]) -> Result<Option<TermLit>, Memory> {
+fn literal_of(
+    alloc: Global,
+    bench: &mut Bench,
+    formula: &[Part],
+) -> Result<Option<TermLit>, Memory> {
     let (formula, sign) = match formula.split_last() {
         Some((Part::Not, front)) => (front, false),
         _ => (formula, true),

@@ -94,7 +94,11 @@ fn resolvent(
 }
 
 /// Adds the literals of a clause but for one, each once.
-fn add_others(clause: &mut Vec<TermLit>, literals: &[TermLit], left_out: TermLit) -> Result<(), Memory> {
+fn add_others(
+    clause: &mut Vec<TermLit>,
+    literals: &[TermLit],
+    left_out: TermLit,
+) -> Result<(), Memory> {
     for literal in literals {
         if *literal != left_out && !has(clause, *literal) {
             clause.push(*literal)?;
@@ -104,7 +108,12 @@ fn add_others(clause: &mut Vec<TermLit>, literals: &[TermLit], left_out: TermLit
 }
 
 /// The clause of this number of a term in the gate table.
-fn gate(alloc: Global, terms: &Terms, term: TermId, j: usize) -> Result<Option<Vec<TermLit>>, Memory> {
+fn gate(
+    alloc: Global,
+    terms: &Terms,
+    term: TermId,
+    j: usize,
+) -> Result<Option<Vec<TermLit>>, Memory> {
     if term >= terms.len() {
         return Ok(None);
     }

@@ -13,7 +13,9 @@ ghost use Rattle.nz_sat.specs.Numbers.{AreNotedIn};
 ghost use Rattle.nz_sat.specs.Sats.{AreConsistent};
 
 use nz_base::{Memory, Text, Work};
-use nz_log::{Atom, AtomId, ClauseId, Lit, Literal, Log, NoNumbers, Note, Stop, TermLit, gate_count};
+use nz_log::{
+    Atom, AtomId, ClauseId, Lit, Literal, Log, NoNumbers, Note, Stop, TermLit, gate_count,
+};
 use nz_sat::Sat;
 use nz_term::{Constant, Head, Operator, Sort, TermId, Terms, operators_are_no_leaves};
 use nz_term_samples::are_below;
@@ -179,9 +181,7 @@ impl Held {
     {
         let literals = self.log.lits_of(assumed)?;
         note_question(&self.log, &self.atoms, &literals, work)?;
-        let refuted = self
-            .sat
-            .solve(&mut self.log, &self.atoms, &literals, work)?;
+        let refuted = self.sat.solve(&mut self.log, &self.atoms, &literals, work)?;
         Ok(on_terms(*self.atoms.allocator(), &self.log, refuted)?)
     }
 }

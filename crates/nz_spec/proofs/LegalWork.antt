@@ -73,7 +73,6 @@ zero_no_suc e = absurd (omega (arith, e))
 suc_injective : {m n : ℕ} → suc m ≡ suc n → m ≡ n
 suc_injective e = omega (arith, e)
 
-
 abbrev numbers_of : List (ℕ × Bool) → List ℕ
 numbers_of ps = map (λ (p : ℕ × Bool). p.0) ps
 

@@ -34,7 +34,7 @@ module _ (truths : Term → Option Bool) (v : Valuation) where
     pub links : (u : Term) → Contains parts u → AllByRecursion (λ (c : Computation Clause). HasMetLiteral c.result) (link_clauses number u)
     pub units : (u : Term) → Contains parts u → AllByRecursion (λ (c : Computation Clause). HasMetLiteral c.result) (unit_clauses number u)
     pub known : (u : Term) → Contains parts u → is_boolean_term u ≡ true → (sign : Bool) × (truths u ≡ Some sign)
-    pub truths : (c : Constant) (sign : Bool) → Contains parts (apply (constant c) no_terms) → truths (apply (constant c) no_terms) ≡ Some sign → a c ≡ truth sign
+    pub constants : (c : Constant) (sign : Bool) → Contains parts (apply (constant c) no_terms) → truths (apply (constant c) no_terms) ≡ Some sign → a c ≡ truth sign
     pub numbers : (c : Constant) → Contains parts (apply (constant c) no_terms) → is_boolean_term (apply (constant c) no_terms) ≡ false
         → unit_value a (apply (constant c) no_terms) =ℚ v (apply (constant c) no_terms)
 

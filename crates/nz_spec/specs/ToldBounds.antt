@@ -1,6 +1,6 @@
 -- What values within bounds are worth to the literals that say the bounds, where a fraction stands for δ.
 -- Source: Dutertre and de Moura, A Fast Linear-Arithmetic Solver for DPLL(T), CAV 2006, section 5 (strict bounds).
-use Rattle.std.specs.Prelude.{◌≡◌, ℕ, ◌<◌, List, Option, Some, pos, IsSome, Contains, length}
+use Rattle.std.specs.Prelude.{◌≡◌, ℕ, ◌<◌, Bool, List, Option, Some, pos, IsSome, Contains, length}
 use Rattle.nz_fractions.specs.Fraction.{Fraction, whole, ◌≤ℚ◌, ◌<ℚ◌}
 use Rattle.nz_spec.specs.Infinitesimal.{Infinitesimal, at}
 use Rattle.nz_spec.specs.Term.{Term}

@@ -16,7 +16,8 @@ loop-atom-preserved c =
     let t = c.in-Term.term in
     let lines : c.note.new.self.lines ≡ old ++ NoteLine (Atom t) ∷ [] = ap (λ (w : WorkList Note). w.lines) c.in_ok-note-in-Term.ensures.ok in
     let so_far = c.loop-atom.invariant in
-    let one = noted_one c.args.log.now.atoms old (take i atoms) _ t (c.atom.ensures.atom ∙ ap Some c.in-Term.is) so_far.0 in
-    (subst (λ ls. AreNotedIn c.args.log.now.atoms ls (take (i + 1) atoms)) (sym lines)
-    (subst (AreNotedIn c.args.log.now.atoms (old ++ NoteLine (Atom t) ∷ [])) (sym (take_more atoms i _ c.loop-atom-test.true)) one),
-    ap unit_count lines ∙ units_push old t ∙ so_far.1)
+    let one = noted_one c.args.log.now.atoms old (take i atoms) _ t (c.atom.ensures.atom ∙ ap Some c.in-Term.is) so_far.0 in (
+      subst (λ ls. AreNotedIn c.args.log.now.atoms ls (take (i + 1) atoms)) (sym lines)
+          (subst (AreNotedIn c.args.log.now.atoms (old ++ NoteLine (Atom t) ∷ [])) (sym (take_more atoms i _ c.loop-atom-test.true)) one),
+      ap unit_count lines ∙ units_push old t ∙ so_far.1,
+    )
