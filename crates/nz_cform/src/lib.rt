@@ -3,8 +3,8 @@
 #![tactic(auto)]
 
 mod form;
-mod listing;
 pub mod laws;
+mod listing;
 mod rows;
 mod stop;
 

@@ -20,8 +20,8 @@ ghost use Rattle.nz_engine.specs.Preparing.{CoversAlso, CutsTo, IsAssumable, IsP
 
 use crate::levels::Levels;
 use nz_base::{Memory, Work};
-use nz_cform::{ClauseForm, FormStop};
 use nz_cform::laws::covers_stay;
+use nz_cform::{ClauseForm, FormStop};
 use nz_log::laws::{atoms_of_terms, gates_are_named, logs_stay, logs_stay_leveled};
 use nz_log::{Atom, AtomId, ClauseId, Lit, Log, Note, Place, Site, Step, Stop, TermLit};
 use nz_reals::Reals;
@@ -165,16 +165,12 @@ impl Prepared {
     /// # Errors
     ///
     /// `Memory`.
-<<<<<<< HEAD
-    pub fn assume(&mut self, terms: &Terms, levels: &Levels, assumed: &[TermLit]) -> Result<(), Stop>
-=======
     pub fn assume(
         &mut self,
         terms: &Terms,
         levels: &Levels,
         assumed: &[TermLit],
-    ) -> Result<(), Memory>
->>>>>>> sat
+    ) -> Result<(), Stop>
         requires within { All (λ t. t < length terms.now) (terms_named assumed.now) }
         requires gated { AreGatedAt terms.now (terms_named assumed.now) }
         requires stands { IsPrepared terms.now levels.now levels.now self.old }

@@ -1,11 +1,11 @@
 //! Which form of a simplex an atom bounds. A sum and the sum with the other signs are one form: that which came first.
+use indexmap::IndexMap;
 use nz_base::Memory;
 use nz_delta::Delta;
 use nz_frac::Frac;
 use nz_lin::Bound;
 use nz_log::Atom;
 use nz_trail::{Side, Var};
-use indexmap::IndexMap;
 use std::alloc::Global;
 
 /// A form that an atom bounds: the atom says that it is at most a limit, or where it is bounded from below, at least the limit's negative.

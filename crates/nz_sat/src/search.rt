@@ -239,14 +239,7 @@ impl Search {
         if falsified.is_some() {
             return Ok(falsified);
         }
-        consult(
-            log,
-            &self.atoms,
-            &self.trail,
-            &mut self.told,
-            theory,
-            work,
-        )
+        consult(log, &self.atoms, &self.trail, &mut self.told, theory, work)
     }
 
     /// Notes a learned clause.

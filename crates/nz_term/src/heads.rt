@@ -142,11 +142,8 @@ impl Operator {
     {
         match self {
             Operator::Ite(sort) => sort == Sort::Int,
-            Operator::Div
-            | Operator::Mod
-            | Operator::Abs
-            | Operator::ToInt
-            | Operator::IsInt => true,
+            Operator::Div | Operator::Mod | Operator::Abs | Operator::ToInt | Operator::IsInt =>
+                true,
             _ => false,
         }
     }
