@@ -65,6 +65,7 @@ pub mod SortedTerms
 pub mod SumUnits
 pub mod Tables
 pub mod Tellings
+pub mod ToldBounds
 pub mod Transcripts
 pub mod UnitTruths
 pub mod WorkedBases
