@@ -48,6 +48,7 @@ pub mod LinkTruths
 pub mod Literals
 pub mod Normal
 pub mod NormalGates
+pub mod NormalHeads
 pub mod NormalSorts
 pub mod Pieces
 pub mod PivotRuns
@@ -64,6 +65,7 @@ pub mod SortedStates
 pub mod SortedTerms
 pub mod SumUnits
 pub mod Tables
+pub mod TakenTerms
 pub mod Tellings
 pub mod ToldBounds
 pub mod Transcripts
