@@ -1,13 +1,13 @@
 -- The heads of normal terms of well sorted ones: where a term holds no unit of sort Int, all are taken.
 use Rattle.std.proofs.Common.{◌≡◌, suc, true, false, ◌==◌, [], refl, sym, ap, subst, ◌∙◌, true≢false, arith, eqb-true}
 use Rattle.std.specs.Prelude.{⊤, nat_lt}
+use Rattle.std.proofs.lemmas.Bool.{or_parts}
 use Rattle.std.proofs.lemmas.Option.{none-some}
 use Rattle.nz_spec.specs.Term.{Sort, bool_sort, int_sort, real_sort, is_int_sort, Constant, Head, constant, parameter, integer, decimal_number, verum, falsum, negation, conjunction, disjunction, exclusion, equality, choice, less, at_most, sum, product, quotient, integer_quotient, to_real, Term, apply, Terms, no_terms, terms, is_integral, holds_integer, hold_integer}
 use Rattle.nz_spec.specs.Normal.{negated, paired, turned, implication_of, grouped_onto, grouped_by, neighbours_of, disequations_onto, disequations_of, joined_by, chained_by, normal_node, normal_of, normals_of}
 use Rattle.nz_spec.specs.Elaboration.{Operator, true_operator, false_operator, not_operator, and_operator, or_operator, implies_operator, xor_operator, equals_operator, distinct_operator, ite_operator, at_most_operator, less_operator, at_least_operator, greater_operator, plus_operator, times_operator, minus_operator, over_operator, div_operator, mod_operator, abs_operator, to_real_operator, to_int_operator, is_int_operator, term_count, takes, numbers_at, operator_head}
 use Rattle.nz_spec.specs.WellSorted.{IsApplied, IsSortedHead, IsWellSorted, AreWellSorted}
 use Rattle.nz_spec.specs.Taken.{IsTakenHead, HasTakenHeads, HaveTakenHeads}
-use Rattle.nz_spec.proofs.GateTruths.{or_neither}
 
 -- taken, where it holds no unit of sort Int
 abbrev pub HasHeads : Term → Type 0
@@ -20,15 +20,15 @@ HaveHeads (terms t ts) = HasHeads t × HaveHeads ts
 all_taken : (ts : Terms) → HaveHeads ts → hold_integer ts ≡ false → HaveTakenHeads ts
 all_taken no_terms h e = tt
 all_taken (terms t ts) h e =
-    let parts = or_neither (holds_integer t) (hold_integer ts) e in (h.0 parts.0, all_taken ts h.1 parts.1)
+    let parts = or_parts (holds_integer t) (hold_integer ts) e in (h.0 parts.0, all_taken ts h.1 parts.1)
 
 -- a head that is taken over such terms
 node : (h : Head) (ts : Terms) → IsTakenHead h ts → HaveHeads ts → HasHeads (apply h ts)
-node h ts r k e = (r, all_taken ts k (or_neither (is_integral h) (hold_integer ts) e).1)
+node h ts r k e = (r, all_taken ts k (or_parts (is_integral h) (hold_integer ts) e).1)
 
 -- a head that makes a unit of sort Int, or asks for one
 integral : (h : Head) (ts : Terms) → is_integral h ≡ true → HasHeads (apply h ts)
-integral h ts i e = absurd (true≢false (sym i ∙ (or_neither (is_integral h) (hold_integer ts) e).0))
+integral h ts i e = absurd (true≢false (sym i ∙ (or_parts (is_integral h) (hold_integer ts) e).0))
 
 -- ---- Operators that are written out
 
@@ -97,7 +97,8 @@ over_one h taken no_terms n k = absurd (true≢false (sym n))
 over_one h taken (terms t no_terms) n k = node h (terms t no_terms) (taken t) k
 over_one h taken (terms t (terms u ts)) n k = absurd (omega (arith, eqb-true (term_count (terms t (terms u ts))) 1 n))
 
-over_three : (h : Head) → ((t u v : Term) → IsTakenHead h (terms t (terms u (terms v no_terms)))) → (ts : Terms) → (term_count ts == 3) ≡ true → HaveHeads ts → HasHeads (apply h ts)
+over_three : (h : Head) → ((t u v : Term) → IsTakenHead h (terms t (terms u (terms v no_terms)))) → (ts : Terms) → (term_count ts == 3) ≡ true → HaveHeads ts
+    → HasHeads (apply h ts)
 over_three h taken no_terms n k = absurd (true≢false (sym n))
 over_three h taken (terms t no_terms) n k = absurd (true≢false (sym n))
 over_three h taken (terms t (terms u no_terms)) n k = absurd (true≢false (sym n))
@@ -151,7 +152,7 @@ leaf_heads : (h : Head) → HasHeads (apply h no_terms) → (ts : Terms) → ts 
 leaf_heads h taken ts e = subst (λ (us : Terms). HasHeads (apply h us)) (sym (ap normals_of e)) taken
 
 constant_heads : (c : Constant) → HasHeads (apply (constant c) no_terms)
-constant_heads c e = ((or_neither (is_int_sort c.sort) false e).0, tt)
+constant_heads c e = ((or_parts (is_int_sort c.sort) false e).0, tt)
 
 head_heads : (h : Head) (ts : Terms) → IsSortedHead [] h ts → HaveHeads (normals_of ts) → HasHeads (normal_node h (normals_of ts))
 head_heads (constant c) ts i k = leaf_heads (constant c) (constant_heads c) ts i

@@ -71,7 +71,8 @@ equation s (terms t (terms u (terms v ts))) e w = inl refl
 
 branches_in_order : (s : Sort) (ts : Terms) → AreOperands branches s ts → AreWellSorted [] ts → IsInOrder (apply (choice s) ts)
 branches_in_order s no_terms e w = absurd e
-branches_in_order bool_sort (terms c ts) e w = inr (each_has bool_sort (terms c ts) (and_from (has_sort bool_sort c) (all_terms (has_sort bool_sort) ts) e.0 e.1) w)
+branches_in_order bool_sort (terms c ts) e w =
+    inr (each_has bool_sort (terms c ts) (and_from (has_sort bool_sort c) (all_terms (has_sort bool_sort) ts) e.0 e.1) w)
 branches_in_order s (terms c ts) e w = inl refl
 
 by_operator : (o : Operator) (s : Sort) (ts : Terms) → AreOperands (operands_of o) s ts → AreWellSorted [] ts → IsInOrder (apply (operator_head o s) ts)

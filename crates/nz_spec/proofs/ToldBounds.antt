@@ -50,19 +50,25 @@ record IsBounded (from : ℕ) (fs : List (List Part)) (ps : List Part) (k : ℕ)
   listed : place < length fs
   form : IsBoundedAs side (form_at fs place) ps
 
-bounded-form : (from : ℕ) (fs : List (List Part)) (ps : List Part) (k : ℕ) (side : Side) → bounded_from from fs ps ≡ Some (k, side) → IsBounded from fs ps k side
+-- it is this form, on this side
+abbrev IsFound : ℕ → Side → Option (ℕ × Side) → Type 0
+IsFound k side o = o ≡ Some (k, side)
+
+bounded-form : (from : ℕ) (fs : List (List Part)) (ps : List Part) (k : ℕ) (side : Side) → bounded_from from fs ps ≡ Some (k, side)
+    → IsBounded from fs ps k side
 bounded-form from [] ps k side e = absurd (cc)
-bounded-form from (f ∷ fs) ps k side e = by_tests (are_same_parts f ps) (are_same_parts f (map negated_part ps)) refl refl e (bounded-form (suc from) fs ps k side)
+bounded-form from (f ∷ fs) ps k side e =
+    by_tests (are_same_parts f ps) (are_same_parts f (map negated_part ps)) refl refl e (bounded-form (suc from) fs ps k side)
   where
-    here : (s : Side) → ◌≡◌ {A = Option (ℕ × Side)} (Some (from, s)) (Some (k, side)) → IsBoundedAs s f ps → IsBounded from (f ∷ fs) ps k side
+    here : (s : Side) → IsFound k side (Some (from, s)) → IsBoundedAs s f ps → IsBounded from (f ∷ fs) ps k side
     here s g same =
         let numbered : from ≡ k = ap (λ (o : Option (ℕ × Side)). (unwrap_or o (from, s)).0) g in
         let sided : s ≡ side = ap (λ (o : Option (ℕ × Side)). (unwrap_or o (from, s)).1) g in
         record { place = zero; number = omega (arith, numbered); listed = omega arith; form = subst (λ (t : Side). IsBoundedAs t f ps) sided same }
 
     by_tests : (a b : Bool) → are_same_parts f ps ≡ a → are_same_parts f (map negated_part ps) ≡ b
-        → ◌≡◌ {A = Option (ℕ × Side)} (if a then Some (from, upper_side) else if b then Some (from, lower_side) else bounded_from (suc from) fs ps) (Some (k, side))
-        → (bounded_from (suc from) fs ps ≡ Some (k, side) → IsBounded (suc from) fs ps k side) → IsBounded from (f ∷ fs) ps k side
+        → IsFound k side (if a then Some (from, upper_side) else if b then Some (from, lower_side) else bounded_from (suc from) fs ps)
+        → (IsFound k side (bounded_from (suc from) fs ps) → IsBounded (suc from) fs ps k side) → IsBounded from (f ∷ fs) ps k side
     by_tests true b g h i later = here upper_side i (same_parts f ps g)
     by_tests false true g h i later = here lower_side i (same_parts f (map negated_part ps) h)
     by_tests false false g h i later =
@@ -73,7 +79,8 @@ negated-numbered : (fs : List (List Part)) (number : Term → ℕ) (ps : List Pa
 negated-numbered fs number [] h = tt
 negated-numbered fs number (p ∷ ps) h = (h.0, negated-numbered fs number ps h.1)
 
-form-numbered : (fs : List (List Part)) (number : Term → ℕ) (side : Side) (f ps : List Part) → IsBoundedAs side f ps → AreNumbered fs number ps → AreNumbered fs number f
+form-numbered : (fs : List (List Part)) (number : Term → ℕ) (side : Side) (f ps : List Part) → IsBoundedAs side f ps → AreNumbered fs number ps
+    → AreNumbered fs number f
 form-numbered fs number upper_side f ps e h = subst (AreNumbered fs number) (sym e) h
 form-numbered fs number lower_side f ps e h = subst (AreNumbered fs number) (sym e) (negated-numbered fs number ps h)
 
@@ -107,14 +114,21 @@ plain-said lower_side false b = ≤ℚ_refl (whole (pos 0))
 plain-said upper_side true b = record { cross = omega (arith, ints) }
 plain-said upper_side false b = ≤ℚ_refl (whole (pos 0))
 
-plain-sum : (fs : List (List Part)) (ps : List Part) (strict : Bool) (b : Fraction) → IfSome (sum_bound fs ps strict b) (λ c. IsPlain c.side c.bound)
+abbrev IsPlainBound : FormBound → Type 0
+IsPlainBound c = IsPlain c.side c.bound
+
+-- the bound on a form where the sum is bounded
+abbrev bound_by : Bool → Fraction → ℕ × Side → FormBound
+bound_by strict b k = record { form = k.0; side = k.1; bound = bound_on_side k.1 strict b }
+
+plain-sum : (fs : List (List Part)) (ps : List Part) (strict : Bool) (b : Fraction) → IfSome (sum_bound fs ps strict b) IsPlainBound
 plain-sum fs ps strict b = by_found (bounded_from 0 fs ps)
   where
-    by_found : (o : Option (ℕ × Side)) → IfSome (option_map (λ (k : ℕ × Side). let x : FormBound = record { form = k.0; side = k.1; bound = bound_on_side k.1 strict b } in x) o) (λ c. IsPlain c.side c.bound)
+    by_found : (o : Option (ℕ × Side)) → IfSome (option_map (bound_by strict b) o) IsPlainBound
     by_found None = tt
     by_found (Some k) = plain-said k.1 strict b
 
-all_plain : (fs : List (List Part)) (l : Literal) → IfSome (bound_said fs l) (λ c. IsPlain c.side c.bound)
+all_plain : (fs : List (List Part)) (l : Literal) → IfSome (bound_said fs l) IsPlainBound
 all_plain fs (term_literal t sign) = tt
 all_plain fs (is_at_most ps b) = plain-sum fs ps false b
 all_plain fs (is_below ps b) = plain-sum fs ps true b
@@ -175,36 +189,42 @@ module _ (side : Side) where
           | None ↦ found
         ]
 
-    after-tight : (b : Infinitesimal) (found : Option Infinitesimal) (o : Option FormBound) → IfSome o (λ c. IsPlain c.side c.bound) → IsTight side b found → IsTight side b (after found o)
-    after-tight b found None p h = h
-    after-tight b found (Some c) p h = by_test ((c.form == k) && are_same_side c.side side) refl
+    -- it is the one that was found, or the tighter one
+    after-is : (P : Option Infinitesimal → Type 0) (found : Option Infinitesimal) (o : Option FormBound) → IfSome o IsPlainBound → P found
+        → ((c : Infinitesimal) → IsPlain side c → P (Some (tighter_of side c found))) → P (after found o)
+    after-is P found None p h more = h
+    after-is P found (Some c) p h more = by_test ((c.form == k) && are_same_side c.side side) refl
       where
-        by_test : (a : Bool) → ((c.form == k) && are_same_side c.side side) ≡ a → IsTight side b (if a then Some (tighter_of side c.bound found) else found)
+        by_test : (a : Bool) → ((c.form == k) && are_same_side c.side side) ≡ a → P (if a then Some (tighter_of side c.bound found) else found)
         by_test true e =
-            let own = subst (λ (s : Side). IsPlain s c.bound) (same_side c.side side ((and_parts (c.form == k) (are_same_side c.side side) e).1)) p in
-            subst (λ (o : Option Infinitesimal). IsTight side b (Some (tighter_of side c.bound o))) (sym h.is) (second-tight b c.bound h.bound own h.plain h.within)
+            let same = same_side c.side side ((and_parts (c.form == k) (are_same_side c.side side) e).1) in
+            more c.bound (subst (λ (s : Side). IsPlain s c.bound) same p)
         by_test false e = h
 
-    after-plain : (found : Option Infinitesimal) (o : Option FormBound) → IfSome o (λ c. IsPlain c.side c.bound) → IfSome found (IsPlain side) → IfSome (after found o) (IsPlain side)
-    after-plain found None p h = h
-    after-plain found (Some c) p h = by_test ((c.form == k) && are_same_side c.side side) refl
-      where
-        by_test : (a : Bool) → ((c.form == k) && are_same_side c.side side) ≡ a → IfSome (if a then Some (tighter_of side c.bound found) else found) (IsPlain side)
-        by_test true e =
-            let own = subst (λ (s : Side). IsPlain s c.bound) (same_side c.side side ((and_parts (c.form == k) (are_same_side c.side side) e).1)) p in
-            tight-plain c.bound (Some (tighter_of side c.bound found)) (first-tight c.bound found own h)
-        by_test false e = h
+    after-tight : (b : Infinitesimal) (found : Option Infinitesimal) (o : Option FormBound) → IfSome o IsPlainBound → IsTight side b found
+        → IsTight side b (after found o)
+    after-tight b found o p h =
+        after-is (IsTight side b) found o p h
+        (λ c q. subst (λ (r : Option Infinitesimal). IsTight side b (Some (tighter_of side c r))) (sym h.is) (second-tight b c h.bound q h.plain h.within))
+
+    after-plain : (found : Option Infinitesimal) (o : Option FormBound) → IfSome o IsPlainBound → IfSome found (IsPlain side)
+        → IfSome (after found o) (IsPlain side)
+    after-plain found o p h =
+        after-is (λ r. IfSome r (IsPlain side)) found o p h (λ c q. tight-plain c (Some (tighter_of side c found)) (first-tight c found q h))
 
     module _ (fs : List (List Part)) where
-      stays-tight : (b : Infinitesimal) (found : Option Infinitesimal) (ls : List Literal) → IsTight side b found → IsTight side b (fold (with_bound_said fs side k) found ls)
+      stays-tight : (b : Infinitesimal) (found : Option Infinitesimal) (ls : List Literal) → IsTight side b found
+          → IsTight side b (fold (with_bound_said fs side k) found ls)
       stays-tight b found [] h = h
       stays-tight b found (l ∷ ls) h =
           stays-tight b (with_bound_said fs side k found l) ls (after-tight b found (bound_said fs l) (all_plain fs l) h)
 
 -- what a literal says stands, or a tighter bound
 module _ (fs : List (List Part)) (c : FormBound) where
-  said-tight : (found : Option Infinitesimal) → IsPlain c.side c.bound → IfSome found (IsPlain c.side) → IsTight c.side c.bound (after c.side c.form found (Some c))
-  said-tight found p h = by_test ((c.form == c.form) && are_same_side c.side c.side) (and_from (c.form == c.form) (are_same_side c.side c.side) (equal-number c.form c.form refl) (side_itself c.side))
+  said-tight : (found : Option Infinitesimal) → IsPlainBound c → IfSome found (IsPlain c.side) → IsTight c.side c.bound (after c.side c.form found (Some c))
+  said-tight found p h =
+      by_test ((c.form == c.form) && are_same_side c.side c.side)
+      (and_from (c.form == c.form) (are_same_side c.side c.side) (equal-number c.form c.form refl) (side_itself c.side))
     where
       by_test : (a : Bool) → a ≡ true → IsTight c.side c.bound (if a then Some (tighter_of c.side c.bound found) else found)
       by_test true e = first-tight c.side c.bound found p h
@@ -217,7 +237,7 @@ module _ (fs : List (List Part)) (c : FormBound) where
       let is : bound_said fs m ≡ Some c = ap (bound_said fs) f ∙ e in
       stays-tight c.side c.form fs c.bound (with_bound_said fs c.side c.form found m) ls
       (subst (λ (o : Option FormBound). IsTight c.side c.bound (after c.side c.form found o)) (sym is)
-      (said-tight found (subst (λ (o : Option FormBound). IfSome o (λ d. IsPlain d.side d.bound)) is (all_plain fs m)) p))
+      (said-tight found (subst (λ (o : Option FormBound). IfSome o IsPlainBound) is (all_plain fs m)) p))
   all_said found (m ∷ ls) l e p (suc k, h, f) =
       all_said (with_bound_said fs c.side c.form found m) ls l e (after-plain c.side c.form found (bound_said fs m) (all_plain fs m) p) (k, omega (arith, h), f)
 
@@ -259,21 +279,21 @@ module _ (e : Fraction) (above : whole (pos 0) <ℚ e) where
   less_nothing : (p : Fraction) → (p +ℚ whole (pos 0) *ℚ e) =ℚ p
   less_nothing p = plus_right p (zero_times e) ∙ℚ +ℚ-zero p
 
+  moved-at : (s p q : Fraction) → p ≤ℚ q → (s +ℚ p *ℚ e) ≤ℚ (s +ℚ q *ℚ e)
+  moved-at s p q h = moved_right s (p *ℚ e) (q *ℚ e) (scaled p q e above h)
+
   -- with no δ, or one towards the inside, a bound is not past its standard part
   below-standard : (t : Infinitesimal) → t.coefficient ≤ℚ whole (pos 0) → at t e ≤ℚ t.standard
   unfolding at
-  below-standard t h =
-      ≤ℚ_trans (moved_right t.standard (t.coefficient *ℚ e) (whole (pos 0) *ℚ e) (scaled t.coefficient (whole (pos 0)) e above h)) (≤ℚ-from_eq (less_nothing t.standard))
+  below-standard t h = ≤ℚ_trans (moved-at t.standard t.coefficient (whole (pos 0)) h) (≤ℚ-from_eq (less_nothing t.standard))
 
   above-standard : (t : Infinitesimal) → whole (pos 0) ≤ℚ t.coefficient → t.standard ≤ℚ at t e
   unfolding at
-  above-standard t h =
-      ≤ℚ_trans (≤ℚ-from_eq (=ℚ_sym (less_nothing t.standard))) (moved_right t.standard (whole (pos 0) *ℚ e) (t.coefficient *ℚ e) (scaled (whole (pos 0)) t.coefficient e above h))
+  above-standard t h = ≤ℚ_trans (≤ℚ-from_eq (=ℚ_sym (less_nothing t.standard))) (moved-at t.standard (whole (pos 0)) t.coefficient h)
 
   level-at : (x y : Infinitesimal) → x.standard =ℚ y.standard → x.coefficient ≤ℚ y.coefficient → at x e ≤ℚ at y e
   unfolding at
-  level-at x y h k =
-      ≤ℚ_trans (≤ℚ-from_eq (plus_left (x.coefficient *ℚ e) h)) (moved_right y.standard (x.coefficient *ℚ e) (y.coefficient *ℚ e) (scaled x.coefficient y.coefficient e above k))
+  level-at x y h k = ≤ℚ_trans (≤ℚ-from_eq (plus_left (x.coefficient *ℚ e) h)) (moved-at y.standard x.coefficient y.coefficient k)
 
   -- a strict bound keeps off its limit
   upper-limit : (strict : Bool) (b : Fraction) → Within strict (at (at_most_bound strict b) e) b
@@ -293,24 +313,27 @@ module _ (e : Fraction) (above : whole (pos 0) <ℚ e) where
   lower-limit false b = ≤ℚ-from_eq (=ℚ_sym (less_nothing b))
 
   -- a value within a bound that is as tight as the literal's meets the literal
-  upper-met : (strict : Bool) (b : Fraction) (t : Infinitesimal) (v : Fraction) → IsPlain upper_side t → AtMost t (at_most_bound strict b) → v ≤ℚ at t e → Within strict v b
+  upper-met : (strict : Bool) (b : Fraction) (t : Infinitesimal) (v : Fraction) → IsPlain upper_side t → AtMost t (at_most_bound strict b) → v ≤ℚ at t e
+      → Within strict v b
   upper-met strict b t v p h k = by_parts (at_most_parts t (at_most_bound strict b) h)
     where
       by_parts : (t.standard <ℚ b) ⊎ ((t.standard =ℚ b) × (t.coefficient ≤ℚ (at_most_bound strict b).coefficient)) → Within strict v b
       by_parts (inl l) = within-under strict b (≤ℚ_trans k (below-standard t p)) (below-within strict l)
       by_parts (inr l) = within-under strict b (≤ℚ_trans k (level-at t (at_most_bound strict b) l.0 l.1)) (upper-limit strict b)
 
-  lower-met : (strict : Bool) (b : Fraction) (t : Infinitesimal) (v : Fraction) → IsPlain lower_side t → AtMost (at_least_bound strict b) t → at t e ≤ℚ v → Within strict b v
+  lower-met : (strict : Bool) (b : Fraction) (t : Infinitesimal) (v : Fraction) → IsPlain lower_side t → AtMost (at_least_bound strict b) t → at t e ≤ℚ v
+      → Within strict b v
   lower-met strict b t v p h k = by_parts (at_most_parts (at_least_bound strict b) t h)
     where
       by_parts : (b <ℚ t.standard) ⊎ ((b =ℚ t.standard) × ((at_least_bound strict b).coefficient ≤ℚ t.coefficient)) → Within strict b v
       by_parts (inl l) = within-over strict b (below-within strict l) (≤ℚ_trans (above-standard t p) k)
       by_parts (inr l) = within-over strict b (lower-limit strict b) (≤ℚ_trans (level-at (at_least_bound strict b) t l.0 l.1) k)
 
-  sum-met : (side : Side) (strict : Bool) (b w : Fraction) (t x : Infinitesimal) → at x e =ℚ signed side w → IsPlain side t → IsPast (other_side side) (bound_on_side side strict b) t
-      → IsWithinAt e side t x → Within strict w b
+  sum-met : (side : Side) (strict : Bool) (b w : Fraction) (t x : Infinitesimal) → at x e =ℚ signed side w → IsPlain side t
+      → IsPast (other_side side) (bound_on_side side strict b) t → IsWithinAt e side t x → Within strict w b
   sum-met upper_side strict b w t x is p h k = within-under strict b (≤ℚ-from_eq (=ℚ_sym is)) (upper-met strict b t (at x e) p h k)
-  sum-met lower_side strict b w t x is p h k = within-turned strict w b (within-over strict (neg_ℚ b) (lower-met strict (neg_ℚ b) t (at x e) p h k) (≤ℚ-from_eq is))
+  sum-met lower_side strict b w t x is p h k =
+      within-turned strict w b (within-over strict (neg_ℚ b) (lower-met strict (neg_ℚ b) t (at x e) p h k) (≤ℚ-from_eq is))
 
 -- ---- All literals
 
@@ -322,8 +345,8 @@ bound-is : (fs : List (List Part)) (x : Point) (ls : List Literal) (side : Side)
 bound-is fs x ls lower_side k = refl
 bound-is fs x ls upper_side k = refl
 
-module _ (fs : List (List Part)) (x : Point) (ls : List Literal) (y : ℕ → Infinitesimal) (e : Fraction) (number : Term → ℕ) (basis : HasBasis (position_under fs x ls)) (fit : AreWithinAt (position_under fs x ls) y e)
-    (above : whole (pos 0) <ℚ e) where
+module _ (fs : List (List Part)) (x : Point) (ls : List Literal) (y : ℕ → Infinitesimal) (e : Fraction) (number : Term → ℕ)
+    (basis : HasBasis (position_under fs x ls)) (fit : AreWithinAt (position_under fs x ls) y e) (above : whole (pos 0) <ℚ e) where
   abbrev numbers_worth : Valuation
   numbers_worth u = at (y (number u)) e
 
@@ -331,25 +354,32 @@ module _ (fs : List (List Part)) (x : Point) (ls : List Literal) (y : ℕ → In
   form-value k h named =
       solutions_are_worth fs (is_nonbasic x) number (λ i. at (y i) e) k basis (positions_have_values.fit (position_under fs x ls) y e basis fit.values) h named
 
-  bound-met : (ps : List Part) (strict : Bool) (b : Fraction) (l : Literal) (o : Option (ℕ × Side)) → bounded_from 0 fs ps ≡ o → bound_said fs l ≡ sum_bound fs ps strict b → is_some o ≡ true
-      → Contains ls l → AreNumbered fs number ps → Within strict (worth numbers_worth ps) b
+  bound-met : (ps : List Part) (strict : Bool) (b : Fraction) (l : Literal) (o : Option (ℕ × Side)) → bounded_from 0 fs ps ≡ o
+      → bound_said fs l ≡ sum_bound fs ps strict b → is_some o ≡ true → Contains ls l → AreNumbered fs number ps → Within strict (worth numbers_worth ps) b
   bound-met ps strict b l None f g some has named = absurd (true≢false (sym some))
   bound-met ps strict b l (Some (k, side)) f g some has named =
       let r = bounded-form 0 fs ps k side f in
       let same : r.place ≡ k = omega (arith, r.number) in
       let listed : k < length fs = omega (arith, r.number, r.listed) in
       let form : IsBoundedAs side (form_at fs k) ps = subst (λ (i : ℕ). IsBoundedAs side (form_at fs i) ps) same r.form in
-      let c : FormBound = record { form = k; side = side; bound = bound_on_side side strict b } in
-      let said : bound_said fs l ≡ Some c = g ∙ ap (λ (o : Option (ℕ × Side)). option_map (λ (j : ℕ × Side). let d : FormBound = record { form = j.0; side = j.1; bound = bound_on_side j.1 strict b } in d) o) f in
+      let c : FormBound = bound_by strict b (k, side) in
+      let said : bound_said fs l ≡ Some c = g ∙ ap (option_map (bound_by strict b)) f in
       let t = all_said fs c None ls l said tt has in
       sum-met e above side strict b (worth numbers_worth ps) t.bound (y k)
       (=ℚ_sym (form-value k listed (form-numbered fs number side (form_at fs k) ps form named)) ∙ℚ form-worth numbers_worth side (form_at fs k) ps form)
       t.plain t.within (fit.within side k t.bound listed (bound-is fs x ls side k ∙ t.is))
 
-  all-met : (truths : Term → Option Bool) (l : Literal) → Contains ls l → IsSome (bound_said fs l) → AreNumbered fs number (bound_of l).parts → IsMet truths numbers_worth l
-  all-met truths (term_literal t sign) has some named = absurd (true≢false (sym some))
-  all-met truths (is_at_most ps b) has some named = bound-met ps false b (is_at_most ps b) (bounded_from 0 fs ps) refl refl (sym (mapped-some _ (bounded_from 0 fs ps)) ∙ some) has named
-  all-met truths (is_below ps b) has some named = bound-met ps true b (is_below ps b) (bounded_from 0 fs ps) refl refl (sym (mapped-some _ (bounded_from 0 fs ps)) ∙ some) has named
+  sum-said : (ps : List Part) (strict : Bool) (b : Fraction) (l : Literal) → bound_said fs l ≡ sum_bound fs ps strict b → IsSome (bound_said fs l)
+      → Contains ls l → AreNumbered fs number ps → Within strict (worth numbers_worth ps) b
+  sum-said ps strict b l g some has named =
+      let o = bounded_from 0 fs ps in
+      bound-met ps strict b l o refl g (sym (mapped-some (bound_by strict b) o) ∙ sym (ap is_some g) ∙ some) has named
+
+  all-met : (truths : Term → Option Bool) (l : Literal) → IsSome (bound_said fs l) → Contains ls l → AreNumbered fs number (bound_of l).parts
+      → IsMet truths numbers_worth l
+  all-met truths (term_literal t sign) some has named = absurd (true≢false (sym some))
+  all-met truths (is_at_most ps b) some has named = sum-said ps false b (is_at_most ps b) refl some has named
+  all-met truths (is_below ps b) some has named = sum-said ps true b (is_below ps b) refl some has named
 
 pub told_bounds_are_met : ToldBoundsAreMet
-told_bounds_are_met truths fs x ls y e number l basis fit above has some named = all-met fs x ls y e number basis fit above truths l has some named
+told_bounds_are_met truths fs x ls y e number l basis fit above has some named = all-met fs x ls y e number basis fit above truths l some has named
