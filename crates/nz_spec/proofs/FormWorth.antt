@@ -114,7 +114,7 @@ worth-nothing (suc n) v (p ∷ ps) l h =
 
 -- ---- Differences
 
-worth-difference : (v : Valuation) (ps qs : List Part) → worth v (ps ++ map negated_part qs) =ℚ (worth v ps +ℚ neg_ℚ (worth v qs))
+pub worth-difference : (v : Valuation) (ps qs : List Part) → worth v (ps ++ map negated_part qs) =ℚ (worth v ps +ℚ neg_ℚ (worth v qs))
 worth-difference v [] [] = solve [] (Literal (pos 0)) (Literal (pos 0) ⊕ Minus (Literal (pos 0))) refl
 worth-difference v [] (q ∷ qs) =
     plus_right (neg_ℚ q.coefficient *ℚ v q.unit) (worth-difference v [] qs)

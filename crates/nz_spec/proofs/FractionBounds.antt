@@ -10,7 +10,7 @@ use Rattle.nz_spec.proofs.InfinitesimalLaws.{lt-carried, moved, moved_right, sca
 moved_lt : (p q r : Fraction) → p <ℚ q → (p +ℚ r) <ℚ (q +ℚ r)
 moved_lt p q r h = lt-carried p q (p +ℚ r) (q +ℚ r) (sym (cmp-+ℚ p q r)) h
 
-moved_right_lt : (r p q : Fraction) → p <ℚ q → (r +ℚ p) <ℚ (r +ℚ q)
+pub moved_right_lt : (r p q : Fraction) → p <ℚ q → (r +ℚ p) <ℚ (r +ℚ q)
 moved_right_lt r p q h =
     ≤ℚ-<ℚ_trans (≤ℚ-from_eq (+ℚ_comm r p)) (<ℚ-≤ℚ_trans (moved_lt p q r h) (≤ℚ-from_eq (+ℚ_comm q r)))
 

@@ -49,6 +49,7 @@ pub mod LinkTruths
 pub mod Literals
 pub mod Normal
 pub mod NormalGates
+pub mod NormalHeads
 pub mod NormalSorts
 pub mod OperandSorts
 pub mod Pieces
@@ -66,7 +67,9 @@ pub mod SortedStates
 pub mod SortedTerms
 pub mod SumUnits
 pub mod Tables
+pub mod TakenTerms
 pub mod Tellings
+pub mod ToldBounds
 pub mod Transcripts
 pub mod UnitTruths
 pub mod WorkedBases

@@ -29,10 +29,10 @@ crossed : (p q : Fraction) → (neg_ℚ p).numerator *ℤ pos (denominator (neg_
 unfolding neg_ℚ denominator
 crossed p q = solve (p.numerator ∷ pos (denominator q) ∷ []) (Minus (Atom 0) ⊗ Atom 1) (Minus (Atom 0 ⊗ Atom 1)) refl
 
-turned_le : (p q : Fraction) → p ≤ℚ q → neg_ℚ q ≤ℚ neg_ℚ p
+pub turned_le : (p q : Fraction) → p ≤ℚ q → neg_ℚ q ≤ℚ neg_ℚ p
 turned_le p q h = record { cross = omega (arith, ints, h.cross, crossed p q, crossed q p) }
 
-turned_lt : (p q : Fraction) → p <ℚ q → neg_ℚ q <ℚ neg_ℚ p
+pub turned_lt : (p q : Fraction) → p <ℚ q → neg_ℚ q <ℚ neg_ℚ p
 turned_lt p q h = record { cross = omega (arith, ints, h.cross, crossed p q, crossed q p) }
 
 pub at_most_turned : (x p b : Fraction) → x =ℚ neg_ℚ p → fraction_lt x (neg_ℚ b) ≡ not (fraction_le p b)

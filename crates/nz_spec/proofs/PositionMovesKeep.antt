@@ -78,7 +78,7 @@ form-ready s f ready own = record {
 
 -- ---- A bound
 
-outside-test : (side : Side) (bound x : Infinitesimal) → IsOutside side bound x → is_outside side bound x ≡ true
+pub outside-test : (side : Side) (bound x : Infinitesimal) → IsOutside side bound x → is_outside side bound x ≡ true
 outside-test lower_side bound x h = ap is_lt h
 outside-test upper_side bound x h = ap is_lt h
 
