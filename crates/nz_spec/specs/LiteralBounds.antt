@@ -1,14 +1,14 @@
 -- The forms of a simplex, and what literals say of them: a literal on a sum bounds the first form that is the sum, or the sum with the other signs.
 -- Source: Dutertre and de Moura, A Fast Linear-Arithmetic Solver for DPLL(T), CAV 2006, sections 3 to 5 (atoms are bounds; asserting bounds).
-use Rattle.std.specs.Prelude.{◌≡◌, ℕ, suc, ◌==◌, Bool, true, false, ◌&&◌, List, [], ◌∷◌, map, fold, Option, Some, None, option_map, if◌then◌else◌}
+use Rattle.std.specs.Prelude.{◌≡◌, ℕ, suc, ◌==◌, Bool, true, false, ◌&&◌, List, [], ◌∷◌, ◌++◌, map, take, fold, Option, Some, None, option_map, if◌then◌else◌}
 use Rattle.std.specs.List.{list_any}
 use Rattle.nz_fractions.specs.Fraction.{Fraction, neg_ℚ}
 use Rattle.nz_spec.specs.Infinitesimal.{Infinitesimal}
 use Rattle.nz_spec.specs.Term.{Term}
 use Rattle.nz_spec.specs.Form.{Part, unit_form, negated_part}
 use Rattle.nz_spec.specs.Literal.{Literal, term_literal, is_at_most, is_below, are_same_parts}
-use Rattle.nz_spec.specs.Bland.{Point, Position, Side, lower_side, upper_side, at_most_bound, at_least_bound}
-use Rattle.nz_spec.specs.PositionMoves.{with_unit, with_form, is_outside, moved_within}
+use Rattle.nz_spec.specs.Bland.{Point, Position, Side, lower_side, upper_side, bound_on, at_most_bound, at_least_bound, NonbasicFormsFit}
+use Rattle.nz_spec.specs.PositionMoves.{with_unit, with_form, is_outside, moved_within, with_bound, AreLooser}
 
 -- ---- Forms that join
 
@@ -97,3 +97,26 @@ moved_by fs l x =
       | Some b ↦ λ k. if k == b.form then option_map (moved_within b.side b.bound) (x k) else x k
       | None ↦ x
     ]
+
+-- ---- Laws
+
+-- this bound stands of its form and side, or none does
+abbrev pub stands_of : Position → FormBound → Option Infinitesimal
+stands_of s b = bound_on b.side s b.form
+
+-- a bound is tighter than what stands
+abbrev pub is_news : Position → FormBound → Bool
+is_news s b = elim (stands_of s b) [ Some y ↦ is_outside b.side b.bound y | None ↦ true ]
+
+-- What a literal does to a position when it is told: where it says a tighter bound, that is set; where what it says is looser or nothing, the position stays,
+-- if its nonbasic forms fit. Where the last literals are taken back, the bounds become looser. A form that joins bounds nothing.
+pub record TellingSetsBounds : Type 0 where
+  pub tighter : (fs : List (List Part)) (x : Point) (ls : List Literal) (l : Literal) (b : FormBound) → bound_said fs l ≡ Some b → is_news (position_under fs x ls) b ≡ true
+      → position_under fs (moved_by fs l x) (ls ++ l ∷ []) ≡ with_bound (position_under fs x ls) b.side b.form b.bound
+  pub looser : (fs : List (List Part)) (x : Point) (ls : List Literal) (l : Literal) (b : FormBound) → bound_said fs l ≡ Some b → is_news (position_under fs x ls) b ≡ false
+      → NonbasicFormsFit (position_under fs x ls) → position_under fs (moved_by fs l x) (ls ++ l ∷ []) ≡ position_under fs x ls
+  pub nothing : (fs : List (List Part)) (x : Point) (ls : List Literal) (l : Literal) → bound_said fs l ≡ None
+      → position_under fs (moved_by fs l x) (ls ++ l ∷ []) ≡ position_under fs x ls
+  pub back : (fs : List (List Part)) (x : Point) (ls : List Literal) (n : ℕ) → AreLooser (position_under fs x (take n ls)) (position_under fs x ls)
+  pub join : (fs : List (List Part)) (x : Point) (f : List Part)
+      → let p = joined (position_under fs x []) f in position_under p.forms p.point [] ≡ p
