@@ -9,6 +9,7 @@ pub mod Marked
 pub mod Meanings
 pub mod Notes
 pub mod Peaks
+pub mod Places
 pub mod Rows
 pub mod Same
 pub mod Sound

@@ -1,11 +1,11 @@
 -- Terms that checks take: over Bool and Real, where each head has its rows in the tables of clauses, or is a number or is arithmetic.
 -- Source: SMT-LIB 2.6, theories Core and Reals, and logic QF_LRA.
-use Rattle.std.specs.Prelude.{◌≡◌, false, ⊤, IsTrue, [], ◌⊎◌, Contains}
+use Rattle.std.specs.Prelude.{◌≡◌, true, false, ⊤, IsTrue, [], ◌⊎◌, Contains}
 use Rattle.nz_spec.specs.Term.{Head, constant, integer, decimal_number, verum, falsum, negation, conjunction, disjunction, exclusion, equality, choice, bool_sort, real_sort, less, at_most, sum, difference, product, quotient, to_real, is_int_sort, Term, apply, Terms, no_terms, terms, holds_integer}
 use Rattle.nz_spec.specs.Normal.{normal_of}
 use Rattle.nz_spec.specs.Order.{post_order}
 use Rattle.nz_spec.specs.Linear.{is_linear}
-use Rattle.nz_spec.specs.Gates.{gate_clauses, HasBooleanArguments}
+use Rattle.nz_spec.specs.Gates.{is_boolean_term, gate_clauses, HasBooleanArguments}
 use Rattle.nz_spec.specs.Links.{IsArithmetic}
 use Rattle.nz_spec.specs.WellSorted.{IsWellSorted}
 
@@ -46,6 +46,11 @@ pub record IsTaken (t : Term) : Type 0 where
   pub sorted : IsWellSorted [] t
   pub linear : IsTrue (is_linear t)
   pub heads : HasTakenHeads t
+
+-- one of sort Bool
+pub record IsTakenBoolean (t : Term) : Type 0 where
+  pub taken : IsTaken t
+  pub boolean : is_boolean_term t ≡ true
 
 -- ---- Laws
 
