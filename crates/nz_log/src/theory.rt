@@ -11,7 +11,7 @@ use nz_base::Work;
 /// What knows more of bounds than clauses say. It is told literals that are bounds, and tells which of them aren't true together. After an error
 /// nothing is known of what it was told.
 pub trait Theory: Drop {
-    ghost use Rattle.std.specs.Prelude.{◌≡◌, ℕ, ◌≤◌, List, [], ◌∷◌, ◌++◌, length, take, None, IfErr, IfOk, IfSome, OnOk};
+    ghost use Rattle.std.specs.Prelude.{◌≡◌, ℕ, ◌≤◌, List, [], ◌∷◌, ◌++◌, length, take, Contains, None, IfErr, IfOk, IfSome, OnOk};
     ghost use Rattle.nz_spec.specs.Bland.{Point};
     ghost use Rattle.nz_spec.specs.Form.{Part};
     ghost use Rattle.nz_spec.specs.Literal as spec;
@@ -20,7 +20,8 @@ pub trait Theory: Drop {
     ghost use Rattle.nz_spec.specs.Work.{IsSpent};
     ghost use Rattle.nz_log.specs.declared.lits.Lit.{Lit};
     ghost use Rattle.nz_log.specs.declared.stop.Stop.TheVariants as stop;
-    ghost use Rattle.nz_log.specs.Atoms.{AreWithin, literal_in};
+    ghost use Rattle.nz_log.specs.declared.atoms.Atom.{Atom};
+    ghost use Rattle.nz_log.specs.Atoms.{AreWithin, Stay, literal_in};
     ghost use Rattle.nz_log.specs.Leveled.{AreTold};
     ghost use Rattle.nz_log.specs.Sound.{IsLog};
     ghost use Rattle.nz_log.specs.Places.{OnWide, IsPlaceIn};
@@ -31,6 +32,12 @@ pub trait Theory: Drop {
 
     /// What it knows of terms is so in this table.
     ghost is_over: { Self → List Node → Type 0 };
+
+    /// Of these atoms of a log it knows those that are bounds.
+    ghost is_of: { Self → List Atom → List ℕ → Type 0 };
+
+    /// So it is where atoms join the log.
+    ghost stays: { (t : Self) (old new : List Atom) (ids : List ℕ) → is_of t old ids → Stay old new → is_of t new ids };
 
     /// Some values meet all that it was told.
     ghost is_feasible: { Self → Type 0 };
@@ -45,9 +52,11 @@ pub trait Theory: Drop {
     /// `Wide` where the sum that refutes the literal leaves the numbers; `Memory`.
     fn assert_lit(&mut self, log: &mut Log, literal: Lit) -> Result<Option<ClauseId>, Stop>
         requires bound { IsBoundIn log.old literal }
+        requires known { (ids : List ℕ) × is_of self.old log.old.atoms ids × Contains ids literal.atom }
         ensures told { (ls : List Lit) → has_told self.old ls → IfOk result (λ r. has_told self.new (told_after ls literal r)) }
         ensures clash { (ls : List Lit) → has_told self.old ls → IfOk result (λ r. IfSome r (IsClash log.new (ls ++ literal ∷ []))) }
         ensures over { (ns : List Node) → is_over self.old ns → is_over self.new ns }
+        ensures of { (atoms : List Atom) (ids : List ℕ) → is_of self.old atoms ids → is_of self.new atoms ids }
         // Where it wasn't refuted, a form that it bounds moves to the bound.
         ensures at { (ns : List Node) (fs : List (List Part)) (ls : List spec.Literal) (x : Point) → is_at self.old ns fs ls x → IfOk result (λ r. MovesOn (is_at self.new ns fs) fs ls (literal_in ns log.old.atoms literal) x r) }
         ensures place { (ns : List Node) (fs : List (List Part)) (ls : List spec.Literal) (x : Point) → let l = literal_in ns log.old.atoms literal in
@@ -68,6 +77,7 @@ pub trait Theory: Drop {
         ensures feasible { IfOk result (λ r. r ≡ None → is_feasible self.new) }
         ensures clash { (ls : List Lit) → has_told self.old ls → IfOk result (λ r. IfSome r (IsClash log.new ls)) }
         ensures over { (ns : List Node) → is_over self.old ns → is_over self.new ns }
+        ensures of { (atoms : List Atom) (ids : List ℕ) → is_of self.old atoms ids → is_of self.new atoms ids }
         // The units that are noted are check steps, from where it stood.
         ensures pivots { AddsPivots work.old work.new }
         ensures leads { (ns : List Node) (fs : List (List Part)) (ls : List spec.Literal) (x : Point) → is_at self.old ns fs ls x → Leads (is_at self.new ns fs ls) ns fs ls x work.old work.new result }
@@ -83,6 +93,7 @@ pub trait Theory: Drop {
     fn undo(&mut self, mark: usize)
         ensures told { (ls : List Lit) → has_told self.old ls → mark ≤ length ls → has_told self.new (take mark ls) }
         ensures over { (ns : List Node) → is_over self.old ns → is_over self.new ns }
+        ensures of { (atoms : List Atom) (ids : List ℕ) → is_of self.old atoms ids → is_of self.new atoms ids }
         ensures at { (ns : List Node) (fs : List (List Part)) (ls : List spec.Literal) (x : Point) → is_at self.old ns fs ls x → mark ≤ length ls → is_at self.new ns fs (take mark ls) x };
 }
 
@@ -110,6 +121,10 @@ impl Theory for NoNumbers {
     ghost has_told = { λ theory ls. theory.told ≡ length ls };
 
     ghost is_over = { λ theory ns. ⊤ };
+
+    ghost is_of = { λ theory atoms ids. ⊤ };
+
+    ghost stays = { λ theory old new ids of stay. of };
 
     ghost is_feasible = { λ theory. ⊤ };
 
