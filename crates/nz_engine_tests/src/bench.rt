@@ -9,11 +9,10 @@ ghost use Rattle.nz_term.specs.Heads.{head_of};
 ghost use Rattle.nz_log.specs.TermLits.{AreConsistent};
 ghost use Rattle.nz_engine_tests.specs.Benches.{AreGatedLits, IsReady, IsRowAt};
 
-use crate::reading::{Line, lines_of};
 use nz_base::{Memory, Text, Work};
 use nz_engine::Engine;
 use nz_log::{Decide, Stop, TermLit, Verdict};
-use nz_term::{Assign, Constant, Head, Operator, Sort, TermId, Terms};
+use nz_term::{Constant, Head, Operator, Sort, TermId, Terms};
 use nz_term_samples::are_below;
 use std::alloc::Global;
 use std::marker::Model;
@@ -39,11 +38,11 @@ impl Model for Bench {
 }
 
 /// What a check came to.
-#[derive(Debug, Drop)]
+#[derive(Clone, Copy, Debug, PartialEq, Eq)]
 pub enum Answer {
-    Sat(Assign),
-    /// The lines of a clause whose literals are negations of assumed ones.
-    Unsat(Vec<Line>),
+    Sat,
+    /// By so many steps, of a clause whose literals are negations of assumed ones.
+    Unsat(usize),
     Spent,
     /// The engine can't be asked: what is assumed is of no term, or one literal of it is the negation of another.
     Unasked,
@@ -178,11 +177,8 @@ fn ask(
     let mut work = Work::new(alloc)?;
     work.reserve(units)?;
     match engine.check(terms, assumed, &mut work) {
-        Ok(Verdict::Sat(values)) => Ok(Answer::Sat(values)),
-        Ok(Verdict::Unsat(clause)) => {
-            let steps = engine.steps(clause)?;
-            Ok(Answer::Unsat(lines_of(alloc, &steps)?))
-        }
+        Ok(Verdict::Sat(_)) => Ok(Answer::Sat),
+        Ok(Verdict::Unsat(clause)) => Ok(Answer::Unsat(engine.steps(clause)?.len())),
         Err(Stop::Spent) => Ok(Answer::Spent),
         Err(Stop::Memory) => Err(Memory),
     }

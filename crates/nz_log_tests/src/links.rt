@@ -1,6 +1,6 @@
 //! The clauses of the link table, against all small assignments.
 use crate::terms::{MOST, complete};
-use crate::values::{Values, are_true, is_wide};
+use crate::values::{Values, are_true, halves, is_wide};
 use nz_base::Memory;
 use nz_frac::{Frac, Op, Wide};
 use nz_lin::LinStop;
@@ -114,9 +114,8 @@ fn tell_rounded(log: &Log, clauses: &[Vec<Lit>], number: Frac) -> Result<bool, W
 /// Whether they are so for each half from -2 to 2.
 fn rounds(log: &Log, clauses: &[Vec<Lit>]) -> Result<bool, Wide> {
     let mut rounds = clauses.len() == 2;
-    for halves in -4..5 {
-        let number = Frac::of(halves, 2).unwrap_or(Frac::whole(0));
-        rounds = rounds && tell_rounded(log, clauses, number)?;
+    for count in -4..5 {
+        rounds = rounds && tell_rounded(log, clauses, halves(count))?;
     }
     Ok(rounds)
 }

@@ -1,6 +1,6 @@
 //! The clauses of the unit table, against all small assignments.
 use crate::terms::{MOST, complete};
-use crate::values::{Values, are_true, is_wide};
+use crate::values::{Values, are_true, halves, is_wide};
 use nz_base::Memory;
 use nz_frac::{Frac, Op, Wide};
 use nz_lin::LinStop;
@@ -176,8 +176,8 @@ fn are_sizes(log: &Log, clauses: &[Vec<Lit>]) -> Result<bool, Wide> {
     let mut sizes = clauses.len() == 3;
     for i in 0..cases.len() {
         let (a, size) = cases[i];
-        let x = (0, Frac::whole(a));
-        let just = are_just(log, clauses, 1, Frac::whole(size), [x, x], false)?;
+        let others = [(0, Frac::whole(a)), (0, Frac::whole(a))];
+        let just = are_just(log, clauses, 1, Frac::whole(size), others, false)?;
         sizes = sizes && just;
     }
     Ok(sizes)
@@ -207,11 +207,15 @@ fn choose(terms: &mut Terms, alloc: Global) -> Result<(), Memory> {
     Ok(())
 }
 
-/// Whether they are true just where the choice is of the first integer, which is 0, where the constant is true, and else of the second, 1.
+/// The integers: 0 and 1.
+fn branches() -> [(TermId, Frac); 2] {
+    [(1, Frac::whole(0)), (2, Frac::whole(1))]
+}
+
+/// Whether they are true just where the choice is of the first integer where the constant is true, and else of the second.
 fn are_choices(log: &Log, clauses: &[Vec<Lit>]) -> Result<bool, Wide> {
-    let numbers = [(1, Frac::whole(0)), (2, Frac::whole(1))];
-    let first = are_just(log, clauses, 3, Frac::whole(0), numbers, true)?;
-    let second = are_just(log, clauses, 3, Frac::whole(1), numbers, false)?;
+    let first = are_just(log, clauses, 3, Frac::whole(0), branches(), true)?;
+    let second = are_just(log, clauses, 3, Frac::whole(1), branches(), false)?;
     Ok(clauses.len() == 4 && first && second)
 }
 
@@ -234,10 +238,9 @@ fn roundings(alloc: Global, log: &mut Log) -> Result<Vec<Vec<Lit>>, LinStop> {
 /// Whether they are true just where the number is rounded, for each half from -2 to 2.
 fn are_roundings(log: &Log, clauses: &[Vec<Lit>]) -> Result<bool, Wide> {
     let mut rounded = clauses.len() == 2;
-    for halves in -4..5 {
-        let number = Frac::of(halves, 2).unwrap_or(Frac::whole(0));
-        let r = (0, number);
-        let just = are_just(log, clauses, 1, number.floor(), [r, r], false)?;
+    for count in -4..5 {
+        let others = [(0, halves(count)), (0, halves(count))];
+        let just = are_just(log, clauses, 1, halves(count).floor(), others, false)?;
         rounded = rounded && just;
     }
     Ok(rounded)

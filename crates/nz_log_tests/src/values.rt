@@ -74,6 +74,14 @@ pub(crate) fn are_true(values: &Values<'_>, log: &Log, clauses: &[Vec<Lit>]) -> 
     Ok(true)
 }
 
+/// So many halves.
+pub(crate) fn halves(count: i64) -> Frac {
+    match Frac::of(count as i128, 2) {
+        Some(number) => number,
+        None => Frac::whole(0),
+    }
+}
+
 /// Whether making clauses stopped at the operation of this kind over these integers.
 pub(crate) fn is_wide(made: &Result<Vec<Vec<Lit>>, LinStop>, op: Op, a: i128, b: i128) -> bool {
     match made {
