@@ -32,7 +32,7 @@ fn coefficient(seed: &mut u64) -> i32 {
 }
 
 /// What a form is worth at a point.
-fn worth(plane: &Plane, point: (Delta, Delta)) -> Option<Delta> {
+fn worth(plane: &Plane, point: &(Delta, Delta)) -> Option<Delta> {
     let left = point.0.scale(Frac::whole(plane.a as i64)).ok()?;
     let right = point.1.scale(Frac::whole(plane.b as i64)).ok()?;
     left.add(right).ok()
@@ -44,7 +44,7 @@ fn plane_of(planes: &[Plane], var: Var) -> Option<Plane> {
 }
 
 /// Whether a point is within all bounds.
-fn is_within(planes: &[Plane], given: &[Given<Delta>], point: (Delta, Delta)) -> bool {
+fn is_within(planes: &[Plane], given: &[Given<Delta>], point: &(Delta, Delta)) -> bool {
     for (var, side, bound) in given {
         let Some(plane) = plane_of(planes, *var) else {
             return false;
@@ -86,7 +86,7 @@ fn has_vertex(planes: &[Plane], given: &[Given<Delta>]) -> bool {
         for (second, _, v) in given {
             if let (Some(p), Some(q)) = (plane_of(planes, *first), plane_of(planes, *second)) {
                 if let Some(point) = vertex((p, *u), (q, *v)) {
-                    if is_within(planes, given, point) {
+                    if is_within(planes, given, &point) {
                         return true;
                     }
                 }
