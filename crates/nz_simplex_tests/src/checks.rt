@@ -6,8 +6,9 @@ use crate::sums::{all_within, contradicts, fits};
 use nz_delta::Delta;
 use nz_frac::Frac;
 use nz_simplex::{Check, Simplex};
-use nz_term::Terms;
-use nz_trail::{Bound, Side};
+use nz_term::{TermId, Terms};
+use nz_trail::{Bound, Side, Var};
+use std::alloc::Global;
 use std::test::Fail;
 
 #[test]
@@ -32,75 +33,94 @@ fn fractions_find_a_point(rt: HostRuntime) -> Result<(), Fail> {
     Ok(())
 }
 
-#[test]
-fn a_cycle_of_strict_bounds_clashes(rt: HostRuntime) -> Result<(), Fail> {
-    let alloc = rt.alloc();
+/// Fails where a bound from above isn't tighter than what stands.
+fn tighten(
+    simplex: &mut Simplex<Delta>,
+    var: Var,
+    bound: Delta,
+    reason: usize,
+) -> Result<(), Fail> {
+    if put(simplex, var, Side::Upper, bound, reason)? != Bound::Tighter {
+        return Err(Fail::new("a bound that isn't tighter"));
+    }
+    Ok(())
+}
+
+/// Fails where a check comes to something else.
+fn expect(alloc: Global, simplex: &mut Simplex<Delta>, wanted: Check) -> Result<(), Fail> {
+    match checked(alloc, simplex, 20)? {
+        Ok(check) if check == wanted => Ok(()),
+        _ => Err(Fail::new("another answer")),
+    }
+}
+
+/// The differences of three units around a cycle, with the units.
+fn cycle(alloc: Global, simplex: &mut Simplex<Delta>) -> Result<([Var; 3], [TermId; 3]), Fail> {
     let mut terms = Terms::new(alloc)?;
-    let mut simplex: Simplex<Delta> = Simplex::new(alloc);
     let x = constant(&mut terms, alloc, b"x")?;
     let y = constant(&mut terms, alloc, b"y")?;
     let z = constant(&mut terms, alloc, b"z")?;
-    let first = pair(alloc, &mut terms, &mut simplex, (1, x), (-1, y))?;
-    let second = pair(alloc, &mut terms, &mut simplex, (1, y), (-1, z))?;
-    let third = pair(alloc, &mut terms, &mut simplex, (1, z), (-1, x))?;
+    let first = pair(alloc, &mut terms, simplex, (1, x), (-1, y))?;
+    let second = pair(alloc, &mut terms, simplex, (1, y), (-1, z))?;
+    let third = pair(alloc, &mut terms, simplex, (1, z), (-1, x))?;
+    Ok(([first, second, third], [x, y, z]))
+}
+
+#[test]
+fn a_cycle_of_strict_bounds_clashes(rt: HostRuntime) -> Result<(), Fail> {
+    let mut simplex: Simplex<Delta> = Simplex::new(rt.alloc());
+    let (forms, units) = cycle(rt.alloc(), &mut simplex)?;
     // x < y, y < z
     let below = delta(0, -1)?;
-    assert_eq!(rt;
-        put(&mut simplex, first, Side::Upper, below, 0)?,
-        Bound::Tighter
-    );
-    assert_eq!(rt;
-        put(&mut simplex, second, Side::Upper, below, 1)?,
-        Bound::Tighter
-    );
-    assert!(rt; matches!(checked(alloc, &mut simplex, 20)?, Ok(Check::Feasible)));
+    tighten(&mut simplex, forms[0], below, 0)?;
+    tighten(&mut simplex, forms[1], below, 1)?;
+    expect(rt.alloc(), &mut simplex, Check::Feasible)?;
     let mark = simplex.mark();
     // z <= x
     let zero = delta(0, 0)?;
-    assert_eq!(rt;
-        put(&mut simplex, third, Side::Upper, zero, 2)?,
-        Bound::Tighter
-    );
-    assert!(rt; matches!(checked(alloc, &mut simplex, 20)?, Ok(Check::Clash)));
+    tighten(&mut simplex, forms[2], zero, 2)?;
+    expect(rt.alloc(), &mut simplex, Check::Clash)?;
     let given = [
-        (first, Side::Upper, below),
-        (second, Side::Upper, below),
-        (third, Side::Upper, zero),
+        (forms[0], Side::Upper, below),
+        (forms[1], Side::Upper, below),
+        (forms[2], Side::Upper, zero),
     ];
-    assert_eq!(rt; simplex.why().len(), 3);
-    assert!(rt; contradicts(&simplex, &given, &[x, y, z]));
+    assert!(rt; simplex.why().len() == 3 && contradicts(&simplex, &given, &units));
     undo_to(&mut simplex, mark);
-    assert!(rt; matches!(checked(alloc, &mut simplex, 20)?, Ok(Check::Feasible)));
+    expect(rt.alloc(), &mut simplex, Check::Feasible)?;
     assert!(rt; all_within(&simplex));
     Ok(())
 }
 
-#[test]
-fn bounds_on_one_side_meet_in_the_middle(rt: HostRuntime) -> Result<(), Fail> {
-    let alloc = rt.alloc();
+/// 2*x + 3*y >= 12, x <= 3, y <= 2, of which only the point (3, 2) is left: the number of the sum, and the units.
+fn corner(alloc: Global, simplex: &mut Simplex<Delta>) -> Result<(Var, [TermId; 2]), Fail> {
     let mut terms = Terms::new(alloc)?;
-    let mut simplex: Simplex<Delta> = Simplex::new(alloc);
     let x = constant(&mut terms, alloc, b"x")?;
     let y = constant(&mut terms, alloc, b"y")?;
-    let sum = pair(alloc, &mut terms, &mut simplex, (2, x), (3, y))?;
-    // 2*x + 3*y >= 12, x <= 3, y <= 2: only the point (3, 2)
-    put(&mut simplex, sum, Side::Lower, delta(12, 0)?, 0)?;
-    put(&mut simplex, 0, Side::Upper, delta(3, 0)?, 1)?;
-    put(&mut simplex, 1, Side::Upper, delta(2, 0)?, 2)?;
-    assert!(rt; matches!(checked(alloc, &mut simplex, 20)?, Ok(Check::Feasible)));
+    let sum = pair(alloc, &mut terms, simplex, (2, x), (3, y))?;
+    put(simplex, sum, Side::Lower, delta(12, 0)?, 0)?;
+    put(simplex, 0, Side::Upper, delta(3, 0)?, 1)?;
+    put(simplex, 1, Side::Upper, delta(2, 0)?, 2)?;
+    Ok((sum, [x, y]))
+}
+
+#[test]
+fn bounds_on_one_side_meet_in_the_middle(rt: HostRuntime) -> Result<(), Fail> {
+    let mut simplex: Simplex<Delta> = Simplex::new(rt.alloc());
+    let (sum, units) = corner(rt.alloc(), &mut simplex)?;
+    expect(rt.alloc(), &mut simplex, Check::Feasible)?;
     assert!(rt; value(&simplex, 0).is_some_and(|v| v.c == Frac::whole(3)));
     assert!(rt; value(&simplex, 1).is_some_and(|v| v.c == Frac::whole(2)));
     // below 2 no point is left
-    put(&mut simplex, 1, Side::Upper, delta(2, -1)?, 3)?;
-    assert!(rt; matches!(checked(alloc, &mut simplex, 20)?, Ok(Check::Clash)));
+    tighten(&mut simplex, 1, delta(2, -1)?, 3)?;
+    expect(rt.alloc(), &mut simplex, Check::Clash)?;
     let given = [
         (sum, Side::Lower, delta(12, 0)?),
         (0, Side::Upper, delta(3, 0)?),
         (1, Side::Upper, delta(2, 0)?),
         (1, Side::Upper, delta(2, -1)?),
     ];
-    assert!(rt; contradicts(&simplex, &given, &[x, y]));
-    assert_eq!(rt; simplex.why().len(), 3);
+    assert!(rt; simplex.why().len() == 3 && contradicts(&simplex, &given, &units));
     Ok(())
 }
 
