@@ -220,7 +220,7 @@ impl Steps for Taken {
 
 /// What a check answered, and its steps: how many, and the first.
 #[derive(Clone, Copy, Debug)]
-pub struct Checked {
+pub struct Outcome {
     pub answer: Result<Check, SimplexStop>,
     pub steps: usize,
     pub first: Option<(Var, Var)>,
@@ -231,10 +231,10 @@ pub fn checked<S: Coordinate>(
     alloc: Global,
     simplex: &mut Simplex<S>,
     limit: u64,
-) -> Result<Checked, Fail> {
+) -> Result<Outcome, Fail> {
     let mut taken = Taken::new(alloc, limit)?;
     let answer = simplex.check(&mut taken);
-    Ok(Checked {
+    Ok(Outcome {
         answer,
         steps: taken.steps().len(),
         first: taken.steps().first().copied(),
