@@ -1,10 +1,10 @@
 //! Bounds asserted and undone against a plain list.
-use crate::forms::{Taken, bounds, constant, delta, pair, put, undo_to};
+use crate::forms::{System, bounds, checked, delta, holds, pair, put, undo_to};
 use crate::seeded::next;
 use crate::sums::{all_within, fits};
 use nz_delta::Delta;
 use nz_simplex::{Check, Simplex};
-use nz_term::{TermId, Terms};
+use nz_term::TermId;
 use nz_trail::{Bound, Limit, Side, Var};
 use std::alloc::Global;
 use std::test::Fail;
@@ -107,8 +107,7 @@ fn step(
             Ok(true)
         }
         2 => {
-            let mut taken = Taken::new(alloc, 100)?;
-            match simplex.check(&mut taken) {
+            match checked(alloc, simplex, 100)?.answer {
                 Ok(Check::Feasible) => Ok(fits(simplex, units) && all_within(simplex)),
                 Ok(Check::Clash) => Ok(true),
                 Err(_) => Ok(false),
@@ -125,32 +124,33 @@ fn step(
     }
 }
 
+/// Two hundred steps that look random, over two forms of two units.
+fn walk(
+    alloc: Global,
+    system: &mut System<Delta>,
+    list: &mut Vec<Plain>,
+    marks: &mut Vec<Mark>,
+) -> Result<(), Fail> {
+    let x = system.constant(alloc, b"x")?;
+    let y = system.constant(alloc, b"y")?;
+    pair(alloc, system, (1, x), (2, y))?;
+    pair(alloc, system, (3, x), (-1, y))?;
+    let units = [(x, 0), (y, 1)];
+    let mut seed = 19;
+    for number in 0..200 {
+        let simplex = &mut system.simplex;
+        let right = step(alloc, simplex, list, marks, &units, &mut seed, number)?;
+        holds(right, "a point that isn't one, or a check that stops")?;
+        holds(agrees(simplex, list.as_slice()), "other bounds")?;
+    }
+    Ok(())
+}
+
 #[test]
 fn undo_gives_back_the_bounds(rt: HostRuntime) -> Result<(), Fail> {
     let alloc = rt.alloc();
-    let mut terms = Terms::new(alloc)?;
-    let mut simplex: Simplex<Delta> = Simplex::new(alloc);
-    let x = constant(&mut terms, alloc, b"x")?;
-    let y = constant(&mut terms, alloc, b"y")?;
-    pair(alloc, &mut terms, &mut simplex, (1, x), (2, y))?;
-    pair(alloc, &mut terms, &mut simplex, (3, x), (-1, y))?;
+    let mut system = System::new(alloc)?;
     let mut list = Vec::new(alloc);
     let mut marks = Vec::new(alloc);
-    let mut seed = 19;
-    for number in 0..200 {
-        let units = [(x, 0), (y, 1)];
-        assert!(rt;
-            step(
-                alloc,
-                &mut simplex,
-                &mut list,
-                &mut marks,
-                &units,
-                &mut seed,
-                number
-            )?
-        );
-        assert!(rt; agrees(&simplex, list.as_slice()), "at step {number}");
-    }
-    Ok(())
+    walk(alloc, &mut system, &mut list, &mut marks)
 }

@@ -1,10 +1,10 @@
 //! Seeded systems over two units, against a search of all vertices.
-use crate::forms::{Taken, constant, delta, pair, put};
+use crate::forms::{System, checked, delta, holds, pair, put};
 use crate::sums::{Given, all_within, contradicts, fits};
 use nz_delta::{Delta, Scalar};
 use nz_frac::Frac;
 use nz_simplex::{Check, Simplex};
-use nz_term::{TermId, Terms};
+use nz_term::TermId;
 use nz_trail::{Bound, Side, Var};
 use std::alloc::Global;
 use std::cmp::Ordering;
@@ -97,26 +97,25 @@ fn has_vertex(planes: &[Plane], given: &[Given<Delta>]) -> bool {
 }
 
 /// Adds four forms that look random to those of the units.
-fn planes(
+fn add_planes(
     alloc: Global,
-    terms: &mut Terms,
-    simplex: &mut Simplex<Delta>,
+    system: &mut System<Delta>,
+    planes: &mut Vec<Plane>,
     seed: &mut u64,
     (x, y): (TermId, TermId),
-) -> Result<Vec<Plane>, Fail> {
-    let mut planes = Vec::new(alloc);
+) -> Result<(), Fail> {
     for _ in 0..4 {
         let (a, b) = (coefficient(seed), coefficient(seed));
         if a != 0 && b != 0 {
-            let var = pair(alloc, terms, simplex, (a, x), (b, y))?;
+            let var = pair(alloc, system, (a, x), (b, y))?;
             planes.push(Plane { a, b, var })?;
         }
     }
-    if simplex.len() >= 2 {
+    if system.simplex.len() >= 2 {
         planes.push(Plane { a: 1, b: 0, var: 0 })?;
         planes.push(Plane { a: 0, b: 1, var: 1 })?;
     }
-    Ok(planes)
+    Ok(())
 }
 
 /// Asserts a bound, and puts it on the list where it doesn't clash.
@@ -157,31 +156,42 @@ fn give_all(
     Ok(())
 }
 
-/// Whether a check answers what the search of vertices does; None where a number didn't fit.
-fn agrees(alloc: Global, seed: &mut u64) -> Result<Option<Check>, Fail> {
-    let mut terms = Terms::new(alloc)?;
-    let mut simplex: Simplex<Delta> = Simplex::new(alloc);
-    let x = constant(&mut terms, alloc, b"x")?;
-    let y = constant(&mut terms, alloc, b"y")?;
-    let planes = planes(alloc, &mut terms, &mut simplex, seed, (x, y))?;
+/// Whether a check answers what the search of vertices does; None where it doesn't.
+fn judged(
+    alloc: Global,
+    system: &mut System<Delta>,
+    planes: &mut Vec<Plane>,
+    given: &mut Vec<Given<Delta>>,
+    seed: &mut u64,
+) -> Result<Option<Check>, Fail> {
+    let x = system.constant(alloc, b"x")?;
+    let y = system.constant(alloc, b"y")?;
+    add_planes(alloc, system, planes, seed, (x, y))?;
+    let simplex = &mut system.simplex;
     if simplex.len() < 2 {
         return Ok(Some(Check::Feasible));
     }
-    let mut given = Vec::new(alloc);
-    give_all(&mut simplex, &mut given, planes.as_slice(), seed)?;
+    give_all(simplex, given, planes.as_slice(), seed)?;
     let feasible = has_vertex(planes.as_slice(), given.as_slice());
-    let mut taken = Taken::new(alloc, 200)?;
-    match simplex.check(&mut taken) {
+    match checked(alloc, simplex, 200)?.answer {
         Ok(Check::Feasible) => {
-            let right = feasible && fits(&simplex, &[(x, 0), (y, 1)]) && all_within(&simplex);
+            let right = feasible && fits(simplex, &[(x, 0), (y, 1)]) && all_within(simplex);
             Ok(right.then_some(Check::Feasible))
         }
         Ok(Check::Clash) => {
-            let right = !feasible && contradicts(&simplex, given.as_slice(), &[x, y]);
+            let right = !feasible && contradicts(simplex, given.as_slice(), &[x, y]);
             Ok(right.then_some(Check::Clash))
         }
         Err(_) => Ok(None),
     }
+}
+
+/// The same of the next system that looks random.
+fn agrees(alloc: Global, seed: &mut u64) -> Result<Option<Check>, Fail> {
+    let mut system = System::new(alloc)?;
+    let mut planes = Vec::new(alloc);
+    let mut given = Vec::new(alloc);
+    judged(alloc, &mut system, &mut planes, &mut given, seed)
 }
 
 #[test]
@@ -189,13 +199,12 @@ fn checks_agree_with_vertices(rt: HostRuntime) -> Result<(), Fail> {
     let alloc = rt.alloc();
     let mut seed: u64 = 2006;
     let mut clashes: u64 = 0;
-    for number in 0..100 {
+    for _ in 0..100 {
         match agrees(alloc, &mut seed)? {
             Some(Check::Feasible) => {}
             Some(Check::Clash) => clashes = clashes.saturating_add(1),
-            None => assert!(rt; false, "at system {number}"),
+            None => return Err(Fail::new("a check that vertices don't bear out")),
         }
     }
-    assert!(rt; clashes > 10 && clashes < 90, "{clashes} clashes");
-    Ok(())
+    holds(clashes > 10 && clashes < 90, "too few clashes or too many")
 }
