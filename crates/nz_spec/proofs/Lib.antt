@@ -17,6 +17,7 @@ pub mod BlandSteps
 pub mod BlandTells
 pub mod BlandValues
 pub mod ByteClasses
+pub mod ChosenFractions
 pub mod Climbs
 pub mod CutSums
 pub mod Decimals

@@ -244,7 +244,7 @@ module _ (fs : List (List Part)) (c : FormBound) where
 -- ---- Where a fraction stands for δ
 
 -- what is at most another is below it by its standard part, or level with it
-at_most_parts : (x y : Infinitesimal) → AtMost x y → (x.standard <ℚ y.standard) ⊎ ((x.standard =ℚ y.standard) × (x.coefficient ≤ℚ y.coefficient))
+pub at_most_parts : (x y : Infinitesimal) → AtMost x y → (x.standard <ℚ y.standard) ⊎ ((x.standard =ℚ y.standard) × (x.coefficient ≤ℚ y.coefficient))
 unfolding infinitesimal_cmp
 at_most_parts x y h = by_order (fraction_cmp x.standard y.standard) refl h
   where
