@@ -61,10 +61,12 @@ module _ (p : Position) (y : ℕ → Infinitesimal) (e : Fraction) (basis : HasB
   chosen-above_zero = least-above chosen.pairs e pairs-ordered chosen.least
 
   module _ (numbers : AreNumbers (length p.forms) y) where
-    value-within : (side : Side) (k : ℕ) (bound : Infinitesimal) → k < length p.forms → bound_on side p k ≡ Some bound → IsWithinAt e side bound (y k)
+    value-within : (side : Side) (k : ℕ) (bound : Infinitesimal) → k < length p.forms → bound_on side p k ≡ Some bound
+        → IsWithinAt e side bound (y k)
     value-within side k bound h f =
         let pair = in_order side bound (y k) in
-        let is : IsPairOf p k side pair = record { listed = h; bound = bound; bounded = f; value = y k; has = has k h; numbers = numbers k h; is = refl } in
+        let is : IsPairOf p k side pair =
+        record { listed = h; bound = bound; bounded = f; value = y k; has = has k h; numbers = numbers k h; is = refl } in
         ordered-within e side bound (y k)
         (All-contains (IsOrderedAt e) chosen.pairs pair (least-keeps chosen.pairs e pairs-ordered chosen.least) (chosen.all k side pair is))
 
