@@ -14,6 +14,7 @@ pub mod Rows
 pub mod Same
 pub mod Sound
 pub mod Spelling
+pub mod Standing
 pub mod Stored
 pub mod TermLits
 pub mod Theories
