@@ -36,7 +36,8 @@ test-outside lower_side bound x e = less_told (infinitesimal_cmp x bound) e
 test-outside upper_side bound x e = less_told (infinitesimal_cmp bound x) e
 
 -- what is outside of a bound is outside of one that is as tight
-pub outside-tight : (side : Side) (bound tight x : Infinitesimal) → IsPast (other_side side) bound tight → IsOutside side bound x → IsOutside side tight x
+pub outside-tight : (side : Side) (bound tight x : Infinitesimal) → IsPast (other_side side) bound tight → IsOutside side bound x
+    → IsOutside side tight x
 outside-tight lower_side bound tight x h o = less-at_most x bound tight o h
 outside-tight upper_side bound tight x h o = at_most-less tight bound x h o
 
@@ -105,10 +106,14 @@ mapped-same f None h = refl
 mapped-same f (Some v) h = ap Some (h v refl)
 
 module _ (s : Position) (b : FormBound) where
-  bounds-news : is_news s b ≡ true → (side : Side) (k : ℕ) → after side k (bound_on side s k) (Some b) ≡ bound_on side (with_bound s b.side b.form b.bound) k
+  -- what stands after this bound is said, at its form and side or elsewhere
+  abbrev stands_after : Side → ℕ → Bool → Option Infinitesimal
+  stands_after side k a = if a then Some (tighter_of side b.bound (bound_on side s k)) else bound_on side s k
+
+  bounds-news : is_news s b ≡ true → (side : Side) (k : ℕ)
+      → after side k (bound_on side s k) (Some b) ≡ bound_on side (with_bound s b.side b.form b.bound) k
   bounds-news news side k =
-      at_each b
-      (λ half i a. (if a then Some (tighter_of half b.bound (bound_on half s i)) else bound_on half s i) ≡ (if a then Some b.bound else bound_on half s i))
+      at_each b (λ half i a. stands_after half i a ≡ (if a then Some b.bound else bound_on half s i))
       (tighter-taken b.side b.bound (bound_on b.side s b.form) news)
       (λ half i. refl)
       side k
@@ -116,15 +121,15 @@ module _ (s : Position) (b : FormBound) where
 
   bounds-stay : is_news s b ≡ false → (side : Side) (k : ℕ) → after side k (bound_on side s k) (Some b) ≡ bound_on side s k
   bounds-stay old =
-      at_each b
-      (λ half i a. (if a then Some (tighter_of half b.bound (bound_on half s i)) else bound_on half s i) ≡ bound_on half s i)
+      at_each b (λ half i a. stands_after half i a ≡ bound_on half s i)
       (looser-left b.side b.bound (bound_on b.side s b.form) old)
       (λ half i. refl)
 
   point-stays : is_news s b ≡ false → NonbasicFormsFit s → (k : ℕ) → moved_where s.point (Some b) k ≡ s.point k
   point-stays old fit k = by_test (k == b.form) refl
     where
-      fits : (v : Infinitesimal) → s.point k ≡ Some v → k ≡ b.form → (y : Infinitesimal) → bound_on b.side s b.form ≡ Some y → IsOutside b.side y v → ⊥
+      fits : (v : Infinitesimal) → s.point k ≡ Some v → k ≡ b.form → (y : Infinitesimal) → bound_on b.side s b.form ≡ Some y
+          → IsOutside b.side y v → ⊥
       fits v at is y stands o =
           fit b.side k y (ap is_some at) (ap (bound_on b.side s) is ∙ stands)
           (subst (λ (z : Option Infinitesimal). IsOutside b.side y (unwrap_or z zero_infinitesimal)) (sym at) o)
@@ -141,7 +146,8 @@ module _ (fs : List (List Part)) (x : Point) (ls : List Literal) (l : Literal) w
   abbrev before : Position
   before = position_under fs x ls
 
-  bound-told : (y : Point) (side : Side) (k : ℕ) → bound_on side (position_under fs y (ls ++ l ∷ [])) k ≡ after side k (bound_on side before k) (bound_said fs l)
+  bound-told : (y : Point) (side : Side) (k : ℕ)
+      → bound_on side (position_under fs y (ls ++ l ∷ [])) k ≡ after side k (bound_on side before k) (bound_said fs l)
   bound-told y lower_side k = fold_push (with_bound_said fs lower_side k) None ls l
   bound-told y upper_side k = fold_push (with_bound_said fs upper_side k) None ls l
 
@@ -171,7 +177,8 @@ tight-later : (fs : List (List Part)) (ls : List Literal) (n : ℕ) (side : Side
     → tightest fs (take n ls) side k ≡ Some bound → IsTight side bound (tightest fs ls side k)
 tight-later fs ls n side k bound e =
     subst (IsTight side bound)
-    (sym (fold-append (with_bound_said fs side k) None (take n ls) (drop n ls)) ∙ ap (λ (ms : List Literal). tightest fs ms side k) (take-append-drop n ls))
+    (sym (fold-append (with_bound_said fs side k) None (take n ls) (drop n ls))
+    ∙ ap (λ (ms : List Literal). tightest fs ms side k) (take-append-drop n ls))
     (stays-tight side k fs bound (tightest fs (take n ls) side k) (drop n ls) (record {
       bound = bound;
       is = e;
