@@ -69,6 +69,7 @@ pub mod SortedTerms
 pub mod SumUnits
 pub mod Tables
 pub mod TakenTerms
+pub mod TellingBounds
 pub mod Tellings
 pub mod ToldBounds
 pub mod Transcripts

@@ -96,16 +96,16 @@ form-worth v lower_side f ps e = =ℚ-from_same (ap (worth v) e) ∙ℚ worth-di
 -- ---- The bound that stands
 
 -- a bound of this side that a literal says has no δ, or one towards the inside
-abbrev IsPlain : Side → Infinitesimal → Type 0
+abbrev pub IsPlain : Side → Infinitesimal → Type 0
 IsPlain lower_side t = whole (pos 0) ≤ℚ t.coefficient
 IsPlain upper_side t = t.coefficient ≤ℚ whole (pos 0)
 
 -- there is a bound, and it is as tight as this one
-record IsTight (side : Side) (b : Infinitesimal) (o : Option Infinitesimal) : Type 0 where
-  bound : Infinitesimal
-  is : o ≡ Some bound
-  within : IsPast (other_side side) b bound
-  plain : IsPlain side bound
+pub record IsTight (side : Side) (b : Infinitesimal) (o : Option Infinitesimal) : Type 0 where
+  pub bound : Infinitesimal
+  pub is : o ≡ Some bound
+  pub within : IsPast (other_side side) b bound
+  pub plain : IsPlain side bound
 
 plain-said : (side : Side) (strict : Bool) (b : Fraction) → IsPlain side (bound_on_side side strict b)
 unfolding denominator
@@ -146,10 +146,10 @@ outside-past : (side : Side) (x y : Infinitesimal) → is_outside side x y ≡ t
 outside-past lower_side x y e = not_gt (infinitesimal_cmp y x) e
 outside-past upper_side x y e = not_gt (infinitesimal_cmp x y) e
 
-inside-past : (side : Side) (x y : Infinitesimal) → is_outside side x y ≡ false → IsPast (other_side side) x y
+pub inside-past : (side : Side) (x y : Infinitesimal) → is_outside side x y ≡ false → IsPast (other_side side) x y
 inside-past side x y e = not_outside side x y (λ h. true≢false (sym (outside-test side x y h) ∙ e))
 
-same_side : (a b : Side) → are_same_side a b ≡ true → a ≡ b
+pub same_side : (a b : Side) → are_same_side a b ≡ true → a ≡ b
 same_side lower_side lower_side e = refl
 same_side lower_side upper_side e = absurd (true≢false (sym e))
 same_side upper_side lower_side e = absurd (true≢false (sym e))
@@ -182,7 +182,7 @@ module _ (side : Side) where
 
   module _ (k : ℕ) where
     -- the bound where this one is said too, if there is one
-    abbrev after : Option Infinitesimal → Option FormBound → Option Infinitesimal
+    abbrev pub after : Option Infinitesimal → Option FormBound → Option Infinitesimal
     after found o =
         elim o [
           | Some c ↦ if (c.form == k) && are_same_side c.side side then Some (tighter_of side c.bound found) else found
@@ -213,11 +213,17 @@ module _ (side : Side) where
         after-is (λ r. IfSome r (IsPlain side)) found o p h (λ c q. tight-plain c (Some (tighter_of side c found)) (first-tight c found q h))
 
     module _ (fs : List (List Part)) where
-      stays-tight : (b : Infinitesimal) (found : Option Infinitesimal) (ls : List Literal) → IsTight side b found
+      pub stays-tight : (b : Infinitesimal) (found : Option Infinitesimal) (ls : List Literal) → IsTight side b found
           → IsTight side b (fold (with_bound_said fs side k) found ls)
       stays-tight b found [] h = h
       stays-tight b found (l ∷ ls) h =
           stays-tight b (with_bound_said fs side k found l) ls (after-tight b found (bound_said fs l) (all_plain fs l) h)
+
+      pub stays-plain : (found : Option Infinitesimal) (ls : List Literal) → IfSome found (IsPlain side)
+          → IfSome (fold (with_bound_said fs side k) found ls) (IsPlain side)
+      stays-plain found [] h = h
+      stays-plain found (l ∷ ls) h =
+          stays-plain (with_bound_said fs side k found l) ls (after-plain found (bound_said fs l) (all_plain fs l) h)
 
 -- what a literal says stands, or a tighter bound
 module _ (fs : List (List Part)) (c : FormBound) where
@@ -341,7 +347,7 @@ mapped-some : {A B : Type 0} (f : A → B) (o : Option A) → is_some (option_ma
 mapped-some f None = refl
 mapped-some f (Some k) = refl
 
-bound-is : (fs : List (List Part)) (x : Point) (ls : List Literal) (side : Side) (k : ℕ) → bound_on side (position_under fs x ls) k ≡ tightest fs ls side k
+pub bound-is : (fs : List (List Part)) (x : Point) (ls : List Literal) (side : Side) (k : ℕ) → bound_on side (position_under fs x ls) k ≡ tightest fs ls side k
 bound-is fs x ls lower_side k = refl
 bound-is fs x ls upper_side k = refl
 
