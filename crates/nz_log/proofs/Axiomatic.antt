@@ -18,7 +18,7 @@ use Rattle.nz_log.specs.Atoms.{AreAtoms, AreWithin, IsLitIn, LiteralsAgree, clau
 use Rattle.nz_log.specs.Axioms.{AreMultiples, AreMultiplesIn, Axiom, IsAxiom, IsAxiomIn, IsClauseOf, axiom_step, farkas_of, multiples_in, negated_lits, sum_in}
 use Rattle.nz_log.specs.Leveled.{AreTold}
 use Rattle.nz_log.specs.Lits.{are_same_lit}
-use Rattle.nz_log.specs.Logs.{Entry, JoinsAtoms, LogState, Puts, axiom_entry, axiom_of, entry_at, gate_of}
+use Rattle.nz_log.specs.Logs.{Entry, JoinsAtoms, LogState, Puts, axiom_entry, axiom_of, entry_at, row_term}
 use Rattle.nz_log.specs.Sound.{IsLog}
 use Rattle.nz_log.specs.Theories.{Grows}
 use Rattle.nz_log.proofs.Agreeing.{clause_named, literal_turned}
@@ -53,19 +53,19 @@ axiom_in_order s r a c result made unchanged atoms ns levels within axiom_ order
     rule_in_order s r (axiom_entry r a c) result made unchanged atoms ns levels (λ id above. record { within = within; made = axiom_ }) order
 
 -- and grows
-pub axiom_grows : (old new : LogState) (id : ℕ) (a : Axiom) (c : List Lit) → Puts old id (axiom_entry new a c) new → AreTold new c → Grows old new
-axiom_grows old new id a c puts told =
+pub axiom_grows : (old new : LogState) (id : ℕ) (a : Axiom) (c : List Lit) → row_term (axiom_of a) ≡ None → Puts old id (axiom_entry new a c) new → AreTold new c
+    → Grows old new
+axiom_grows old new id a c no_row puts told =
     record {
       live = puts.stay;
       kept = λ i h. puts.kept i (λ same. let below : i < id = puts.above i h in absurd (omega (arith, below, same)));
       told = puts.told;
       atoms = puts.atoms;
-      gates = λ i e t j at origin. elim (eqb_tells i id) [
+      rows = λ i e at row. elim (eqb_tells i id) [
         | inl here ↦
             let both : Some (axiom_entry new a c) ≡ Some e = sym puts.made ∙ ap (entry_at new) (sym here.1) ∙ at in
             let one : axiom_entry new a c ≡ e = cc in
-            let made : axiom_of a ≡ gate_of t j = ap (λ (x : Entry). x.origin) one ∙ origin in
-            absurd cc
+            absurd (subst (λ o. IsSome o) (sym (ap (λ (x : Entry). row_term x.origin) one) ∙ no_row) row)
         | inr other ↦ subst (λ o. IsSome o) (sym (sym (puts.kept i other.1) ∙ at)) refl
       ];
       leveled = logs_stay_leveled.arithmetic old new id a c puts told;

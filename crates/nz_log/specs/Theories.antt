@@ -1,5 +1,5 @@
 -- What a theory does to a log and to a work list, and where it stands.
-use Rattle.std.specs.Prelude.{◌≡◌, ℕ, List, [], ◌∷◌, ◌++◌, length, map, Contains, Option, Some, None, Result, Ok, Err, slice_get}
+use Rattle.std.specs.Prelude.{◌≡◌, ℕ, List, [], ◌∷◌, ◌++◌, length, map, Contains, Option, Some, None, IsSome, Result, Ok, Err, slice_get}
 use Rattle.nz_spec.specs.Bland.{Point, Position}
 use Rattle.nz_spec.specs.Form.{Part}
 use Rattle.nz_spec.specs.Literal as spec
@@ -17,16 +17,16 @@ use Rattle.nz_log.specs.declared.note.Note.{Note}
 use Rattle.nz_log.specs.Atoms.{Stay}
 use Rattle.nz_log.specs.Leveled.{IsLeveled}
 use Rattle.nz_log.specs.Lits.{negated_lit}
-use Rattle.nz_log.specs.Logs.{Entry, gate_of, LogState, IsLive, entry_at, literals_at}
+use Rattle.nz_log.specs.Logs.{Entry, LogState, IsLive, entry_at, literals_at, row_term}
 
--- The log keeps each of its clauses and atoms, and what was told. What it has more is no clause of the gate table, and each clause stays at or above the levels told
--- of what it names.
+-- The log keeps each of its clauses and atoms, and what was told. What it has more is no clause of a table, and each clause stays at or above the levels told of what
+-- it names.
 pub record Grows (old new : LogState) : Type 0 where
   pub live : (i : ℕ) → IsLive old i → IsLive new i
   pub kept : (i : ℕ) → IsLive old i → entry_at new i ≡ entry_at old i
   pub told : new.told ≡ old.told
   pub atoms : Stay old.atoms new.atoms
-  pub gates : (i : ℕ) (e : Entry) (t j : ℕ) → entry_at new i ≡ Some e → e.origin ≡ gate_of t j → IsLive old i
+  pub rows : (i : ℕ) (e : Entry) → entry_at new i ≡ Some e → IsSome (row_term e.origin) → IsLive old i
   pub leveled : IsLeveled old → IsLeveled new
 
 -- A clause of the log says that literals that were told aren't true together: it has negations of them, each once.
