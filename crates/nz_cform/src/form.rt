@@ -1,4 +1,17 @@
 //! Which terms have their clauses in a log.
+ghost use Rattle.std.specs.Prelude.{◌≡◌, ◌≢◌, ◌↔◌, ℕ, ◌≤◌, ◌<◌, List, length, None, Some, All, Contains, OnErr, OnOk, IfErr, IfOk, IsSome, is_some};
+ghost use Rattle.std.specs.List.{AllPairs};
+ghost use Rattle.nz_spec.specs.Order.{HasCompanions, post_order};
+ghost use Rattle.nz_spec.specs.Table.{term_in};
+ghost use Rattle.nz_spec.specs.Taken.{IsTaken};
+ghost use Rattle.nz_log.specs.Atoms.{AreAtoms};
+ghost use Rattle.nz_log.specs.Logs.{LogState, told_level};
+ghost use Rattle.nz_log.specs.Sound.{IsLog};
+ghost use Rattle.nz_cform.specs.Covering.{AreAdded, Covers, Keeps};
+ghost use Rattle.nz_cform.specs.Forms.{Cuts, Grows, covered_at, empty_form};
+ghost use Rattle.nz_cform.specs.Listings.{listed_at};
+ghost use Rattle.nz_cform.specs.Stops.{IsStopIn, OnWide};
+
 use crate::listing::Listing;
 use crate::rows::{add_gates, add_links, add_units};
 use crate::stop::FormStop;
@@ -6,8 +19,10 @@ use nz_base::Memory;
 use nz_log::{Atom, AtomId, ClauseId, Log};
 use nz_term::{TermId, Terms};
 use std::alloc::Global;
+use std::marker::Model;
 
-/// Which terms have their clauses in a log, and at which level they were put there; and which bounds these clauses have.
+/// Which terms have their clauses in a log, and at which level they were put there; and which bounds these clauses have. A contract sees both as
+/// listings: the numbers in their order, and the level of each.
 #[derive(Debug, Drop)]
 pub struct ClauseForm {
     terms: Listing,
@@ -15,9 +30,19 @@ pub struct ClauseForm {
     bounds: Listing,
 }
 
+impl Model for ClauseForm {
+    ghost use Rattle.nz_cform.specs.Forms.{FormState};
+
+    ghost Value = { FormState };
+
+    ghost view = { λ f. record { terms = f.terms; bounds = f.bounds } };
+}
+
 impl ClauseForm {
     /// Nothing is covered. Takes no memory.
-    pub fn new(alloc: Global) -> ClauseForm {
+    pub fn new(alloc: Global) -> ClauseForm
+        ensures empty { result ≡ empty_form }
+    {
         ClauseForm {
             terms: Listing::new(alloc),
             bounds: Listing::new(alloc),
@@ -25,17 +50,27 @@ impl ClauseForm {
     }
 
     /// The covered terms, each once, the oldest first.
-    pub fn terms(&self) -> &[TermId] {
+    pub fn terms(&self) -> &[TermId]
+        ensures terms { result.now ≡ self.now.terms.ids }
+        ensures once { AllPairs (λ t u. t ≢ u) result.now }
+        ensures covered { (t : ℕ) → Contains result.now t ↔ IsSome (covered_at self.now t) }
+    {
         self.terms.ids()
     }
 
     /// The bounds that their clauses have, each once, the oldest first.
-    pub fn bounds(&self) -> &[AtomId] {
+    pub fn bounds(&self) -> &[AtomId]
+        ensures bounds { result.now ≡ self.now.bounds.ids }
+        ensures once { AllPairs (λ i k. i ≢ k) result.now }
+        ensures listed { (i : ℕ) → Contains result.now i ↔ IsSome (listed_at self.now.bounds i) }
+    {
         self.bounds.ids()
     }
 
     /// Whether a term is covered.
-    pub fn is_covered(&self, term: TermId) -> bool {
+    pub fn is_covered(&self, term: TermId) -> bool
+        ensures covered { result ≡ is_some (covered_at self.now term) }
+    {
         self.terms.has(term)
     }
 
@@ -54,7 +89,24 @@ impl ClauseForm {
         terms: &Terms,
         id: TermId,
         level: usize,
-    ) -> Result<Vec<ClauseId>, FormStop> {
+    ) -> Result<Vec<ClauseId>, FormStop>
+        requires within { id < length terms.now }
+        requires taken { IsTaken (term_in terms.now id) }
+        requires companions { HasCompanions terms.now }
+        requires told { (t : ℕ) → told_level log.old t ≤ level }
+        requires covers { Covers terms.now log.old self.old }
+        ensures covered { OnOk result (IsSome (covered_at self.new id)) }
+        ensures covers { OnOk result (Covers terms.now log.new self.new) }
+        ensures answered { IfOk result (λ ids. AreAdded log.old ids.items log.new) }
+
+        // So it is after an error too.
+        ensures grown { Grows self.old level self.new }
+        ensures kept { Keeps log.old log.new }
+        ensures told { (t : ℕ) → told_level log.new t ≤ level }
+        ensures made_of { (t : ℕ) → covered_at self.old t ≡ None → IsSome (covered_at self.new t) → Contains (post_order (term_in terms.now id)) (term_in terms.now t) }
+        ensures sound { (levels : List (List ℕ)) → IsLog terms.now levels log.old → IsLog terms.now levels log.new }
+        ensures stop { IfErr result (λ e. OnWide e (IsStopIn terms.now (term_in terms.now id))) }
+    {
         let mut clauses = Vec::new(alloc);
         let mut waiting = Vec::new(alloc);
         waiting.push(id)?;
@@ -101,7 +153,9 @@ impl ClauseForm {
     }
 
     /// Leaves just what is covered at or below the level. Takes no memory.
-    pub fn cut(&mut self, level: usize) {
+    pub fn cut(&mut self, level: usize)
+        ensures cuts { Cuts self.old level self.new }
+    {
         self.terms.cut(level);
         self.bounds.cut(level);
     }
