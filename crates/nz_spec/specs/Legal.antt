@@ -13,7 +13,7 @@ use Rattle.nz_spec.specs.Farkas.{is_linear_literal, bound_of}
 use Rattle.nz_spec.specs.Bland.{Point, Position, IsCheckStep}
 use Rattle.nz_spec.specs.Pivots as pivots
 use Rattle.nz_spec.specs.Pivots.{Pivot}
-use Rattle.nz_spec.specs.LiteralBounds.{joined, position_under, moved_by}
+use Rattle.nz_spec.specs.LiteralBounds.{turned, joined, position_under, moved_by}
 use Rattle.nz_spec.specs.Work.{DecisionEntry, LearnedEntry, PivotEntry, WorkLine, UnitLine, NoteLine, WorkList, IsSpent}
 use Rattle.nz_spec.specs.Notes.{Note, atom_note, form_note, told_note}
 
@@ -69,9 +69,9 @@ told_literals s = map (λ (t : ToldLiteral). literal_by s.atoms (t.atom, t.sign)
 abbrev pub position_of : Search → Point → Position
 position_of s x = position_under s.forms x (told_literals s)
 
--- the sum that an atom bounds
+-- the sum that an atom bounds, or that with the other signs
 abbrev pub sum_of_atom : Search → ℕ → List Part
-sum_of_atom s atom = (bound_of (literal_by s.atoms (atom, true))).parts
+sum_of_atom s atom = turned (bound_of (literal_by s.atoms (atom, true))).parts
 
 -- ---- Rules
 

@@ -1,8 +1,8 @@
 -- The forms of a simplex, and what literals say of them: a literal on a sum bounds the first form that is the sum, or the sum with the other signs.
 -- Source: Dutertre and de Moura, A Fast Linear-Arithmetic Solver for DPLL(T), CAV 2006, sections 3 to 5 (atoms are bounds; asserting bounds).
-use Rattle.std.specs.Prelude.{◌≡◌, ℕ, suc, ◌==◌, Bool, true, false, ◌&&◌, List, [], ◌∷◌, ◌++◌, map, take, fold, Option, Some, None, option_map, if◌then◌else◌}
+use Rattle.std.specs.Prelude.{◌≡◌, ℕ, suc, ◌==◌, Bool, true, false, ◌&&◌, List, [], ◌∷◌, ◌++◌, map, take, fold, Option, Some, None, option_map, pos, if◌then◌else◌}
 use Rattle.std.specs.List.{list_any}
-use Rattle.nz_fractions.specs.Fraction.{Fraction, neg_ℚ}
+use Rattle.nz_fractions.specs.Fraction.{Fraction, whole, neg_ℚ, fraction_lt}
 use Rattle.nz_spec.specs.Infinitesimal.{Infinitesimal}
 use Rattle.nz_spec.specs.Term.{Term}
 use Rattle.nz_spec.specs.Form.{Part, unit_form, negated_part}
@@ -11,6 +11,11 @@ use Rattle.nz_spec.specs.Bland.{Point, Position, Side, lower_side, upper_side, b
 use Rattle.nz_spec.specs.PositionMoves.{with_unit, with_form, is_outside, moved_within, with_bound, AreLooser}
 
 -- ---- Forms that join
+
+-- the sum, or the sum with the other signs, whose first coefficient isn't below 0
+abbrev pub turned : List Part → List Part
+turned [] = []
+turned (p ∷ ps) = if fraction_lt p.coefficient (whole (pos 0)) then map negated_part (p ∷ ps) else p ∷ ps
 
 -- the form is this unit alone
 abbrev pub is_unit_alone : List Part → Term → Bool
