@@ -1,5 +1,5 @@
 -- What is told to a theory without forms moves nothing, and a check of it takes no step.
-use Rattle.std.proofs.Common.{◌≡◌, ℕ, ◌+◌, List, [], ◌∷◌, ◌++◌, length, map, Option, Result, Ok, None, refl, sym, ap, subst, ◌∙◌, arith}
+use Rattle.std.proofs.Common.{◌≡◌, ℕ, ◌+◌, List, [], ◌∷◌, ◌++◌, length, Option, Ok, None, refl, sym, ap, subst, ◌∙◌, arith}
 use Rattle.std.proofs.lemmas.List.{length-append, append-nil}
 use Rattle.nz_spec.specs.Bland.{Point}
 use Rattle.nz_spec.specs.Form.{Part}
@@ -26,7 +26,7 @@ told_more count more fs ls l x one h =
     })
 
 pub no_steps : (count : ℕ) (ns : List Node) (fs : List (List Part)) (ls : List Literal) (x : Point) (work : WorkList Note) → IsWithoutForms count fs ls x
-    → Leads (IsWithoutForms count fs ls) ns fs ls x work work (Ok {A = Option ℕ} None)
+    → Leads {A = Option ℕ} (IsWithoutForms count fs ls) ns fs ls x work work (Ok None)
 no_steps count ns fs ls x work h =
     record {
       adds = record { pivots = []; joined = ap (λ (lines : List (WorkLine Note)). record work { lines = lines }) (sym (append-nil work.lines)) };
