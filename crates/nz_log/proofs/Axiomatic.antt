@@ -65,7 +65,7 @@ axiom_grows old new id a c no_row puts told =
         | inl here ↦
             let both : Some (axiom_entry new a c) ≡ Some e = sym puts.made ∙ ap (entry_at new) (sym here.1) ∙ at in
             let one : axiom_entry new a c ≡ e = cc in
-            absurd (subst (λ o. IsSome o) (sym (ap (λ (x : Entry). row_term x.origin) one) ∙ no_row) row)
+            absurd (let none : IsSome {T = ℕ} None = subst (λ o. IsSome o) (sym (ap (λ (x : Entry). row_term x.origin) one) ∙ no_row) row in cc)
         | inr other ↦ subst (λ o. IsSome o) (sym (sym (puts.kept i other.1) ∙ at)) refl
       ];
       leveled = logs_stay_leveled.arithmetic old new id a c puts told;

@@ -1,5 +1,5 @@
 -- Logs that grow by a chain, or by nothing.
-use Rattle.std.proofs.Common.{◌≡◌, inl, inr, ℕ, ◌<◌, List, Some, Result, Ok, Err, refl, sym, ap, subst, ◌∙◌, arith}
+use Rattle.std.proofs.Common.{◌≡◌, inl, inr, ℕ, ◌<◌, List, None, Some, Result, Ok, Err, refl, sym, ap, subst, ◌∙◌, arith}
 use Rattle.std.specs.Prelude.{All, IfOk, IsSome, OnErr}
 use Rattle.nz_base.specs.declared.errors.Memory.{Memory}
 use Rattle.std.proofs.lemmas.Bool.Decides.{eqb_tells}
@@ -21,7 +21,7 @@ grows_by_chain old new id first ks puts live lives =
         | inl here ↦
             let both : Some (chain_entry old first ks) ≡ Some e = sym puts.made ∙ ap (entry_at new) (sym here.1) ∙ at in
             let one : chain_entry old first ks ≡ e = cc in
-            absurd (subst (λ o. IsSome o) (sym (ap (λ (x : Entry). row_term x.origin) one)) row)
+            absurd (let none : IsSome {T = ℕ} None = subst (λ o. IsSome o) (sym (ap (λ (x : Entry). row_term x.origin) one)) row in cc)
         | inr other ↦ subst (λ o. IsSome o) (sym (sym (puts.kept i other.1) ∙ at)) refl
       ];
       leveled = logs_stay_leveled.chain old new id first ks puts live lives;
