@@ -95,8 +95,8 @@ module _ (log : LogState) (ids : List ℕ) (level i clause : ℕ) (first mid now
           | inl gone ↦
               let found = only atom gone some in
               let same : found.0 ≡ clause = elim (Contains-push_cases [] clause found.0 found.1) [
-                | inl no ↦ absurd (let below : no.0 < 0 = no.1 in omega arith)
-                | inr one ↦ sym one
+                | inl before_it ↦ absurd (let below : before_it.0 < 0 = before_it.1 in omega arith)
+                | inr is ↦ sym is
               ] in
               (clause, subst (Contains ids) (sym read) (Contains-get_or ids i 0 inside), subst (λ c. HasBound log c atom) same found.2)
           | inr was ↦ before.only atom none (subst (λ o. IsSome o) (sym was.1) refl)

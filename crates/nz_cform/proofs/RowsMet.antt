@@ -5,7 +5,7 @@ use Rattle.std.specs.List.{AllByRecursion}
 use Rattle.std.proofs.lemmas.List.{length-map}
 use Rattle.std.proofs.lemmas.Option.{same_Some, slice_get_within}
 use Rattle.nz_spec.specs.Basis.{Valuation}
-use Rattle.nz_spec.specs.Computation.{Computation}
+use Rattle.nz_spec.specs.Computation.{Computation, at_once, turned_into}
 use Rattle.nz_spec.specs.Deciding.{HasMetLiteral, IsMet}
 use Rattle.nz_spec.specs.FormOf.{number_in}
 use Rattle.nz_spec.specs.Gates.{gate_clauses}
@@ -75,7 +75,8 @@ module _ (node : TermOfNode) (named : GatesAreNamed) (ns : List Node) (levels : 
         let e = some_entry (entry_at log has.id) (axiom_of a) has.origin in
         let made : IsAxiom ns log.atoms a e.0.literals = subst (IsMade ns levels log has.id e.0) e.2 (order.clauses has.id e.0 e.1).made in
         let place : (clause_at cs j).result ≡ Some (clause_of c.result) =
-        ap (λ (o : Option (Computation Clause)). elim o [ None ↦ None | Some d ↦ Some (clause_of d.result) ]) here in
+        ap (λ (r : Computation (Option Clause)). r.result)
+        (ap (λ (o : Option (Computation Clause)). elim o [ None ↦ at_once None | Some d ↦ turned_into (λ b. Some (clause_of b)) d ]) here) in
         let says : clause_of c.result ≡ clause_in ns log.atoms e.0.literals = same_Some _ _ (sym place ∙ taken e.0.literals made) in
         row_met has.id k e.0 c.result (axiom_of a, has.origin, row) e.1 says
 

@@ -15,7 +15,7 @@ use Rattle.nz_lists.proofs.Elements.{AllByRecursion-weaker}
 use Rattle.nz_lists.proofs.Places.{slice_get_kept}
 use Rattle.nz_log.specs.declared.atoms.Atom.{Atom}
 use Rattle.nz_log.specs.declared.term_lits.TermLit.{TermLit}
-use Rattle.nz_log.specs.Atoms.{HasTerm, AtomsOfTerms, lits_of}
+use Rattle.nz_log.specs.Atoms.{HasTerm, AtomsOfTerms, Stay, lits_of}
 use Rattle.nz_spec.specs.Literal.{once}
 use Rattle.nz_log.specs.Lits.{are_same_lit}
 use Rattle.nz_log.specs.TermLits.{yes, no, is_boolean_at, gates_at}
@@ -125,7 +125,7 @@ module _ (own : AtomsOfTerms) (ns : List Node) (old new : LogState) (s : FormSta
   old_row i t row = row_was old new i (kept_row i t row) t row
 
   old_origin : (i : ℕ) (o : Origin) → IsSome (row_term o) → origin_at new i ≡ Some o → origin_at old i ≡ Some o
-  old_origin i o some at = let t = has_some (row_term o) some in (old_row i t.0 (o, at, t.1)).1
+  old_origin i o some at = let t = has_some (row_term o) some in sym (origin_kept old new i (kept_row i t.0 (o, at, t.1))) ∙ at
 
   covers_on : Covers ns new s
   covers_on =
