@@ -28,15 +28,15 @@ pub none_of_clause : (log : LogState) (clause level : ℕ) (s : ListingState) �
 none_of_clause log clause level s =
     record { listed = λ k d inside. absurd (omega (arith, inside)); grown = grows_itself s level; only = λ atom none some. absurd (none_more s atom none some) }
 
-module _ (log : LogState) (clause t level : ℕ) (row : IsRowAt log clause t) (lits : List Lit) (i : ℕ) (first mid now : ListingState) (l : Lit) (inside : i < length lits)
-    (read : l ≡ get_or lits i l) (own : lits ≡ literals_at log clause) (before : IsListingClause log clause (take i lits) level first mid) (listed : IsAtomListed log.atoms now l)
+module _ (log : LogState) (clause t level : ℕ) (row : IsRowAt log clause t) (lits : List Lit) (i : ℕ) (d : Lit) (first mid now : ListingState) (inside : i < length lits)
+    (own : lits ≡ literals_at log clause) (before : IsListingClause log clause (take i lits) level first mid) (listed : IsAtomListed log.atoms now (get_or lits i d))
     (grown : Grows mid level now)
-    (only : (k : ℕ) → listed_at mid k ≡ None → IsSome (listed_at now k) → (k ≡ l.atom) × (b : Bound) × (slice_get log.atoms k ≡ Some (AtMost b))) where
+    (only : (k : ℕ) → listed_at mid k ≡ None → IsSome (listed_at now k) → (k ≡ (get_or lits i d).atom) × (b : Bound) × (slice_get log.atoms k ≡ Some (AtMost b))) where
   all_more : All (IsAtomListed log.atoms now) (take (i + 1) lits)
   all_more =
-      All-more (IsAtomListed log.atoms now) lits i l inside
+      All-more (IsAtomListed log.atoms now) lits i d inside
       (All-weaker (IsAtomListed log.atoms mid) (IsAtomListed log.atoms now) (λ m h b at. still_listed mid now level grown m.atom (h b at)) (take i lits) before.listed)
-      (subst (IsAtomListed log.atoms now) read listed)
+      listed
 
   only_more : (atom : ℕ) → listed_at first atom ≡ None → IsSome (listed_at now atom) → HasBound log clause atom
   only_more atom none some =
@@ -46,8 +46,8 @@ module _ (log : LogState) (clause t level : ℕ) (row : IsRowAt log clause t) (l
             record {
               term = t;
               row = row;
-              literal = l;
-              has = subst (λ (c : List Lit). Contains c l) own (i, inside, sym read);
+              literal = get_or lits i d;
+              has = subst (λ (c : List Lit). Contains c (get_or lits i d)) own (Contains-get_or lits i d inside);
               on = sym found.0;
               bound = found.1;
               is_bound = found.2;

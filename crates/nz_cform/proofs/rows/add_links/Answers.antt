@@ -49,3 +49,18 @@ returns-clause-rows c s gates has =
     let t = c.args.term in
     let all : c.loop-j.j ≡ length (link_clauses (number_in ns) (term_in ns t)) = omega (arith, c.link_count-j-end.ensures.count) in
     subst (λ n. HasRowsBelow ns c.loop-j.log s t gates n 0) all (c.loop-j.invariant.rows s gates has)
+
+pub returns-in-Err-clause-goes : goal.returns-in-Err-clause-goes
+returns-in-Err-clause-goes c =
+    not_put c.args.terms.now c.args.term c.args.log.now c.args.clauses.now.items c.loop-j.log c.loop-j.clauses.items c.loop-j.invariant.adding c.link.new.self
+    (sound_here (goal.at.returns-in-Err-clause-goes c).After-link) c.in-Err.ensures.unchanged
+
+pub returns-in-Err-clause-stop : goal.returns-in-Err-clause-stop
+returns-in-Err-clause-stop c =
+    link_stops c.args.terms.now c.args.term c.requires.within c.loop-j.j c.in-Err.stop c.of.result c.in-Err.ensures.stop c.of.ensures.stop
+
+pub returns-in_err-push-clause-goes : goal.returns-in_err-push-clause-goes
+returns-in_err-push-clause-goes c =
+    was_put c.args.terms.now c.args.term c.args.log.now c.args.clauses.now.items c.loop-j.log c.loop-j.clauses.items c.loop-j.invariant.adding c.link.new.self
+    (sound_here (goal.at.returns-in_err-push-clause-goes c).After-link) c.in-Ok.clause
+    (axiom_entry c.link.new.self (link_of c.args.term c.loop-j.j) c.in-Ok.ensures.made.literals) c.in-Ok.ensures.made.puts

@@ -49,3 +49,18 @@ returns-clause-rows c s gates links has =
     let t = c.args.term in
     let all : c.loop-j.j ≡ length (unit_clauses (number_in ns) (term_in ns t)) = omega (arith, c.unit_count-j-end.ensures.count) in
     subst (λ n. HasRowsBelow ns c.loop-j.log s t gates links n) all (c.loop-j.invariant.rows s gates links has)
+
+pub returns-in-Err-clause-goes : goal.returns-in-Err-clause-goes
+returns-in-Err-clause-goes c =
+    not_put c.args.terms.now c.args.term c.args.log.now c.args.clauses.now.items c.loop-j.log c.loop-j.clauses.items c.loop-j.invariant.adding c.unit_axiom.new.self
+    (sound_here (goal.at.returns-in-Err-clause-goes c).After-unit_axiom) c.in-Err.ensures.unchanged
+
+pub returns-in-Err-clause-stop : goal.returns-in-Err-clause-stop
+returns-in-Err-clause-stop c =
+    unit_stops c.args.terms.now c.args.term c.requires.within c.loop-j.j c.in-Err.stop c.of.result c.in-Err.ensures.stop c.of.ensures.stop
+
+pub returns-in_err-push-clause-goes : goal.returns-in_err-push-clause-goes
+returns-in_err-push-clause-goes c =
+    was_put c.args.terms.now c.args.term c.args.log.now c.args.clauses.now.items c.loop-j.log c.loop-j.clauses.items c.loop-j.invariant.adding c.unit_axiom.new.self
+    (sound_here (goal.at.returns-in_err-push-clause-goes c).After-unit_axiom) c.in-Ok.clause
+    (axiom_entry c.unit_axiom.new.self (unit_of c.args.term c.loop-j.j) c.in-Ok.ensures.made.literals) c.in-Ok.ensures.made.puts
