@@ -1,8 +1,8 @@
 -- Clauses that a log has more than before, and how it goes on.
-use Rattle.std.proofs.Common.{◌≡◌, ◌≢◌, ℕ, zero, suc, ◌<◌, ◌⊎◌, inl, inr, List, [], ◌∷◌, ◌++◌, length, Some, refl, sym, ap, subst, ◌∙◌, arith, append_assoc}
-use Rattle.std.specs.Prelude.{All, Contains, IsSome, option_map}
+use Rattle.std.proofs.Common.{◌≡◌, ◌≢◌, ℕ, zero, suc, ◌<◌, ◌⊎◌, inl, inr, List, [], ◌∷◌, ◌++◌, ◌-◌, length, take, drop, get_or, Some, refl, sym, ap, subst, ◌∙◌, arith, append_assoc}
+use Rattle.std.specs.Prelude.{◌↔◌, All, Contains, IsSome, option_map}
 use Rattle.std.specs.List.{AllPairs}
-use Rattle.std.proofs.lemmas.List.{append-nil}
+use Rattle.std.proofs.lemmas.List.{append-nil, drop_at, take_rest}
 use Rattle.std.proofs.lemmas.List.Elements.{All-append, All-cons, All-contains, All-nil, All-weaker, All-contains_itself, Contains-append_cases, Contains-append_left, Contains-append_right, Contains-get_or, Contains-push_cases}
 use Rattle.std.proofs.lemmas.List.Kept.{AllPairs-cons}
 use Rattle.nz_spec.specs.Table.{Node}
@@ -159,3 +159,25 @@ module _ (a b c : LogState) (keeps : Keeps b c) where
 
 pub adds_none : (t : ℕ) (log : LogState) (ids : List ℕ) → AddsRows t log ids log ids
 adds_none t log ids = record { more = []; joined = sym (append-nil ids); added = none_added log; of_term = All-nil (λ i. IsRowAt log i t) }
+
+-- where the log that it began with had the same clauses
+same_live : (old new : LogState) → new.entries ≡ old.entries → (i : ℕ) → IsLive new i ≡ IsLive old i
+same_live old new clauses i = ap (λ es. IsLive (record { entries = es; told = []; atoms = [] }) i) clauses
+
+pub adds_from_same : (t : ℕ) (first start new : LogState) (before after : List ℕ) → start.entries ≡ first.entries → AddsRows t start before new after → AddsRows t first before new after
+adds_from_same t first start new before after clauses adds =
+    record {
+      more = adds.more;
+      joined = adds.joined;
+      added = record {
+        live = λ i. subst (λ T. IsLive new i ↔ (T ⊎ Contains adds.more i)) (same_live first start clauses i) (adds.added.live i);
+        fresh = λ k d inside. subst (λ T. T → ⊥) (same_live first start clauses (get_or adds.more k d)) (adds.added.fresh k d inside);
+        rows = adds.added.rows;
+        once = adds.added.once;
+      };
+      of_term = adds.of_term;
+    }
+
+-- the numbers that come at the end of a list are what is behind those that were there
+pub rest_is : (ids items before more : List ℕ) (from : ℕ) → ids ≡ items → items ≡ before ++ more → length before ≡ from → take (length ids - from) (drop from ids) ≡ more
+rest_is ids items before more from same joined long = take_rest ids from ∙ ap (drop from) (same ∙ joined) ∙ drop_at before more from long

@@ -115,6 +115,23 @@ all_rows ns log s t has =
       on_atoms = has.on_atoms;
     }
 
+-- from the log without them, as each table is put
+module _ (ns : List Node) (first start mid last new : LogState) (s r : FormState) (t level : ℕ) (clauses : start.entries ≡ first.entries) (atoms : start.atoms ≡ first.atoms)
+    (takes : Takes s.terms t level r.terms) (uncovered : covered_at s t ≡ None) (told : told_of start t ≡ Some (lowest (told_of first t) level))
+    (others : (u : ℕ) → u ≢ t → told_of start u ≡ told_of first u) (low : (u : ℕ) → told_level first u ≤ level) (has : HasRows ns first s)
+    (gates : (q : FormState) → HasRowsBelow ns start q t 0 0 0 → HasRowsBelow ns mid q t (length (gates_at ns t)) 0 0)
+    (links : (q : FormState) (g : ℕ) → HasRowsBelow ns mid q t g 0 0 → HasRowsBelow ns last q t g (length (link_clauses (number_in ns) (term_in ns t))) 0)
+    (units : (q : FormState) (g k : ℕ) → HasRowsBelow ns last q t g k 0 → HasRowsBelow ns new q t g k (length (unit_clauses (number_in ns) (term_in ns t)))) where
+  pub rows_covered : HasRows ns new r
+  rows_covered =
+      let g = length (gates_at ns t) in
+      let k = length (link_clauses (number_in ns) (term_in ns t)) in
+      all_rows ns new r t
+      (units r g k
+      (links r g
+      (gates r
+      (told_and_listed ns first start s r t level clauses atoms takes uncovered told others (told_within first start t level told others low) has))))
+
 -- ---- Their bounds are listed
 
 module _ (ns : List Node) (first start new : LogState) (s r : FormState) (t level : ℕ) (clauses : start.entries ≡ first.entries) (atoms : start.atoms ≡ first.atoms)
