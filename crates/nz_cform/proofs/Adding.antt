@@ -1,7 +1,7 @@
 -- Clauses of the tables of a term are put, one after another.
-use Rattle.std.proofs.Common.{◌≡◌, ℕ, ◌<◌, ◌⊎◌, inl, inr, List, [], ◌∷◌, ◌++◌, length, Some, refl, sym, ap, subst, ◌∙◌, arith}
+use Rattle.std.proofs.Common.{◌≡◌, ℕ, ◌<◌, inl, inr, List, [], ◌∷◌, ◌++◌, length, Some, sym, ap, subst, ◌∙◌, arith}
 use Rattle.std.proofs.lemmas.List.{length-map}
-use Rattle.nz_spec.specs.Gates.{HasBooleanArguments, gate_clauses}
+use Rattle.nz_spec.specs.Gates.{HasBooleanArguments}
 use Rattle.nz_spec.specs.Table.{Node, IsTable, term_in}
 use Rattle.nz_spec.specs.Taken.{IsTaken, TakenTermsAreInOrder}
 use Rattle.nz_log.specs.Logs.{Entry, JoinsAtoms, LogState, Puts, row_term}

@@ -1,5 +1,5 @@
 -- The bounds of clauses are listed, one literal and one clause after another.
-use Rattle.std.proofs.Common.{◌≡◌, ℕ, ◌+◌, ◌<◌, inl, inr, List, [], ◌∷◌, length, take, get_or, Some, None, refl, sym, ap, subst, ◌∙◌, arith}
+use Rattle.std.proofs.Common.{◌≡◌, ℕ, ◌+◌, ◌<◌, inl, inr, List, [], ◌∷◌, length, take, get_or, Some, None, refl, sym, ap, subst, arith}
 use Rattle.std.specs.Prelude.{All, Contains, IsSome, slice_get}
 use Rattle.std.proofs.lemmas.List.Elements.{All-contains, All-more, All-weaker, Contains-get_or, Contains-push_cases}
 use Rattle.nz_lin.specs.declared.bound.Bound.{Bound}
@@ -10,7 +10,7 @@ use Rattle.nz_log.specs.Logs.{LogState, literals_at}
 use Rattle.nz_cform.specs.Listings.{ListingState, Grows, listed_at}
 use Rattle.nz_cform.specs.Covering.{AreBoundsListed, AreBoundsOf, HasBound, IsRowAt}
 use Rattle.nz_cform.proofs.Elements.{has_first}
-use Rattle.nz_cform.proofs.Listed.{grows_itself, grows_more, none_more, none_or_some, still_listed}
+use Rattle.nz_cform.proofs.Listed.{grows_more, none_or_some, still_listed}
 
 -- ---- The literals of a clause
 
@@ -23,10 +23,6 @@ pub record IsListingClause (log : LogState) (clause : ℕ) (lits : List Lit) (le
   pub listed : All (IsAtomListed log.atoms now) lits
   pub grown : Grows first level now
   pub only : (atom : ℕ) → listed_at first atom ≡ None → IsSome (listed_at now atom) → HasBound log clause atom
-
-pub none_of_clause : (log : LogState) (clause level : ℕ) (s : ListingState) → IsListingClause log clause [] level s s
-none_of_clause log clause level s =
-    record { listed = λ k d inside. absurd (omega (arith, inside)); grown = grows_itself s level; only = λ atom none some. absurd (none_more s atom none some) }
 
 module _ (log : LogState) (clause t level : ℕ) (row : IsRowAt log clause t) (lits : List Lit) (i : ℕ) (d : Lit) (first mid now : ListingState) (inside : i < length lits)
     (own : lits ≡ literals_at log clause) (before : IsListingClause log clause (take i lits) level first mid) (listed : IsAtomListed log.atoms now (get_or lits i d))
@@ -68,9 +64,6 @@ module _ (log : LogState) (clause level : ℕ) (lits : List Lit) (first now : Li
       alone : (k d : ℕ) → k < 1 → get_or (clause ∷ []) k d ≡ clause
       alone k d below = let zero_ : k ≡ 0 = omega arith in ap (λ j. get_or (clause ∷ []) j d) zero_
 
-  pub clause_only : AreBoundsOf log (clause ∷ []) first now
-  clause_only atom none some = (clause, has_first clause [], all.only atom none some)
-
 -- ---- Clauses
 
 -- How far the listing of clauses has come.
@@ -78,10 +71,6 @@ pub record IsListingAll (log : LogState) (ids done : List ℕ) (level : ℕ) (fi
   pub listed : AreBoundsListed log done now
   pub grown : Grows first level now
   pub only : AreBoundsOf log ids first now
-
-pub none_of_all : (log : LogState) (ids : List ℕ) (level : ℕ) (s : ListingState) → IsListingAll log ids [] level s s
-none_of_all log ids level s =
-    record { listed = λ k d inside. absurd (omega (arith, inside)); grown = grows_itself s level; only = λ atom none some. absurd (none_more s atom none some) }
 
 module _ (log : LogState) (ids : List ℕ) (level i clause : ℕ) (first mid now : ListingState) (inside : i < length ids) (read : clause ≡ get_or ids i 0)
     (before : IsListingAll log ids (take i ids) level first mid) (grown : Grows mid level now) where

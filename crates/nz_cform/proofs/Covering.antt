@@ -1,5 +1,5 @@
 -- One term more is covered: its level is told, it is listed, its clauses are put, and their bounds are listed.
-use Rattle.std.proofs.Common.{◌≡◌, ◌≢◌, ℕ, ◌<◌, ◌≤◌, inl, inr, List, [], Option, Some, None, length, refl, sym, ap, subst, ◌∙◌, arith}
+use Rattle.std.proofs.Common.{◌≡◌, ◌≢◌, ℕ, ◌<◌, ◌≤◌, inl, inr, List, Option, Some, None, length, refl, sym, ap, subst, ◌∙◌, arith}
 use Rattle.std.specs.Prelude.{All, Contains, IsSome, slice_get, unwrap_or}
 use Rattle.std.proofs.lemmas.List.Elements.{All-contains}
 use Rattle.nz_spec.specs.FormOf.{number_in}
@@ -8,7 +8,7 @@ use Rattle.nz_spec.specs.Table.{Node, term_in}
 use Rattle.nz_spec.specs.Units.{unit_clauses}
 use Rattle.nz_log.specs.declared.atoms.Atom.{Atom}
 use Rattle.nz_log.specs.Axioms.{link_of, unit_of}
-use Rattle.nz_log.specs.Logs.{axiom_of, LogState, entry_at, IsLive, level_at, told_of, told_level, lowest}
+use Rattle.nz_log.specs.Logs.{axiom_of, LogState, entry_at, level_at, told_of, told_level, lowest}
 use Rattle.nz_log.specs.TermLits.{gates_at}
 use Rattle.nz_log.proofs.Extending.{same_stay}
 use Rattle.nz_cform.specs.Listings.{Grows, IsListedWithin, Takes, listed_at}

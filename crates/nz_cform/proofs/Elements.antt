@@ -1,13 +1,13 @@
 -- Elements of lists: at the front and behind it, of mapped lists, of sets and of tables.
-use Rattle.std.proofs.Common.{◌≡◌, ℕ, zero, suc, ◌<◌, Bool, true, false, ◌||◌, List, [], ◌∷◌, ◌++◌, map, length, Some, refl, sym, ap, subst, ◌∙◌, arith, true≢false, inl, inr}
-use Rattle.std.specs.Prelude.{All, Contains, fold, slice_get, slice_index_or, if◌then◌else◌}
+use Rattle.std.proofs.Common.{◌≡◌, ℕ, zero, suc, ◌<◌, Bool, true, false, List, [], ◌∷◌, ◌++◌, map, length, refl, sym, ap, subst, ◌∙◌, arith, true≢false, inl, inr}
+use Rattle.std.specs.Prelude.{Contains, fold, slice_index_or, if◌then◌else◌}
 use Rattle.std.specs.List.{AllByRecursion, list_any}
 use Rattle.std.proofs.lemmas.List.{length-map}
 use Rattle.std.proofs.lemmas.List.Elements.{All-contains, All-contains_itself, All-from_recursion, All-weaker, Contains-append_left, Contains-push, recursion_from_All}
-use Rattle.std.proofs.lemmas.Option.{get_or_from_slice_get, slice_get_within}
 use Rattle.nz_lists.proofs.Places.{slice_index_or-map}
 use Rattle.nz_spec.specs.Literal.{with_one, once}
 use Rattle.nz_spec.proofs.Literals.{or_either}
+use Rattle.nz_log.proofs.Members.{each-put}
 
 -- ---- Fronts and places
 
@@ -17,9 +17,6 @@ module _ {X : Type 0} where
 
   pub has_behind : (y : X) (xs : List X) (x : X) → Contains xs x → Contains (y ∷ xs) x
   has_behind y xs x h = (suc h.0, (let inside : h.0 < length xs = h.1 in omega arith), h.2)
-
-  pub has_at : (xs : List X) (i : ℕ) (x : X) → slice_get xs i ≡ Some x → Contains xs x
-  has_at xs i x at = (i, slice_get_within xs i x at, get_or_from_slice_get xs i x x at)
 
   pub each_has : (P : X → Type 0) (xs : List X) (x : X) → AllByRecursion P xs → Contains xs x → P x
   each_has P xs x h has = All-contains P xs x (All-from_recursion P xs h) has
@@ -53,21 +50,9 @@ module _ {X Y : Type 0} (f : X → Y) where
 -- ---- Sets
 
 module _ {X : Type 0} (same : X → X → Bool) where
-  with_from : (P : X → Type 0) (b : Bool) (xs : List X) (x : X) → AllByRecursion P xs → P x → AllByRecursion P (if b then xs else xs ++ x ∷ [])
-  with_from P true xs x h p = h
-  with_from P false xs x h p = pushed xs h
-    where
-      pushed : (ys : List X) → AllByRecursion P ys → AllByRecursion P (ys ++ x ∷ [])
-      pushed [] k = (p, tt)
-      pushed (y ∷ ys) k = (k.0, pushed ys k.1)
-
-  put_from : (P : X → Type 0) (xs ys : List X) → AllByRecursion P ys → AllByRecursion P xs → AllByRecursion P (fold (with_one same) ys xs)
-  put_from P [] ys h k = h
-  put_from P (x ∷ xs) ys h k = put_from P xs (with_one same ys x) (with_from P (list_any (same x) ys) ys x h k.0) k.1
-
   -- what holds of each holds of each of the set
   pub each_once : (P : X → Type 0) (xs : List X) → AllByRecursion P xs → AllByRecursion P (once same xs)
-  each_once P xs h = put_from P xs [] tt h
+  each_once P xs h = each-put P same xs [] tt h
 
   -- the set has no other
   pub once_from : (xs : List X) (x : X) → Contains (once same xs) x → Contains xs x

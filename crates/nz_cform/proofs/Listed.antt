@@ -1,6 +1,6 @@
 -- Numbers that are listed, as more are listed and as some are taken off.
-use Rattle.std.proofs.Common.{◌≡◌, ◌≢◌, ℕ, zero, suc, ◌<◌, ◌⊎◌, inl, inr, Bool, true, false, List, [], ◌∷◌, ◌++◌, length, Option, Some, None, Result, Ok, Err, refl, sym, ap, subst, ◌∙◌, arith, cond, true≢false, append_assoc}
-use Rattle.std.specs.Prelude.{All, Contains, IsSome, OnErr, OnOk, is_some, filter, slice_index_or}
+use Rattle.std.proofs.Common.{◌≡◌, ◌≢◌, ℕ, zero, suc, ◌<◌, ◌⊎◌, inl, inr, Bool, true, false, List, [], ◌∷◌, ◌++◌, length, Option, Some, None, refl, sym, ap, subst, ◌∙◌, arith, cond, true≢false, append_assoc}
+use Rattle.std.specs.Prelude.{All, Contains, IsSome, is_some, filter, slice_index_or}
 use Rattle.std.specs.List.{AllPairs}
 use Rattle.std.proofs.lemmas.List.{append-nil}
 use Rattle.std.proofs.lemmas.List.Elements.{All-contains, Contains-get_or, filter_passes}
@@ -86,35 +86,24 @@ still_listed a b level grows i some =
     let n = has_some (listed_at a i) some in
     subst (λ o. IsSome o) (sym (grows.stays i n.0 n.1)) refl
 
--- one number that is taken is growth, and just it is listed more
-module _ (s r : ListingState) (i level : ℕ) (takes : Takes s i level r) where
-  pub takes_grow : listed_at s i ≡ None → Grows s level r
-  takes_grow none =
-      record {
-        more = i ∷ [];
-        ids = takes.ids;
-        stays = λ k n at. elim (same_or_other k i) [
-          | inl same ↦ let both : None ≡ Some n = sym none ∙ ap (listed_at s) (sym same) ∙ at in cc
-          | inr other ↦ takes.others k other ∙ at
-        ];
-        added = λ k n before after. elim (same_or_other k i) [
-          | inl same ↦
-              let both : Some level ≡ Some n = sym takes.here ∙ ap (listed_at r) (sym same) ∙ after in
-              let one : level ≡ n = cc in
-              sym one
-          | inr other ↦ let both : None ≡ Some n = sym before ∙ sym (takes.others k other) ∙ after in cc
-        ];
-      }
-
-  pub takes_one : (k : ℕ) → listed_at s k ≡ None → IsSome (listed_at r k) → k ≡ i
-  takes_one k none some =
-      elim (same_or_other k i) [
-        | inl same ↦ same
-        | inr other ↦
-            let n = has_some (listed_at r k) some in
-            let both : None ≡ Some n.0 = sym (takes.others k other ∙ none) ∙ n.1 in
-            cc
-      ]
+-- one number that is taken is growth
+pub takes_grow : (s r : ListingState) (i level : ℕ) → Takes s i level r → listed_at s i ≡ None → Grows s level r
+takes_grow s r i level takes none =
+    record {
+      more = i ∷ [];
+      ids = takes.ids;
+      stays = λ k n at. elim (same_or_other k i) [
+        | inl same ↦ let both : None ≡ Some n = sym none ∙ ap (listed_at s) (sym same) ∙ at in cc
+        | inr other ↦ takes.others k other ∙ at
+      ];
+      added = λ k n before after. elim (same_or_other k i) [
+        | inl same ↦
+            let both : Some level ≡ Some n = sym takes.here ∙ ap (listed_at r) (sym same) ∙ after in
+            let one : level ≡ n = cc in
+            sym one
+        | inr other ↦ let both : None ≡ Some n = sym before ∙ sym (takes.others k other) ∙ after in cc
+      ];
+    }
 
 -- nothing is listed more where nothing has changed
 pub none_more : (s : ListingState) (i : ℕ) → listed_at s i ≡ None → IsSome (listed_at s i) → ⊥
@@ -122,25 +111,6 @@ none_more s i none some =
     let n = has_some (listed_at s i) some in
     let both : None ≡ Some n.0 = sym none ∙ n.1 in
     cc
-
--- so it is where it may be that nothing was taken
-pub put_grows : {X E : Type 0} (s r : ListingState) (i level : ℕ) (o : Result X E) → listed_at s i ≡ None → OnOk o (Takes s i level r) → OnErr o (r ≡ s) → Grows s level r
-put_grows s r i level (Ok x) none takes same = takes_grow s r i level takes none
-put_grows s r i level (Err e) none takes same = subst (Grows s level) (sym same) (grows_itself s level)
-
-pub put_one : {X E : Type 0} (s r : ListingState) (i level : ℕ) (o : Result X E) → OnOk o (Takes s i level r) → OnErr o (r ≡ s) → (k : ℕ) → listed_at s k ≡ None
-    → IsSome (listed_at r k) → k ≡ i
-put_one s r i level (Ok x) takes same k none some = takes_one s r i level takes k none some
-put_one s r i level (Err e) takes same k none some = absurd (none_more s k none (subst (λ (q : ListingState). IsSome (listed_at q k)) same some))
-
-pub put_listed : {X E : Type 0} (s r : ListingState) (i level : ℕ) (o : Result X E) → OnOk o (Takes s i level r) → OnOk o (IsSome (listed_at r i))
-put_listed s r i level (Ok x) takes = subst (λ p. IsSome p) (sym takes.here) refl
-put_listed s r i level (Err e) takes = tt
-
--- what isn't there is none
-pub none_there : (o : Option ℕ) → is_some o ≡ false → o ≡ None
-none_there None e = refl
-none_there (Some n) e = absurd (true≢false e)
 
 -- ---- Some are taken off
 

@@ -1,5 +1,5 @@
 -- What a covered term is made of is covered, and the clauses of the tables name just that.
-use Rattle.std.proofs.Common.{◌≡◌, ℕ, zero, suc, ◌<◌, ◌≤◌, inl, inr, List, [], ◌∷◌, length, map, get_or, Option, Some, None, refl, sym, ap, subst, ◌∙◌, arith}
+use Rattle.std.proofs.Common.{◌≡◌, ℕ, zero, suc, ◌<◌, ◌≤◌, inl, inr, List, [], ◌∷◌, length, get_or, Some, None, sym, ap, subst, ◌∙◌, arith}
 use Rattle.std.specs.Prelude.{All, Contains, slice_get}
 use Rattle.std.specs.List.{AllByRecursion}
 use Rattle.std.proofs.lemmas.List.Elements.{Contains-append_cases, Contains-push_cases, recursion_from_All}
@@ -7,7 +7,7 @@ use Rattle.std.proofs.lemmas.Option.{slice_get-get_or}
 use Rattle.nz_lists.proofs.Elements.{AllByRecursion-weaker}
 use Rattle.nz_spec.specs.FormOf.{number_in}
 use Rattle.nz_spec.specs.Gates.{clauses_over, gate_clauses}
-use Rattle.nz_spec.specs.Literal.{Clause, Literal, are_same_literal}
+use Rattle.nz_spec.specs.Literal.{are_same_literal}
 use Rattle.nz_spec.specs.Order.{post_order, post_orders}
 use Rattle.nz_spec.specs.Table.{Node, IsTable, HasOneNumberEach, OneNumber, TermOfNode, term_in, terms_at}
 use Rattle.nz_spec.specs.Taken.{IsTaken}

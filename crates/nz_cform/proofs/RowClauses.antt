@@ -1,9 +1,8 @@
 -- The clauses of the tables in a log: which terms their literals name, and at which level that puts them.
 use Rattle.std.proofs.Common.{◌≡◌, ℕ, zero, suc, ◌<◌, ◌≤◌, max, Bool, true, false, List, [], ◌∷◌, length, map, Option, Some, None, refl, sym, ap, subst, ◌∙◌, arith}
-use Rattle.std.specs.Prelude.{All, Contains, slice_get, slice_index_or, unwrap_or, option_map}
+use Rattle.std.specs.Prelude.{Contains, slice_get, slice_index_or, option_map}
 use Rattle.std.specs.List.{AllByRecursion}
-use Rattle.std.proofs.lemmas.Option.{slice_get_within}
-use Rattle.nz_lists.proofs.Elements.{AllByRecursion-map, AllByRecursion-weaker}
+use Rattle.nz_lists.proofs.Elements.{AllByRecursion-map}
 use Rattle.nz_fractions.specs.Fraction.{Fraction}
 use Rattle.nz_spec.specs.Computation.{Computation}
 use Rattle.nz_spec.specs.FormOf.{number_in}
@@ -15,7 +14,6 @@ use Rattle.nz_spec.specs.Table.{Node, IsTable, HasOneNumberEach, term_in}
 use Rattle.nz_spec.specs.Term as spec
 use Rattle.nz_spec.specs.Units.{unit_clauses}
 use Rattle.nz_spec.proofs.Literals.{same_literal}
-use Rattle.nz_lin.specs.declared.bound.Bound.{Bound}
 use Rattle.nz_lin.specs.declared.form.Part.{Part}
 use Rattle.nz_lin.specs.Bounds.{bounded}
 use Rattle.nz_lin.specs.Forms.{NamesUnit, parts_over}
@@ -23,13 +21,13 @@ use Rattle.nz_log.specs.declared.atoms.Atom.{Atom}
 use Rattle.nz_log.specs.declared.atoms.Atom.TheVariants.{Term, AtMost}
 use Rattle.nz_log.specs.declared.lits.Lit.{Lit}
 use Rattle.nz_log.specs.Atoms.{AreWithin, IsAtomIn, IsLitIn, atom_in, clause_in, literal_in, terms_at, terms_of, unit_numbers, with_sign}
-use Rattle.nz_log.specs.Axioms.{Axiom, link_of, unit_of, farkas_of, branch_of, cut_of}
+use Rattle.nz_log.specs.Axioms.{link_of, unit_of, farkas_of, branch_of, cut_of}
 use Rattle.nz_log.specs.Logs.{Origin, assertion_of, gate_of, axiom_of, chain_of, Entry, LogState, level_of_terms, level_with, row_term, told_level}
 use Rattle.nz_log.specs.Sound.{IsMade}
 use Rattle.nz_log.proofs.Extending.{literal_at}
 use Rattle.nz_log.proofs.Soundness.{level_grows, terms_grow}
 use Rattle.nz_log.proofs.Taken.{taken_now}
-use Rattle.nz_cform.proofs.Elements.{each_has, each_itself, has_first, has_behind, mapped_has, once_has}
+use Rattle.nz_cform.proofs.Elements.{each_has, mapped_has, once_has}
 use Rattle.nz_cform.proofs.RowNames.{Named, Names, names_of, negation_names, units_of}
 
 -- ---- What a literal names

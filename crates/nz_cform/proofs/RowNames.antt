@@ -1,12 +1,11 @@
 -- What the rows of the tables name: their term, and what it is made of.
-use Rattle.std.proofs.Common.{◌≡◌, ◌≢◌, ℕ, suc, ◌+◌, ◌<◌, ◌≤◌, ◌⊎◌, inl, inr, Bool, true, false, List, [], ◌∷◌, ◌++◌, length, map, Option, Some, None, pos, refl, sym, ap, subst, ◌∙◌, arith, true≢false}
-use Rattle.std.specs.Prelude.{Contains, nat_lt, if◌then◌else◌, ⊤}
+use Rattle.std.proofs.Common.{◌≡◌, ◌≢◌, ◌<◌, ◌≤◌, ◌⊎◌, inl, inr, Bool, true, false, List, [], ◌∷◌, length, map, Option, Some, None, pos, refl, sym, ap, subst, ◌∙◌, arith}
+use Rattle.std.specs.Prelude.{Contains, nat_lt, if◌then◌else◌}
 use Rattle.std.specs.List.{AllByRecursion}
-use Rattle.std.proofs.lemmas.List.Elements.{Contains-append_left, Contains-append_right, Contains-append_cases, Contains-push_cases, Contains-push}
-use Rattle.nz_lists.proofs.Elements.{AllByRecursion-weaker}
+use Rattle.std.proofs.lemmas.List.Elements.{Contains-append_left, Contains-append_right, Contains-append_cases, Contains-push_cases}
 use Rattle.nz_fractions.specs.Fraction.{Fraction, whole, outcome, Arithmetic, Sum, Difference, Product, Quotient}
 use Rattle.nz_spec.specs.Computation.{Computation, operated, at_once, turned_into, in_turn}
-use Rattle.nz_spec.specs.Term.{bool_sort, int_sort, real_sort, Head, equality, choice, less, at_most, integer_quotient, modulus, magnitude, to_int, is_int, Term, apply, Terms, no_terms, terms, is_zero}
+use Rattle.nz_spec.specs.Term.{int_sort, real_sort, Head, equality, choice, less, at_most, integer_quotient, modulus, magnitude, to_int, is_int, Term, apply, Terms, no_terms, terms, is_zero}
 use Rattle.nz_spec.specs.Same.{are_same_term}
 use Rattle.nz_spec.specs.Form.{Numbering, Part, Form, unit_form, with_part, negated_part, part_alone, part_joined, parts_joined}
 use Rattle.nz_spec.specs.FormOf.{form_of}
@@ -19,7 +18,7 @@ use Rattle.nz_spec.specs.Order.{post_order, post_orders}
 use Rattle.nz_spec.specs.Taken.{IsTakenHead, IsTaken}
 use Rattle.nz_spec.proofs.Same.{same_term}
 use Rattle.nz_spec.proofs.SumUnits.{OverUnits, OverTerm, OverTerms, form-over}
-use Rattle.nz_cform.proofs.Elements.{has_first, has_behind, each_has, each_of_has, each_itself}
+use Rattle.nz_cform.proofs.Elements.{has_first, has_behind}
 use Rattle.nz_cform.proofs.Parts.{itself}
 use Rattle.nz_cform.proofs.Sizes.{size, sizes}
 
@@ -61,10 +60,6 @@ mutual
     over_parts P t (λ u has. f u (Contains-append_left (post_order t) (post_orders ts) u has)),
     over_all P ts (λ u has. f u (Contains-append_right (post_order t) (post_orders ts) u has)),
   )
-
--- units of a form are terms that its term is made of
-pub units_are_parts : (number : Numbering) (t : Term) → OverUnits (Contains (post_order t)) (form_of number t).result.parts
-units_are_parts number t = form-over (Contains (post_order t)) number t (over_parts (Contains (post_order t)) t (λ u has. has))
 
 module _ (P : Term → Type 0) where
   abbrev pub Named : Literal → Type 0

@@ -1,12 +1,12 @@
 -- Truths and worths that meet the clauses of a log meet the tables.
-use Rattle.std.proofs.Common.{◌≡◌, ℕ, zero, suc, ◌<◌, Bool, List, [], ◌∷◌, length, map, Option, Some, None, refl, sym, ap, subst, ◌∙◌, arith}
+use Rattle.std.proofs.Common.{◌≡◌, ℕ, suc, ◌<◌, Bool, List, [], ◌∷◌, length, Option, Some, None, refl, sym, ap, subst, ◌∙◌}
 use Rattle.std.specs.Prelude.{Contains, IsSome, option_map, slice_get}
 use Rattle.std.specs.List.{AllByRecursion}
 use Rattle.std.proofs.lemmas.List.{length-map}
 use Rattle.std.proofs.lemmas.Option.{same_Some, slice_get_within}
 use Rattle.nz_spec.specs.Basis.{Valuation}
 use Rattle.nz_spec.specs.Computation.{Computation, at_once, turned_into}
-use Rattle.nz_spec.specs.Deciding.{HasMetLiteral, IsMet}
+use Rattle.nz_spec.specs.Deciding.{HasMetLiteral}
 use Rattle.nz_spec.specs.FormOf.{number_in}
 use Rattle.nz_spec.specs.Gates.{gate_clauses}
 use Rattle.nz_spec.specs.Links.{link_clauses}
@@ -19,7 +19,7 @@ use Rattle.nz_spec.specs.Units.{unit_clauses}
 use Rattle.nz_log.specs.declared.lits.Lit.{Lit}
 use Rattle.nz_log.specs.Atoms.{clause_in, literal_in}
 use Rattle.nz_log.specs.Axioms.{Axiom, IsAxiom, link_of, unit_of}
-use Rattle.nz_log.specs.Logs.{Origin, gate_of, axiom_of, Entry, LogState, entry_at, literals_at, row_term}
+use Rattle.nz_log.specs.Logs.{gate_of, axiom_of, Entry, LogState, entry_at, row_term}
 use Rattle.nz_log.specs.Sound.{GatesAreNamed, IsLog, IsMade}
 use Rattle.nz_log.specs.TermLits.{clause_of_terms, gates_at}
 use Rattle.nz_log.proofs.Taken.{taken_now}

@@ -1,15 +1,14 @@
 -- How the clauses of the tables of a term come into a log, one after another.
-use Rattle.std.proofs.Common.{◌≡◌, ℕ, suc, ◌<◌, ◌≤◌, ◌⊎◌, inl, inr, List, [], ◌∷◌, length, Option, Some, None, refl, sym, ap, subst, ◌∙◌, arith}
-use Rattle.std.specs.Prelude.{Contains, IsSome, option_map, unwrap_or, slice_get, slice_index_or}
+use Rattle.std.proofs.Common.{◌≡◌, ℕ, suc, ◌<◌, ◌≤◌, ◌⊎◌, inl, inr, List, [], ◌∷◌, length, Some, None, refl, sym, ap, subst, ◌∙◌, arith}
+use Rattle.std.specs.Prelude.{Contains, IsSome, option_map, unwrap_or, slice_index_or}
 use Rattle.std.specs.List.{AllByRecursion}
 use Rattle.std.proofs.lemmas.Option.{slice_get_within}
 use Rattle.nz_spec.specs.FormOf.{number_in}
 use Rattle.nz_spec.specs.Links.{link_clauses}
-use Rattle.nz_spec.specs.Literal.{Clause, clause_of, once}
+use Rattle.nz_spec.specs.Literal.{Clause, clause_of}
 use Rattle.nz_spec.specs.Table.{Node, HasOneNumberEach, term_in}
 use Rattle.nz_spec.specs.Taken.{IsTaken}
 use Rattle.nz_spec.specs.Units.{unit_clauses}
-use Rattle.nz_log.specs.declared.atoms.Atom.{Atom}
 use Rattle.nz_log.specs.declared.lits.Lit.{Lit}
 use Rattle.nz_log.specs.declared.term_lits.TermLit.{TermLit}
 use Rattle.nz_log.specs.Atoms.{AtomsOfTerms, HasTerm, IsLitIn, clause_in, lits_of}

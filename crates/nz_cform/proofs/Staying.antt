@@ -25,7 +25,7 @@ use Rattle.nz_log.specs.Theories.{Grows}
 use Rattle.nz_log.proofs.Extending.{same_stay}
 use Rattle.nz_cform.specs.Listings.{IsListedWithin, listed_at}
 use Rattle.nz_cform.specs.Forms.{FormState, covered_at, empty_form, IsCoveredWithin, Cuts}
-use Rattle.nz_cform.specs.Covering.{AreNamed, Covers, HasBound, HasRows, IsRowAt, gate_clause, gate_terms, kids_at, origin_at}
+use Rattle.nz_cform.specs.Covering.{AreNamed, Covers, HasRows, IsRowAt, gate_clause, gate_terms, kids_at, origin_at}
 use Rattle.nz_cform.specs.Laws.{CoversStay}
 use Rattle.nz_cform.proofs.Added.{put_kept}
 use Rattle.nz_cform.proofs.AtomsStay.{gate_stays}

@@ -97,18 +97,6 @@ start_underway ns id level log s inside covers told waiting one =
       parts = no_parts ns id s;
     }
 
--- at the end none waits
-module _ (ns : List Node) (id level : ℕ) (start : LogState) (first : FormState) (log : LogState) (s : FormState) (ids waiting : List ℕ)
-    (u : IsUnderway ns id level start first log s ids waiting) (none : waiting ≡ []) where
-  none_waits : All (IsCoveredWithin s level) waiting
-  none_waits = subst (All (IsCoveredWithin s level)) (sym none) (All-nil (IsCoveredWithin s level))
-
-  pub root_covered : IsSome (covered_at s id)
-  root_covered = let l = level_of (covered_at s id) level (u.reaches.root s (λ t n at. at) none_waits) in subst (λ o. IsSome o) (sym l.1) refl
-
-  pub all_covered : Covers ns log s
-  all_covered = record { within = u.within; rows = u.rows; bounds = u.bounds; arguments = u.reaches.arguments s (λ t n at. at) none_waits }
-
 -- ---- The one that waits last
 
 -- what holds of all that wait holds of it, and of the others
