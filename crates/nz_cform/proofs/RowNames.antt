@@ -267,9 +267,13 @@ module _ (number : Numbering) where
       let small : size a < size u = omega arith in
       let smaller : size b < size u = omega arith in (
         second_names u (fails c) (at_most_literal number u a).result (left_has u a refl small),
-        (second_names u (fails c) (at_most_literal number a u).result (right_has u a refl small),
-            (second_names u (holds c) (at_most_literal number u b).result (left_has u b refl smaller),
-            (second_names u (holds c) (at_most_literal number b u).result (right_has u b refl smaller), tt))),
+        (
+          second_names u (fails c) (at_most_literal number a u).result (right_has u a refl small),
+          (
+            second_names u (holds c) (at_most_literal number u b).result (left_has u b refl smaller),
+            (second_names u (holds c) (at_most_literal number b u).result (right_has u b refl smaller), tt),
+          ),
+        ),
       )
   units_name (choice int_sort) (terms c (terms a (terms b no_terms))) k = absurd k
   units_name integer_quotient (terms a (terms b no_terms)) k = absurd k

@@ -1,5 +1,5 @@
 //! The bounds that clauses of a log have.
-ghost use Rattle.std.specs.Prelude.{◌≡◌, ℕ, ◌<◌, [], ◌∷◌, length, None, Some, All, Contains, OnOk, IsSome, slice_get};
+ghost use Rattle.std.specs.Prelude.{◌≡◌, ℕ, ◌<◌, [], ◌∷◌, length, None, Some, All, OnOk, IsSome, slice_get};
 ghost use Rattle.nz_lin.specs.declared.bound.Bound.{Bound};
 ghost use Rattle.nz_log.specs.declared.atoms.Atom.TheVariants.{AtMost};
 ghost use Rattle.nz_cform.specs.Covering.{AreBoundsListed, AreBoundsOf, IsOnAtoms, IsRowAt};

@@ -1,5 +1,5 @@
 //! The clauses of one term.
-ghost use Rattle.std.specs.Prelude.{◌≡◌, ℕ, ◌<◌, List, length, IfErr, OnOk};
+ghost use Rattle.std.specs.Prelude.{ℕ, ◌<◌, length, IfErr, OnOk};
 ghost use Rattle.nz_spec.specs.FormOf.{number_in};
 ghost use Rattle.nz_spec.specs.Links.{link_clauses};
 ghost use Rattle.nz_spec.specs.Order.{HasCompanions};

@@ -1,5 +1,5 @@
 -- One literal after another.
-use Rattle.std.proofs.Common.{ℕ, ◌∷◌, [], List, false, get_or, sym, subst}
+use Rattle.std.proofs.Common.{List, false, get_or, subst}
 use Rattle.std.specs.Prelude.{Contains}
 use Rattle.std.proofs.lemmas.List.{take_all}
 use Rattle.std.proofs.lemmas.List.Elements.{Contains-get_or}

@@ -1,6 +1,6 @@
 -- One clause after another.
 use Rattle.std.proofs.Common.{◌≡◌, ℕ, ◌<◌, List, length, refl, subst, arith, add-one}
-use Rattle.nz_log.specs.Logs.{gate_entry, Puts}
+use Rattle.nz_log.specs.Logs.{gate_entry}
 use Rattle.nz_log.specs.Sound.{IsLog}
 use Rattle.nz_log.specs.TermLits.{gates_at}
 use Rattle.nz_cform.specs.Covering.{HasRowsBelow}

@@ -1,5 +1,5 @@
 -- One clause after another.
-use Rattle.std.proofs.Common.{◌≡◌, ℕ, ◌<◌, List, length, refl, subst, arith, add-one}
+use Rattle.std.proofs.Common.{◌≡◌, ℕ, List, length, refl, subst, arith, add-one}
 use Rattle.nz_spec.specs.FormOf.{number_in}
 use Rattle.nz_spec.specs.Units.{unit_clauses}
 use Rattle.nz_spec.specs.Table.{term_in}

@@ -1,15 +1,14 @@
 -- The stack leads from one term to what it is made of.
-use Rattle.std.proofs.Common.{◌≡◌, ◌<◌, List, [], ◌∷◌, ◌++◌, Some, None, Err, ap, sym, subst, ◌∙◌, rules}
+use Rattle.std.proofs.Common.{◌≡◌, ◌<◌, [], ◌∷◌, ◌++◌, Some, None, Err, ap, sym, subst, ◌∙◌, rules}
 use Rattle.std.specs.Prelude.{IfErr}
 use Rattle.nz_spec.specs.Table.{term_in}
 use Rattle.nz_term.specs.Heads.{head_of}
-use Rattle.nz_log.specs.Sound.{IsLog}
 use Rattle.nz_cform.specs.declared.stop.FormStop.{FormStop}
 use Rattle.nz_cform.specs.Forms.{Grows, covered_at}
 use Rattle.nz_cform.specs.Stops.{IsStopIn, OnWide}
 use Rattle.nz_cform.proofs.Listed.{has_some}
 use Rattle.nz_cform.proofs.Sizes.{less_gone, less_opened, total}
-use Rattle.nz_cform.proofs.Underway.{IsUnderway, cover_on, grows_itself, grows_more, is_taken, is_within, no_parts, parts_on, skip, start_underway, stops_too}
+use Rattle.nz_cform.proofs.Underway.{IsUnderway, cover_on, grows_more, is_taken, is_within, no_parts, parts_on, skip, start_underway, stops_too}
 use Rattle.nz_cform.proofs.form.ClauseForm.add_term.Goals as goal
 use Rattle.nz_cform.proofs.form.ClauseForm.add_term.Goals.{After-cover, In-Some}
 
