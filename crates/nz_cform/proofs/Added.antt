@@ -8,10 +8,10 @@ use Rattle.std.proofs.lemmas.List.Kept.{AllPairs-cons}
 use Rattle.nz_spec.specs.Table.{Node}
 use Rattle.nz_log.specs.Logs.{Entry, JoinsAtoms, LogState, entry_at, IsLive, Puts, row_term}
 use Rattle.nz_log.specs.Sound.{IsLog}
+use Rattle.nz_log.proofs.Soundness.{same_or_other}
 use Rattle.nz_cform.specs.Covering.{AddsRows, AreAdded, GoesOn, IsRowAt, Keeps}
 use Rattle.nz_cform.proofs.Elements.{has_first, has_behind}
 use Rattle.nz_cform.proofs.Kept.{row_kept, row_live}
-use Rattle.nz_cform.proofs.Listed.{same_or_other}
 
 -- ---- Pairs of two lists
 

@@ -11,13 +11,14 @@ use Rattle.nz_log.specs.Axioms.{link_of, unit_of}
 use Rattle.nz_log.specs.Logs.{axiom_of, LogState, entry_at, level_at, told_of, told_level, lowest}
 use Rattle.nz_log.specs.TermLits.{gates_at}
 use Rattle.nz_log.proofs.Extending.{same_stay}
+use Rattle.nz_log.proofs.Soundness.{same_or_other}
 use Rattle.nz_cform.specs.Listings.{Grows, IsListedWithin, Takes, listed_at}
 use Rattle.nz_cform.specs.Forms.{FormState, covered_at}
 use Rattle.nz_cform.specs.Covering.{AreAdded, AreBoundsListed, AreBoundsOf, AreNamed, HasBound, HasBounds, HasRows, HasRowsBelow, IsRowAt, Keeps, gate_clause}
 use Rattle.nz_cform.proofs.Added.{keeps_twice}
 use Rattle.nz_cform.proofs.Kept.{bound_kept, bound_was, clause_kept, level_kept, on_atoms_kept, origin_kept, row_live, row_was}
 use Rattle.nz_cform.proofs.Levels.{covered_within, level_of}
-use Rattle.nz_cform.proofs.Listed.{has_some, none_or_some, same_or_other}
+use Rattle.nz_cform.proofs.Listed.{has_some, none_or_some}
 
 -- a log with the same clauses
 pub same_entry : (old new : LogState) → new.entries ≡ old.entries → (i : ℕ) → entry_at new i ≡ entry_at old i

@@ -7,16 +7,10 @@ use Rattle.std.proofs.lemmas.List.Elements.{All-contains, Contains-get_or, filte
 use Rattle.std.proofs.lemmas.List.Kept.{AllPairs-filter}
 use Rattle.std.proofs.lemmas.List.Quantifiers.{all_pairs_push}
 use Rattle.nz_log.specs.Logs.{told_below}
+use Rattle.nz_log.proofs.Soundness.{same_or_other}
 use Rattle.nz_cform.specs.Listings.{ListingState, listed_at, IsListing, Takes, Grows, Cuts}
 
--- ---- Numbers and options
-
--- two numbers are one, or they are not
-pub same_or_other : (i j : ℕ) → (i ≡ j) ⊎ (i ≢ j)
-same_or_other zero zero = inl refl
-same_or_other zero (suc j) = inr (λ e. omega arith)
-same_or_other (suc i) zero = inr (λ e. omega arith)
-same_or_other (suc i) (suc j) = elim (same_or_other i j) [ inl e ↦ inl (ap suc e) | inr other ↦ inr (λ e. other (omega arith)) ]
+-- ---- Options
 
 -- an option has a value, or none
 pub none_or_some : (o : Option ℕ) → (o ≡ None) ⊎ ((n : ℕ) × (o ≡ Some n))

@@ -17,6 +17,7 @@ use Rattle.nz_log.specs.Lits.{are_same_lit}
 use Rattle.nz_log.specs.Logs.{Origin, assertion_of, gate_of, axiom_of, chain_of, Entry, LogState, axiom_entry, entry_at, gate_entry, level_at, row_term, told_of, told_level, Puts, PutsAxiom}
 use Rattle.nz_log.specs.TermLits.{gates_at}
 use Rattle.nz_log.proofs.Members.{each_of}
+use Rattle.nz_log.proofs.Soundness.{same_or_other}
 use Rattle.nz_cform.specs.Forms.{FormState, covered_at}
 use Rattle.nz_cform.specs.Covering.{AreNamed, HasClause, HasGate, HasRowsBelow, IsBelow, IsOnAtoms, IsRowAt, gate_clause, gate_terms, origin_at}
 use Rattle.nz_cform.proofs.Added.{put_kept}
@@ -24,7 +25,6 @@ use Rattle.nz_cform.proofs.AtomsStay.{gate_stays}
 use Rattle.nz_cform.proofs.Elements.{each_has, each_once}
 use Rattle.nz_cform.proofs.GateLevels.{gate_level}
 use Rattle.nz_cform.proofs.Kept.{clause_kept, level_kept, made_live, on_atoms_kept}
-use Rattle.nz_cform.proofs.Listed.{same_or_other}
 use Rattle.nz_cform.proofs.RowClauses.{placed, says_level}
 use Rattle.nz_cform.proofs.RowNames.{Names, each_link_names, each_unit_names}
 

@@ -8,6 +8,7 @@ use Rattle.nz_spec.specs.Taken.{IsTaken, TakenTermsAreInOrder}
 use Rattle.nz_spec.specs.Order.{post_order}
 use Rattle.nz_log.specs.Logs.{LogState, told_level}
 use Rattle.nz_log.specs.Sound.{IsLog}
+use Rattle.nz_log.proofs.Soundness.{same_or_other}
 use Rattle.nz_cform.specs.declared.stop.FormStop.{FormStop}
 use Rattle.nz_cform.specs.declared.stop.FormStop.TheVariants.{Wide, Memory}
 use Rattle.nz_cform.specs.Listings.{Takes}
@@ -16,7 +17,7 @@ use Rattle.nz_cform.specs.Covering.{AddsRows, AreAdded, Covers, HasBounds, HasRo
 use Rattle.nz_cform.specs.Stops.{IsStopIn, OnWide}
 use Rattle.nz_cform.proofs.Added.{added_twice, keeps_twice, none_added}
 use Rattle.nz_cform.proofs.Levels.{covered_within, level_of}
-use Rattle.nz_cform.proofs.Listed.{none_more, none_or_some, same_or_other}
+use Rattle.nz_cform.proofs.Listed.{none_more, none_or_some}
 use Rattle.nz_cform.proofs.Listed as listed
 use Rattle.nz_cform.proofs.Parts.{arguments_are_parts, itself, part_of_part}
 

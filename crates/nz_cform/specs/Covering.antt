@@ -62,7 +62,8 @@ IsRowAt log i t = (o : Origin) × (origin_at log i ≡ Some o) × (row_term o �
 abbrev pub IsOnAtoms : LogState → ℕ → Type 0
 IsOnAtoms log i = (l : Lit) → Contains (literals_at log i) l → l.atom < length log.atoms
 
--- The clauses of the tables in the log are those of the covered terms, each once, at the level of its term, which is the level told of it.
+-- The clauses of the tables in the log are those of the covered terms, each once, on atoms that are there, at the level of its term, which is the level
+-- told of it.
 pub record HasRows (ns : List Node) (log : LogState) (s : FormState) : Type 0 where
   pub gates : (t n j : ℕ) → covered_at s t ≡ Some n → j < length (gates_at ns t) → HasGate ns log t j n
   pub links : (t n j : ℕ) → covered_at s t ≡ Some n → j < length (link_clauses (number_in ns) (term_in ns t)) → HasClause log (axiom_of (link_of t j)) n
@@ -131,15 +132,15 @@ IsBelow gates links units (axiom_of (unit_of t j)) = j < units
 IsBelow gates links units o = ⊤
 
 -- It is as in `HasRows` where of one covered term just so many clauses of each table are in the log; no level told is above that of the term.
-pub record HasRowsBelow (ns : List Node) (log : LogState) (s : FormState) (term g k u : ℕ) : Type 0 where
-  pub gates : (t n j : ℕ) → covered_at s t ≡ Some n → j < length (gates_at ns t) → (t ≡ term → j < g) → HasGate ns log t j n
-  pub links : (t n j : ℕ) → covered_at s t ≡ Some n → j < length (link_clauses (number_in ns) (term_in ns t)) → (t ≡ term → j < k) → HasClause log (axiom_of (link_of t j)) n
-  pub units : (t n j : ℕ) → covered_at s t ≡ Some n → j < length (unit_clauses (number_in ns) (term_in ns t)) → (t ≡ term → j < u) → HasClause log (axiom_of (unit_of t j)) n
+pub record HasRowsBelow (ns : List Node) (log : LogState) (s : FormState) (term gate_count link_count unit_count : ℕ) : Type 0 where
+  pub gates : (t n j : ℕ) → covered_at s t ≡ Some n → j < length (gates_at ns t) → (t ≡ term → j < gate_count) → HasGate ns log t j n
+  pub links : (t n j : ℕ) → covered_at s t ≡ Some n → j < length (link_clauses (number_in ns) (term_in ns t)) → (t ≡ term → j < link_count) → HasClause log (axiom_of (link_of t j)) n
+  pub units : (t n j : ℕ) → covered_at s t ≡ Some n → j < length (unit_clauses (number_in ns) (term_in ns t)) → (t ≡ term → j < unit_count) → HasClause log (axiom_of (unit_of t j)) n
   pub of_covered : (i t : ℕ) → IsRowAt log i t → covered_at s t ≡ Some (level_at log i)
   pub once : (i l : ℕ) (o : Origin) → IsSome (row_term o) → origin_at log i ≡ Some o → origin_at log l ≡ Some o → i ≡ l
   pub told : (t : ℕ) → told_of log t ≡ covered_at s t
   pub on_atoms : (i t : ℕ) → IsRowAt log i t → IsOnAtoms log i
-  pub put : (i : ℕ) (o : Origin) → row_term o ≡ Some term → origin_at log i ≡ Some o → IsBelow g k u o
+  pub put : (i : ℕ) (o : Origin) → row_term o ≡ Some term → origin_at log i ≡ Some o → IsBelow gate_count link_count unit_count o
   pub level : ℕ
   pub covered : covered_at s term ≡ Some level
   pub highest : (t : ℕ) → told_level log t ≤ level
