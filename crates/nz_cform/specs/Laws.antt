@@ -1,5 +1,5 @@
 -- Laws of covered terms.
-use Rattle.std.specs.Prelude.{◌≡◌, ℕ, Bool, List, ◌++◌, Option, None, Some, Contains, IsSome}
+use Rattle.std.specs.Prelude.{◌≡◌, ℕ, Bool, List, ◌++◌, Option, None, Contains, IsSome}
 use Rattle.nz_spec.specs.Basis.{Valuation}
 use Rattle.nz_spec.specs.Deciding.{IsMet, HasMetLiteral}
 use Rattle.nz_spec.specs.FormOf.{number_in}
@@ -7,7 +7,7 @@ use Rattle.nz_spec.specs.Gates.{gate_clauses}
 use Rattle.nz_spec.specs.Links.{link_clauses}
 use Rattle.nz_spec.specs.Computation.{Computation}
 use Rattle.nz_spec.specs.Literal.{Clause}
-use Rattle.nz_spec.specs.Order.{HasCompanions, post_order}
+use Rattle.nz_spec.specs.Order.{post_order}
 use Rattle.nz_spec.specs.Table.{Node, IsTable, term_in}
 use Rattle.nz_spec.specs.Taken.{IsTaken}
 use Rattle.nz_spec.specs.Term.{Term}

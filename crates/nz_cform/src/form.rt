@@ -1,22 +1,22 @@
 //! Which terms have their clauses in a log.
-ghost use Rattle.std.specs.Prelude.{◌≡◌, ◌≢◌, ◌↔◌, ℕ, ◌≤◌, ◌<◌, List, length, None, Some, All, Contains, OnErr, OnOk, IfErr, IfOk, IsSome, is_some};
+ghost use Rattle.std.specs.Prelude.{◌≡◌, ◌≢◌, ◌↔◌, ℕ, ◌≤◌, ◌<◌, List, length, None, Contains, OnOk, IfErr, IfOk, IsSome, is_some};
 ghost use Rattle.std.specs.List.{AllPairs};
 ghost use Rattle.nz_spec.specs.Order.{HasCompanions, post_order};
 ghost use Rattle.nz_spec.specs.Table.{term_in};
 ghost use Rattle.nz_spec.specs.Taken.{IsTaken};
-ghost use Rattle.nz_log.specs.Atoms.{AreAtoms};
-ghost use Rattle.nz_log.specs.Logs.{LogState, told_level};
+ghost use Rattle.nz_log.specs.Logs.{told_level};
 ghost use Rattle.nz_log.specs.Sound.{IsLog};
-ghost use Rattle.nz_cform.specs.Covering.{AreAdded, Covers, Keeps};
+ghost use Rattle.nz_cform.specs.Covering.{AddsRows, AreAdded, Covers, HasBounds, HasRows, Keeps};
 ghost use Rattle.nz_cform.specs.Forms.{Cuts, Grows, covered_at, empty_form};
-ghost use Rattle.nz_cform.specs.Listings.{listed_at};
+ghost use Rattle.nz_cform.specs.Listings.{Takes, listed_at};
 ghost use Rattle.nz_cform.specs.Stops.{IsStopIn, OnWide};
 
+use crate::bounds::list_bounds;
 use crate::listing::Listing;
 use crate::rows::{add_gates, add_links, add_units};
 use crate::stop::FormStop;
-use nz_base::Memory;
-use nz_log::{Atom, AtomId, ClauseId, Log};
+use nz_log::{AtomId, ClauseId, Log};
+use nz_spec::deciding::taken_terms_are_in_order;
 use nz_term::{TermId, Terms};
 use std::alloc::Global;
 use std::marker::Model;
@@ -107,6 +107,7 @@ impl ClauseForm {
         ensures sound { (levels : List (List ℕ)) → IsLog terms.now levels log.old → IsLog terms.now levels log.new }
         ensures stop { IfErr result (λ e. OnWide e (IsStopIn terms.now (term_in terms.now id))) }
     {
+        taken_terms_are_in_order();
         let mut clauses = Vec::new(alloc);
         let mut waiting = Vec::new(alloc);
         waiting.push(id)?;
@@ -128,7 +129,25 @@ impl ClauseForm {
         term: TermId,
         level: usize,
         clauses: &mut Vec<ClauseId>,
-    ) -> Result<(), FormStop> {
+    ) -> Result<(), FormStop>
+        requires within { term < length terms.now }
+        requires taken { IsTaken (term_in terms.now term) }
+        requires companions { HasCompanions terms.now }
+        requires uncovered { covered_at self.old term ≡ None }
+        requires told { (t : ℕ) → told_level log.old t ≤ level }
+        requires rows { HasRows terms.now log.old self.old }
+        requires bounds { HasBounds log.old self.old }
+        ensures taken { OnOk result (Takes self.old.terms term level self.new.terms) }
+        ensures rows { OnOk result (HasRows terms.now log.new self.new) }
+        ensures bounds { OnOk result (HasBounds log.new self.new) }
+        ensures adds { OnOk result (AddsRows term log.old clauses.old.items log.new clauses.new.items) }
+        ensures grown { Grows self.old level self.new }
+        ensures kept { Keeps log.old log.new }
+        ensures told { (t : ℕ) → told_level log.new t ≤ level }
+        ensures only { (t : ℕ) → covered_at self.old t ≡ None → IsSome (covered_at self.new t) → t ≡ term }
+        ensures sound { (levels : List (List ℕ)) → IsLog terms.now levels log.old → IsLog terms.now levels log.new }
+        ensures stop { IfErr result (λ e. OnWide e (IsStopIn terms.now (term_in terms.now term))) }
+    {
         // The level is told before the clauses are put: each of them names the term, and so it is of this level.
         log.place(term, level)?;
         self.terms.put(term, level)?;
@@ -136,19 +155,7 @@ impl ClauseForm {
         add_gates(log, terms, term, clauses)?;
         add_links(log, terms, term, clauses)?;
         add_units(log, terms, term, clauses)?;
-        for i in from..clauses.len() {
-            self.list_bounds(log, clauses[i], level)?;
-        }
-        Ok(())
-    }
-
-    /// Lists the bounds of a clause that aren't listed.
-    fn list_bounds(&mut self, log: &Log, clause: ClauseId, level: usize) -> Result<(), Memory> {
-        for literal in log.clause(clause) {
-            if matches!(log.atom(literal.atom), Atom::AtMost(_)) && !self.bounds.has(literal.atom) {
-                self.bounds.put(literal.atom, level)?;
-            }
-        }
+        list_bounds(&mut self.bounds, log, &clauses[from..], level)?;
         Ok(())
     }
 

@@ -18,6 +18,7 @@ pub fn rows_name_covered()
 {
     term_of_node();
     one_number();
+    gates_are_named();
 }
 
 /// Truths and worths that meet the clauses in a log meet the tables.
@@ -25,6 +26,5 @@ pub fn rows_meet_tables()
     ensures met { RowsMeetTables }
 {
     term_of_node();
-    one_number();
     gates_are_named();
 }

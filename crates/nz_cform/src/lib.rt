@@ -2,6 +2,7 @@
 //! What is added costs time and memory in proportion to what is new, and not to the table.
 #![tactic(auto)]
 
+mod bounds;
 mod form;
 pub mod laws;
 mod listing;

@@ -1,4 +1,6 @@
 //! Why clauses may not be put.
+ghost use Rattle.nz_cform.specs.Stops.{IsStopOf};
+
 use nz_base::Memory;
 use nz_frac::Wide;
 use nz_lin::LinStop;
@@ -16,27 +18,49 @@ pub enum FormStop {
 
 impl FormStop {
     /// What stops a row of this term.
-    pub(crate) fn of(stop: LinStop, term: TermId) -> FormStop {
+    pub(crate) fn of(stop: LinStop, term: TermId) -> FormStop
+        ensures stop { IsStopOf stop term result }
+    {
         match stop {
-            LinStop::Wide(wide) => FormStop::Wide(wide, term),
+            LinStop::Wide(wide) => {
+                // Both operands are numbers, as every fraction is.
+                wide.a.num();
+                wide.b.num();
+                FormStop::Wide(wide, term)
+            }
             LinStop::Memory => FormStop::Memory,
         }
     }
 }
 
 impl From<Memory> for FormStop {
+    ghost use Rattle.std.specs.Prelude.{◌≡◌};
+    ghost use Rattle.nz_cform.specs.declared.stop.FormStop.TheVariants as stop;
+
+    ghost from_gives = { λ _ s. s ≡ stop.Memory };
+
     fn from(_error: Memory) -> FormStop {
         FormStop::Memory
     }
 }
 
 impl From<AllocError> for FormStop {
+    ghost use Rattle.std.specs.Prelude.{◌≡◌};
+    ghost use Rattle.nz_cform.specs.declared.stop.FormStop.TheVariants as stop;
+
+    ghost from_gives = { λ _ s. s ≡ stop.Memory };
+
     fn from(_error: AllocError) -> FormStop {
         FormStop::Memory
     }
 }
 
 impl<T: Drop> From<AllocFailed<T>> for FormStop {
+    ghost use Rattle.std.specs.Prelude.{◌≡◌};
+    ghost use Rattle.nz_cform.specs.declared.stop.FormStop.TheVariants as stop;
+
+    ghost from_gives = { λ _ s. s ≡ stop.Memory };
+
     fn from(_error: AllocFailed<T>) -> FormStop {
         FormStop::Memory
     }

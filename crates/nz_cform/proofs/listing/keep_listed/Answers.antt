@@ -2,10 +2,10 @@
 use Rattle.std.proofs.Common.{rules}
 use Rattle.std.specs.Prelude.{is_some, slice_index_or, None}
 use Rattle.std.proofs.lemmas.Fn.{filter_same}
-use Rattle.nz_cform.proofs.form.keep_covered.Goals as goal
+use Rattle.nz_cform.proofs.listing.keep_listed.Goals as goal
 
 pub returns : goal.returns
 returns c =
     record {
-      kept = filter_same _ (λ t. is_some (slice_index_or c.args.levels.now t None)) _ (λ t b f k. search rules) _ _ c.retain.ensures.filtered;
+      kept = filter_same _ (λ i. is_some (slice_index_or c.args.levels.now i None)) _ (λ i b f k. search rules) _ _ c.retain.ensures.filtered;
     }
