@@ -28,10 +28,11 @@ use Rattle.nz_sat.proofs.Advancing.{grows_none}
 use Rattle.nz_sat.proofs.Clausal.{open_grows}
 use Rattle.nz_sat.proofs.Cutting.{below_all, below_join, below_none}
 use Rattle.nz_sat.proofs.Numbering.{number_found, number_place, unit_noted}
-use Rattle.nz_sat.proofs.Trailing.{assigned_at, each_push, level_within, order_put}
+use Rattle.nz_sat.proofs.Tracking.{trail_push}
+use Rattle.nz_sat.proofs.Trailing.{assigned_at, level_within}
 
 module _ (log : LogState) (held : List Held) (s : Search) (h : IsSearch log held s) (t : ℕ) (sign : Bool)
-    (free : assigned s.trail.entries t ≡ None) (atom : Contains s.atoms t) where
+    (free : assigned s.trail.entries t ≡ None) (atom : Contains s.atoms t) (whole : s.bounds.told ≡ length s.trail.entries) where
   abbrev pub literal : Lit
   literal = record { atom = t; sign = sign }
 
@@ -56,14 +57,11 @@ module _ (log : LogState) (held : List Held) (s : Search) (h : IsSearch log held
         listed = h.listed;
         only = h.only;
         named = h.named;
-        there = h.there;
-        on_trail = All-push (λ (e : Assigned). Contains s.atoms e.literal.atom) s.trail.entries entry h.on_trail atom;
         within = h.within;
         indexed = h.indexed;
         marks = h.marks;
         unmarked = h.unmarked;
-        order = order_put s.trail.size s.trail.entries entry h.order free (All-contains (λ (u : ℕ). u < s.trail.size) s.atoms t h.within atom) (sym more_depth);
-        implied = each_push (IsImplied log) s.trail.entries entry h.implied tt;
+        on = trail_push log s.atoms s.bounds s.trail h.on entry free (All-contains (λ (u : ℕ). u < s.trail.size) s.atoms t h.within atom) atom tt (sym more_depth) (inr whole);
         reasons = All-push (HasReasonOf (ids held)) s.trail.entries entry h.reasons tt;
       }
 
@@ -75,7 +73,7 @@ module _ (log : LogState) (held : List Held) (s : Search) (h : IsSearch log held
 
   up_to_depth : AreUpTo (depth s.trail.entries) s.trail.entries
   up_to_depth k d inside =
-      level_within s.trail.size s.trail.entries h.order k (get_or s.trail.entries k d) (slice_get-get_or s.trail.entries k d inside)
+      level_within s.trail.size s.trail.entries h.on.order k (get_or s.trail.entries k d) (slice_get-get_or s.trail.entries k d inside)
 
   pub decided_were : AreOpen log held s.trail.entries → WereOpen log held s.trail.entries → WereOpen log held more
   decided_were all_open were k less =
@@ -140,7 +138,7 @@ module _ (log : LogState) (held : List Held) (s : Search) (h : IsSearch log held
       same_Some e.literal.atom t
       (sym (number_place s.atoms e.literal.atom its.0 its.1) ∙ ap (slice_get s.atoms) one ∙ number_place s.atoms t mine.0 mine.1) in
       let there : assigned s.trail.entries t ≡ Some e =
-      ap (assigned s.trail.entries) (sym on) ∙ assigned_at s.trail.entries i e at (h.order i e at).fresh in
+      ap (assigned s.trail.entries) (sym on) ∙ assigned_at s.trail.entries i e at (h.on.order i e at).fresh in
       let clash : None ≡ Some e = sym free ∙ there in
       cc where
         found : (u : ℕ) → Contains s.atoms u → (n : ℕ) × (number_of s.atoms u ≡ Some n)
@@ -157,7 +155,7 @@ module _ (log : LogState) (held : List Held) (s : Search) (h : IsSearch log held
       let P : ℕ × Bool → Type 0 = λ p. p.0 ≢ number in
       let f : Assigned → ℕ × Bool = λ e. numbered s.atoms e.literal in
       let each : All (λ (e : Assigned). P (f e)) s.trail.entries =
-      λ k d inside. other_number k (get_or s.trail.entries k d) (slice_get-get_or s.trail.entries k d inside) (h.on_trail k d inside) in
+      λ k d inside. other_number k (get_or s.trail.entries k d) (slice_get-get_or s.trail.entries k d inside) (h.on.on_trail k d inside) in
       let may : MayDecide r number =
       record {
         named = omega arith;
