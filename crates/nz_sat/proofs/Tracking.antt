@@ -19,8 +19,8 @@ use Rattle.nz_sat.specs.declared.consult.Bounds.{Bounds}
 use Rattle.nz_sat.specs.declared.trail.Assigned.{Assigned}
 use Rattle.nz_sat.specs.Clauses.{IsImplied, IsReasonOf}
 use Rattle.nz_sat.specs.Conflicts.{is_marked}
-use Rattle.nz_sat.specs.Theories.{AreLast, IsTrailOn, is_bound, is_bound_at}
-use Rattle.nz_sat.specs.Trails.{EachBehind, GoesOn, IsNext, IsTrail, TrailState, assigned, below, depth, with_entry}
+use Rattle.nz_sat.specs.Theories.{AreLast, IsTrailOn, is_bound, is_bound_at, told_on}
+use Rattle.nz_sat.specs.Trails.{DropsLast, EachBehind, GoesOn, IsNext, IsTrail, TrailState, assigned, below, depth, with_entry}
 use Rattle.nz_sat.proofs.Chains.{map_has}
 use Rattle.nz_sat.proofs.Cutting.{below_all, below_join, below_none}
 use Rattle.nz_sat.proofs.LearnedClauses.{all_from}
@@ -231,3 +231,17 @@ module _ (log : LogState) (atoms : List ℕ) (b : Bounds) (t : TrailState) (h : 
                   let P : Assigned → Type 0 = λ e. e.level ≡ depth (below j es) in
                   subst (All P) (sym none) (All-nil P)
             ]
+
+-- no more was told than how many places there are
+pub told_few : (b : Bounds) (es : List Assigned) → length (told_on b es) ≤ b.told
+told_few b es =
+    let p : Assigned → Bool = λ e. is_marked b.marks.items e.literal.atom in
+    let parts = length-filter_both p (λ e. not (p e)) (λ e. refl) (take b.told es) in
+    let most = length-take b.told es in
+    let least = min-le_left b.told (length es) in
+    omega (arith, parts, most, least)
+
+-- an entry that is taken off was counted
+pub count_more : (b : Bounds) (old new : List Assigned) (k : ℕ) {l : Lit} → (d : DropsLast k old new l) → (n : ℕ) → length (told_on b (new ++ d.last ∷ [])) ≡ length (told_on b new) + n
+    → length (told_on b old) ≡ length (told_on b new) + n
+count_more b old new k d n more = ap (λ (xs : List Assigned). length (told_on b xs)) d.joined ∙ more

@@ -1,5 +1,5 @@
 //! What a theory is told of a trail, and what it answers.
-ghost use Rattle.std.specs.Prelude.{◌≡◌, ℕ, ◌+◌, ◌<◌, ◌++◌, ◌∷◌, [], All, Contains, List, None, length, min, IfErr, IfOk, OnErr, OnOk};
+ghost use Rattle.std.specs.Prelude.{◌≡◌, ℕ, ◌+◌, ◌<◌, ◌^◌, ◌++◌, ◌∷◌, [], All, Contains, List, None, length, min, IfErr, IfOk, OnErr, OnOk};
 ghost use Rattle.nz_spec.specs.Work.{IsSpent, with_line};
 ghost use Rattle.nz_log.specs.declared.stop.Stop.TheVariants as stop;
 ghost use Rattle.nz_log.specs.Leveled.{AreToldAtoms};
@@ -14,7 +14,7 @@ use nz_base::{Memory, Work};
 use nz_log::laws::{clauses_are_true, tells_lits};
 use nz_log::{Atom, AtomId, ClauseId, Lit, Log, Note, Stop, Theory};
 use nz_spec::derivation::negation_is_other;
-use nz_spec::work::{legal_work_goes_on, pivots_are_legal};
+use nz_spec::work::pivots_are_legal;
 use std::alloc::Global;
 
 /// Which atoms are bounds, and up to which place of a trail a theory was told those.
@@ -41,7 +41,7 @@ impl Bounds {
     {
         let mut marks = vec![in alloc; false; size]?;
         for id in ids {
-            marks[*id] = matches!(log.atom(*id), Atom::AtMost(_));
+            marks[*id] = is_bound(log, *id);
         }
         Ok(Bounds { marks, told: 0 })
     }
@@ -59,8 +59,10 @@ impl Bounds {
     /// How many bounds the theory was told with the entry of an atom at a place: 1 or 0.
     pub fn told_at(&self, place: usize, atom: AtomId) -> usize
         ensures one { (es : List Assigned) (e : Assigned) → length es ≡ place → e.literal.atom ≡ atom → length (told_on self.now (es ++ e ∷ [])) ≡ length (told_on self.now es) + result }
+        ensures few { (es : List Assigned) → length (told_on self.now es) < 2 ^ 64 }
     {
-        if place < self.told && self.has(atom) {
+        let told = self.told;
+        if place < told && self.has(atom) {
             return 1;
         }
         0
@@ -73,6 +75,17 @@ impl Bounds {
         if places < self.told {
             self.told = places;
         }
+    }
+}
+
+/// Whether an atom of a log is a bound.
+fn is_bound(log: &Log, id: AtomId) -> bool
+    requires within { id < length log.now.atoms }
+    ensures bound { result ≡ is_bound_at log.now.atoms id }
+{
+    match log.atom(id) {
+        Atom::Term(_) => false,
+        Atom::AtMost(_) => true,
     }
 }
 
@@ -106,7 +119,6 @@ fn tell_one<T: Theory>(
         log.old log.new atoms.now literal work.old work.new result }
     ensures unspent { IfErr result (λ e. e ≡ stop.Spent → ⊥) }
 {
-    legal_work_goes_on();
     match theory.assert_lit(log, literal) {
         Ok(Some(clash)) => Ok(Some(clash)),
         Ok(None) => {

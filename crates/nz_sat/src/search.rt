@@ -31,7 +31,6 @@ use nz_base::{Entry, Literals, Memory, Work};
 use nz_log::laws::{clauses_are_true, tells_lits};
 use nz_log::{AtomId, ClauseId, Lit, Log, Note, Stop, Theory};
 use nz_spec::derivation::negation_is_other;
-use nz_spec::work::legal_work_goes_on;
 use std::alloc::Global;
 
 /// A search under way.
@@ -368,7 +367,6 @@ impl Search {
         tells_lits();
         clauses_are_true();
         negation_is_other();
-        legal_work_goes_on();
         let alloc = *held.allocator();
         let learned = learned_clause(
             alloc,

@@ -13,7 +13,6 @@ use crate::clauses::Held;
 use crate::search::Search;
 use nz_base::Work;
 use nz_log::{AtomId, ClauseId, Lit, Log, Note, Stop, Theory};
-use nz_spec::work::legal_work_goes_on;
 
 impl Search {
     /// Learns from a clause in which each literal is false, one of them of the last level, makes true what the clauses make true with that, and
@@ -98,7 +97,6 @@ impl Search {
         ensures settled { IfOk result (λ r. r ≡ None → SettlesOn log.new held.new.items self.old self.new work.old work.new) }
         ensures refuted { IfOk result (λ r. IfSome r (λ id. IsLive log.new id × ((assumed : List Lit) → All (IsAssumed assumed) self.old.trail.entries → Refutes assumed (literals_at log.new id)))) }
     {
-        legal_work_goes_on();
         let from = self.decide(work, atom)?;
         self.settle(log, held, theory, work, from)
     }

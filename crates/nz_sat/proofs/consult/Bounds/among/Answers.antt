@@ -1,33 +1,48 @@
-use Rattle.std.proofs.Common.{rules, ◌≡◌, ℕ, ◌+◌, ◌<◌, ◌≤◌, ◌++◌, ◌∷◌, [], All, Contains, List, None, length, map, min, IfErr, IfOk, IfSome, OnErr, OnOk, ◌-◌, ◌*◌, ◌/◌, ◌%◌, Bool, true, false, nat_eq, nat_lt, slice_index_or, slice_set, bit_and, bit_or, Fits, w8, w32, w64, Bor, MutBor}
-use Rattle.nz_spec.specs.Legal.{MayTell, Task, literal_by}
-use Rattle.nz_spec.specs.Table.{Node}
-use Rattle.nz_spec.specs.Work.{IsSpent, with_line}
-use Rattle.nz_log.specs.declared.lits.Lit.{Lit}
-use Rattle.nz_log.specs.declared.stop.Stop.TheVariants as stop
-use Rattle.nz_log.specs.Atoms.{AreWithin, literal_in}
-use Rattle.nz_log.specs.Leveled.{AreTold, AreToldAtoms}
-use Rattle.nz_log.specs.Sound.{IsLog}
-use Rattle.nz_log.specs.Standing.{Ends, Stands, search_after}
-use Rattle.nz_log.specs.Theories.{Grows, IsBoundIn, IsClash, told_after}
-use Rattle.nz_sat.specs.declared.trail.Assigned.{Assigned}
+-- One atom more is marked as it is.
+use Rattle.std.proofs.Common.{◌≡◌, ℕ, ◌<◌, false, length, true, get_or, inl, inr, sym, subst, ◌∙◌, arith, below_more, rules}
+use Rattle.std.specs.Prelude.{slice_set}
+use Rattle.std.proofs.lemmas.Bool.{cases_eq}
+use Rattle.std.proofs.lemmas.List.{get_or-set_other, get_or-set_same, get_or_default, length-set}
+use Rattle.std.proofs.lemmas.List.Elements.{Contains-get_or}
+use Rattle.std.proofs.lemmas.Option.{slice_get_within}
 use Rattle.nz_sat.specs.Conflicts.{is_marked}
-use Rattle.nz_sat.specs.Numbers.{numbered}
-use Rattle.nz_sat.specs.Theories.{AddsLines, EndsLegally, IsMet, IsOfTheory, IsTrailOn, Keeps, StaysSoundOver, TellsTrail, is_bound_at, state_of, told_line, told_lits, told_on, work_told}
-use Rattle.nz_sat.specs.Trails.{literals_on}
+use Rattle.nz_sat.specs.Theories.{is_bound_at}
+use Rattle.nz_sat.proofs.Tracking.{names_at}
 use Rattle.nz_sat.proofs.consult.Bounds.among.Goals as goal
 
--- src/consult.rt:51:9
 pub loop-id-init : goal.loop-id-init
-loop-id-init c = ?
+loop-id-init c = record { long = search rules; marked = λ k d less. absurd (omega (arith, less)) }
 
--- src/consult.rt:52:35
-pub atom-requires : goal.atom-requires
-atom-requires c = ?
+pub is_bound-requires : goal.is_bound-requires
+is_bound-requires c =
+    let ids = c.args.ids.now in
+    let i = c.loop-id.id-index in
+    let n = names_at c.args.log.now ids c.requires.there (record { atom = get_or ids i 0; sign = true }) (Contains-get_or ids i 0 c.loop-id-test.true) in
+    record { within = slice_get_within c.args.log.now.atoms (get_or ids i 0) n.atom n.at }
 
--- src/consult.rt:51:9
 pub loop-id-preserved : goal.loop-id-preserved
-loop-id-preserved c = ?
+loop-id-preserved c =
+    let ids = c.args.ids.now in
+    let i = c.loop-id.id-index in
+    let t = get_or ids i 0 in
+    let old = c.loop-id.marks.items in
+    let mark = c.is_bound.result in
+    let small : t < c.args.size = c.requires.within i 0 c.loop-id-test.true in
+    let long = c.loop-id.invariant.long in
+    let P : ℕ → Type 0 = λ u. is_marked (slice_set old t mark) u ≡ is_bound_at c.args.log.now.atoms u in
+    let here : P t = get_or-set_same old t mark false (omega (arith, small, long)) ∙ c.is_bound.ensures.bound in
+    let other : (u : ℕ) → is_marked old u ≡ is_bound_at c.args.log.now.atoms u → P u =
+    λ u before.
+    elim (cases_eq u t) [
+      | inl same ↦ subst P (sym same) here
+      | inr differs ↦ get_or-set_other old t u mark false differs ∙ before
+    ] in
+    record {
+      long = length-set old t mark ∙ long;
+      marked = λ k d less.
+          below_more (λ (n : ℕ). (f : ℕ) → P (get_or ids n f)) i (λ n below f. other (get_or ids n f) (c.loop-id.invariant.marked n f below))
+          (λ f. subst P (get_or_default ids i 0 f c.loop-id-test.true) here) k less d;
+    }
 
--- src/consult.rt:39:5
 pub returns-clause-marked : goal.returns-clause-marked
-returns-clause-marked c = ?
+returns-clause-marked c k d inside = c.loop-id.invariant.marked k d (omega (arith, inside, c.loop-id-test.false))
