@@ -16,10 +16,11 @@ use Rattle.nz_spec.specs.Work.{WorkList}
 use Rattle.nz_log.specs.declared.lits.Lit.{Lit}
 use Rattle.nz_log.specs.declared.note.Note.{Note}
 use Rattle.nz_log.specs.declared.stop.Stop.{Stop}
-use Rattle.nz_log.specs.declared.stop.Stop.TheVariants.{Spent, Memory}
+use Rattle.nz_log.specs.declared.stop.Stop.TheVariants.{Wide, Spent, Memory}
 use Rattle.nz_log.specs.Atoms.{clause_in, literal_in}
 use Rattle.nz_log.specs.Logs.{LogState}
 use Rattle.nz_log.specs.Notes.{noted_list}
+use Rattle.nz_log.specs.Places.{OnWide}
 use Rattle.nz_log.specs.Standing.{Standing, Stands, search_after}
 use Rattle.nz_log.specs.Theories.{Grows}
 use Rattle.nz_sat.specs.declared.clauses.Held.{Held}
@@ -204,6 +205,24 @@ log_reaches m s es a b held work h g sound result ends =
       adds = adds_none work;
       ends = ends;
     }
+
+-- an error that names no place
+narrow_ends : (A : Type 0) (m m' : TheoryState) (log : LogState) (atoms : List ℕ) (told : List Lit) (es : List Assigned) (work : WorkList Note) (e : Stop) → OnWide e (λ place. ⊥)
+    → EndsLegally {A = A} m m' log atoms told es work work (Err e)
+narrow_ends A m m' log atoms told es work (Wide place) narrow = absurd narrow
+narrow_ends A m m' log atoms told es work Spent narrow = ends_spent A m m' log atoms told es work
+narrow_ends A m m' log atoms told es work Memory narrow = ends_memory A m m' log atoms told es work
+
+pub narrow_advances : {A : Type 0} → (m : TheoryState) (s : Search) (es : List Assigned) (a b : LogState) (held : List Held) (work : WorkList Note) → AreHeld a held → Grows a b
+    → StaysInOrder m.over s.atoms a b → (e : Stop) → OnWide e (λ place. ⊥) → (result : Result A Stop) → Err e ≡ result → Advances m m s es a b held held work work result
+narrow_advances {A} m s es a b held work h g sound e narrow result is =
+    log_reaches m s es a b held work h g sound result
+    (subst (EndsLegally {A = A} m m a s.atoms (told_lits s.bounds s.trail.entries) es work work) is (narrow_ends A m m a s.atoms (told_lits s.bounds s.trail.entries) es work e narrow))
+
+pub advances_same : {A : Type 0} → {m m' : TheoryState} → {s : Search} → {es : List Assigned} → {log log' : LogState} → {held held' : List Held} → {work work' : WorkList Note}
+    → {answer other : Result A Stop} → answer ≡ other → Advances m m' s es log log' held held' work work' answer → Advances m m' s es log log' held held' work work' other
+advances_same {m = m} {m' = m'} {s = s} {es = es} {log = log} {log' = log'} {held = held} {held' = held'} {work = work} {work' = work'} same step =
+    subst (Advances m m' s es log log' held held' work work') same step
 
 -- what was kept before a step
 pub steps_behind : {m m₁ m₂ : TheoryState} → {s mid new : Search} → {es es₁ : List Assigned} → {log log₁ log' : LogState} → {held held₁ held' : List Held} → {work work₁ work' : WorkList Note}

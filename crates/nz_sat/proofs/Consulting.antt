@@ -300,9 +300,9 @@ back_refuted {m = m} {m' = m'} {start = start} {cut = cut} {log = log} {log' = l
     }
 
 -- where memory is wanted the list is legal
-pub ends_without : {m m' : TheoryState} → {log : LogState} → {atoms : List ℕ} → {told : List Lit} → {es : List Assigned} → {work work' : WorkList Note} → {A B : Type 0} → {x : A}
-    → EndsLegally m m' log atoms told es work work' (Ok x) → EndsLegally {A = B} m m' log atoms told es work work' (Err Memory)
-ends_without ends ns levels assumed q known only asked st = stands_legal (ends ns levels assumed q known only asked st)
+pub ends_without : (A B : Type 0) (x : A) (m m' : TheoryState) (log : LogState) (atoms : List ℕ) (told : List Lit) (es : List Assigned) (work work' : WorkList Note)
+    → EndsLegally {A = A} m m' log atoms told es work work' (Ok x) → EndsLegally {A = B} m m' log atoms told es work work' (Err Memory)
+ends_without A B x m m' log atoms told es work work' ends ns levels assumed q known only asked st = stands_legal (ends ns levels assumed q known only asked st)
 
 module _ {start cut : Search} {log' : LogState} {held' : List Held} {work work' : WorkList Note} {falsified level : ℕ} (b : IsBack start cut log' held' work work' falsified level) where
   pub back_falsified : (assumed : List Lit) → IsFalsifiedUnder assumed cut.trail.entries (literals_at log' falsified)

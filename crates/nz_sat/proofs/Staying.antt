@@ -13,7 +13,7 @@ use Rattle.nz_sat.specs.Numbers.{IsAtomAt, atom_literal}
 -- ---- What an atom says
 
 -- what is there with a sign, or by default
-abbrev said : List Node → Bool → Option log.Atom → Literal
+abbrev pub said : List Node → Bool → Option log.Atom → Literal
 said ns sign o = elim o [ None ↦ term_literal (term_in ns 0) sign | Some a ↦ with_sign sign (atom_in ns a) ]
 
 signed : (x : Literal) (sign : Bool) → with_sign sign x ≡ signed_literal x sign

@@ -64,7 +64,7 @@ entry_from es l has =
     (w.1.0, w.0, at, w.2)
 
 -- what stands in a front stands in the whole
-front_has : (n : ℕ) (es : List Assigned) (e : Assigned) → Contains (take n es) e → Contains es e
+pub front_has : (n : ℕ) (es : List Assigned) (e : Assigned) → Contains (take n es) e → Contains es e
 front_has n es e has = subst (λ (xs : List Assigned). Contains xs e) (take-append-drop n es) (Contains-append_left (take n es) (drop n es) e has)
 
 -- what was told is on a bound of the trail

@@ -245,3 +245,6 @@ told_few b es =
 pub count_more : (b : Bounds) (old new : List Assigned) (k : ℕ) {l : Lit} → (d : DropsLast k old new l) → (n : ℕ) → length (told_on b (new ++ d.last ∷ [])) ≡ length (told_on b new) + n
     → length (told_on b old) ≡ length (told_on b new) + n
 count_more b old new k d n more = ap (λ (xs : List Assigned). length (told_on b xs)) d.joined ∙ more
+
+pub nothing_last : (n : ℕ) → AreLast n []
+nothing_last n = subst (All (λ (e : Assigned). e.level ≡ depth [])) (sym (drop_all n [] (omega arith))) (All-nil (λ (e : Assigned). e.level ≡ depth []))

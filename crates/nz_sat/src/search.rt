@@ -11,6 +11,7 @@ ghost use Rattle.nz_log.specs.declared.stop.Stop.TheVariants as stop;
 ghost use Rattle.nz_log.specs.Logs.{IsLive, literals_at};
 ghost use Rattle.nz_sat.specs.declared.clauses.Held.{Held};
 ghost use Rattle.nz_sat.specs.Clauses.{Adds, AreUsable, IsImplied, IsWithin};
+ghost use Rattle.nz_log.specs.Places.{OnWide};
 ghost use Rattle.nz_log.specs.Theories.{Grows};
 ghost use Rattle.nz_sat.specs.Conflicts.{GoesBackTo, HasLast, RefutesFrom, StaysSound};
 ghost use Rattle.nz_sat.specs.Numbers.{numbered};
@@ -291,6 +292,7 @@ impl Search {
         ensures free { OnOk result (unit_count work.old.lines < work.old.limit) }
         ensures err { OnErr result (work.new ≡ work.old) }
         ensures spent { IfErr result (λ e. e ≡ stop.Spent → IsSpent work.new) }
+        ensures narrow { IfErr result (λ e. OnWide e (λ _. ⊥)) }
     {
         let lits = by_numbers(alloc, &self.atoms, log.clause(learned.clause))?;
         note(
@@ -401,6 +403,7 @@ impl Search {
         ensures free { OnOk result (unit_count work.old.lines < work.old.limit) }
         ensures err { OnErr result (work.new ≡ work.old) }
         ensures spent { IfErr result (λ e. e ≡ stop.Spent → IsSpent work.new) }
+        ensures narrow { IfErr result (λ e. OnWide e (λ _. ⊥)) }
     {
         let Some(number) = self.atoms.number(atom) else {
             unreachable!()
@@ -419,6 +422,7 @@ fn note(work: &mut Work<Note>, entry: Entry) -> Result<(), Stop>
     ensures free { OnOk result (unit_count work.old.lines < work.old.limit) }
     ensures err { OnErr result (work.new ≡ work.old) }
     ensures spent { IfErr result (λ e. e ≡ stop.Spent → IsSpent work.new) }
+    ensures narrow { IfErr result (λ e. OnWide e (λ _. ⊥)) }
 {
     if work.left() == 0 {
         return Err(Stop::Spent);

@@ -7,6 +7,8 @@ use Rattle.nz_sat.proofs.Following.{goes_tells}
 use Rattle.nz_sat.proofs.Assuming.{assume_goes}
 use Rattle.nz_sat.proofs.Learning.{learned}
 use Rattle.nz_sat.proofs.Consulting.{steps_on}
+use Rattle.nz_sat.proofs.Running.{run_steps}
+use Rattle.nz_sat.proofs.Solving.{theory_met}
 use Rattle.nz_sat.proofs.consult.note_told.Goals as goal
 
 pub unreachable-requires : goal.unreachable-requires
