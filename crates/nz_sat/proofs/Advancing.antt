@@ -21,7 +21,7 @@ use Rattle.nz_log.specs.Atoms.{clause_in, literal_in}
 use Rattle.nz_log.specs.Logs.{LogState}
 use Rattle.nz_log.specs.Notes.{noted_list}
 use Rattle.nz_log.specs.Places.{OnWide}
-use Rattle.nz_log.specs.Standing.{Standing, Stands, search_after}
+use Rattle.nz_log.specs.Standing.{Ends, Standing, Stands, search_after}
 use Rattle.nz_log.specs.Theories.{Grows}
 use Rattle.nz_sat.specs.declared.clauses.Held.{Held}
 use Rattle.nz_sat.specs.declared.consult.Bounds.{Bounds}
@@ -218,6 +218,26 @@ pub narrow_advances : {A : Type 0} → (m : TheoryState) (s : Search) (es : List
 narrow_advances {A} m s es a b held work h g sound e narrow result is =
     log_reaches m s es a b held work h g sound result
     (subst (EndsLegally {A = A} m m a s.atoms (told_lits s.bounds s.trail.entries) es work work) is (narrow_ends A m m a s.atoms (told_lits s.bounds s.trail.entries) es work e narrow))
+
+-- an error that a step hands on
+ends_on : (A B : Type 0) (IsAt : Standing) (ns : List Node) (q : Task) (work : WorkList Note) (e : Stop) → Ends {A = A} IsAt ns q work (Err e) → Ends {A = B} IsAt ns q work (Err e)
+ends_on A B IsAt ns q work (Wide place) h = h
+ends_on A B IsAt ns q work Spent h = h
+ends_on A B IsAt ns q work Memory h = h
+
+pub advances_err : {A B : Type 0} → {m m' : TheoryState} → {s : Search} → {es : List Assigned} → {log log' : LogState} → {held held' : List Held} → {work work' : WorkList Note} → {e : Stop}
+    → (result : Result B Stop) → Err e ≡ result → Advances {A = A} m m' s es log log' held held' work work' (Err e) → Advances m m' s es log log' held held' work work' result
+advances_err {A} {B} {m} {m'} {s} {es} {log} {log'} {held} {held'} {work} {work'} {e} result same p =
+    subst (Advances {A = B} m m' s es log log' held held' work work') same
+    (record {
+      keeps = p.keeps;
+      grows = p.grows;
+      sound = p.sound;
+      holds_more = p.holds_more;
+      named = p.named;
+      adds = p.adds;
+      ends = λ ns levels assumed q known only asked st. ends_on A B (m'.at ns) ns q work' e (p.ends ns levels assumed q known only asked st);
+    })
 
 pub advances_same : {A : Type 0} → {m m' : TheoryState} → {s : Search} → {es : List Assigned} → {log log' : LogState} → {held held' : List Held} → {work work' : WorkList Note}
     → {answer other : Result A Stop} → answer ≡ other → Advances m m' s es log log' held held' work work' answer → Advances m m' s es log log' held held' work work' other

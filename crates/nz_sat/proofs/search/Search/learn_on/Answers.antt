@@ -1,18 +1,25 @@
 -- The next conflict, after a clause was learned.
-use Rattle.std.proofs.Common.{Ok, ap, rules}
+use Rattle.std.proofs.Common.{◌≡◌, Err, ap, rules, subst, sym}
 use Rattle.nz_sat.specs.declared.search.Search.{Search}
-use Rattle.nz_sat.specs.Theories.{state_of}
+use Rattle.nz_sat.proofs.Advancing.{advances_err}
 use Rattle.nz_sat.proofs.Consulting.{learned_advances, learned_follows, turns_learned}
+use Rattle.nz_sat.proofs.Listing.{adds_limit}
 use Rattle.nz_sat.proofs.search.Search.learn_on.Goals as goal
 
 pub returns-in_err-from-clause-steps : goal.returns-in_err-from-clause-steps
-returns-in_err-from-clause-steps g c = ?
+returns-in_err-from-clause-steps g c =
+    let same : Err c.in_err-from.field-0.0 ≡ c.from_residual.result = search rules in
+    record { advances = advances_err c.from_residual.result same c.in_err-from.ensures.advances; met = search rules; spent = search rules }
 
 pub conflict-requires-clause-follow : goal.conflict-requires-clause-follow
 conflict-requires-clause-follow g c = (c.learn.new.held.items, learned_follows c.in_ok-from.ensures.learned)
 
 pub conflict-requires-clause-of : goal.conflict-requires-clause-of
-conflict-requires-clause-of g c = ?
+conflict-requires-clause-of g c =
+    let l = c.in_ok-from.ensures.learned in
+    subst (g.T.Theory.is_of c.learn.new.theory c.learn.new.log.atoms) (sym l.carries.atoms)
+    (g.T.Theory.stays c.learn.new.theory c.args.log.now.atoms c.learn.new.log.atoms c.args.self.now.atoms
+    (c.learn.ensures.advances.keeps.of c.args.log.now.atoms c.args.self.now.atoms c.requires.of) c.learn.ensures.advances.grows.atoms)
 
 pub conflict-requires-clause-noted : goal.conflict-requires-clause-noted
 conflict-requires-clause-noted g c = c.in_ok-from.ensures.learned.noted.trail
