@@ -1,15 +1,16 @@
 -- What a search knows where it begins, and what its end tells its callers.
-use Rattle.std.proofs.Common.{◌≡◌, ℕ, zero, suc, ◌<◌, Bool, true, List, [], ◌∷◌, ◌++◌, length, take, map, get_or, Option, Some, None, refl, sym, ap, subst, ◌∙◌, arith, append_assoc}
+use Rattle.std.proofs.Common.{◌≡◌, ℕ, zero, suc, ◌<◌, ◌≤◌, Bool, true, if◌then◌else◌, List, [], ◌∷◌, ◌++◌, length, take, map, get_or, Option, Some, None, refl, sym, ap, subst, ◌∙◌, arith, append_assoc}
 use Rattle.std.specs.Prelude.{All, Contains, IsSome, filter, option_map, slice_get}
 use Rattle.std.specs.declared.result.Result.{Result}
 use Rattle.std.specs.declared.result.Result.TheVariants.{Ok}
 use Rattle.std.proofs.lemmas.List.{append-nil, take_all}
 use Rattle.std.proofs.lemmas.List.Elements.{All-contains, All-map, All-nil, All-same, Contains-get_or}
+use Rattle.std.proofs.lemmas.List.Sums.{sum_by-cons}
 use Rattle.std.proofs.lemmas.Option.{same_Some, slice_get-map}
 use Rattle.nz_spec.specs.Legal as legal
 use Rattle.nz_spec.specs.Legal.{AreLegal, Task, after_line, after_lines, at_first}
 use Rattle.nz_spec.specs.Table.{Node}
-use Rattle.nz_spec.specs.Work.{NoteLine, UnitLine, WorkLine, WorkList}
+use Rattle.nz_spec.specs.Work.{NoteLine, UnitLine, WorkLine, WorkList, is_unit, unit_count}
 use Rattle.nz_log.specs.declared.lits.Lit.{Lit}
 use Rattle.nz_log.specs.declared.note.Note.{Note}
 use Rattle.nz_log.specs.declared.atoms.Atom as log
@@ -116,6 +117,18 @@ first_noted log held s work noted notes none =
       take-nil : (n : ℕ) → take {A = Assigned} n [] ≡ []
       take-nil zero = refl
       take-nil (suc n) = refl
+
+-- no unit is used yet
+no_units : (lines : List (WorkLine Note)) → AreBeginnings lines → unit_count lines ≡ 0
+no_units [] h = refl
+no_units (UnitLine entry ∷ lines) h = absurd h.0
+no_units (NoteLine note ∷ lines) h =
+    let one = sum_by-cons (λ (x : WorkLine Note). if is_unit x then 1 else 0) (NoteLine note) lines in
+    let none = no_units lines h.1 in
+    omega (arith, one, none)
+
+pub beginnings_units : (work : WorkList Note) → AreBeginnings work.lines → unit_count work.lines ≤ work.limit
+beginnings_units work h = let none = no_units work.lines h in omega (arith, none)
 
 -- assumed literals are assumed
 assumed_only : (assumed : List Lit) → All (IsAssumed assumed) (assumed_entries assumed)

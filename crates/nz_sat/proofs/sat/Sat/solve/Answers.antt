@@ -1,104 +1,161 @@
-use Rattle.std.proofs.Common.{rules, ◌≡◌, ℕ, ◌≤◌, ◌∷◌, ◌++◌, [], All, List, nat_le, None, length, map, IfErr, IfOk, IfSome, OnErr, OnOk, ◌+◌, ◌-◌, ◌*◌, ◌<◌, ◌/◌, ◌%◌, Bool, true, false, nat_eq, nat_lt, slice_index_or, slice_set, bit_and, bit_or, Fits, w8, w32, w64, Bor, MutBor}
-use Rattle.nz_spec.specs.Legal.{Task}
+-- What the run of the search told, over these atoms.
+use Rattle.std.proofs.Common.{◌≡◌, ℕ, true, false, Err, List, Ok, Option, ap, sym, subst, ◌∙◌, rules}
+use Rattle.std.specs.Prelude.{All, Contains, is_none}
 use Rattle.nz_spec.specs.Table.{Node}
-use Rattle.nz_spec.specs.Work.{IsSpent, unit_count}
+use Rattle.nz_spec.specs.Legal.{Task}
 use Rattle.nz_log.specs.declared.lits.Lit.{Lit}
 use Rattle.nz_log.specs.declared.stop.Stop.TheVariants as stop
-use Rattle.nz_log.specs.declared.atoms.Atom.{Atom}
-use Rattle.nz_log.specs.Leveled.{AreToldAtoms}
-use Rattle.nz_log.specs.Logs.{IsLive, literals_at}
-use Rattle.nz_log.specs.Sound.{IsLog}
+use Rattle.nz_log.specs.Logs.{literals_at}
 use Rattle.nz_log.specs.Standing.{Ends, Stands, search_after}
-use Rattle.nz_log.specs.Theories.{Grows}
-use Rattle.nz_sat.specs.Conflicts.{Refutes}
-use Rattle.nz_sat.specs.Numbers.{AreBeginnings, AreNotedIn, IsAtomAt, noted_atoms}
-use Rattle.nz_sat.specs.Sats.{AreConsistent, AreHeld, AreNamed, AreOn, HoldsMore, IsAsked, IsSatisfied, IsTheoryMet, held_of, held_up_to, literal_truth}
+use Rattle.nz_spec.specs.Legal as legal
+use Rattle.nz_sat.specs.declared.clauses.Held.{Held}
+use Rattle.nz_sat.specs.Numbers.{AreNotedIn}
+use Rattle.nz_sat.specs.Sats.{AreOn, IsTheoryMet, SatState}
+use Rattle.nz_sat.specs.Searching.{Satisfies}
+use Rattle.nz_sat.specs.Theories.{TheoryState, state_of}
+use Rattle.nz_sat.specs.Trails.{AreTruthsOn}
+use Rattle.nz_sat.proofs.Advancing.{advances_same}
+use Rattle.nz_sat.proofs.Listing.{adds_keep, adds_limit, adds_noted, forms_kept}
+use Rattle.nz_sat.proofs.Solving.{beginnings_units, ends_later, first_noted, run_ends, run_named, run_sound, satisfied, theory_met}
+use Rattle.nz_sat.proofs.sat.Sat.solve.Goals.{then-is_none+in_ok-self-inside, else-is_none}
 use Rattle.nz_sat.proofs.sat.Sat.solve.Goals as goal
 
--- src/sat.rt:123:26
 pub new-requires-clause-named : goal.new-requires-clause-named
-new-requires-clause-named g c = ?
+new-requires-clause-named g c =
+    let same : c.args.self.now.clauses ≡ c.deref.result.now = sym (ap (λ (s : SatState g.row.T.Denot). s.clauses) c.self.view_is) ∙ search rules in
+    subst (All (λ (h : Held). All (λ (l : Lit). Contains c.args.atoms.now l.atom) (literals_at c.args.log.now h.id))) same c.requires.named.clauses
 
--- src/sat.rt:123:26
 pub returns-in_err-search-clause-named : goal.returns-in_err-search-clause-named
-returns-in_err-search-clause-named g c = ?
+returns-in_err-search-clause-named g c =
+    subst (λ (s : SatState g.row.T.Denot). AreOn c.args.log.now c.args.atoms.now s.clauses) (sym c.self.view_is) c.requires.named.clauses
 
--- src/sat.rt:123:26
 pub returns-in_err-search-clause-within : goal.returns-in_err-search-clause-within
-returns-in_err-search-clause-within g c = ?
+returns-in_err-search-clause-within g c = beginnings_units c.args.work.now c.requires.notes
 
--- src/sat.rt:124:13
 pub run-refuted-requires-clause-named : goal.run-refuted-requires-clause-named
-run-refuted-requires-clause-named g c = ?
+run-refuted-requires-clause-named g c =
+    subst (λ (us : List ℕ). All (λ (l : Lit). Contains us l.atom) c.args.assumed.now) (sym c.in_ok-search.ensures.atoms) c.requires.named.assumed_named
 
--- src/sat.rt:124:13
 pub run-refuted-requires-clause-noted : goal.run-refuted-requires-clause-noted
-run-refuted-requires-clause-noted g c = ?
+run-refuted-requires-clause-noted g c =
+    first_noted c.args.log.now c.self.inside.clauses.items c.in_ok-search.search c.args.work.now
+    (subst (AreNotedIn c.args.log.now.atoms c.args.work.now.lines) (sym c.in_ok-search.ensures.atoms) c.requires.noted) c.requires.notes c.in_ok-search.ensures.none
 
--- src/sat.rt:127:23
 pub returns-in_err-refuted-clause-named : goal.returns-in_err-refuted-clause-named
-returns-in_err-refuted-clause-named g c = ?
+returns-in_err-refuted-clause-named g c = run_named c.args.assumed.now c.run-refuted.ensures.steps.advances c.args.atoms.now c.in_ok-search.ensures.atoms (subst (λ (s : SatState g.row.T.Denot). AreOn c.args.log.now c.args.atoms.now s.clauses) (sym c.self.view_is) c.requires.named.clauses)
 
--- src/sat.rt:127:23
 pub returns-in_err-refuted-clause-sound : goal.returns-in_err-refuted-clause-sound
-returns-in_err-refuted-clause-sound g c = ?
+returns-in_err-refuted-clause-sound g c ns levels known =
+    run_sound c.args.assumed.now c.run-refuted.ensures.steps.advances c.args.atoms.now c.in_ok-search.ensures.atoms ns levels (subst (λ (s : SatState g.row.T.Denot). g.T.Theory.is_over s.theory ns) (sym c.self.view_is) known)
 
--- src/sat.rt:127:23
-pub returns-in_err-refuted-clause-ends : goal.returns-in_err-refuted-clause-ends
-returns-in_err-refuted-clause-ends g c = ?
-
--- src/sat.rt:127:23
 pub returns-in_err-refuted-clause-notes : goal.returns-in_err-refuted-clause-notes
-returns-in_err-refuted-clause-notes g c = ?
+returns-in_err-refuted-clause-notes g c = adds_noted c.args.work.now c.run-refuted.new.work c.run-refuted.ensures.steps.advances.adds
 
--- src/sat.rt:127:23
 pub returns-in_err-refuted-clause-forms : goal.returns-in_err-refuted-clause-forms
-returns-in_err-refuted-clause-forms g c = ?
+returns-in_err-refuted-clause-forms g c ns =
+    adds_keep c.args.work.now c.run-refuted.new.work c.run-refuted.ensures.steps.advances.adds (λ (r : legal.Search). r.forms) ns (λ r line kind. forms_kept ns r line kind)
 
--- src/sat.rt:129:27
+pub returns-in_err-refuted-clause-ends : goal.returns-in_err-refuted-clause-ends
+returns-in_err-refuted-clause-ends g c ns levels q known asked stands =
+    let same : Err c.in_err-refuted.field-0.0 ≡ c.from_residual-in_err-refuted.result = search rules in
+    run_ends c.args.assumed.now (advances_same same c.in_err-refuted.ensures.steps.advances) c.args.atoms.now c.in_ok-search.ensures.atoms
+    (first_noted c.args.log.now c.self.inside.clauses.items c.in_ok-search.search c.args.work.now
+    (subst (AreNotedIn c.args.log.now.atoms c.args.work.now.lines) (sym c.in_ok-search.ensures.atoms) c.requires.noted) c.requires.notes c.in_ok-search.ensures.none).trail
+    c.in_ok-search.ensures.search.on.on_trail ns levels q (subst (λ (s : SatState g.row.T.Denot). g.T.Theory.is_over s.theory ns) (sym c.self.view_is) known) asked
+    (subst (λ (s : SatState g.row.T.Denot). Stands (g.T.Theory.is_at s.theory ns) ns q c.args.work.now) (sym c.self.view_is) stands)
+
 pub returns-in_err-self-inside-clause-named : goal.returns-in_err-self-inside-clause-named
-returns-in_err-self-inside-clause-named g c = ?
+returns-in_err-self-inside-clause-named g c = run_named c.args.assumed.now c.run-refuted.ensures.steps.advances c.args.atoms.now c.in_ok-search.ensures.atoms (subst (λ (s : SatState g.row.T.Denot). AreOn c.args.log.now c.args.atoms.now s.clauses) (sym c.self.view_is) c.requires.named.clauses)
 
--- src/sat.rt:129:27
 pub returns-in_err-self-inside-clause-sound : goal.returns-in_err-self-inside-clause-sound
-returns-in_err-self-inside-clause-sound g c = ?
+returns-in_err-self-inside-clause-sound g c ns levels known =
+    run_sound c.args.assumed.now c.run-refuted.ensures.steps.advances c.args.atoms.now c.in_ok-search.ensures.atoms ns levels (subst (λ (s : SatState g.row.T.Denot). g.T.Theory.is_over s.theory ns) (sym c.self.view_is) known)
 
--- src/sat.rt:129:27
-pub returns-in_err-self-inside-clause-ends : goal.returns-in_err-self-inside-clause-ends
-returns-in_err-self-inside-clause-ends g c = ?
-
--- src/sat.rt:129:27
 pub returns-in_err-self-inside-clause-notes : goal.returns-in_err-self-inside-clause-notes
-returns-in_err-self-inside-clause-notes g c = ?
+returns-in_err-self-inside-clause-notes g c = adds_noted c.args.work.now c.run-refuted.new.work c.run-refuted.ensures.steps.advances.adds
 
--- src/sat.rt:129:27
 pub returns-in_err-self-inside-clause-forms : goal.returns-in_err-self-inside-clause-forms
-returns-in_err-self-inside-clause-forms g c = ?
+returns-in_err-self-inside-clause-forms g c ns =
+    adds_keep c.args.work.now c.run-refuted.new.work c.run-refuted.ensures.steps.advances.adds (λ (r : legal.Search). r.forms) ns (λ r line kind. forms_kept ns r line kind)
 
--- src/sat.rt:83:5
-pub returns-clause-satisfied : goal.returns-clause-satisfied
-returns-clause-satisfied g c = ?
+pub returns-in_err-self-inside-clause-ends : goal.returns-in_err-self-inside-clause-ends
+returns-in_err-self-inside-clause-ends g c ns levels q known asked stands =
+    let same : Err stop.Memory ≡ c.from_residual-in_err-self-inside.result = search rules in
+    let IsAt = g.T.Theory.is_at c.run-refuted.new.theory ns in
+    let led = run_ends c.args.assumed.now c.in_ok-refuted.ensures.steps.advances c.args.atoms.now c.in_ok-search.ensures.atoms
+    (first_noted c.args.log.now c.self.inside.clauses.items c.in_ok-search.search c.args.work.now
+    (subst (AreNotedIn c.args.log.now.atoms c.args.work.now.lines) (sym c.in_ok-search.ensures.atoms) c.requires.noted) c.requires.notes c.in_ok-search.ensures.none).trail
+    c.in_ok-search.ensures.search.on.on_trail ns levels q (subst (λ (s : SatState g.row.T.Denot). g.T.Theory.is_over s.theory ns) (sym c.self.view_is) known) asked
+    (subst (λ (s : SatState g.row.T.Denot). Stands (g.T.Theory.is_at s.theory ns) ns q c.args.work.now) (sym c.self.view_is) stands) in
+    subst (Ends {A = Option ℕ} IsAt ns q c.run-refuted.new.work) same (ends_later (Option ℕ) IsAt ns q c.run-refuted.new.work c.in_ok-refuted.refuted led)
 
--- src/sat.rt:83:5
-pub returns-clause-feasible : goal.returns-clause-feasible
-returns-clause-feasible g c = ?
-
--- src/sat.rt:83:5
 pub returns-clause-named : goal.returns-clause-named
-returns-clause-named g c = ?
+returns-clause-named g c =
+    let on = run_named c.args.assumed.now c.run-refuted.ensures.steps.advances c.args.atoms.now c.in_ok-search.ensures.atoms (subst (λ (s : SatState g.row.T.Denot). AreOn c.args.log.now c.args.atoms.now s.clauses) (sym c.self.view_is) c.requires.named.clauses) in
+    let P : SatState g.row.T.Denot → Type 0 = λ t. AreOn c.run-refuted.new.log c.args.atoms.now t.clauses in
+    elim c.if-is_none.branch [
+      | then-is_none+in_ok-self-inside w ↦ subst P (sym w.self-is) on
+      | else-is_none w ↦ subst P (sym w.self-is) on
+    ]
 
--- src/sat.rt:83:5
 pub returns-clause-sound : goal.returns-clause-sound
-returns-clause-sound g c = ?
+returns-clause-sound g c ns levels known =
+    run_sound c.args.assumed.now c.run-refuted.ensures.steps.advances c.args.atoms.now c.in_ok-search.ensures.atoms ns levels (subst (λ (s : SatState g.row.T.Denot). g.T.Theory.is_over s.theory ns) (sym c.self.view_is) known)
 
--- src/sat.rt:83:5
-pub returns-clause-ends : goal.returns-clause-ends
-returns-clause-ends g c = ?
-
--- src/sat.rt:83:5
 pub returns-clause-notes : goal.returns-clause-notes
-returns-clause-notes g c = ?
+returns-clause-notes g c = adds_noted c.args.work.now c.run-refuted.new.work c.run-refuted.ensures.steps.advances.adds
 
--- src/sat.rt:83:5
 pub returns-clause-forms : goal.returns-clause-forms
-returns-clause-forms g c = ?
+returns-clause-forms g c ns =
+    adds_keep c.args.work.now c.run-refuted.new.work c.run-refuted.ensures.steps.advances.adds (λ (r : legal.Search). r.forms) ns (λ r line kind. forms_kept ns r line kind)
+
+pub returns-clause-ends : goal.returns-clause-ends
+returns-clause-ends g c ns levels q known asked stands =
+    let led = run_ends c.args.assumed.now c.in_ok-refuted.ensures.steps.advances c.args.atoms.now c.in_ok-search.ensures.atoms
+    (first_noted c.args.log.now c.self.inside.clauses.items c.in_ok-search.search c.args.work.now
+    (subst (AreNotedIn c.args.log.now.atoms c.args.work.now.lines) (sym c.in_ok-search.ensures.atoms) c.requires.noted) c.requires.notes c.in_ok-search.ensures.none).trail
+    c.in_ok-search.ensures.search.on.on_trail ns levels q (subst (λ (s : SatState g.row.T.Denot). g.T.Theory.is_over s.theory ns) (sym c.self.view_is) known) asked
+    (subst (λ (s : SatState g.row.T.Denot). Stands (g.T.Theory.is_at s.theory ns) ns q c.args.work.now) (sym c.self.view_is) stands) in
+    let P : SatState g.row.T.Denot → Type 0 = λ t. Stands (g.T.Theory.is_at t.theory ns) ns q c.run-refuted.new.work in
+    elim c.if-is_none.branch [
+      | then-is_none+in_ok-self-inside w ↦ subst P (sym w.self-is) led
+      | else-is_none w ↦ subst P (sym w.self-is) led
+    ]
+
+pub returns-clause-satisfied : goal.returns-clause-satisfied
+returns-clause-satisfied g c none =
+    let s = c.run-refuted.new.self in
+    let log = c.run-refuted.new.log in
+    let held = c.run-refuted.new.held.items in
+    let assumed = c.args.assumed.now in
+    let atoms = c.args.atoms.now in
+    let holds : Satisfies log held assumed atoms s =
+    subst (λ (us : List ℕ). Satisfies log held assumed us s) c.in_ok-search.ensures.atoms (c.in_ok-refuted.ensures.satisfied none) in
+    elim c.if-is_none.branch [
+      | then-is_none+in_ok-self-inside w ↦
+          satisfied log held assumed atoms s c.if-is_none.self (ap (λ (t : SatState g.row.T.Denot). t.clauses) w.self-is)
+          (subst (λ (t : SatState g.row.T.Denot). AreTruthsOn s.trail.entries t.truths) (sym w.self-is) w.in_ok-self-inside.ensures.truths) holds
+      | else-is_none w ↦
+          let told : is_none c.in_ok-refuted.refuted ≡ false = search rules in
+          let clash : true ≡ false = ap is_none (sym none) ∙ told in
+          cc
+    ]
+
+pub returns-clause-feasible : goal.returns-clause-feasible
+returns-clause-feasible g c none =
+    let s = c.run-refuted.new.self in
+    let log = c.run-refuted.new.log in
+    let holds = c.in_ok-refuted.ensures.satisfied none in
+    let met = c.in_ok-refuted.ensures.steps.met none in
+    let atoms = c.args.atoms.now in
+    let same = holds.same ∙ c.in_ok-search.ensures.atoms in
+    let P : SatState g.row.T.Denot → Type 0 = λ t. IsTheoryMet log (g.T.Theory.has_told t.theory) (g.T.Theory.is_feasible t.theory) t atoms in
+    elim c.if-is_none.branch [
+      | then-is_none+in_ok-self-inside w ↦
+          subst P (sym w.self-is)
+          (theory_met (state_of g.T.Theory.is_over g.T.Theory.has_told g.T.Theory.is_feasible g.T.Theory.is_of g.T.Theory.is_at c.run-refuted.new.theory) log c.run-refuted.new.held.items s _ atoms holds.search same w.in_ok-self-inside.ensures.truths met)
+      | else-is_none w ↦
+          let told : is_none c.in_ok-refuted.refuted ≡ false = search rules in
+          let clash : true ≡ false = ap is_none (sym none) ∙ told in
+          cc
+    ]
