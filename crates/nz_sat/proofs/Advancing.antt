@@ -34,7 +34,7 @@ use Rattle.nz_sat.specs.Sats.{AreHeld, AreOn, HoldsMore, IsAsked}
 use Rattle.nz_sat.specs.Searching.{Advances, IsSearch, StaysInOrder, Steps}
 use Rattle.nz_sat.specs.Theories.{AddsLines, EndsLegally, IsOfSearch, Keeps, StandsAt, TellsTrail, TheoryState, told_lits, told_on}
 use Rattle.nz_sat.specs.Trails.{IsFrontOf}
-use Rattle.nz_sat.proofs.Growing.{asked_on, grows_far, grows_none, held_on, on_kept}
+use Rattle.nz_sat.proofs.Growing.{asked_on, grows_far, held_on, on_kept}
 use Rattle.nz_sat.proofs.Listing.{adds_far, adds_none}
 use Rattle.nz_sat.proofs.Staying.{atoms_stay}
 use Rattle.nz_sat.proofs.Telling.{keeps_far, keeps_none, stands_by}
@@ -67,19 +67,6 @@ pub record Reaches (theory theory' : TheoryState) (s : Search) (es : List Assign
   pub stands : (ns : List Node) (levels : List (List ℕ)) (assumed : List Lit) (q : Task) → theory.over ns → All (IsAssumed assumed) es → IsAsked ns levels log s.atoms assumed q
       → StandsAt (theory.at ns) ns q work (clause_in ns log.atoms (told_lits s.bounds s.trail.entries))
       → StandsAt (theory'.at ns) ns q work' (clause_in ns log'.atoms (told_lits s'.bounds s'.trail.entries))
-
--- no step yet
-pub reaches_none : (m : TheoryState) (s : Search) (es : List Assigned) (log : LogState) (held : List Held) (work : WorkList Note) → IsSearch log held s → Reaches m m s es s log log held held work work
-reaches_none m s es log held work h =
-    record {
-      keeps = keeps_none m;
-      grows = grows_none log;
-      sound = λ ns levels known within order. order;
-      holds_more = record { learned = []; joined = sym (append-nil held); held = h.are_held };
-      named = λ on. on;
-      adds = adds_none work;
-      stands = λ ns levels assumed q known only asked st. st;
-    }
 
 -- a step after which the list tells the trail
 pub reaches_step : {A : Type 0} → {m m' : TheoryState} → {s mid : Search} → {es : List Assigned} → {log log' : LogState} → {held held' : List Held} → {work work' : WorkList Note} → {x : A}

@@ -1,8 +1,7 @@
 -- Trails up to a level.
-use Rattle.std.proofs.Common.{◌≡◌, ℕ, ◌<◌, ◌≤◌, Bool, true, false, if◌then◌else◌, List, [], ◌∷◌, ◌++◌, length, inl, inr, refl, sym, ap, ◌∙◌, arith, append_assoc, append-nil}
+use Rattle.std.proofs.Common.{◌≡◌, ℕ, ◌<◌, ◌≤◌, Bool, true, false, if◌then◌else◌, List, [], ◌∷◌, ◌++◌, inl, inr, refl, sym, ap, ◌∙◌, arith, append_assoc, append-nil}
 use Rattle.std.specs.Prelude.{All, nat_le}
 use Rattle.std.proofs.lemmas.Bool.Decides.{leb_tells}
-use Rattle.std.proofs.lemmas.List.{length_push}
 use Rattle.std.proofs.lemmas.List.Elements.{All-head, All-tail, filter-append}
 use Rattle.nz_log.specs.declared.lits.Lit.{Lit}
 use Rattle.nz_sat.specs.declared.trail.Assigned.{Assigned}
@@ -50,6 +49,3 @@ front_less es old new k f d =
       more = d.last ∷ f.more;
       joined = f.joined ∙ ap (λ (xs : List Assigned). xs ++ f.more) d.joined ∙ append_assoc new (d.last ∷ []) f.more;
     }
-
-pub drops_shorter : (k : ℕ) (old new : List Assigned) {l : Lit} → DropsLast k old new l → length new < length old
-drops_shorter k old new d = let long = ap length d.joined ∙ length_push new d.last in omega arith

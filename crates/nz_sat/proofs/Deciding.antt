@@ -20,7 +20,7 @@ use Rattle.nz_sat.specs.declared.clauses.Held.{Held}
 use Rattle.nz_sat.specs.declared.search.Search.{Search}
 use Rattle.nz_sat.specs.declared.trail.Assigned.{Assigned}
 use Rattle.nz_sat.specs.Trails.{AreUpTo, IsTrueOn, assigned, below, decided, depth, is_decision, literals_on, with_entry}
-use Rattle.nz_sat.specs.Clauses.{HasReasonOf, IsAssumed, IsImplied}
+use Rattle.nz_sat.specs.Clauses.{HasReasonOf, IsAssumed}
 use Rattle.nz_sat.specs.Numbers.{atom_literal, number_of, numbered}
 use Rattle.nz_sat.specs.Searching.{AreOpen, AreWaiting, IsNoted, IsSearch, KeepsFirst, WereOpen, ids}
 use Rattle.nz_sat.specs.Theories.{TheoryState, bounds_on, told_literal, told_lits}

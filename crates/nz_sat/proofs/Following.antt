@@ -15,7 +15,6 @@ use Rattle.nz_sat.specs.Searching.{Carries, KeepsFirst}
 use Rattle.nz_sat.specs.Theories.{TellsTrail, bounds_on, told_literal, told_on}
 use Rattle.nz_sat.proofs.Clausal.{truth_found}
 use Rattle.nz_sat.proofs.Cutting.{below_join}
-use Rattle.nz_sat.proofs.Keeping.{goes_assumed}
 use Rattle.nz_sat.proofs.Visiting.{no_decision}
 
 -- ---- The trail goes on
@@ -48,15 +47,6 @@ goes_tells log atoms b es es' work inside g h =
 pub goes_first : (es es' : List Assigned) → GoesOn es es' → KeepsFirst es es'
 goes_first es es' g l h =
     subst (λ (xs : List Assigned). IsTrueOn xs l) (sym (ap (below 0) g.joined ∙ below_join 0 es g.more)) (truth_found (below 0 es) (below 0 g.more) l.atom l.sign h)
-
-pub goes_carries : (s s' : Search) (work : WorkList Note) → s'.atoms ≡ s.atoms → GoesOn s.trail.entries s'.trail.entries → Carries s s' work work
-goes_carries s s' work same g =
-    record {
-      atoms = same;
-      first = goes_first s.trail.entries s'.trail.entries g;
-      assumed_only = λ assumed h. goes_assumed s.trail.entries s'.trail.entries assumed g h;
-      units = omega arith;
-    }
 
 pub carries_far : (r s t : Search) (u v w : WorkList Note) → Carries r s u v → Carries s t v w → Carries r t u w
 carries_far r s t u v w c d =

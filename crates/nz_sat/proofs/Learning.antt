@@ -15,7 +15,7 @@ use Rattle.nz_spec.specs.Table.{Node}
 use Rattle.nz_spec.specs.Work.{WorkLine, WorkList, UnitLine, LearnedEntry, is_unit, unit_count, with_line}
 use Rattle.nz_log.specs.declared.lits.Lit.{Lit}
 use Rattle.nz_log.specs.declared.note.Note.{Note}
-use Rattle.nz_log.specs.Logs.{Entry, LogState, IsLive, literals_at}
+use Rattle.nz_log.specs.Logs.{LogState, literals_at}
 use Rattle.nz_log.specs.Atoms.{TellsLits, clause_in}
 use Rattle.nz_log.specs.Sound.{ClausesAreTrue}
 use Rattle.nz_log.specs.Standing.{search_after}
@@ -24,8 +24,7 @@ use Rattle.nz_sat.specs.declared.clauses.Held.{Held}
 use Rattle.nz_sat.specs.declared.consult.Bounds.{Bounds}
 use Rattle.nz_sat.specs.declared.search.Search as state
 use Rattle.nz_sat.specs.declared.trail.Assigned.{Assigned}
-use Rattle.nz_sat.specs.Clauses.{Adds, HasReasonOf, IsAssumed, IsImplied, IsListed, IsOpen, IsReasonOf, IsReasonOneOf, IsWithin, Waits, by_true, by_two}
-use Rattle.nz_log.specs.Theories.{Grows}
+use Rattle.nz_sat.specs.Clauses.{Adds, HasReasonOf, IsAssumed, IsImplied, IsListed, IsOpen, IsReasonOneOf, IsWithin, Waits, by_true, by_two}
 use Rattle.nz_sat.specs.Conflicts.{AreUnmarked, is_marked}
 use Rattle.nz_sat.specs.Numbers.{numbered}
 use Rattle.nz_sat.specs.Sats.{AreHeld, held_of}

@@ -22,7 +22,7 @@ use Rattle.nz_sat.specs.Clauses.{IsAssumed}
 use Rattle.nz_sat.specs.Numbers.{number_of, numbered}
 use Rattle.nz_sat.specs.Conflicts.{Refutes, StaysSound}
 use Rattle.nz_sat.specs.Searching.{Advances, AreOpen, AreWaiting, AssumesAll, Carries, Decides, IsNoted, IsSearch, Runs, Settles, SettlesOn, StaysInOrder, Steps, WereOpen, assumed_entries}
-use Rattle.nz_sat.specs.Theories.{EndsLegally, TellsTrail, TheoryState, bounds_on, told_literal, told_lits, told_on}
+use Rattle.nz_sat.specs.Theories.{EndsLegally, TheoryState, bounds_on, told_literal, told_lits, told_on}
 use Rattle.nz_sat.specs.Trails.{AreUpTo, EachBehind, IsNext, IsTrueOn, TrailState, assigned, below, decided, depth, is_decision, literals_on, with_entry}
 use Rattle.nz_sat.proofs.Advancing.{Reaches, log_reaches, reaches_step, reaches_then, steps_behind}
 use Rattle.nz_sat.proofs.Cutting.{below_all}

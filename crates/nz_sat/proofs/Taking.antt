@@ -1,12 +1,11 @@
 -- Where a list leads that notes what a theory was told, and the pivots of its check.
-use Rattle.std.proofs.Common.{◌≡◌, ℕ, List, [], ◌∷◌, ◌++◌, length, map, refl, sym, ap, subst, ◌∙◌}
+use Rattle.std.proofs.Common.{◌≡◌, ℕ, List, [], ◌∷◌, ◌++◌, length, map, sym, ap, subst, ◌∙◌}
 use Rattle.std.specs.declared.result.Result.{Result}
 use Rattle.std.specs.declared.result.Result.TheVariants.{Ok, Err}
 use Rattle.std.proofs.lemmas.List.{map_push, map-append}
-use Rattle.nz_spec.specs.Bland.{Point, Position}
-use Rattle.nz_spec.specs.Form.{Part}
+use Rattle.nz_spec.specs.Bland.{Point}
 use Rattle.nz_spec.specs.Legal as legal
-use Rattle.nz_spec.specs.Legal.{AreLegal, Lead, MayTell, PivotsAreLegal, Task, ToldLiteral, at_first, literal_by, no_point, pivot_lines, position_of, told_literals}
+use Rattle.nz_spec.specs.Legal.{Lead, MayTell, PivotsAreLegal, Task, ToldLiteral, at_first, literal_by, no_point, pivot_lines, told_literals}
 use Rattle.nz_spec.specs.Literal as spec
 use Rattle.nz_spec.specs.LiteralBounds.{moved_by}
 use Rattle.nz_spec.specs.Notes as notes
@@ -23,7 +22,7 @@ use Rattle.nz_log.specs.Notes.{noted_line, noted_list}
 use Rattle.nz_log.specs.Places.{IsPlaceIn, OnWide}
 use Rattle.nz_log.specs.Standing.{Ends, IsStoppedAt, Standing, Stands, search_after}
 use Rattle.nz_log.specs.Theories.{AddsPivots, EndsAt, Leads}
-use Rattle.nz_sat.specs.Numbers.{number_of, numbered}
+use Rattle.nz_sat.specs.Numbers.{numbered}
 use Rattle.nz_sat.specs.Theories.{told_line}
 use Rattle.nz_sat.proofs.Listing.{lead_far, line_lead, pivots_noted, search_more}
 

@@ -1,11 +1,11 @@
 -- What a theory is told of a trail, and its answers there.
-use Rattle.std.proofs.Common.{◌≡◌, ◌≢◌, ℕ, ◌+◌, ◌<◌, ◌≤◌, ◌==◌, Bool, true, false, not, if◌then◌else◌, List, [], ◌∷◌, ◌++◌, length, take, drop, map, get_or, suc, inl, inr, Option, None, Some, refl, sym, ap, subst, ◌∙◌, arith, true≢false}
+use Rattle.std.proofs.Common.{◌≡◌, ◌≢◌, ℕ, ◌+◌, ◌<◌, Bool, true, false, not, if◌then◌else◌, List, [], ◌∷◌, ◌++◌, length, take, drop, map, suc, inl, inr, Option, None, Some, refl, sym, ap, subst, ◌∙◌, arith, true≢false}
 use Rattle.std.specs.Prelude.{All, Contains, IfOk, IfSome, IsTrue, OnOk, filter, is_some, option_map, slice_get, unwrap_or}
 use Rattle.std.specs.declared.result.Result.{Result}
 use Rattle.std.specs.declared.result.Result.TheVariants.{Ok, Err}
 use Rattle.std.proofs.lemmas.Bool.Decides.{eqb_tells}
 use Rattle.std.proofs.lemmas.List.{append-nil, length-map, map_push, take-append-drop, take_more}
-use Rattle.std.proofs.lemmas.List.Elements.{All-contains, All-head, All-map, All-push, All-tail, All-weaker, Contains-append_left, Contains-push, Contains-push_cases, filter-append, recursion_from_All}
+use Rattle.std.proofs.lemmas.List.Elements.{All-contains, All-head, All-map, All-tail, All-weaker, Contains-append_left, Contains-push_cases, filter-append, recursion_from_All}
 use Rattle.std.proofs.lemmas.List.Sums.{length-filter}
 use Rattle.std.proofs.lemmas.Result.{IfOk-weaker}
 use Rattle.std.proofs.lemmas.Option.{IfSome_then, get_or_from_slice_get, slice_get-get_or, slice_get_within}
@@ -29,7 +29,7 @@ use Rattle.nz_log.specs.Leveled.{AreTold}
 use Rattle.nz_log.specs.Lits.{negated_lit}
 use Rattle.nz_log.specs.Logs.{LogState, literals_at}
 use Rattle.nz_log.specs.Sound.{ClausesAreTrue, IsLog}
-use Rattle.nz_log.specs.Standing.{Ends, Standing, Stands, search_after}
+use Rattle.nz_log.specs.Standing.{Standing, Stands, search_after}
 use Rattle.nz_log.specs.Theories.{AddsPivots, Grows, IsClash, Leads}
 use Rattle.nz_sat.specs.declared.consult.Bounds.{Bounds}
 use Rattle.nz_sat.specs.declared.trail.Assigned.{Assigned}
@@ -37,7 +37,7 @@ use Rattle.nz_sat.specs.Clauses.{IsAssumed, IsFalsified}
 use Rattle.nz_sat.specs.Conflicts.{is_marked}
 use Rattle.nz_sat.specs.Numbers.{IsAtomAt, atom_literal, number_of, numbered}
 use Rattle.nz_sat.specs.Sats.{IsAsked}
-use Rattle.nz_sat.specs.Theories.{AddsLines, AreLast, Consults, EndsLegally, IsOfTheory, IsTrailOn, Keeps, StandsAt, StaysSoundOver, TellsOne, TellsTrail, TheoryState, bounds_on, told_line, told_literal, told_lits, told_on}
+use Rattle.nz_sat.specs.Theories.{Consults, EndsLegally, IsTrailOn, Keeps, StandsAt, StaysSoundOver, TellsOne, TellsTrail, TheoryState, bounds_on, told_line, told_literal, told_lits, told_on}
 use Rattle.nz_sat.specs.Trails.{EachBehind, IsNext, TrailState, assigned, depth, is_decision, literals_on}
 use Rattle.nz_sat.proofs.Growing.{asked_on, grows_far, grows_none, order_over}
 use Rattle.nz_sat.proofs.Chains.{filter_from, has_cases, has_found, map_has}
@@ -45,10 +45,10 @@ use Rattle.nz_sat.proofs.DeadEnds.{literal_numbered, number_at, task_entry}
 use Rattle.nz_sat.proofs.LearnedClauses.{all_from}
 use Rattle.nz_sat.proofs.Listing.{adds_far, adds_none, adds_pivots, search_more}
 use Rattle.nz_sat.proofs.Newness.{map_from, same_atom}
-use Rattle.nz_sat.proofs.Staying.{lit_stays, lit_within, names_stay, says}
+use Rattle.nz_sat.proofs.Staying.{lit_stays, names_stay}
 use Rattle.nz_sat.proofs.Taking.{check_ends, pivots_stay}
 use Rattle.nz_sat.proofs.Tracking.{names_some, names_told, trail_grown}
-use Rattle.nz_sat.proofs.Trailing.{assigned_at, level_within}
+use Rattle.nz_sat.proofs.Trailing.{assigned_at}
 
 -- ---- Literals of a trail
 

@@ -1,5 +1,5 @@
 -- A search over clauses of a log, as its callers see it.
-use Rattle.std.specs.Prelude.{◌≡◌, ℕ, ◌<◌, ◌++◌, Bool, All, Contains, List, length, map, filter, nat_le, Option, Some, None, IsSome, option_map, slice_index_or}
+use Rattle.std.specs.Prelude.{◌≡◌, ℕ, ◌++◌, Bool, All, Contains, List, map, filter, nat_le, Option, Some, None, IsSome, option_map, slice_index_or}
 use Rattle.nz_spec.specs.Table.{Node, IsTable}
 use Rattle.nz_spec.specs.Decide.{asserted_terms}
 use Rattle.nz_spec.specs.Legal.{Task}

@@ -1,5 +1,5 @@
 -- A search under way.
-use Rattle.std.specs.Prelude.{◌≡◌, ℕ, suc, ◌<◌, ◌≤◌, ◌++◌, ◌⊎◌, Bool, All, Contains, List, [], ◌∷◌, length, map, filter, slice_get, Option, Some, None, IfErr, IfOk, IfSome, IsSome, OnOk, unwrap_or}
+use Rattle.std.specs.Prelude.{◌≡◌, ℕ, suc, ◌<◌, ◌≤◌, ◌++◌, ◌⊎◌, Bool, All, Contains, List, [], ◌∷◌, length, map, Option, Some, None, IfErr, IfOk, IfSome, IsSome, unwrap_or}
 use Rattle.std.specs.declared.result.Result.{Result}
 use Rattle.nz_spec.specs.Table.{Node}
 use Rattle.nz_spec.specs.Literal.{StandOnce}
@@ -15,8 +15,8 @@ use Rattle.nz_sat.specs.declared.search.Search.{Search}
 use Rattle.nz_sat.specs.declared.trail.Assigned.{Assigned}
 use Rattle.nz_log.specs.Sound.{IsLog}
 use Rattle.nz_log.specs.Standing.{search_after}
-use Rattle.nz_sat.specs.Trails.{EachBehind, GoesOn, IsFrontOf, IsTrail, IsTrueOn, assigned, below, decided, depth, implied, is_decision, with_entry}
-use Rattle.nz_sat.specs.Clauses.{HasReasonOf, IsAssumed, IsFalsified, IsImplied, IsListed, IsOfSize, IsOpen, Waits, ids_of}
+use Rattle.nz_sat.specs.Trails.{GoesOn, IsTrueOn, assigned, below, decided, depth, implied, with_entry}
+use Rattle.nz_sat.specs.Clauses.{HasReasonOf, IsAssumed, IsFalsified, IsListed, IsOfSize, IsOpen, Waits, ids_of}
 use Rattle.nz_log.specs.Theories.{Grows}
 use Rattle.nz_sat.specs.Conflicts.{AreUnmarked, IsFalsifiedUnder}
 use Rattle.nz_sat.specs.Numbers.{IsAtomAt, number_of, numbered}

@@ -1,5 +1,5 @@
 //! What a theory is told of a trail, and what it answers.
-ghost use Rattle.std.specs.Prelude.{◌≡◌, ℕ, ◌+◌, ◌<◌, ◌^◌, ◌++◌, ◌∷◌, [], All, Contains, List, None, length, min, IfErr, IfOk, OnErr, OnOk};
+ghost use Rattle.std.specs.Prelude.{◌≡◌, ◌+◌, ◌<◌, ◌^◌, ◌++◌, ◌∷◌, [], All, Contains, List, None, length, min, IfErr, IfOk, OnErr, OnOk};
 ghost use Rattle.nz_spec.specs.Work.{IsSpent, with_line};
 ghost use Rattle.nz_log.specs.declared.stop.Stop.TheVariants as stop;
 ghost use Rattle.nz_log.specs.Leveled.{AreToldAtoms};

@@ -1,5 +1,5 @@
 //! The search as its callers see it.
-ghost use Rattle.std.specs.Prelude.{◌≡◌, ℕ, ◌≤◌, ◌∷◌, ◌++◌, [], All, List, nat_le, None, length, map, IfErr, IfOk, IfSome, OnErr, OnOk};
+ghost use Rattle.std.specs.Prelude.{◌≡◌, ℕ, ◌≤◌, ◌∷◌, ◌++◌, [], All, List, nat_le, None, IfErr, IfOk, IfSome, OnErr, OnOk};
 ghost use Rattle.nz_spec.specs.Legal.{Task};
 ghost use Rattle.nz_spec.specs.Table.{Node};
 ghost use Rattle.nz_spec.specs.Work.{IsSpent, unit_count};
@@ -29,7 +29,7 @@ pub struct Sat<T> {
     clauses: Vec<Held>,
     // By the numbers of atoms.
     truths: Vec<Option<bool>>,
-    /// What it was told last are the literals that are true.
+    /// What it was told last are the bounds that are true.
     pub theory: T,
 }
 

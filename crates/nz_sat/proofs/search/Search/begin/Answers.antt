@@ -1,5 +1,5 @@
 -- What comes of the assumed literals.
-use Rattle.std.proofs.Common.{◌≡◌, ℕ, Err, List, Ok, Option, None, Some, subst, sym, ap, rules}
+use Rattle.std.proofs.Common.{◌≡◌, ℕ, Err, List, Ok, Option, None, Some, subst, sym, rules}
 use Rattle.std.proofs.lemmas.Result.{IfOk-weaker}
 use Rattle.nz_log.specs.declared.stop.Stop.TheVariants as stop
 use Rattle.nz_sat.specs.declared.clauses.Held.{Held}

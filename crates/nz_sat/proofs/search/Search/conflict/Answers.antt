@@ -1,8 +1,7 @@
 -- What propagation and the theory tell of the clauses that are held.
-use Rattle.std.proofs.Common.{◌≡◌, ℕ, List, None, ap, rules, sym, subst}
-use Rattle.nz_log.specs.declared.lits.Lit.{Lit}
+use Rattle.std.proofs.Common.{◌≡◌, None, ap, rules, sym, subst}
 use Rattle.nz_sat.specs.declared.search.Search.{Search}
-use Rattle.nz_sat.specs.Searching.{Follows, IsSearch}
+use Rattle.nz_sat.specs.Searching.{Follows}
 use Rattle.nz_sat.specs.Theories.{state_of}
 use Rattle.nz_sat.proofs.Consulting.{comes_falsified, comes_told, consult_advances, falsified_advances, follow_tells, follow_told}
 use Rattle.nz_sat.proofs.Keeping.{search_usable}

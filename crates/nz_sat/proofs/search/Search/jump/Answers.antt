@@ -1,11 +1,11 @@
 -- One entry goes, or all that are left are up to the level.
-use Rattle.std.proofs.Common.{◌≡◌, ◌+◌, ◌++◌, ◌∷◌, [], List, length, None, ap, sym, ◌∙◌, arith, rules}
+use Rattle.std.proofs.Common.{◌≡◌, ◌+◌, length, ap, sym, ◌∙◌, arith, rules}
 use Rattle.nz_log.specs.declared.lits.Lit.{Lit}
 use Rattle.nz_sat.specs.declared.consult.Bounds.{Bounds}
 use Rattle.nz_sat.specs.declared.search.Search.{Search}
 use Rattle.nz_sat.specs.Theories.{told_on}
 use Rattle.nz_sat.specs.Trails.{TrailState, below}
-use Rattle.nz_sat.proofs.Cutting.{below_all, below_last, drops_shorter, front_all, front_less}
+use Rattle.nz_sat.proofs.Cutting.{below_all, below_last, front_less}
 use Rattle.nz_sat.proofs.Tracking.{count_more}
 use Rattle.nz_sat.proofs.search.Search.jump.Goals as goal
 

@@ -5,7 +5,6 @@ use Rattle.nz_spec.specs.Work.{WorkList}
 use Rattle.nz_log.specs.declared.note.Note.{Note}
 use Rattle.nz_log.specs.declared.stop.Stop.TheVariants as stop
 use Rattle.nz_sat.specs.declared.clauses.Held.{Held}
-use Rattle.nz_sat.specs.declared.consult.Bounds.{Bounds}
 use Rattle.nz_sat.specs.declared.search.Search.{Search}
 use Rattle.nz_sat.specs.Clauses.{Adds}
 use Rattle.nz_sat.specs.Conflicts.{AreUnmarked}

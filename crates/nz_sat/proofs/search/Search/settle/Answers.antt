@@ -7,7 +7,7 @@ use Rattle.nz_sat.specs.Theories.{TheoryState, state_of, told_lits}
 use Rattle.nz_sat.specs.declared.trail.Assigned.{Assigned}
 use Rattle.nz_sat.specs.Trails.{IsFrontOf}
 use Rattle.nz_sat.proofs.Advancing.{advances_same, reaches_cut, steps_same}
-use Rattle.nz_sat.proofs.Consulting.{back_falsified, back_refuted, conflict_of, ends_without, goes_back, settles_first, settles_on, settles_open, settling_reaches, steps_on}
+use Rattle.nz_sat.proofs.Consulting.{back_falsified, back_refuted, ends_without, goes_back, settles_first, settles_on, settles_open, settling_reaches, steps_on}
 use Rattle.nz_sat.proofs.Levels.{below_front}
 use Rattle.nz_sat.proofs.Listing.{adds_limit}
 use Rattle.nz_sat.proofs.search.Search.settle.Goals as goal

@@ -3,7 +3,6 @@ use Rattle.std.proofs.Common.{◌≡◌, ℕ, ◌<◌, Err, Option, None, sym, s
 use Rattle.std.proofs.lemmas.List.Elements.{All-contains}
 use Rattle.std.proofs.lemmas.Result.{IfOk-weaker}
 use Rattle.nz_spec.specs.Work.{WorkList}
-use Rattle.nz_log.specs.declared.lits.Lit.{Lit}
 use Rattle.nz_log.specs.declared.note.Note.{Note}
 use Rattle.nz_sat.specs.Searching.{Advances, AreWaiting, Settles, SettlesOn}
 use Rattle.nz_sat.specs.Theories.{state_of}
