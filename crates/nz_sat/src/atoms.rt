@@ -3,7 +3,7 @@ ghost use Rattle.std.specs.Prelude.{◌≡◌, ◌≢◌, ℕ, ◌<◌, true, []
 ghost use Rattle.nz_sat.specs.Numbers.{number_of, number_or};
 
 use nz_base::Memory;
-use nz_log::{Atom, AtomId, Log};
+use nz_log::AtomId;
 use std::alloc::Global;
 use std::marker::Model;
 
@@ -13,8 +13,6 @@ pub struct Atoms {
     ids: Vec<AtomId>,
     // By the numbers of atoms in the log.
     numbers: Vec<Option<usize>>,
-    // By the numbers of atoms in the log, whether they are bounds.
-    bounds: Vec<bool>,
 }
 
 impl Model for Atoms {
@@ -37,19 +35,17 @@ impl Atoms {
         Atoms {
             ids: Vec::new(alloc),
             numbers: Vec::new(alloc),
-            bounds: Vec::new(alloc),
         }
     }
 
     /// These atoms, numbered in their order.
-    pub fn of(alloc: Global, log: &Log, ids: &[AtomId]) -> Result<Atoms, Memory>
+    pub fn of(alloc: Global, ids: &[AtomId]) -> Result<Atoms, Memory>
         ensures atoms { IfOk result (λ a. a ≡ ids.now) }
     {
         let mut atoms = Atoms::none(alloc);
         for id in ids {
             atoms.name(*id)?;
         }
-        atoms.bounds = bounds_among(alloc, log, ids, atoms.size())?;
         Ok(atoms)
     }
 
@@ -80,31 +76,12 @@ impl Atoms {
         }
     }
 
-    /// Whether an atom is a bound.
-    pub fn is_bound(&self, atom: AtomId) -> bool {
-        matches!(self.bounds.get(atom), Some(true))
-    }
-
     /// A number above all these atoms.
     pub fn size(&self) -> usize
         ensures within { All (λ t. t < result) self.now }
     {
         self.numbers.len()
     }
-}
-
-/// Which of these atoms are bounds, by their numbers in the log, which are below a size.
-fn bounds_among(
-    alloc: Global,
-    log: &Log,
-    ids: &[AtomId],
-    size: usize,
-) -> Result<Vec<bool>, Memory> {
-    let mut bounds = vec![in alloc; false; size]?;
-    for id in ids {
-        bounds[*id] = matches!(log.atom(*id), Atom::AtMost(_));
-    }
-    Ok(bounds)
 }
 
 /// Gives an atom a number, if it has none.

@@ -1,16 +1,19 @@
 //! The search as its callers see it.
-ghost use Rattle.std.specs.Prelude.{◌≡◌, ℕ, ◌<◌, ◌∷◌, ◌++◌, [], All, List, nat_le, None, length, map, IfErr, IfOk, IfSome, OnErr, OnOk};
+ghost use Rattle.std.specs.Prelude.{◌≡◌, ℕ, ◌≤◌, ◌∷◌, ◌++◌, [], All, List, nat_le, None, IfErr, IfOk, IfSome, OnErr, OnOk};
 ghost use Rattle.nz_spec.specs.Legal.{Task};
 ghost use Rattle.nz_spec.specs.Table.{Node};
 ghost use Rattle.nz_spec.specs.Work.{IsSpent, unit_count};
 ghost use Rattle.nz_log.specs.declared.lits.Lit.{Lit};
 ghost use Rattle.nz_log.specs.declared.stop.Stop.TheVariants as stop;
+ghost use Rattle.nz_log.specs.declared.atoms.Atom.{Atom};
+ghost use Rattle.nz_log.specs.Leveled.{AreToldAtoms};
 ghost use Rattle.nz_log.specs.Logs.{IsLive, literals_at};
 ghost use Rattle.nz_log.specs.Sound.{IsLog};
+ghost use Rattle.nz_log.specs.Standing.{Ends, Stands, search_after};
 ghost use Rattle.nz_log.specs.Theories.{Grows};
 ghost use Rattle.nz_sat.specs.Conflicts.{Refutes};
-ghost use Rattle.nz_sat.specs.Numbers.{AreNotedIn, IsTermAtom, noted_atoms};
-ghost use Rattle.nz_sat.specs.Sats.{AreConsistent, AreHeld, AreNamed, AreOn, HoldsMore, IsAsked, IsLegalWork, IsSatisfied, IsTheoryMet, held_of, held_up_to, literal_truth};
+ghost use Rattle.nz_sat.specs.Numbers.{AreBeginnings, AreNotedIn, IsAtomAt, noted_atoms};
+ghost use Rattle.nz_sat.specs.Sats.{AreConsistent, AreHeld, AreNamed, AreOn, HoldsMore, IsAsked, IsSatisfied, IsTheoryMet, held_of, held_up_to, literal_truth};
 
 use crate::clauses::Held;
 use crate::search::Search;
@@ -26,7 +29,7 @@ pub struct Sat<T> {
     clauses: Vec<Held>,
     // By the numbers of atoms.
     truths: Vec<Option<bool>>,
-    /// What it was told last are the literals that are true.
+    /// What it was told last are the bounds that are true.
     pub theory: T,
 }
 
@@ -118,7 +121,10 @@ impl<T: Theory> Sat<T> {
         self.truths.clear();
         let alloc = *self.clauses.allocator();
         let mut search = Search::new(alloc, log, &self.clauses, atoms)?;
-        let refuted = search.run(log, &mut self.clauses, &mut self.theory, assumed, work)?;
+        let refuted = search.run(log, &mut self.clauses, &mut self.theory, assumed, work);
+        // No more units are used than the limit.
+        let _left = work.left();
+        let refuted = refuted?;
         if refuted.is_none() {
             self.truths = search.trail.truths(alloc)?;
         }
