@@ -1,0 +1,4 @@
+pub mod Contradicting
+pub mod Elements
+pub mod Saying
+pub mod Sums
