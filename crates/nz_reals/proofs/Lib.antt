@@ -1,4 +1,8 @@
 pub mod Contradicting
 pub mod Elements
+pub mod Refuting
 pub mod Saying
 pub mod Sums
+pub mod Tolds
+pub mod Telling
+pub mod Whys

@@ -1,5 +1,5 @@
 -- What the calls inside tell: a literal that is told, and literals that aren't true together.
-use Rattle.std.specs.Prelude.{◌≡◌, ℕ, ◌⊎◌, List, [], ◌∷◌, ◌++◌, Contains, length, map, Some, IsSome, pos}
+use Rattle.std.specs.Prelude.{◌≡◌, ℕ, ◌⊎◌, List, [], ◌∷◌, ◌++◌, Contains, length, map, Some, IsSome, pos, slice_get}
 use Rattle.std.specs.List.{AllByRecursion}
 use Rattle.nz_fractions.specs.Fraction.{Fraction, whole}
 use Rattle.nz_spec.specs.Farkas as farkas
@@ -10,7 +10,7 @@ use Rattle.nz_spec.specs.Notes.{sum_site}
 use Rattle.nz_spec.specs.Places.{LeavesNumbers}
 use Rattle.nz_spec.specs.Table.{Node}
 use Rattle.nz_frac.specs.Operations.{operation_of}
-use Rattle.nz_trail.specs.Bounds.{IsImplied, asserted}
+use Rattle.nz_trail.specs.Bounds.{ClashesWith, IsImplied, asserted}
 use Rattle.nz_lin.specs.declared.bound.Multiple as lin
 use Rattle.nz_lin.specs.Bounds as lin_bounds
 use Rattle.nz_lin.specs.Bounds.{HasUnits}
@@ -51,6 +51,14 @@ pub record IsTold (old new : Theory) (l : Lit) : Type 0 where
   pub bound : let b = held_by known l (length old.told) in
       ((new.simplex ≡ old.simplex) × IsImplied infinitesimal_cmp old.simplex.asserted b)
       ⊎ (IsBounded old.simplex new.simplex b × (¬ IsImplied infinitesimal_cmp old.simplex.asserted b))
+
+-- The literal clashes with one that was told: their bounds leave a form no value.
+pub record Clashes (t : Theory) (l : Lit) (k : Known) (other : Lit) : Type 0 where
+  pub place : ℕ
+  pub told : Told
+  pub at : slice_get t.told place ≡ Some told
+  pub literal : told.literal ≡ other
+  pub clash : ClashesWith infinitesimal_cmp t.simplex.asserted (held_by k l (length t.told)) place
 
 -- ---- Literals that aren't true together
 

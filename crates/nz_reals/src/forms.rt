@@ -59,8 +59,8 @@ impl Bounded {
     }
 
     /// What the atom says, or its negation.
-    pub(crate) fn said(self, sign: bool) -> Said
-        ensures said { said_of result ≡ said_by (known_of self) sign }
+    pub(crate) fn said(&self, sign: bool) -> Said
+        ensures said { said_of result ≡ said_by (known_of self.now) sign }
     {
         if sign { self.yes } else { self.no }
     }

@@ -1,14 +1,14 @@
 //! Bounds on sums of units over a simplex: which the theory knows, and which it was told.
-ghost use Rattle.std.specs.Prelude.{◌≡◌, ◌<◌, ℕ, List, [], ◌∷◌, All, Contains, IfOk, IfSome, IsSome, Ok, None, fst, length, map, Some};
+ghost use Rattle.std.specs.Prelude.{◌≡◌, ◌<◌, ℕ, List, [], ◌∷◌, All, Contains, IfOk, IfSome, IsSome, Ok, None, length, map, Some};
 ghost use Rattle.nz_frac.specs.Operations.{operation_of};
 ghost use Rattle.nz_log.specs.declared.atoms.Atom.{Atom};
 ghost use Rattle.nz_reals.specs.Known.{known_of, said_by, said_of};
 ghost use Rattle.nz_reals.specs.Stands.{HasTold, IsOf};
 ghost use Rattle.nz_reals.specs.State.{empty_theory, known_at, told_lits};
 ghost use Rattle.nz_reals.specs.Stored.{AreForms, AreTolds};
-ghost use Rattle.nz_reals.specs.Tells.{AreKnown, AreOf, IsTold, Refutes, both, multiple_at};
+ghost use Rattle.nz_reals.specs.Tells.{AreKnown, Clashes, IsTold, Refutes, both, multiple_at};
 
-use crate::forms::Bounded;
+use crate::forms::{Bounded, Said};
 use indexmap::IndexMap;
 use nz_base::Memory;
 use nz_delta::Delta;
@@ -92,16 +92,33 @@ impl Reals {
         literals_say_bounds();
         sums_stay();
         term_has_its_number();
+        tells_literals();
+        stored(self);
+        let bounded = self.known(literal.atom);
+        self.assert_said(literal, &bounded, &bounded.said(literal.sign))
+    }
+
+    /// Tells the simplex what is known of the atom of a literal.
+    fn assert_said(
+        &mut self,
+        literal: Lit,
+        bounded: &Bounded,
+        said: &Said,
+    ) -> Result<Option<Lit>, Memory>
+        requires known { known_at self.old literal.atom ≡ Some (known_of bounded.now) }
+        requires said { said_of said.now ≡ said_by (known_of bounded.now) literal.sign }
+        ensures told { result ≡ Ok None → IsTold self.old self.new literal }
+        ensures clash { IfOk result (λ r. IfSome r (λ other. Clashes self.old literal (known_of bounded.now) other)) }
+        ensures unchanged { (result ≡ Ok None → ⊥) → self.new ≡ self.old }
+    {
         stored(self);
         self.told.reserve(1)?;
-        let bounded = self.known(literal.atom);
-        let said = bounded.said(literal.sign);
-        let var = bounded.var;
-        let side = said.side;
-        let value = said.value;
         let reason = self.told.len();
         let mark = self.simplex.mark();
-        match self.simplex.assert_bound(var, side, value, reason)? {
+        match self
+            .simplex
+            .assert_bound(bounded.var, said.side, said.value, reason)?
+        {
             Bound::Clash(_, other) => Ok(Some(self.told[other].literal)),
             Bound::Kept => {
                 self.told.push(Told { literal, mark }).unwrap();

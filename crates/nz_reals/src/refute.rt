@@ -18,8 +18,10 @@ use nz_base::Memory;
 use nz_frac::Wide;
 use nz_lin as lin;
 use nz_lin::LinStop;
+use nz_log::laws::tells_lits;
 use nz_log::{Atom, ClauseId, Lit, Log, Multiple, Place, Site, Stop};
 use nz_simplex::laws::{contradictions_stay, sums_stay};
+use nz_spec::derivation::tells_literals;
 use nz_spec::form::term_has_its_number;
 use std::alloc::Global;
 
@@ -41,6 +43,8 @@ pub(crate) fn refute(
     contradictions_stay();
     sums_stay();
     term_has_its_number();
+    tells_literals();
+    tells_lits();
     stored(theory);
     match log.farkas(multiples) {
         Ok(clause) => Ok(clause),
