@@ -6,3 +6,6 @@ pub mod Sums
 pub mod Tolds
 pub mod Telling
 pub mod Whys
+pub mod News
+pub mod Bounding
+pub mod Standing

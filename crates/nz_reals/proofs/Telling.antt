@@ -32,11 +32,11 @@ use Rattle.nz_reals.specs.Stands.{IsOf, IsOver}
 use Rattle.nz_reals.specs.State.{Theory, known_at, lit_at, literal_over}
 use Rattle.nz_reals.specs.Stored.{AreTolds, IsBacked}
 use Rattle.nz_reals.specs.Sums.{turned_sum}
-use Rattle.nz_reals.specs.Tells.{AreKnown, Refutes, both, held_by, multiple_at, multiples_over, told_now}
+use Rattle.nz_reals.specs.Tells.{AreKnown, Clashes, Refutes, both, held_by, multiple_at, multiples_over, told_now}
 use Rattle.nz_reals.proofs.Elements.{each_of, has_first}
 use Rattle.nz_reals.proofs.Refuting.{known_units}
 use Rattle.nz_reals.proofs.Saying.{form_is, known_says, literal_of_known, sum_over}
-use Rattle.nz_reals.proofs.Tolds.{slice_get_last}
+use Rattle.nz_reals.proofs.Tolds.{clash_known, slice_get_last}
 
 -- a literal of a list of those that were told
 abbrev lit_in : List Told → ℕ → Lit
@@ -47,13 +47,6 @@ once r = whole (pos 1)
 
 lit_found : (ts : List Told) (r : ℕ) (x : Told) → slice_get ts r ≡ Some x → lit_in ts r ≡ x.literal
 lit_found ts r x at = ap (λ (y : Told). y.literal) (get_or_from_slice_get ts r x (record { literal = record { atom = 0; sign = false }; mark = 0 }) at)
-
--- the bound that another one clashes with is one that was told
-pub clash_among : (bs : List Held) (b : Held) (other : ℕ) → ClashesWith infinitesimal_cmp bs b other → (h : Held) × Contains bs h × (h.reason ≡ other)
-clash_among bs b other clash =
-    let h = asserted b.var (other_side b.side) clash.value other in
-    let t = clash.tightest in
-    (h, subst (λ (xs : List Held). Contains xs h) (sym t.parts) (Contains-append_right t.before (h ∷ t.after) h (has_first h t.after)), refl)
 
 module _ (t : Theory) (atoms : List Atom) (ids : List ℕ) (of : IsOf t atoms ids) (say : LiteralsSayBounds) (sums : SumsStay) (numbers : TermHasItsNumber) (tells : TellsLiterals) where
   module _ (ns : List Node) (over : IsOver t ns) where
@@ -113,3 +106,9 @@ module _ (t : Theory) (atoms : List Atom) (ids : List ℕ) (of : IsOf t atoms id
   check_refutes contradict tolds refuted = λ ns over.
       contradict.check (number_in ns) (literal_for ns over t.told) once ns t.simplex (multiples_over ns t (map (multiple_at t) t.simplex.why)) (refuted ns over)
       (all_said ns over t.told (λ r x at. at) tolds) (for_each ns over t.simplex.why)
+
+  pub clash_told : ClashesContradict → AreTolds t → (l : Lit) (k : Known) → known_at t l.atom ≡ Some k → (o : Lit) → Clashes t l k o → AreKnown t (both l o) × Refutes t (both l o)
+  clash_told contradict tolds l k knows o c = (
+    clash_known t l k o tolds knows c,
+    subst (λ (x : Lit). Refutes t (both l x)) c.literal (clash_refutes contradict tolds l k c.place c.told knows c.clash c.at),
+  )

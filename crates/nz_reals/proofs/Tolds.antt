@@ -1,24 +1,31 @@
 -- What is known of bounds that were told stays so when one more is told, and when the last are taken back.
 use Rattle.std.proofs.Common.{◌≡◌, ℕ, zero, suc, ◌<◌, ◌≤◌, ◌⊎◌, inl, inr, Bool, true, false, List, [], ◌∷◌, ◌++◌, map, take, length, Option, Some, None, refl, sym, ap, ◌∙◌, subst, arith, length-append}
-use Rattle.std.specs.Prelude.{IsSome, slice_get, slice_index_or}
+use Rattle.std.specs.Prelude.{Contains, IfOk, IfSome, IsSome, Result, Ok, Err, slice_get, slice_index_or}
 use Rattle.std.specs.List.{AllByRecursion}
 use Rattle.std.proofs.lemmas.List.{length-take-le, take-append-le}
+use Rattle.std.proofs.lemmas.List.Elements.{Contains-append_right}
 use Rattle.std.proofs.lemmas.Option.{slice_get_within, slice_get-get_or}
 use Rattle.nz_lists.proofs.Elements.{AllByRecursion-append, AllByRecursion-weaker}
 use Rattle.nz_lists.proofs.Places.{slice_get_kept, slice_get-push_cases}
 use Rattle.nz_log.specs.declared.lits.Lit.{Lit}
 use Rattle.nz_spec.specs.Bland.{zero_infinitesimal}
 use Rattle.nz_trail.specs.declared.limits.Side.TheVariants.{Lower}
-use Rattle.nz_trail.specs.Bounds.{asserted}
+use Rattle.nz_spec.specs.Infinitesimal.{infinitesimal_cmp}
+use Rattle.nz_spec.specs.Literal.{StandOnce}
+use Rattle.nz_lin.specs.Forms.{AreUnits}
+use Rattle.nz_log.specs.declared.atoms.Atom.{Atom}
+use Rattle.nz_log.specs.declared.atoms.Atom.TheVariants.{AtMost}
+use Rattle.nz_trail.specs.Bounds.{ClashesWith, IsImplied, asserted, other_side}
 use Rattle.nz_simplex.specs.Moves.{IsBounded}
 use Rattle.nz_simplex.specs.Standing.{Held}
 use Rattle.nz_simplex.specs.State.{State}
 use Rattle.nz_reals.specs.declared.reals.Told.{Told}
-use Rattle.nz_reals.specs.Known.{Known, said_by}
-use Rattle.nz_reals.specs.State.{Theory, known_at}
-use Rattle.nz_reals.specs.Stored.{AreForms, AreTolds, IsBacked, IsMark}
-use Rattle.nz_reals.specs.Tells.{IsTold, held_by, told_now}
-use Rattle.nz_reals.proofs.Elements.{at_of, by_each, each_of, has_found}
+use Rattle.nz_reals.specs.Known.{Known, Said, said_by}
+use Rattle.nz_reals.specs.State.{Theory, empty_theory, known_at, told_lits}
+use Rattle.nz_reals.specs.Stored.{AreForms, AreTolds, FindsForms, IsBacked, IsMark, IsStored}
+use Rattle.nz_reals.specs.Sums.{IsFormSum}
+use Rattle.nz_reals.specs.Tells.{AreKnown, Clashes, IsTold, both, held_by, told_now}
+use Rattle.nz_reals.proofs.Elements.{at_of, each_of, has_first, has_found, map_has}
 
 -- ---- Places of lists
 
@@ -49,7 +56,7 @@ module _ (old new : Theory) (l : Lit) (tolds : AreTolds old) (told : IsTold old 
   old_told : (r : ℕ) (x : Told) → slice_get old.told r ≡ Some x → slice_get new.told r ≡ Some x
   old_told r x at = subst (λ (ts : List Told). slice_get ts r ≡ Some x) (sym told.told) (slice_get_kept old.told (told_now old l ∷ []) r x at)
 
-  told_cases : (r : ℕ) (x : Told) → slice_get new.told r ≡ Some x → (slice_get old.told r ≡ Some x) ⊎ ((r ≡ length old.told) × (told_now old l ≡ x))
+  pub told_cases : (r : ℕ) (x : Told) → slice_get new.told r ≡ Some x → (slice_get old.told r ≡ Some x) ⊎ ((r ≡ length old.told) × (told_now old l ≡ x))
   told_cases r x at = slice_get-push_cases old.told (told_now old l) r x (subst (λ (ts : List Told). slice_get ts r ≡ Some x) told.told at)
 
   same_known : (i : ℕ) → known_at new i ≡ known_at old i
@@ -187,7 +194,7 @@ module _ (old new : Theory) (k : ℕ) (x : Told) (tolds : AreTolds old) (undone 
       }
 
   -- earlier marks are no greater
-  mark_within : (r : ℕ) (y : Told) → slice_get old.told r ≡ Some y → r < k → y.mark ≤ x.mark
+  pub mark_within : (r : ℕ) (y : Told) → slice_get old.told r ≡ Some y → r < k → y.mark ≤ x.mark
   mark_within r y at less = by_order (order y.mark x.mark)
     where
       order : (m n : ℕ) → (m ≤ n) ⊎ (n < m)
@@ -225,3 +232,93 @@ module _ (old new : Theory) (k : ℕ) (x : Told) (tolds : AreTolds old) (undone 
 
   pub forms_stay : new.simplex.forms ≡ old.simplex.forms
   forms_stay = ap (λ (s : State). s.forms) undone.simplex
+
+-- ---- What the fields are
+
+pub forms_move : (old new : State) → new.forms ≡ old.forms → AreForms old → AreForms new
+forms_move old new same forms = record {
+  table = forms.table;
+  over = record { table = forms.over.table; units = subst (AllByRecursion (AreUnits forms.table)) (sym same) forms.over.units };
+  sums = subst (AllByRecursion IsFormSum) (sym same) forms.sums;
+  once = subst StandOnce (sym same) forms.once;
+}
+
+pub stored_more : (find : Atom → Option ℕ) (old new : Theory) (l : Lit) → IsStored find old → IsTold old new l → IsStored find new
+stored_more find old new l stored told = record {
+  forms = forms_move old.simplex new.simplex (forms_same old new l stored.tolds told) stored.forms;
+  finds = subst (FindsForms find) (sym (forms_same old new l stored.tolds told)) stored.finds;
+  tolds = tolds_more old new l stored.tolds told;
+}
+
+pub stored_undone : (find : Atom → Option ℕ) (old new : Theory) (k : ℕ) (x : Told) → IsStored find old → IsUndone old new k x → IsStored find new
+stored_undone find old new k x stored undone = record {
+  forms = forms_move old.simplex new.simplex (forms_stay old new k x stored.tolds undone) stored.forms;
+  finds = subst (FindsForms find) (sym (forms_stay old new k x stored.tolds undone)) stored.finds;
+  tolds = tolds_undone old new k x stored.tolds undone;
+}
+
+pub told_here : (old new : Theory) (l : Lit) (k : Known) (s : Said) (reason : ℕ) → known_at old l.atom ≡ Some k → s ≡ said_by k l.sign → reason ≡ length old.told → new.known ≡ old.known
+    → new.told ≡ old.told ++ told_now old l ∷ []
+    → (let b = asserted k.form s.side s.value reason in ((new.simplex ≡ old.simplex) × IsImplied infinitesimal_cmp old.simplex.asserted b) ⊎ (IsBounded old.simplex new.simplex b × (¬ IsImplied infinitesimal_cmp old.simplex.asserted b)))
+    → IsTold old new l
+told_here old new l k s reason knows said place known told bound = record {
+  known = k;
+  knows = knows;
+  same = known;
+  told = told;
+  bound =
+      subst (λ (b : Held). ((new.simplex ≡ old.simplex) × IsImplied infinitesimal_cmp old.simplex.asserted b) ⊎ (IsBounded old.simplex new.simplex b × (¬ IsImplied infinitesimal_cmp old.simplex.asserted b)))
+      (λ i. asserted k.form (said i).side (said i).value (place i)) bound;
+}
+
+-- the bound that another one clashes with is one that was told
+pub clash_among : (bs : List Held) (b : Held) (other : ℕ) → ClashesWith infinitesimal_cmp bs b other → (h : Held) × Contains bs h × (h.reason ≡ other)
+clash_among bs b other clash =
+    let h = asserted b.var (other_side b.side) clash.value other in
+    let t = clash.tightest in
+    (h, subst (λ (xs : List Held). Contains xs h) (sym t.parts) (Contains-append_right t.before (h ∷ t.after) h (has_first h t.after)), refl)
+
+-- the literal that another one clashes with
+pub clash_place : (t : Theory) (b : Held) (other : ℕ) → AreTolds t → ClashesWith infinitesimal_cmp t.simplex.asserted b other → (x : Told) × (slice_get t.told other ≡ Some x)
+clash_place t b other tolds clash =
+    let h = clash_among t.simplex.asserted b other clash in
+    let k = each_of (IsBacked t) t.simplex.asserted tolds.backed h.0 h.1 in
+    (k.told, ap (slice_get t.told) (sym h.2) ∙ k.at)
+
+pub clashes_here : (t : Theory) (l : Lit) (k : Known) (s : Said) (reason other : ℕ) (o : Lit) → AreTolds t → s ≡ said_by k l.sign → reason ≡ length t.told
+    → ClashesWith infinitesimal_cmp t.simplex.asserted (asserted k.form s.side s.value reason) other → ((x : Told) → slice_get t.told other ≡ Some x → x.literal ≡ o) → Clashes t l k o
+clashes_here t l k s reason other o tolds said place clash is =
+    let x = clash_place t (asserted k.form s.side s.value reason) other tolds clash in
+    record {
+      place = other;
+      told = x.0;
+      at = x.1;
+      literal = is x.0 x.1;
+      clash = subst (λ (b : Held). ClashesWith infinitesimal_cmp t.simplex.asserted b other) (λ i. asserted k.form (said i).side (said i).value (place i)) clash;
+    }
+
+pub clash_handed : {E : Type 0} (P Q : Lit → Type 0) → ((o : Lit) → P o → Q o) → (r : Result (Option Lit) E) → IfOk r (λ x. IfSome x P) → IfOk r (λ x. IfSome x Q)
+clash_handed P Q f (Ok None) h = h
+clash_handed P Q f (Ok (Some o)) h = f o h
+clash_handed P Q f (Err e) h = h
+
+pub clash_has : (t : Theory) (l : Lit) (k : Known) (o : Lit) → Clashes t l k o → Contains (told_lits t) o
+clash_has t l k o c = subst (Contains (told_lits t)) c.literal (map_has (λ (x : Told). x.literal) t.told c.told (has_found t.told c.place c.told c.at))
+
+pub clash_known : (t : Theory) (l : Lit) (k : Known) (o : Lit) → AreTolds t → known_at t l.atom ≡ Some k → Clashes t l k o → AreKnown t (both l o)
+clash_known t l k o tolds knows c =
+    let other = tolds.knows c.place c.told c.at in
+    (subst IsSome (sym knows) refl, (subst IsSome (sym (ap (λ (x : Lit). known_at t x.atom) (sym c.literal) ∙ other.1)) refl, tt))
+
+-- nothing is stored at first
+pub stored_empty : (find : Atom → Option ℕ) → ((a : Atom) → find a ≡ None) → IsStored find empty_theory
+stored_empty find none = record {
+  forms = record {
+    table = [];
+    over = record { table = record { before = λ i n at. absurd cc; once = λ i j n at to. absurd cc; fits = λ i n at. absurd cc; leaves = λ i n at. absurd cc }; units = tt };
+    sums = tt;
+    once = λ i j f at to. absurd cc;
+  };
+  finds = record { found = λ b v at. let no = none (AtMost b) in absurd cc; all = λ v f at. absurd cc };
+  tolds = record { listed = λ i k at. absurd cc; backed = tt; knows = λ r x at. absurd cc; marks = λ r x at. absurd cc };
+}

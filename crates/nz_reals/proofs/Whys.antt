@@ -25,22 +25,36 @@ use Rattle.nz_reals.proofs.Elements.{has_first, has_more}
 
 -- ---- What stands is one of the bounds
 
-stands_from : (bs : List Held) (v : ℕ) (side : Side) (o : Option Held) (b : Held) → fold (standing_with v side) o bs ≡ Some b → (o ≡ Some b) ⊎ Contains bs b
+-- a bound of this form and side among the bounds
+pub record IsAmong (bs : List Held) (v : ℕ) (side : Side) (b : Held) : Type 0 where
+  pub has : Contains bs b
+  pub of : is_bound_of v side b ≡ true
+
+and_first : (a b : Bool) → (a && b) ≡ true → a ≡ true
+and_first true b e = refl
+and_first false b e = e
+
+among_more : (x : Held) (xs : List Held) (v : ℕ) (side : Side) (b : Held) → IsAmong xs v side b → IsAmong (x ∷ xs) v side b
+among_more x xs v side b h = record { has = has_more x b xs h.has; of = h.of }
+
+stands_from : (bs : List Held) (v : ℕ) (side : Side) (o : Option Held) (b : Held) → fold (standing_with v side) o bs ≡ Some b → (o ≡ Some b) ⊎ IsAmong bs v side b
 stands_from [] v side o b e = inl e
 stands_from (x ∷ xs) v side o b e = by_rest (stands_from xs v side (standing_with v side o x) b e)
   where
-    by_test : (t : Bool) → (if t then Some x else o) ≡ Some b → (o ≡ Some b) ⊎ Contains (x ∷ xs) b
-    by_test true f = let same : x ≡ b = cc in inr (subst (Contains (x ∷ xs)) same (has_first x xs))
-    by_test false f = inl f
+    by_test : (t : Bool) → (is_bound_of v side x && is_news side x.value o) ≡ t → (if t then Some x else o) ≡ Some b → (o ≡ Some b) ⊎ IsAmong (x ∷ xs) v side b
+    by_test true t f =
+        let same : x ≡ b = cc in
+        inr (subst (IsAmong (x ∷ xs) v side) same (record { has = has_first x xs; of = and_first (is_bound_of v side x) (is_news side x.value o) t }))
+    by_test false t f = inl f
 
-    by_rest : (standing_with v side o x ≡ Some b) ⊎ Contains xs b → (o ≡ Some b) ⊎ Contains (x ∷ xs) b
-    by_rest (inl f) = by_test (is_bound_of v side x && is_news side x.value o) f
-    by_rest (inr h) = inr (has_more x b xs h)
+    by_rest : (standing_with v side o x ≡ Some b) ⊎ IsAmong xs v side b → (o ≡ Some b) ⊎ IsAmong (x ∷ xs) v side b
+    by_rest (inl f) = by_test (is_bound_of v side x && is_news side x.value o) refl f
+    by_rest (inr h) = inr (among_more x xs v side b h)
 
-pub stands_among : (bs : List Held) (v : ℕ) (side : Side) (b : Held) → standing bs v side ≡ Some b → Contains bs b
+pub stands_among : (bs : List Held) (v : ℕ) (side : Side) (b : Held) → standing bs v side ≡ Some b → IsAmong bs v side b
 stands_among bs v side b e = by_case (stands_from bs v side None b e)
   where
-    by_case : (None ≡ Some b) ⊎ Contains bs b → Contains bs b
+    by_case : (None ≡ Some b) ⊎ IsAmong bs v side b → IsAmong bs v side b
     by_case (inl f) = absurd cc
     by_case (inr h) = h
 
@@ -50,7 +64,7 @@ reason_among bs v side x e = by_case (standing bs v side) refl e
   where
     by_case : (o : Option Held) → standing bs v side ≡ o → option_map (λ (b : Held). b.value) o ≡ Some x → (b : Held) × Contains bs b × (reason_in bs side v ≡ b.reason)
     by_case None f g = absurd cc
-    by_case (Some b) f g = (b, stands_among bs v side b f, ap (λ (o : Option Held). unwrap_or (option_map (λ (h : Held). h.reason) o) 0) f)
+    by_case (Some b) f g = (b, (stands_among bs v side b f).has, ap (λ (o : Option Held). unwrap_or (option_map (λ (h : Held). h.reason) o) 0) f)
 
 side_bound : (ns : List Node) (s : State) (side : Side) (v : ℕ) → bound_on (half side) (position_over ns s) v ≡ bound_in s.asserted side v
 side_bound ns s Lower v = refl

@@ -2,6 +2,7 @@
 ghost use Rattle.std.specs.Prelude.{◌≡◌, ◌<◌, ℕ, List, [], ◌∷◌, All, Contains, IfOk, IfSome, IsSome, Ok, None, length, map, Some};
 ghost use Rattle.nz_frac.specs.Operations.{operation_of};
 ghost use Rattle.nz_log.specs.declared.atoms.Atom.{Atom};
+ghost use Rattle.nz_simplex.specs.State.{IsSound};
 ghost use Rattle.nz_reals.specs.Known.{known_of, said_by, said_of};
 ghost use Rattle.nz_reals.specs.Stands.{HasTold, IsOf};
 ghost use Rattle.nz_reals.specs.State.{empty_theory, known_at, told_lits};
@@ -151,6 +152,7 @@ impl Reals {
 pub(crate) fn stored(theory: &Reals)
     ensures forms { AreForms theory.now.simplex }
     ensures tolds { AreTolds theory.now }
+    ensures sound { IsSound theory.now.simplex }
 {
-    let _ = &theory.simplex;
+    known_state(&theory.simplex);
 }
