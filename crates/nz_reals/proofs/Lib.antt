@@ -9,3 +9,5 @@ pub mod Whys
 pub mod News
 pub mod Bounding
 pub mod Standing
+pub mod Knowing
+pub mod Placing

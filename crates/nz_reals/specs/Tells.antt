@@ -24,6 +24,11 @@ use Rattle.nz_log.specs.declared.place.Site.TheVariants.{Exchange, Value}
 use Rattle.nz_simplex.specs.declared.answer.Site as simplex
 use Rattle.nz_simplex.specs.declared.answer.Site.TheVariants.{Row, Point}
 use Rattle.nz_log.specs.Places.{IsSiteWithin, site_of}
+use Rattle.nz_spec.specs.Pivots.{Lead}
+use Rattle.nz_spec.specs.Work.{WorkList}
+use Rattle.nz_log.specs.declared.note.Note.{Note}
+use Rattle.nz_log.specs.Theories.{AddsPivots}
+use Rattle.nz_simplex.specs.State.{position_over}
 use Rattle.nz_simplex.specs.Contradictions.{Contradicts}
 use Rattle.nz_simplex.specs.Moves.{IsBounded}
 use Rattle.nz_simplex.specs.Standing.{Held}
@@ -105,3 +110,14 @@ pub record AreBoundsOf (ns : List Node) (atoms : List Atom) (ms : List Multiple)
 abbrev pub site_at : simplex.Site → Site
 site_at (Row leaves enters) = Exchange leaves enters
 site_at (Point form) = Value form
+
+-- ---- A check
+
+-- Pivots are noted, which lead from the one position to the other; all but the point stays.
+pub record IsMoved (old new : Theory) (before after : WorkList Note) : Type 0 where
+  pub known : new.known ≡ old.known
+  pub told : new.told ≡ old.told
+  pub forms : new.simplex.forms ≡ old.simplex.forms
+  pub asserted : new.simplex.asserted ≡ old.simplex.asserted
+  pub adds : AddsPivots before after
+  pub lead : (ns : List Node) → IsOver old ns → Lead (position_over ns old.simplex) adds.pivots (position_over ns new.simplex)

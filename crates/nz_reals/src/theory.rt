@@ -1,8 +1,18 @@
 //! The theory as a search asks it.
-ghost use Rattle.std.specs.Prelude.{◌≡◌};
+ghost use Rattle.std.specs.Prelude.{◌≡◌, List, IfErr, Ok, false, true};
 ghost use Rattle.nz_fractions.specs.Fraction.{IsNumber};
 ghost use Rattle.nz_log.specs.declared.stop.Stop.TheVariants as stop;
-ghost use Rattle.nz_reals.specs.Tells.{both, site_at};
+ghost use Rattle.nz_spec.specs.Bland.{Point};
+ghost use Rattle.nz_spec.specs.Form.{Part};
+ghost use Rattle.nz_spec.specs.Literal.{Literal};
+ghost use Rattle.nz_spec.specs.LiteralBounds.{position_under};
+ghost use Rattle.nz_spec.specs.Table.{Node};
+ghost use Rattle.nz_spec.specs.Work.{IsSpent};
+ghost use Rattle.nz_log.specs.Places.{IsPlaceIn, OnWide};
+ghost use Rattle.nz_simplex.specs.Checks.{IsRefuted};
+ghost use Rattle.nz_simplex.specs.State.{position_over};
+ghost use Rattle.nz_reals.specs.Stands.{IsFeasible, IsOver};
+ghost use Rattle.nz_reals.specs.Tells.{IsMoved, both, site_at};
 
 use crate::reals::{Reals, stored};
 use crate::refute::{refute, stopped};
@@ -10,8 +20,12 @@ use nz_base::Work;
 use nz_frac::Frac;
 use nz_log::{ClauseId, Lit, Log, Multiple, Note, Site, Stop, Theory};
 use nz_simplex as simplex;
+use nz_simplex::laws::{clashes_contradict, literals_say_bounds, sums_stay};
 use nz_simplex::{Check, SimplexStop, known_state};
 use nz_spec::deciding::telling_sets_bounds;
+use nz_spec::derivation::tells_literals;
+use nz_spec::form::term_has_its_number;
+use nz_spec::table::one_number;
 
 /// A stop at a place of the simplex.
 fn stopped_at(place: simplex::Place) -> Stop
@@ -52,6 +66,10 @@ impl Theory for Reals {
     ghost is_at = { IsAt };
 
     fn assert_lit(&mut self, log: &mut Log, literal: Lit) -> Result<Option<ClauseId>, Stop> {
+        telling_sets_bounds();
+        one_number();
+        tells_literals();
+        stored(self);
         match self.tell(literal)? {
             None => Ok(None),
             Some(other) => {
@@ -62,19 +80,18 @@ impl Theory for Reals {
     }
 
     fn check(&mut self, log: &mut Log, work: &mut Work<Note>) -> Result<Option<ClauseId>, Stop> {
-        match self.simplex.check(work) {
-            Ok(Check::Feasible) => Ok(None),
-            Ok(Check::Clash) => {
-                let multiples = self.multiples()?;
-                let clause = refute(self, log, &multiples)?;
-                Ok(Some(clause))
-            }
-            Err(SimplexStop::Spent) => {
-                work.left();
-                Err(Stop::Spent)
-            }
-            Err(SimplexStop::Wide(place)) => Err(stopped_at(place)),
+        clashes_contradict();
+        literals_say_bounds();
+        sums_stay();
+        term_has_its_number();
+        tells_literals();
+        if self.seek(work)? {
+            return Ok(None);
         }
+        stored(self);
+        let multiples = self.multiples()?;
+        let clause = refute(self, log, &multiples)?;
+        Ok(Some(clause))
     }
 
     fn mark(&self) -> usize {
@@ -86,6 +103,31 @@ impl Theory for Reals {
             let bounds = first.mark;
             self.simplex.undo(bounds);
             self.told.truncate(mark);
+        }
+    }
+}
+
+impl Reals {
+    /// Looks for a point within all bounds. Answers false where bounds contradict.
+    fn seek(&mut self, work: &mut Work<Note>) -> Result<bool, Stop>
+        ensures moved { IsMoved self.old self.new work.old work.new }
+        ensures feasible { result ≡ Ok true → IsFeasible self.new }
+        ensures clash { result ≡ Ok false → (ns : List Node) → IsOver self.new ns → IsRefuted ns self.new.simplex }
+        ensures place { (ns : List Node) → IsOver self.new ns → IfErr result (λ e. OnWide e (λ place. (fs : List (List Part)) (ls : List Literal) (x : Point) → position_under fs x ls ≡ position_over ns self.new.simplex → IsPlaceIn ns fs ls x place)) }
+        ensures spent { IfErr result (λ e. e ≡ stop.Spent → IsSpent work.new) }
+    {
+        stored(self);
+        match self.simplex.check(work) {
+            Ok(Check::Feasible) => Ok(true),
+            Ok(Check::Clash) => Ok(false),
+            Err(SimplexStop::Spent) => {
+                work.left();
+                Err(Stop::Spent)
+            }
+            Err(SimplexStop::Wide(place)) => {
+                known_state(&self.simplex);
+                Err(stopped_at(place))
+            }
         }
     }
 }
