@@ -51,11 +51,11 @@ use Rattle.nz_reals.specs.Known.{Known}
 use Rattle.nz_reals.specs.Stands.{IsAt, IsOf, IsOver}
 use Rattle.nz_reals.specs.State.{Theory, known_at, lit_at, literal_over, told_lits}
 use Rattle.nz_reals.specs.Stored.{AreTolds, IsBacked}
-use Rattle.nz_reals.specs.Tells.{AreOf, IsMoved, IsSumPlace, both, literals_of, multiple_at, multiples_over, site_at}
+use Rattle.nz_reals.specs.Tells.{AreKnown, AreOf, IsMoved, IsSumPlace, both, literals_of, multiple_at, multiples_over, site_at}
 use Rattle.nz_reals.proofs.Elements.{each_of, has_found, map_has}
 use Rattle.nz_reals.proofs.Refuting.{first_is}
 use Rattle.nz_reals.proofs.Saying.{literal_is}
-use Rattle.nz_reals.proofs.Standing.{position_is}
+use Rattle.nz_reals.proofs.Standing.{moved_at, position_is}
 use Rattle.nz_reals.proofs.Whys.{why_each}
 
 -- ---- Notes of steps
@@ -276,21 +276,60 @@ clash_stops t atoms ids ns fs ls x l other k e of at sound tolds knows has place
     subst (λ (m : Literal). OnWide e (IsPlaceIn ns fs (ls ++ m ∷ []) (moved_by fs m x))) (literal_is ns t atoms ids l k of knows)
     (sum_in_clash t ns fs ls x at sound l other k (tolds.listed l.atom k knows) has e place)
 
--- ---- What both literals have
+-- ---- What the literals of multiples have
 
-pub both_told : (log : LogState) (ls : List Lit) (l other : Lit) → Contains ls other → AreTold log (ls ++ l ∷ []) → AreTold log (literals_of (both l other))
-both_told log ls l other has told =
-    let P : Lit → Type 0 = Names (λ t. IsSome (told_of log t)) log.atoms in
-    All-from_recursion P (literals_of (both l other)) (
-      All-contains P (ls ++ l ∷ []) l told (Contains-push ls l),
-      (All-contains P (ls ++ l ∷ []) other told (Contains-append_left ls (l ∷ []) other has), tt),
-    )
+-- a level was told of each term that they name
+pub told_of_each : (log : LogState) (ls : List Lit) (ms : List Multiple) → AreOf ls ms → AreTold log ls → AreTold log (literals_of ms)
+told_of_each log ls ms of told = All-from_recursion (Names (λ t. IsSome (told_of log t)) log.atoms) (literals_of ms) (each ms of)
+  where
+    each : (ns : List Multiple) → AreOf ls ns → AllByRecursion (Names (λ t. IsSome (told_of log t)) log.atoms) (literals_of ns)
+    each [] h = tt
+    each (n ∷ ns) h = (All-contains (Names (λ t. IsSome (told_of log t)) log.atoms) ls n.literal told h.0, each ns h.1)
 
+-- they are over a table
+pub in_of_each : (ns : List Node) (atoms : List Atom) (ls : List Lit) (ms : List Multiple) → AreOf ls ms → AreWithin ns atoms ls → AreMultiplesIn ns atoms ms
+in_of_each ns atoms ls [] of within = tt
+in_of_each ns atoms ls (m ∷ ms) of within = (each_of (IsLitIn ns atoms) ls within m.literal of.0, in_of_each ns atoms ls ms of.1 within)
+
+-- two literals, of which the one was told
 pub both_of : (ls : List Lit) (l other : Lit) → Contains ls other → AreOf (ls ++ l ∷ []) (both l other)
 both_of ls l other has = (Contains-push ls l, (Contains-append_left ls (l ∷ []) other has, tt))
 
+pub both_told : (log : LogState) (ls : List Lit) (l other : Lit) → Contains ls other → AreTold log (ls ++ l ∷ []) → AreTold log (literals_of (both l other))
+both_told log ls l other has told = told_of_each log (ls ++ l ∷ []) (both l other) (both_of ls l other has) told
+
 pub both_in : (ns : List Node) (atoms : List Atom) (ls : List Lit) (l other : Lit) → Contains ls other → AreWithin ns atoms (ls ++ l ∷ []) → AreMultiplesIn ns atoms (both l other)
-both_in ns atoms ls l other has within = (
-  each_of (IsLitIn ns atoms) (ls ++ l ∷ []) within l (Contains-push ls l),
-  (each_of (IsLitIn ns atoms) (ls ++ l ∷ []) within other (Contains-append_left ls (l ∷ []) other has), tt),
-)
+both_in ns atoms ls l other has within = in_of_each ns atoms (ls ++ l ∷ []) (both l other) (both_of ls l other has) within
+
+-- those of a clash of the simplex
+pub why_known : (t : Theory) (ws : List (ℕ × Fraction)) → AreTolds t → AllByRecursion (λ (w : ℕ × Fraction). w.0 < length t.told) ws → AreKnown t (map (multiple_at t) ws)
+why_known t [] tolds h = tt
+why_known t (w ∷ ws) tolds h =
+    let d : Told = record { literal = record { atom = 0; sign = false }; mark = 0 } in
+    let k = tolds.knows w.0 (slice_index_or t.told w.0 d) (slice_get-get_or t.told w.0 d h.0) in
+    (subst IsSome (sym k.1) refl, why_known t ws tolds h.1)
+
+pub why_of : (t : Theory) (ls : List Lit) (ws : List (ℕ × Fraction)) → told_lits t ≡ ls → AllByRecursion (λ (w : ℕ × Fraction). w.0 < length t.told) ws → AreOf ls (map (multiple_at t) ws)
+why_of t ls [] told h = tt
+why_of t ls (w ∷ ws) told h = (subst (λ (ks : List Lit). Contains ks (lit_at t w.0)) told (lit_told t w.0 h.0), why_of t ls ws told h.1)
+
+-- ---- The exits of a check
+
+pub on_wide_at : (ns : List Node) (s : State) (fs : List (List Part)) (ls : List Literal) (x : Point) (e : Stop) → position_under fs x ls ≡ position_over ns s → OnWide e (Placed ns s) → OnWide e (IsPlaceIn ns fs ls x)
+on_wide_at ns s fs ls x (Wide place) same h = h fs ls x same
+on_wide_at ns s fs ls x Spent same h = tt
+on_wide_at ns s fs ls x Memory same h = tt
+
+module _ (old new : Theory) (before after : WorkList Note) (ns : List Node) (fs : List (List Part)) (ls : List Literal) (x : Point) (moved : IsMoved old new before after) (at : IsAt old ns fs ls x) where
+  pub there : IsAt new ns fs ls (point_in new.simplex)
+  there = moved_at old new ns fs ls x moved.known moved.told moved.forms moved.asserted at
+
+  pub leads_on : {A : Type 0} (answer : A) → Leads (IsAt new ns fs ls) ns fs ls x before after (Ok answer)
+  leads_on {A} answer = leads_by {A = A} old new before after ns fs ls x (Ok answer) moved at there
+
+  pub leads_to_stop : {A : Type 0} (e : Stop) (result : Result A Stop) → result ≡ Err e → OnWide e (IsPlaceIn ns fs ls (point_in new.simplex)) → Leads (IsAt new ns fs ls) ns fs ls x before after result
+  leads_to_stop {A} e result is place =
+      subst (λ (r : Result A Stop). Leads (IsAt new ns fs ls) ns fs ls x before after r) (sym is) (leads_by {A = A} old new before after ns fs ls x (Err e) moved at place)
+
+  pub leads_to_place : {A : Type 0} (e : Stop) (result : Result A Stop) → result ≡ Err e → (IsOver new ns → OnWide e (Placed ns new.simplex)) → Leads (IsAt new ns fs ls) ns fs ls x before after result
+  leads_to_place {A} e result is place = leads_to_stop {A = A} e result is (on_wide_at ns new.simplex fs ls (point_in new.simplex) e (position_is new ns fs ls (point_in new.simplex) there) (place there.over))
