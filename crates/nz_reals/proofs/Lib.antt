@@ -11,3 +11,4 @@ pub mod Bounding
 pub mod Standing
 pub mod Knowing
 pub mod Placing
+pub mod Joining
