@@ -1,5 +1,5 @@
 -- Clauses that hold by arithmetic alone, and logs that they are put into.
-use Rattle.std.proofs.Common.{◌≡◌, ℕ, ◌<◌, Bool, List, [], ◌∷◌, ◌++◌, Some, None, Result, if◌then◌else◌, inl, inr, refl, sym, ap, subst, ◌∙◌, arith}
+use Rattle.std.proofs.Common.{◌≡◌, ℕ, ◌<◌, Bool, List, [], ◌∷◌, ◌++◌, Some, None, Result, if◌then◌else◌, inl, inr, refl, sym, ap, subst, ◌∙◌, arith, true≢false}
 use Rattle.std.specs.Prelude.{IsTrue, IfOk, IsSome, OnErr}
 use Rattle.std.proofs.lemmas.Bool.Decides.{eqb_tells}
 use Rattle.nz_spec.specs.Computation.{at_once, turned_into}
@@ -65,7 +65,8 @@ axiom_grows old new id a c no_row puts told =
         | inl here ↦
             let both : Some (axiom_entry new a c) ≡ Some e = sym puts.made ∙ ap (entry_at new) (sym here.1) ∙ at in
             let one : axiom_entry new a c ≡ e = cc in
-            absurd (let none : IsSome {T = ℕ} None = subst (λ o. IsSome o) (sym (ap (λ (x : Entry). row_term x.origin) one) ∙ no_row) row in cc)
+            let none : IsSome (row_term (axiom_of a)) = subst (λ (x : Entry). IsSome (row_term x.origin)) (sym one) row in
+            absurd (true≢false (sym (subst (λ o. IsSome o) no_row none)))
         | inr other ↦ subst (λ o. IsSome o) (sym (sym (puts.kept i other.1) ∙ at)) refl
       ];
       leveled = logs_stay_leveled.arithmetic old new id a c puts told;

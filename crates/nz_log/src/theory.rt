@@ -73,6 +73,7 @@ pub trait Theory: Drop {
     ///
     /// `Spent` where one more unit was wanted than the work list has, `Wide`, and `Memory`.
     fn check(&mut self, log: &mut Log, work: &mut Work<Note>) -> Result<Option<ClauseId>, Stop>
+        requires known { (ids : List ℕ) × is_of self.old log.old.atoms ids }
         ensures told { (ls : List Lit) → has_told self.old ls → OnOk result (has_told self.new ls) }
         ensures feasible { IfOk result (λ r. r ≡ None → is_feasible self.new) }
         ensures clash { (ls : List Lit) → has_told self.old ls → IfOk result (λ r. IfSome r (IsClash log.new ls)) }

@@ -1,75 +1,101 @@
-//! Which form of a simplex an atom bounds. A sum and the sum with the other signs are one form: that which came first.
-use indexmap::IndexMap;
+//! What atoms say of the forms of a simplex.
+ghost use Rattle.std.specs.Prelude.{◌≡◌, IfOk, List};
+ghost use Rattle.nz_fractions.specs.Fraction.{whole};
+ghost use Rattle.nz_spec.specs.Table.{IsTable, Node};
+ghost use Rattle.nz_lin.specs.Bounds.{HasUnits};
+ghost use Rattle.nz_reals.specs.Known.{IsSaidOf, known_of, said_by, said_of};
+ghost use Rattle.nz_reals.specs.Sums.{is_turned, turned_sum, zero_bound};
+
 use nz_base::Memory;
 use nz_delta::Delta;
 use nz_frac::Frac;
-use nz_lin::Bound;
-use nz_log::Atom;
+use nz_lin::{Bound, Part};
+use nz_spec::table::one_number;
 use nz_trail::{Side, Var};
 use std::alloc::Global;
 
-/// A form that an atom bounds: the atom says that it is at most a limit, or where it is bounded from below, at least the limit's negative.
+/// A bound on a side.
+#[derive(Clone, Copy, Debug)]
+pub(crate) struct Said {
+    pub side: Side,
+    pub value: Delta,
+}
+
+/// What an atom says of a form, and what its negation says.
 #[derive(Clone, Copy, Debug)]
 pub(crate) struct Bounded {
     pub var: Var,
-    pub side: Side,
-    pub limit: Frac,
+    pub yes: Said,
+    pub no: Said,
 }
 
 impl Bounded {
-    /// The bound of the form that the atom says, or that its negation says.
-    pub(crate) fn bound(self, sign: bool) -> (Side, Delta) {
-        match (self.side, sign) {
-            (Side::Upper, true) => (Side::Upper, standing(self.limit, 0)),
-            (Side::Upper, false) => (Side::Lower, standing(self.limit, 1)),
-            (Side::Lower, true) => (Side::Lower, standing(self.limit.neg(), 0)),
-            (Side::Lower, false) => (Side::Upper, standing(self.limit.neg(), -1)),
+    /// What a bound says of its form: of the sum, or of the sum with the other signs. A sum without units is one with the other signs.
+    pub(crate) fn new(var: Var, bound: &Bound) -> Bounded
+        ensures form { result.var ≡ var }
+        ensures says { IsSaidOf bound.now.sides.parts bound.now.sides.offset (known_of result) }
+    {
+        let limit = bound.limit();
+        let opposite = limit.neg();
+        if is_turned(bound.parts()) {
+            return Bounded {
+                var,
+                yes: on_side(Side::Lower, opposite, 0),
+                no: on_side(Side::Upper, opposite, -1),
+            };
         }
-    }
-}
-
-/// A number, and so many infinitesimals.
-fn standing(number: Frac, infinitesimals: i64) -> Delta {
-    Delta {
-        c: number,
-        k: Frac::whole(infinitesimals),
-    }
-}
-
-/// The forms of sums, by the sums.
-#[derive(Debug, Drop)]
-pub(crate) struct Forms {
-    // By the atom that the sum, with these or the other signs, is at most 0.
-    vars: IndexMap<Atom, Var>,
-}
-
-impl Forms {
-    pub(crate) fn new(alloc: Global) -> Forms {
-        Forms {
-            vars: IndexMap::new(alloc),
+        if bound.parts().is_empty() {
+            return Bounded {
+                var,
+                yes: on_side(Side::Upper, limit, 0),
+                no: on_side(Side::Upper, opposite, -1),
+            };
+        }
+        Bounded {
+            var,
+            yes: on_side(Side::Upper, limit, 0),
+            no: on_side(Side::Lower, limit, 1),
         }
     }
 
-    /// The form that a bound's sum has, and the side on which the bound is.
-    pub(crate) fn find(&self, alloc: Global, bound: &Bound) -> Result<Option<(Var, Side)>, Memory> {
-        if let Some(var) = self.vars.get(&zeroed(alloc, bound)?) {
-            return Ok(Some((*var, Side::Upper)));
-        }
-        let negated = bound.not(alloc)?;
-        match self.vars.get(&zeroed(alloc, &negated)?) {
-            Some(var) => Ok(Some((*var, Side::Lower))),
-            None => Ok(None),
-        }
-    }
-
-    /// Keeps the form of a bound's sum.
-    pub(crate) fn put(&mut self, alloc: Global, bound: &Bound, var: Var) -> Result<(), Memory> {
-        self.vars.insert(zeroed(alloc, bound)?, var)?;
-        Ok(())
+    /// What the atom says, or its negation.
+    pub(crate) fn said(&self, sign: bool) -> Said
+        ensures said { said_of result ≡ said_by (known_of self.now) sign }
+    {
+        if sign { self.yes } else { self.no }
     }
 }
 
-/// The atom that the sum is at most 0.
-fn zeroed(alloc: Global, bound: &Bound) -> Result<Atom, Memory> {
-    Ok(Atom::AtMost(bound.copied(alloc)?.with_limit(Frac::whole(0))))
+/// A number, and so many infinitesimals, on a side.
+fn on_side(side: Side, number: Frac, infinitesimals: i64) -> Said
+    ensures said { result ≡ record { side = side; value = record { c = number; k = whole infinitesimals } } }
+{
+    Said {
+        side,
+        value: Delta {
+            c: number,
+            k: Frac::whole(infinitesimals),
+        },
+    }
+}
+
+/// Whether the first coefficient is below 0.
+fn is_turned(parts: &[Part]) -> bool
+    ensures turned { result ≡ is_turned parts.now }
+{
+    match parts {
+        [] => false,
+        [first, ..] => first.coefficient < Frac::whole(0),
+    }
+}
+
+/// That the sum of a bound is at most 0, or the sum with the other signs: that whose first coefficient isn't below 0.
+pub(crate) fn zeroed(alloc: Global, bound: &Bound) -> Result<Bound, Memory>
+    ensures zeroed { IfOk result (λ b. (ns : List Node) → IsTable ns → HasUnits ns bound.now → b ≡ zero_bound (turned_sum bound.now.sides.parts)) }
+{
+    one_number();
+    if is_turned(bound.parts()) {
+        return Ok(bound.not(alloc)?.with_limit(Frac::whole(0)));
+    }
+    Ok(bound.copied(alloc)?.with_limit(Frac::whole(0)))
 }

@@ -2,7 +2,10 @@
 #![tactic(auto)]
 
 mod forms;
+mod joins;
 mod model;
 mod reals;
+mod refute;
+mod theory;
 
 pub use reals::Reals;

@@ -1,11 +1,12 @@
 //! Values of the units, once the simplex is feasible.
-use crate::reals::{Reals, stopped};
+use crate::reals::Reals;
+use crate::refute::stopped;
 use nz_delta::{Delta, choose_delta};
 use nz_frac::Frac;
 use nz_lin::Part;
 use nz_log::{Site, Stop};
 use nz_term::{Assign, Head, TermId, Terms, Value};
-use nz_trail::{Side, Var};
+use nz_trail::{Limit, Side, Var};
 
 impl Reals {
     /// Puts a value for each constant among the units behind those of an assignment: the value at the point, where a fraction stands for the
@@ -29,16 +30,17 @@ impl Reals {
     fn delta(&self) -> Result<Frac, Stop> {
         let mut least = Frac::whole(1);
         for var in 0..self.simplex.len() {
-            let value = self.simplex.value(var);
-            let (lower, upper) = self.simplex.bounds(var);
-            if let Some(limit) = lower {
-                least = within(least, (limit.value, value), var, Side::Lower)?;
-            }
-            if let Some(limit) = upper {
-                least = within(least, (value, limit.value), var, Side::Upper)?;
-            }
+            least = self.limited(var, least)?;
         }
         Ok(least)
+    }
+
+    /// The lesser of a fraction and what the bounds of a form allow.
+    fn limited(&self, var: Var, least: Frac) -> Result<Frac, Stop> {
+        let value = self.simplex.value(var);
+        let (lower, upper) = self.simplex.bounds(var);
+        let above = above(var, lower, value, least)?;
+        below(var, value, upper, above)
     }
 
     /// The value of a form where a fraction stands for the infinitesimal.
@@ -48,6 +50,22 @@ impl Reals {
             Ok(number) => Ok(number),
             Err(wide) => Err(stopped(wide, Site::Model { form: var })),
         }
+    }
+}
+
+/// The lesser of a fraction and what a lower bound of a value allows.
+fn above(var: Var, lower: Option<Limit<Delta>>, value: Delta, least: Frac) -> Result<Frac, Stop> {
+    match lower {
+        Some(limit) => within(least, (limit.value, value), var, Side::Lower),
+        None => Ok(least),
+    }
+}
+
+/// The lesser of a fraction and what an upper bound of a value allows.
+fn below(var: Var, value: Delta, upper: Option<Limit<Delta>>, least: Frac) -> Result<Frac, Stop> {
+    match upper {
+        Some(limit) => within(least, (value, limit.value), var, Side::Upper),
+        None => Ok(least),
     }
 }
 

@@ -1,122 +1,144 @@
-//! The theory: which bounds it was told, and what it answers.
-use crate::forms::{Bounded, Forms};
-use nz_base::{Memory, Work};
-use nz_delta::Delta;
-use nz_frac::{Frac, Wide};
-use nz_lin as lin;
-use nz_lin::LinStop;
-use nz_log::{Atom, AtomId, ClauseId, Lit, Log, Multiple, Note, Place, Site, Stop, Theory};
-use nz_simplex as simplex;
-use nz_simplex::{Check, Simplex, SimplexStop};
-use nz_tab::TabStop;
-use nz_trail as trail;
-use nz_trail::Reason;
-use std::alloc::Global;
+//! Bounds on sums of units over a simplex: which the theory knows, and which it was told.
+ghost use Rattle.std.specs.Prelude.{◌≡◌, ◌<◌, ℕ, List, [], ◌∷◌, All, Contains, IfOk, IfSome, IsSome, Ok, None, length, map, Some};
+ghost use Rattle.nz_frac.specs.Operations.{operation_of};
+ghost use Rattle.nz_log.specs.declared.atoms.Atom.{Atom};
+ghost use Rattle.nz_simplex.specs.State.{IsSound};
+ghost use Rattle.nz_reals.specs.Known.{known_of, said_by, said_of};
+ghost use Rattle.nz_reals.specs.Stands.{HasTold, IsOf};
+ghost use Rattle.nz_reals.specs.State.{empty_theory, known_at, told_lits};
+ghost use Rattle.nz_reals.specs.Stored.{AreForms, AreTolds};
+ghost use Rattle.nz_reals.specs.Tells.{AreKnown, Clashes, IsTold, Refutes, both, multiple_at};
 
-/// A literal that the theory was told, and how many bounds stood before.
+use crate::forms::{Bounded, Said};
+use indexmap::IndexMap;
+use nz_base::Memory;
+use nz_delta::Delta;
+use nz_frac::Frac;
+use nz_log::{Atom, AtomId, Lit, Multiple};
+use nz_simplex::laws::{clashes_contradict, literals_say_bounds, sums_stay};
+use nz_simplex::{Simplex, known_state};
+use nz_spec::derivation::tells_literals;
+use nz_spec::form::term_has_its_number;
+use nz_trail::{Bound, Var};
+use std::alloc::Global;
+use std::marker::Model;
+
+/// A literal that was told, and how many bounds stood before.
 #[derive(Clone, Copy, Debug)]
-struct Told {
-    literal: Lit,
-    mark: usize,
+pub(crate) struct Told {
+    pub literal: Lit,
+    pub mark: usize,
 }
 
 /// A simplex over sums that atoms bound, and the bounds that it was told. The reason of a bound is the place of its literal among those told.
+/// A contract sees the simplex, what atoms say of its forms, and the literals that were told.
 #[derive(Debug, Drop)]
 pub struct Reals {
-    alloc: Global,
+    pub(crate) alloc: Global,
     pub(crate) simplex: Simplex<Delta>,
-    forms: Forms,
+    // The forms, by the atoms that they are at most 0. A unit alone may be missing.
+    pub(crate) forms: IndexMap<Atom, Var>,
     // By the numbers of atoms in the log.
-    bounded: Vec<Option<Bounded>>,
-    told: Vec<Told>,
+    pub(crate) bounded: Vec<Option<Bounded>>,
+    pub(crate) told: Vec<Told>,
+}
+
+impl Model for Reals {
+    ghost use Rattle.nz_reals.specs.State.{Theory};
+
+    ghost Value = { Theory };
+
+    ghost use Rattle.indexmap.specs.IndexMap.{get};
+    ghost use Rattle.nz_log.specs.Keys.{are_same_atom};
+    ghost use Rattle.nz_reals.specs.State.{known_list};
+    ghost use Rattle.nz_reals.specs.Stored.{IsStored};
+
+    ghost view = { λ r. record { simplex = r.simplex; known = known_list r.bounded.items; told = r.told.items } };
+
+    ghost invariant = { λ r. IsStored (get are_same_atom r.forms) (record { simplex = r.simplex; known = known_list r.bounded.items; told = r.told.items }) };
 }
 
 impl Reals {
     /// The theory over no sum. Takes no memory.
-    pub fn new(alloc: Global) -> Reals {
+    pub fn new(alloc: Global) -> Reals
+        ensures empty { result ≡ empty_theory }
+        ensures of { (atoms : List Atom) → IsOf result atoms [] }
+    {
         Reals {
             alloc,
             simplex: Simplex::new(alloc),
-            forms: Forms::new(alloc),
+            forms: IndexMap::new(alloc),
             bounded: Vec::new(alloc),
             told: Vec::new(alloc),
         }
     }
 
-    /// Learns of an atom that is a bound, before it is told anything; the work list knows the atom by a number. Where the sum isn't a form of the
-    /// simplex, it joins, which is noted.
-    ///
-    /// # Errors
-    ///
-    /// `Wide` where the row of the form leaves the numbers; `Memory`.
-    pub fn add_atom(
+    /// What is known of an atom.
+    pub(crate) fn known(&self, atom: AtomId) -> Bounded
+        requires known { IsSome (known_at self.now atom) }
+        ensures known { known_at self.now atom ≡ Some (known_of result) }
+    {
+        self.bounded[atom].unwrap()
+    }
+
+    /// Tells the simplex a literal. Answers a literal that it was told and that isn't true together with this one, if it sees that; then it isn't told.
+    pub(crate) fn tell(&mut self, literal: Lit) -> Result<Option<Lit>, Memory>
+        requires known { IsSome (known_at self.old literal.atom) }
+        ensures told { result ≡ Ok None → IsTold self.old self.new literal }
+        ensures among { IfOk result (λ r. IfSome r (λ other. Contains (told_lits self.old) other)) }
+        ensures refutes { (atoms : List Atom) (ids : List ℕ) → IsOf self.old atoms ids → IfOk result (λ r. IfSome r (λ other. AreKnown self.old (both literal other) × Refutes self.old (both literal other))) }
+        ensures unchanged { (result ≡ Ok None → ⊥) → self.new ≡ self.old }
+    {
+        clashes_contradict();
+        literals_say_bounds();
+        sums_stay();
+        term_has_its_number();
+        tells_literals();
+        stored(self);
+        let bounded = self.known(literal.atom);
+        self.assert_said(literal, &bounded, &bounded.said(literal.sign))
+    }
+
+    /// Tells the simplex what is known of the atom of a literal.
+    fn assert_said(
         &mut self,
-        log: &Log,
-        id: AtomId,
-        number: usize,
-        work: &mut Work<Note>,
-    ) -> Result<(), Stop> {
-        let Atom::AtMost(bound) = log.atom(id) else {
-            return Ok(());
-        };
-        let (var, side) = match self.forms.find(self.alloc, bound)? {
-            Some(found) => found,
-            None => {
-                work.note(Note::Form { atom: number })?;
-                (self.join(bound)?, trail::Side::Upper)
+        literal: Lit,
+        bounded: &Bounded,
+        said: &Said,
+    ) -> Result<Option<Lit>, Memory>
+        requires known { known_at self.old literal.atom ≡ Some (known_of bounded.now) }
+        requires said { said_of said.now ≡ said_by (known_of bounded.now) literal.sign }
+        ensures told { result ≡ Ok None → IsTold self.old self.new literal }
+        ensures clash { IfOk result (λ r. IfSome r (λ other. Clashes self.old literal (known_of bounded.now) other)) }
+        ensures unchanged { (result ≡ Ok None → ⊥) → self.new ≡ self.old }
+    {
+        stored(self);
+        self.told.reserve(1)?;
+        let reason = self.told.len();
+        let mark = self.simplex.mark();
+        match self
+            .simplex
+            .assert_bound(bounded.var, said.side, said.value, reason)?
+        {
+            Bound::Clash(_, other) => Ok(Some(self.told[other].literal)),
+            Bound::Kept => {
+                self.told.push(Told { literal, mark }).unwrap();
+                Ok(None)
             }
-        };
-        self.keep(
-            id,
-            Bounded {
-                var,
-                side,
-                limit: bound.limit(),
-            },
-        )?;
-        Ok(())
-    }
-
-    /// Adds the sum of a bound to the forms.
-    fn join(&mut self, bound: &lin::Bound) -> Result<trail::Var, Stop> {
-        let var = match self.simplex.add_form(bound.form()) {
-            Ok(var) => var,
-            Err(TabStop::Wide(wide)) => return Err(stopped(wide, Site::Joining)),
-            Err(TabStop::Memory) => return Err(Stop::Memory),
-        };
-        self.forms.put(self.alloc, bound, var)?;
-        Ok(var)
-    }
-
-    /// Keeps what an atom bounds.
-    fn keep(&mut self, id: AtomId, bounded: Bounded) -> Result<(), Memory> {
-        let Some(count) = id.checked_add(1) else {
-            return Err(Memory);
-        };
-        if self.bounded.len() < count {
-            self.bounded.resize(count, None)?;
-        }
-        self.bounded[id] = Some(bounded);
-        Ok(())
-    }
-
-    /// The clause that one of these bounds is false, by their reasons and multipliers, whose sum is a contradiction.
-    fn refute(&self, log: &mut Log, reasons: &[(Reason, Frac)]) -> Result<ClauseId, Stop> {
-        let multiples = self.multiples(reasons)?;
-        match log.farkas(&multiples) {
-            Ok(clause) => Ok(clause),
-            Err(LinStop::Wide(wide)) => {
-                let bounds = bounds_of(self.alloc, log, &multiples)?;
-                Err(stopped(wide, Site::Sum(bounds)))
+            Bound::Tighter => {
+                self.told.push(Told { literal, mark }).unwrap();
+                Ok(None)
             }
-            Err(LinStop::Memory) => Err(Stop::Memory),
         }
     }
 
-    /// The literals of these reasons, with their multipliers.
-    fn multiples(&self, reasons: &[(Reason, Frac)]) -> Result<Vec<Multiple>, Memory> {
+    /// The multiples of literals that the last clash of the simplex rests on.
+    pub(crate) fn multiples(&self) -> Result<Vec<Multiple>, Memory>
+        requires told { All (λ w. w.0 < length self.now.told) self.now.simplex.why }
+        ensures multiples { IfOk result (λ ms. ms.items ≡ map (multiple_at self.now) self.now.simplex.why) }
+    {
         let mut multiples = Vec::new(self.alloc);
-        for (reason, multiplier) in reasons {
+        for (reason, multiplier) in self.simplex.why() {
             multiples.push(Multiple {
                 literal: self.told[*reason].literal,
                 multiplier: *multiplier,
@@ -126,101 +148,11 @@ impl Reals {
     }
 }
 
-/// A stop at a place.
-pub(crate) fn stopped(wide: Wide, site: Site) -> Stop {
-    Stop::Wide(Place { wide, site })
-}
-
-/// The bounds of these literals, with their multipliers.
-fn bounds_of(
-    alloc: Global,
-    log: &Log,
-    multiples: &[Multiple],
-) -> Result<Vec<lin::Multiple>, Memory> {
-    let mut bounds = Vec::new(alloc);
-    for multiple in multiples {
-        let bound = bound_of(alloc, log, multiple.literal)?;
-        bounds.push(lin::Multiple {
-            bound,
-            multiplier: multiple.multiplier,
-        })?;
-    }
-    Ok(bounds)
-}
-
-/// What a literal bounds.
-fn bound_of(alloc: Global, log: &Log, literal: Lit) -> Result<lin::Bound, Memory> {
-    match log.atom(literal.atom) {
-        Atom::AtMost(bound) => {
-            if literal.sign {
-                bound.copied(alloc)
-            } else {
-                bound.not(alloc)
-            }
-        }
-        Atom::Term(_) => Ok(lin::Bound::empty(alloc)),
-    }
-}
-
-/// The place of a computation of the simplex.
-fn site_of(site: simplex::Site) -> Site {
-    match site {
-        simplex::Site::Row { leaves, enters } => Site::Exchange { leaves, enters },
-        simplex::Site::Point { form } => Site::Value { form },
-    }
-}
-
-impl Theory for Reals {
-    ghost use Rattle.nz_reals.specs.Stands.{HasTold, IsAt, IsFeasible, IsOver};
-
-    ghost has_told = { HasTold };
-
-    ghost is_over = { IsOver };
-
-    ghost is_feasible = { IsFeasible };
-
-    ghost is_at = { IsAt };
-
-    fn assert_lit(&mut self, log: &mut Log, literal: Lit) -> Result<Option<ClauseId>, Stop> {
-        let Some(Some(bounded)) = self.bounded.get(literal.atom) else {
-            unreachable!()
-        };
-        let var = bounded.var;
-        let (side, value) = bounded.bound(literal.sign);
-        let reason = self.told.len();
-        // Room comes first, so that nothing has changed where there is none.
-        self.told.push(Told {
-            literal,
-            mark: self.simplex.mark(),
-        })?;
-        match self.simplex.assert_bound(var, side, value, reason)? {
-            trail::Bound::Clash(mine, other) => {
-                let one = Frac::whole(1);
-                let clause = self.refute(log, &[(mine, one), (other, one)])?;
-                self.told.pop();
-                Ok(Some(clause))
-            }
-            _ => Ok(None),
-        }
-    }
-
-    fn check(&mut self, log: &mut Log, work: &mut Work<Note>) -> Result<Option<ClauseId>, Stop> {
-        match self.simplex.check(work) {
-            Ok(Check::Feasible) => Ok(None),
-            Ok(Check::Clash) => Ok(Some(self.refute(log, self.simplex.why())?)),
-            Err(SimplexStop::Spent) => Err(Stop::Spent),
-            Err(SimplexStop::Wide(place)) => Err(stopped(place.wide, site_of(place.site))),
-        }
-    }
-
-    fn mark(&self) -> usize {
-        self.told.len()
-    }
-
-    fn undo(&mut self, mark: usize) {
-        if let Some(first) = self.told.get(mark) {
-            self.simplex.undo(first.mark);
-            self.told.truncate(mark);
-        }
-    }
+/// Says what holds of each theory: of its forms, and of what it was told.
+pub(crate) fn stored(theory: &Reals)
+    ensures forms { AreForms theory.now.simplex }
+    ensures tolds { AreTolds theory.now }
+    ensures sound { IsSound theory.now.simplex }
+{
+    known_state(&theory.simplex);
 }

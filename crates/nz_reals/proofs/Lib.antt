@@ -1,0 +1,14 @@
+pub mod Contradicting
+pub mod Elements
+pub mod Refuting
+pub mod Saying
+pub mod Sums
+pub mod Tolds
+pub mod Telling
+pub mod Whys
+pub mod News
+pub mod Bounding
+pub mod Standing
+pub mod Knowing
+pub mod Placing
+pub mod Joining

@@ -1,0 +1,9 @@
+pub mod Chosen
+pub mod Joins
+pub mod Knowing
+pub mod Known
+pub mod Stands
+pub mod State
+pub mod Stored
+pub mod Sums
+pub mod Tells
