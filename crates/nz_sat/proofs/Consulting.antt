@@ -90,15 +90,21 @@ module _ (log log' : LogState) (held : List Held) (s s' : Search) (f : Follows l
       IfOk-weaker r (λ (o : Option ℕ). IfSome o (IsClash log' (literals_on s'.trail.entries))) (ComesTo log' held s (record s' { bounds = b })) comes_so c
 
 -- the trail went on, and the list tells it
-module _ (log : LogState) (s s' : Search) (atoms : s'.atoms ≡ s.atoms) (bounds : s'.bounds ≡ s.bounds) (g : GoesOn s.trail.entries s'.trail.entries) (inside : s.bounds.told ≤ length s.trail.entries) where
+module _ (log : LogState) (s s' : Search) (rest : s' ≡ record s { trail = s'.trail }) (g : GoesOn s.trail.entries s'.trail.entries) (inside : s.bounds.told ≤ length s.trail.entries) where
+  same_atoms : s'.atoms ≡ s.atoms
+  same_atoms = ap (λ (r : Search). r.atoms) rest
+
+  same_bounds : s'.bounds ≡ s.bounds
+  same_bounds = ap (λ (r : Search). r.bounds) rest
+
   pub follow_told : told_lits s'.bounds s'.trail.entries ≡ told_lits s.bounds s.trail.entries
   follow_told =
-      ap (λ (b : Bounds). told_lits b s'.trail.entries) bounds ∙ ap literals_on (goes_told s.bounds s.trail.entries s'.trail.entries inside g)
+      ap (λ (b : Bounds). told_lits b s'.trail.entries) same_bounds ∙ ap literals_on (goes_told s.bounds s.trail.entries s'.trail.entries inside g)
 
   pub follow_tells : (work : WorkList Note) → TellsTrail log s.atoms s.bounds s.trail.entries work → TellsTrail log s'.atoms s'.bounds s'.trail.entries work
   follow_tells work tells =
-      subst (λ (us : List ℕ). TellsTrail log us s'.bounds s'.trail.entries work) (sym atoms)
-      (subst (λ (b : Bounds). TellsTrail log s.atoms b s'.trail.entries work) (sym bounds) (goes_tells log s.atoms s.bounds s.trail.entries s'.trail.entries work inside g tells))
+      subst (λ (us : List ℕ). TellsTrail log us s'.bounds s'.trail.entries work) (sym same_atoms)
+      (subst (λ (b : Bounds). TellsTrail log s.atoms b s'.trail.entries work) (sym same_bounds) (goes_tells log s.atoms s.bounds s.trail.entries s'.trail.entries work inside g tells))
 
 -- nothing is told where a clause is falsified
 pub falsified_advances : (m : TheoryState) (log : LogState) (held : List Held) (s : Search) (work : WorkList Note) → IsSearch log held s → TellsTrail log s.atoms s.bounds s.trail.entries work
@@ -108,10 +114,11 @@ falsified_advances m log held s work h tells found =
     (λ ns levels assumed q known only asked st. stands_so ns log s.atoms s.bounds s.trail.entries work tells asked.within h.on.on_trail (m.at ns) q st)
 
 pub consult_advances : (m m' : TheoryState) (log log' : LogState) (held : List Held) (s s' : Search) (b : Bounds) (work work' : WorkList Note) (result : Result (Option ℕ) Stop) → IsSearch log held s
-    → IsSearch log held s' → s'.atoms ≡ s.atoms → s'.bounds ≡ s.bounds → GoesOn s.trail.entries s'.trail.entries → Consults m m' log log' s'.atoms s'.bounds b s'.trail work work' result
+    → IsSearch log held s' → s' ≡ record s { trail = s'.trail } → GoesOn s.trail.entries s'.trail.entries → Consults m m' log log' s'.atoms s'.bounds b s'.trail work work' result
     → Advances m m' s s.trail.entries log log' held held work work' result
-consult_advances m m' log log' held s s' b work work' result h h' atoms bounds g c =
-    let told = follow_told log s s' atoms bounds g h.on.inside in
+consult_advances m m' log log' held s s' b work work' result h h' rest g c =
+    let atoms = ap (λ (r : Search). r.atoms) rest in
+    let told = follow_told log s s' rest g h.on.inside in
     let ends : EndsLegally m m' log s.atoms (told_lits s.bounds s.trail.entries) s'.trail.entries work work' result =
     subst (λ (us : List ℕ). EndsLegally m m' log us (told_lits s.bounds s.trail.entries) s'.trail.entries work work' result) atoms
     (subst (λ (ls : List Lit). EndsLegally m m' log s'.atoms ls s'.trail.entries work work' result) told c.ends) in

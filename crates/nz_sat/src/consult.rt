@@ -28,12 +28,7 @@ pub struct Bounds {
 
 impl Bounds {
     /// The bounds among these atoms of a log, which are below a size, with nothing told.
-    pub fn among(
-        alloc: Global,
-        log: &Log,
-        ids: &[AtomId],
-        size: usize,
-    ) -> Result<Bounds, Memory>
+    pub fn among(alloc: Global, log: &Log, ids: &[AtomId], size: usize) -> Result<Bounds, Memory>
         requires there { AreToldAtoms log.now ids.now }
         requires within { All (λ t. t < size) ids.now }
         ensures marked { IfOk result (λ b. All (λ t. is_marked b.marks.items t ≡ is_bound_at log.now.atoms t) ids.now) }

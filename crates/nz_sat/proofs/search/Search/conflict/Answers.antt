@@ -1,5 +1,5 @@
 -- What propagation and the theory tell of the clauses that are held.
-use Rattle.std.proofs.Common.{◌≡◌, None, ap, rules, sym, subst}
+use Rattle.std.proofs.Common.{◌≡◌, None, rules, sym, subst}
 use Rattle.nz_sat.specs.declared.search.Search.{Search}
 use Rattle.nz_sat.specs.Searching.{Follows}
 use Rattle.nz_sat.specs.Theories.{state_of}
@@ -20,16 +20,14 @@ returns-then-is_some-clause-comes g c held may =
 
 pub returns-then-is_some-clause-told : goal.returns-then-is_some-clause-told
 returns-then-is_some-clause-told g c =
-    let rest = c.follow-falsified.ensures.rest in
     subst (g.T.Theory.has_told c.args.theory.now)
     (sym
-    (follow_told c.args.log.now c.args.self.now c.follow-falsified.new.self (ap (λ (r : Search). r.atoms) rest) (ap (λ (r : Search). r.bounds) rest) c.follow-falsified.ensures.goes_on
+    (follow_told c.args.log.now c.args.self.now c.follow-falsified.new.self c.follow-falsified.ensures.rest c.follow-falsified.ensures.goes_on
     c.requires.follow.1.search.on.inside)) c.requires.told
 
 pub returns-then-is_some-clause-noted : goal.returns-then-is_some-clause-noted
 returns-then-is_some-clause-noted g c =
-    let rest = c.follow-falsified.ensures.rest in
-    follow_tells c.args.log.now c.args.self.now c.follow-falsified.new.self (ap (λ (r : Search). r.atoms) rest) (ap (λ (r : Search). r.bounds) rest) c.follow-falsified.ensures.goes_on
+    follow_tells c.args.log.now c.args.self.now c.follow-falsified.new.self c.follow-falsified.ensures.rest c.follow-falsified.ensures.goes_on
     c.requires.follow.1.search.on.inside c.args.work.now c.requires.noted
 
 pub consult-requires-clause-trail : goal.consult-requires-clause-trail
@@ -41,24 +39,20 @@ consult-requires-clause-of g c =
 
 pub consult-requires-clause-told : goal.consult-requires-clause-told
 consult-requires-clause-told g c =
-    let rest = c.follow-falsified.ensures.rest in
     subst (g.T.Theory.has_told c.args.theory.now)
     (sym
-    (follow_told c.args.log.now c.args.self.now c.follow-falsified.new.self (ap (λ (r : Search). r.atoms) rest) (ap (λ (r : Search). r.bounds) rest) c.follow-falsified.ensures.goes_on
+    (follow_told c.args.log.now c.args.self.now c.follow-falsified.new.self c.follow-falsified.ensures.rest c.follow-falsified.ensures.goes_on
     c.requires.follow.1.search.on.inside)) c.requires.told
 
 pub consult-requires-clause-noted : goal.consult-requires-clause-noted
 consult-requires-clause-noted g c =
-    let rest = c.follow-falsified.ensures.rest in
-    follow_tells c.args.log.now c.args.self.now c.follow-falsified.new.self (ap (λ (r : Search). r.atoms) rest) (ap (λ (r : Search). r.bounds) rest) c.follow-falsified.ensures.goes_on
+    follow_tells c.args.log.now c.args.self.now c.follow-falsified.new.self c.follow-falsified.ensures.rest c.follow-falsified.ensures.goes_on
     c.requires.follow.1.search.on.inside c.args.work.now c.requires.noted
 
 pub returns-clause-advances : goal.returns-clause-advances
 returns-clause-advances g c held may =
-    let rest = c.follow-falsified.ensures.rest in
     consult_advances (state_of g.T.Theory.is_over g.T.Theory.has_told g.T.Theory.is_feasible g.T.Theory.is_of g.T.Theory.is_at c.args.theory.now) (state_of g.T.Theory.is_over g.T.Theory.has_told g.T.Theory.is_feasible g.T.Theory.is_of g.T.Theory.is_at c.consult.new.theory) c.args.log.now c.consult.new.log held c.args.self.now
-    c.follow-falsified.new.self c.consult.new.bounds c.args.work.now c.consult.new.work c.consult.result may.search (c.follow-falsified.ensures.comes held may).search (ap (λ (r : Search). r.atoms) rest)
-    (ap (λ (r : Search). r.bounds) rest) c.follow-falsified.ensures.goes_on c.consult.ensures.comes
+    c.follow-falsified.new.self c.consult.new.bounds c.args.work.now c.consult.new.work c.consult.result may.search (c.follow-falsified.ensures.comes held may).search c.follow-falsified.ensures.rest c.follow-falsified.ensures.goes_on c.consult.ensures.comes
 
 pub returns-clause-comes : goal.returns-clause-comes
 returns-clause-comes g c held may =
