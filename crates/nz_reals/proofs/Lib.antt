@@ -12,3 +12,4 @@ pub mod Standing
 pub mod Knowing
 pub mod Placing
 pub mod Joining
+pub mod Keeping
