@@ -13,3 +13,4 @@ pub mod Knowing
 pub mod Placing
 pub mod Joining
 pub mod Keeping
+pub mod Ending
