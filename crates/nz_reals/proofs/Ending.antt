@@ -1,6 +1,6 @@
 -- Where a list of work leads when a form has joined.
-use Rattle.std.proofs.Common.{◌≡◌, ℕ, zero, suc, ◌<◌, Bool, true, false, List, [], ◌∷◌, ◌++◌, map, length, Option, Some, None, Result, Ok, Err, refl, sym, ap, ◌∙◌, subst, true≢false, arith, pos}
-use Rattle.std.specs.Prelude.{◌==◌, ◌&&◌, ◌||◌, Contains, fold, is_some, option_map, slice_get, if◌then◌else◌}
+use Rattle.std.proofs.Common.{◌≡◌, ℕ, zero, suc, ◌<◌, Bool, true, false, List, [], ◌∷◌, ◌++◌, map, take, length, Option, Some, None, Result, Ok, Err, refl, sym, ap, ◌∙◌, subst, true≢false, arith, pos}
+use Rattle.std.specs.Prelude.{◌==◌, ◌&&◌, ◌||◌, Contains, IfErr, OnOk, fold, is_some, option_map, slice_get, if◌then◌else◌}
 use Rattle.std.specs.List.{AllByRecursion, list_any}
 use Rattle.std.proofs.lemmas.List.{map-append}
 use Rattle.std.proofs.lemmas.List.Sums.{fold_push}
@@ -10,7 +10,7 @@ use Rattle.nz_fractions.specs.Fraction.{whole}
 use Rattle.nz_spec.specs.Bland.{Point, Position, lower_side, upper_side}
 use Rattle.nz_spec.specs.Form as spec
 use Rattle.nz_spec.specs.Form.{unit_form}
-use Rattle.nz_spec.specs.Legal.{Lead, LegalWorkGoesOn, MayJoin, Search, Task, after_line, after_lines, at_first, no_point, position_of, sum_of_atom, told_literals}
+use Rattle.nz_spec.specs.Legal.{AreLegal, Lead, LegalWorkGoesOn, MayJoin, Search, Task, after_line, after_lines, at_first, no_point, position_of, sum_of_atom, told_literals}
 use Rattle.nz_spec.specs.Literal.{Literal, TellsLiterals, are_same_literal, are_same_parts, term_literal}
 use Rattle.nz_spec.specs.LiteralBounds as bounds
 use Rattle.nz_spec.specs.LiteralBounds.{is_unit_alone, joined, position_under, tightest, with_new_unit}
@@ -27,12 +27,16 @@ use Rattle.nz_trail.specs.declared.limits.Side.TheVariants.{Lower, Upper}
 use Rattle.nz_log.specs.declared.note.Note.{Note}
 use Rattle.nz_log.specs.declared.note.Note.TheVariants.{Form}
 use Rattle.nz_log.specs.Notes.{noted_line, noted_list}
-use Rattle.nz_log.specs.Standing.{Stands, search_after}
+use Rattle.nz_log.specs.declared.place.Place.{Place}
+use Rattle.nz_log.specs.declared.stop.Stop.{Stop}
+use Rattle.nz_log.specs.declared.stop.Stop.TheVariants.{Wide, Spent, Memory}
+use Rattle.nz_log.specs.Standing.{Ends, IsStoppedAt, Standing, Stands, search_after}
 use Rattle.nz_simplex.specs.Moves.{joined_over, unit_terms, with_all_units}
 use Rattle.nz_simplex.specs.Standing.{Held, bound_in}
-use Rattle.nz_simplex.specs.State.{point_in, position_over}
+use Rattle.nz_simplex.specs.State as simplex_state
+use Rattle.nz_simplex.specs.State.{State, point_in, position_over}
 use Rattle.nz_reals.specs.declared.reals.Told.{Told}
-use Rattle.nz_reals.specs.Joins.{AddsForm, IsNamedSum}
+use Rattle.nz_reals.specs.Joins.{AddsForm, IsNamedSum, StopsJoining}
 use Rattle.nz_reals.specs.Stands.{AreBounds, HasTold, IsAt, IsOver}
 use Rattle.nz_reals.specs.State.{Theory, literal_over, told_lits}
 use Rattle.nz_reals.proofs.Elements.{each_of}
@@ -265,3 +269,35 @@ module _ (ns : List Node) (q : Task) (work : WorkList Note) (number : ℕ) where
         no_told : (ts : List Told) → map (λ (y : Told). y.literal) ts ≡ [] → (r : ℕ) (y : Told) → slice_get ts r ≡ Some y → ⊥
         no_told [] e r y at = cc
         no_told (t ∷ ts) e r y at = cc
+
+    -- where a form joins, or doesn't
+    pub form_ends : (new : Theory) (r : Result ℕ Stop) → AddsForm old new f → OnOk r ((ms : List Node) → IsOver old ms → AreUnits ms f → position_over ms new.simplex ≡ joined_over ms old.simplex f)
+        → IfErr r (StopsJoining old f) → ((place : Place) → StopsJoining old f (Wide place) → IsStoppedAt ns q later place) → Ends (IsAt new ns) ns q later r
+    form_ends new (Ok v) adds is stops wide = stands_then new adds (is ns stands.at.over units)
+    form_ends new (Err (Wide place)) adds is stops wide = wide place stops
+    form_ends new (Err Spent) adds is stops wide = absurd stops
+    form_ends new (Err Memory) adds is stops wide = (P.point, legal_then)
+
+-- ---- Other results
+
+-- an error says the same of any result
+pub ends_err : {A B : Type 0} (IsThere : Standing) (ns : List Node) (q : Task) (work : WorkList Note) (e : Stop) → Ends {A = A} IsThere ns q work (Err e) → Ends {A = B} IsThere ns q work (Err e)
+ends_err IsThere ns q work (Wide place) h = h
+ends_err IsThere ns q work Spent h = h
+ends_err IsThere ns q work Memory h = h
+
+-- the lines of a list at which a theory stands are legal
+pub stands_legal : (IsThere : Standing) (ns : List Node) (q : Task) (work : WorkList Note) → Stands IsThere ns q work → AreLegal q (noted_list ns work).lines
+stands_legal IsThere ns q work stands = (stands.point, stands.legal)
+
+-- a theory that knows more, and was told nothing, stands where it stood
+pub known_more_at : (old new : Theory) (ns : List Node) (fs : List (List spec.Part)) (ls : List Literal) (x : Point) → new.simplex ≡ old.simplex → new.told ≡ old.told → HasTold old [] → IsAt old ns fs ls x → IsAt new ns fs ls x
+known_more_at old new ns fs ls x simplex told untold at = record {
+  over = subst (λ (s : State). simplex_state.IsOver ns s) (sym simplex) at.over;
+  forms = at.forms ∙ ap (λ (s : State). map (parts_over ns) s.forms) (sym simplex);
+  literals = at.literals ∙ ap (map (literal_over ns old)) untold ∙ ap (map (literal_over ns new)) (sym (ap (map (λ (y : Told). y.literal)) told ∙ untold));
+  point = at.point ∙ ap point_in (sym simplex);
+  bounds = subst (λ (s : State). AreBounds fs ls s.asserted) (sym simplex) at.bounds;
+  marks = λ r y there.
+      subst (λ (s : State). AreBounds fs (take r ls) (take y.mark s.asserted)) (sym simplex) (at.marks r y (subst (λ (ts : List Told). slice_get ts r ≡ Some y) told there));
+}

@@ -14,3 +14,4 @@ pub mod Placing
 pub mod Joining
 pub mod Keeping
 pub mod Ending
+pub mod Adding
