@@ -2,8 +2,6 @@ use Rattle.std.proofs.Common.{◌≡◌, ap, sym, ◌∙◌}
 use Rattle.nz_fractions.specs.Fraction.{Fraction, fraction_lt}
 use Rattle.nz_delta.proofs.LimitLemmas.{lt-cmp}
 use Rattle.nz_reals.proofs.Sums.{turned_first}
-use Rattle.nz_reals.proofs.Ending.{known_more_at}
-use Rattle.nz_reals.proofs.Adding.{of_added}
 use Rattle.nz_reals.proofs.forms.is_turned.Goals as goal
 
 pub returns-in-len1-up : goal.returns-in-len1-up
