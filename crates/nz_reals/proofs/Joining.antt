@@ -6,7 +6,7 @@ use Rattle.std.specs.Ordering.{int_eq}
 use Rattle.std.specs.Cmp.{first_so, second_so, signed_Decides}
 use Rattle.std.proofs.lemmas.List.Elements.{Contains-append_cases, Contains-append_left, Contains-push_cases}
 use Rattle.std.proofs.lemmas.Option.{slice_get-get_or, slice_get_within}
-use Rattle.nz_lists.proofs.Elements.{AllByRecursion-append}
+use Rattle.nz_lists.proofs.Elements.{AllByRecursion-append, AllByRecursion-weaker}
 use Rattle.nz_lists.proofs.Places.{slice_get_kept, slice_get-push_cases}
 use Rattle.nz_fractions.specs.Fraction.{Fraction, whole, denominator, fraction_eq, fraction_lt}
 use Rattle.nz_spec.specs.Form as spec
@@ -19,11 +19,16 @@ use Rattle.nz_lin.specs.Forms.{AreInOrder, AreUnits, NamesUnit, parts_over}
 use Rattle.nz_tab.specs.Units.{is_form_of, is_one, is_unit_form, new_units, unit_number, unit_of, with_units}
 use Rattle.nz_log.specs.declared.atoms.Atom.{Atom}
 use Rattle.nz_log.specs.declared.atoms.Atom.TheVariants.{AtMost}
+use Rattle.nz_log.specs.Keys.{are_same_atom}
+use Rattle.nz_log.specs.Same.{atom_decides}
 use Rattle.nz_simplex.specs.Moves.{IsJoined}
+use Rattle.nz_simplex.specs.Standing.{Held}
 use Rattle.nz_simplex.specs.State.{State, IsOver}
 use Rattle.nz_reals.specs.Joins.{AddsForm, IsFree, MayAddSum}
-use Rattle.nz_reals.specs.State.{Theory}
-use Rattle.nz_reals.specs.Stored.{AreForms, FindsForms}
+use Rattle.nz_reals.specs.declared.reals.Told.{Told}
+use Rattle.nz_reals.specs.Known.{Known}
+use Rattle.nz_reals.specs.State.{Theory, known_at, told_lits}
+use Rattle.nz_reals.specs.Stored.{AreForms, AreTolds, FindsForms, IsBacked, IsMark}
 use Rattle.nz_reals.specs.Sums.{IsFormSum, zero_bound}
 use Rattle.nz_reals.proofs.Elements.{at_of, each_of, has_cases, has_first, has_found, has_more, has_none, push_new}
 use Rattle.nz_reals.proofs.Sums.{one_sum}
@@ -295,3 +300,65 @@ module _ (old new : Theory) (f : List Part) (v : ℕ) (may : MayAddSum old f) (j
       | inr last ↦ ap (λ (x : List Part). later (AtMost (zero_bound x))) last.1 ∙ mine ∙ ap Some (sym last.0)
     ];
   }
+
+  -- what was told stays so
+  pub tolds_then : new.known ≡ old.known → new.told ≡ old.told → AreTolds old → AreTolds new
+  tolds_then known told tolds = record {
+    listed = λ i k knows.
+        let less = tolds.listed i k (sym (same i) ∙ knows) in
+        slice_get_within new.simplex.forms k.form (slice_index_or old.simplex.forms k.form [])
+        (then_kept old.simplex new.simplex f v joined k.form (slice_index_or old.simplex.forms k.form []) (slice_get-get_or old.simplex.forms k.form [] less));
+    backed = subst (AllByRecursion (IsBacked new)) (sym joined.asserted) (AllByRecursion-weaker (IsBacked old) (IsBacked new) backed old.simplex.asserted tolds.backed);
+    knows = λ r x at. let k = tolds.knows r x (subst (λ (ts : List Told). slice_get ts r ≡ Some x) told at) in (k.0, same x.literal.atom ∙ k.1);
+    marks = λ r x at. subst (λ (bs : List Held). IsMark bs r x.mark) (sym joined.asserted) (tolds.marks r x (subst (λ (ts : List Told). slice_get ts r ≡ Some x) told at));
+  }
+    where
+      same : (i : ℕ) → known_at new i ≡ known_at old i
+      same i = ap (λ (ks : List (Option Known)). slice_index_or ks i None) known
+
+      backed : (h : Held) → IsBacked old h → IsBacked new h
+      backed h k = record {
+        told = k.told;
+        at = subst (λ (ts : List Told). slice_get ts h.reason ≡ Some k.told) (sym told) k.at;
+        known = k.known;
+        knows = same k.told.literal.atom ∙ k.knows;
+        form = k.form;
+        side = k.side;
+        value = k.value;
+      }
+
+-- ---- What is known when an atom is kept, before anything is told
+
+pub kept_tolds : (old new : Theory) → new.simplex ≡ old.simplex → new.told ≡ old.told → told_lits old ≡ [] → AreTolds old
+    → ((i : ℕ) (k : Known) → known_at new i ≡ Some k → (known_at old i ≡ Some k) ⊎ (k.form < length old.simplex.forms)) → AreTolds new
+kept_tolds old new simplex told none tolds known = record {
+  listed = λ i k knows.
+      let same = ap (λ (s : State). length s.forms) simplex in
+      elim (known i k knows) [ inl was ↦ let less = tolds.listed i k was in omega (arith, less, same) | inr less ↦ omega (arith, less, same) ];
+  backed = subst (λ (s : State). AllByRecursion (IsBacked new) s.asserted) (sym simplex) (AllByRecursion-weaker (IsBacked old) (IsBacked new) (λ h k. absurd (untold h.reason k.told k.at)) old.simplex.asserted tolds.backed);
+  knows = λ r x at. absurd (untold r x (subst (λ (ts : List Told). slice_get ts r ≡ Some x) told at));
+  marks = λ r x at. absurd (untold r x (subst (λ (ts : List Told). slice_get ts r ≡ Some x) told at));
+}
+  where
+    empty : (ts : List Told) → map (λ (x : Told). x.literal) ts ≡ [] → ts ≡ []
+    empty [] e = refl
+    empty (t ∷ ts) e = absurd cc
+
+    untold : (r : ℕ) (x : Told) → slice_get old.told r ≡ Some x → ⊥
+    untold r x at = let no = subst (λ (ts : List Told). slice_get ts r ≡ Some x) (empty old.told none) at in cc
+
+-- ---- Keys
+
+pub key_apart : (a b : Atom) → (a ≡ b → ⊥) → are_same_atom a b ≡ false
+key_apart a b other = by_test (are_same_atom a b) refl
+  where
+    by_test : (t : Bool) → are_same_atom a b ≡ t → t ≡ false
+    by_test true e = absurd (other ((atom_decides a b).0 e))
+    by_test false e = refl
+
+pub key_decided : (b a : Atom) → (a ≡ b) ⊎ (a ≡ b → ⊥)
+key_decided b a = by_test (are_same_atom a b) refl
+  where
+    by_test : (t : Bool) → are_same_atom a b ≡ t → (a ≡ b) ⊎ (a ≡ b → ⊥)
+    by_test true e = inl ((atom_decides a b).0 e)
+    by_test false e = inr (λ same. true≢false (sym ((atom_decides a b).1 same) ∙ e))

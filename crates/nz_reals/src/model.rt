@@ -1,4 +1,14 @@
 //! Values of the units, once the simplex is feasible.
+ghost use Rattle.std.specs.Prelude.{List, IfErr, OnOk};
+ghost use Rattle.nz_spec.specs.Bland.{Point};
+ghost use Rattle.nz_spec.specs.Form.{Part};
+ghost use Rattle.nz_spec.specs.Literal.{Literal};
+ghost use Rattle.nz_spec.specs.LiteralBounds.{position_under};
+ghost use Rattle.nz_spec.specs.Table.{Node};
+ghost use Rattle.nz_log.specs.Places.{IsPlaceIn, OnWide};
+ghost use Rattle.nz_reals.specs.Chosen.{AddsValues};
+ghost use Rattle.nz_reals.specs.Stands.{IsAt, IsFeasible, IsOver};
+
 use crate::reals::Reals;
 use crate::refute::stopped;
 use nz_delta::{Delta, choose_delta};
@@ -15,7 +25,12 @@ impl Reals {
     /// # Errors
     ///
     /// `Wide` where an operation leaves the numbers; `Memory`.
-    pub fn add_values(&self, terms: &Terms, values: &mut Assign) -> Result<(), Stop> {
+    pub fn add_values(&self, terms: &Terms, values: &mut Assign) -> Result<(), Stop>
+        requires over { IsOver self.now terms.now }
+        requires feasible { IsFeasible self.now }
+        ensures adds { OnOk result ((ns : List Node) → (fs : List (List Part)) → (ls : List Literal) → (x : Point) → IsAt self.now ns fs ls x → AddsValues self.now terms.now (position_under fs x ls) values.old values.new) }
+        ensures place { (ns : List Node) → (fs : List (List Part)) → (ls : List Literal) → (x : Point) → IsAt self.now ns fs ls x → IfErr result (λ e. OnWide e (IsPlaceIn ns fs ls x)) }
+    {
         let delta = self.delta()?;
         for var in 0..self.simplex.len() {
             if let Some(unit) = constant_alone(terms, self.simplex.form(var)) {
@@ -37,10 +52,9 @@ impl Reals {
 
     /// The lesser of a fraction and what the bounds of a form allow.
     fn limited(&self, var: Var, least: Frac) -> Result<Frac, Stop> {
-        let value = self.simplex.value(var);
         let (lower, upper) = self.simplex.bounds(var);
-        let above = above(var, lower, value, least)?;
-        below(var, value, upper, above)
+        let above = above(var, lower, self.simplex.value(var), least)?;
+        below(var, self.simplex.value(var), upper, above)
     }
 
     /// The value of a form where a fraction stands for the infinitesimal.

@@ -13,7 +13,6 @@ use crate::forms::{Bounded, Said};
 use indexmap::IndexMap;
 use nz_base::Memory;
 use nz_delta::Delta;
-use nz_frac::Frac;
 use nz_log::{Atom, AtomId, Lit, Multiple};
 use nz_simplex::laws::{clashes_contradict, literals_say_bounds, sums_stay};
 use nz_simplex::{Simplex, known_state};

@@ -138,7 +138,13 @@ fn both_once(literal: Lit, other: Lit) -> [Multiple; 2]
 {
     let one = Frac::whole(1);
     [
-        Multiple { literal, multiplier: one },
-        Multiple { literal: other, multiplier: one },
+        Multiple {
+            literal,
+            multiplier: one,
+        },
+        Multiple {
+            literal: other,
+            multiplier: one,
+        },
     ]
 }
