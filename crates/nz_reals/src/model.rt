@@ -1,21 +1,37 @@
 //! Values of the units, once the simplex is feasible.
+ghost use Rattle.std.specs.Prelude.{◌≡◌, List, IfErr, OnOk};
+ghost use Rattle.nz_spec.specs.Bland.{Point};
+ghost use Rattle.nz_spec.specs.Form.{Part};
+ghost use Rattle.nz_spec.specs.Literal.{Literal};
+ghost use Rattle.nz_log.specs.declared.stop.Stop.TheVariants as stop;
+ghost use Rattle.nz_log.specs.Places.{IsPlaceIn, OnWide};
+ghost use Rattle.nz_simplex.specs.State.{position_over};
+ghost use Rattle.nz_reals.specs.Chosen.{AddsValues};
+ghost use Rattle.nz_reals.specs.Stands.{IsAt, IsFeasible, IsOver};
+
 use crate::reals::Reals;
 use crate::refute::stopped;
 use nz_delta::{Delta, choose_delta};
 use nz_frac::Frac;
 use nz_lin::Part;
 use nz_log::{Site, Stop};
-use nz_term::{Assign, Head, TermId, Terms, Value};
+use nz_term::{Assign, Head, Sort, TermId, Terms, Value};
 use nz_trail::{Limit, Side, Var};
 
 impl Reals {
-    /// Puts a value for each constant among the units behind those of an assignment: the value at the point, where a fraction stands for the
+    /// Puts a value for each constant of sort `Real` among the units behind those of an assignment: the value at the point, where a fraction stands for the
     /// infinitesimal that keeps all values within their bounds.
     ///
     /// # Errors
     ///
     /// `Wide` where an operation leaves the numbers; `Memory`.
-    pub fn add_values(&self, terms: &Terms, values: &mut Assign) -> Result<(), Stop> {
+    pub fn add_values(&self, terms: &Terms, values: &mut Assign) -> Result<(), Stop>
+        requires over { IsOver self.now terms.now }
+        requires feasible { IsFeasible self.now }
+        ensures values { OnOk result (AddsValues self.now terms.now (position_over terms.now self.now.simplex) values.old values.new) }
+        ensures place { IfErr result (λ e. OnWide e (λ p. (fs : List (List Part)) (ls : List Literal) (x : Point) → IsAt self.now terms.now fs ls x → IsPlaceIn terms.now fs ls x p)) }
+        ensures unspent { IfErr result (λ e. e ≡ stop.Spent → ⊥) }
+    {
         let delta = self.delta()?;
         for var in 0..self.simplex.len() {
             if let Some(unit) = constant_alone(terms, self.simplex.form(var)) {
@@ -82,11 +98,14 @@ fn at(value: Delta, delta: Frac) -> Result<Frac, nz_frac::Wide> {
     value.c.add(value.k.mul(delta)?)
 }
 
-/// The constant that a form is, if it is one alone.
+/// The constant of sort `Real` that a form is, if it is one alone.
 fn constant_alone(terms: &Terms, parts: &[Part]) -> Option<TermId> {
     match parts {
         [part] if part.coefficient == Frac::whole(1) => match terms.head(part.unit) {
-            Head::Constant(_) => Some(part.unit),
+            Head::Constant(constant) => match constant.sort {
+                Sort::Real => Some(part.unit),
+                _ => None,
+            },
             _ => None,
         },
         _ => None,
