@@ -1,14 +1,15 @@
 pub mod Answering
 pub mod Assuming
 pub mod Deciding
-pub mod GateNames
 pub mod Going
 pub mod Leveling
+pub mod Meeting
 pub mod Modeling
 pub mod Naming
-pub mod Orders
+pub mod Onces
 pub mod Placing
 pub mod Posing
 pub mod Putting
 pub mod Refuting
+pub mod RowFacts
 pub mod Solving

@@ -174,13 +174,16 @@ IsRootStop ns roots Memory = ⊤
 
 -- ---- What was found
 
--- There are truths under which each clause and each assumed literal is true, and values that meet the bounds that are true.
+-- There are truths under which each clause and each assumed literal is true, and a theory that was told the bounds that are true is feasible.
 pub record HasFound (ns : List Node) (assumed : List TermLit) (p : PreparedState) : Type 0 where
-  pub there : HaveAtoms ns p assumed
+  pub handed : AreHanded ns p assumed (atoms_of ns p) (lits_of p.log.atoms assumed)
   pub truths : IsSatisfied p.log p.sat (lits_of p.log.atoms assumed) (atoms_of ns p)
   pub bounds : IsTheoryMet p.log (HasTold p.sat.theory) (IsFeasible p.sat.theory) p.sat (atoms_of ns p)
-  pub over : IsOver p.sat.theory ns
   pub of : IsOf p.sat.theory p.log.atoms (atoms_of ns p)
+  pub forms : List (List form.Part)
+  pub told : List spec.Literal
+  pub point : Point
+  pub at : IsAt p.sat.theory ns forms told point
 
 -- ---- Truths
 
