@@ -1,6 +1,8 @@
 pub mod Answering
 pub mod Assuming
+pub mod Beginning
 pub mod Deciding
+pub mod Ending
 pub mod Going
 pub mod Leveling
 pub mod Meeting

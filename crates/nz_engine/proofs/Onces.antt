@@ -16,7 +16,7 @@ IsOnce (x ∷ xs) = (Contains xs x → ⊥) × IsOnce xs
 pub once_from_stand : (xs : List ℕ) → StandOnce xs → IsOnce xs
 once_from_stand [] h = tt
 once_from_stand (x ∷ xs) h = (
-  (λ c. let k = place_of xs x c in let same : 0 ≡ suc k.0 = h 0 (suc k.0) x refl k.1 in omega arith),
+  (λ c. let k = place_of xs x c in let same : 0 ≡ suc k.0 = h 0 (suc k.0) x refl k.1 in omega (arith, same)),
   once_from_stand xs (λ i j y a b. let same : suc i ≡ suc j = h (suc i) (suc j) y a b in omega (arith, same)),
 )
 

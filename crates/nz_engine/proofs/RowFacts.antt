@@ -275,7 +275,7 @@ module _ (sums : FormsAreSums) (ns : List Node) (table : IsTable ns) (levels : L
         (f [] log.atoms (subst IsTable (sym (append-nil ns)) table) (λ i x at. at))
 
     by_origin : (i : ℕ) (e : Entry) (o : Origin) → IsMade ns levels log i e o → row_term o ≡ Some t → Contains e.literals l → Goal
-    by_origin i e (assertion_of k) made is has = cc
+    by_origin i e (assertion_of k) made is has = absurd cc
     by_origin i e (gate_of u j) made is has =
         let one : u ≡ t = same_Some u t is in
         let of = taken_row (gate_clauses (term_in ns u)) j (clause_in ns log.atoms e.literals) made.2 in
@@ -297,14 +297,14 @@ module _ (sums : FormsAreSums) (ns : List Node) (table : IsTable ns) (levels : L
         of_computed units j e.literals (units_of sums (number_in ns) (term_in ns t) taken) (λ row c. Contains-append_right links units row c) has
         (subst (λ (v : ℕ). (Steps.clause_at (unit_clauses (number_in ns) (term_in ns v)) j).result ≡ Some (clause_in ns log.atoms e.literals)) one
         (step_here (unit_of u j) e.literals made.taken))
-    by_origin i e (axiom_of (farkas_of ms)) made is has = cc
-    by_origin i e (axiom_of (branch_of b)) made is has = cc
-    by_origin i e (axiom_of (cut_of ms)) made is has = cc
-    by_origin i e (chain_of first ks) made is has = cc
+    by_origin i e (axiom_of (farkas_of ms)) made is has = absurd cc
+    by_origin i e (axiom_of (branch_of b)) made is has = absurd cc
+    by_origin i e (axiom_of (cut_of ms)) made is has = absurd cc
+    by_origin i e (chain_of first ks) made is has = absurd cc
 
     by_entry : (i : ℕ) (o : Option Entry) → entry_at log i ≡ o → (g : Origin) → option_map (λ (e : Entry). e.origin) o ≡ Some g → row_term g ≡ Some t
         → Contains (elim o [ None ↦ [] | Some e ↦ e.literals ]) l → Goal
-    by_entry i None at g is row has = cc
+    by_entry i None at g is row has = absurd cc
     by_entry i (Some e) at g is row has =
         let same : e.origin ≡ g = same_Some e.origin g is in
         by_origin i e e.origin (order.clauses i e at).made (ap row_term same ∙ row) has

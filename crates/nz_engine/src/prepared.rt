@@ -421,8 +421,8 @@ fn reals_of(
     ensures over { IfOk result (λ r. (ns : List Node) → IsTable ns → All (IsAtomAt ns log.now.atoms) atoms.now → IsOver r ns) }
     ensures forms { NotesForms work.old work.new }
     // Where the list knows each of the atoms by its place, and the theory of no sum stands where it leads, so does this one, where it leads then.
-    ensures stands { IfOk result (λ r. (ns : List Node) (q : Task) → IsTable ns → AreNumbered ns log.now.atoms atoms.now work.old → Stands (IsAt empty_theory ns) ns q work.old → Stands (IsAt r ns) ns q work.new) }
-    ensures stopped { IfErr result (λ e. (ns : List Node) (q : Task) → IsTable ns → AreNumbered ns log.now.atoms atoms.now work.old → Stands (IsAt empty_theory ns) ns q work.old → EndsWith ns q work.new e) }
+    ensures stands { IfOk result (λ r. (ns : List Node) (q : Task) → IsTable ns → All (IsAtomAt ns log.now.atoms) atoms.now → AreNumbered ns log.now.atoms atoms.now work.old → Stands (IsAt empty_theory ns) ns q work.old → Stands (IsAt r ns) ns q work.new) }
+    ensures stopped { IfErr result (λ e. (ns : List Node) (q : Task) → IsTable ns → All (IsAtomAt ns log.now.atoms) atoms.now → AreNumbered ns log.now.atoms atoms.now work.old → Stands (IsAt empty_theory ns) ns q work.old → EndsWith ns q work.new e) }
     ensures unspent { IfErr result (λ e. e ≡ stop.Spent → ⊥) }
 {
     let mut reals = Reals::new(alloc);

@@ -4,7 +4,7 @@ use Rattle.std.specs.Prelude.{Contains}
 use Rattle.std.proofs.lemmas.List.Elements.{All-contains}
 use Rattle.std.proofs.lemmas.Option.{slice_get_within}
 use Rattle.nz_spec.specs.Decide.{asserted_numbers}
-use Rattle.nz_spec.specs.Gates.{IsGated}
+use Rattle.nz_spec.specs.Taken.{IsTakenBoolean}
 use Rattle.nz_spec.specs.Table.{term_in}
 use Rattle.nz_engine.specs.Levels.{IsPlaced, count_of}
 use Rattle.nz_engine.specs.Preparing.{PreparedState}
@@ -20,6 +20,15 @@ add_assertion-requires-clause-within c =
     let all = asserted_numbers levels in
     let has : Contains all t = stands_there all k t (placed_in_all levels k t c.in-Some.next.level c.in-Some.ensures.placed) in
     All-contains (λ i. i < length c.args.terms.now) all t c.requires.within has
+
+pub add_assertion-requires-clause-taken : goal.add_assertion-requires-clause-taken
+add_assertion-requires-clause-taken c =
+    let levels = c.args.levels.now in
+    let t = c.in-Some.next.term in
+    let k = c.self.inside.given in
+    let all = asserted_numbers levels in
+    let has : Contains all t = stands_there all k t (placed_in_all levels k t c.in-Some.next.level c.in-Some.ensures.placed) in
+    All-contains (λ i. IsTakenBoolean (term_in c.args.terms.now i)) all t c.requires.taken has
 
 pub add_assertion-requires-clause-told : goal.add_assertion-requires-clause-told
 add_assertion-requires-clause-told c =
@@ -43,9 +52,6 @@ pub loop-next-preserved : goal.loop-next-preserved
 loop-next-preserved c =
     let levels = c.args.levels.now in
     let t = c.in-Some.next.term in
-    let all = asserted_numbers levels in
     let placed : IsPlaced levels c.loop-next.self.given t c.in-Some.next.level =
     subst (λ (s : PreparedState). IsPlaced levels s.given t c.in-Some.next.level) c.self.view_is c.in-Some.ensures.placed in
-    let has : Contains all t = stands_there all c.loop-next.self.given t (placed_in_all levels c.loop-next.self.given t c.in-Some.next.level placed) in
-    let gated = All-contains (λ i. IsGated (term_in c.args.terms.now i)) all t c.requires.gated has in
-    c.in_ok-add_assertion.ensures.stands levels placed (c.gates_decide.ensures.plain (term_in c.args.terms.now t) gated) c.loop-next.invariant
+    c.in_ok-add_assertion.ensures.stands levels placed c.loop-next.invariant

@@ -2,7 +2,7 @@ use Rattle.std.proofs.Common.{◌<◌, ◌≤◌, false, length, get_or, take, r
 use Rattle.std.specs.Prelude.{All, IsSome}
 use Rattle.std.proofs.lemmas.List.{take_all, take_more}
 use Rattle.std.proofs.lemmas.List.Elements.{All-push, All-weaker, Contains-get_or}
-use Rattle.nz_spec.specs.Gates.{IsGated}
+use Rattle.nz_spec.specs.Taken.{IsTakenBoolean}
 use Rattle.nz_spec.specs.Table.{term_in}
 use Rattle.nz_log.specs.declared.term_lits.TermLit.{TermLit}
 use Rattle.nz_cform.specs.Forms.{covered_at}
@@ -24,6 +24,10 @@ pub assume_term-requires-clause-within : goal.assume_term-requires-clause-within
 assume_term-requires-clause-within c =
     all_named (λ t. t < length c.args.terms.now) c.args.assumed.now c.requires.within c.loop-literal.literal-index (record { term = 0; sign = false }) c.loop-literal-test.true
 
+pub assume_term-requires-clause-taken : goal.assume_term-requires-clause-taken
+assume_term-requires-clause-taken c =
+    (all_named (λ t. IsTakenBoolean (term_in c.args.terms.now t)) c.args.assumed.now c.requires.taken c.loop-literal.literal-index (record { term = 0; sign = false }) c.loop-literal-test.true).taken
+
 pub loop-literal-preserved : goal.loop-literal-preserved
 loop-literal-preserved c =
     let ns = c.args.terms.now in
@@ -34,13 +38,13 @@ loop-literal-preserved c =
     let did = c.in_ok-assume_term.ensures in
     let form = c.assume_term.new.self.form in
     let P : TermLit → Type 0 = λ m. IsSome (covered_at form m.term) in
-    let plain = c.gates_decide.ensures.plain (term_in ns l.term) (all_named (λ t. IsGated (term_in ns t)) assumed c.requires.gated k (record { term = 0; sign = false }) c.loop-literal-test.true) in
+    let taken = all_named (λ t. IsTakenBoolean (term_in ns t)) assumed c.requires.taken k (record { term = 0; sign = false }) c.loop-literal-test.true in
     record {
       standing = did.stands c.args.levels.now (terms_named assumed)
           (record {
             last = sym c.len-level.ensures.count;
             named = contains_map (λ (m : TermLit). m.term) assumed l (Contains-get_or assumed k (record { term = 0; sign = false }) c.loop-literal-test.true);
-            plain = plain;
+            taken = taken.taken;
             all_given = c.requires.all_given ∙ sym before.given;
             standing = before.standing;
           });
