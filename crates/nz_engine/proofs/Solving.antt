@@ -1,5 +1,5 @@
 -- A search over what is prepared: its atoms, what they say, and what stays when it has learned.
-use Rattle.std.proofs.Common.{◌≡◌, ◌≢◌, inl, inr, ℕ, suc, ◌<◌, ◌≤◌, Bool, true, false, not, true≢false, List, [], ◌∷◌, ◌++◌, length, get_or, map, Option, Some, None, option_map, refl, sym, ap, subst, ◌∙◌, arith}
+use Rattle.std.proofs.Common.{◌≡◌, ◌≢◌, inl, inr, ℕ, suc, ◌<◌, ◌≤◌, Bool, true, false, not, true≢false, List, [], ◌∷◌, ◌++◌, length, get_or, map, Option, Some, None, option_map, Result, Ok, Err, IfOk, refl, sym, ap, subst, ◌∙◌, arith}
 use Rattle.std.specs.Prelude.{All, Contains, IsSome, IsSomeAnd, slice_get, slice_index_or}
 use Rattle.std.specs.List.{AllByRecursion, AllPairs}
 use Rattle.std.proofs.lemmas.Option.{get_or_from_slice_get, same_Some, slice_get_within}
@@ -11,12 +11,13 @@ use Rattle.nz_spec.specs.Form as spec
 use Rattle.nz_spec.specs.Form.{negated_part}
 use Rattle.nz_spec.specs.FormOf.{number_in, FormsAreSums}
 use Rattle.nz_spec.specs.Gates.{is_boolean_term}
-use Rattle.nz_spec.specs.Legal.{Task, IsAtom, IsTabled}
+use Rattle.nz_spec.specs.Legal.{Task, IsAtom, IsTabled, told_literals}
 use Rattle.nz_spec.specs.Literal.{Literal, term_literal, is_at_most, is_below, negation_of, StandOnce}
 use Rattle.nz_spec.specs.Order.{post_order}
 use Rattle.nz_spec.specs.Table.{Node, IsTable, term_in}
 use Rattle.nz_spec.specs.Taken.{IsTakenBoolean}
 use Rattle.nz_spec.specs.Term as Term
+use Rattle.nz_spec.specs.Work.{WorkList}
 use Rattle.nz_spec.specs.Term.{is_zero}
 use Rattle.nz_lin.specs.declared.bound.Bound.{Bound}
 use Rattle.nz_lin.specs.declared.form.Part.{Part}
@@ -30,6 +31,9 @@ use Rattle.nz_log.specs.Leveled.{AreToldAtoms, IsToldWithin, LogsStayLeveled, Na
 use Rattle.nz_log.specs.Lits.{negated_lit}
 use Rattle.nz_log.specs.Logs.{Entry, JoinsAtoms, LogState, entry_at, literals_at, told_of}
 use Rattle.nz_log.specs.Sound.{IsLog, LogsStay, live_at}
+use Rattle.nz_log.specs.Standing.{Ends, Stands, search_after}
+use Rattle.nz_log.specs.declared.note.Note.{Note}
+use Rattle.nz_log.specs.declared.stop.Stop.{Stop}
 use Rattle.nz_log.specs.TermLits.{AreConsistent, literal_of}
 use Rattle.nz_log.specs.Theories as theories
 use Rattle.nz_log.specs.Verdicts.{task_in}
@@ -37,14 +41,16 @@ use Rattle.nz_cform.specs.Covering.{HasBound, IsRowAt}
 use Rattle.nz_cform.specs.Forms.{FormState, covered_at}
 use Rattle.nz_cform.specs.Laws.{CoversStay}
 use Rattle.nz_cform.specs.Listings.{IsListing, listed_at}
+use Rattle.nz_reals.specs.Knowing.{of_stays}
+use Rattle.nz_reals.specs.Stands.{HasTold, IsAt, IsFeasible, IsOf}
 use Rattle.nz_reals.specs.Sums.{AreNonzero}
 use Rattle.nz_reals.proofs.Saying.{bound_in_log}
 use Rattle.nz_reals.proofs.Sums.{neg_nonzero, number_back}
 use Rattle.nz_sat.specs.declared.clauses.Held.{Held}
 use Rattle.nz_sat.specs.Numbers.{IsAtomAt, atom_literal}
 use Rattle.nz_sat.specs.Sats as sat
-use Rattle.nz_sat.specs.Sats.{AreNamed, AreOn, HoldsMore, IsAsked, truth_of}
-use Rattle.nz_engine.specs.Checking.{AreHanded, AreLearnable, HaveAtoms, IsLearnable, IsNonzero, IsPosed, MayBegin, atom_at, terms_named, truth_in}
+use Rattle.nz_sat.specs.Sats.{AreNamed, AreOn, HoldsMore, IsAsked, IsSatisfied, IsTheoryMet, truth_of}
+use Rattle.nz_engine.specs.Checking.{AreHanded, AreLearnable, HasFound, HaveAtoms, IsLearnable, IsNonzero, IsPosed, MayBegin, atom_at, terms_named, truth_in}
 use Rattle.nz_engine.specs.Preparing.{PreparedState, AreSearched, IsOfForm, IsPrepared, IsSearched, atoms_of, boolean_terms}
 use Rattle.nz_engine.proofs.Going.{made_of_more, some_of, still_searched}
 use Rattle.nz_engine.proofs.Naming.{listed_part, once_from_pairs}
@@ -444,6 +450,34 @@ module _ (sums : FormsAreSums) (own : AtomsOfTerms) (ns : List Node) (levels : L
         still_searched ns ns p q l.atom (λ a at. grows.atoms l.atom a at) (λ a at of. subst (λ (f : FormState). IsOfForm ns f l.atom a) (sym form) of)
         (All-contains (IsSearched ns p.log p.form) ids l.atom ids_searched c))
         (literals_at q.log x.id) (on k d below)
+
+    -- what a search found, where its theory stands where its list leads
+    pub has_found : IsOf q.sat.theory p.log.atoms ids → IsSatisfied q.log q.sat lits ids → IsTheoryMet q.log (HasTold q.sat.theory) (IsFeasible q.sat.theory) q.sat ids
+        → (task : Task) (work : WorkList Note) → Stands (IsAt q.sat.theory ns) ns task work → HasFound ns assumed q
+    has_found of satisfied met task work stands =
+        let of_here : IsOf q.sat.theory q.log.atoms ids = of_stays q.sat.theory p.log.atoms q.log.atoms ids of grows.atoms in
+        record {
+          handed = record {
+            terms = subst (λ (f : FormState). IsListing f.terms) (sym form) n.terms;
+            bounds = subst (λ (f : FormState). IsListing f.bounds) (sym form) n.bounds;
+            numbers = refl;
+            on_atoms = refl;
+            there = named_have;
+          };
+          truths = subst (λ (ls : List Lit). IsSatisfied q.log q.sat ls (atoms_of ns q)) named_lits (subst (λ (is : List ℕ). IsSatisfied q.log q.sat lits is) named_ids satisfied);
+          bounds = subst (λ (is : List ℕ). IsTheoryMet q.log (HasTold q.sat.theory) (IsFeasible q.sat.theory) q.sat is) named_ids met;
+          of = subst (λ (is : List ℕ). IsOf q.sat.theory q.log.atoms is) named_ids of_here;
+          forms = (search_after ns work).forms;
+          told = told_literals (search_after ns work);
+          point = stands.point;
+          at = stands.at;
+        }
+
+    pub found_of : IsOf q.sat.theory p.log.atoms ids → (task : Task) (work : WorkList Note) (r : Result (Option ℕ) Stop) → IfOk r (λ o. o ≡ None → IsSatisfied q.log q.sat lits ids)
+        → IfOk r (λ o. o ≡ None → IsTheoryMet q.log (HasTold q.sat.theory) (IsFeasible q.sat.theory) q.sat ids) → Ends (IsAt q.sat.theory ns) ns task work r
+        → IfOk r (λ o. o ≡ None → HasFound ns assumed q)
+    found_of of task work (Ok o) s f e = λ none. has_found of (s none) (f none) task work e
+    found_of of task work (Err x) s f e = tt
 
 -- ---- What stays
 

@@ -36,15 +36,14 @@ use crate::levels::Levels;
 use nz_base::{Memory, Work};
 use nz_cform::laws::{covers_stay, rows_name_covered};
 use nz_cform::{ClauseForm, FormStop};
-use nz_log::laws::{atoms_of_terms, gates_are_named, logs_stay, logs_stay_leveled, tells_lits};
+use nz_log::laws::{atoms_of_terms, logs_stay, logs_stay_leveled, tells_lits};
 use nz_log::{Atom, AtomId, ClauseId, Lit, Log, Note, Place, Site, Step, Stop, TermLit};
 use nz_reals::{Reals, stored};
 use nz_sat::Sat;
 use nz_spec::deciding::taken_terms_are_in_order;
 use nz_spec::derivation::tells_literals;
 use nz_spec::form::forms_are_sums;
-use nz_spec::table::{one_number, term_of_node};
-use nz_spec::work::legal_work_goes_on;
+use nz_spec::table::term_of_node;
 use nz_term::{Assign, Head, Sort, TermId, Terms, Value, known_table};
 use std::alloc::Global;
 use std::marker::Model;
@@ -246,11 +245,10 @@ impl Prepared {
         logs_stay();
         logs_stay_leveled();
         atoms_of_terms();
-        tells_lits();
-        tells_literals();
         forms_are_sums();
         let named = self.named(terms, assumed)?;
-        self.sat.theory = begun(self.alloc, &self.log, &named.atoms, work)?;
+        let theory = begun(self.alloc, &self.log, &named.atoms, work)?;
+        self.sat.theory = theory;
         self.sat
             .solve(&mut self.log, &named.atoms, &named.literals, work)
     }
@@ -450,8 +448,6 @@ fn begun(
     ensures stopped { IfErr result (λ e. (ns : List Node) (q : Task) → MayBegin ns q log.now.atoms atoms.now → EndsWith ns q work.new e) }
     ensures unspent { IfErr result (λ e. e ≡ stop.Spent → ⊥) }
 {
-    legal_work_goes_on();
-    one_number();
     tells_lits();
     tells_literals();
     note_atoms(alloc, log, atoms, work)?;
