@@ -10,7 +10,7 @@ use Rattle.nz_spec.specs.FormOf.{number_in}
 use Rattle.nz_spec.specs.Legal.{Task, Search, Lead, AreLegal, at_first, no_point, told_literals}
 use Rattle.nz_spec.specs.Literal.{Literal}
 use Rattle.nz_spec.specs.LiteralBounds.{position_under}
-use Rattle.nz_spec.specs.Places.{IsOperationAt, IsOperationIn}
+use Rattle.nz_spec.specs.Places.{IsOperationAt, IsOperationIn, IsStoppedLegally}
 use Rattle.nz_spec.specs.Table.{Node, term_in}
 use Rattle.nz_spec.specs.Work.{IsSpent, WorkLine, UnitLine, NoteLine, WorkList, unit_count}
 use Rattle.nz_frac.specs.Operations.{operation_of}
@@ -25,7 +25,7 @@ use Rattle.nz_log.specs.declared.stop.Stop.TheVariants.{Wide, Spent, Memory}
 use Rattle.nz_log.specs.declared.term_lits.TermLit.{TermLit}
 use Rattle.nz_log.specs.Atoms.{IsAtomIn}
 use Rattle.nz_log.specs.Notes.{noted_line, noted_list, AreNotedWithin}
-use Rattle.nz_log.specs.Places.{IsSiteWithin, OnWide, site_of}
+use Rattle.nz_log.specs.Places.{IsSiteWithin, OnWide, place_of, site_of}
 use Rattle.nz_log.specs.Standing.{Ends, IsStoppedAt, Standing, Stands, search_after}
 use Rattle.nz_log.specs.Verdicts.{OnSpent, task_in}
 use Rattle.nz_reals.specs.Stands.{IsAt}
@@ -152,3 +152,15 @@ pub unspent : (e : Stop) (P : Type 0) → (e ≡ stops.Spent → ⊥) → OnSpen
 unspent (Wide place) P f = tt
 unspent Spent P f = absurd (f refl)
 unspent Memory P f = tt
+
+-- ---- What is said of a stop
+
+pub stop_legal : (ns : List Node) (q : Task) (work : WorkList Note) (e : Stop) → OnWide e (IsStop ns q work) → OnWide e (λ p. IsStoppedLegally q (noted_list ns work) (place_of ns p))
+stop_legal ns q work (Wide place) h = h.legally
+stop_legal ns q work Spent h = tt
+stop_legal ns q work Memory h = tt
+
+pub stop_within : (ns : List Node) (q : Task) (work : WorkList Note) (e : Stop) → OnWide e (IsStop ns q work) → OnWide e (λ p. IsSiteWithin ns p.site)
+stop_within ns q work (Wide place) h = h.within
+stop_within ns q work Spent h = tt
+stop_within ns q work Memory h = tt

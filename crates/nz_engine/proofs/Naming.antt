@@ -1,8 +1,8 @@
 -- Notes of atoms are legal: each is of what is asked, and none is named twice. Where a list of them leads, the theory of no sum stands.
-use Rattle.std.proofs.Common.{◌≡◌, ◌≢◌, inl, inr, ℕ, zero, suc, ◌<◌, Bool, true, false, List, [], ◌∷◌, ◌++◌, append-nil, length, get_or, take, map, Option, Some, None, option_map, Result, Ok, Err, refl, sym, ap, ◌∙◌, subst, arith, append_assoc}
+use Rattle.std.proofs.Common.{◌≡◌, ◌≢◌, inl, inr, ℕ, zero, suc, ◌<◌, Bool, true, false, List, [], ◌∷◌, ◌++◌, append-nil, ◌≤◌, length, get_or, take, map, Option, Some, None, option_map, Result, Ok, Err, refl, sym, ap, ◌∙◌, subst, arith, append_assoc}
 use Rattle.std.specs.Prelude.{All, Contains, IfErr, flat_map, slice_get, slice_index_or, ⊤}
 use Rattle.std.specs.List.{AllByRecursion, AllPairs}
-use Rattle.std.proofs.lemmas.List.{get_or-map, length-map, map-append}
+use Rattle.std.proofs.lemmas.List.{get_or-map, length-map, map-append, take_all}
 use Rattle.std.proofs.lemmas.Option.{get_or_from_slice_get, slice_get-get_or, slice_get_within}
 use Rattle.std.proofs.lemmas.List.Elements.{All-contains, All-contains_itself, All-from_recursion, All-map, All-take, All-weaker, Contains-append_cases, Contains-append_left, Contains-append_right, recursion_from_All}
 use Rattle.nz_lists.proofs.Elements.{AllByRecursion-append, AllByRecursion-weaker}
@@ -291,6 +291,31 @@ notes_all all ids ks work within lines =
     record {
       noted = there_all all ids (recursion_from_All (λ i. i < length all) ids within) ∙ ap (map Some) (sym (ap noted_atoms lines ∙ begun_noted all ids ks));
       beginnings = subst AreBeginnings (sym lines) (beginnings all ids ks);
+    }
+
+-- ---- Lines of a search that begins
+
+pub noted_lines : (all : List log.Atom) (ids : List ℕ) (old new : WorkList Note) → old.lines ≡ [] → new ≡ record old { lines = old.lines ++ atom_lines all ids } → new.lines ≡ atom_lines all ids
+noted_lines all ids old new none e = ap (λ (w : WorkList Note). w.lines) e ∙ ap (λ ls. ls ++ atom_lines all ids) none
+
+-- the first so many atoms
+pub begun_first : (all : List log.Atom) (ids : List ℕ) (old new : WorkList Note) → old.lines ≡ [] → NotesFirst all ids old new → HasBegun all ids old new
+begun_first all ids old new none h =
+    record {
+      count = h.count;
+      forms = [];
+      lines = noted_lines all (take h.count ids) old new none h.noted ∙ sym (append-nil (atom_lines all (take h.count ids)));
+      limit = ap (λ (w : WorkList Note). w.limit) h.noted;
+    }
+
+-- all atoms, and then forms
+pub begun_more : (all : List log.Atom) (ids : List ℕ) (old mid new : WorkList Note) → mid.lines ≡ atom_lines all ids → mid.limit ≡ old.limit → NotesForms mid new → HasBegun all ids old new
+begun_more all ids old mid new lines limit h =
+    record {
+      count = length ids;
+      forms = h.forms;
+      lines = ap (λ (w : WorkList Note). w.lines) h.noted ∙ ap (λ ls. ls ++ form_lines h.forms) (lines ∙ ap (atom_lines all) (sym (take_all (length ids) ids (omega arith))));
+      limit = ap (λ (w : WorkList Note). w.limit) h.noted ∙ limit;
     }
 
 -- ---- Stops

@@ -111,10 +111,12 @@ impl Prepared {
         ensures stop { IfErr result (IsTermStop terms.now (term_in terms.now term)) }
     {
         let alloc = self.alloc;
-        match self.form.add_term(alloc, &mut self.log, terms, term, level) {
-            Ok(clauses) => Ok(hold(&mut self.sat, &self.log, &clauses)?),
-            Err(stop) => Err(stop_of(stop)),
-        }
+        let clauses = match self.form.add_term(alloc, &mut self.log, terms, term, level) {
+            Ok(clauses) => clauses,
+            Err(stop) => return Err(stop_of(stop)),
+        };
+        hold(&mut self.sat, &self.log, &clauses)?;
+        Ok(())
     }
 
     /// Adds that an assertion is true, which is the next one.

@@ -1,5 +1,5 @@
 -- The next assertion is one that has no clause yet.
-use Rattle.std.proofs.Common.{◌≡◌, suc, ◌-◌, ◌<◌, length, subst, arith}
+use Rattle.std.proofs.Common.{rules, Err, IfErr, ◌≡◌, suc, ◌-◌, ◌<◌, length, subst, arith}
 use Rattle.std.specs.Prelude.{Contains}
 use Rattle.std.proofs.lemmas.List.Elements.{All-contains}
 use Rattle.std.proofs.lemmas.Option.{slice_get_within}
@@ -8,7 +8,9 @@ use Rattle.nz_spec.specs.Taken.{IsTakenBoolean}
 use Rattle.nz_spec.specs.Table.{term_in}
 use Rattle.nz_engine.specs.Levels.{IsPlaced, count_of}
 use Rattle.nz_engine.specs.Preparing.{PreparedState}
+use Rattle.nz_engine.specs.Checking.{IsRootStop}
 use Rattle.nz_engine.proofs.Assuming.{told_before}
+use Rattle.nz_engine.proofs.Ending.{root_of}
 use Rattle.nz_engine.proofs.Placing.{placed_in_all, stands_there}
 use Rattle.nz_engine.proofs.prepared.Prepared.add_assertions.Goals as goal
 
@@ -55,3 +57,13 @@ loop-next-preserved c =
     let placed : IsPlaced levels c.loop-next.self.given t c.in-Some.next.level =
     subst (λ (s : PreparedState). IsPlaced levels s.given t c.in-Some.next.level) c.self.view_is c.in-Some.ensures.placed in
     c.in_ok-add_assertion.ensures.stands levels placed c.loop-next.invariant
+
+pub returns-in_err-add_assertion-clause-stop : goal.returns-in_err-add_assertion-clause-stop
+returns-in_err-add_assertion-clause-stop c =
+    let same : Err c.in_err-add_assertion.field-0.0 ≡ c.from_residual.result = search rules in
+    let ns = c.args.terms.now in
+    let levels = c.args.levels.now in
+    let t = c.in-Some.next.term in
+    let all = asserted_numbers levels in
+    let has : Contains all t = stands_there all c.self.inside.given t (placed_in_all levels c.self.inside.given t c.in-Some.next.level c.in-Some.ensures.placed) in
+    subst (λ r. IfErr r (IsRootStop ns all)) same (root_of ns all t c.in_err-add_assertion.field-0.0 has c.in_err-add_assertion.ensures.stop)
