@@ -1,6 +1,6 @@
 -- What is prepared stays so when levels go on, when a level is put above them, when the table grows, and when levels are cut.
 use Rattle.std.proofs.Common.{◌≡◌, ℕ, suc, ◌<◌, ◌≤◌, ◌⊎◌, inl, inr, Bool, true, false, true≢false, List, [], ◌∷◌, ◌++◌, length, get_or, take, Option, Some, None, refl, sym, ap, subst, ◌∙◌, arith, cond}
-use Rattle.std.specs.Prelude.{All, Contains, IsSome, IsSomeAnd, nat_le, unwrap_or, option_map, slice_get, if◌then◌else◌}
+use Rattle.std.specs.Prelude.{All, Contains, IsSome, IsSomeAnd, filter, is_some, nat_le, unwrap_or, option_map, slice_get, if◌then◌else◌}
 use Rattle.std.specs.List.{AllByRecursion}
 use Rattle.std.proofs.lemmas.Bool.{leb-true, le-leb}
 use Rattle.std.proofs.lemmas.List.{length-append, take-append-le}
@@ -22,6 +22,9 @@ use Rattle.nz_log.specs.Sound.{live_at, LogsStay}
 use Rattle.nz_log.specs.TermLits.{yes}
 use Rattle.nz_cform.specs.Covering.{IsRowAt, origin_at}
 use Rattle.nz_cform.specs.Forms.{covered_at}
+use Rattle.nz_cform.specs.Listings as listings
+use Rattle.nz_cform.specs.Listings.{ListingState, listed_at}
+use Rattle.nz_reals.proofs.Elements.{has_cases, has_none}
 use Rattle.nz_cform.specs.Laws.{CoversStay}
 use Rattle.nz_sat.specs.declared.clauses.Held.{Held}
 use Rattle.nz_sat.specs.Sats.{AreHeld, held_of, held_up_to}
@@ -387,3 +390,32 @@ module _ (ns : List Node) (levels roots : List (List ℕ)) (p q : PreparedState)
         within = let count = c.given in omega (arith, count);
         lower = cut_lower;
       }
+
+-- ---- Nothing is taken off
+
+filter_short : (f : ℕ → Bool) (xs : List ℕ) → length (filter f xs) ≤ length xs
+filter_short f [] = omega arith
+filter_short f (x ∷ xs) = by_test (f x)
+  where
+    by_test : (b : Bool) → length (cond b (x ∷ filter f xs) (filter f xs)) ≤ suc (length xs)
+    by_test true = let rest = filter_short f xs in omega (arith, rest)
+    by_test false = let rest = filter_short f xs in omega (arith, rest)
+
+-- where no element is left out, each passes the test
+filter_all : (f : ℕ → Bool) (xs : List ℕ) → length (filter f xs) ≡ length xs → (y : ℕ) → Contains xs y → f y ≡ true
+filter_all f [] e y c = absurd (has_none y c)
+filter_all f (x ∷ xs) e y c = by_test (f x) refl e
+  where
+    by_test : (b : Bool) → f x ≡ b → length (cond b (x ∷ filter f xs) (filter f xs)) ≡ suc (length xs) → f y ≡ true
+    by_test true t k =
+        elim (has_cases x y xs c) [
+          | inl same ↦ ap f (sym same) ∙ t
+          | inr more ↦ filter_all f xs (omega (arith, k)) y more
+        ]
+    by_test false t k = let rest = filter_short f xs in absurd (omega (arith, rest, k))
+
+-- so what is cut to as many has all that there were
+pub all_kept : (old new : ListingState) (level : ℕ) → ((i : ℕ) → IsSome (listed_at old i) → Contains old.ids i) → listings.Cuts old level new → length new.ids ≡ length old.ids → (i : ℕ) → IsSome (listed_at old i)
+    → IsSome (listed_at new i)
+all_kept old new level listed cuts long i some =
+    filter_all (λ k. is_some (listed_at new k)) old.ids (ap length (sym cuts.ids) ∙ long) i (listed i some)
