@@ -43,7 +43,6 @@ use nz_sat::Sat;
 use nz_spec::deciding::taken_terms_are_in_order;
 use nz_spec::derivation::tells_literals;
 use nz_spec::form::forms_are_sums;
-use nz_spec::table::term_of_node;
 use nz_term::{Assign, Head, Sort, TermId, Terms, Value, known_table};
 use std::alloc::Global;
 use std::marker::Model;
@@ -375,9 +374,11 @@ fn is_boolean(terms: &Terms, term: TermId) -> bool
     requires within { term < length terms.now }
     ensures boolean { result ≡ is_boolean_term (term_in terms.now term) }
 {
-    known_table(terms);
-    term_of_node();
-    matches!(terms.head(term).sort(), Sort::Bool)
+    match terms.node(term).head.sort() {
+        Sort::Bool => true,
+        Sort::Int => false,
+        Sort::Real => false,
+    }
 }
 
 /// The note of an atom.
