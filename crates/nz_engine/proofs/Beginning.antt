@@ -1,5 +1,5 @@
 -- A theory that learns of atoms, one after another.
-use Rattle.std.proofs.Common.{◌≡◌, inl, inr, ℕ, suc, ◌<◌, ◌++◌, Bool, true, List, [], ◌∷◌, length, get_or, map, take, Option, Some, None, Result, Ok, Err, IfOk, IfErr, OnOk, refl, sym, ap, subst, ◌∙◌, arith, append-nil, append_assoc}
+use Rattle.std.proofs.Common.{◌≡◌, inl, inr, ℕ, ◌+◌, ◌<◌, ◌++◌, Bool, true, List, [], ◌∷◌, length, get_or, map, take, Option, Some, None, Result, Ok, Err, IfOk, IfErr, OnOk, refl, sym, ap, subst, ◌∙◌, arith, append-nil, append_assoc}
 use Rattle.std.specs.Prelude.{◌⊎◌, All, Contains, slice_get}
 use Rattle.std.specs.List.{AllByRecursion}
 use Rattle.std.proofs.lemmas.List.{map-append, take_more}
@@ -83,7 +83,7 @@ module _ (all : List Atom) (ids : List ℕ) (n : ℕ) (old work : WorkList Note)
   module _ (new : Theory) (after : WorkList Note) (lines : NotesForm n work after) where
     pub learns : HasTold new [] → IsOf new all (take n ids ++ id ∷ []) → ((ns : List Node) → IsLitIn ns all (record { atom = id; sign = true }) → IsOver t ns → IsOver new ns)
         → ((ns : List Node) (q : Task) → IsLitIn ns all (record { atom = id; sign = true }) → IsNumberIn ns all id n work → Stands (IsAt t ns) ns q work → Stands (IsAt new ns) ns q after)
-        → IsBeginning all ids (suc n) old after new
+        → IsBeginning all ids (n + 1) old after new
     learns untold of over stands =
         record {
           untold = untold;

@@ -1,5 +1,5 @@
 -- Lists of numbers in which none stands twice, and the Boolean ones of some terms.
-use Rattle.std.proofs.Common.{◌≡◌, ◌≢◌, ◌⊎◌, inl, inr, ℕ, zero, suc, ◌<◌, Bool, true, false, true≢false, List, [], ◌∷◌, ◌++◌, map, Some, refl, sym, ap, ◌∙◌, arith}
+use Rattle.std.proofs.Common.{◌≡◌, ◌≢◌, ◌⊎◌, inl, inr, ℕ, zero, suc, ◌<◌, Bool, true, false, true≢false, List, [], ◌∷◌, ◌++◌, map, Some, refl, sym, ap, subst, ◌∙◌, arith}
 use Rattle.std.specs.Prelude.{Contains, if◌then◌else◌, slice_get, ⊤}
 use Rattle.nz_spec.specs.Gates.{is_boolean_term}
 use Rattle.nz_spec.specs.Literal.{StandOnce}
@@ -68,7 +68,7 @@ once_map f (x ∷ xs) one h = (
 )
   where
     of_same : (y : ℕ) → y ≡ x → Contains xs y → Contains xs x
-    of_same y e c = (c.0, c.1, c.2 ∙ e)
+    of_same y e c = subst (Contains xs) e c
 
 -- ---- Boolean terms
 

@@ -1,5 +1,4 @@
 -- The theory knows the atoms so far, and stands where the list leads.
-use Rattle.std.proofs.Common.{◌≡◌, ℕ, List, [], take}
 use Rattle.nz_engine.proofs.Beginning.{IsBeginning}
 use Rattle.nz_engine.proofs.prepared.reals_of.Given as goal
 
