@@ -1,28 +1,25 @@
 -- A theory that learns of atoms, one after another.
-use Rattle.std.proofs.Common.{◌≡◌, inl, inr, ℕ, ◌+◌, ◌<◌, ◌++◌, Bool, true, List, [], ◌∷◌, length, get_or, map, take, Option, Some, None, Result, Ok, Err, IfOk, IfErr, OnOk, refl, sym, ap, subst, ◌∙◌, arith, append-nil, append_assoc}
-use Rattle.std.specs.Prelude.{◌⊎◌, All, Contains, slice_get}
-use Rattle.std.specs.List.{AllByRecursion}
+use Rattle.std.proofs.Common.{◌≡◌, inl, inr, ℕ, ◌+◌, ◌<◌, ◌++◌, true, List, [], ◌∷◌, length, get_or, take, Some, refl, sym, ap, subst, ◌∙◌, append-nil, append_assoc}
+use Rattle.std.specs.Prelude.{All, slice_get}
 use Rattle.std.proofs.lemmas.List.{map-append, take_more}
 use Rattle.std.proofs.lemmas.Option.{get_or_from_slice_get, slice_get-get_or}
 use Rattle.std.proofs.lemmas.List.Elements.{All-contains}
 use Rattle.nz_spec.specs.Legal.{Task}
 use Rattle.nz_spec.specs.Table.{Node, IsTable}
 use Rattle.nz_spec.specs.Work.{WorkList, NoteLine, with_line}
-use Rattle.nz_lin.specs.declared.bound.Bound.{Bound}
 use Rattle.nz_log.specs.declared.atoms.Atom.{Atom}
 use Rattle.nz_log.specs.declared.atoms.Atom.TheVariants.{Term, AtMost}
-use Rattle.nz_log.specs.declared.lits.Lit.{Lit}
 use Rattle.nz_log.specs.declared.note.Note.{Note}
 use Rattle.nz_log.specs.declared.note.Note.TheVariants as notes
 use Rattle.nz_log.specs.declared.stop.Stop.{Stop}
 use Rattle.nz_log.specs.Atoms.{IsAtomIn, IsLitIn}
-use Rattle.nz_log.specs.Standing.{Ends, Stands}
+use Rattle.nz_log.specs.Standing.{Stands}
 use Rattle.nz_reals.specs.Joins.{IsAtomFor, IsNumberIn, MayLearn, NotesForm}
 use Rattle.nz_reals.specs.Stands.{HasTold, IsAt, IsOf, IsOver}
 use Rattle.nz_reals.specs.State.{Theory, empty_theory}
 use Rattle.nz_sat.specs.Numbers.{IsAtomAt}
-use Rattle.nz_engine.specs.Checking.{AreLearnable, AreNumbered, EndsWith, IsLearnable, IsNonzero, NotesForms, atom_at, form_lines}
-use Rattle.nz_engine.proofs.Naming.{ends_stopped, numbered_still}
+use Rattle.nz_engine.specs.Checking.{AreLearnable, AreNumbered, EndsWith, IsLearnable, IsNonzero, NotesForms, form_lines}
+use Rattle.nz_engine.proofs.Naming.{numbered_still}
 use Rattle.nz_engine.proofs.Placing.{stands_there}
 
 -- It was told nothing, knows the first so many atoms, and stands where the list leads, to which notes of forms were added.

@@ -1,10 +1,10 @@
 -- What a search found makes true what is asserted and assumed, by the laws of the tables.
-use Rattle.std.proofs.Common.{◌≡◌, inl, inr, ℕ, zero, suc, ◌<◌, ◌≤◌, Bool, true, false, true≢false, List, [], ◌∷◌, ◌++◌, length, map, get_or, Option, Some, None, option_map, refl, sym, ap, subst, ◌∙◌, arith}
-use Rattle.std.specs.Prelude.{All, Contains, IsSome, IsSomeAnd, flat_map, slice_get, unwrap_or, if◌then◌else◌}
+use Rattle.std.proofs.Common.{◌≡◌, ℕ, zero, suc, ◌<◌, Bool, true, false, true≢false, List, [], ◌∷◌, ◌++◌, length, map, get_or, Option, Some, None, option_map, refl, sym, ap, subst, ◌∙◌, arith}
+use Rattle.std.specs.Prelude.{All, Contains, IsSome, flat_map, slice_get, unwrap_or, if◌then◌else◌}
 use Rattle.std.specs.List.{AllByRecursion}
 use Rattle.std.proofs.lemmas.Option.{slice_get-get_or}
 use Rattle.std.proofs.lemmas.List.{get_or-map, length-map}
-use Rattle.std.proofs.lemmas.List.Elements.{All-append, All-contains, All-contains_itself, All-from_recursion, All-weaker, recursion_from_All}
+use Rattle.std.proofs.lemmas.List.Elements.{All-contains, All-contains_itself, All-from_recursion, All-weaker, recursion_from_All}
 use Rattle.nz_lists.proofs.Elements.{AllByRecursion-append}
 use Rattle.nz_fractions.specs.Fraction.{Fraction, ◌=ℚ◌}
 use Rattle.nz_spec.specs.Basis.{Valuation}
@@ -13,7 +13,7 @@ use Rattle.nz_spec.specs.Deciding.{IsMet, MeetsTables, TablesDecide}
 use Rattle.nz_spec.specs.Form.{unit_value}
 use Rattle.nz_spec.specs.FormOf.{number_in, TermHasItsNumber}
 use Rattle.nz_spec.specs.Gates.{is_boolean_term}
-use Rattle.nz_spec.specs.Literal.{Literal, term_literal, are_same_sign, AreTrueLiterals, TellsLiterals}
+use Rattle.nz_spec.specs.Literal.{term_literal, are_same_sign, AreTrueLiterals, TellsLiterals}
 use Rattle.nz_spec.specs.Model.{IsAssignment}
 use Rattle.nz_spec.specs.Order.{post_order, post_orders}
 use Rattle.nz_spec.specs.Table.{Node, IsTable, term_in, terms_at, listed_value, assignment_by, OneNumber, TermOfNode, AssignsByNumber}
@@ -24,10 +24,10 @@ use Rattle.nz_log.specs.declared.atoms.Atom.{Atom}
 use Rattle.nz_log.specs.declared.atoms.Atom.TheVariants as atoms
 use Rattle.nz_log.specs.declared.lits.Lit.{Lit}
 use Rattle.nz_log.specs.declared.term_lits.TermLit.{TermLit}
-use Rattle.nz_log.specs.Atoms.{AtomsOfTerms, HasTerm, atom_in, literal_in, lit_of, lits_of, term_place, with_sign}
+use Rattle.nz_log.specs.Atoms.{AtomsOfTerms, HasTerm, literal_in, lit_of, lits_of, term_place, with_sign}
 use Rattle.nz_log.specs.Logs.{literals_at}
 use Rattle.nz_log.specs.TermLits.{literal_of, yes}
-use Rattle.nz_cform.specs.Covering.{kids_at, IsRowAt}
+use Rattle.nz_cform.specs.Covering.{kids_at}
 use Rattle.nz_cform.specs.Forms.{IsCoveredWithin, covered_at}
 use Rattle.nz_cform.specs.Laws.{MeetsRows, RowsMeetTables}
 use Rattle.nz_reals.specs.Chosen.{AddsValues, IsConstant}
@@ -38,12 +38,12 @@ use Rattle.nz_sat.specs.Sats.{IsTrueClause, IsTrueLit, held_of, truth_of}
 use Rattle.nz_simplex.specs.State.{IsSound, position_over}
 use Rattle.nz_engine.specs.Checking.{HasFound, IsPosed, terms_named, truth_in, value_at}
 use Rattle.nz_engine.specs.Preparing.{PreparedState, HoldsUnit, IsOfForm, IsPrepared, IsSearched, atoms_of, boolean_terms, unit_of}
-use Rattle.nz_engine.proofs.Going.{some_of}
+use Rattle.nz_engine.proofs.Going.{some_of, some_within}
 use Rattle.nz_engine.proofs.Meeting as meeting
 use Rattle.nz_engine.proofs.Modeling.{constant_values, is_assignment, listed_behind, listed_first, listed_truth, no_truth}
 use Rattle.nz_engine.proofs.Onces.{boolean_there}
 use Rattle.nz_engine.proofs.Posing.{all_named}
-use Rattle.nz_engine.proofs.RowFacts.{contains_map}
+use Rattle.nz_engine.proofs.Putting.{literal_at_atom}
 use Rattle.nz_engine.proofs.Solving.{searched_in, truth_there}
 
 -- ---- Parts
@@ -92,10 +92,6 @@ real_of : (s : Sort) → is_bool s ≡ false → is_int_sort s ≡ false → s �
 real_of bool_sort a b = absurd (true≢false a)
 real_of int_sort a b = absurd (true≢false b)
 real_of real_sort a b = refl
-
-some_within : (o : Option ℕ) (n : ℕ) → IsSomeAnd o (λ m. m ≤ n) → IsSome o
-some_within None n h = absurd h
-some_within (Some m) n h = refl
 
 -- ---- What was found
 
@@ -150,9 +146,6 @@ module _ (rows_meet : RowsMeetTables) (decides : TablesDecide) (met : ToldBounds
   true_clause : (h : Held) → Contains p.sat.clauses h → IsTrueClause p.sat (literals_at p.log h.id)
   true_clause h has = All-contains (λ (x : Held). IsTrueClause p.sat (literals_at p.log x.id)) p.sat.clauses h found.truths.clauses has
 
-  literal_at_atom : (l : Lit) (a : Atom) → slice_get p.log.atoms l.atom ≡ Some a → literal_in ns p.log.atoms l ≡ with_sign l.sign (atom_in ns a)
-  literal_at_atom l a at = ap (λ (o : Option Atom). elim o [ None ↦ term_literal (term_in ns 0) l.sign | Some x ↦ with_sign l.sign (atom_in ns x) ]) at
-
   signed_term : (u : Term) (sign : Bool) → truths u ≡ Some sign → IsMet truths worths (with_sign sign (term_literal u true))
   signed_term u true h = h
   signed_term u false h = h
@@ -169,7 +162,7 @@ module _ (rows_meet : RowsMeetTables) (decides : TablesDecide) (met : ToldBounds
           let place : l.atom ≡ term_place p.log.atoms t = own.one p.log.atoms ready.order.atoms l.atom t at in
           let here : HasTerm p.log.atoms t = boolean_here t of.0 of.1 in
           let truth_t : truth_in p t ≡ Some l.sign = truth_there p t here ∙ ap (truth_of p.sat) (sym place) ∙ holds in
-          subst (IsMet truths worths) (sym (literal_at_atom l (atoms.Term t) at))
+          subst (IsMet truths worths) (sym (literal_at_atom ns p.log.atoms l (atoms.Term t) at))
           (signed_term (term_in ns t) l.sign (truth_is t (covered_within t of.0) of.1 ∙ truth_t))
       by_atom (atoms.AtMost b) at x =
           let has = among l.atom x in

@@ -1,18 +1,16 @@
 -- How a check ends: its lines are legal, and where an operation left the numbers a search may stop.
-use Rattle.std.proofs.Common.{◌≡◌, ℕ, ◌+◌, ◌<◌, ◌≤◌, List, [], ◌∷◌, ◌++◌, length, map, Result, Ok, Err, refl, sym, ap, subst, ◌∙◌, arith}
+use Rattle.std.proofs.Common.{◌≡◌, ℕ, ◌+◌, ◌≤◌, List, [], ◌∷◌, ◌++◌, map, Err, refl, sym, ap, subst, ◌∙◌, arith}
 use Rattle.std.specs.Prelude.{All, Contains}
 use Rattle.std.specs.List.{AllByRecursion}
 use Rattle.nz_fractions.specs.Fraction.{Operation}
 use Rattle.nz_spec.specs.Bland.{Point}
 use Rattle.nz_spec.specs.Decide.{asserted_numbers}
-use Rattle.nz_spec.specs.Form.{Part}
 use Rattle.nz_spec.specs.FormOf.{number_in}
 use Rattle.nz_spec.specs.Legal.{Task, Search, Lead, AreLegal, at_first, no_point, told_literals}
-use Rattle.nz_spec.specs.Literal.{Literal}
 use Rattle.nz_spec.specs.LiteralBounds.{position_under}
 use Rattle.nz_spec.specs.Places.{IsOperationAt, IsOperationIn, IsStoppedLegally}
 use Rattle.nz_spec.specs.Table.{Node, term_in}
-use Rattle.nz_spec.specs.Work.{IsSpent, WorkLine, UnitLine, NoteLine, WorkList, unit_count}
+use Rattle.nz_spec.specs.Work.{WorkLine, UnitLine, NoteLine, WorkList, unit_count}
 use Rattle.nz_frac.specs.Operations.{operation_of}
 use Rattle.nz_log.specs.declared.atoms.Atom.{Atom}
 use Rattle.nz_log.specs.declared.note.Note.{Note}

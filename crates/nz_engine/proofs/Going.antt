@@ -56,6 +56,11 @@ pub some_of : {X : Type 0} (o : Option X) → IsSome o → (x : X) × (o ≡ Som
 some_of None h = absurd (true≢false (sym h))
 some_of (Some x) h = (x, refl)
 
+-- a level within another one is one
+pub some_within : (o : Option ℕ) (n : ℕ) → IsSomeAnd o (λ m. m ≤ n) → IsSome o
+some_within None n h = absurd h
+some_within (Some m) n h = refl
+
 -- a literal that was searched for is so still, where its atom is of the form still
 pub still_searched : (ns more : List Node) (p q : PreparedState) (i : ℕ) → ((a : Atom) → slice_get p.log.atoms i ≡ Some a → slice_get q.log.atoms i ≡ Some a)
     → ((a : Atom) → slice_get p.log.atoms i ≡ Some a → IsOfForm ns p.form i a → IsOfForm more q.form i a) → IsSearched ns p.log p.form i → IsSearched more q.log q.form i

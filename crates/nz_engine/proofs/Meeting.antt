@@ -1,5 +1,5 @@
 -- What units are worth where a theory is feasible: it meets the bounds that were told, and gives constants their numbers.
-use Rattle.std.proofs.Common.{◌≡◌, inl, inr, ℕ, ◌<◌, Bool, true, false, true≢false, List, [], ◌∷◌, length, map, get_or, Option, Some, None, pos, refl, sym, ap, subst, ◌∙◌, arith}
+use Rattle.std.proofs.Common.{◌≡◌, inl, inr, ℕ, ◌<◌, Bool, true, false, true≢false, List, [], ◌∷◌, length, map, Option, Some, None, pos, refl, sym, ap, subst, ◌∙◌, arith}
 use Rattle.std.specs.Prelude.{◌==◌, Contains, IsSome, slice_get, unwrap_or, if◌then◌else◌}
 use Rattle.std.specs.List.{AllByRecursion}
 use Rattle.std.proofs.lemmas.Bool.{and_parts}
@@ -18,7 +18,7 @@ use Rattle.nz_spec.specs.Farkas.{bound_of}
 use Rattle.nz_spec.specs.Form as spec
 use Rattle.nz_spec.specs.Form.{unit_form, negated_part}
 use Rattle.nz_spec.specs.FormOf.{number_in, TermHasItsNumber}
-use Rattle.nz_spec.specs.Literal.{Literal, is_at_most, StandOnce, TellsLiterals}
+use Rattle.nz_spec.specs.Literal.{Literal, is_at_most, TellsLiterals}
 use Rattle.nz_spec.specs.LiteralBounds.{FormBound, bound_said, position_under}
 use Rattle.nz_spec.specs.Places.{IsChosen}
 use Rattle.nz_spec.specs.PositionMoves.{IsReadyToCheck}
@@ -41,7 +41,6 @@ use Rattle.nz_log.specs.Atoms.{literal_in, with_sign}
 use Rattle.nz_simplex.specs.Checks as checks
 use Rattle.nz_simplex.specs.State.{IsSound, position_over}
 use Rattle.nz_reals.specs.Chosen.{AreValues, IsConstant}
-use Rattle.nz_reals.specs.Known.{Known}
 use Rattle.nz_reals.specs.Stands.{IsAt, IsFeasible, IsKnown, IsOf, IsOver}
 use Rattle.nz_reals.specs.State.{Theory, known_at, literal_over, sum_at, told_lits}
 use Rattle.nz_reals.specs.Stored.{AreForms}

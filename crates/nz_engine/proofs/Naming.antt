@@ -1,8 +1,8 @@
 -- Notes of atoms are legal: each is of what is asked, and none is named twice. Where a list of them leads, the theory of no sum stands.
-use Rattle.std.proofs.Common.{◌≡◌, ◌≢◌, inl, inr, ℕ, zero, suc, ◌<◌, Bool, true, false, List, [], ◌∷◌, ◌++◌, append-nil, ◌≤◌, length, get_or, take, map, Option, Some, None, option_map, Result, Ok, Err, refl, sym, ap, ◌∙◌, subst, arith, append_assoc}
-use Rattle.std.specs.Prelude.{All, Contains, IfErr, flat_map, slice_get, slice_index_or, ⊤}
+use Rattle.std.proofs.Common.{◌≡◌, ◌≢◌, inl, inr, ℕ, zero, suc, ◌<◌, Bool, true, false, List, [], ◌∷◌, ◌++◌, append-nil, length, get_or, take, map, Option, Some, None, option_map, Result, Ok, Err, refl, sym, ap, ◌∙◌, subst, arith, append_assoc}
+use Rattle.std.specs.Prelude.{All, Contains, flat_map, slice_get, slice_index_or, ⊤}
 use Rattle.std.specs.List.{AllByRecursion, AllPairs}
-use Rattle.std.proofs.lemmas.List.{get_or-map, length-map, map-append, take_all}
+use Rattle.std.proofs.lemmas.List.{length-map, map-append, take_all}
 use Rattle.std.proofs.lemmas.Option.{get_or_from_slice_get, slice_get-get_or, slice_get_within}
 use Rattle.std.proofs.lemmas.List.Elements.{All-contains, All-contains_itself, All-from_recursion, All-map, All-take, All-weaker, Contains-append_cases, Contains-append_left, Contains-append_right, recursion_from_All}
 use Rattle.nz_lists.proofs.Elements.{AllByRecursion-append, AllByRecursion-weaker}
@@ -28,7 +28,7 @@ use Rattle.nz_log.specs.declared.note.Note.{Note}
 use Rattle.nz_log.specs.declared.note.Note.TheVariants.{Atom, Bound, Form, Told}
 use Rattle.nz_log.specs.declared.stop.Stop.{Stop}
 use Rattle.nz_log.specs.declared.stop.Stop.TheVariants.{Wide, Spent, Memory}
-use Rattle.nz_log.specs.Atoms.{AreAtoms, IsAtomIn, IsNormal, TellsLits, atom_in, literal_in, with_sign}
+use Rattle.nz_log.specs.Atoms.{AreAtoms, IsAtomIn, IsNormal, TellsLits, atom_in, with_sign}
 use Rattle.nz_log.specs.Lits.{are_same_lit}
 use Rattle.nz_log.specs.Notes.{noted_line, noted_list, AreNotedWithin}
 use Rattle.nz_log.specs.Standing.{Standing, Ends, Stands, search_after}
@@ -36,7 +36,7 @@ use Rattle.nz_log.specs.Verdicts.{task_in}
 use Rattle.nz_reals.specs.Joins.{IsNumberIn}
 use Rattle.nz_reals.specs.Stands.{IsAt}
 use Rattle.nz_reals.specs.State.{empty_theory}
-use Rattle.nz_sat.specs.Numbers.{AreBeginnings, AreNotedIn, IsAtomAt, IsBeginning, atom_literal, noted_atoms}
+use Rattle.nz_sat.specs.Numbers.{AreBeginnings, IsAtomAt, IsBeginning, atom_literal, noted_atoms}
 use Rattle.nz_engine.specs.Checking.{AreNumbered, EndsWith, HasBegun, MayBegin, NotesAll, NotesFirst, NotesForms, atom_at, atom_lines, form_lines, note_of, terms_named}
 use Rattle.nz_engine.proofs.Placing.{in_second, lower_or_not, place_of}
 

@@ -1,11 +1,11 @@
 -- Lists of numbers in which none stands twice, and the Boolean ones of some terms.
-use Rattle.std.proofs.Common.{◌≡◌, ◌≢◌, ◌⊎◌, inl, inr, ℕ, zero, suc, ◌<◌, Bool, true, false, true≢false, List, [], ◌∷◌, ◌++◌, map, Some, refl, sym, ap, subst, ◌∙◌, arith}
-use Rattle.std.specs.Prelude.{Contains, if◌then◌else◌, slice_get, ⊤}
+use Rattle.std.proofs.Common.{◌≡◌, ◌≢◌, ◌⊎◌, inl, inr, ℕ, zero, suc, Bool, true, false, true≢false, List, [], ◌∷◌, ◌++◌, map, Some, refl, sym, ap, subst, ◌∙◌, arith}
+use Rattle.std.specs.Prelude.{Contains, if◌then◌else◌, ⊤}
 use Rattle.nz_spec.specs.Gates.{is_boolean_term}
 use Rattle.nz_spec.specs.Literal.{StandOnce}
 use Rattle.nz_spec.specs.Table.{Node, term_in}
 use Rattle.nz_reals.proofs.Elements.{has_cases, has_first, has_more, has_none}
-use Rattle.nz_engine.specs.Preparing.{boolean_term, boolean_terms}
+use Rattle.nz_engine.specs.Preparing.{boolean_terms}
 use Rattle.nz_engine.proofs.Placing.{place_of, stands_there}
 
 -- no number is among those behind it

@@ -3,16 +3,15 @@ use Rattle.std.proofs.Common.{◌≡◌, ℕ, suc, ◌<◌, ◌≤◌, inl, inr,
 use Rattle.std.specs.Prelude.{All, Contains, IsSome, IsSomeAnd, slice_get, slice_index_or, unwrap_or, option_map}
 use Rattle.std.specs.List.{AllByRecursion}
 use Rattle.std.proofs.lemmas.Bool.Decides.{eqb_tells}
-use Rattle.std.proofs.lemmas.List.{append-nil, length-map}
-use Rattle.std.proofs.lemmas.List.Elements.{All-append, All-contains, All-contains_itself, All-from_recursion, All-map, All-nil, All-weaker, Contains-append_left, Contains-append_right, Contains-push, recursion_from_All}
+use Rattle.std.proofs.lemmas.List.{append-nil}
+use Rattle.std.proofs.lemmas.List.Elements.{All-append, All-contains, All-contains_itself, All-from_recursion, All-map, All-weaker, Contains-append_left, Contains-append_right, Contains-push}
 use Rattle.std.proofs.lemmas.Option.{slice_get_within}
-use Rattle.nz_lists.proofs.Elements.{AllByRecursion-map, AllByRecursion-weaker}
+use Rattle.nz_lists.proofs.Elements.{AllByRecursion-weaker}
 use Rattle.nz_spec.specs.Table.{Node, IsTable, term_in}
 use Rattle.nz_spec.specs.Decide.{asserted_numbers}
-use Rattle.nz_spec.specs.FormOf.{FormsAreSums, number_in}
+use Rattle.nz_spec.specs.FormOf.{FormsAreSums}
 use Rattle.nz_spec.specs.Gates.{is_boolean_term}
-use Rattle.nz_spec.specs.Literal.{Literal, term_literal, negation_of}
-use Rattle.nz_spec.specs.Order.{post_order}
+use Rattle.nz_spec.specs.Literal.{term_literal}
 use Rattle.nz_spec.specs.Taken.{IsTaken, TakenTermsAreInOrder}
 use Rattle.nz_log.specs.declared.atoms.Atom.{Atom}
 use Rattle.nz_log.specs.declared.atoms.Atom.TheVariants.{Term, AtMost}
@@ -20,19 +19,19 @@ use Rattle.nz_log.specs.declared.lits.Lit.{Lit}
 use Rattle.nz_log.specs.declared.term_lits.TermLit.{TermLit}
 use Rattle.nz_log.specs.Atoms.{AreAtoms, AtomsOfTerms, HasTerm, atom_in, literal_in, lit_of, lits_of, term_place, terms_at, terms_of, with_sign}
 use Rattle.nz_log.specs.Leveled.{IsToldWithin, IsLeveled, LogsStayLeveled, Names}
-use Rattle.nz_log.specs.Logs.{Origin, assertion_of, row_term, Entry, JoinsAtoms, LogState, entry_at, IsLive, literals_at, level_at, level_of_terms, told_of, told_level, Puts, given_entry}
+use Rattle.nz_log.specs.Logs.{Origin, assertion_of, row_term, Entry, JoinsAtoms, LogState, entry_at, IsLive, literals_at, level_at, level_of_terms, told_level, Puts, given_entry}
 use Rattle.nz_log.specs.Sound.{IsLog, live_at, LogsStay}
 use Rattle.nz_log.specs.TermLits.{yes}
 use Rattle.nz_log.specs.Theories as theories
-use Rattle.nz_cform.specs.Covering.{Covers, HasBound, IsRowAt, Keeps, origin_at}
+use Rattle.nz_cform.specs.Covering.{Covers, IsRowAt, Keeps, origin_at}
 use Rattle.nz_cform.specs.Forms.{FormState, IsCoveredWithin, covered_at}
-use Rattle.nz_cform.specs.Listings.{IsListedWithin, listed_at}
+use Rattle.nz_cform.specs.Listings.{listed_at}
 use Rattle.nz_cform.specs.Laws.{CoversStay, RowsNameCovered}
 use Rattle.nz_sat.specs.declared.clauses.Held.{Held}
 use Rattle.nz_sat.specs.Sats.{AreHeld, HoldsMore, held_of}
 use Rattle.nz_engine.specs.Levels.{IsPlaced, count_in}
 use Rattle.nz_engine.specs.Preparing.{PreparedState, AreSearched, CoversAlso, HoldsUnit, IsMadeOf, IsOfForm, IsPrepared, IsSearched, unit_of}
-use Rattle.nz_engine.proofs.Going.{none_or_some, some_of, still_searched}
+use Rattle.nz_engine.proofs.Going.{none_or_some, some_of, some_within, still_searched}
 use Rattle.nz_engine.proofs.Placing.{count_more, placed_in_all}
 use Rattle.nz_engine.proofs.RowFacts.{IsRowLiteral, contains_map, of_row}
 
@@ -119,13 +118,9 @@ sign_boolean ns u true h = h
 sign_boolean ns u false h = h
 
 -- what a literal on an atom says
-literal_at_atom : (ns : List Node) (atoms : List Atom) (l : Lit) (a : Atom) → slice_get atoms l.atom ≡ Some a → literal_in ns atoms l ≡ with_sign l.sign (atom_in ns a)
+pub literal_at_atom : (ns : List Node) (atoms : List Atom) (l : Lit) (a : Atom) → slice_get atoms l.atom ≡ Some a → literal_in ns atoms l ≡ with_sign l.sign (atom_in ns a)
 literal_at_atom ns atoms l a at =
     ap (λ (o : Option Atom). elim o [ None ↦ term_literal (term_in ns 0) l.sign | Some x ↦ with_sign l.sign (atom_in ns x) ]) at
-
-some_within : (o : Option ℕ) (n : ℕ) → IsSomeAnd o (λ m. m ≤ n) → IsSome o
-some_within None n h = absurd h
-some_within (Some m) n h = refl
 
 -- each literal of a row is on the atom of a covered Boolean term or on a bound that is listed
 row_searched : RowsNameCovered → FormsAreSums → (ns : List Node) → IsTable ns → (levels : List (List ℕ)) (s : LogState) (f : FormState) → IsLog ns levels s → Covers ns s f

@@ -1,5 +1,5 @@
 -- What the literals of rows of taken terms are: on Boolean terms, or bounds on sums without a coefficient 0.
-use Rattle.std.proofs.Common.{◌≡◌, ℕ, ◌<◌, Bool, true, false, true≢false, List, [], ◌∷◌, ◌++◌, append-nil, map, Option, Some, None, option_map, refl, sym, ap, subst, ◌∙◌, arith}
+use Rattle.std.proofs.Common.{◌≡◌, ℕ, Bool, true, false, true≢false, List, [], ◌∷◌, ◌++◌, append-nil, map, Option, Some, None, option_map, refl, sym, ap, subst, ◌∙◌}
 use Rattle.std.specs.Prelude.{Contains, fold, if◌then◌else◌, nat_lt, slice_get}
 use Rattle.std.specs.List.{AllByRecursion, list_any}
 use Rattle.std.proofs.lemmas.List.Elements.{All-contains, All-contains_itself, All-from_recursion, Contains-append_left, Contains-append_right, recursion_from_All}
@@ -7,7 +7,7 @@ use Rattle.std.proofs.lemmas.Option.{same_Some}
 use Rattle.nz_lists.proofs.Elements.{AllByRecursion-append, AllByRecursion-map}
 use Rattle.nz_fractions.specs.Fraction.{Fraction, outcome, Arithmetic, Sum, Difference, Product, Quotient}
 use Rattle.nz_spec.specs.Computation.{Computation, operated, at_once, turned_into, in_turn}
-use Rattle.nz_spec.specs.Term.{Head, verum, falsum, negation, conjunction, disjunction, exclusion, equality, choice, bool_sort, int_sort, real_sort, less, at_most, integer_quotient, modulus, magnitude, to_int, is_int, is_bool, Term, apply, Terms, no_terms, terms, is_zero}
+use Rattle.nz_spec.specs.Term.{Head, verum, falsum, negation, conjunction, disjunction, exclusion, equality, choice, bool_sort, int_sort, real_sort, less, at_most, integer_quotient, modulus, magnitude, to_int, is_int, Term, apply, Terms, no_terms, terms, is_zero}
 use Rattle.nz_spec.specs.Same.{are_same_term}
 use Rattle.nz_spec.specs.Form.{Numbering, Part, with_part, part_alone, part_joined, parts_joined}
 use Rattle.nz_spec.specs.FormOf.{form_of, number_in, FormsAreSums}

@@ -1,9 +1,9 @@
 -- A search over what is prepared: its atoms, what they say, and what stays when it has learned.
-use Rattle.std.proofs.Common.{◌≡◌, ◌≢◌, inl, inr, ℕ, suc, ◌<◌, ◌≤◌, Bool, true, false, not, true≢false, List, [], ◌∷◌, ◌++◌, length, get_or, map, Option, Some, None, option_map, Result, Ok, Err, IfOk, refl, sym, ap, subst, ◌∙◌, arith}
-use Rattle.std.specs.Prelude.{All, Contains, IsSome, IsSomeAnd, slice_get, slice_index_or}
-use Rattle.std.specs.List.{AllByRecursion, AllPairs}
-use Rattle.std.proofs.lemmas.Option.{get_or_from_slice_get, same_Some, slice_get_within}
-use Rattle.std.proofs.lemmas.List.Elements.{All-append, All-contains, All-contains_itself, All-from_recursion, All-head, All-map, All-tail, All-weaker, Contains-append_cases, Contains-append_left, Contains-append_right, Contains-get_or, recursion_from_All}
+use Rattle.std.proofs.Common.{◌≡◌, inl, inr, ℕ, suc, ◌<◌, Bool, true, false, not, List, [], ◌∷◌, ◌++◌, length, get_or, map, Option, Some, None, option_map, Result, Ok, Err, IfOk, refl, sym, ap, subst, ◌∙◌}
+use Rattle.std.specs.Prelude.{All, Contains, IsSome, slice_get}
+use Rattle.std.specs.List.{AllByRecursion}
+use Rattle.std.proofs.lemmas.Option.{get_or_from_slice_get, slice_get_within}
+use Rattle.std.proofs.lemmas.List.Elements.{All-append, All-contains, All-contains_itself, All-from_recursion, All-head, All-map, All-tail, All-weaker, Contains-append_left, Contains-append_right, Contains-get_or}
 use Rattle.nz_lists.proofs.Elements.{AllByRecursion-weaker}
 use Rattle.nz_fractions.specs.Fraction.{Fraction, neg_ℚ}
 use Rattle.nz_spec.specs.Decide.{asserted_numbers}
@@ -12,8 +12,7 @@ use Rattle.nz_spec.specs.Form.{negated_part}
 use Rattle.nz_spec.specs.FormOf.{number_in, FormsAreSums}
 use Rattle.nz_spec.specs.Gates.{is_boolean_term}
 use Rattle.nz_spec.specs.Legal.{Task, IsAtom, IsTabled, told_literals}
-use Rattle.nz_spec.specs.Literal.{Literal, term_literal, is_at_most, is_below, negation_of, StandOnce}
-use Rattle.nz_spec.specs.Order.{post_order}
+use Rattle.nz_spec.specs.Literal.{term_literal, is_at_most, StandOnce}
 use Rattle.nz_spec.specs.Table.{Node, IsTable, term_in}
 use Rattle.nz_spec.specs.Taken.{IsTakenBoolean}
 use Rattle.nz_spec.specs.Term as Term
@@ -29,7 +28,7 @@ use Rattle.nz_log.specs.declared.term_lits.TermLit.{TermLit}
 use Rattle.nz_log.specs.Atoms.{AreAtoms, AtomsOfTerms, HasTerm, IsAtomIn, IsLitIn, IsNormal, Stay, atom_in, lit_of, literal_in, lits_of, term_place, terms_of, with_sign}
 use Rattle.nz_log.specs.Leveled.{AreToldAtoms, IsToldWithin, LogsStayLeveled, Names}
 use Rattle.nz_log.specs.Lits.{negated_lit}
-use Rattle.nz_log.specs.Logs.{Entry, JoinsAtoms, LogState, entry_at, literals_at, told_of}
+use Rattle.nz_log.specs.Logs.{Entry, JoinsAtoms, entry_at, literals_at, told_of}
 use Rattle.nz_log.specs.Sound.{IsLog, LogsStay, live_at}
 use Rattle.nz_log.specs.Standing.{Ends, Stands, search_after}
 use Rattle.nz_log.specs.declared.note.Note.{Note}
@@ -37,7 +36,7 @@ use Rattle.nz_log.specs.declared.stop.Stop.{Stop}
 use Rattle.nz_log.specs.TermLits.{AreConsistent, literal_of}
 use Rattle.nz_log.specs.Theories as theories
 use Rattle.nz_log.specs.Verdicts.{task_in}
-use Rattle.nz_cform.specs.Covering.{HasBound, IsRowAt}
+use Rattle.nz_cform.specs.Covering.{HasBound}
 use Rattle.nz_cform.specs.Forms.{FormState, covered_at}
 use Rattle.nz_cform.specs.Laws.{CoversStay}
 use Rattle.nz_cform.specs.Listings.{IsListing, listed_at}
@@ -46,17 +45,16 @@ use Rattle.nz_reals.specs.Stands.{HasTold, IsAt, IsFeasible, IsOf}
 use Rattle.nz_reals.specs.Sums.{AreNonzero}
 use Rattle.nz_reals.proofs.Saying.{bound_in_log}
 use Rattle.nz_reals.proofs.Sums.{neg_nonzero, number_back}
-use Rattle.nz_sat.specs.declared.clauses.Held.{Held}
 use Rattle.nz_sat.specs.Numbers.{IsAtomAt, atom_literal}
 use Rattle.nz_sat.specs.Sats as sat
 use Rattle.nz_sat.specs.Sats.{AreNamed, AreOn, HoldsMore, IsAsked, IsSatisfied, IsTheoryMet, truth_of}
-use Rattle.nz_engine.specs.Checking.{AreHanded, AreLearnable, HasFound, HaveAtoms, IsLearnable, IsNonzero, IsPosed, MayBegin, atom_at, terms_named, truth_in}
+use Rattle.nz_engine.specs.Checking.{AreHanded, AreLearnable, HasFound, HaveAtoms, IsLearnable, IsNonzero, IsPosed, MayBegin, terms_named, truth_in}
 use Rattle.nz_engine.specs.Preparing.{PreparedState, AreSearched, IsOfForm, IsPrepared, IsSearched, atoms_of, boolean_terms}
-use Rattle.nz_engine.proofs.Going.{made_of_more, some_of, still_searched}
+use Rattle.nz_engine.proofs.Going.{made_of_more, some_of, some_within, still_searched}
 use Rattle.nz_engine.proofs.Naming.{listed_part, once_from_pairs}
 use Rattle.nz_engine.proofs.Onces.{boolean_there, boolean_was, once_append, once_booleans, once_from_stand, once_map, stand_from_once}
 use Rattle.nz_engine.proofs.Placing.{all_roots, in_all, place_of, stands_there}
-use Rattle.nz_engine.proofs.Putting.{from_lits, joined_prepared, learned}
+use Rattle.nz_engine.proofs.Putting.{from_lits, joined_prepared, learned, literal_at_atom}
 use Rattle.nz_engine.proofs.RowFacts.{AreNonzeroParts, IsOfRow, IsRowLiteral, contains_map, of_row}
 
 -- ---- Atoms of terms
@@ -214,10 +212,6 @@ module _ (sums : FormsAreSums) (ns : List Node) (table : IsTable ns) (levels roo
   pub searched_told : (i : ℕ) → IsSearched ns p.log p.form i → Names (λ t. IsSome (told_of p.log t)) p.log.atoms (record { atom = i; sign = true })
   searched_told i s = record { atom = s.atom; at = s.at; terms = by_atom s.atom s.at s.of }
     where
-      told_some : (o : Option ℕ) (n : ℕ) → IsSomeAnd o (λ m. m ≤ n) → IsSome o
-      told_some None n h = absurd h
-      told_some (Some m) n h = refl
-
       by_atom : (a : Atom) → slice_get p.log.atoms i ≡ Some a → IsOfForm ns p.form i a → AllByRecursion (λ t. IsSome (told_of p.log t)) (terms_of a)
       by_atom (Term t) at of = (subst (λ (o : Option ℕ). IsSome o) (sym (ready.covers.rows.told t)) of.0, tt)
       by_atom (AtMost b) at of =
@@ -226,7 +220,7 @@ module _ (sums : FormsAreSums) (ns : List Node) (table : IsTable ns) (levels roo
           let both : Some names.atom ≡ Some (AtMost b) = sym names.at ∙ x.at in
           let one : names.atom ≡ AtMost b = cc in
           subst (λ (a : Atom). AllByRecursion (λ t. IsSome (told_of p.log t)) (terms_of a)) one
-          (AllByRecursion-weaker (IsToldWithin p.log x.entry.level) (λ t. IsSome (told_of p.log t)) (λ t told. told_some (told_of p.log t) x.entry.level told) (terms_of names.atom) names.terms)
+          (AllByRecursion-weaker (IsToldWithin p.log x.entry.level) (λ t. IsSome (told_of p.log t)) (λ t told. some_within (told_of p.log t) x.entry.level told) (terms_of names.atom) names.terms)
 
   -- the theory may learn of it
   pub searched_learnable : (i : ℕ) → IsSearched ns p.log p.form i → IsLearnable ns p.log.atoms i
@@ -249,7 +243,7 @@ module _ (sums : FormsAreSums) (ns : List Node) (table : IsTable ns) (levels roo
       where
         by_atom : (a : Atom) → slice_get p.log.atoms i ≡ Some a → IsOfForm ns p.form i a → IsAtom q (atom_literal ns p.log.atoms i)
         by_atom (Term t) at of =
-            let is : atom_literal ns p.log.atoms i ≡ term_literal (term_in ns t) true = ap (λ (o : Option Atom). elim o [ None ↦ term_literal (term_in ns 0) true | Some x ↦ with_sign true (atom_in ns x) ]) at in
+            let is : atom_literal ns p.log.atoms i ≡ term_literal (term_in ns t) true = literal_at_atom ns p.log.atoms (record { atom = i; sign = true }) (Term t) at in
             subst (IsAtom q) (sym is) (refl, (of.1, listed t of.0))
         by_atom (AtMost b) at of =
             let x = bound_of_row i b at of in

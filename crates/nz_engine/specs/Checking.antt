@@ -35,7 +35,7 @@ use Rattle.nz_cform.specs.Forms.{covered_at}
 use Rattle.nz_cform.specs.Listings.{IsListing}
 use Rattle.nz_cform.specs.Stops.{IsStopIn}
 use Rattle.nz_reals.specs.Joins.{IsNumberIn}
-use Rattle.nz_reals.specs.Stands.{HasTold, IsAt, IsFeasible, IsOf, IsOver}
+use Rattle.nz_reals.specs.Stands.{HasTold, IsAt, IsFeasible, IsOf}
 use Rattle.nz_reals.specs.State.{Theory}
 use Rattle.nz_reals.specs.Sums.{AreNonzero}
 use Rattle.nz_sat.specs.Numbers.{AreBeginnings, AreNotedIn, IsAtomAt, atom_literal}

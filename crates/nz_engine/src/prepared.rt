@@ -1,5 +1,5 @@
 //! What an engine keeps from check to check.
-ghost use Rattle.std.specs.Prelude.{◌≡◌, ◌<◌, ℕ, ◌≤◌, suc, ◌∷◌, ◌++◌, [], All, List, false, flat_map, length, map, None, IfErr, IfOk, IfSome, IsSome, OnOk, true};
+ghost use Rattle.std.specs.Prelude.{◌≡◌, ◌<◌, ℕ, ◌≤◌, suc, ◌++◌, [], All, List, false, flat_map, length, map, None, IfErr, IfOk, IfSome, IsSome, OnOk, true};
 ghost use Rattle.nz_spec.specs.Decide.{asserted_numbers};
 ghost use Rattle.nz_spec.specs.Gates.{is_boolean_term};
 ghost use Rattle.nz_spec.specs.Legal.{Task};

@@ -1,16 +1,15 @@
 -- What each way out of a check says.
-use Rattle.std.proofs.Common.{rules, ◌≡◌, ◌++◌, ℕ, List, None, Err, IfErr, sym, subst}
+use Rattle.std.proofs.Common.{rules, ◌≡◌, ◌++◌, Err, IfErr, subst}
 use Rattle.nz_spec.specs.Decide.{asserted_numbers}
-use Rattle.nz_spec.specs.Legal.{Task}
 use Rattle.nz_spec.specs.Work.{IsSpent}
 use Rattle.nz_log.specs.declared.stop.Stop.{Stop}
 use Rattle.nz_log.specs.Places.{OnWide}
 use Rattle.nz_log.specs.TermLits.{AreNegations}
 use Rattle.nz_log.specs.Verdicts.{OnSpent, task_in}
 use Rattle.nz_reals.specs.Stands.{IsAt}
-use Rattle.nz_engine.specs.Checking.{HasFound, IsPosed, IsStop, terms_named}
+use Rattle.nz_engine.specs.Checking.{IsPosed, IsStop, terms_named}
 use Rattle.nz_engine.specs.Engines.{literals_in}
-use Rattle.nz_engine.proofs.Ending.{legal_none, model_stop, root_stop, root_unspent, solve_stop, unspent, works_none}
+use Rattle.nz_engine.proofs.Ending.{legal_none, root_stop, root_unspent, solve_stop, works_none}
 use Rattle.nz_engine.proofs.Naming.{ends_legal}
 use Rattle.nz_engine.proofs.Refuting.{dead_end}
 use Rattle.nz_engine.proofs.check.decide.Goals as goal

@@ -1,4 +1,4 @@
-use Rattle.std.proofs.Common.{rules, ◌≡◌, ◌<◌, ◌++◌, ℕ, List, Err, IfErr, length, sym, subst, ◌∙◌}
+use Rattle.std.proofs.Common.{rules, ◌≡◌, ◌<◌, ◌++◌, Err, IfErr, length, sym, subst, ◌∙◌}
 use Rattle.std.proofs.lemmas.List.Elements.{All-from_recursion, All-map, Contains-append_left, Contains-append_right}
 use Rattle.nz_spec.specs.Decide.{asserted_numbers}
 use Rattle.nz_spec.specs.Taken.{IsTakenBoolean}

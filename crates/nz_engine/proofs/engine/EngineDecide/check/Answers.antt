@@ -1,4 +1,4 @@
-use Rattle.std.proofs.Common.{rules, ◌≡◌, ℕ, List, Err, IfErr, subst}
+use Rattle.std.proofs.Common.{rules, ◌≡◌, Err, IfErr, subst}
 use Rattle.nz_spec.specs.Legal.{IsDeadEnd, at_first}
 use Rattle.nz_spec.specs.Places.{IsStoppedLegally}
 use Rattle.nz_log.specs.declared.stop.Stop.{Stop}

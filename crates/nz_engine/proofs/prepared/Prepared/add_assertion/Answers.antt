@@ -1,6 +1,5 @@
 -- The term is covered, and then its clause is put and held.
 use Rattle.std.proofs.Common.{◌≡◌, ◌+◌, refl, sym, ap, ◌∙◌, subst, arith}
-use Rattle.std.specs.Prelude.{IsSome}
 use Rattle.nz_log.specs.Sound.{live_at}
 use Rattle.nz_engine.specs.Levels.{IsPlaced}
 use Rattle.nz_engine.specs.Preparing.{PreparedState, CoversAlso, IsPrepared}

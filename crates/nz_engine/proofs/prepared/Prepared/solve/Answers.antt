@@ -1,19 +1,19 @@
 -- The atoms are named and noted, the theory learns of them, and the search runs over them.
-use Rattle.std.proofs.Common.{rules, ◌≡◌, ℕ, ◌<◌, List, [], length, map, None, Err, IfOk, OnOk, refl, sym, ap, ◌∙◌, subst}
-use Rattle.std.specs.Prelude.{All, Contains, IsSome, IfSome}
+use Rattle.std.proofs.Common.{rules, ◌≡◌, ℕ, List, None, Err, IfOk, refl, sym, ◌∙◌, subst}
+use Rattle.std.specs.Prelude.{All, IfSome}
 use Rattle.nz_lists.proofs.Results.{on_ok}
 use Rattle.nz_log.specs.declared.lits.Lit.{Lit}
 use Rattle.nz_log.specs.declared.stop.Stop.TheVariants as stop
 use Rattle.nz_log.specs.Leveled.{AreToldAtoms}
-use Rattle.nz_log.specs.Logs.{IsLive, LogState, literals_at}
-use Rattle.nz_log.specs.Standing.{Ends, Stands}
+use Rattle.nz_log.specs.Logs.{IsLive, literals_at}
+use Rattle.nz_log.specs.Standing.{Ends}
 use Rattle.nz_log.specs.Verdicts.{task_in}
 use Rattle.nz_reals.specs.Stands.{IsAt, IsOf, HasTold, IsFeasible}
 use Rattle.nz_sat.specs.Conflicts.{Refutes}
 use Rattle.nz_sat.specs.Numbers.{AreNotedIn, IsAtomAt}
 use Rattle.nz_sat.specs.Sats as sat
 use Rattle.nz_sat.specs.Sats.{AreNamed, AreOn, IsAsked, IsSatisfied, IsTheoryMet}
-use Rattle.nz_engine.specs.Checking.{AreHanded, AreLearnable, HasBegun, IsPosed, MayBegin, Works}
+use Rattle.nz_engine.specs.Checking.{AreHanded, AreLearnable, IsPosed, MayBegin}
 use Rattle.nz_engine.specs.Preparing.{PreparedState}
 use Rattle.nz_engine.proofs.Ending.{legal_none, works_begun, works_none, works_solved}
 use Rattle.nz_engine.proofs.Naming.{stopped_ends}
