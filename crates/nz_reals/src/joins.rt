@@ -3,6 +3,7 @@ ghost use Rattle.std.specs.Prelude.{◌≡◌, ◌==◌, ◌<◌, ◌++◌, ℕ,
 ghost use Rattle.nz_spec.specs.Legal.{Task};
 ghost use Rattle.nz_spec.specs.Table.{Node};
 ghost use Rattle.nz_lin.specs.Forms.{AreUnits};
+ghost use Rattle.nz_log.specs.declared.stop.Stop.TheVariants as stop;
 ghost use Rattle.nz_log.specs.Atoms.{IsLitIn};
 ghost use Rattle.nz_log.specs.Standing.{Ends, Stands};
 ghost use Rattle.nz_simplex.specs.Moves.{joined_over};
@@ -47,6 +48,7 @@ impl Reals {
         ensures of { (ids : List ℕ) → IsOf self.old log.now.atoms ids → OnOk result (IsOf self.new log.now.atoms (ids ++ id ∷ [])) }
         ensures over { (ns : List Node) → IsLitIn ns log.now.atoms (record { atom = id; sign = true }) → IsOver self.old ns → IsOver self.new ns }
         ensures lines { NotesForm number work.old work.new }
+        ensures unspent { IfErr result (λ e. e ≡ stop.Spent → ⊥) }
         // Over a table, where the theory stands where the list leads, it does so again.
         ensures ends { (ns : List Node) (q : Task) → IsLitIn ns log.now.atoms (record { atom = id; sign = true }) → IsNumberIn ns log.now.atoms id number work.old → Stands (IsAt self.old ns) ns q work.old → Ends (IsAt self.new ns) ns q work.new result }
     {

@@ -8,4 +8,4 @@ mod reals;
 mod refute;
 mod theory;
 
-pub use reals::Reals;
+pub use reals::{Reals, stored};

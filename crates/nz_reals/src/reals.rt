@@ -148,7 +148,7 @@ impl Reals {
 }
 
 /// Says what holds of each theory: of its forms, and of what it was told.
-pub(crate) fn stored(theory: &Reals)
+pub fn stored(theory: &Reals)
     ensures forms { AreForms theory.now.simplex }
     ensures tolds { AreTolds theory.now }
     ensures sound { IsSound theory.now.simplex }
