@@ -1,7 +1,7 @@
 -- Assertions: the rules on one, and what it leaves.
 use Rattle.std.proofs.Common.{◌≡◌, ℕ, List, [], ◌∷◌, map, take, length, Option, None, Some, Ok, Bool, true, false, cond, sym, ap, ◌∙◌, append-nil, subst}
 use Rattle.std.proofs.lemmas.List.{map-append}
-use Rattle.nz_spec.specs.Term.{bool_sort, Term, holds_number, are_same_sort}
+use Rattle.nz_spec.specs.Term.{bool_sort, Term, holds_integer, are_same_sort}
 use Rattle.nz_spec.specs.Normal.{normal_of}
 use Rattle.nz_spec.specs.Table.{Node, term_in, TermStays}
 use Rattle.nz_spec.specs.Order.{HasCompanions}
@@ -29,7 +29,7 @@ use Rattle.nz_sort.proofs.Ruling.{past_names}
 -- ---- What an assertion leaves
 
 live_asserted : TermStays → (old new : List Node) (before : Standing) (s : State) (t : Term) (id : ℕ) (holds : Bool) → IsLive old before s → Grows old new
-    → HasCompanions new → StandsFor new id (normal_of t) → holds ≡ holds_number (normal_of t) → IsLive new (with_assertion before id holds) (grown s (asserted t))
+    → HasCompanions new → StandsFor new id (normal_of t) → holds ≡ holds_integer (normal_of t) → IsLive new (with_assertion before id holds) (grown s (asserted t))
 live_asserted stays old new before s t id holds live g companions stands number =
     let more : State = grown s (asserted t) in
     let same : constants_of more ≡ constants_of s = constants_with s (asserted t) ∙ append-nil (constants_of s) in
@@ -52,7 +52,7 @@ live_asserted stays old new before s t id holds live g companions stands number 
     }
 
 pub comes_asserted : TermStays → (old new : List Node) (before after : Standing) (e : Expression) (id : ℕ) (holds : Bool) → Grows old new → HasCompanions new
-    → ((s : State) → IsLive old before s → Asserts (assertion_of s e) new id) → holds ≡ holds_number (term_in new id) → after ≡ with_assertion before id holds
+    → ((s : State) → IsLive old before s → Asserts (assertion_of s e) new id) → holds ≡ holds_integer (term_in new id) → after ≡ with_assertion before id holds
     → Comes old new before after (asserts e) (λ s. assertion_of s e) (Ok acts.Changed)
 comes_asserted stays old new before after e id holds g companions may number more =
     record {
@@ -63,7 +63,7 @@ comes_asserted stays old new before after e id holds g companions may number mor
             is = h.is;
             asks = tt;
             live = λ reply. subst (λ st. IsLive new st (grown s (asserted h.term))) (sym more)
-                (live_asserted stays old new before s h.term id holds live g companions h.stands (number ∙ ap holds_number h.stands.term));
+                (live_asserted stays old new before s h.term id holds live g companions h.stands (number ∙ ap holds_integer h.stands.term));
           };
       refused = tt;
       kept = kept_where_grown old new g;

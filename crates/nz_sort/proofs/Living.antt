@@ -340,7 +340,7 @@ live_at_start names cs assertions gs ws ids a b d e f h =
             goals = record { items = record { numbers = refl; terms = nothing }; directions = refl; shown = refl };
             wishes = record { items = record { numbers = refl; terms = nothing }; weights = refl; numerals = refl; groups = refl };
             all = nothing;
-            numbers = refl;
+            integers = refl;
           };
       next = refl;
       unpushed = refl;

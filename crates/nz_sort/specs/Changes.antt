@@ -1,7 +1,7 @@
 -- What is added to what stands, and what comes of a command.
-use Rattle.std.specs.Prelude.{◌≡◌, ℕ, ◌||◌, ◌+◌, not, Bool, List, [], ◌∷◌, ◌++◌, length, take, Option, Some, None, slice_get, ◌⊎◌, Result, OnErr, IfOk, IfErr, IfSome}
+use Rattle.std.specs.Prelude.{◌≡◌, ℕ, ◌||◌, ◌+◌, Bool, List, [], ◌∷◌, ◌++◌, length, take, Option, Some, None, slice_get, ◌⊎◌, Result, OnErr, IfOk, IfErr, IfSome}
 use Rattle.nz_spec.specs.Tree.{Tree}
-use Rattle.nz_spec.specs.Term.{Sort, is_bool, Constant, constant, Term, Terms, apply, no_terms}
+use Rattle.nz_spec.specs.Term.{Sort, is_int_sort, Constant, constant, Term, Terms, apply, no_terms}
 use Rattle.nz_spec.specs.Normal.{normal_of}
 use Rattle.nz_spec.specs.Table.{Node, term_in}
 use Rattle.nz_spec.specs.Elaboration.{Definition as SpecDefinition, RootFits}
@@ -74,7 +74,7 @@ with_constant before name term =
       constants = before.constants ++ record { number = before.next; term = term.id } ∷ [];
       accepted = before.accepted ++ term.id ∷ [];
       next = before.next + 1;
-      holds_numbers = before.holds_numbers || not (is_bool (sort_of term.sort));
+      holds_integers = before.holds_integers || is_int_sort (sort_of term.sort);
     }
 
 -- what stands with a definition more
@@ -93,7 +93,7 @@ with_assertion before id holds =
       asserted = before.asserted ++ id ∷ [];
       accepted = before.accepted ++ id ∷ [];
       next = before.next + 1;
-      holds_numbers = before.holds_numbers || holds;
+      holds_integers = before.holds_integers || holds;
     }
 
 -- The table and what stands have this constant more.

@@ -9,7 +9,7 @@ use Rattle.nz_spec.specs.Decide.{constants_in_table}
 use Rattle.nz_spec.specs.Command as commands
 use Rattle.nz_spec.specs.Request.{Question, Request, shows_values, echoes}
 use Rattle.nz_spec.specs.Parse.{request_of}
-use Rattle.nz_spec.specs.Live.{State, LiveItem, numbered_items, items_of, item_terms, items_hold_numbers, constants_of, assertions_of, pushed_levels}
+use Rattle.nz_spec.specs.Live.{State, LiveItem, numbered_items, items_of, item_terms, items_hold_integers, constants_of, assertions_of, pushed_levels}
 use Rattle.nz_spec.specs.Command.{Info, Command, declare_const, define, assert_term, check_sat, get_model, get_value, get_info, get_levels, get_reason, set_print_success, no_effect, exit, Outcome, accepted, not_taken}
 use Rattle.nz_spec.specs.Script.{asked_of, scope_of, outcome_of}
 use Rattle.nz_spec.specs.Reply.{Reply}
@@ -33,11 +33,11 @@ pub record Standing : Type 0 where
   pub wishes : List Wish
   pub accepted : List ℕ  -- the terms of the items of all kinds that have one
   pub next : ℕ  -- the number of the next item
-  pub holds_numbers : Bool  -- a term of theirs holds a number
+  pub holds_integers : Bool  -- a term of theirs holds a unit of sort Int
 
 -- what stands, by the parts that the code keeps
 abbrev pub standing_of : List (List ℕ × Named) → List Accepted → List Accepted → List Goal → List Wish → List ℕ → ℕ → Bool → Standing
-standing_of names constants assertions goals wishes numbers next holds_numbers =
+standing_of names constants assertions goals wishes numbers next holds_integers =
     record {
       names = names;
       constants = constants;
@@ -47,7 +47,7 @@ standing_of names constants assertions goals wishes numbers next holds_numbers =
       wishes = wishes;
       accepted = numbers;
       next = next;
-      holds_numbers = holds_numbers;
+      holds_integers = holds_integers;
     }
 
 -- The items of each kind, and of all kinds, are those of these live items.
@@ -57,7 +57,7 @@ pub record HasItems (ns : List Node) (standing : Standing) (live : List LiveItem
   pub goals : AreGoals ns standing.goals live
   pub wishes : AreWishes ns standing.wishes live
   pub all : StandForAll ns standing.accepted (flat_map item_terms (items_in live))
-  pub numbers : items_hold_numbers (items_in live) ≡ standing.holds_numbers
+  pub integers : items_hold_integers (items_in live) ≡ standing.holds_integers
 
 -- The table and what stands are those of a live state: its names are its scope, its constants are those of the table; the terms are the normal ones of
 -- its assertions; the items are its items; the table has the companions of its terms. No level is pushed.
@@ -134,10 +134,10 @@ pub record IsSkipped (s : State) (outcome : Outcome) (ns : List Node) (standing 
   pub is : outcome ≡ not_taken
   pub live : IsLive ns standing s
 
--- what stands after a command that is written so, of this outcome, which asks this; a check is of items that hold no number
+-- what stands after a command that is written so, of this outcome, which asks this; a check is of items that hold no unit of sort Int
 abbrev pub Leaves : State → Request → Outcome → Ask → List Node → Standing → Type 0
 Leaves s r outcome unsupported ns standing = IsSkipped s outcome ns standing
-Leaves s r outcome check ns standing = IsAccepted s r outcome check ns standing × (items_hold_numbers (items_of s.levels) ≡ false)
+Leaves s r outcome check ns standing = IsAccepted s r outcome check ns standing × (items_hold_integers (items_of s.levels) ≡ false)
 Leaves s r outcome ask ns standing = IsAccepted s r outcome ask ns standing
 
 -- The tree is a command which asks this, and this is what stands after it.
