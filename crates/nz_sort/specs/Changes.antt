@@ -19,7 +19,7 @@ use Rattle.nz_elaborate.specs.Names.{IsDefined}
 use Rattle.nz_elaborate.specs.Typed.{StandsFor, AreTyped}
 use Rattle.nz_sort.specs.declared.acts.Act.{Act}
 use Rattle.nz_sort.specs.Acts.{asked, rule_of}
-use Rattle.nz_sort.specs.Live.{Standing, IsLive, Leaves, IfSkipped}
+use Rattle.nz_sort.specs.Live.{Standing, IsLinearAssertion, IsLive, Leaves, IfSkipped}
 
 -- ---- What comes of a command
 
@@ -49,11 +49,12 @@ pub record Defines (name : List ℕ) (outcome : Outcome) (ns : List Node) (d : D
   pub defined : IsDefined ns d definition
   pub fits : RootFits definition.parameters definition.body
 
--- The assertion of a term is accepted, and this is the number of its normal one.
+-- The assertion of a term is accepted, and this is the number of its normal one, which is linear.
 pub record Asserts (outcome : Outcome) (ns : List Node) (id : ℕ) : Type 0 where
   pub term : Term
   pub is : outcome ≡ accepted (assert_term term)
   pub stands : StandsFor ns id (normal_of term)
+  pub linear : IsLinearAssertion term
 
 -- To ask for the values of these terms is accepted, and these are they.
 pub record Shows (qs : List Question) (outcome : Outcome) (ns : List Node) (xs : List Typed) : Type 0 where

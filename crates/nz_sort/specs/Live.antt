@@ -1,8 +1,10 @@
 -- The live state, as the code keeps it: names and items, with their numbers in the table of terms.
-use Rattle.std.specs.Prelude.{◌≡◌, ℕ, ◌<◌, Bool, false, List, [], length, map, flat_map, All, Some, ⊤}
+use Rattle.std.specs.Prelude.{◌≡◌, ℕ, ◌<◌, Bool, false, List, [], length, map, flat_map, All, Some, IsTrue, ⊤}
+use Rattle.std.specs.List.{AllByRecursion}
 use Rattle.nz_spec.specs.Tree.{Tree}
-use Rattle.nz_spec.specs.Term.{Terms}
+use Rattle.nz_spec.specs.Term.{Term, Terms}
 use Rattle.nz_spec.specs.Normal.{normal_of}
+use Rattle.nz_spec.specs.Linear.{is_linear}
 use Rattle.nz_spec.specs.Table.{Node, term_in}
 use Rattle.nz_spec.specs.Order.{HasCompanions}
 use Rattle.nz_spec.specs.Decide.{constants_in_table}
@@ -59,14 +61,19 @@ pub record HasItems (ns : List Node) (standing : Standing) (live : List LiveItem
   pub all : StandForAll ns standing.accepted (flat_map item_terms (items_in live))
   pub integers : items_hold_integers (items_in live) ≡ standing.holds_integers
 
+-- the normal term of an assertion is linear
+abbrev pub IsLinearAssertion : Term → Type 0
+IsLinearAssertion t = IsTrue (is_linear (normal_of t))
+
 -- The table and what stands are those of a live state: its names are its scope, its constants are those of the table; the terms are the normal ones of
--- its assertions; the items are its items; the table has the companions of its terms. No level is pushed.
+-- its assertions, and linear; the items are its items; the table has the companions of its terms. No level is pushed.
 pub record IsLive (ns : List Node) (standing : Standing) (s : State) : Type 0 where
   pub named : IsScope ns standing.names [] (scope_of s)
   pub constants : constants_in_table ns ≡ constants_of s
   pub companions : HasCompanions ns
   pub within : All (λ i. i < length ns) standing.asserted
   pub terms : map (term_in ns) standing.asserted ≡ map normal_of (assertions_of s)
+  pub linear : AllByRecursion IsLinearAssertion (assertions_of s)
   pub items : HasItems ns standing (numbered_items s.levels)
   pub next : standing.next ≡ s.next
   pub unpushed : pushed_levels s ≡ 0
