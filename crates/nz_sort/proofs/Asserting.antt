@@ -1,6 +1,5 @@
 -- Assertions: the rules on one, and what it leaves.
 use Rattle.std.proofs.Common.{◌≡◌, ℕ, List, [], ◌∷◌, map, take, length, Option, None, Some, Ok, Bool, true, false, cond, sym, ap, ◌∙◌, append-nil, subst}
-use Rattle.std.specs.Prelude.{IsTrue}
 use Rattle.std.specs.List.{AllByRecursion}
 use Rattle.std.proofs.lemmas.List.{map-append}
 use Rattle.nz_lists.proofs.Elements.{AllByRecursion-append}
@@ -115,5 +114,5 @@ linear_assertion s e mid new x h bool straight stands =
       term = h.holds.term;
       is = of_bool s e mid x true h bool straight;
       stands = record { within = stands.within; term = stands.term ∙ h.holds.typed.normal };
-      linear = subst IsTrue (sym (ap is_linear (sym h.holds.typed.normal) ∙ straight)) tt;
+      linear = ap is_linear (sym h.holds.typed.normal) ∙ straight;
     }
