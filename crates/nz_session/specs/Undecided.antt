@@ -33,7 +33,7 @@ pub record IsUndecided (ns : List Node) (ids : List ℕ) (limit : ℕ) (work : W
   pub limited : work.limit ≡ limit
   pub ends : EndsLegally ns (task_in ns (ids ∷ []) []) work place
   pub noted : AreNotedWithin ns work.lines
-  pub sited : IfSome place (λ p. IsSiteWithin ns p.site)
+  pub sited : IfSome place (λ (p : Place). IsSiteWithin ns p.site)
 
 -- ---- What is told of it
 
