@@ -15,7 +15,7 @@ use Rattle.nz_spec.specs.Model.{IsModel}
 use Rattle.nz_spec.specs.Live.{Reason, units_spent, State, Item, declared, defined, asserted, sought, wished, cost_of, items_of, item_terms, assertions_in, assertions_of}
 use Rattle.nz_spec.specs.Work.{DecisionEntry, LearnedEntry, PivotEntry, WorkLine, UnitLine, NoteLine, WorkList, is_unit, unit_count, IsSpent}
 use Rattle.nz_spec.specs.Notes.{Note, atom_note, form_note, told_note, Site, term_site, joining_site, exchange_site, value_site, sum_site, limit_site, model_site, Place}
-use Rattle.nz_spec.specs.Legal.{Task, Search, at_first, no_point, IsTabled, IsAtom, MayFollow, Lead, after_line, after_lines, AreLegal, IsSpentLegally}
+use Rattle.nz_spec.specs.Legal.{Task, Search, at_first, no_point, IsTabled, IsAtom, MayName, MayTell, MayLearn, MayFollow, Lead, after_line, after_lines, AreLegal, IsSpentLegally}
 use Rattle.nz_spec.specs.Places.{IsOperationAt, IsStoppedLegally}
 use Rattle.nz_spec.specs.Reply.{unknown, Cause}
 use Rattle.nz_spec.specs.Right.{Context, task_of, IsRightCheck}
@@ -52,30 +52,27 @@ module _ (q r : Task) (h : AsksThat q r) where
 
   may_follow_too : (s : Search) (x : Point) (line : WorkLine Note) (y : Point) → MayFollow q s x line y → MayFollow r s x line y
   may_follow_too s x (NoteLine (atom_note l)) y m =
-      (record { atom = atom_too l m.0.atom; fresh = m.0.fresh; negation_fresh = m.0.negation_fresh }, m.1)
+      let named : MayName r s l = record { atom = atom_too l m.0.atom; fresh = m.0.fresh; negation_fresh = m.0.negation_fresh } in
+      (named, m.1)
   may_follow_too s x (NoteLine (form_note atom)) y m = m
   may_follow_too s x (NoteLine (told_note atom sign)) y m =
-      (
-        record {
-          named = m.0.named;
-          new = m.0.new;
-          follows = λ a model assumed decided. m.0.follows a (h.models a model) (subst (AreTrueLiterals a) h.assumed assumed) decided;
-        },
-        m.1,
-      )
+      let told : MayTell r s atom sign = record {
+        named = m.0.named;
+        new = m.0.new;
+        follows = λ a model assumed decided. m.0.follows a (h.models a model) (subst (AreTrueLiterals a) h.assumed assumed) decided;
+      } in
+      (told, m.1)
   may_follow_too s x (UnitLine (DecisionEntry atom sign)) y m = m
   may_follow_too s x (UnitLine (LearnedEntry keep clause)) y m =
-      (
-        record {
-          fewer = m.0.fewer;
-          dead_end = λ a model assumed decided. m.0.dead_end a (h.models a model) (subst (AreTrueLiterals a) h.assumed assumed) decided;
-          follows = λ a model. m.0.follows a (h.models a model);
-          named = m.0.named;
-          once = m.0.once;
-          new = m.0.new;
-        },
-        m.1,
-      )
+      let learned : MayLearn r s keep clause = record {
+        fewer = m.0.fewer;
+        dead_end = λ a model assumed decided. m.0.dead_end a (h.models a model) (subst (AreTrueLiterals a) h.assumed assumed) decided;
+        follows = λ a model. m.0.follows a (h.models a model);
+        named = m.0.named;
+        once = m.0.once;
+        new = m.0.new;
+      } in
+      (learned, m.1)
   may_follow_too s x (UnitLine (PivotEntry i j)) y m = m
 
   lead_too : (s : Search) (x : Point) (lines : List (WorkLine Note)) (y : Point) → Lead q s x lines y → Lead r s x lines y
