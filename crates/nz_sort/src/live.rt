@@ -54,6 +54,7 @@ pub struct Live {
     accepted: Vec<TermId>,
     /// The number of the next item, definitions among them.
     next: usize,
+    /// Whether one of these terms holds a unit of sort `Int`.
     holds_integers: bool,
 }
 
@@ -227,7 +228,7 @@ impl Live {
         }
     }
 
-    /// Checks are over Bool alone, yet.
+    /// No check is over Int, yet.
     fn check_act(&self) -> Act
         ensures check { asked result ≡ (if self.now.holds_integers then unsupported else check) }
     {
@@ -428,7 +429,7 @@ impl Live {
         Ok(made.id)
     }
 
-    /// Keeps the assertion of a term, which holds a number or doesn't.
+    /// Keeps the assertion of a term, which holds a unit of sort `Int` or doesn't.
     fn keep_assertion(&mut self, term: TermId, holds: bool) -> Result<(), Memory>
         ensures kept { OnOk result (self.new ≡ with_assertion self.old term holds) }
         ensures unchanged { OnErr result (self.new ≡ self.old) }
