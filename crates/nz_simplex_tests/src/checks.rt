@@ -81,18 +81,16 @@ fn cycle(alloc: Global, system: &mut System<Delta>) -> Result<([Var; 3], [TermId
 fn clash_around(alloc: Global, system: &mut System<Delta>) -> Result<(), Fail> {
     let (forms, units) = cycle(alloc, system)?;
     let simplex = &mut system.simplex;
-    let below = delta(0, -1)?;
-    tighten(simplex, forms[0], below, 0)?;
-    tighten(simplex, forms[1], below, 1)?;
+    tighten(simplex, forms[0], delta(0, -1)?, 0)?;
+    tighten(simplex, forms[1], delta(0, -1)?, 1)?;
     expect(alloc, simplex, Check::Feasible)?;
     let mark = simplex.mark();
-    let zero = delta(0, 0)?;
-    tighten(simplex, forms[2], zero, 2)?;
+    tighten(simplex, forms[2], delta(0, 0)?, 2)?;
     expect(alloc, simplex, Check::Clash)?;
     let given = [
-        (forms[0], Side::Upper, below),
-        (forms[1], Side::Upper, below),
-        (forms[2], Side::Upper, zero),
+        (forms[0], Side::Upper, delta(0, -1)?),
+        (forms[1], Side::Upper, delta(0, -1)?),
+        (forms[2], Side::Upper, delta(0, 0)?),
     ];
     clash_of_three(simplex, &given, &units)?;
     undo_to(simplex, mark);
