@@ -2,10 +2,11 @@
 use Rattle.std.proofs.Common.{◌≡◌, ◌≢◌, ℕ, ◌<◌, ◌≤◌, ◌⊎◌, inl, inr, List, [], Option, Some, None, length, refl, sym, ap, subst, ◌∙◌, arith}
 use Rattle.std.specs.Prelude.{◌↔◌, Contains, slice_get, option_map, unwrap_or, slice_index_or}
 use Rattle.nz_spec.specs.Table.{Node}
-use Rattle.nz_log.specs.Lits.{gates_at}
+use Rattle.nz_log.specs.declared.atoms.Atom.{Atom}
 use Rattle.nz_log.specs.Logs.{gate_of, Entry, LogState, entry_at, IsLive, level_at, told_of, told_level, lowest}
+use Rattle.nz_log.specs.TermLits.{gates_at}
 use Rattle.nz_cform.specs.Forms.{FormState, covered_at, Takes}
-use Rattle.nz_cform.specs.Covering.{HasGates, HasGatesBelow, AreAdded, origin_at}
+use Rattle.nz_cform.specs.Covering.{AreNamed, HasGates, HasGatesBelow, AreAdded, gate_clause, origin_at}
 use Rattle.nz_cform.proofs.Listing.{same_or_other}
 
 -- ---- Logs with the same clauses
@@ -16,7 +17,7 @@ module _ (old new : LogState) (clauses : new.entries ≡ old.entries) where
   same_entry i = ap (λ es. unwrap_or (slice_get es i) None) clauses
 
   pub same_live : (i : ℕ) → IsLive new i ≡ IsLive old i
-  same_live i = ap (λ es. IsLive (record { entries = es; told = [] }) i) clauses
+  same_live i = ap (λ es. IsLive (record { entries = es; told = []; atoms = [] }) i) clauses
 
   pub same_origin : (i : ℕ) → origin_at new i ≡ origin_at old i
   same_origin i = ap (option_map (λ (e : Entry). e.origin)) (same_entry i)
@@ -54,7 +55,7 @@ told_within old new t level told others highest u =
 
 -- ---- A term that is told and listed, without its gates
 
-module _ (ns : List Node) (old new : LogState) (s r : FormState) (t level : ℕ) (clauses : new.entries ≡ old.entries) (takes : Takes s t level r)
+module _ (ns : List Node) (old new : LogState) (s r : FormState) (t level : ℕ) (clauses : new.entries ≡ old.entries) (atoms : new.atoms ≡ old.atoms) (takes : Takes s t level r)
     (uncovered : covered_at s t ≡ None) (told : told_of new t ≡ Some (lowest (told_of old t) level)) (others : (u : ℕ) → u ≢ t → told_of new u ≡ told_of old u)
     (highest : (u : ℕ) → told_level new u ≤ level) (has : HasGates ns old s) where
   -- a term with a level is another one
@@ -77,7 +78,8 @@ module _ (ns : List Node) (old new : LogState) (s r : FormState) (t level : ℕ)
           | inl same ↦ let none : j < 0 = below same in absurd (omega arith)
           | inr other ↦
               let was = has.gates u n j (sym (takes.others u other) ∙ at) inside in
-              (was.0, same_entry old new clauses was.0 ∙ was.1)
+              subst (λ (xs : List Atom). (i : ℕ) × (entry_at new i ≡ Some (gate_clause ns xs u j n)) × AreNamed ns xs u j) (sym atoms)
+              (was.0, same_entry old new clauses was.0 ∙ was.1, was.2)
         ];
         of_covered = λ i u j at.
             let was = was_covered i u j at in

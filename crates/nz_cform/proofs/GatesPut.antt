@@ -3,10 +3,12 @@ use Rattle.std.proofs.Common.{◌≡◌, ℕ, suc, ◌<◌, ◌≤◌, ◌⊎◌
 use Rattle.std.specs.Prelude.{Contains, IsSome, option_map, unwrap_or, slice_index_or}
 use Rattle.std.proofs.lemmas.List.Elements.{All-push, Contains-append_left, Contains-get_or, Contains-push, Contains-push_cases}
 use Rattle.nz_spec.specs.Table.{Node}
-use Rattle.nz_log.specs.Lits.{gates_at}
-use Rattle.nz_log.specs.Logs.{Origin, gate_of, Entry, LogState, entry_at, IsLive, level_at, told_of, gate_entry, Puts}
+use Rattle.nz_log.specs.Atoms.{AtomsOfTerms}
+use Rattle.nz_log.specs.Logs.{Origin, gate_of, Entry, LogState, entry_at, IsLive, level_at, told_of, told_level, gate_entry, Puts}
+use Rattle.nz_log.specs.TermLits.{gates_at}
 use Rattle.nz_cform.specs.Forms.{FormState, covered_at}
-use Rattle.nz_cform.specs.Covering.{HasGate, HasGatesBelow, AreAdded, origin_at, gate_clause}
+use Rattle.nz_cform.specs.Covering.{AreNamed, HasGate, HasGatesBelow, AreAdded, origin_at, gate_clause}
+use Rattle.nz_cform.proofs.AtomsStay.{gate_stays}
 use Rattle.nz_cform.proofs.GateLevels.{gate_is}
 use Rattle.nz_cform.proofs.Listing.{once_more, same_or_other}
 
@@ -38,8 +40,8 @@ module _ (old new : LogState) (id : ℕ) (e : Entry) (puts : Puts old id e new) 
       ]
 
   -- a gate stays
-  pub put_gate : (ns : List Node) (t j n : ℕ) → HasGate ns old t j n → HasGate ns new t j n
-  put_gate ns t j n h = (h.0, put_kept h.0 (subst (λ o. IsSome o) (sym h.1) refl) ∙ h.1)
+  pub put_gate : AtomsOfTerms → (ns : List Node) (t j n : ℕ) → HasGate ns old t j n → HasGate ns new t j n
+  put_gate own ns t j n h = gate_stays own old new puts.atoms ns t j n h (put_kept h.0 (subst (λ o. IsSome o) (sym h.1) refl))
 
 -- ---- The clauses that are put are told
 
@@ -88,17 +90,20 @@ module _ (start old new : LogState) (ids : List ℕ) (id : ℕ) (e : Entry) (put
 
 -- ---- The gates of a term so far
 
-module _ (ns : List Node) (old new : LogState) (s : FormState) (t k id : ℕ) (puts : Puts old id (gate_entry ns old t k) new)
-    (inside : k < length (gates_at ns t)) (has : HasGatesBelow ns old s t k) where
+module _ (own : AtomsOfTerms) (ns : List Node) (old new : LogState) (s : FormState) (t k id : ℕ) (puts : Puts old id (gate_entry ns new t k) new)
+    (there : AreNamed ns new.atoms t k) (inside : k < length (gates_at ns t)) (has : HasGatesBelow ns old s t k) where
   -- the level told of the term is that at which it is covered
-  is_level : told_of old t ≡ Some has.level
-  is_level = has.told t ∙ has.covered
-
-  made : entry_at new id ≡ Some (gate_clause ns t k has.level)
-  made = puts.made ∙ ap Some (gate_is ns old t k has.level is_level has.highest inside)
-
   same_told : (u : ℕ) → told_of new u ≡ told_of old u
   same_told u = ap (λ ls. slice_index_or ls u None) puts.told
+
+  is_level : told_of new t ≡ Some has.level
+  is_level = same_told t ∙ has.told t ∙ has.covered
+
+  highest : (u : ℕ) → told_level new u ≤ has.level
+  highest u = subst (λ o. unwrap_or o 0 ≤ has.level) (sym (same_told u)) (has.highest u)
+
+  made : entry_at new id ≡ Some (gate_clause ns new.atoms t k has.level)
+  made = puts.made ∙ ap Some (gate_is ns new t k has.level is_level highest inside there)
 
   -- the gates are those below the next number
   gates_more : (u n j : ℕ) → covered_at s u ≡ Some n → j < length (gates_at ns u) → (u ≡ t → j < suc k) → HasGate ns new u j n
@@ -109,11 +114,11 @@ module _ (ns : List Node) (old new : LogState) (s : FormState) (t k id : ℕ) (p
               let both : Some has.level ≡ Some n = sym has.covered ∙ ap (covered_at s) (sym same) ∙ at in
               let level : has.level ≡ n = cc in
               subst (λ v. HasGate ns new v j n) (sym same)
-              (subst (λ i. HasGate ns new t i n) (sym number) (subst (HasGate ns new t k) level (id, made)))
+              (subst (λ i. HasGate ns new t i n) (sym number) (subst (HasGate ns new t k) level (id, made, there)))
           | inr other ↦
-              put_gate old new id _ puts ns u j n (has.gates u n j at within (λ e. let more : j < suc k = below e in omega arith))
+              put_gate old new id _ puts own ns u j n (has.gates u n j at within (λ e. let more : j < suc k = below e in omega arith))
         ]
-        | inr other ↦ put_gate old new id _ puts ns u j n (has.gates u n j at within (λ e. absurd (other e)))
+        | inr other ↦ put_gate old new id _ puts own ns u j n (has.gates u n j at within (λ e. absurd (other e)))
       ]
 
   -- each gate is of a covered term, at its level
@@ -167,5 +172,5 @@ module _ (ns : List Node) (old new : LogState) (s : FormState) (t k id : ℕ) (p
         told = λ u. same_told u ∙ has.told u;
         level = has.level;
         covered = has.covered;
-        highest = λ u. subst (λ o. unwrap_or o 0 ≤ has.level) (sym (same_told u)) (has.highest u);
+        highest = highest;
       }

@@ -1,3 +1,4 @@
+mod AtomsStay
 mod Covering
 mod GateLevels
 mod GatesPut

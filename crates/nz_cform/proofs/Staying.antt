@@ -1,6 +1,6 @@
 -- How covered terms stay so: when the table grows, when a clause is put, and when levels are dropped.
 use Rattle.std.proofs.Common.{◌≡◌, ◌≢◌, ℕ, ◌<◌, ◌≤◌, inl, inr, Bool, List, [], ◌∷◌, ◌++◌, length, get_or, Option, Some, None, refl, sym, ap, subst, ◌∙◌, arith}
-use Rattle.std.specs.Prelude.{All, slice_get, option_map, unwrap_or, slice_index_or, if◌then◌else◌}
+use Rattle.std.specs.Prelude.{All, IsSome, slice_get, option_map, unwrap_or, slice_index_or, if◌then◌else◌}
 use Rattle.std.specs.List.{AllByRecursion}
 use Rattle.std.proofs.lemmas.List.{length-append}
 use Rattle.std.proofs.lemmas.List.Elements.{All-weaker, recursion_from_All}
@@ -10,20 +10,26 @@ use Rattle.nz_spec.specs.Table.{Node, IsTable, TermStays}
 use Rattle.nz_spec.specs.Gates.{clauses_over}
 use Rattle.nz_lists.proofs.Elements.{AllByRecursion-weaker}
 use Rattle.nz_lists.proofs.Places.{slice_get_kept}
-use Rattle.nz_log.specs.declared.lits.Lit.{Lit}
+use Rattle.nz_log.specs.declared.atoms.Atom.{Atom}
+use Rattle.nz_log.specs.declared.term_lits.TermLit.{TermLit}
+use Rattle.nz_log.specs.Atoms.{HasTerm, AtomsOfTerms, lits_of}
 use Rattle.nz_spec.specs.Literal.{once}
-use Rattle.nz_log.specs.Lits.{yes, no, are_same_lit, is_boolean_at, gates_at}
-use Rattle.nz_log.specs.Logs.{Origin, gate_of, Entry, LogState, empty_log, entry_at, level_at, kept_below, told_below, Puts, Drops}
+use Rattle.nz_log.specs.Lits.{are_same_lit}
+use Rattle.nz_log.specs.TermLits.{yes, no, is_boolean_at, gates_at}
+use Rattle.nz_log.specs.Logs.{Origin, gate_of, Entry, LogState, empty_log, entry_at, IsLive, level_at, kept_below, told_below, JoinsAtoms, Puts, Drops}
+use Rattle.nz_log.specs.Theories.{Grows}
 use Rattle.nz_cform.specs.Forms.{FormState, covered_at, empty_form, IsCoveredWithin, Cuts}
-use Rattle.nz_cform.specs.Covering.{Covers, gate_clause, kids_at, origin_at}
+use Rattle.nz_cform.specs.Covering.{AreNamed, Covers, gate_clause, gate_terms, kids_at, origin_at}
 use Rattle.nz_cform.specs.Laws.{CoversStay}
+use Rattle.nz_cform.proofs.AtomsStay.{gate_stays}
+use Rattle.nz_cform.proofs.Covering.{same_entry, same_level, same_origin}
 use Rattle.nz_cform.proofs.GatesPut.{put_cases, put_gate}
 use Rattle.nz_cform.proofs.Levels.{covered_within, kept_low, kept_parts, level_of, told_low, told_parts}
 
 -- ---- The table grows
 
 -- clauses on equal tests
-test_same : (b c : Bool) (cs : List (List Lit)) → b ≡ c → (if b then cs else []) ≡ (if c then cs else [])
+test_same : (b c : Bool) (cs : List (List TermLit)) → b ≡ c → (if b then cs else []) ≡ (if c then cs else [])
 test_same b c cs e = ap (λ d. if d then cs else []) e
 
 -- the gates of a head are the same where the sorts of its arguments are
@@ -56,8 +62,11 @@ module _ (stays : TermStays) (ns more : List Node) (table : IsTable ns) (t : ℕ
       ∙ over_same (is_boolean_at (ns ++ more)) (is_boolean_at ns) t the_node.head the_node.kids same_sorts
       ∙ ap (λ o. elim o [ None ↦ [] | Some n ↦ clauses_over yes no (is_boolean_at ns) t n.head n.kids ]) (sym node_at)
 
-  pub same_clause : (j n : ℕ) → gate_clause (ns ++ more) t j n ≡ gate_clause ns t j n
-  same_clause j n = ap (λ cs. record (gate_clause ns t j n) { literals = once are_same_lit (unwrap_or (slice_get cs j) []) }) same_gates
+  pub same_terms : (j : ℕ) → gate_terms (ns ++ more) t j ≡ gate_terms ns t j
+  same_terms j = ap (λ cs. unwrap_or (slice_get cs j) []) same_gates
+
+  pub same_clause : (atoms : List Atom) (j n : ℕ) → gate_clause (ns ++ more) atoms t j n ≡ gate_clause ns atoms t j n
+  same_clause atoms j n = ap (λ c. record (gate_clause ns atoms t j n) { literals = once are_same_lit (lits_of atoms c) }) (same_terms j)
 
 -- what is covered stays so in the longer table
 covers_wider : (stays : TermStays) (ns more : List Node) (log : LogState) (s : FormState) → IsTable ns → Covers ns log s → Covers (ns ++ more) log s
@@ -67,8 +76,11 @@ covers_wider stays ns more log s table covers =
       gates = record {
         gates = λ t n j at inside.
             let in_table = covers.within t n at in
-            let has = covers.gates.gates t n j at (subst (λ cs. j < length cs) (same_gates stays ns more table t in_table) inside) in
-            (has.0, has.1 ∙ ap Some (sym (same_clause stays ns more table t in_table j n)));
+            let has = covers.gates.gates t n j at (subst (λ cs. j < length cs) (same_gates stays ns more table t in_table) inside) in (
+              has.0,
+              has.1 ∙ ap Some (sym (same_clause stays ns more table t in_table log.atoms j n)),
+              subst (All (λ (l : TermLit). HasTerm log.atoms l.term)) (sym (same_terms stays ns more table t in_table j)) has.2,
+            );
         of_covered = covers.gates.of_covered;
         once = covers.gates.once;
         told = covers.gates.told;
@@ -79,9 +91,9 @@ covers_wider stays ns more log s table covers =
 -- ---- A clause is put that is no gate
 
 -- what is covered stays so
-covers_put : (ns : List Node) (old new : LogState) (s : FormState) (id : ℕ) (e : Entry) → Puts old id e new → ((t j : ℕ) → e.origin ≢ gate_of t j)
+covers_put : AtomsOfTerms → (ns : List Node) (old new : LogState) (s : FormState) (id : ℕ) (e : Entry) → Puts old id e new → ((t j : ℕ) → e.origin ≢ gate_of t j)
     → Covers ns old s → Covers ns new s
-covers_put ns old new s id e puts other covers =
+covers_put own ns old new s id e puts other covers =
     let has = covers.gates in
     let was = λ (i t j : ℕ) (at : origin_at new i ≡ Some (gate_of t j)). elim (put_cases old new id e puts i (gate_of t j) at) as
     (λ _. (entry_at new i ≡ entry_at old i) × (origin_at old i ≡ Some (gate_of t j))) [
@@ -91,7 +103,7 @@ covers_put ns old new s id e puts other covers =
     record {
       within = covers.within;
       gates = record {
-        gates = λ t n j at inside. put_gate old new id e puts ns t j n (has.gates t n j at inside);
+        gates = λ t n j at inside. put_gate old new id e puts own ns t j n (has.gates t n j at inside);
         of_covered = λ i t j at.
             let before = was i t j at in
             has.of_covered i t j before.1 ∙ ap Some (sym (ap (λ o. elim o [ None ↦ 0 | Some f ↦ f.level ]) before.0));
@@ -101,12 +113,62 @@ covers_put ns old new s id e puts other covers =
       arguments = covers.arguments;
     }
 
--- ---- Levels are dropped
+-- ---- Atoms join
+
+-- what is covered stays so
+covers_joined : AtomsOfTerms → (ns : List Node) (old new : LogState) (s : FormState) → JoinsAtoms old new → Covers ns old s → Covers ns new s
+covers_joined own ns old new s joins covers =
+    let has = covers.gates in
+    record {
+      within = covers.within;
+      gates = record {
+        gates = λ t n j at inside.
+            let gate = has.gates t n j at inside in
+            gate_stays own old new joins.atoms ns t j n gate (same_entry old new joins.entries gate.0);
+        of_covered = λ i t j at.
+            has.of_covered i t j (sym (same_origin old new joins.entries i) ∙ at) ∙ ap Some (sym (same_level old new joins.entries i));
+        once = λ i k t j at also. has.once i k t j (sym (same_origin old new joins.entries i) ∙ at) (sym (same_origin old new joins.entries k) ∙ also);
+        told = λ t. ap (λ ls. slice_index_or ls t None) joins.told ∙ has.told t;
+      };
+      arguments = covers.arguments;
+    }
+
+-- ---- A search has learned
 
 -- a clause that was made is there
 some_entry : (o : Option Entry) (g : Origin) → option_map (λ (e : Entry). e.origin) o ≡ Some g → (e : Entry) × (o ≡ Some e) × (e.origin ≡ g)
 some_entry None g at = cc
 some_entry (Some e) g at = let same : e.origin ≡ g = cc in (e, refl, same)
+
+module _ (own : AtomsOfTerms) (ns : List Node) (old new : LogState) (s : FormState) (grows : Grows old new) (covers : Covers ns old s) where
+  -- a gate was there
+  gate_was : (i t j : ℕ) → origin_at new i ≡ Some (gate_of t j) → IsLive old i
+  gate_was i t j at =
+      let here = some_entry (entry_at new i) (gate_of t j) at in
+      grows.gates i here.0 t j here.1 here.2
+
+  origin_was : (i t j : ℕ) → origin_at new i ≡ Some (gate_of t j) → origin_at old i ≡ Some (gate_of t j)
+  origin_was i t j at = ap (option_map (λ (e : Entry). e.origin)) (sym (grows.kept i (gate_was i t j at))) ∙ at
+
+  covers_learned : Covers ns new s
+  covers_learned =
+      let was = covers.gates in
+      record {
+        within = covers.within;
+        gates = record {
+          gates = λ t n j at inside.
+              let gate = was.gates t n j at inside in
+              gate_stays own old new grows.atoms ns t j n gate (grows.kept gate.0 (subst (λ o. IsSome o) (sym gate.1) refl));
+          of_covered = λ i t j at.
+              was.of_covered i t j (origin_was i t j at)
+              ∙ ap Some (sym (ap (λ o. elim o [ None ↦ 0 | Some e ↦ e.level ]) (grows.kept i (gate_was i t j at))));
+          once = λ i k t j at also. was.once i k t j (origin_was i t j at) (origin_was k t j also);
+          told = λ t. ap (λ ls. slice_index_or ls t None) grows.told ∙ was.told t;
+        };
+        arguments = covers.arguments;
+      }
+
+-- ---- Levels are dropped
 
 module _ (ns : List Node) (old new : LogState) (s cut : FormState) (level : ℕ) (drops : Drops old level new) (cuts : Cuts s level cut) (covers : Covers ns old s) where
   -- what is covered was so, at a level that is left; and what was so at such a level still is
@@ -137,7 +199,9 @@ module _ (ns : List Node) (old new : LogState) (s cut : FormState) (level : ℕ)
           gates = λ t n j at inside.
               let before = was_covered t n at in
               let has = covers.gates.gates t n j before.0 inside in
-              (has.0, drops.entries has.0 ∙ ap (kept_below level) has.1 ∙ kept_low level (gate_clause ns t j n) before.1);
+              let kept = drops.entries has.0 ∙ ap (kept_below level) has.1 ∙ kept_low level (gate_clause ns old.atoms t j n) before.1 in
+              subst (λ (atoms : List Atom). (i : ℕ) × (entry_at new i ≡ Some (gate_clause ns atoms t j n)) × AreNamed ns atoms t j) (sym drops.atoms)
+              (has.0, kept, has.2);
           of_covered = λ i t j at.
               let before = was_gate i t j at in
               still_covered t (level_at old i) (covers.gates.of_covered i t j before.0) before.2 ∙ ap Some (sym before.1);
@@ -173,11 +237,13 @@ covers_start ns =
     none_there : (t n : ℕ) → covered_at empty_form t ≡ Some n → ⊥
     none_there t n at = cc
 
-pub covers_stay : TermStays → CoversStay
-covers_stay stays =
+pub covers_stay : TermStays → AtomsOfTerms → CoversStay
+covers_stay stays own =
     record {
       start = covers_start;
       table = covers_wider stays;
-      put = covers_put;
+      put = covers_put own;
+      joined = covers_joined own;
+      learned = covers_learned own;
       dropped = covers_dropped;
     }

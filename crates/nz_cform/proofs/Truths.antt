@@ -7,8 +7,12 @@ use Rattle.nz_spec.specs.Term.{bool_sort, Head, verum, falsum, negation, conjunc
 use Rattle.nz_spec.specs.Table.{terms_at}
 use Rattle.nz_spec.specs.Literal.{are_same_sign, once, with_one}
 use Rattle.nz_spec.specs.Gates.{clauses_over}
+use Rattle.nz_log.specs.declared.atoms.Atom.{Atom}
 use Rattle.nz_log.specs.declared.lits.Lit.{Lit}
-use Rattle.nz_log.specs.Lits.{yes, no, are_same_lit}
+use Rattle.nz_log.specs.declared.term_lits.TermLit.{TermLit}
+use Rattle.nz_log.specs.Atoms.{lits_of, term_place}
+use Rattle.nz_log.specs.Lits.{are_same_lit}
+use Rattle.nz_log.specs.TermLits.{yes, no}
 use Rattle.nz_cform.specs.Laws.{is_lit_true}
 
 -- ---- A clause and its literals, each once
@@ -43,6 +47,18 @@ any_put f (x ∷ xs) c e =
 -- where the clause has a true literal, so has the list
 pub any_once : (f : Lit → Bool) (c : List Lit) → list_any f (once are_same_lit c) ≡ true → list_any f c ≡ true
 any_once f c e = any_put f c [] e
+
+-- ---- Literals on terms
+
+-- the literal is true where the terms of numbers have these truths
+abbrev pub is_term_lit_true : (ℕ → Bool) → TermLit → Bool
+is_term_lit_true v l = are_same_sign l.sign (v l.term)
+
+-- literals on atoms say what those on their terms do
+pub any_on_terms : (atoms : List Atom) (w : ℕ → Bool) (c : List TermLit)
+    → list_any (is_lit_true w) (lits_of atoms c) ≡ list_any (is_term_lit_true (λ t. w (term_place atoms t))) c
+any_on_terms atoms w [] = refl
+any_on_terms atoms w (l ∷ c) = ap (λ b. is_term_lit_true (λ t. w (term_place atoms t)) l || b) (any_on_terms atoms w c)
 
 -- ---- Tables of truths: rows that hold fix the truth of the term
 
@@ -88,11 +104,11 @@ choice_row false false x false e f g h = refl
 -- ---- Conjunctions and disjunctions
 
 module _ (v : ℕ → Bool) where
-  abbrev pub Meets : List Lit → Type 0
-  Meets c = list_any (is_lit_true v) c ≡ true
+  abbrev pub Meets : List TermLit → Type 0
+  Meets c = list_any (is_term_lit_true v) c ≡ true
 
   -- all clauses, and the last of them
-  split : (cs : List (List Lit)) (c : List Lit) → AllByRecursion Meets (cs ++ c ∷ []) → AllByRecursion Meets cs × Meets c
+  split : (cs : List (List TermLit)) (c : List TermLit) → AllByRecursion Meets (cs ++ c ∷ []) → AllByRecursion Meets cs × Meets c
   split [] c h = (tt, h.0)
   split (d ∷ ds) c h = let more = split ds c h.1 in ((h.0, more.0), more.1)
 
@@ -106,9 +122,9 @@ module _ (v : ℕ → Bool) where
       both true false c e f g = cc
       both false b c e f g = cc
 
-  not_all : (ks : List ℕ) → list_any (is_lit_true v) (map no ks) ≡ true → list_all v ks ≡ false
+  not_all : (ks : List ℕ) → list_any (is_term_lit_true v) (map no ks) ≡ true → list_all v ks ≡ false
   not_all [] e = cc
-  not_all (k ∷ ks) e = some (v k) (list_any (is_lit_true v) (map no ks)) (list_all v ks) e (not_all ks)
+  not_all (k ∷ ks) e = some (v k) (list_any (is_term_lit_true v) (map no ks)) (list_all v ks) e (not_all ks)
     where
       some : (b c d : Bool) → (not b || c) ≡ true → (c ≡ true → d ≡ false) → (b && d) ≡ false
       some true c d e h = h e
@@ -118,7 +134,7 @@ module _ (v : ℕ → Bool) where
   conjunction_row : (t : ℕ) (ks : List ℕ) → AllByRecursion Meets (map (λ u. no t ∷ yes u ∷ []) ks ++ (yes t ∷ map no ks) ∷ []) → list_all v ks ≡ v t
   conjunction_row t ks h =
       let rows = split (map (λ u. no t ∷ yes u ∷ []) ks) (yes t ∷ map no ks) h in
-      by_truth (v t) (list_any (is_lit_true v) (map no ks)) (list_all v ks) rows.1 (λ e. all_of t ks e rows.0) (not_all ks)
+      by_truth (v t) (list_any (is_term_lit_true v) (map no ks)) (list_all v ks) rows.1 (λ e. all_of t ks e rows.0) (not_all ks)
     where
       by_truth : (w c d : Bool) → (w || c) ≡ true → (w ≡ true → d ≡ true) → (c ≡ true → d ≡ false) → d ≡ w
       by_truth true c d e f g = f refl
@@ -135,7 +151,7 @@ module _ (v : ℕ → Bool) where
       neither true b c e f g = cc
 
   -- its last clause asks for a true one
-  some_of : (ks : List ℕ) → list_any (is_lit_true v) (map yes ks) ≡ list_any v ks
+  some_of : (ks : List ℕ) → list_any (is_term_lit_true v) (map yes ks) ≡ list_any v ks
   some_of [] = refl
   some_of (k ∷ ks) = ap (λ b. v k || b) (some_of ks)
 
@@ -143,7 +159,7 @@ module _ (v : ℕ → Bool) where
   disjunction_row : (t : ℕ) (ks : List ℕ) → AllByRecursion Meets (map (λ u. yes t ∷ no u ∷ []) ks ++ (no t ∷ map yes ks) ∷ []) → list_any v ks ≡ v t
   disjunction_row t ks h =
       let rows = split (map (λ u. yes t ∷ no u ∷ []) ks) (no t ∷ map yes ks) h in
-      by_truth (v t) (list_any (is_lit_true v) (map yes ks)) (list_any v ks) rows.1 (some_of ks) (λ e. none_of t ks e rows.0)
+      by_truth (v t) (list_any (is_term_lit_true v) (map yes ks)) (list_any v ks) rows.1 (some_of ks) (λ e. none_of t ks e rows.0)
     where
       by_truth : (w c d : Bool) → (not w || c) ≡ true → c ≡ d → (w ≡ false → d ≡ false) → d ≡ w
       by_truth true c d e f g = sym f ∙ e
@@ -197,7 +213,7 @@ module _ (a : Assignment) (v : ℕ → Bool) (term : ℕ → Term) where
   on_value false x y = refl
 
   -- clauses on a test
-  on_test : (b : Bool) (cs : List (List Lit)) (w d : Bool) → AllByRecursion (Meets v) (if b then cs else []) → (AllByRecursion (Meets v) cs → d ≡ w)
+  on_test : (b : Bool) (cs : List (List TermLit)) (w d : Bool) → AllByRecursion (Meets v) (if b then cs else []) → (AllByRecursion (Meets v) cs → d ≡ w)
       → ((if b then cs else []) ≡ [] → d ≡ w) → d ≡ w
   on_test true cs w d h f g = f h
   on_test false cs w d h f g = g refl

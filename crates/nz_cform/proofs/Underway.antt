@@ -83,7 +83,7 @@ start_underway ns id level log s inside covers told waiting one =
       };
       added = none_added log;
       grown = grows_itself s level;
-      kept = λ i live. refl;
+      kept = record { clauses = λ i live. refl; atoms = λ i a at. at };
       told = told;
       plain = λ e. subst (All (λ t. holds_number (term_in ns t) ≡ false)) (sym one)
           (All-cons (λ t. holds_number (term_in ns t) ≡ false) id [] e (All-nil (λ t. holds_number (term_in ns t) ≡ false)));
@@ -197,7 +197,10 @@ module _ (ns : List Node) (id level : ℕ) (start : LogState) (first : FormState
             };
             added = added start u.added;
             grown = grows_more first s s' level u.grown grown;
-            kept = λ i live. kept i (subst (λ o. IsSome o) (sym (u.kept i live)) live) ∙ u.kept i live;
+            kept = record {
+              clauses = λ i live. kept.clauses i (subst (λ o. IsSome o) (sym (u.kept.clauses i live)) live) ∙ u.kept.clauses i live;
+              atoms = λ i a at. kept.atoms i a (u.kept.atoms i a at);
+            };
             told = told;
             plain = λ e. All-append (λ v. holds_number (term_in ns v) ≡ false) waiting kids
                 (front (λ v. holds_number (term_in ns v) ≡ false) waiting t (u.plain e)).0

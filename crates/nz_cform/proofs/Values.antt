@@ -8,19 +8,20 @@ use Rattle.nz_spec.specs.Term.{falsum, Term, apply, Assignment, is_true, value_o
 use Rattle.nz_spec.specs.Table.{Node, IsTable, TermOfNode, term_in, terms_at}
 use Rattle.nz_spec.specs.Model.{IsAssignment}
 use Rattle.nz_spec.specs.Gates.{clauses_over, list_of, IsBoolean, HasBooleanArguments}
-use Rattle.nz_log.specs.declared.lits.Lit.{Lit}
-use Rattle.nz_log.specs.Lits.{yes, no, is_boolean_at, gates_at}
+use Rattle.nz_log.specs.declared.term_lits.TermLit.{TermLit}
+use Rattle.nz_log.specs.Atoms.{lits_of}
 use Rattle.nz_log.specs.Logs.{Entry, LogState}
 use Rattle.nz_log.specs.Sound.{IsLog}
+use Rattle.nz_log.specs.TermLits.{yes, no, is_boolean_at, gates_at}
 use Rattle.nz_cform.specs.Forms.{FormState, covered_at, IsCoveredWithin}
-use Rattle.nz_cform.specs.Covering.{Covers, gate_clause}
-use Rattle.nz_cform.specs.Laws.{is_lit_true, MeetsGates, AgreesOnAtoms, GatesTellValues}
+use Rattle.nz_cform.specs.Covering.{Covers, gate_clause, gate_terms}
+use Rattle.nz_cform.specs.Laws.{is_lit_true, term_truth, MeetsGates, AgreesOnAtoms, GatesTellValues}
 use Rattle.nz_cform.proofs.Levels.{level_of}
 use Rattle.nz_cform.proofs.Listing.{has_some}
-use Rattle.nz_cform.proofs.Truths.{Agrees, Meets, any_once, told}
+use Rattle.nz_cform.proofs.Truths.{Agrees, Meets, any_on_terms, any_once, told}
 
 -- what holds of each place holds of each clause
-each_place : (P : List Lit → Type 0) (cs : List (List Lit)) → ((j : ℕ) → j < length cs → P (unwrap_or (slice_get cs j) [])) → AllByRecursion P cs
+each_place : (P : List TermLit → Type 0) (cs : List (List TermLit)) → ((j : ℕ) → j < length cs → P (unwrap_or (slice_get cs j) [])) → AllByRecursion P cs
 each_place P [] f = tt
 each_place P (c ∷ cs) f = (f 0 (omega arith), each_place P cs (λ j inside. f (suc j) (omega arith)))
 
@@ -30,7 +31,10 @@ booleans_at term [] h = tt
 booleans_at term (k ∷ ks) h = (h.0, booleans_at term ks h.1)
 
 module _ (node : TermOfNode) (ns : List Node) (levels : List (List ℕ)) (log : LogState) (s : FormState) (table : IsTable ns) (order : IsLog ns levels log)
-    (covers : Covers ns log s) (a : Assignment) (good : IsAssignment a) (v : ℕ → Bool) (meets : MeetsGates log v) (atoms : AgreesOnAtoms ns s a v) where
+    (covers : Covers ns log s) (a : Assignment) (good : IsAssignment a) (w : ℕ → Bool) (meets : MeetsGates log w) (atoms : AgreesOnAtoms ns s a (term_truth log w)) where
+  abbrev v : ℕ → Bool
+  v = term_truth log w
+
   -- a covered Boolean term has the truth of its number
   abbrev Tells : ℕ → Type 0
   Tells t = IsSome (covered_at s t) → IsBoolean (term_in ns t) → is_true (value_of a (term_in ns t)) ≡ v t
@@ -41,15 +45,16 @@ module _ (node : TermOfNode) (ns : List Node) (levels : List (List ℕ)) (log : 
       each_place (Meets v) (gates_at ns t)
       (λ j inside.
       let has = covers.gates.gates t n j at inside in
-      let c = unwrap_or (slice_get (gates_at ns t) j) [] in
-      any_once (is_lit_true v) c
-      (sym (ap (λ o. list_any (is_lit_true v) (elim o [ None ↦ [] | Some e ↦ e.literals ])) has.1) ∙ meets has.0 t j (ap (option_map (λ (e : Entry). e.origin)) has.1)))
+      let c = gate_terms ns t j in
+      sym (any_on_terms log.atoms w c)
+      ∙ any_once (is_lit_true w) (lits_of log.atoms c)
+      (sym (ap (λ o. list_any (is_lit_true w) (elim o [ None ↦ [] | Some e ↦ e.literals ])) has.1) ∙ meets has.0 t j (ap (option_map (λ (e : Entry). e.origin)) has.1)))
 
   -- a covered term that has gates is over Boolean terms
   over_booleans : (t n : ℕ) → covered_at s t ≡ Some n → 0 < length (gates_at ns t) → HasBooleanArguments (term_in ns t)
   over_booleans t n at some =
       let has = covers.gates.gates t n 0 at some in
-      (order has.0 (gate_clause ns t 0 n) has.1).made.1
+      (order.clauses has.0 (gate_clause ns log.atoms t 0 n) has.1).made.1
 
   -- so have arguments, which are below it
   agree : (t n : ℕ) → ((k : ℕ) → k < t → Tells k) → (ks : List ℕ) → AllByRecursion (λ k. k < t) ks → AllByRecursion (IsCoveredWithin s n) ks
@@ -80,7 +85,7 @@ module _ (node : TermOfNode) (ns : List Node) (levels : List (List ℕ)) (log : 
         (booleans_at (term_in ns) the_node.kids (subst HasBooleanArguments the_term (over_booleans t n at some)))
 
     -- by its gates, or as an atom
-    by_gates : (gs : List (List Lit)) → gates_at ns t ≡ gs → is_true (value_of a (term_in ns t)) ≡ v t
+    by_gates : (gs : List (List TermLit)) → gates_at ns t ≡ gs → is_true (value_of a (term_in ns t)) ≡ v t
     by_gates [] none = atoms t (ap is_some at) boolean none
     by_gates (c ∷ cs) some =
         let value = ap (λ u. is_true (value_of a u)) the_term in

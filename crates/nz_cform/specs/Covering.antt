@@ -3,7 +3,11 @@ use Rattle.std.specs.Prelude.{◌≡◌, ◌≢◌, ◌↔◌, ◌⊎◌, ℕ, �
 use Rattle.std.specs.List.{AllPairs}
 use Rattle.nz_spec.specs.Table.{Node}
 use Rattle.nz_spec.specs.Literal.{once}
-use Rattle.nz_log.specs.Lits.{are_same_lit, gates_at}
+use Rattle.nz_log.specs.declared.atoms.Atom.{Atom}
+use Rattle.nz_log.specs.declared.term_lits.TermLit.{TermLit}
+use Rattle.nz_log.specs.Atoms.{HasTerm, Stay, lits_of}
+use Rattle.nz_log.specs.Lits.{are_same_lit}
+use Rattle.nz_log.specs.TermLits.{gates_at}
 use Rattle.nz_log.specs.Logs.{Origin, gate_of, Entry, LogState, entry_at, IsLive, level_at, told_of, told_level}
 use Rattle.nz_cform.specs.Forms.{FormState, covered_at, IsCoveredWithin}
 
@@ -11,13 +15,21 @@ use Rattle.nz_cform.specs.Forms.{FormState, covered_at, IsCoveredWithin}
 abbrev pub kids_at : List Node → ℕ → List ℕ
 kids_at ns t = elim (slice_get ns t) [ None ↦ [] | Some n ↦ n.kids ]
 
--- the clause of this number of a term of the gate table, at a level
-abbrev pub gate_clause : List Node → ℕ → ℕ → ℕ → Entry
-gate_clause ns t j level = record { literals = once are_same_lit (unwrap_or (slice_get (gates_at ns t) j) []); level = level; origin = gate_of t j }
+-- the clause of this number of a term of the gate table, on terms
+abbrev pub gate_terms : List Node → ℕ → ℕ → List TermLit
+gate_terms ns t j = unwrap_or (slice_get (gates_at ns t) j) []
 
--- the log has it, under some number
+-- the atoms of its terms are there
+abbrev pub AreNamed : List Node → List Atom → ℕ → ℕ → Type 0
+AreNamed ns atoms t j = All (λ (l : TermLit). HasTerm atoms l.term) (gate_terms ns t j)
+
+-- the clause on these atoms, at a level
+abbrev pub gate_clause : List Node → List Atom → ℕ → ℕ → ℕ → Entry
+gate_clause ns atoms t j level = record { literals = once are_same_lit (lits_of atoms (gate_terms ns t j)); level = level; origin = gate_of t j }
+
+-- the log has it, under some number, and its atoms
 abbrev pub HasGate : List Node → LogState → ℕ → ℕ → ℕ → Type 0
-HasGate ns log t j level = (i : ℕ) × (entry_at log i ≡ Some (gate_clause ns t j level))
+HasGate ns log t j level = (i : ℕ) × (entry_at log i ≡ Some (gate_clause ns log.atoms t j level)) × AreNamed ns log.atoms t j
 
 -- how the clause of a number was made, where the log has one
 abbrev pub origin_at : LogState → ℕ → Option Origin
@@ -38,9 +50,10 @@ pub record Covers (ns : List Node) (log : LogState) (s : FormState) : Type 0 whe
 
 -- ---- Changes of the log
 
--- Each clause stays as it is.
-abbrev pub Keeps : LogState → LogState → Type 0
-Keeps old new = (i : ℕ) → IsLive old i → entry_at new i ≡ entry_at old i
+-- Each clause stays as it is, and each atom keeps its number.
+pub record Keeps (old new : LogState) : Type 0 where
+  pub clauses : (i : ℕ) → IsLive old i → entry_at new i ≡ entry_at old i
+  pub atoms : Stay old.atoms new.atoms
 
 -- The clauses that the log has more than before are those of these numbers, each once, and they are gates.
 pub record AreAdded (old : LogState) (ids : List ℕ) (new : LogState) : Type 0 where

@@ -2,13 +2,14 @@
 ghost use Rattle.std.specs.Prelude.{◌≡◌, ℕ, ◌<◌, List, length, OnOk};
 ghost use Rattle.nz_spec.specs.Gates.{HasBooleanArguments};
 ghost use Rattle.nz_spec.specs.Table.{term_in};
-ghost use Rattle.nz_log.specs.Lits.{gates_at};
 ghost use Rattle.nz_log.specs.Logs.{LogState};
 ghost use Rattle.nz_log.specs.Sound.{IsLog};
+ghost use Rattle.nz_log.specs.TermLits.{gates_at};
 ghost use Rattle.nz_cform.specs.Covering.{AreAdded, HasGatesBelow, Keeps};
 ghost use Rattle.nz_cform.specs.Forms.{FormState};
 
 use nz_base::Memory;
+use nz_log::laws::atoms_of_terms;
 use nz_log::{ClauseId, Log, gate_count};
 use nz_term::{TermId, Terms};
 
@@ -26,6 +27,7 @@ pub fn add_gates(
     ensures told { log.new.told ≡ log.old.told }
     ensures sound { (levels : List (List ℕ)) → HasBooleanArguments (term_in terms.now term) → IsLog terms.now levels log.old → IsLog terms.now levels log.new }
 {
+    atoms_of_terms();
     for j in 0..gate_count(terms, term) {
         let clause = log.gate(terms, term, j)?;
         clauses.push(clause)?;

@@ -5,6 +5,7 @@ use Rattle.std.proofs.lemmas.List.{length-append}
 use Rattle.std.proofs.lemmas.List.Elements.{Contains-append_right}
 use Rattle.nz_spec.specs.Table.{Node, IsTable}
 use Rattle.nz_spec.specs.Decide.{asserted_numbers}
+use Rattle.nz_log.specs.Atoms.{AtomsOfTerms}
 use Rattle.nz_log.specs.Logs.{told_of, told_level}
 use Rattle.nz_log.specs.Sound.{GatesAreNamed, live_at}
 use Rattle.nz_engine.specs.Levels.{IsPlaced}
@@ -47,9 +48,9 @@ also_from ns p q b t level c =
     }
 
 -- what is assumed is covered above all levels
-pub term_assumed : (ns : List Node) (levels : List (List ℕ)) (more : List ℕ) (p q : PreparedState) (t level : ℕ) → GatesAreNamed → IsTable ns → t < length ns
+pub term_assumed : (ns : List Node) (levels : List (List ℕ)) (more : List ℕ) (p q : PreparedState) (t level : ℕ) → AtomsOfTerms → GatesAreNamed → IsTable ns → t < length ns
     → CoversAlso ns p t level q → q.above ≡ true → IsAssumable ns levels more t level p → IsStanding ns levels more q
-term_assumed ns levels more p q t level named table within also above a =
+term_assumed ns levels more p q t level atoms named table within also above a =
     let last = a.last in
     let has : Contains (live_at (levels ++ more ∷ []) level) t =
     subst (λ xs. Contains xs t) (sym (live_above levels more level last)) (Contains-append_right (asserted_numbers levels) more t a.named) in
@@ -57,6 +58,6 @@ term_assumed ns levels more p q t level named table within also above a =
     let few = count_within levels level in
     let all = a.all_given in
     record {
-      raised = covered ns levels (levels ++ more ∷ []) p q t level also a.standing.raised named table within a.plain has (omega (arith, long, last)) (omega (arith, few, all));
+      raised = covered ns levels (levels ++ more ∷ []) p q t level also a.standing.raised atoms named table within a.plain has (omega (arith, long, last)) (omega (arith, few, all));
       plain = λ e. absurd (true≢false (sym above ∙ e));
     }

@@ -12,14 +12,12 @@ use Rattle.nz_spec.specs.Order.{post_order, post_orders}
 use Rattle.nz_spec.specs.Decide.{IsValueOf, AreModelValues}
 use Rattle.nz_spec.specs.Gates.{gate_clauses, IsGated, HasTrueLiteral, IsTruthAt, NumberedGatesDecide}
 use Rattle.nz_spec.specs.Literal.{are_same_sign, AreTrueLiterals}
-use Rattle.nz_log.specs.declared.lits.Lit.{Lit}
-use Rattle.nz_log.specs.Lits.{literal_of, clause_in, gates_at}
-use Rattle.nz_log.specs.Sound.{AreWithin, GatesAreNamed}
-use Rattle.nz_log.specs.declared.theory.NoNumbers.{NoNumbers}
-use Rattle.nz_sat.specs.Sats.{SatState, IsTrueClause, IsTrueLit, truth_of}
+use Rattle.nz_log.specs.declared.term_lits.TermLit.{TermLit}
+use Rattle.nz_log.specs.Sound.{GatesAreNamed}
+use Rattle.nz_log.specs.TermLits.{AreOfTerms, clause_of_terms, gates_at, literal_of}
 use Rattle.nz_cform.specs.Covering.{kids_at}
-use Rattle.nz_engine.specs.Checking.{AreGatedAt, terms_named, value_at}
-use Rattle.nz_engine.specs.Preparing.{unit_of}
+use Rattle.nz_engine.specs.Checking.{AreGatedAt, terms_named, truth_in, value_at}
+use Rattle.nz_engine.specs.Preparing.{PreparedState}
 use Rattle.nz_engine.proofs.GateNames.{gates_named}
 use Rattle.nz_engine.proofs.Modeling.{constant_values, is_assignment, listed_truth}
 use Rattle.nz_engine.proofs.Orders.{ArePlain, plain_head}
@@ -77,22 +75,21 @@ module _ (ns : List Node) (truths : ℕ → Option Bool) (a : Assignment) where
 
 -- ---- Clauses and constants of an atom
 
+-- a clause on terms has a true literal
+abbrev pub IsTrueTerms : PreparedState → List TermLit → Type 0
+IsTrueTerms p c = (l : TermLit) × Contains c l × (truth_in p l.term ≡ Some l.sign)
+
 -- a clause that is true by numbers is so by terms
-row_true : (ns : List Node) (s : SatState NoNumbers) (row : List Lit) → AreWithin ns row → IsTrueClause s row → HasTrueLiteral (IsTruthAt ns (truth_of s)) (clause_in ns row)
-row_true ns s row within true_one =
-    let l : Lit = true_one.0 in
-    let below : l.term < length ns = All-contains (λ (m : Lit). m.term < length ns) row l (All-from_recursion (λ (m : Lit). m.term < length ns) row within) true_one.1 in
+row_true : (ns : List Node) (p : PreparedState) (row : List TermLit) → AreOfTerms ns row → IsTrueTerms p row → HasTrueLiteral (IsTruthAt ns (truth_in p)) (clause_of_terms ns row)
+row_true ns p row within true_one =
+    let l : TermLit = true_one.0 in
+    let below : l.term < length ns = All-contains (λ (m : TermLit). m.term < length ns) row l (All-from_recursion (λ (m : TermLit). m.term < length ns) row within) true_one.1 in
     (term_in ns l.term, l.sign, contains_map (literal_of ns) row l true_one.1, (l.term, below, refl, true_one.2))
 
-rows_true : (ns : List Node) (s : SatState NoNumbers) (rows : List (List Lit)) → AllByRecursion (AreWithin ns) rows → AllByRecursion (IsTrueClause s) rows
-    → AllByRecursion (HasTrueLiteral (IsTruthAt ns (truth_of s))) (map (clause_in ns) rows)
-rows_true ns s [] within h = tt
-rows_true ns s (row ∷ rows) within h = (row_true ns s row within.0 h.0, rows_true ns s rows within.1 h.1)
-
-unit_true : (s : SatState NoNumbers) (t : ℕ) → IsTrueClause s (unit_of t) → truth_of s t ≡ Some true
-unit_true s t h =
-    let P = λ (l : Lit). IsTrueLit s l → truth_of s t ≡ Some true in
-    All-contains P (unit_of t) h.0 (All-from_recursion P (unit_of t) ((λ e. e), tt)) h.1 h.2
+rows_true : (ns : List Node) (p : PreparedState) (rows : List (List TermLit)) → AllByRecursion (AreOfTerms ns) rows → AllByRecursion (IsTrueTerms p) rows
+    → AllByRecursion (HasTrueLiteral (IsTruthAt ns (truth_in p))) (map (clause_of_terms ns) rows)
+rows_true ns p [] within h = tt
+rows_true ns p (row ∷ rows) within h = (row_true ns p row within.0 h.0, rows_true ns p rows within.1 h.1)
 
 -- ---- Answers
 
@@ -104,25 +101,25 @@ each_true : (ns : List Node) (a : Assignment) (ts : List ℕ) → AllByRecursion
 each_true ns a [] h = tt
 each_true ns a (t ∷ ts) h = (ap is_true h.0, each_true ns a ts h.1)
 
-signs_true : (ns : List Node) (a : Assignment) (ls : List Lit) → AllByRecursion (λ (l : Lit). value_of a (term_in ns l.term) ≡ truth l.sign) ls → AreTrueLiterals a (map (literal_of ns) ls)
+signs_true : (ns : List Node) (a : Assignment) (ls : List TermLit) → AllByRecursion (λ (l : TermLit). value_of a (term_in ns l.term) ≡ truth l.sign) ls → AreTrueLiterals a (map (literal_of ns) ls)
 signs_true ns a [] h = tt
 signs_true ns a (l ∷ ls) h = (ap (λ v. are_same_sign l.sign (is_true v)) h.0 ∙ itself l.sign, signs_true ns a ls h.1)
 
 -- What is asserted and assumed is of the gate table, and under the truths of its atoms, among which are arguments of each, each clause and each assumed
 -- literal is true.
-pub record IsFound (ns : List Node) (asserted : List ℕ) (assumed : List Lit) (atoms : List ℕ) (s : SatState NoNumbers) : Type 0 where
+pub record IsFound (ns : List Node) (asserted : List ℕ) (assumed : List TermLit) (atoms : List ℕ) (p : PreparedState) : Type 0 where
   pub within : All (λ t. t < length ns) atoms
   pub plain : ArePlain ns atoms
   pub arguments : (t : ℕ) → Contains atoms t → All (Contains atoms) (kids_at ns t)
   pub roots_in : All (Contains atoms) (asserted ++ terms_named assumed)
   pub gated : AreGatedAt ns (asserted ++ terms_named assumed)
-  pub rows : (t : ℕ) → Contains atoms t → AllByRecursion (IsTrueClause s) (gates_at ns t)
-  pub units : All (λ t. IsTrueClause s (unit_of t)) asserted
-  pub assumed_hold : All (IsTrueLit s) assumed
+  pub rows : (t : ℕ) → Contains atoms t → AllByRecursion (IsTrueTerms p) (gates_at ns t)
+  pub units : All (λ t. truth_in p t ≡ Some true) asserted
+  pub assumed_hold : All (λ (l : TermLit). truth_in p l.term ≡ Some l.sign) assumed
 
 module _ (law : NumberedGatesDecide) (named : GatesAreNamed) (one_number : OneNumber) (of_node : TermOfNode) (assigns : AssignsByNumber)
-    (ns : List Node) (table : IsTable ns) (asserted : List ℕ) (assumed : List Lit) (atoms : List ℕ) (s : SatState NoNumbers) (found : IsFound ns asserted assumed atoms s)
-    (ps : List (ℕ × Value)) (listed : ps ≡ flat_map (value_at ns s) atoms) where
+    (ns : List Node) (table : IsTable ns) (asserted : List ℕ) (assumed : List TermLit) (atoms : List ℕ) (p : PreparedState) (found : IsFound ns asserted assumed atoms p)
+    (ps : List (ℕ × Value)) (listed : ps ≡ flat_map (value_at ns p) atoms) where
   abbrev values : Assignment
   values = assignment_by ns ps
 
@@ -133,7 +130,7 @@ module _ (law : NumberedGatesDecide) (named : GatesAreNamed) (one_number : OneNu
   numberless t has = All-contains (λ i. holds_number (term_in ns i) ≡ false) atoms t found.plain has
 
   -- a constant among the atoms has its truth as its value
-  constant_value : (t : ℕ) → Contains atoms t → (c : Constant) (sign : Bool) → term_in ns t ≡ apply (constant c) no_terms → truth_of s t ≡ Some sign → values c ≡ truth sign
+  constant_value : (t : ℕ) → Contains atoms t → (c : Constant) (sign : Bool) → term_in ns t ≡ apply (constant c) no_terms → truth_in p t ≡ Some sign → values c ≡ truth sign
   constant_value t has c sign is found_truth =
       let n : Node = get_or ns t (record { head = falsum; kids = [] }) in
       let at : slice_get ns t ≡ Some n = slice_get-get_or ns t (record { head = falsum; kids = [] }) (within t has) in
@@ -141,36 +138,36 @@ module _ (law : NumberedGatesDecide) (named : GatesAreNamed) (one_number : OneNu
       let head : n.head ≡ constant c = cc in
       let parts = or_parts (is_numeric (constant c)) false (subst (λ u. holds_number u ≡ false) is (numberless t has)) in
       let bool : is_bool c.sort ≡ true = plain_head (constant c) parts.0 in
-      let own = listed_truth ns s atoms t c sign has (ap (option_map (λ (m : Node). m.head)) at ∙ ap Some head) bool found_truth in
+      let own = listed_truth ns p atoms t c sign has (ap (option_map (λ (m : Node). m.head)) at ∙ ap Some head) bool found_truth in
       assigns ns table ps t n c at head ∙ ap (λ qs. unwrap_or (listed_value qs t) (default_value c.sort)) listed ∙ ap (λ o. unwrap_or o (default_value c.sort)) own
 
-  settled : (t : ℕ) → Contains atoms t → IsSettled ns (truth_of s) values (term_in ns t)
+  settled : (t : ℕ) → Contains atoms t → IsSettled ns (truth_in p) values (term_in ns t)
   settled t has =
       let kids : AllByRecursion (λ k. k < length ns) (kids_at ns t) =
       recursion_from_All (λ k. k < length ns) (kids_at ns t) (All-weaker (Contains atoms) (λ k. k < length ns) within (kids_at ns t) (found.arguments t has)) in
-      let names : AllByRecursion (AreWithin ns) (gates_at ns t) = gates_named (λ k. k < length ns) ns t (within t has) kids in
+      let names : AllByRecursion (AreOfTerms ns) (gates_at ns t) = gates_named (λ k. k < length ns) ns t (within t has) kids in
       record {
-        clauses = subst (AllByRecursion (HasTrueLiteral (IsTruthAt ns (truth_of s)))) (named ns table t (within t has)) (rows_true ns s (gates_at ns t) names (found.rows t has));
+        clauses = subst (AllByRecursion (HasTrueLiteral (IsTruthAt ns (truth_in p)))) (named ns table t (within t has)) (rows_true ns p (gates_at ns t) names (found.rows t has));
         value = λ c sign is h.
             let same : h.0 ≡ t = one_number ns table h.0 t h.1 (within t has) h.2 in
-            constant_value t has c sign is (ap (truth_of s) (sym same) ∙ h.3);
+            constant_value t has c sign is (ap (truth_in p) (sym same) ∙ h.3);
       }
 
   abbrev roots : List ℕ
   roots = asserted ++ terms_named assumed
 
-  decided_all : All (IsDecided ns (truth_of s) values) roots
+  decided_all : All (IsDecided ns (truth_in p) values) roots
   decided_all k d below =
       let t : ℕ = get_or roots k d in
       let has : Contains atoms t = found.roots_in k d below in
-      decided ns (truth_of s) values law (one_number ns table) t (within t has) (found.gated k d below)
-      (all_parts of_node ns table (Contains atoms) (IsSettled ns (truth_of s) values) within found.arguments settled t has)
+      decided ns (truth_in p) values law (one_number ns table) t (within t has) (found.gated k d below)
+      (all_parts of_node ns table (Contains atoms) (IsSettled ns (truth_in p) values) within found.arguments settled t has)
 
   model_of : AreModelValues ns (map (term_in ns) asserted) [] ps
   model_of =
-      let constants = subst (AllByRecursion (IsValueOf ns)) (sym listed) (constant_values ns s atoms) in
-      let own = all_of_first (IsDecided ns (truth_of s) values) asserted (terms_named assumed) decided_all in
-      let hold : All (λ t. value_of values (term_in ns t) ≡ truth true) asserted = λ k d below. own k d below true (unit_true s (get_or asserted k d) (found.units k d below)) in
+      let constants = subst (AllByRecursion (IsValueOf ns)) (sym listed) (constant_values ns p atoms) in
+      let own = all_of_first (IsDecided ns (truth_in p) values) asserted (terms_named assumed) decided_all in
+      let hold : All (λ t. value_of values (term_in ns t) ≡ truth true) asserted = λ k d below. own k d below true (found.units k d below) in
       record {
         values = constants;
         makes = record {
@@ -182,9 +179,9 @@ module _ (law : NumberedGatesDecide) (named : GatesAreNamed) (one_number : OneNu
 
   literals_of : AreTrueLiterals values (map (literal_of ns) assumed)
   literals_of =
-      let own = all_named (IsDecided ns (truth_of s) values) assumed (all_of_others (IsDecided ns (truth_of s) values) asserted (terms_named assumed) decided_all) in
-      let hold : All (λ (l : Lit). value_of values (term_in ns l.term) ≡ truth l.sign) assumed = λ k d below. own k d below (get_or assumed k d).sign (found.assumed_hold k d below) in
-      signs_true ns values assumed (recursion_from_All (λ (l : Lit). value_of values (term_in ns l.term) ≡ truth l.sign) assumed hold)
+      let own = all_named (IsDecided ns (truth_in p) values) assumed (all_of_others (IsDecided ns (truth_in p) values) asserted (terms_named assumed) decided_all) in
+      let hold : All (λ (l : TermLit). value_of values (term_in ns l.term) ≡ truth l.sign) assumed = λ k d below. own k d below (get_or assumed k d).sign (found.assumed_hold k d below) in
+      signs_true ns values assumed (recursion_from_All (λ (l : TermLit). value_of values (term_in ns l.term) ≡ truth l.sign) assumed hold)
 
   pub made_true : AreModelValues ns (map (term_in ns) asserted) [] ps × AreTrueLiterals values (map (literal_of ns) assumed)
   made_true = (model_of, literals_of)

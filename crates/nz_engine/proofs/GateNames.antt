@@ -9,8 +9,10 @@ use Rattle.nz_spec.specs.Table.{Node}
 use Rattle.nz_spec.specs.Literal.{with_one, once}
 use Rattle.nz_spec.specs.Gates.{clauses_over}
 use Rattle.nz_log.specs.declared.lits.Lit.{Lit}
-use Rattle.nz_log.specs.Lits.{yes, no, are_same_lit, is_boolean_at, gates_at}
-use Rattle.nz_cform.specs.Covering.{kids_at}
+use Rattle.nz_log.specs.declared.term_lits.TermLit.{TermLit}
+use Rattle.nz_log.specs.Lits.{are_same_lit}
+use Rattle.nz_log.specs.TermLits.{yes, no, is_boolean_at, gates_at}
+use Rattle.nz_cform.specs.Covering.{gate_terms, kids_at}
 
 -- ---- Each literal once
 
@@ -35,8 +37,8 @@ once_from ls l c =
 -- ---- Names
 
 module _ (Q : ℕ → Type 0) where
-  abbrev Named : List Lit → Type 0
-  Named c = AllByRecursion (λ (l : Lit). Q l.term) c
+  abbrev Named : List TermLit → Type 0
+  Named c = AllByRecursion (λ (l : TermLit). Q l.term) c
 
   each_yes : (ks : List ℕ) → AllByRecursion Q ks → Named (map yes ks)
   each_yes [] h = tt
@@ -46,15 +48,15 @@ module _ (Q : ℕ → Type 0) where
   each_no [] h = tt
   each_no (k ∷ ks) h = (h.0, each_no ks h.1)
 
-  pairs_yes : (first : Lit) → Q first.term → (ks : List ℕ) → AllByRecursion Q ks → AllByRecursion Named (map (λ u. first ∷ yes u ∷ []) ks)
+  pairs_yes : (first : TermLit) → Q first.term → (ks : List ℕ) → AllByRecursion Q ks → AllByRecursion Named (map (λ u. first ∷ yes u ∷ []) ks)
   pairs_yes first q [] h = tt
   pairs_yes first q (k ∷ ks) h = ((q, (h.0, tt)), pairs_yes first q ks h.1)
 
-  pairs_no : (first : Lit) → Q first.term → (ks : List ℕ) → AllByRecursion Q ks → AllByRecursion Named (map (λ u. first ∷ no u ∷ []) ks)
+  pairs_no : (first : TermLit) → Q first.term → (ks : List ℕ) → AllByRecursion Q ks → AllByRecursion Named (map (λ u. first ∷ no u ∷ []) ks)
   pairs_no first q [] h = tt
   pairs_no first q (k ∷ ks) h = ((q, (h.0, tt)), pairs_no first q ks h.1)
 
-  on_test : (b : Bool) (cs : List (List Lit)) → AllByRecursion Named cs → AllByRecursion Named (if b then cs else [])
+  on_test : (b : Bool) (cs : List (List TermLit)) → AllByRecursion Named cs → AllByRecursion Named (if b then cs else [])
   on_test true cs h = h
   on_test false cs h = tt
 
@@ -75,7 +77,7 @@ module _ (Q : ℕ → Type 0) where
       ((q, (k.0, (k.1.0, tt))), ((q, (k.0, (k.1.1.0, tt))), ((q, (k.0, (k.1.0, tt))), ((q, (k.0, (k.1.1.0, tt))), tt))))
   over_named is_boolean t h ks q k = tt
 
-  row_named : (cs : List (List Lit)) (j : ℕ) → AllByRecursion Named cs → Named (unwrap_or (slice_get cs j) [])
+  row_named : (cs : List (List TermLit)) (j : ℕ) → AllByRecursion Named cs → Named (unwrap_or (slice_get cs j) [])
   row_named [] j h = tt
   row_named (c ∷ cs) zero h = h.0
   row_named (c ∷ cs) (suc j) h = row_named cs j h.1
@@ -89,5 +91,5 @@ module _ (Q : ℕ → Type 0) where
   gates_named ns t q k = gates_of ns t (slice_get ns t) q k
 
   -- so does the clause of each number
-  pub gate_named : (ns : List Node) (t j : ℕ) → Q t → AllByRecursion Q (kids_at ns t) → Named (once are_same_lit (unwrap_or (slice_get (gates_at ns t) j) []))
-  gate_named ns t j q k = once_kept (λ (l : Lit). Q l.term) (unwrap_or (slice_get (gates_at ns t) j) []) (row_named (gates_at ns t) j (gates_named ns t q k))
+  pub gate_named : (ns : List Node) (t j : ℕ) → Q t → AllByRecursion Q (kids_at ns t) → Named (gate_terms ns t j)
+  gate_named ns t j q k = row_named (gates_at ns t) j (gates_named ns t q k)

@@ -1,6 +1,6 @@
 -- What is prepared stays so when levels go on, when a level is put above them, when the table grows, and when levels are cut.
 use Rattle.std.proofs.Common.{◌≡◌, ℕ, suc, ◌<◌, ◌≤◌, ◌⊎◌, inl, inr, Bool, true, false, true≢false, List, [], ◌∷◌, ◌++◌, length, take, Option, Some, None, refl, sym, ap, subst, ◌∙◌, arith, cond}
-use Rattle.std.specs.Prelude.{Contains, IsSome, nat_le, unwrap_or, option_map, slice_get, if◌then◌else◌}
+use Rattle.std.specs.Prelude.{All, Contains, IsSome, nat_le, unwrap_or, option_map, slice_get, if◌then◌else◌}
 use Rattle.std.specs.List.{AllByRecursion}
 use Rattle.std.proofs.lemmas.Bool.{leb-true, le-leb}
 use Rattle.std.proofs.lemmas.List.{length-append, take-append-le}
@@ -10,16 +10,19 @@ use Rattle.nz_lists.proofs.Options.{kept_if}
 use Rattle.nz_spec.specs.Table.{Node, IsTable, TermStays, term_in}
 use Rattle.nz_spec.specs.Order.{post_order}
 use Rattle.nz_spec.specs.Decide.{asserted_numbers}
+use Rattle.nz_log.specs.declared.atoms.Atom.{Atom}
+use Rattle.nz_log.specs.Atoms.{HasTerm, lit_of}
 use Rattle.nz_log.specs.Leveled.{LogsStayLeveled}
-use Rattle.nz_log.specs.Logs.{gate_of, Origin, Entry, entry_at, IsLive, level_at, told_of, told_level, kept_below, told_below}
+use Rattle.nz_log.specs.Logs.{gate_of, Origin, Entry, entry_at, IsLive, level_at, literals_at, told_of, told_level, kept_below, told_below}
 use Rattle.nz_log.specs.Sound.{live_at, LogsStay}
+use Rattle.nz_log.specs.TermLits.{yes}
 use Rattle.nz_cform.specs.Covering.{origin_at}
 use Rattle.nz_cform.specs.Forms.{covered_at}
 use Rattle.nz_cform.specs.Laws.{CoversStay}
 use Rattle.nz_sat.specs.declared.clauses.Held.{Held}
 use Rattle.nz_sat.specs.Sats.{AreHeld, held_of, held_up_to}
 use Rattle.nz_engine.specs.Levels.{count_in, count_of}
-use Rattle.nz_engine.specs.Preparing.{PreparedState, HoldsUnit, IsMadeOf, IsPrepared, IsStanding, CutsTo, nothing_prepared}
+use Rattle.nz_engine.specs.Preparing.{PreparedState, AreOnTerms, HoldsUnit, IsOnTerm, IsMadeOf, IsPrepared, IsStanding, CutsTo, nothing_prepared}
 use Rattle.nz_engine.proofs.Placing.{GoOn, count_all, count_cut, count_more, in_all, live_cut, longer_cut, lower_or_not, place_of, stands_there}
 
 pub none_or_some : {X : Type 0} (o : Option X) → (o ≡ None) ⊎ ((x : X) × (o ≡ Some x))
@@ -53,6 +56,7 @@ none_prepared stay covers leveled ns levels roots =
       made = λ t n at. cc;
       leveled = leveled.start;
       held = All-from_recursion _ [] tt;
+      on_terms = All-from_recursion _ [] tt;
       gates = λ i t j at. cc;
       units = λ k t below at. absurd (omega (arith, below));
       within = omega arith;
@@ -81,6 +85,7 @@ module _ (ns : List Node) (old new : List (List ℕ)) (p : PreparedState) (on : 
       record {
         held = u.held;
         there = u.there;
+        named = u.named;
         literals = u.literals;
         behind = subst (λ n. n ≤ k) (sym (on.counts u.held.level (unit_below k t below u))) u.behind;
       }
@@ -104,6 +109,7 @@ module _ (ns : List Node) (old new : List (List ℕ)) (p : PreparedState) (on : 
             (λ r has. let place = place_of (live_at old n) r has in stands_there (live_at new n) place.0 r (on.more n place.0 r place.1)) (h.made t n at);
         leveled = h.leveled;
         held = h.held;
+        on_terms = h.on_terms;
         gates = h.gates;
         units = goes_units;
         within = let within = h.within in let total = on.total in omega (arith, within, total);
@@ -123,6 +129,7 @@ raised ns levels more p h =
           subst (λ ls. IsMadeOf ns ls t) (sym (ap asserted_numbers (take-append-le (suc n) levels (more ∷ []) (omega (arith, low))))) (h.made t n at);
       leveled = h.leveled;
       held = h.held;
+      on_terms = h.on_terms;
       gates = h.gates;
       units = h.units;
       within = h.within;
@@ -154,6 +161,7 @@ grown terms stay covers ns more levels roots p table h =
           };
       leveled = h.leveled;
       held = h.held;
+      on_terms = h.on_terms;
       gates = h.gates;
       units = h.units;
       within = h.within;
@@ -237,6 +245,19 @@ module _ (ns : List Node) (levels roots : List (List ℕ)) (p q : PreparedState)
       (subst (λ o. IsSome o) (sym same) k.0, ap (λ (o : Option Entry). elim o [ None ↦ 0 | Some e ↦ e.level ]) same ∙ k.1))
       p.sat.clauses (recursion_from_All P p.sat.clauses h.held)))
 
+  cut_on_terms : AreOnTerms q.log q.sat.clauses
+  cut_on_terms =
+      let P = λ (x : Held). (IsLive p.log x.id × (level_at p.log x.id ≡ x.level)) × All (IsOnTerm p.log.atoms) (literals_at p.log x.id) in
+      let Q = λ (x : Held). All (IsOnTerm q.log.atoms) (literals_at q.log x.id) in
+      subst (AreOnTerms q.log) (sym c.clauses)
+      (All-from_recursion Q (held_up_to m p.sat.clauses)
+      (up_to P Q m
+      (λ x low k.
+      let same = same_entry x.id k.0.0 (subst (λ n. n ≤ m) (sym k.0.1) low) in
+      subst (λ (atoms : List Atom). All (IsOnTerm atoms) (literals_at q.log x.id)) (sym c.log.atoms)
+      (subst (All (IsOnTerm p.log.atoms)) (sym (ap (λ (o : Option Entry). elim o [ None ↦ [] | Some e ↦ e.literals ]) same)) k.1))
+      p.sat.clauses (recursion_from_All P p.sat.clauses (λ k d inside. (h.held k d inside, h.on_terms k d inside)))))
+
   cut_gates : (i t j : ℕ) → origin_at q.log i ≡ Some (gate_of t j) → Contains q.sat.clauses (held_of q.log i)
   cut_gates i t j at =
       let was = origin_kept m (gate_of t j) (entry_at p.log i) (ap (option_map (λ (e : Entry). e.origin)) (sym (c.log.entries i)) ∙ at) in
@@ -259,7 +280,9 @@ module _ (ns : List Node) (levels roots : List (List ℕ)) (p q : PreparedState)
       record {
         held = u.held;
         there = subst (λ hs. Contains hs u.held) (sym c.clauses) (kept_up_to m p.sat.clauses u.held u.there low);
-        literals = ap (λ (o : Option Entry). elim o [ None ↦ [] | Some e ↦ e.literals ]) same ∙ u.literals;
+        named = subst (λ (atoms : List Atom). HasTerm atoms t) (sym c.log.atoms) u.named;
+        literals = ap (λ (o : Option Entry). elim o [ None ↦ [] | Some e ↦ e.literals ]) same ∙ u.literals
+            ∙ ap (λ (atoms : List Atom). lit_of atoms (yes t) ∷ []) (sym c.log.atoms);
         behind = subst (λ n. n ≤ k) (sym (count_cut levels m u.held.level (omega (arith, low)))) behind;
       }
 
@@ -288,6 +311,7 @@ module _ (ns : List Node) (levels roots : List (List ℕ)) (p q : PreparedState)
             subst (λ ls. IsMadeOf ns ls t) (sym (live_cut roots m n was.1)) (h.made t n was.0);
         leveled = leveled.dropped p.log q.log m c.log h.leveled;
         held = cut_held;
+        on_terms = cut_on_terms;
         gates = cut_gates;
         units = cut_units;
         within = let count = c.given in omega (arith, count);

@@ -10,9 +10,8 @@ use Rattle.nz_spec.specs.Term.{Sort, bool_sort, int_sort, real_sort, is_bool, ar
 use Rattle.nz_spec.specs.Table.{Node, is_node_of, listed_value, assignment_by}
 use Rattle.nz_spec.specs.Decide.{IsValueOf}
 use Rattle.nz_spec.specs.Model.{IsAssignment}
-use Rattle.nz_log.specs.declared.theory.NoNumbers.{NoNumbers}
-use Rattle.nz_sat.specs.Sats.{SatState, truth_of}
-use Rattle.nz_engine.specs.Checking.{value_as, value_at}
+use Rattle.nz_engine.specs.Checking.{truth_in, value_as, value_at}
+use Rattle.nz_engine.specs.Preparing.{PreparedState}
 
 -- ---- Values of their sorts
 
@@ -64,10 +63,10 @@ module _ (ns : List Node) (t : ℕ) where
   by_node None o at = tt
   by_node (Some n) o at = by_head n.head n.kids o at
 
-pub constant_values : (ns : List Node) (s : SatState NoNumbers) (ts : List ℕ) → AreConstantValues ns (flat_map (value_at ns s) ts)
-constant_values ns s [] = tt
-constant_values ns s (t ∷ ts) =
-    AllByRecursion-append (IsValueOf ns) (value_at ns s t) (flat_map (value_at ns s) ts) (by_node ns t (slice_get ns t) (truth_of s t) refl) (constant_values ns s ts)
+pub constant_values : (ns : List Node) (p : PreparedState) (ts : List ℕ) → AreConstantValues ns (flat_map (value_at ns p) ts)
+constant_values ns p [] = tt
+constant_values ns p (t ∷ ts) =
+    AllByRecursion-append (IsValueOf ns) (value_at ns p t) (flat_map (value_at ns p) ts) (by_node ns t (slice_get ns t) (truth_in p t) refl) (constant_values ns p ts)
 
 -- ---- What is listed
 
@@ -79,22 +78,22 @@ skipped : (t u : ℕ) (h : Option Head) (o : Option Bool) (ps : List (ℕ × Val
 skipped t u (Some (constant c)) (Some b) ps e = skip_test t u (truth b) ps (is_bool c.sort) e
 skipped t u h o ps e = refl
 
-listed_at : (ns : List Node) (s : SatState NoNumbers) (t : ℕ) (b : Bool) → value_at ns s t ≡ (t, truth b) ∷ [] → (ts : List ℕ) → Contains ts t
-    → listed_value (flat_map (value_at ns s) ts) t ≡ Some (truth b)
-listed_at ns s t b own [] has = let below : has.0 < 0 = has.1 in absurd (omega (arith, below))
-listed_at ns s t b own (u ∷ us) has =
-    let rest = flat_map (value_at ns s) us in
+listed_at : (ns : List Node) (p : PreparedState) (t : ℕ) (b : Bool) → value_at ns p t ≡ (t, truth b) ∷ [] → (ts : List ℕ) → Contains ts t
+    → listed_value (flat_map (value_at ns p) ts) t ≡ Some (truth b)
+listed_at ns p t b own [] has = let below : has.0 < 0 = has.1 in absurd (omega (arith, below))
+listed_at ns p t b own (u ∷ us) has =
+    let rest = flat_map (value_at ns p) us in
     elim (eqb_tells u t) [
       | inl same ↦
-          ap (λ k. listed_value (value_at ns s k ++ rest) t) same.1 ∙ ap (λ ps. listed_value (ps ++ rest) t) own ∙ ap (λ x. if x then Some (truth b) else listed_value rest t) (eq-eqb t t refl)
+          ap (λ k. listed_value (value_at ns p k ++ rest) t) same.1 ∙ ap (λ ps. listed_value (ps ++ rest) t) own ∙ ap (λ x. if x then Some (truth b) else listed_value rest t) (eq-eqb t t refl)
       | inr other ↦
-          skipped t u (option_map (λ (m : Node). m.head) (slice_get ns u)) (truth_of s u) rest other.0 ∙ listed_at ns s t b own us (Contains-tail u us t other.1 has)
+          skipped t u (option_map (λ (m : Node). m.head) (slice_get ns u)) (truth_in p u) rest other.0 ∙ listed_at ns p t b own us (Contains-tail u us t other.1 has)
     ]
 
 -- a constant of sort Bool with a truth is listed with it
-pub listed_truth : (ns : List Node) (s : SatState NoNumbers) (ts : List ℕ) (t : ℕ) (c : Constant) (b : Bool) → Contains ts t → option_map (λ (n : Node). n.head) (slice_get ns t) ≡ Some (constant c)
-    → is_bool c.sort ≡ true → truth_of s t ≡ Some b → listed_value (flat_map (value_at ns s) ts) t ≡ Some (truth b)
-listed_truth ns s ts t c b has head bool found =
-    let own : value_at ns s t ≡ (t, truth b) ∷ [] =
-    ap (λ h. value_as t h (truth_of s t)) head ∙ ap (λ o. value_as t (Some (constant c)) o) found ∙ ap (λ x. if x then (t, truth b) ∷ [] else []) bool in
-    listed_at ns s t b own ts has
+pub listed_truth : (ns : List Node) (p : PreparedState) (ts : List ℕ) (t : ℕ) (c : Constant) (b : Bool) → Contains ts t → option_map (λ (n : Node). n.head) (slice_get ns t) ≡ Some (constant c)
+    → is_bool c.sort ≡ true → truth_in p t ≡ Some b → listed_value (flat_map (value_at ns p) ts) t ≡ Some (truth b)
+listed_truth ns p ts t c b has head bool found =
+    let own : value_at ns p t ≡ (t, truth b) ∷ [] =
+    ap (λ h. value_as t h (truth_in p t)) head ∙ ap (λ o. value_as t (Some (constant c)) o) found ∙ ap (λ x. if x then (t, truth b) ∷ [] else []) bool in
+    listed_at ns p t b own ts has

@@ -16,7 +16,7 @@ use Rattle.nz_spec.specs.Gates.{is_boolean_term}
 use Rattle.nz_spec.specs.Work.{WorkLine, UnitLine, NoteLine, WorkList, unit_count}
 use Rattle.nz_spec.specs.Reply as reply
 use Rattle.nz_spec.specs.Legal.{Task, Search, at_first, after_line, AreLegal}
-use Rattle.nz_log.specs.declared.lits.Lit.{Lit}
+use Rattle.nz_log.specs.declared.term_lits.TermLit.{TermLit}
 use Rattle.nz_log.specs.declared.note.Note.{Note}
 use Rattle.nz_log.specs.declared.note.Note.TheVariants.{Atom}
 use Rattle.nz_log.specs.Notes.{noted_line, noted_list, AreNotedWithin}
@@ -171,7 +171,7 @@ each_listed (t ∷ ts) u c =
       | inr other ↦ Contains-append_right (listing_order t) (flat_map listing_order ts) u (each_listed ts u other)
     ]
 
-named_terms : (ns : List Node) (ls : List Lit) → map (term_in ns) (terms_named ls) ≡ map (λ (l : Lit). term_in ns l.term) ls
+named_terms : (ns : List Node) (ls : List TermLit) → map (term_in ns) (terms_named ls) ≡ map (λ (l : TermLit). term_in ns l.term) ls
 named_terms ns [] = refl
 named_terms ns (l ∷ ls) = ap (λ ts. term_in ns l.term ∷ ts) (named_terms ns ls)
 
@@ -180,14 +180,14 @@ both P Q [] h k = tt
 both P Q (x ∷ xs) h k = ((h.0, k.0), both P Q xs h.1 k.1)
 
 -- so each of them may be named
-pub nameable : (ns : List Node) (levels : List (List ℕ)) (assumed : List Lit) → ArePlain ns (asserted_numbers levels ++ terms_named assumed)
+pub nameable : (ns : List Node) (levels : List (List ℕ)) (assumed : List TermLit) → ArePlain ns (asserted_numbers levels ++ terms_named assumed)
     → AllByRecursion (IsNameable (task_in ns levels assumed)) (flat_map post_order (map (term_in ns) (asserted_numbers levels ++ terms_named assumed)))
 nameable ns levels assumed plain =
     let roots = asserted_numbers levels ++ terms_named assumed in
     let ts = map (term_in ns) roots in
     let all = flat_map post_order ts in
     let q = task_in ns levels assumed in
-    let same : ts ≡ asserted_terms ns levels ++ map (λ (l : Lit). term_in ns l.term) assumed =
+    let same : ts ≡ asserted_terms ns levels ++ map (λ (l : TermLit). term_in ns l.term) assumed =
     map-append (term_in ns) (asserted_numbers levels) (terms_named assumed) ∙ ap (λ us. asserted_terms ns levels ++ us) (named_terms ns assumed) in
     let listed : (u : Term) → Contains all u → Contains q.listed u = λ u c. subst (λ us. Contains (flat_map listing_order us) u) same (each_listed ts u c) in
     let contains : AllByRecursion (Contains q.listed) all = recursion_from_All (Contains q.listed) all (All-weaker (Contains all) (Contains q.listed) listed all (All-contains_itself all)) in

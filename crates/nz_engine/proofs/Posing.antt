@@ -7,7 +7,7 @@ use Rattle.nz_lists.proofs.Elements.{AllByRecursion-map}
 use Rattle.nz_spec.specs.Term.{holds_number}
 use Rattle.nz_spec.specs.Table.{Node, term_in}
 use Rattle.nz_spec.specs.Gates.{IsGated, GatedTermsArePlain}
-use Rattle.nz_log.specs.declared.lits.Lit.{Lit}
+use Rattle.nz_log.specs.declared.term_lits.TermLit.{TermLit}
 use Rattle.nz_engine.specs.Checking.{AreGatedAt, terms_named}
 use Rattle.nz_engine.proofs.Orders.{ArePlain}
 
@@ -27,12 +27,12 @@ each_of P [] ys h = (tt, h)
 each_of P (x ∷ xs) ys h = let rest = each_of P xs ys h.1 in ((h.0, rest.0), rest.1)
 
 -- what holds of the terms that literals name holds of those of the literals
-pub all_named : (P : ℕ → Type 0) (ls : List Lit) → All P (terms_named ls) → All (λ (l : Lit). P l.term) ls
-all_named P ls h = All-from_recursion (λ (l : Lit). P l.term) ls (AllByRecursion-map P (λ (l : Lit). l.term) ls (recursion_from_All P (terms_named ls) h))
+pub all_named : (P : ℕ → Type 0) (ls : List TermLit) → All P (terms_named ls) → All (λ (l : TermLit). P l.term) ls
+all_named P ls h = All-from_recursion (λ (l : TermLit). P l.term) ls (AllByRecursion-map P (λ (l : TermLit). l.term) ls (recursion_from_All P (terms_named ls) h))
 
 -- ---- Roots
 
-pub gated_roots : (ns : List Node) (asserted : List ℕ) (assumed : List Lit) → AreGatedAt ns asserted → AreGatedAt ns (terms_named assumed)
+pub gated_roots : (ns : List Node) (asserted : List ℕ) (assumed : List TermLit) → AreGatedAt ns asserted → AreGatedAt ns (terms_named assumed)
     → AreGatedAt ns (asserted ++ terms_named assumed)
 gated_roots ns asserted assumed h k = All-append (λ t. IsGated (term_in ns t)) asserted (terms_named assumed) h k
 

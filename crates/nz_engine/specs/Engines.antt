@@ -1,8 +1,11 @@
 -- What an engine holds.
-use Rattle.std.specs.Prelude.{ℕ, List, [], Option, Some, None, option_map, ⊤}
+use Rattle.std.specs.Prelude.{ℕ, List, [], ◌∷◌, Option, Some, None, option_map, slice_get, ⊤}
 use Rattle.std.specs.declared.snapshot.Snapshot.{Snapshot}
 use Rattle.nz_spec.specs.Table.{Node, IsTable}
+use Rattle.nz_log.specs.declared.atoms.Atom.{Atom}
+use Rattle.nz_log.specs.declared.atoms.Atom.TheVariants.{Term, AtMost}
 use Rattle.nz_log.specs.declared.lits.Lit.{Lit}
+use Rattle.nz_log.specs.declared.term_lits.TermLit.{TermLit}
 use Rattle.nz_log.specs.Logs.{LogState, empty_log, entry_at}
 use Rattle.nz_engine.specs.Preparing.{PreparedState, IsPrepared, IsStanding}
 
@@ -14,11 +17,24 @@ pub record EngineState : Type 0 where
 abbrev pub empty_engine : EngineState
 empty_engine = record { levels = []; table = []; log = empty_log }
 
--- the literals of the clause of a number, where the log has one
-abbrev pub literals_in : LogState → ℕ → Option (List Lit)
-literals_in log id = option_map (λ entry. entry.literals) (entry_at log id)
+-- a literal on a term, where its atom is one
+abbrev pub on_term : List Atom → Lit → Option TermLit
+on_term atoms l = elim (slice_get atoms l.atom) [
+  | None ↦ None
+  | Some (Term t) ↦ Some (record { term = t; sign = l.sign })
+  | Some (AtMost b) ↦ None
+]
 
-abbrev pub clause_at : EngineState → ℕ → Option (List Lit)
+-- literals on terms alone, where all are
+abbrev pub on_terms : List Atom → List Lit → Option (List TermLit)
+on_terms atoms [] = Some []
+on_terms atoms (l ∷ c) = elim (on_term atoms l) [ None ↦ None | Some m ↦ option_map (λ (d : List TermLit). m ∷ d) (on_terms atoms c) ]
+
+-- the literals of the clause of a number, where the log has one, on terms alone
+abbrev pub literals_in : LogState → ℕ → Option (List TermLit)
+literals_in log id = elim (entry_at log id) [ None ↦ None | Some e ↦ on_terms log.atoms e.literals ]
+
+abbrev pub clause_at : EngineState → ℕ → Option (List TermLit)
 clause_at e id = literals_in e.log id
 
 -- ---- As the code keeps it

@@ -1,14 +1,17 @@
 -- What an engine keeps from check to check: clauses in a log, each held by a search.
-use Rattle.std.specs.Prelude.{◌≡◌, ℕ, ◌<◌, ◌≤◌, ◌++◌, Bool, false, List, [], ◌∷◌, length, map, min, take, suc, Contains, Some, None, IsSome, slice_get}
+use Rattle.std.specs.Prelude.{◌≡◌, ℕ, ◌<◌, ◌≤◌, ◌++◌, Bool, false, List, [], ◌∷◌, length, map, min, take, suc, All, Contains, Some, None, IsSome, slice_get}
 use Rattle.nz_spec.specs.Table.{Node, term_in}
 use Rattle.nz_spec.specs.Term.{holds_number}
 use Rattle.nz_spec.specs.Order.{post_order}
 use Rattle.nz_spec.specs.Decide.{asserted_numbers}
+use Rattle.nz_log.specs.declared.atoms.Atom.{Atom}
+use Rattle.nz_log.specs.declared.atoms.Atom.TheVariants.{Term}
 use Rattle.nz_log.specs.declared.lits.Lit.{Lit}
 use Rattle.nz_log.specs.Leveled.{IsLeveled}
-use Rattle.nz_log.specs.Lits.{yes}
+use Rattle.nz_log.specs.Atoms.{HasTerm, lit_of, term_place}
 use Rattle.nz_log.specs.Logs.{LogState, gate_of, empty_log, literals_at, told_level, Drops}
 use Rattle.nz_log.specs.Sound.{IsLog, live_at}
+use Rattle.nz_log.specs.TermLits.{yes}
 use Rattle.nz_log.specs.declared.theory.NoNumbers.{NoNumbers}
 use Rattle.nz_cform.specs.Covering.{AreAdded, Covers, Keeps, origin_at}
 use Rattle.nz_cform.specs.Forms.{FormState, Cuts, Grows, covered_at, empty_form}
@@ -34,9 +37,21 @@ nothing_prepared = record {
   above = false;
 }
 
+-- the numbers of the atoms of the covered terms
+abbrev pub atoms_of : PreparedState → List ℕ
+atoms_of p = map (term_place p.log.atoms) p.form.terms
+
 -- the clause that a term is true
-abbrev pub unit_of : ℕ → List Lit
-unit_of t = yes t ∷ []
+abbrev pub unit_of : LogState → ℕ → List Lit
+unit_of log t = lit_of log.atoms (yes t) ∷ []
+
+-- a literal is on a term
+abbrev pub IsOnTerm : List Atom → Lit → Type 0
+IsOnTerm atoms l = (t : ℕ) × (slice_get atoms l.atom ≡ Some (Term t))
+
+-- each literal of these clauses is
+abbrev pub AreOnTerms : LogState → List Held → Type 0
+AreOnTerms log held = All (λ (h : Held). All (IsOnTerm log.atoms) (literals_at log h.id)) held
 
 -- The term is among what one of these terms is made of.
 pub record IsMadeOf (ns : List Node) (roots : List ℕ) (t : ℕ) : Type 0 where
@@ -49,12 +64,13 @@ pub record IsMadeOf (ns : List Node) (roots : List ℕ) (t : ℕ) : Type 0 where
 pub record HoldsUnit (levels : List (List ℕ)) (p : PreparedState) (k t : ℕ) : Type 0 where
   pub held : Held
   pub there : Contains p.sat.clauses held
-  pub literals : literals_at p.log held.id ≡ unit_of t
+  pub named : HasTerm p.log.atoms t
+  pub literals : literals_at p.log held.id ≡ unit_of p.log t
   pub behind : count_in levels held.level ≤ k
 
 -- The clauses are in order over the levels of assertions. What is covered is made of roots by level: of the assertions, and in a level above them of what
 -- is assumed. The search holds each gate, and of so many assertions that each is true; where a term is covered, all assertions in lower levels are among
--- them.
+-- them. Each clause that is held is on terms alone.
 pub record IsPrepared (ns : List Node) (levels roots : List (List ℕ)) (p : PreparedState) : Type 0 where
   pub order : IsLog ns levels p.log
   pub covers : Covers ns p.log p.form
@@ -62,6 +78,7 @@ pub record IsPrepared (ns : List Node) (levels roots : List (List ℕ)) (p : Pre
   pub made : (t n : ℕ) → covered_at p.form t ≡ Some n → IsMadeOf ns (live_at roots n) t
   pub leveled : IsLeveled p.log
   pub held : AreHeld p.log p.sat.clauses
+  pub on_terms : AreOnTerms p.log p.sat.clauses
   pub gates : (i t j : ℕ) → origin_at p.log i ≡ Some (gate_of t j) → Contains p.sat.clauses (held_of p.log i)
   pub units : (k t : ℕ) → k < p.given → slice_get (asserted_numbers levels) k ≡ Some t → HoldsUnit levels p k t
   pub within : p.given ≤ count_of levels

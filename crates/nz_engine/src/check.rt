@@ -5,22 +5,24 @@ ghost use Rattle.nz_spec.specs.Gates.{IsGated};
 ghost use Rattle.nz_spec.specs.Literal.{AreTrueLiterals};
 ghost use Rattle.nz_spec.specs.Table.{Node, assignment_by, term_in};
 ghost use Rattle.nz_spec.specs.Work.{IsSpent};
-ghost use Rattle.nz_log.specs.declared.lits.Lit.{Lit};
-ghost use Rattle.nz_log.specs.Lits.{AreConsistent, literal_of};
-ghost use Rattle.nz_log.specs.Sound.{AreWithin};
+ghost use Rattle.nz_log.specs.declared.term_lits.TermLit.{TermLit};
+ghost use Rattle.nz_log.specs.Atoms.{HasTerm, lits_of};
+ghost use Rattle.nz_log.specs.TermLits.{AreConsistent, AreOfTerms, literal_of};
 ghost use Rattle.nz_log.specs.Verdicts.{OnSpent, task_in};
 ghost use Rattle.nz_cform.specs.Covering.{Covers};
 ghost use Rattle.nz_sat.specs.Sats.{IsSatisfied};
 ghost use Rattle.nz_engine.specs.Checking.{IsAnswer, IsPosed, Works};
 ghost use Rattle.nz_engine.specs.Engines.{IsKept, IsLow, IsReadied};
-ghost use Rattle.nz_engine.specs.Preparing.{IsPrepared};
+ghost use Rattle.nz_engine.specs.Preparing.{IsPrepared, atoms_of};
 
 use crate::levels::Levels;
 use crate::prepared::Prepared;
 use nz_base::{Memory, Work};
 use nz_cform::laws::covers_stay;
-use nz_log::laws::{clauses_are_true, gates_are_named, logs_stay, logs_stay_leveled};
-use nz_log::{Lit, Note, Stop, Verdict};
+use nz_log::laws::{
+    atoms_of_terms, clauses_are_true, gates_are_named, logs_stay, logs_stay_leveled,
+};
+use nz_log::{Note, Stop, TermLit, Verdict};
 use nz_spec::derivation::gates_decide;
 use nz_spec::table::{assigns_by_number, one_number, term_of_node, term_stays};
 use nz_term::{Assign, Terms, known_table};
@@ -94,10 +96,10 @@ fn posed(
     kept: Option<Prepared>,
     levels: &Levels,
     terms: &Terms,
-    assumed: &[Lit],
+    assumed: &[TermLit],
 ) -> Result<Prepared, Memory>
     requires known { AreInTable terms.now levels.now }
-    requires within { AreWithin terms.now assumed.now }
+    requires within { AreOfTerms terms.now assumed.now }
     requires gated { All (λ i. IsGated (term_in terms.now i)) (asserted_numbers levels.now) }
     requires assumed_gated { All (λ l. IsGated (term_in terms.now l.term)) assumed.now }
     requires kept { (front : List Node) × IsFrontOfTable front terms.now × IsKept front levels.now kept }
@@ -113,13 +115,14 @@ fn posed(
 /// Values of constants under which what is asserted and the assumed literals are true: the truths that the search found.
 fn model(alloc: Global, terms: &Terms, prepared: &Prepared) -> Result<Assign, Memory>
     requires covers { Covers terms.now prepared.now.log prepared.now.form }
-    ensures model { IfOk result (λ ps. (levels : List (List ℕ)) (assumed : List Lit) → IsPosed terms.now levels assumed prepared.now → IsSatisfied prepared.now.log prepared.now.sat assumed prepared.now.form.terms → AreModelValues terms.now (asserted_terms terms.now levels) [] ps × AreTrueLiterals (assignment_by terms.now ps) (map (literal_of terms.now) assumed)) }
+    ensures model { IfOk result (λ ps. (levels : List (List ℕ)) (assumed : List TermLit) → IsPosed terms.now levels assumed prepared.now → All (λ l. HasTerm prepared.now.log.atoms l.term) assumed → IsSatisfied prepared.now.log prepared.now.sat (lits_of prepared.now.log.atoms assumed) (atoms_of prepared.now) → AreModelValues terms.now (asserted_terms terms.now levels) [] ps × AreTrueLiterals (assignment_by terms.now ps) (map (literal_of terms.now) assumed)) }
 {
     one_number();
     term_of_node();
     assigns_by_number();
     gates_are_named();
     gates_decide();
+    atoms_of_terms();
     prepared.values(alloc, terms)
 }
 
@@ -133,11 +136,11 @@ pub fn decide(
     kept: Option<Prepared>,
     levels: &Levels,
     terms: &Terms,
-    assumed: &[Lit],
+    assumed: &[TermLit],
     work: &mut Work<Note>,
 ) -> Result<Found, Stop>
     requires known { AreInTable terms.now levels.now }
-    requires within { AreWithin terms.now assumed.now }
+    requires within { AreOfTerms terms.now assumed.now }
     requires no_steps { work.old.lines ≡ [] }
     requires gated { All (λ i. IsGated (term_in terms.now i)) (asserted_numbers levels.now) }
     requires assumed_gated { All (λ l. IsGated (term_in terms.now l.term)) assumed.now }

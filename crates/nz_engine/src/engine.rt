@@ -7,7 +7,7 @@ use crate::levels::Levels;
 use crate::prepared::Prepared;
 use nz_base::{Memory, Work};
 use nz_log::laws::logs_stay;
-use nz_log::{ClauseId, Decide, Lit, Note, Step, Stop, Verdict};
+use nz_log::{ClauseId, Decide, Note, Step, Stop, TermLit, Verdict};
 use nz_spec::derivation::derivations_grow;
 use nz_term::{TermId, Terms};
 use std::alloc::Global;
@@ -78,7 +78,7 @@ impl Decide for Engine {
     fn check(
         &mut self,
         terms: &Terms,
-        assumed: &[Lit],
+        assumed: &[TermLit],
         work: &mut Work<Note>,
     ) -> Result<Verdict, Stop> {
         let kept = self.prepared.take();
@@ -95,7 +95,7 @@ impl Decide for Engine {
         Ok(verdict)
     }
 
-    fn steps(&self, id: ClauseId) -> Result<Vec<Step>, Memory> {
+    fn steps(&self, id: ClauseId) -> Result<Vec<Step<'_>>, Memory> {
         derivations_grow();
         // A clause that can be asked for is of a log.
         let Some(prepared) = &self.prepared else {

@@ -4,24 +4,26 @@ ghost use Rattle.nz_spec.specs.Decide.{asserted_numbers};
 ghost use Rattle.nz_spec.specs.Table.{Node, term_in};
 ghost use Rattle.nz_spec.specs.Term.{holds_number};
 ghost use Rattle.nz_spec.specs.Work.{IsSpent};
-ghost use Rattle.nz_log.specs.Lits.{AreConsistent, AreNegations};
-ghost use Rattle.nz_log.specs.Logs.{IsLive, told_level};
+ghost use Rattle.nz_log.specs.declared.term_lits.TermLit.{TermLit};
+ghost use Rattle.nz_log.specs.Atoms.{AreAtoms, lits_of};
+ghost use Rattle.nz_log.specs.Logs.{IsLive, JoinsAtoms, told_level};
 ghost use Rattle.nz_log.specs.Spelling.{AreStepsOf};
+ghost use Rattle.nz_log.specs.TermLits.{AreConsistent, AreNegations};
 ghost use Rattle.nz_log.specs.Verdicts.{OnSpent, task_in};
 ghost use Rattle.nz_cform.specs.Covering.{Covers};
 ghost use Rattle.nz_cform.specs.Forms.{IsListed, covered_at};
 ghost use Rattle.nz_sat.specs.Sats.{IsSatisfied, held_of, truth_of};
-ghost use Rattle.nz_engine.specs.Checking.{AreCovered, AreGatedAt, IsPosed, NotesFirst, Works, terms_named, value_at, with_atoms};
+ghost use Rattle.nz_engine.specs.Checking.{AreCovered, AreGatedAt, AreHanded, HaveAtoms, IsPosed, NotesFirst, Works, terms_named, truth_in, value_at, with_atoms};
 ghost use Rattle.nz_engine.specs.Engines.{literals_in};
 ghost use Rattle.nz_engine.specs.Levels.{IsPlaced, count_of};
-ghost use Rattle.nz_engine.specs.Preparing.{CoversAlso, CutsTo, IsAssumable, IsPrepared, IsStanding, nothing_prepared};
+ghost use Rattle.nz_engine.specs.Preparing.{CoversAlso, CutsTo, IsAssumable, IsPrepared, IsStanding, atoms_of, nothing_prepared};
 
 use crate::levels::Levels;
 use nz_base::{Memory, Work};
 use nz_cform::ClauseForm;
 use nz_cform::laws::covers_stay;
-use nz_log::laws::{gates_are_named, logs_stay_leveled};
-use nz_log::{ClauseId, Lit, Log, NoNumbers, Note, Step, Stop};
+use nz_log::laws::{atoms_of_terms, gates_are_named, logs_stay, logs_stay_leveled};
+use nz_log::{AtomId, ClauseId, Lit, Log, NoNumbers, Note, Step, Stop, TermLit};
 use nz_sat::Sat;
 use nz_spec::derivation::gates_decide;
 use nz_spec::table::one_number;
@@ -40,6 +42,13 @@ pub struct Prepared {
     given: usize,
     // Whether terms are covered for assumed literals alone.
     above: bool,
+}
+
+/// The atoms of a search, and the literals that it assumes.
+#[derive(Debug, Drop)]
+struct Named {
+    atoms: Vec<AtomId>,
+    literals: Vec<Lit>,
 }
 
 impl Model for Prepared {
@@ -95,6 +104,7 @@ impl Prepared {
         covers_stay();
         logs_stay_leveled();
         gates_are_named();
+        atoms_of_terms();
         let Some(given) = self.given.checked_add(1) else {
             return Err(Memory);
         };
@@ -136,6 +146,7 @@ impl Prepared {
     {
         known_table(terms);
         gates_are_named();
+        atoms_of_terms();
         if self.form.is_covered(term) {
             return Ok(());
         }
@@ -148,7 +159,12 @@ impl Prepared {
     /// # Errors
     ///
     /// `Memory`.
-    pub fn assume(&mut self, terms: &Terms, levels: &Levels, assumed: &[Lit]) -> Result<(), Memory>
+    pub fn assume(
+        &mut self,
+        terms: &Terms,
+        levels: &Levels,
+        assumed: &[TermLit],
+    ) -> Result<(), Memory>
         requires within { All (λ t. t < length terms.now) (terms_named assumed.now) }
         requires gated { AreGatedAt terms.now (terms_named assumed.now) }
         requires stands { IsPrepared terms.now levels.now levels.now self.old }
@@ -173,23 +189,42 @@ impl Prepared {
     /// `Spent` where one more unit was wanted than the work list has, and `Memory`.
     pub fn solve(
         &mut self,
-        assumed: &[Lit],
+        assumed: &[TermLit],
         work: &mut Work<Note>,
     ) -> Result<Option<ClauseId>, Stop>
         requires posed { (ns : List Node) × (levels : List (List ℕ)) × IsPosed ns levels assumed.now self.old }
         requires consistent { AreConsistent assumed.now }
         requires no_steps { work.old.lines ≡ [] }
         ensures posed { OnOk result ((ns : List Node) (levels : List (List ℕ)) → IsPosed ns levels assumed.now self.old → IsPosed ns levels assumed.now self.new) }
-        ensures satisfied { IfOk result (λ r. r ≡ None → IsSatisfied self.new.log self.new.sat assumed.now self.new.form.terms) }
+        ensures satisfied { IfOk result (λ r. r ≡ None → IsSatisfied self.new.log self.new.sat (lits_of self.new.log.atoms assumed.now) (atoms_of self.new)) }
+        ensures there { OnOk result (HaveAtoms self.new assumed.now) }
         ensures refuted { IfOk result (λ r. IfSome r (λ id. AreNegations assumed.now (literals_in self.new.log id))) }
         ensures works { (ns : List Node) (levels : List (List ℕ)) → IsPosed ns levels assumed.now self.old → Works ns (task_in ns levels assumed.now) work.old work.new }
         ensures spent { IfErr result (λ s. OnSpent s (IsSpent work.new)) }
     {
         gates_decide();
         one_number();
-        let atoms = self.form.terms();
-        note_atoms(atoms, work)?;
-        self.sat.solve(&mut self.log, assumed, work)
+        covers_stay();
+        logs_stay();
+        logs_stay_leveled();
+        atoms_of_terms();
+        note_atoms(self.form.terms(), work)?;
+        let named = self.named(assumed)?;
+        self.sat
+            .solve(&mut self.log, &named.atoms, &named.literals, work)
+    }
+
+    /// The atoms of the covered terms, and the assumed literals on them. Atoms join the log's where they aren't there.
+    fn named(&mut self, assumed: &[TermLit]) -> Result<Named, Memory>
+        ensures rest { self.new ≡ record self.old { log = self.new.log } }
+        ensures joins { JoinsAtoms self.old.log self.new.log }
+        ensures all { AreAtoms self.new.log.atoms }
+        ensures handed { IfOk result (λ n. AreHanded self.new assumed.now n.atoms.items n.literals.items) }
+    {
+        atoms_of_terms();
+        let atoms = self.log.term_atoms(self.form.terms())?;
+        let literals = self.log.lits_of(assumed)?;
+        Ok(Named { atoms, literals })
     }
 
     /// Takes back what stands above a level, up to which these levels go. Takes no memory.
@@ -210,11 +245,10 @@ impl Prepared {
     /// `Memory`.
     pub fn values(&self, alloc: Global, terms: &Terms) -> Result<Assign, Memory>
         requires covers { Covers terms.now self.now.log self.now.form }
-        ensures values { IfOk result (λ ps. ps ≡ flat_map (value_at terms.now self.now.sat) self.now.form.terms) }
+        ensures values { IfOk result (λ ps. ps ≡ flat_map (value_at terms.now self.now) self.now.form.terms) }
         ensures listed { IsListed self.now.form }
     {
-        let atoms = self.form.terms();
-        values_of(alloc, &self.sat, terms, atoms)
+        values_of(alloc, self, terms, self.form.terms())
     }
 
     /// The derivation of a clause.
@@ -222,7 +256,7 @@ impl Prepared {
     /// # Errors
     ///
     /// `Memory`.
-    pub fn steps(&self, id: ClauseId) -> Result<Vec<Step>, Memory>
+    pub fn steps(&self, id: ClauseId) -> Result<Vec<Step<'_>>, Memory>
         requires live { IsLive self.now.log id }
         ensures derives { IfOk result (λ steps. AreStepsOf self.now.log id steps.items) }
     {
@@ -252,19 +286,28 @@ fn note_atoms(atoms: &[TermId], work: &mut Work<Note>) -> Result<(), Memory>
     Ok(())
 }
 
+/// The truth of a term, where it has one.
+fn truth(prepared: &Prepared, term: TermId) -> Option<bool>
+    ensures truth { result ≡ truth_in prepared.now term }
+{
+    atoms_of_terms();
+    let atom = prepared.log.find_term(term)?;
+    prepared.sat.truth(Lit { atom, sign: true })
+}
+
 /// Adds the truth of a term, where it is a constant of sort `Bool` that has one.
 fn add_value(
-    sat: &Sat<NoNumbers>,
+    prepared: &Prepared,
     terms: &Terms,
     term: TermId,
     values: &mut Assign,
 ) -> Result<(), Memory>
     requires within { term < length terms.now }
-    ensures values { OnOk result (values.new ≡ values.old ++ value_at terms.now sat.now term) }
+    ensures values { OnOk result (values.new ≡ values.old ++ value_at terms.now prepared.now term) }
 {
     if let Head::Constant(constant) = terms.head(term) {
         if let Sort::Bool = constant.sort {
-            if let Some(truth) = sat.truth(Lit::holds(term)) {
+            if let Some(truth) = truth(prepared, term) {
                 values.push(term, Value::Truth(truth))?;
             }
         }
@@ -275,16 +318,16 @@ fn add_value(
 /// The truths of the constants among these terms.
 fn values_of(
     alloc: Global,
-    sat: &Sat<NoNumbers>,
+    prepared: &Prepared,
     terms: &Terms,
-    atoms: &[TermId],
+    covered: &[TermId],
 ) -> Result<Assign, Memory>
-    requires within { All (λ t. t < length terms.now) atoms.now }
-    ensures values { IfOk result (λ ps. ps ≡ flat_map (value_at terms.now sat.now) atoms.now) }
+    requires within { All (λ t. t < length terms.now) covered.now }
+    ensures values { IfOk result (λ ps. ps ≡ flat_map (value_at terms.now prepared.now) covered.now) }
 {
     let mut values = Assign::new(alloc)?;
-    for term in atoms {
-        add_value(sat, terms, *term, &mut values)?;
+    for term in covered {
+        add_value(prepared, terms, *term, &mut values)?;
     }
     Ok(values)
 }

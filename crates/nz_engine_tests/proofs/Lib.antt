@@ -1,2 +1,3 @@
+mod Assuming
 mod Growth
 mod Telling

@@ -1,12 +1,10 @@
 -- What an engine may be asked about, over a table that grows.
-use Rattle.std.specs.Prelude.{◌≡◌, ℕ, ◌<◌, ◌++◌, List, length, All, Bool, not}
-use Rattle.std.specs.List.{list_any, list_all}
+use Rattle.std.specs.Prelude.{◌≡◌, ℕ, ◌<◌, ◌++◌, List, length, All}
 use Rattle.nz_spec.specs.Gates.{IsGated, IsRow}
 use Rattle.nz_spec.specs.Term.{Head}
 use Rattle.nz_spec.specs.Table.{Node, term_in, terms_at}
 use Rattle.nz_spec.specs.Decide.{asserted_numbers, IsFrontOfTable}
-use Rattle.nz_log.specs.declared.lits.Lit.{Lit}
-use Rattle.nz_log.specs.Lits.{are_same_lit, negated_lit}
+use Rattle.nz_log.specs.declared.term_lits.TermLit.{TermLit}
 use Rattle.nz_engine.specs.Engines.{EngineState}
 
 -- The number is one of the table, and its term is of the gate table.
@@ -30,12 +28,8 @@ pub record IsReady (ns : List Node) (engine : EngineState) : Type 0 where
   pub front : IsFrontOfTable engine.table ns
 
 -- the literals name terms of the gate table
-abbrev pub AreGatedLits : List Node → List Lit → Type 0
-AreGatedLits ns ls = All (λ (l : Lit). IsGatedAt ns l.term) ls
-
--- a test that no literal of these is the negation of one of them
-abbrev pub are_consistent : List Lit → Bool
-are_consistent ls = list_all (λ (l : Lit). not (list_any (are_same_lit (negated_lit l)) ls)) ls
+abbrev pub AreGatedLits : List Node → List TermLit → Type 0
+AreGatedLits ns ls = All (λ (l : TermLit). IsGatedAt ns l.term) ls
 
 -- what a bench holds
 pub record BenchState : Type 0 where

@@ -6,13 +6,14 @@ ghost use Rattle.nz_spec.specs.Decide.{IsFrontOfTable};
 ghost use Rattle.nz_spec.specs.Table.{HasItsArguments};
 ghost use Rattle.nz_spec.specs.Term.{head_fits};
 ghost use Rattle.nz_term.specs.Heads.{head_of};
-ghost use Rattle.nz_engine_tests.specs.Benches.{AreGatedLits, IsReady, IsRowAt, are_consistent};
+ghost use Rattle.nz_log.specs.TermLits.{AreConsistent};
+ghost use Rattle.nz_engine_tests.specs.Benches.{AreGatedLits, IsReady, IsRowAt};
 
-use crate::reading::has;
 use nz_base::{Memory, Text, Work};
 use nz_engine::Engine;
-use nz_log::{Decide, Lit, Step, Stop, Verdict};
-use nz_term::{Assign, Constant, Head, Operator, Sort, TermId, Terms};
+use nz_log::{Decide, Stop, TermLit, Verdict};
+use nz_term::{Constant, Head, Operator, Sort, TermId, Terms};
+use nz_term_samples::are_below;
 use std::alloc::Global;
 use std::marker::Model;
 
@@ -37,11 +38,11 @@ impl Model for Bench {
 }
 
 /// What a check came to.
-#[derive(Debug, Drop)]
+#[derive(Clone, Copy, Debug, PartialEq, Eq)]
 pub enum Answer {
-    Sat(Assign),
-    /// The steps of a clause whose literals are negations of assumed ones.
-    Unsat(Vec<Step>),
+    Sat,
+    /// By so many steps, of a clause whose literals are negations of assumed ones.
+    Unsat(usize),
     Spent,
     /// The engine can't be asked: what is assumed is of no term, or one literal of it is the negation of another.
     Unasked,
@@ -74,7 +75,7 @@ impl Bench {
         if !are_below(kids, self.terms.len()) {
             return Ok(None);
         }
-        Ok(Some(self.terms.make(head, kids)?))
+        self.terms.make(head, kids).map(Some)
     }
 
     /// The constant of a number.
@@ -125,7 +126,7 @@ impl Bench {
     }
 
     /// Asks whether what is asserted and these literals can all be true, with so many units.
-    pub fn check(&mut self, assumed: &[Lit], units: u64) -> Result<Answer, Memory> {
+    pub fn check(&mut self, assumed: &[TermLit], units: u64) -> Result<Answer, Memory> {
         if !name_below(assumed, self.terms.len()) {
             return Ok(Answer::Unasked);
         }
@@ -133,20 +134,8 @@ impl Bench {
     }
 }
 
-/// Whether each of these is below this number.
-fn are_below(terms: &[TermId], count: usize) -> bool
-    ensures below { OnTrue result (All (λ t. t < count) terms.now) }
-{
-    for i in 0..terms.len() {
-        if count <= terms[i] {
-            return false;
-        }
-    }
-    true
-}
-
 /// Whether these literals name terms below this number.
-fn name_below(literals: &[Lit], count: usize) -> bool
+fn name_below(literals: &[TermLit], count: usize) -> bool
     ensures below { OnTrue result (All (λ l. l.term < count) literals.now) }
 {
     for i in 0..literals.len() {
@@ -158,10 +147,15 @@ fn name_below(literals: &[Lit], count: usize) -> bool
 }
 
 /// Whether no literal of these is the negation of one of them.
-fn is_consistent(literals: &[Lit]) -> bool
-    ensures consistent { result ≡ are_consistent literals.now }
+fn are_consistent(literals: &[TermLit]) -> bool
+    ensures consistent { OnTrue result (AreConsistent literals.now) }
 {
-    literals.iter().all(|one| !has(literals, one.not()))
+    for i in 0..literals.len() {
+        if literals.contains(&literals[i].not()) {
+            return false;
+        }
+    }
+    true
 }
 
 /// What an engine answers under these literals, with so many units.
@@ -169,7 +163,7 @@ fn ask(
     alloc: Global,
     terms: &Terms,
     engine: &mut Engine,
-    assumed: &[Lit],
+    assumed: &[TermLit],
     units: u64,
 ) -> Result<Answer, Memory>
     requires ready { IsReady terms.now engine.old }
@@ -177,14 +171,14 @@ fn ask(
     ensures levels { engine.new.levels ≡ engine.old.levels }
     ensures front { IsFrontOfTable engine.new.table terms.now }
 {
-    if !is_consistent(assumed) {
+    if !are_consistent(assumed) {
         return Ok(Answer::Unasked);
     }
     let mut work = Work::new(alloc)?;
     work.reserve(units)?;
     match engine.check(terms, assumed, &mut work) {
-        Ok(Verdict::Sat(values)) => Ok(Answer::Sat(values)),
-        Ok(Verdict::Unsat(clause)) => Ok(Answer::Unsat(engine.steps(clause)?)),
+        Ok(Verdict::Sat(_)) => Ok(Answer::Sat),
+        Ok(Verdict::Unsat(clause)) => Ok(Answer::Unsat(engine.steps(clause)?.len())),
         Err(Stop::Spent) => Ok(Answer::Spent),
         Err(Stop::Memory) => Err(Memory),
     }

@@ -3,7 +3,7 @@
 use crate::bench::Bench;
 use crate::formula::Part;
 use nz_base::Memory;
-use nz_log::Lit;
+use nz_log::TermLit;
 use nz_term::{Operator, Sort, TermId};
 use std::alloc::Global;
 
@@ -67,13 +67,17 @@ pub fn term_of(
 }
 
 /// The literal that a formula is true: of one that ends with `Not`, that the rest is false.
-fn literal_of(alloc: Global, bench: &mut Bench, formula: &[Part]) -> Result<Option<Lit>, Memory> {
+fn literal_of(
+    alloc: Global,
+    bench: &mut Bench,
+    formula: &[Part],
+) -> Result<Option<TermLit>, Memory> {
     let (formula, sign) = match formula.split_last() {
         Some((Part::Not, front)) => (front, false),
         _ => (formula, true),
     };
     let term = term_of(alloc, bench, formula)?;
-    Ok(term.map(|term| Lit { term, sign }))
+    Ok(term.map(|term| TermLit { term, sign }))
 }
 
 /// The literals that these formulas are true.
@@ -81,7 +85,7 @@ pub fn literals_of(
     alloc: Global,
     bench: &mut Bench,
     formulas: &[&'static [Part]],
-) -> Result<Option<Vec<Lit>>, Memory> {
+) -> Result<Option<Vec<TermLit>>, Memory> {
     let mut literals = Vec::new(alloc);
     for formula in formulas {
         match literal_of(alloc, bench, formula)? {

@@ -4,17 +4,11 @@
 #[cfg(test)]
 mod bench;
 #[cfg(test)]
-mod birds;
-#[cfg(test)]
 mod build;
 #[cfg(test)]
 mod formula;
 #[cfg(test)]
-mod functions;
-#[cfg(test)]
 mod levels;
-#[cfg(test)]
-mod reading;
 #[cfg(test)]
 mod rows;
 #[cfg(test)]

@@ -102,8 +102,8 @@ impl<T: Drop> From<AllocFailed<T>> for LinStop {
 /// A form: units with their coefficients, by rising numbers, and a number that is added.
 #[derive(Debug, Drop)]
 pub struct Form {
-    parts: Vec<Part>,
-    offset: Frac,
+    pub(crate) parts: Vec<Part>,
+    pub(crate) offset: Frac,
 }
 
 impl Model for Form {
@@ -177,7 +177,11 @@ impl Form {
     }
 
     /// The form with the other sign.
-    pub(crate) fn negated(&self, alloc: Global) -> Result<Form, Memory>
+    ///
+    /// # Errors
+    ///
+    /// `Memory`.
+    pub fn negated(&self, alloc: Global) -> Result<Form, Memory>
         ensures negated { IfOk result (λ f. (ns : List Node) → form_over ns f ≡ negated_form (form_over ns self.now)) }
         ensures units { IfOk result (λ f. (ns : List Node) → AreUnits ns self.now.parts → AreUnits ns f.parts) }
     {

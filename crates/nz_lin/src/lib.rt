@@ -5,6 +5,7 @@
 #![tactic(auto)]
 
 mod bound;
+mod combine;
 mod form;
 mod line;
 mod linear;

@@ -1,6 +1,7 @@
 -- How the clauses of a log change.
 use Rattle.std.proofs.Common.{◌≡◌, ◌≢◌, ℕ, zero, suc, ◌<◌, List, [], ◌∷◌, ◌++◌, length, map, get_or, Option, Some, None, refl, sym, ap, subst, ◌∙◌, arith}
 use Rattle.std.specs.Prelude.{slice_get, unwrap_or, option_map, IsSome}
+use Rattle.nz_log.specs.declared.atoms.Atom.{Atom}
 use Rattle.nz_log.specs.declared.origins.Stored.{Stored}
 use Rattle.nz_log.specs.Logs.{entry_at, kept_below, told_below, Drops, Puts}
 use Rattle.nz_log.specs.Stored.{entry_of, log_of}
@@ -28,9 +29,9 @@ beside f (y ∷ ys) x zero (suc i) e other = absurd (omega arith)
 beside f (y ∷ ys) x (suc n) (suc i) e other = beside f ys x n i (omega arith) (λ same. other (ap suc same))
 
 -- a clause more at the end
-pub puts_last : (clauses : List (Option Stored)) (told : List (Option ℕ)) (s : Stored) (n : ℕ) → n ≡ length clauses
-    → Puts (log_of clauses told) n (entry_of s) (log_of (clauses ++ Some s ∷ []) told)
-puts_last clauses told s n e =
+pub puts_last : (clauses : List (Option Stored)) (told : List (Option ℕ)) (atoms : List Atom) (s : Stored) (n : ℕ) → n ≡ length clauses
+    → Puts (log_of clauses told atoms) n (entry_of s) (log_of (clauses ++ Some s ∷ []) told atoms)
+puts_last clauses told atoms s n e =
     let f = option_map entry_of in
     let made = ap (λ o. unwrap_or o None) (seam f clauses (Some s) n e) in
     let kept = beside f clauses (Some s) n in
@@ -41,20 +42,22 @@ puts_last clauses told s n e =
       stay = λ i live. subst (λ o. IsSome o) (sym (kept i e (λ same. let h : i < n = inside f clauses n i e live in omega arith))) live;
       kept = λ i other. kept i e other;
       told = refl;
+      atoms = λ i a there. there;
     }
 
 -- a clause by its place
-pub entry_read : (clauses : List (Option Stored)) (told : List (Option ℕ)) (i : ℕ) → entry_at (log_of clauses told) i ≡ option_map entry_of (get_or clauses i None)
-entry_read [] told i = refl
-entry_read (c ∷ cs) told zero = refl
-entry_read (c ∷ cs) told (suc i) = entry_read cs told i
+pub entry_read : (clauses : List (Option Stored)) (told : List (Option ℕ)) (atoms : List Atom) (i : ℕ) → entry_at (log_of clauses told atoms) i ≡ option_map entry_of (get_or clauses i None)
+entry_read [] told atoms i = refl
+entry_read (c ∷ cs) told atoms zero = refl
+entry_read (c ∷ cs) told atoms (suc i) = entry_read cs told atoms i
 
 -- dropping by places
-pub drops_from : (old new : List (Option Stored)) (told told' : List (Option ℕ)) (level : ℕ)
+pub drops_from : (old new : List (Option Stored)) (told told' : List (Option ℕ)) (atoms : List Atom) (level : ℕ)
     → ((i : ℕ) → option_map entry_of (get_or new i None) ≡ kept_below level (option_map entry_of (get_or old i None)))
-    → ((t : ℕ) → get_or told' t None ≡ told_below level (get_or told t None)) → Drops (log_of old told) level (log_of new told')
-drops_from old new told told' level entries lowest =
+    → ((t : ℕ) → get_or told' t None ≡ told_below level (get_or told t None)) → Drops (log_of old told atoms) level (log_of new told' atoms)
+drops_from old new told told' atoms level entries lowest =
     record {
-      entries = λ i. entry_read new told' i ∙ entries i ∙ ap (kept_below level) (sym (entry_read old told i));
+      entries = λ i. entry_read new told' atoms i ∙ entries i ∙ ap (kept_below level) (sym (entry_read old told atoms i));
       told = lowest;
+      atoms = refl;
     }

@@ -26,13 +26,13 @@ sign_same false = refl
 
 pub same_lit : (l m : Lit) → are_same_lit l m ≡ true → l ≡ m
 same_lit l m e =
-    let parts = and_parts (l.term == m.term) (are_same_sign l.sign m.sign) e in
-    let term : l.term ≡ m.term = eqb-true l.term m.term parts.0 in
+    let parts = and_parts (l.atom == m.atom) (are_same_sign l.sign m.sign) e in
+    let atom : l.atom ≡ m.atom = eqb-true l.atom m.atom parts.0 in
     let sign : l.sign ≡ m.sign = same_sign l.sign m.sign parts.1 in
-    λ i. record { term = term i; sign = sign i }
+    λ i. record { atom = atom i; sign = sign i }
 
 pub lit_same : (l : Lit) → are_same_lit l l ≡ true
-lit_same l = ap (λ (b : Bool). b && are_same_sign l.sign l.sign) (eq-eqb l.term l.term refl) ∙ sign_same l.sign
+lit_same l = ap (λ (b : Bool). b && are_same_sign l.sign l.sign) (eq-eqb l.atom l.atom refl) ∙ sign_same l.sign
 
 -- ---- Sets as lists
 

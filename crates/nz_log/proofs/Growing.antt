@@ -16,6 +16,7 @@ grows_by_chain old new id first ks puts live lives =
       live = puts.stay;
       kept = λ i h. puts.kept i (λ same. let below : i < id = puts.above i h in absurd (omega (arith, below, same)));
       told = puts.told;
+      atoms = puts.atoms;
       gates = λ i e t j at origin. elim (eqb_tells i id) [
         | inl here ↦
             let both : Some (chain_entry old first ks) ≡ Some e = sym puts.made ∙ ap (entry_at new) (sym here.1) ∙ at in
@@ -37,6 +38,7 @@ chain_grows old new first ks (Err e) puts same live lives =
       live = λ i h. h;
       kept = λ i h. refl;
       told = refl;
+      atoms = λ i a at. at;
       gates = λ i e t j at origin. subst (λ o. IsSome o) (sym at) refl;
       leveled = λ h. h;
     })

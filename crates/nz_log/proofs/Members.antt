@@ -1,5 +1,5 @@
 -- What holds of each literal of clauses holds of each of what is made of them.
-use Rattle.std.proofs.Common.{◌≡◌, ℕ, suc, Bool, true, false, not, List, [], ◌∷◌, ◌++◌, map, Some, subst, arith}
+use Rattle.std.proofs.Common.{◌≡◌, ℕ, suc, ◌<◌, Bool, true, false, not, List, [], ◌∷◌, ◌++◌, length, map, get_or, Some, subst, sym, arith}
 use Rattle.std.specs.Bool.{⊤}
 use Rattle.std.specs.Prelude.{All, fold, slice_get, if◌then◌else◌}
 use Rattle.std.specs.List.{AllByRecursion, list_any}
@@ -9,7 +9,9 @@ use Rattle.nz_spec.specs.Term.{Head, verum, falsum, negation, conjunction, disju
 use Rattle.nz_spec.specs.Literal.{with_one, without}
 use Rattle.nz_spec.specs.Gates.{clauses_over}
 use Rattle.nz_log.specs.declared.lits.Lit.{Lit}
-use Rattle.nz_log.specs.Lits.{yes, no, negated_lit, are_same_lit, lit_resolvent}
+use Rattle.nz_log.specs.declared.term_lits.TermLit.{TermLit}
+use Rattle.nz_log.specs.Lits.{negated_lit, are_same_lit, lit_resolvent}
+use Rattle.nz_log.specs.TermLits.{yes, no}
 
 module _ {X : Type 0} (P : X → Type 0) where
   pub each_of : (xs : List X) → All P xs → AllByRecursion P xs
@@ -19,6 +21,9 @@ module _ {X : Type 0} (P : X → Type 0) where
   -- and so of the one at a place
   pub each-at : (xs : List X) (i : ℕ) (x : X) → AllByRecursion P xs → slice_get xs i ≡ Some x → P x
   each-at xs i x h at = subst P (get_or_from_slice_get xs i x x at) (All-get_or P xs i x (slice_get_within xs i x at) (All-from_recursion P xs h))
+
+  pub each_read : (xs : List X) (i : ℕ) (x : X) → i < length xs → x ≡ get_or xs i x → AllByRecursion P xs → P x
+  each_read xs i x within read h = subst P (sym read) (All-get_or P xs i x within (All-from_recursion P xs h))
 
   pub each-append : (xs ys : List X) → AllByRecursion P xs → AllByRecursion P ys → AllByRecursion P (xs ++ ys)
   each-append [] ys h k = k
@@ -48,19 +53,19 @@ each-resolvent P l c d h k =
 -- ---- Gates
 
 module _ (P : ℕ → Type 0) where
-  abbrev pub On : Lit → Type 0
+  abbrev pub On : TermLit → Type 0
   On l = P l.term
 
-  signs : (f : ℕ → Lit) → ((t : ℕ) → P t → On (f t)) → (ts : List ℕ) → AllByRecursion P ts → AllByRecursion On (map f ts)
+  signs : (f : ℕ → TermLit) → ((t : ℕ) → P t → On (f t)) → (ts : List ℕ) → AllByRecursion P ts → AllByRecursion On (map f ts)
   signs f g [] h = tt
   signs f g (t ∷ ts) h = (g t h.0, signs f g ts h.1)
 
-  pairs : (first : Lit) (f : ℕ → Lit) → On first → ((t : ℕ) → P t → On (f t)) → (ts : List ℕ) → AllByRecursion P ts
+  pairs : (first : TermLit) (f : ℕ → TermLit) → On first → ((t : ℕ) → P t → On (f t)) → (ts : List ℕ) → AllByRecursion P ts
       → AllByRecursion (AllByRecursion On) (map (λ t. first ∷ f t ∷ []) ts)
   pairs first f p g [] h = tt
   pairs first f p g (t ∷ ts) h = ((p, (g t h.0, tt)), pairs first f p g ts h.1)
 
-  on_test : (b : Bool) (cs : List (List Lit)) → AllByRecursion (AllByRecursion On) cs → AllByRecursion (AllByRecursion On) (if b then cs else [])
+  on_test : (b : Bool) (cs : List (List TermLit)) → AllByRecursion (AllByRecursion On) cs → AllByRecursion (AllByRecursion On) (if b then cs else [])
   on_test true cs h = h
   on_test false cs h = tt
 

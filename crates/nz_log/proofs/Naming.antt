@@ -1,19 +1,17 @@
--- What is made of numbered literals says what is made of the literals that they stand for.
-use Rattle.std.proofs.Common.{◌≡◌, ℕ, ◌<◌, Bool, true, false, not, ◌&&◌, ◌||◌, ◌==◌, List, [], ◌∷◌, ◌++◌, length, map, get_or, Some, None, refl, sym, ap, ◌∙◌, eqb-true, eq-eqb}
-use Rattle.std.proofs.lemmas.Bool.{and_from, and_parts}
+-- Sets by names, and gates by the numbers of terms: what is made of names says what is made of what they stand for.
+use Rattle.std.proofs.Common.{◌≡◌, ℕ, Bool, true, false, not, ◌||◌, List, [], ◌∷◌, ◌++◌, map, get_or, Some, None, refl, sym, ap, ◌∙◌}
 use Rattle.std.proofs.lemmas.List.{map-append}
 use Rattle.std.proofs.lemmas.Option.{slice_get-get_or}
 use Rattle.std.specs.Prelude.{fold, slice_get, if◌then◌else◌}
 use Rattle.std.specs.List.{AllByRecursion, list_any}
 use Rattle.nz_spec.specs.Term.{Head, verum, falsum, negation, conjunction, disjunction, exclusion, equality, choice, bool_sort, Term, apply}
-use Rattle.nz_spec.specs.Table.{Node, IsTable, term_in, terms_at, OneNumber, TermOfNode}
-use Rattle.nz_spec.specs.Literal.{Literal, term_literal, are_same_term, are_same_sign, are_same_literal, with_one, once, without, clause_of, resolvent, TellsLiterals}
+use Rattle.nz_spec.specs.Table.{Node, IsTable, term_in, terms_at, TermOfNode}
+use Rattle.nz_spec.specs.Literal.{Literal, with_one, once, without}
 use Rattle.nz_spec.specs.Gates.{holds, fails, list_of, is_boolean_term, clauses_over, gate_clauses}
-use Rattle.nz_lists.proofs.Tests.{same_tests}
-use Rattle.nz_log.specs.declared.lits.Lit.{Lit}
-use Rattle.nz_log.specs.Lits.{LiteralsAgree, yes, no, negated_lit, are_same_lit, lit_resolvent, literal_of, clause_in, is_boolean_at, gates_at}
-use Rattle.nz_log.specs.Sound.{AreWithin, GatesAreNamed}
-use Rattle.nz_log.proofs.Members.{each-append, each-without, each-put}
+use Rattle.nz_log.specs.declared.term_lits.TermLit.{TermLit}
+use Rattle.nz_log.specs.Sound.{GatesAreNamed}
+use Rattle.nz_log.specs.TermLits.{yes, no, literal_of, clause_of_terms, is_boolean_at, gates_at}
+use Rattle.nz_log.proofs.Members.{each-put}
 
 -- ---- Sets by names
 
@@ -50,43 +48,6 @@ module _ {A B : Type 0} (W : A → Type 0) (f : A → B) (same : A → A → Boo
       without_test y (without same x ys) (without same' (f x) (map f ys)) (same x y) (without_named x ys w h.1)
       ∙ ap (λ b. if not b then f y ∷ without same' (f x) (map f ys) else without same' (f x) (map f ys)) (sym (agree x y w h.0))
 
--- ---- Literals by numbers
-
--- two terms are one where their literals of one sign are
-module _ (tells : TellsLiterals) where
-  same_term : (t u : Term) → are_same_term t u ≡ true → t ≡ u
-  same_term t u e =
-      let same : term_literal t true ≡ term_literal u true = tells.same (term_literal t true) (term_literal u true) (and_from (are_same_term t u) true e refl) in cc
-
-  one_term : (t : Term) → are_same_term t t ≡ true
-  one_term t = (and_parts (are_same_term t t) true (tells.one (term_literal t true))).0
-
-module _ (tells : TellsLiterals) (one : OneNumber) (ns : List Node) (table : IsTable ns) where
-  same_terms : (i j : ℕ) → i < length ns → j < length ns → are_same_term (term_in ns i) (term_in ns j) ≡ (i == j)
-  same_terms i j within there =
-      same_tests (are_same_term (term_in ns i) (term_in ns j)) (i == j)
-      (λ e. eq-eqb i j (one ns table i j within there (same_term tells (term_in ns i) (term_in ns j) e)))
-      (λ e. ap (λ k. are_same_term (term_in ns i) (term_in ns k)) (sym (eqb-true i j e)) ∙ one_term tells (term_in ns i))
-
-  pub literals_agree : LiteralsAgree ns
-  literals_agree l m within there = ap (λ b. b && are_same_sign l.sign m.sign) (same_terms l.term m.term within there)
-
-module _ (ns : List Node) (agree : LiteralsAgree ns) where
-  pub clause_named : (c : List Lit) → AreWithin ns c → clause_in ns (once are_same_lit c) ≡ clause_of (clause_in ns c)
-  clause_named c h = once_named (λ (l : Lit). l.term < length ns) (literal_of ns) are_same_lit are_same_literal agree c h
-
-  pub resolvent_named : (l : Lit) (c d : List Lit) → l.term < length ns → AreWithin ns c → AreWithin ns d
-      → clause_in ns (lit_resolvent l c d) ≡ resolvent (literal_of ns l) (clause_in ns c) (clause_in ns d)
-  resolvent_named l c d w h k =
-      let P = λ (m : Lit). m.term < length ns in
-      let front = without are_same_lit l c in
-      let back = without are_same_lit (negated_lit l) d in
-      clause_named (front ++ back) (each-append P front back (each-without P are_same_lit l c h) (each-without P are_same_lit (negated_lit l) d k))
-      ∙ ap clause_of
-      (map-append (literal_of ns) front back
-      ∙ ap (λ xs. xs ++ clause_in ns back) (without_named P (literal_of ns) are_same_lit are_same_literal agree l c w h)
-      ∙ ap (λ ys. without are_same_literal (literal_of ns l) (clause_in ns c) ++ ys) (without_named P (literal_of ns) are_same_lit are_same_literal agree (negated_lit l) d w k))
-
 -- ---- Gates by numbers
 
 module _ (ns : List Node) where
@@ -94,26 +55,26 @@ module _ (ns : List Node) where
   listed_named [] = refl
   listed_named (k ∷ ks) = ap (λ ts. term_in ns k ∷ ts) (listed_named ks)
 
-  ones_named : (f : ℕ → Lit) (g : Term → Literal) → ((k : ℕ) → literal_of ns (f k) ≡ g (term_in ns k)) → (ks : List ℕ)
-      → clause_in ns (map f ks) ≡ map g (map (term_in ns) ks)
+  ones_named : (f : ℕ → TermLit) (g : Term → Literal) → ((k : ℕ) → literal_of ns (f k) ≡ g (term_in ns k)) → (ks : List ℕ)
+      → clause_of_terms ns (map f ks) ≡ map g (map (term_in ns) ks)
   ones_named f g e [] = refl
   ones_named f g e (k ∷ ks) = λ i. e k i ∷ ones_named f g e ks i
 
-  pairs_named : (first : Lit) (f : ℕ → Lit) (g : Term → Literal) → ((k : ℕ) → literal_of ns (f k) ≡ g (term_in ns k)) → (ks : List ℕ)
-      → map (clause_in ns) (map (λ k. first ∷ f k ∷ []) ks) ≡ map (λ t. literal_of ns first ∷ g t ∷ []) (map (term_in ns) ks)
+  pairs_named : (first : TermLit) (f : ℕ → TermLit) (g : Term → Literal) → ((k : ℕ) → literal_of ns (f k) ≡ g (term_in ns k)) → (ks : List ℕ)
+      → map (clause_of_terms ns) (map (λ k. first ∷ f k ∷ []) ks) ≡ map (λ t. literal_of ns first ∷ g t ∷ []) (map (term_in ns) ks)
   pairs_named first f g e [] = refl
   pairs_named first f g e (k ∷ ks) = λ i. (literal_of ns first ∷ e k i ∷ []) ∷ pairs_named first f g e ks i
 
-  rows_named : (rows : List (List Lit)) (last : List Lit) (rows' : List (List Literal)) (last' : List Literal)
-      → map (clause_in ns) rows ≡ rows' → clause_in ns last ≡ last' → map (clause_in ns) (rows ++ last ∷ []) ≡ rows' ++ last' ∷ []
-  rows_named rows last rows' last' e f = map-append (clause_in ns) rows (last ∷ []) ∙ (λ i. e i ++ f i ∷ [])
+  rows_named : (rows : List (List TermLit)) (last : List TermLit) (rows' : List (List Literal)) (last' : List Literal)
+      → map (clause_of_terms ns) rows ≡ rows' → clause_of_terms ns last ≡ last' → map (clause_of_terms ns) (rows ++ last ∷ []) ≡ rows' ++ last' ∷ []
+  rows_named rows last rows' last' e f = map-append (clause_of_terms ns) rows (last ∷ []) ∙ (λ i. e i ++ f i ∷ [])
 
-  test_named : (b : Bool) (cs : List (List Lit)) → map (clause_in ns) (if b then cs else []) ≡ (if b then map (clause_in ns) cs else [])
+  test_named : (b : Bool) (cs : List (List TermLit)) → map (clause_of_terms ns) (if b then cs else []) ≡ (if b then map (clause_of_terms ns) cs else [])
   test_named true cs = refl
   test_named false cs = refl
 
   over_named : (t : ℕ) (h : Head) (ks : List ℕ)
-      → map (clause_in ns) (clauses_over yes no (is_boolean_at ns) t h ks) ≡ clauses_over holds fails is_boolean_term (term_in ns t) h (map (term_in ns) ks)
+      → map (clause_of_terms ns) (clauses_over yes no (is_boolean_at ns) t h ks) ≡ clauses_over holds fails is_boolean_term (term_in ns t) h (map (term_in ns) ks)
   over_named t verum [] = refl
   over_named t falsum [] = refl
   over_named t negation (u ∷ []) = refl
@@ -128,10 +89,10 @@ module _ (ns : List Node) where
   over_named t (choice bool_sort) (c ∷ u ∷ v ∷ []) = refl
   over_named t h ks = refl
 
-  pub gates_named : IsTable ns → TermOfNode → (t : ℕ) (n : Node) → slice_get ns t ≡ Some n → map (clause_in ns) (gates_at ns t) ≡ gate_clauses (term_in ns t)
+  pub gates_named : IsTable ns → TermOfNode → (t : ℕ) (n : Node) → slice_get ns t ≡ Some n → map (clause_of_terms ns) (gates_at ns t) ≡ gate_clauses (term_in ns t)
   gates_named table node t n at =
       let term : term_in ns t ≡ apply n.head (terms_at (term_in ns) n.kids) = node ns table t n at in
-      ap (λ o. map (clause_in ns) (elim o [ None ↦ [] | Some m ↦ clauses_over yes no (is_boolean_at ns) t m.head m.kids ])) at
+      ap (λ o. map (clause_of_terms ns) (elim o [ None ↦ [] | Some m ↦ clauses_over yes no (is_boolean_at ns) t m.head m.kids ])) at
       ∙ over_named t n.head n.kids
       ∙ ap (clauses_over holds fails is_boolean_term (term_in ns t) n.head) (sym (listed_named n.kids))
       ∙ ap (λ u. clauses_over holds fails is_boolean_term u n.head (list_of (terms_at (term_in ns) n.kids))) term

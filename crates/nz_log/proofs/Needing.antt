@@ -5,7 +5,7 @@ use Rattle.std.specs.List.{AllByRecursion}
 use Rattle.std.proofs.lemmas.Bool.{leb-true, le-leb, ltb-true, lt-ltb}
 use Rattle.std.proofs.lemmas.Bool.{and_from, and_parts, or_cases, or_left, or_right}
 use Rattle.nz_log.specs.declared.origins.Link.{Link}
-use Rattle.nz_log.specs.Logs.{IsPremise, RestsOn, Origin, assertion_of, gate_of, chain_of, Entry, LogState, entry_at, IsLive, level_at}
+use Rattle.nz_log.specs.Logs.{IsPremise, RestsOn, Origin, assertion_of, gate_of, axiom_of, chain_of, Entry, LogState, entry_at, IsLive, level_at}
 use Rattle.nz_log.proofs.Soundness.{same_or_other}
 use Rattle.nz_log.specs.Spelling.{is_marked, IsMoreMarked, AreMarked, Pass, PassMarked, IsClosed, IsClosedAt}
 
@@ -23,6 +23,7 @@ still_all old new more ks h = λ k d below. more _ (h k d below)
 still_marked : (old new : List Bool) → IsMoreMarked old new → (o : Origin) → AreMarked old o → AreMarked new o
 still_marked old new more (assertion_of k) h = h
 still_marked old new more (gate_of t j) h = h
+still_marked old new more (axiom_of a) h = h
 still_marked old new more (chain_of first ks) h = (more first h.0, still_all old new more ks h.1)
 
 still_closed : (old new : List Bool) → IsMoreMarked old new → (o : Option Entry) → IsClosed old o → IsClosed new o
@@ -46,6 +47,7 @@ all_pass s id level test h (l ∷ ls) r = λ k d below. first_or_rest (λ (m : L
 premises_pass : (s : LogState) (id level : ℕ) (test : ℕ → Bool) → ((i : ℕ) → IsPremise s id level i → test i ≡ true) → (o : Origin) → RestsOn s id level o → Pass test o
 premises_pass s id level test h (assertion_of k) r = r
 premises_pass s id level test h (gate_of t j) r = r
+premises_pass s id level test h (axiom_of a) r = r
 premises_pass s id level test h (chain_of first ks) r = (h first r.0, all_pass s id level test h ks r.2)
 
 -- a clause that is there, of no higher level

@@ -2,8 +2,9 @@
 use Rattle.std.proofs.Common.{◌≡◌, ℕ, ◌<◌, ◌≤◌, max, List, [], ◌∷◌, length, Option, Some, inl, inr, refl, sym, ap, subst, ◌∙◌, arith}
 use Rattle.std.specs.Prelude.{All}
 use Rattle.std.specs.List.{AllByRecursion}
+use Rattle.nz_log.specs.declared.atoms.Atom.{Atom}
 use Rattle.nz_log.specs.declared.origins.Link.{Link}
-use Rattle.nz_log.specs.Logs.{IsPremise, RestsOn, IsOrdered, Origin, assertion_of, gate_of, chain_of, Entry, LogState, entry_at, IsLive, level_at, level_of_links, Puts, Drops}
+use Rattle.nz_log.specs.Logs.{IsLeaf, IsPremise, RestsOn, IsOrdered, Origin, assertion_of, gate_of, axiom_of, chain_of, Entry, LogState, entry_at, IsLive, level_at, level_of_links, Puts, Drops}
 use Rattle.nz_log.proofs.Soundness.{Keeps, premise_stays, same_or_other, puts_keeps, links_grow}
 use Rattle.nz_log.proofs.Dropping.{kept_is, keeps}
 use Rattle.nz_log.proofs.Members.{each_of}
@@ -19,6 +20,7 @@ module _ (bound : ℕ) (s r : LogState) (keeps : Keeps bound s r) where
   rests_stay : (id level : ℕ) → level ≤ bound → (o : Origin) → RestsOn s id level o → RestsOn r id level o
   rests_stay id level below (assertion_of k) h = h
   rests_stay id level below (gate_of t j) h = h
+  rests_stay id level below (axiom_of a) h = h
   rests_stay id level below (chain_of first ks) h =
       ((premise_stays bound s r keeps id level first below h.0).1, h.1, premises_stay id level below ks h.2)
 
@@ -38,10 +40,11 @@ drops_ordered s r level drops order i e at =
     let was = kept_is level (entry_at s i) e (sym (drops.entries i) ∙ at) in
     rests_stay level s r (keeps s r level drops) i e.level was.1 e.origin (order i e was.0)
 
--- what is told of terms doesn't matter
-pub told_ordered : (clauses : List (Option Stored)) (told told' : List (Option ℕ)) → IsOrdered (log_of clauses told) → IsOrdered (log_of clauses told')
-told_ordered clauses told told' order i e at =
-    rests_stay e.level (log_of clauses told) (log_of clauses told') (λ j live below. refl) i e.level (omega arith) e.origin (order i e at)
+-- what is told of terms doesn't matter, nor do atoms
+pub told_ordered : (clauses : List (Option Stored)) (told told' : List (Option ℕ)) (atoms atoms' : List Atom) → IsOrdered (log_of clauses told atoms)
+    → IsOrdered (log_of clauses told' atoms')
+told_ordered clauses told told' atoms atoms' order i e at =
+    rests_stay e.level (log_of clauses told atoms) (log_of clauses told' atoms') (λ j live below. refl) i e.level (omega arith) e.origin (order i e at)
 
 -- the links of a chain are earlier, and of no higher level
 links_rest : (s : LogState) (id n : ℕ) → ((i : ℕ) → IsLive s i → i < id) → (start : ℕ) (ks : List Link) → AllByRecursion (λ (k : Link). IsLive s k.clause) ks
@@ -63,3 +66,10 @@ chain_rests s id first ks above live lives some n below =
       some,
       links_rest s id n above (level_at s first) ks (each_of (λ (k : Link). IsLive s k.clause) ks lives) below,
     )
+
+-- what rests on nothing may stand anywhere
+pub leaf_rests : (s : LogState) (id level : ℕ) (o : Origin) → IsLeaf o → RestsOn s id level o
+leaf_rests s id level (assertion_of k) h = tt
+leaf_rests s id level (gate_of t j) h = tt
+leaf_rests s id level (axiom_of a) h = tt
+leaf_rests s id level (chain_of first ks) h = absurd h

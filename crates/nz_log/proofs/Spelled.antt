@@ -1,28 +1,30 @@
 -- Steps that are spelled out derive their clauses.
-use Rattle.std.proofs.Common.{◌≡◌, ℕ, zero, suc, ◌<◌, ◌≤◌, ◌+◌, Bool, true, false, List, [], ◌∷◌, ◌++◌, length, map, Some, None, inl, inr, refl, sym, ap, subst, ◌∙◌, true≢false, append_assoc, arith}
+use Rattle.std.proofs.Common.{◌≡◌, ℕ, zero, suc, ◌<◌, ◌≤◌, ◌+◌, Bool, true, false, List, [], ◌∷◌, ◌++◌, length, Some, None, inl, inr, refl, sym, ap, subst, ◌∙◌, true≢false, append_assoc, arith}
 use Rattle.std.specs.Prelude.{slice_get, slice_set, slice_index, option_map}
 use Rattle.std.specs.List.{AllByRecursion}
 use Rattle.std.proofs.lemmas.Option.{option_and_then_some, slice_get-map}
-use Rattle.std.proofs.lemmas.List.{append-nil, length-append, map-append}
+use Rattle.std.proofs.lemmas.List.{append-nil, length-append}
 use Rattle.nz_spec.specs.Term.{Term}
-use Rattle.nz_spec.specs.Table.{Node, term_in}
+use Rattle.nz_spec.specs.Table.{Node, IsTable, term_in}
 use Rattle.nz_spec.specs.Form.{Numbering}
 use Rattle.nz_spec.specs.FormOf.{number_in}
 use Rattle.nz_spec.specs.Literal.{Clause, resolvent}
 use Rattle.nz_spec.specs.Gates.{holds}
 use Rattle.nz_spec.specs.Steps as spec
-use Rattle.nz_spec.specs.Steps.{step_clause, clauses_behind, IsDerivation, Derives, DerivationsGrow}
+use Rattle.nz_spec.specs.Steps.{given_step, gate_step, resolve_step, step_clause, clauses_behind, IsDerivation, Derives, DerivationsGrow}
 use Rattle.nz_lists.proofs.Places.{slice_get_kept}
+use Rattle.nz_log.specs.declared.atoms.Atom.{Atom}
 use Rattle.nz_log.specs.declared.lits.Lit.{Lit}
 use Rattle.nz_log.specs.declared.origins.Link.{Link}
-use Rattle.nz_log.specs.declared.steps.Step.{Step}
-use Rattle.nz_log.specs.declared.steps.Step.TheVariants.{Given, Gate, Resolve}
-use Rattle.nz_log.specs.Lits.{LiteralsAgree, literal_of, clause_in, lit_resolvent}
-use Rattle.nz_log.specs.Logs.{RestsOn, Origin, assertion_of, gate_of, chain_of, Entry, LogState, entry_at, literals_at, level_at, chained}
-use Rattle.nz_log.specs.Sound.{live_at, live_terms, AreWithin, IsLink, IsMade, IsLog}
-use Rattle.nz_log.specs.Spelling.{is_marked, AreMarked, chain_steps, chain_place, origin_steps, origin_place, step_of}
+use Rattle.nz_log.specs.Atoms.{AreWithin, IsLitIn, LiteralsAgree, clause_in, literal_in}
+use Rattle.nz_log.specs.Axioms.{axiom_step}
+use Rattle.nz_log.specs.Lits.{lit_resolvent}
+use Rattle.nz_log.specs.Logs.{RestsOn, Origin, assertion_of, gate_of, axiom_of, chain_of, Entry, LogState, entry_at, literals_at, level_at, chained}
+use Rattle.nz_log.specs.Sound.{live_at, live_terms, IsLink, IsMade, IsLog}
+use Rattle.nz_log.specs.Spelling.{is_marked, AreMarked, chain_steps, chain_place, origin_steps, origin_place}
 use Rattle.nz_log.proofs.Members.{each_of, each-resolvent}
-use Rattle.nz_log.proofs.Naming.{resolvent_named}
+use Rattle.nz_log.proofs.Agreeing.{resolvent_named}
+use Rattle.nz_log.proofs.Taken.{axiom_taken}
 use Rattle.nz_log.proofs.Soundness.{live_grows, within_at, same_or_other}
 
 -- ---- Derivations that go on
@@ -59,88 +61,80 @@ one_more grow number asserted steps before s c n long d e =
       here = seam before c n (omega (arith, long, count));
     }
 
-module _ (grow : DerivationsGrow) (ns : List Node) (agree : LiteralsAgree ns) (levels : List (List ℕ)) (s : LogState) (order : IsLog ns levels s) (asserted : List Term) where
-  length-map : (xs : List Step) → length (map (step_of ns) xs) ≡ length xs
-  length-map [] = refl
-  length-map (x ∷ xs) = ap suc (length-map xs)
-
-  push : (steps : List Step) (before : List Clause) (r : Step) (c : Clause) (n : ℕ) → n ≡ length steps
-      → IsDerivation (number_in ns) asserted (map (step_of ns) steps) before → step_clause (number_in ns) asserted before (step_of ns r) ≡ Some c
-      → IsBehind (number_in ns) asserted (map (step_of ns) (steps ++ r ∷ [])) before n c
-  push steps before r c n long d e =
-      subst (λ rs. IsBehind (number_in ns) asserted rs before n c) (sym (map-append (step_of ns) steps (r ∷ [])))
-      (one_more grow (number_in ns) asserted (map (step_of ns) steps) before (step_of ns r) c n (long ∙ sym (length-map steps)) d e)
-
+module _ (grow : DerivationsGrow) (ns : List Node) (levels : List (List ℕ)) (s : LogState) (agree : LiteralsAgree ns s.atoms) (order : IsLog ns levels s) (asserted : List Term) where
   -- a link whose clause has its place
   abbrev IsPlaced : List ℕ → List Clause → Link → Type 0
-  IsPlaced places before k = (slice_get before (slice_index places k.clause) ≡ Some (clause_in ns (literals_at s k.clause))) × (k.literal.term < length ns)
+  IsPlaced places before k = (slice_get before (slice_index places k.clause) ≡ Some (clause_in ns s.atoms (literals_at s k.clause))) × IsLitIn ns s.atoms k.literal
 
   placed_kept : (places : List ℕ) (before after : List Clause) → ((i : ℕ) (x : Clause) → slice_get before i ≡ Some x → slice_get after i ≡ Some x)
       → (ks : List Link) → AllByRecursion (IsPlaced places before) ks → AllByRecursion (IsPlaced places after) ks
   placed_kept places before after kept [] h = tt
   placed_kept places before after kept (k ∷ ks) h = ((kept _ _ h.0.0, h.0.1), placed_kept places before after kept ks h.1)
 
-  chain_behind : (places : List ℕ) (ks : List Link) (steps : List Step) (before : List Clause) (c : List Lit) (current n : ℕ) → AreWithin ns c → n ≡ length steps
-      → IsDerivation (number_in ns) asserted (map (step_of ns) steps) before → slice_get before current ≡ Some (clause_in ns c) → AllByRecursion (IsPlaced places before) ks
-      → IsBehind (number_in ns) asserted (map (step_of ns) (steps ++ chain_steps places n current ks)) before (chain_place n current ks) (clause_in ns (chained s c ks))
+  chain_behind : (places : List ℕ) (ks : List Link) (steps : List spec.Step) (before : List Clause) (c : List Lit) (current n : ℕ) → AreWithin ns s.atoms c → n ≡ length steps
+      → IsDerivation (number_in ns) asserted steps before → slice_get before current ≡ Some (clause_in ns s.atoms c) → AllByRecursion (IsPlaced places before) ks
+      → IsBehind (number_in ns) asserted (steps ++ chain_steps ns s.atoms places n current ks) before (chain_place n current ks) (clause_in ns s.atoms (chained s c ks))
   chain_behind places [] steps before c current n w long d here h =
-      subst (λ rs. IsBehind (number_in ns) asserted (map (step_of ns) rs) before current (clause_in ns c)) (sym (append-nil steps))
+      subst (λ rs. IsBehind (number_in ns) asserted rs before current (clause_in ns s.atoms c)) (sym (append-nil steps))
       (record { clauses = before; derivation = d; kept = λ i x at. at; here = here })
   chain_behind places (k ∷ ks) steps before c current n w long d here h =
-      let l = literal_of ns k.literal in
+      let l = literal_in ns s.atoms k.literal in
       let e = literals_at s k.clause in
       let within = within_at ns levels s order k.clause (entry_at s k.clause) refl in
       let place = slice_index places k.clause in
-      let r = Resolve current place k.literal in
+      let r = resolve_step current place l in
       let next = lit_resolvent k.literal c e in
-      let gives : step_clause (number_in ns) asserted before (step_of ns r) ≡ Some (clause_in ns next) =
+      let gives : step_clause (number_in ns) asserted before r ≡ Some (clause_in ns s.atoms next) =
       ap (λ o. elim o [ None ↦ None | Some x ↦ option_map (resolvent l x) (slice_get before place) ]) here
-      ∙ ap (option_map (resolvent l (clause_in ns c))) h.0.0
-      ∙ ap Some (sym (resolvent_named ns agree k.literal c e h.0.1 w within)) in
-      let pushed = push steps before r (clause_in ns next) n long d gives in
+      ∙ ap (option_map (resolvent l (clause_in ns s.atoms c))) h.0.0
+      ∙ ap Some (sym (resolvent_named ns s.atoms agree k.literal c e h.0.1 w within)) in
+      let pushed = one_more grow (number_in ns) asserted steps before r (clause_in ns s.atoms next) n long d gives in
       let rest = chain_behind places ks (steps ++ r ∷ []) pushed.clauses next n (suc n)
-      (each-resolvent (λ (m : Lit). m.term < length ns) k.literal c e w within)
+      (each-resolvent (IsLitIn ns s.atoms) k.literal c e w within)
       (omega (arith, long, length-append steps (r ∷ [])))
       pushed.derivation pushed.here (placed_kept places before pushed.clauses pushed.kept ks h.1) in
-      subst (λ rs. IsBehind (number_in ns) asserted (map (step_of ns) rs) before (chain_place (suc n) n ks) (clause_in ns (chained s next ks)))
-      (append_assoc steps (r ∷ []) (chain_steps places (suc n) n ks))
+      subst (λ rs. IsBehind (number_in ns) asserted rs before (chain_place (suc n) n ks) (clause_in ns s.atoms (chained s next ks)))
+      (append_assoc steps (r ∷ []) (chain_steps ns s.atoms places (suc n) n ks))
       (record { clauses = rest.clauses; derivation = rest.derivation; kept = λ i x at. rest.kept i x (pushed.kept i x at); here = rest.here })
 
 -- ---- The steps of a clause
 
-module _ (grow : DerivationsGrow) (ns : List Node) (agree : LiteralsAgree ns) (levels : List (List ℕ)) (s : LogState) (order : IsLog ns levels s)
+module _ (grow : DerivationsGrow) (ns : List Node) (table : IsTable ns) (levels : List (List ℕ)) (s : LogState) (agree : LiteralsAgree ns s.atoms) (order : IsLog ns levels s)
     (level : ℕ) (marks : List Bool) (places : List ℕ) (before : List Clause) where
-  links_placed : (id n : ℕ) → ((j : ℕ) → j < id → is_marked marks j ≡ true → slice_get before (slice_index places j) ≡ Some (clause_in ns (literals_at s j)))
+  links_placed : (id n : ℕ) → ((j : ℕ) → j < id → is_marked marks j ≡ true → slice_get before (slice_index places j) ≡ Some (clause_in ns s.atoms (literals_at s j)))
       → (ks : List Link) → AllByRecursion (IsLink ns s id n) ks → AllByRecursion (λ (k : Link). is_marked marks k.clause ≡ true) ks
-      → AllByRecursion (IsPlaced grow ns agree levels s order (live_terms ns levels level) places before) ks
+      → AllByRecursion (IsPlaced grow ns levels s agree order (live_terms ns levels level) places before) ks
   links_placed id n at [] h m = tt
   links_placed id n at (k ∷ ks) h m = ((at k.clause h.0.premise.before m.0, h.0.within), links_placed id n at ks h.1 m.1)
 
   origin_behind : (id : ℕ) (e : Entry) → e.level ≤ level → (o : Origin) → IsMade ns levels s id e o → AreMarked marks o
-      → ((j : ℕ) → j < id → is_marked marks j ≡ true → slice_get before (slice_index places j) ≡ Some (clause_in ns (literals_at s j)))
-      → (steps : List Step) (n : ℕ) → n ≡ length steps → IsDerivation (number_in ns) (live_terms ns levels level) (map (step_of ns) steps) before
-      → IsBehind (number_in ns) (live_terms ns levels level) (map (step_of ns) (steps ++ origin_steps places n o)) before (origin_place places n o) (clause_in ns e.literals)
+      → ((j : ℕ) → j < id → is_marked marks j ≡ true → slice_get before (slice_index places j) ≡ Some (clause_in ns s.atoms (literals_at s j)))
+      → (steps : List spec.Step) (n : ℕ) → n ≡ length steps → IsDerivation (number_in ns) (live_terms ns levels level) steps before
+      → IsBehind (number_in ns) (live_terms ns levels level) (steps ++ origin_steps ns s.atoms places n o) before (origin_place places n o) (clause_in ns s.atoms e.literals)
   origin_behind id e below (assertion_of k) m marked at steps n long d =
       let live = live_grows levels (suc e.level) (suc level) (omega arith) k m.0 m.1 in
-      push grow ns agree levels s order (live_terms ns levels level) steps before (Given k) (clause_in ns e.literals) n long d
+      one_more grow (number_in ns) (live_terms ns levels level) steps before (given_step k) (clause_in ns s.atoms e.literals) n long d
       (ap (option_map (λ t. holds t ∷ [])) (slice_get-map (term_in ns) (live_at levels level) k ∙ ap (option_map (term_in ns)) live)
-      ∙ ap Some (ap (clause_in ns) (sym m.2)))
+      ∙ ap Some (sym m.3))
   origin_behind id e below (gate_of t j) m marked at steps n long d =
-      push grow ns agree levels s order (live_terms ns levels level) steps before (Gate t j) (clause_in ns e.literals) n long d m.2
+      one_more grow (number_in ns) (live_terms ns levels level) steps before (gate_step (term_in ns t) j) (clause_in ns s.atoms e.literals) n long d m.2
+  origin_behind id e below (axiom_of a) m marked at steps n long d =
+      one_more grow (number_in ns) (live_terms ns levels level) steps before (axiom_step ns s.atoms a) (clause_in ns s.atoms e.literals) n long d
+      (axiom_taken ns table s.atoms a e.literals (live_terms ns levels level) before m)
   origin_behind id e below (chain_of first ks) m marked at steps n long d =
-      subst (λ c. IsBehind (number_in ns) (live_terms ns levels level) (map (step_of ns) (steps ++ chain_steps places n (slice_index places first) ks)) before
-      (chain_place n (slice_index places first) ks) (clause_in ns c)) (sym m.2)
-      (chain_behind grow ns agree levels s order (live_terms ns levels level) places ks steps before (literals_at s first) (slice_index places first) n
+      subst (λ c. IsBehind (number_in ns) (live_terms ns levels level) (steps ++ chain_steps ns s.atoms places n (slice_index places first) ks) before
+      (chain_place n (slice_index places first) ks) (clause_in ns s.atoms c)) (sym m.2)
+      (chain_behind grow ns levels s agree order (live_terms ns levels level) places ks steps before (literals_at s first) (slice_index places first) n
       (within_at ns levels s order first (entry_at s first) refl) long d (at first m.0.before marked.0)
       (links_placed id e.level at ks m.1 (each_of (λ (k : Link). is_marked marks k.clause ≡ true) ks marked.1)))
 
 -- ---- The steps of all that a clause rests on
 
 -- The steps so far derive the marked clauses below a number, each at its place.
-pub record ArePlaced (ns : List Node) (levels : List (List ℕ)) (s : LogState) (level : ℕ) (marks : List Bool) (places : List ℕ) (steps : List Step) (i : ℕ) : Type 0 where
+pub record ArePlaced (ns : List Node) (levels : List (List ℕ)) (s : LogState) (level : ℕ) (marks : List Bool) (places : List ℕ) (steps : List spec.Step) (i : ℕ) : Type 0 where
   pub clauses : List Clause
-  pub derivation : IsDerivation (number_in ns) (live_terms ns levels level) (map (step_of ns) steps) clauses
-  pub at : (j : ℕ) → j < i → is_marked marks j ≡ true → slice_get clauses (slice_index places j) ≡ Some (clause_in ns (literals_at s j))
+  pub derivation : IsDerivation (number_in ns) (live_terms ns levels level) steps clauses
+  pub at : (j : ℕ) → j < i → is_marked marks j ≡ true → slice_get clauses (slice_index places j) ≡ Some (clause_in ns s.atoms (literals_at s j))
 
 index_here : (xs : List ℕ) (i v : ℕ) → i < length xs → slice_index (slice_set xs i v) i ≡ v
 index_here [] i v h = absurd (omega arith)
@@ -154,34 +148,35 @@ index_other (x ∷ xs) zero (suc j) v other = refl
 index_other (x ∷ xs) (suc i) zero v other = refl
 index_other (x ∷ xs) (suc i) (suc j) v other = index_other xs i j v (λ same. other (ap suc same))
 
-module _ (grow : DerivationsGrow) (ns : List Node) (agree : LiteralsAgree ns) (levels : List (List ℕ)) (s : LogState) (order : IsLog ns levels s)
-    (level : ℕ) (marks : List Bool) (places : List ℕ) (steps : List Step) (i : ℕ) (placed : ArePlaced ns levels s level marks places steps i) where
+module _ (grow : DerivationsGrow) (ns : List Node) (table : IsTable ns) (levels : List (List ℕ)) (s : LogState) (agree : LiteralsAgree ns s.atoms) (order : IsLog ns levels s)
+    (level : ℕ) (marks : List Bool) (places : List ℕ) (steps : List spec.Step) (n : ℕ) (long : n ≡ length steps) (i : ℕ)
+    (placed : ArePlaced ns levels s level marks places steps i) where
   -- the steps of the clause of the next number derive it
   next_behind : (e : Entry) → entry_at s i ≡ Some e → e.level ≤ level → AreMarked marks e.origin
-      → IsBehind (number_in ns) (live_terms ns levels level) (map (step_of ns) (steps ++ origin_steps places (length steps) e.origin)) placed.clauses
-      (origin_place places (length steps) e.origin) (clause_in ns e.literals)
+      → IsBehind (number_in ns) (live_terms ns levels level) (steps ++ origin_steps ns s.atoms places n e.origin) placed.clauses
+      (origin_place places n e.origin) (clause_in ns s.atoms e.literals)
   next_behind e at below marked =
-      origin_behind grow ns agree levels s order level marks places placed.clauses i e below e.origin (order i e at).made marked placed.at steps (length steps) refl
+      origin_behind grow ns table levels s agree order level marks places placed.clauses i e below e.origin (order.clauses i e at).made marked placed.at steps n long
       placed.derivation
 
   pub placed_next : (e : Entry) → entry_at s i ≡ Some e → e.level ≤ level → AreMarked marks e.origin → i < length places
-      → (next : List Step) → next ≡ steps ++ origin_steps places (length steps) e.origin → (place : ℕ) → place ≡ origin_place places (length steps) e.origin
+      → (next : List spec.Step) → next ≡ steps ++ origin_steps ns s.atoms places n e.origin → (place : ℕ) → place ≡ origin_place places n e.origin
       → ArePlaced ns levels s level marks (slice_set places i place) next (suc i)
   placed_next e at below marked within next steps_are place place_is =
       let b = next_behind e at below marked in
       record {
         clauses = b.clauses;
-        derivation = subst (λ rs. IsDerivation (number_in ns) (live_terms ns levels level) (map (step_of ns) rs) b.clauses) (sym steps_are) b.derivation;
+        derivation = subst (λ rs. IsDerivation (number_in ns) (live_terms ns levels level) rs b.clauses) (sym steps_are) b.derivation;
         at = λ j less m.
             elim (same_or_other j i) [
               | inl same ↦
                   ap (λ k. slice_get b.clauses (slice_index (slice_set places i place) k)) same
                   ∙ ap (slice_get b.clauses) (index_here places i place within ∙ place_is)
                   ∙ b.here
-                  ∙ ap (λ c. Some (clause_in ns c)) (sym (ap (λ o. elim o [ None ↦ [] | Some f ↦ f.literals ]) (ap (entry_at s) same ∙ at)))
+                  ∙ ap (λ c. Some (clause_in ns s.atoms c)) (sym (ap (λ o. elim o [ None ↦ [] | Some f ↦ f.literals ]) (ap (entry_at s) same ∙ at)))
               | inr other ↦
                   ap (slice_get b.clauses) (index_other places i j place other)
-                  ∙ b.kept (slice_index places j) (clause_in ns (literals_at s j)) (placed.at j (omega (arith, other)) m)
+                  ∙ b.kept (slice_index places j) (clause_in ns s.atoms (literals_at s j)) (placed.at j (omega (arith, other)) m)
             ];
       }
 
@@ -209,34 +204,36 @@ last_split (y ∷ z ∷ zs) (suc n) x long at =
     let rest = last_split (z ∷ zs) n x (omega arith) at in (y ∷ rest.0, ap (λ ys. y ∷ ys) rest.1)
 
 -- a chain's last step is the last
-chain_last : (places : List ℕ) (n first : ℕ) (ks : List Link) → 0 < length ks → suc (chain_place n first ks) ≡ n + length (chain_steps places n first ks)
-chain_last places n first [] some = absurd (omega arith)
-chain_last places n first (k ∷ []) some = omega arith
-chain_last places n first (k ∷ l ∷ ks) some = omega (arith, chain_last places (suc n) n (l ∷ ks) (omega arith))
+chain_last : (ns : List Node) (atoms : List Atom) (places : List ℕ) (n first : ℕ) (ks : List Link) → 0 < length ks
+    → suc (chain_place n first ks) ≡ n + length (chain_steps ns atoms places n first ks)
+chain_last ns atoms places n first [] some = absurd (omega arith)
+chain_last ns atoms places n first (k ∷ []) some = omega arith
+chain_last ns atoms places n first (k ∷ l ∷ ks) some = omega (arith, chain_last ns atoms places (suc n) n (l ∷ ks) (omega arith))
 
-origin_last : (s : LogState) (id level : ℕ) (places : List ℕ) (n : ℕ) (o : Origin) → RestsOn s id level o
-    → suc (origin_place places n o) ≡ n + length (origin_steps places n o)
-origin_last s id level places n (assertion_of k) r = omega arith
-origin_last s id level places n (gate_of t j) r = omega arith
-origin_last s id level places n (chain_of first ks) r = chain_last places n (slice_index places first) ks r.1
+origin_last : (ns : List Node) (s : LogState) (id level : ℕ) (places : List ℕ) (n : ℕ) (o : Origin) → RestsOn s id level o
+    → suc (origin_place places n o) ≡ n + length (origin_steps ns s.atoms places n o)
+origin_last ns s id level places n (assertion_of k) r = omega arith
+origin_last ns s id level places n (gate_of t j) r = omega arith
+origin_last ns s id level places n (axiom_of a) r = omega arith
+origin_last ns s id level places n (chain_of first ks) r = chain_last ns s.atoms places n (slice_index places first) ks r.1
 
-module _ (grow : DerivationsGrow) (ns : List Node) (agree : LiteralsAgree ns) (levels : List (List ℕ)) (s : LogState) (order : IsLog ns levels s)
-    (marks : List Bool) (places : List ℕ) (steps : List Step) (id : ℕ) (placed : ArePlaced ns levels s (level_at s id) marks places steps id) where
+module _ (grow : DerivationsGrow) (ns : List Node) (table : IsTable ns) (levels : List (List ℕ)) (s : LogState) (agree : LiteralsAgree ns s.atoms) (order : IsLog ns levels s)
+    (marks : List Bool) (places : List ℕ) (steps : List spec.Step) (n : ℕ) (long : n ≡ length steps) (id : ℕ)
+    (placed : ArePlaced ns levels s (level_at s id) marks places steps id) where
   pub all_derive : (e : Entry) → entry_at s id ≡ Some e → RestsOn s id e.level e.origin → AreMarked marks e.origin
-      → (next : List Step) → next ≡ steps ++ origin_steps places (length steps) e.origin
-      → Derives (live_terms ns levels (level_at s id)) (map (step_of ns) next) (clause_in ns (literals_at s id))
+      → (next : List spec.Step) → next ≡ steps ++ origin_steps ns s.atoms places n e.origin
+      → Derives (live_terms ns levels (level_at s id)) next (clause_in ns s.atoms (literals_at s id))
   all_derive e at rests marked next steps_are =
       let same : level_at s id ≡ e.level = ap (λ o. elim o [ None ↦ 0 | Some f ↦ f.level ]) at in
-      let all = steps ++ origin_steps places (length steps) e.origin in
+      let all = steps ++ origin_steps ns s.atoms places n e.origin in
       let asserted = live_terms ns levels (level_at s id) in
-      let b = next_behind grow ns agree levels s order (level_at s id) marks places steps id placed e at (omega (arith, same)) marked in
-      let count = lengths (number_in ns) asserted (map (step_of ns) all) [] b.clauses b.derivation in
-      let mapped = length-map grow ns agree levels s order asserted all in
-      let place = origin_last s id e.level places (length steps) e.origin rests in
-      let added = length-append steps (origin_steps places (length steps) e.origin) in
-      let long : length b.clauses ≡ suc (origin_place places (length steps) e.origin) = omega (arith, count, mapped, place, added) in
-      let split = last_split b.clauses (origin_place places (length steps) e.origin) (clause_in ns e.literals) long b.here in
+      let b = next_behind grow ns table levels s agree order (level_at s id) marks places steps n long id placed e at (omega (arith, same)) marked in
+      let count = lengths (number_in ns) asserted all [] b.clauses b.derivation in
+      let place = origin_last ns s id e.level places n e.origin rests in
+      let added = length-append steps (origin_steps ns s.atoms places n e.origin) in
+      let full : length b.clauses ≡ suc (origin_place places n e.origin) = omega (arith, count, place, added, long) in
+      let split = last_split b.clauses (origin_place places n e.origin) (clause_in ns s.atoms e.literals) full b.here in
       let literals : literals_at s id ≡ e.literals = ap (λ o. elim o [ None ↦ [] | Some f ↦ f.literals ]) at in
-      subst (λ rs. Derives asserted (map (step_of ns) rs) (clause_in ns (literals_at s id))) (sym steps_are)
-      (subst (λ c. Derives asserted (map (step_of ns) all) (clause_in ns c)) (sym literals)
+      subst (λ rs. Derives asserted rs (clause_in ns s.atoms (literals_at s id))) (sym steps_are)
+      (subst (λ c. Derives asserted all (clause_in ns s.atoms c)) (sym literals)
       (record { number = number_in ns; front = split.0; derivation = b.derivation ∙ ap Some split.1 }))

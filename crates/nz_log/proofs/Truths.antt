@@ -1,23 +1,29 @@
 -- The clauses of a log in order are true.
-use Rattle.std.proofs.Common.{◌≡◌, ℕ, zero, suc, ◌<◌, ◌≤◌, false, List, [], ◌∷◌, ◌++◌, length, map, take, Option, Some, None, refl, sym, ap, subst, ◌∙◌, arith}
+use Rattle.std.proofs.Common.{◌≡◌, ℕ, zero, suc, ◌<◌, ◌≤◌, false, List, [], ◌∷◌, ◌++◌, map, take, Option, Some, None, refl, sym, ap, subst, ◌∙◌, arith}
 use Rattle.std.specs.Prelude.{slice_get, option_map, IsSome}
 use Rattle.std.specs.List.{AllByRecursion}
 use Rattle.std.proofs.lemmas.Bool.{or_left}
 use Rattle.std.proofs.lemmas.Option.{slice_get-map}
 use Rattle.nz_spec.specs.Term.{Term, Assignment, is_true, value_of, IsTrueUnder}
-use Rattle.nz_spec.specs.Table.{Node, term_in, OneNumber}
+use Rattle.nz_spec.specs.Table.{Node, IsTable, term_in, OneNumber}
+use Rattle.nz_spec.specs.FormOf.{number_in}
+use Rattle.nz_spec.specs.Steps.{clauses_behind, DerivedClausesAreTrue}
 use Rattle.nz_spec.specs.Model.{IsAssignment}
 use Rattle.nz_spec.specs.Decide.{asserted_numbers}
 use Rattle.nz_spec.specs.Literal.{clause_of, IsClauseTrue, TellsLiterals, ClauseIsTrueTogether, ResolventIsTrue}
 use Rattle.nz_spec.specs.Gates.{gate_clauses, GatesAreTrue}
+use Rattle.nz_log.specs.declared.atoms.Atom.{Atom}
 use Rattle.nz_log.specs.declared.lits.Lit.{Lit}
 use Rattle.nz_log.specs.declared.origins.Link.{Link}
-use Rattle.nz_log.specs.Lits.{LiteralsAgree, clause_in, lit_resolvent, literal_of}
-use Rattle.nz_log.specs.Logs.{IsPremise, Origin, assertion_of, gate_of, chain_of, Entry, LogState, entry_at, literals_at, level_at, chained}
-use Rattle.nz_log.specs.Sound.{live_at, live_terms, AreWithin, IsLink, IsMade, IsLog, ClausesAreTrue}
+use Rattle.nz_log.specs.Atoms.{AreWithin, IsLitIn, LiteralsAgree, clause_in, literal_in}
+use Rattle.nz_log.specs.Axioms.{Axiom, IsAxiom, axiom_step}
+use Rattle.nz_log.specs.Lits.{lit_resolvent}
+use Rattle.nz_log.specs.Logs.{IsPremise, Origin, assertion_of, gate_of, axiom_of, chain_of, Entry, LogState, entry_at, literals_at, level_at, chained}
+use Rattle.nz_log.specs.Sound.{live_at, live_terms, IsLink, IsMade, IsLog, ClausesAreTrue}
 use Rattle.nz_log.proofs.Members.{each-at, each-resolvent}
-use Rattle.nz_log.proofs.Naming.{literals_agree, resolvent_named}
+use Rattle.nz_log.proofs.Agreeing.{literals_agree, resolvent_named}
 use Rattle.nz_log.proofs.Soundness.{within_at}
+use Rattle.nz_log.proofs.Taken.{taken_now}
 
 -- what holds of the terms of some levels holds of those of fewer
 fewer_behind : (P : Term → Type 0) (f : ℕ → Term) (l xs ys : List ℕ) → (AllByRecursion P (map f ys) → AllByRecursion P (map f xs))
@@ -38,53 +44,61 @@ mapped : {X Y : Type 0} (f : X → Y) (o : Option X) (y : Y) → option_map f o 
 mapped f None y e = cc
 mapped f (Some x) y e = let same : f x ≡ y = cc in (x, refl, same)
 
-module _ (gates : GatesAreTrue) (together : ClauseIsTrueTogether) (resolvents : ResolventIsTrue)
-    (ns : List Node) (agree : LiteralsAgree ns) (levels : List (List ℕ)) (s : LogState) (order : IsLog ns levels s) (a : Assignment) (good : IsAssignment a) where
-  -- the clause of a number is true where the assertions up to a level are
-  abbrev IsTrueAt : ℕ → ℕ → Type 0
-  IsTrueAt level i = level_at s i ≤ level → AllByRecursion (IsTrueUnder a) (live_terms ns levels level) → IsClauseTrue a (clause_in ns (literals_at s i))
+-- what holds by arithmetic alone is true
+axiom_is_true : DerivedClausesAreTrue → (ns : List Node) → IsTable ns → (atoms : List Atom) (x : Axiom) (c : List Lit) → IsAxiom ns atoms x c → (a : Assignment) → IsAssignment a
+    → IsClauseTrue a (clause_in ns atoms c)
+axiom_is_true derived ns table atoms x c h a good =
+    let taken = taken_now ns table atoms x c h in
+    let derivation : clauses_behind (number_in ns) [] [] (axiom_step ns atoms x ∷ []) ≡ Some (clause_in ns atoms c ∷ []) =
+    ap (λ o. elim o [ None ↦ None | Some d ↦ Some (d ∷ []) ]) taken in
+    (derived (number_in ns) [] (axiom_step ns atoms x ∷ []) (clause_in ns atoms c ∷ []) (h.sorted, tt) derivation a good tt).0
 
-  chain_is_true : (id level : ℕ) (c : List Lit) (ks : List Link) → AreWithin ns c → IsClauseTrue a (clause_in ns c) → AllByRecursion (IsLink ns s id level) ks
-      → ((i : ℕ) → IsPremise s id level i → IsClauseTrue a (clause_in ns (literals_at s i))) → IsClauseTrue a (clause_in ns (chained s c ks))
+module _ (derived : DerivedClausesAreTrue) (gates : GatesAreTrue) (together : ClauseIsTrueTogether) (resolvents : ResolventIsTrue)
+    (ns : List Node) (table : IsTable ns) (levels : List (List ℕ)) (s : LogState) (agree : LiteralsAgree ns s.atoms) (order : IsLog ns levels s)
+    (a : Assignment) (good : IsAssignment a) where
+  chain_is_true : (id level : ℕ) (c : List Lit) (ks : List Link) → AreWithin ns s.atoms c → IsClauseTrue a (clause_in ns s.atoms c) → AllByRecursion (IsLink ns s id level) ks
+      → ((i : ℕ) → IsPremise s id level i → IsClauseTrue a (clause_in ns s.atoms (literals_at s i))) → IsClauseTrue a (clause_in ns s.atoms (chained s c ks))
   chain_is_true id level c [] w t h premises = t
   chain_is_true id level c (k ∷ ks) w t h premises =
       let d = literals_at s k.clause in
       let within = within_at ns levels s order k.clause (entry_at s k.clause) refl in
       let resolved =
-      subst (IsClauseTrue a) (sym (resolvent_named ns agree k.literal c d h.0.within w within))
-      (resolvents a (literal_of ns k.literal) (clause_in ns c) (clause_in ns d) t (premises k.clause h.0.premise)) in
+      subst (IsClauseTrue a) (sym (resolvent_named ns s.atoms agree k.literal c d h.0.within w within))
+      (resolvents a (literal_in ns s.atoms k.literal) (clause_in ns s.atoms c) (clause_in ns s.atoms d) t (premises k.clause h.0.premise)) in
       chain_is_true id level (lit_resolvent k.literal c d) ks
-      (each-resolvent (λ (l : Lit). l.term < length ns) k.literal c d w within) resolved h.1 premises
+      (each-resolvent (IsLitIn ns s.atoms) k.literal c d w within) resolved h.1 premises
 
-  entry_is_true : (id : ℕ) (e : Entry) → AreWithin ns e.literals → (o : Origin) → IsMade ns levels s id e o → AllByRecursion (IsTrueUnder a) (live_terms ns levels e.level)
-      → ((i : ℕ) → IsPremise s id e.level i → IsClauseTrue a (clause_in ns (literals_at s i))) → IsClauseTrue a (clause_in ns e.literals)
+  entry_is_true : (id : ℕ) (e : Entry) → AreWithin ns s.atoms e.literals → (o : Origin) → IsMade ns levels s id e o
+      → AllByRecursion (IsTrueUnder a) (live_terms ns levels e.level)
+      → ((i : ℕ) → IsPremise s id e.level i → IsClauseTrue a (clause_in ns s.atoms (literals_at s i))) → IsClauseTrue a (clause_in ns s.atoms e.literals)
   entry_is_true id e w (assertion_of k) m model premises =
       let xs = live_at levels e.level in
       let at : slice_get (map (term_in ns) xs) k ≡ Some (term_in ns m.0) = slice_get-map (term_in ns) xs k ∙ ap (option_map (term_in ns)) m.1 in
-      subst (λ c. IsClauseTrue a (clause_in ns c)) (sym m.2)
+      subst (IsClauseTrue a) (sym m.3)
       (or_left (is_true (value_of a (term_in ns m.0))) false (each-at (IsTrueUnder a) (map (term_in ns) xs) k (term_in ns m.0) model at))
   entry_is_true id e w (gate_of t j) m model premises =
-      let g = mapped clause_of (slice_get (gate_clauses (term_in ns t)) j) (clause_in ns e.literals) m.2 in
+      let g = mapped clause_of (slice_get (gate_clauses (term_in ns t)) j) (clause_in ns s.atoms e.literals) m.2 in
       subst (IsClauseTrue a) g.2
       (together a g.0 ∙ each-at (IsClauseTrue a) (gate_clauses (term_in ns t)) j g.0 (gates a good (term_in ns t) m.1) g.1)
+  entry_is_true id e w (axiom_of x) m model premises = axiom_is_true derived ns table s.atoms x e.literals m a good
   entry_is_true id e w (chain_of first ks) m model premises =
-      subst (λ c. IsClauseTrue a (clause_in ns c)) (sym m.2)
+      subst (λ c. IsClauseTrue a (clause_in ns s.atoms c)) (sym m.2)
       (chain_is_true id e.level (literals_at s first) ks (within_at ns levels s order first (entry_at s first) refl) (premises first m.0) m.1 premises)
 
   all_true : (n id level : ℕ) → id < n → (o : Option Entry) → entry_at s id ≡ o → IsSome o → level_at s id ≤ level
-      → AllByRecursion (IsTrueUnder a) (live_terms ns levels level) → IsClauseTrue a (clause_in ns (literals_at s id))
+      → AllByRecursion (IsTrueUnder a) (live_terms ns levels level) → IsClauseTrue a (clause_in ns s.atoms (literals_at s id))
   all_true zero id level below o at live least model = absurd (omega arith)
   all_true (suc n) id level below None at live least model = cc
   all_true (suc n) id level below (Some e) at live least model =
-      let i = order id e at in
+      let i = order.clauses id e at in
       let lower : e.level ≤ level = subst (λ o. elim o [ None ↦ 0 | Some f ↦ f.level ] ≤ level) at least in
       let here = fewer (IsTrueUnder a) (term_in ns) levels (suc e.level) (suc level) (omega arith) model in
-      subst (λ o. IsClauseTrue a (clause_in ns (elim o [ None ↦ [] | Some f ↦ f.literals ]))) (sym at)
+      subst (λ o. IsClauseTrue a (clause_in ns s.atoms (elim o [ None ↦ [] | Some f ↦ f.literals ]))) (sym at)
       (entry_is_true id e i.within e.origin i.made here
       (λ j p. all_true n j e.level (let h : j < id = p.before in omega arith) (entry_at s j) refl p.live p.level_within here))
 
-pub clauses_are_true : GatesAreTrue → ClauseIsTrueTogether → ResolventIsTrue → TellsLiterals → OneNumber → ClausesAreTrue
-clauses_are_true gates together resolvents tells one ns table levels s order i e at a good model =
-    subst (λ o. IsClauseTrue a (clause_in ns (elim o [ None ↦ [] | Some f ↦ f.literals ]))) at
-    (all_true gates together resolvents ns (literals_agree tells one ns table) levels s order a good (suc i) i e.level (omega arith) (Some e) at refl
+pub clauses_are_true : DerivedClausesAreTrue → GatesAreTrue → ClauseIsTrueTogether → ResolventIsTrue → TellsLiterals → OneNumber → ClausesAreTrue
+clauses_are_true derived gates together resolvents tells one ns table levels s order i e at a good model =
+    subst (λ o. IsClauseTrue a (clause_in ns s.atoms (elim o [ None ↦ [] | Some f ↦ f.literals ]))) at
+    (all_true derived gates together resolvents ns table levels s (literals_agree tells one ns table s.atoms order.atoms) order a good (suc i) i e.level (omega arith) (Some e) at refl
     (subst (λ o. elim o [ None ↦ 0 | Some f ↦ f.level ] ≤ e.level) (sym at) (omega arith)) model)

@@ -1,17 +1,27 @@
--- What a log holds: clauses by number, each with its level and how it was made, and the levels told of terms.
+-- What a log holds: clauses by number, each with its level and how it was made, the levels told of terms, and atoms by number.
 use Rattle.std.specs.Prelude.{◌≡◌, ◌≢◌, ℕ, ◌<◌, ◌≤◌, max, min, nat_le, List, [], ◌∷◌, length, fold, Option, Some, None, IsSome, unwrap_or, slice_get, slice_index_or, if◌then◌else◌}
 use Rattle.std.specs.Bool.{⊤}
 use Rattle.std.specs.List.{AllByRecursion}
-use Rattle.nz_spec.specs.Table.{Node}
+use Rattle.nz_spec.specs.Table.{Node, IsTable}
+use Rattle.nz_lin.specs.declared.bound.Bound.{Bound}
+use Rattle.nz_lin.specs.Bounds.{HasUnits, literal_over}
 use Rattle.nz_spec.specs.Literal.{once}
+use Rattle.nz_log.specs.declared.atoms.Atom.{Atom}
 use Rattle.nz_log.specs.declared.lits.Lit.{Lit}
 use Rattle.nz_log.specs.declared.origins.Link.{Link}
-use Rattle.nz_log.specs.Lits.{yes, are_same_lit, lit_resolvent, gates_at}
+use Rattle.nz_log.specs.declared.rows.Said.{Said}
+use Rattle.nz_log.specs.Atoms.{Stay, literal_in, terms_at, lit_of, lits_of}
+use Rattle.nz_log.specs.declared.multiples.Multiple.{Multiple}
+use Rattle.nz_log.specs.Axioms.{AreMultiplesIn, Axiom, IsClauseOf, branch_of, cut_of}
+use Rattle.nz_log.specs.Lits.{are_same_lit, lit_resolvent}
+use Rattle.nz_log.specs.Rows.{AreLitsOf, AreSaidIn}
+use Rattle.nz_log.specs.TermLits.{yes, gates_at}
 
 -- how a clause was made
 pub data Origin : Type 0 where
   assertion_of : (k : ℕ) → Origin  -- it is a live assertion
   gate_of : (term j : ℕ) → Origin  -- it is a clause of the gate table
+  axiom_of : (a : Axiom) → Origin  -- it holds by arithmetic alone
   chain_of : (first : ℕ) (links : List Link) → Origin  -- it is the last of a chain of resolvents
 
 pub record Entry : Type 0 where
@@ -19,13 +29,14 @@ pub record Entry : Type 0 where
   pub level : ℕ
   pub origin : Origin
 
--- The clauses by number, with a gap where one was dropped, and by the numbers of terms the levels told.
+-- The clauses by number, with a gap where one was dropped, by the numbers of terms the levels told, and the atoms by number.
 pub record LogState : Type 0 where
   pub entries : List (Option Entry)
   pub told : List (Option ℕ)
+  pub atoms : List Atom
 
 abbrev pub empty_log : LogState
-empty_log = record { entries = []; told = [] }
+empty_log = record { entries = []; told = []; atoms = [] }
 
 -- the clause of a number, where the log has one
 abbrev pub entry_at : LogState → ℕ → Option Entry
@@ -49,9 +60,13 @@ told_of s t = slice_index_or s.told t None
 abbrev pub told_level : LogState → ℕ → ℕ
 told_level s t = unwrap_or (told_of s t) 0
 
+-- the greatest of a level and those told of these terms
+abbrev pub level_of_terms : LogState → ℕ → List ℕ → ℕ
+level_of_terms s level ts = fold (λ n t. max n (told_level s t)) level ts
+
 -- the greatest of a level and those told of the terms that the literals name
 abbrev pub level_with : LogState → ℕ → List Lit → ℕ
-level_with s level c = fold (λ n (l : Lit). max n (told_level s l.term)) level c
+level_with s level c = fold (λ n (l : Lit). level_of_terms s n (terms_at s.atoms l)) level c
 
 -- the greatest of a level and those of the clauses of a chain
 abbrev pub level_of_links : LogState → ℕ → List Link → ℕ
@@ -76,7 +91,7 @@ lowest (Some n) level = min n level
 
 -- ---- Changes
 
--- A clause is put under a number above those of the clauses that are there; these stay.
+-- A clause is put under a number above those of the clauses that are there; these stay, and so do the atoms.
 pub record Puts (old : LogState) (id : ℕ) (e : Entry) (new : LogState) : Type 0 where
   pub above : (i : ℕ) → IsLive old i → i < id
   pub live : IsLive new id
@@ -84,6 +99,13 @@ pub record Puts (old : LogState) (id : ℕ) (e : Entry) (new : LogState) : Type 
   pub made : entry_at new id ≡ Some e
   pub kept : (i : ℕ) → i ≢ id → entry_at new i ≡ entry_at old i
   pub told : new.told ≡ old.told
+  pub atoms : Stay old.atoms new.atoms
+
+-- Atoms join, and nothing else changes.
+pub record JoinsAtoms (old new : LogState) : Type 0 where
+  pub entries : new.entries ≡ old.entries
+  pub told : new.told ≡ old.told
+  pub atoms : Stay old.atoms new.atoms
 
 -- a clause at or below the level
 abbrev pub kept_below : ℕ → Option Entry → Option Entry
@@ -94,10 +116,11 @@ abbrev pub told_below : ℕ → Option ℕ → Option ℕ
 told_below level None = None
 told_below level (Some n) = if nat_le n level then Some n else None
 
--- Just the clauses at or below the level stay, and what was told of it and of lower ones.
+-- Just the clauses at or below the level stay, and what was told of it and of lower ones. The atoms stay.
 pub record Drops (old : LogState) (level : ℕ) (new : LogState) : Type 0 where
   pub entries : (i : ℕ) → entry_at new i ≡ kept_below level (entry_at old i)
   pub told : (t : ℕ) → told_of new t ≡ told_below level (told_of old t)
+  pub atoms : new.atoms ≡ old.atoms
 
 -- ---- What clauses rest on
 
@@ -111,30 +134,66 @@ pub record IsPremise (s : LogState) (id level i : ℕ) : Type 0 where
 abbrev pub RestsOn : LogState → ℕ → ℕ → Origin → Type 0
 RestsOn s id level (assertion_of k) = ⊤
 RestsOn s id level (gate_of t j) = ⊤
+RestsOn s id level (axiom_of a) = ⊤
 RestsOn s id level (chain_of first ks) =
     IsPremise s id level first × (0 < length ks) × AllByRecursion (λ (k : Link). IsPremise s id level k.clause) ks
+
+-- it rests on no other clause
+abbrev pub IsLeaf : Origin → Type 0
+IsLeaf (assertion_of k) = ⊤
+IsLeaf (gate_of t j) = ⊤
+IsLeaf (axiom_of a) = ⊤
+IsLeaf (chain_of first ks) = ⊥
 
 -- Each clause rests on earlier ones of no higher level.
 abbrev pub IsOrdered : LogState → Type 0
 IsOrdered s = (i : ℕ) (e : Entry) → entry_at s i ≡ Some e → RestsOn s i e.level e.origin
 
--- ---- What the rules make
+-- ---- What the rules make, beside the atoms that are there then
+
+-- these literals, at the greatest of a level and those told of the terms that they name
+abbrev pub made_entry : LogState → ℕ → List Lit → Origin → Entry
+made_entry s level c o = record { literals = c; level = level_with s level c; origin = o }
 
 abbrev pub given_entry : LogState → ℕ → ℕ → ℕ → Entry
-given_entry s k t level = record { literals = yes t ∷ []; level = level_with s level (yes t ∷ []); origin = assertion_of k }
+given_entry s k t level = made_entry s level (lit_of s.atoms (yes t) ∷ []) (assertion_of k)
 
 -- the clause of a number of the gate table
 abbrev pub gate_entry : List Node → LogState → ℕ → ℕ → Entry
-gate_entry ns s t j =
-    let c = once are_same_lit (unwrap_or (slice_get (gates_at ns t) j) []) in
-    record { literals = c; level = level_with s 0 c; origin = gate_of t j }
+gate_entry ns s t j = made_entry s 0 (once are_same_lit (lits_of s.atoms (unwrap_or (slice_get (gates_at ns t) j) []))) (gate_of t j)
+
+-- these literals, where they hold by arithmetic alone
+abbrev pub axiom_entry : LogState → Axiom → List Lit → Entry
+axiom_entry s a c = made_entry s 0 c (axiom_of a)
 
 -- the resolvent of two clauses
 abbrev pub resolvent_entry : LogState → ℕ → ℕ → Lit → Entry
 resolvent_entry s first second l =
-    let c = lit_resolvent l (literals_at s first) (literals_at s second) in
-    record {
-      literals = c;
-      level = level_with s (max (level_at s first) (level_at s second)) c;
-      origin = chain_of first (record { clause = second; literal = l } ∷ []);
-    }
+    made_entry s (max (level_at s first) (level_at s second)) (lit_resolvent l (literals_at s first) (literals_at s second))
+    (chain_of first (record { clause = second; literal = l } ∷ []))
+
+-- the clause of a row is put
+pub record PutsRow (old : LogState) (id : ℕ) (a : Axiom) (row : List Said) (new : LogState) : Type 0 where
+  pub literals : List Lit
+  pub puts : Puts old id (axiom_entry new a (once are_same_lit literals)) new
+  pub made : (ns : List Node) → AreSaidIn ns row → AreLitsOf ns new.atoms row literals
+
+-- a clause that holds by arithmetic alone is put: over a table it is that of the step
+pub record PutsAxiom (ns : List Node) (old : LogState) (id : ℕ) (a : Axiom) (new : LogState) : Type 0 where
+  pub literals : List Lit
+  pub puts : Puts old id (axiom_entry new a literals) new
+  pub clause : IsClauseOf ns new.atoms a literals
+
+-- a branch on a bound is put, whose first literal is that bound: over each table that has the units it is that of the step
+pub record PutsBranch (old : LogState) (id : ℕ) (b : Bound) (new : LogState) : Type 0 where
+  pub first : Lit
+  pub literals : List Lit
+  pub puts : Puts old id (axiom_entry new (branch_of first) literals) new
+  pub literal : (ns : List Node) → literal_in ns new.atoms first ≡ literal_over ns b
+  pub clause : (ns : List Node) → IsTable ns → HasUnits ns b → IsClauseOf ns new.atoms (branch_of first) literals
+
+-- a cut is put: over each table that has what the multiples name it is that of the step
+pub record PutsCut (old : LogState) (id : ℕ) (ms : List Multiple) (new : LogState) : Type 0 where
+  pub literals : List Lit
+  pub puts : Puts old id (axiom_entry new (cut_of ms) literals) new
+  pub clause : (ns : List Node) → IsTable ns → AreMultiplesIn ns old.atoms ms → IsClauseOf ns new.atoms (cut_of ms) literals

@@ -7,7 +7,7 @@ use Rattle.nz_log.specs.Lits.{are_same_lit}
 use Rattle.nz_log.specs.Spelling.{is_marked}
 
 abbrev pub has_mark : Marks → Lit → Bool
-has_mark m l = if l.sign then is_marked m.holds.items l.term else is_marked m.fails.items l.term
+has_mark m l = if l.sign then is_marked m.holds.items l.atom else is_marked m.fails.items l.atom
 
 -- no literal is marked
 abbrev pub AreNone : (Lit → Bool) → Type 0

@@ -10,7 +10,7 @@ use Rattle.nz_lin.specs.Lines.{family_in}
 use Rattle.nz_log.specs.declared.climb.Peak.{Peak}
 use Rattle.nz_log.specs.declared.climb.Peak.TheVariants.{Vertex, Ray}
 use Rattle.nz_log.specs.declared.climb.Route.{Route}
-use Rattle.nz_log.specs.Lits.{literal_of}
+use Rattle.nz_log.specs.TermLits.{literal_of}
 
 -- the route, where these are the numbers of the asserted terms by level
 abbrev pub route_in : List Node → List (List ℕ) → Route → spec.Route

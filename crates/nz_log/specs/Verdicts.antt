@@ -7,10 +7,10 @@ use Rattle.nz_spec.specs.Decide.{asserted_terms}
 use Rattle.nz_spec.specs.Legal.{Task}
 use Rattle.nz_log.specs.declared.decide.Verdict.{Verdict}
 use Rattle.nz_log.specs.declared.decide.Verdict.TheVariants.{Sat, Unsat}
-use Rattle.nz_log.specs.declared.lits.Lit.{Lit}
 use Rattle.nz_log.specs.declared.stop.Stop.{Stop}
 use Rattle.nz_log.specs.declared.stop.Stop.TheVariants.{Spent, Memory}
-use Rattle.nz_log.specs.Lits.{literal_of}
+use Rattle.nz_log.specs.declared.term_lits.TermLit.{TermLit}
+use Rattle.nz_log.specs.TermLits.{literal_of}
 
 -- the fact of the assignment that was found
 abbrev pub IfSat : Verdict → (List (ℕ × spec.Value) → Type 0) → Type 0
@@ -33,9 +33,9 @@ OnSpent Spent P = P
 OnSpent Memory P = ⊤
 
 -- What a search is asked: of the asserted terms and the assumed literals, and of all that they are made of.
-abbrev pub task_in : List Node → List (List ℕ) → List Lit → Task
+abbrev pub task_in : List Node → List (List ℕ) → List TermLit → Task
 task_in ns levels assumed = record {
   asserted = asserted_terms ns levels;
   assumed = map (literal_of ns) assumed;
-  listed = flat_map listing_order (asserted_terms ns levels ++ map (λ (l : Lit). term_in ns l.term) assumed);
+  listed = flat_map listing_order (asserted_terms ns levels ++ map (λ (l : TermLit). term_in ns l.term) assumed);
 }

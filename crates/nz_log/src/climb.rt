@@ -1,8 +1,8 @@
 //! What climbs: the trait of a search that makes a goal better, from a model, and its answers.
 use crate::decide::Decide;
-use crate::lits::Lit;
 use crate::note::Note;
 use crate::stop::Stop;
+use crate::term_lits::TermLit;
 use nz_base::Work;
 use nz_lin::{Family, Form};
 use nz_term::{Assign, Terms};
@@ -13,7 +13,7 @@ pub struct Route<'a> {
     /// The model that it starts from.
     pub model: &'a Assign,
     /// Literals that are true in the model, and stay so.
-    pub assumed: &'a [Lit],
+    pub assumed: &'a [TermLit],
     /// What is to get better.
     pub goal: &'a Form,
     /// Whether greater is better; else smaller is.
@@ -45,9 +45,8 @@ pub trait Climb: Decide {
     ghost use Rattle.nz_spec.specs.Table.{assignment_by};
     ghost use Rattle.nz_spec.specs.Work.{IsSpent};
     ghost use Rattle.nz_lin.specs.Forms.{AreUnits, form_over};
-    ghost use Rattle.nz_log.specs.Lits.{literal_of};
+    ghost use Rattle.nz_log.specs.TermLits.{AreOfTerms, literal_of};
     ghost use Rattle.nz_log.specs.Peaks.{IsPeak, route_in};
-    ghost use Rattle.nz_log.specs.Sound.{AreWithin};
     ghost use Rattle.nz_log.specs.Verdicts.{OnSpent};
 
     /// Goes from a model to a vertex of the goal, or to a ray along which the goal passes every number. Each linear literal that is true in the
@@ -66,7 +65,7 @@ pub trait Climb: Decide {
         requires table { Self.table self.old ≡ terms.now }
         requires known { AreInTable terms.now (Self.levels self.old) }
         requires companions { HasCompanions terms.now }
-        requires within { AreWithin terms.now route.now.assumed.now }
+        requires within { AreOfTerms terms.now route.now.assumed.now }
         requires sum { IsSum (number_in terms.now) (form_over terms.now route.now.goal.now) }
         requires units { AreUnits terms.now route.now.goal.now.parts }
         // What is asserted, what is assumed and the goal are linear, over arguments of their sorts.

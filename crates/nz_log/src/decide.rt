@@ -1,9 +1,9 @@
 //! What decides checks: the trait that a search implements, and its answers.
-use crate::lits::Lit;
 use crate::note::Note;
 use crate::origins::ClauseId;
 use crate::steps::Step;
 use crate::stop::Stop;
+use crate::term_lits::TermLit;
 use nz_base::{Memory, Work};
 use nz_term::{Assign, TermId, Terms};
 
@@ -28,11 +28,10 @@ pub trait Decide: Drop {
     ghost use Rattle.nz_spec.specs.Legal.{at_first, IsDeadEnd, AreLegal};
     ghost use Rattle.nz_spec.specs.Steps.{Derives};
     ghost use Rattle.nz_spec.specs.Work.{IsSpent};
-    ghost use Rattle.nz_log.specs.declared.lits.Lit.{Lit};
-    ghost use Rattle.nz_log.specs.Lits.{literal_of, clause_in, AreConsistent, AreNegations};
+    ghost use Rattle.nz_log.specs.declared.term_lits.TermLit.{TermLit};
+    ghost use Rattle.nz_log.specs.TermLits.{literal_of, clause_of_terms, AreConsistent, AreNegations, AreOfTerms};
     ghost use Rattle.nz_log.specs.Notes.{noted_list, AreNotedWithin};
-    ghost use Rattle.nz_log.specs.Sound.{AreWithin};
-    ghost use Rattle.nz_log.specs.Spelling.{step_of};
+    ghost use Rattle.nz_log.specs.Spelling.{steps_of};
     ghost use Rattle.nz_log.specs.Verdicts.{IfSat, IfUnsat, OnUnsat, OnSpent, task_in};
 
     /// The numbers of the asserted terms by level, the oldest level first.
@@ -41,8 +40,8 @@ pub trait Decide: Drop {
     /// The table of the last check, or a front of it: each later table begins with it, so that a number keeps its term.
     ghost table: { Self → List Node };
 
-    /// The literals of the clause of a number, where it can be asked for.
-    ghost clause: { Self → ℕ → Option (List Lit) };
+    /// The literals of the clause of a number, where it can be asked for: it is on terms alone.
+    ghost clause: { Self → ℕ → Option (List TermLit) };
 
     /// Begins a level, in which nothing is asserted yet.
     ///
@@ -80,11 +79,11 @@ pub trait Decide: Drop {
     fn check(
         &mut self,
         terms: &Terms,
-        assumed: &[Lit],
+        assumed: &[TermLit],
         work: &mut Work<Note>,
     ) -> Result<Verdict, Stop>
         requires known { AreInTable terms.now (levels self.old) }
-        requires within { AreWithin terms.now assumed.now }
+        requires within { AreOfTerms terms.now assumed.now }
         requires grown { IsFrontOfTable (table self.old) terms.now }
         requires no_steps { work.old.lines ≡ [] }
 
@@ -111,7 +110,7 @@ pub trait Decide: Drop {
     /// # Errors
     ///
     /// `Memory`.
-    fn steps(&self, id: ClauseId) -> Result<Vec<Step>, Memory>
+    fn steps(&self, id: ClauseId) -> Result<Vec<Step<'_>>, Memory>
         requires derived { IsSome (clause self.now id) }
-        ensures derives { IfOk result (λ steps. (c : List Lit) → clause self.now id ≡ Some c → Derives (asserted_terms (table self.now) (levels self.now)) (map (step_of (table self.now)) steps.items) (clause_in (table self.now) c)) };
+        ensures derives { IfOk result (λ steps. (c : List TermLit) → clause self.now id ≡ Some c → Derives (asserted_terms (table self.now) (levels self.now)) (steps_of (table self.now) steps.items) (clause_of_terms (table self.now) c)) };
 }

@@ -3,15 +3,15 @@ ghost use Rattle.std.specs.Prelude.{◌≡◌, ◌<◌, ◌∷◌, [], length, S
 ghost use Rattle.nz_spec.specs.Term.{bool_sort, choice, conjunction, disjunction, equality, exclusion, negation};
 ghost use Rattle.nz_term.specs.Constants.{sort_of};
 ghost use Rattle.nz_term.specs.Heads.{head_of};
-ghost use Rattle.nz_log.specs.Lits.{gates_at, gates_over, is_boolean_at, negated_lit, no, only, signed, yes};
+ghost use Rattle.nz_log.specs.TermLits.{gates_at, gates_over, is_boolean_at, no, only, signed, turned, yes};
 
-use crate::lits::Lit;
+use crate::term_lits::TermLit;
 use nz_base::Memory;
 use nz_term::{Head, Operator, Sort, TermId, Terms};
 use std::alloc::Global;
 
 /// The literals of a clause, where the gate table has one.
-type Gate = Option<Vec<Lit>>;
+type Gate = Option<Vec<TermLit>>;
 
 /// How many clauses of the gate table a term has. Their numbers are those below it.
 pub fn gate_count(terms: &Terms, term: TermId) -> usize
@@ -83,8 +83,8 @@ fn clause_over(
         return Ok(None);
     };
     match operator {
-        Operator::True => only_clause(alloc, Lit::holds(term), kids, j),
-        Operator::False => only_clause(alloc, Lit::fails(term), kids, j),
+        Operator::True => only_clause(alloc, TermLit::holds(term), kids, j),
+        Operator::False => only_clause(alloc, TermLit::fails(term), kids, j),
         Operator::Not => negation_clause(alloc, term, kids, j),
         Operator::And => conjunction_clause(alloc, term, kids, j),
         Operator::Or => disjunction_clause(alloc, term, kids, j),
@@ -96,7 +96,7 @@ fn clause_over(
 }
 
 /// The clause of this number of these.
-fn row<const N: usize>(alloc: Global, rows: &[[Lit; N]], j: usize) -> Result<Gate, Memory>
+fn row<const N: usize>(alloc: Global, rows: &[[TermLit; N]], j: usize) -> Result<Gate, Memory>
     ensures clause { IfOk result (λ c. option_map (λ v. v.items) c ≡ slice_get rows.now j) }
 {
     match rows.get(j) {
@@ -106,7 +106,7 @@ fn row<const N: usize>(alloc: Global, rows: &[[Lit; N]], j: usize) -> Result<Gat
 }
 
 /// The one clause, of one literal, of a term without arguments.
-fn only_clause(alloc: Global, literal: Lit, kids: &[TermId], j: usize) -> Result<Gate, Memory>
+fn only_clause(alloc: Global, literal: TermLit, kids: &[TermId], j: usize) -> Result<Gate, Memory>
     ensures clause { IfOk result (λ c. option_map (λ v. v.items) c ≡ slice_get (only (literal ∷ []) kids.now) j) }
 {
     match kids {
@@ -118,20 +118,24 @@ fn only_clause(alloc: Global, literal: Lit, kids: &[TermId], j: usize) -> Result
 fn negation_clause(alloc: Global, term: TermId, kids: &[TermId], j: usize) -> Result<Gate, Memory>
     ensures clause { IfOk result (λ c. option_map (λ v. v.items) c ≡ slice_get (gates_over term negation kids.now) j) }
 {
-    let yes = Lit::holds(term);
-    let no = Lit::fails(term);
+    let yes = TermLit::holds(term);
+    let no = TermLit::fails(term);
     match kids {
-        [kid] => row(alloc, &[[no, Lit::fails(*kid)], [yes, Lit::holds(*kid)]], j),
+        [kid] => row(
+            alloc,
+            &[[no, TermLit::fails(*kid)], [yes, TermLit::holds(*kid)]],
+            j,
+        ),
         _ => Ok(None),
     }
 }
 
 /// The clauses of a term that is true where one of two literals is true and the other isn't.
-fn exclusion_rows(term: TermId, a: Lit, b: Lit) -> [[Lit; 3]; 4]
-    ensures rows { result ≡ (no term ∷ a ∷ b ∷ []) ∷ (no term ∷ negated_lit a ∷ negated_lit b ∷ []) ∷ (yes term ∷ negated_lit a ∷ b ∷ []) ∷ (yes term ∷ a ∷ negated_lit b ∷ []) ∷ [] }
+fn exclusion_rows(term: TermId, a: TermLit, b: TermLit) -> [[TermLit; 3]; 4]
+    ensures rows { result ≡ (no term ∷ a ∷ b ∷ []) ∷ (no term ∷ turned a ∷ turned b ∷ []) ∷ (yes term ∷ turned a ∷ b ∷ []) ∷ (yes term ∷ a ∷ turned b ∷ []) ∷ [] }
 {
-    let yes = Lit::holds(term);
-    let no = Lit::fails(term);
+    let yes = TermLit::holds(term);
+    let no = TermLit::fails(term);
     [
         [no, a, b],
         [no, a.not(), b.not()],
@@ -145,7 +149,7 @@ fn exclusion_clause(alloc: Global, term: TermId, kids: &[TermId], j: usize) -> R
 {
     match kids {
         [left, right] => {
-            let rows = exclusion_rows(term, Lit::holds(*left), Lit::holds(*right));
+            let rows = exclusion_rows(term, TermLit::holds(*left), TermLit::holds(*right));
             row(alloc, &rows, j)
         }
         _ => Ok(None),
@@ -158,7 +162,7 @@ fn equality_clause(alloc: Global, term: TermId, kids: &[TermId], j: usize) -> Re
 {
     match kids {
         [left, right] => {
-            let rows = exclusion_rows(term, Lit::fails(*left), Lit::holds(*right));
+            let rows = exclusion_rows(term, TermLit::fails(*left), TermLit::holds(*right));
             row(alloc, &rows, j)
         }
         _ => Ok(None),
@@ -188,16 +192,16 @@ fn boolean_choice_clause(
 ) -> Result<Gate, Memory>
     ensures clause { IfOk result (λ c. option_map (λ v. v.items) c ≡ slice_get (gates_over term (choice bool_sort) kids.now) j) }
 {
-    let yes = Lit::holds(term);
-    let no = Lit::fails(term);
+    let yes = TermLit::holds(term);
+    let no = TermLit::fails(term);
     match kids {
         [condition, left, right] => {
-            let c = Lit::holds(*condition);
-            let not_c = Lit::fails(*condition);
-            let a = Lit::holds(*left);
-            let not_a = Lit::fails(*left);
-            let b = Lit::holds(*right);
-            let not_b = Lit::fails(*right);
+            let c = TermLit::holds(*condition);
+            let not_c = TermLit::fails(*condition);
+            let a = TermLit::holds(*left);
+            let not_a = TermLit::fails(*left);
+            let b = TermLit::holds(*right);
+            let not_b = TermLit::fails(*right);
             let rows = [
                 [no, not_c, a],
                 [no, c, b],
@@ -219,10 +223,10 @@ fn conjunction_clause(
     ensures clause { IfOk result (λ c. option_map (λ v. v.items) c ≡ slice_get (gates_over term conjunction kids.now) j) }
 {
     if j < kids.len() {
-        return row(alloc, &[[Lit::fails(term), Lit::holds(kids[j])]], 0);
+        return row(alloc, &[[TermLit::fails(term), TermLit::holds(kids[j])]], 0);
     }
     if j == kids.len() {
-        return Ok(Some(signed(alloc, Lit::holds(term), kids, false)?));
+        return Ok(Some(signed(alloc, TermLit::holds(term), kids, false)?));
     }
     Ok(None)
 }
@@ -236,22 +240,27 @@ fn disjunction_clause(
     ensures clause { IfOk result (λ c. option_map (λ v. v.items) c ≡ slice_get (gates_over term disjunction kids.now) j) }
 {
     if j < kids.len() {
-        return row(alloc, &[[Lit::holds(term), Lit::fails(kids[j])]], 0);
+        return row(alloc, &[[TermLit::holds(term), TermLit::fails(kids[j])]], 0);
     }
     if j == kids.len() {
-        return Ok(Some(signed(alloc, Lit::fails(term), kids, true)?));
+        return Ok(Some(signed(alloc, TermLit::fails(term), kids, true)?));
     }
     Ok(None)
 }
 
 /// A literal, and then those of these terms with a sign.
-fn signed(alloc: Global, first: Lit, kids: &[TermId], sign: bool) -> Result<Vec<Lit>, Memory>
+fn signed(
+    alloc: Global,
+    first: TermLit,
+    kids: &[TermId],
+    sign: bool,
+) -> Result<Vec<TermLit>, Memory>
     ensures literals { IfOk result (λ v. v.items ≡ first ∷ signed sign kids.now) }
 {
     let mut literals = Vec::new(alloc);
     literals.push(first)?;
     for kid in kids {
-        literals.push(Lit { term: *kid, sign })?;
+        literals.push(TermLit { term: *kid, sign })?;
     }
     Ok(literals)
 }

@@ -1,12 +1,14 @@
 //! Laws of logs in order, and of clauses by the numbers of terms.
 ghost use Rattle.nz_log.specs.Leveled.{LogsStayLeveled};
-ghost use Rattle.nz_log.specs.Lits.{TellsLits};
+ghost use Rattle.nz_log.specs.Atoms.{TellsLits, AtomsOfTerms};
 ghost use Rattle.nz_log.specs.Sound.{ClausesAreTrue, GatesAreNamed, LogsStay};
 
-use nz_spec::derivation::{gates_are_true, resolvent_is_true, tells_literals};
+use nz_spec::derivation::{
+    derived_clauses_are_true, gates_are_true, resolvent_is_true, tells_literals,
+};
 use nz_spec::table::{one_number, term_of_node, term_stays};
 
-/// Two literals are one where the test says so, and say the same in a table just then.
+/// Two literals are one where the test says so, and say the same over a table just then.
 pub fn tells_lits()
     ensures tells { TellsLits }
 {
@@ -14,17 +16,23 @@ pub fn tells_lits()
     one_number();
 }
 
+/// The atom of a term keeps its number, whatever atoms join, and no other number has it.
+pub fn atoms_of_terms()
+    ensures atoms { AtomsOfTerms }
+{}
+
 /// Each clause of a log in order is true under every assignment that makes the assertions live at its level true.
 pub fn clauses_are_true()
     ensures clauses { ClausesAreTrue }
 {
+    derived_clauses_are_true();
     gates_are_true();
     resolvent_is_true();
     tells_literals();
     one_number();
 }
 
-/// A log without clauses is in order, and a log stays so when the table grows, and when more is asserted.
+/// A log without clauses is in order, and a log stays so when the table grows, when atoms join, and when more is asserted.
 pub fn logs_stay()
     ensures stay { LogsStay }
 {

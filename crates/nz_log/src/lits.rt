@@ -1,39 +1,26 @@
-//! Literals by the numbers of their terms.
+//! Literals by the numbers of their atoms.
 ghost use Rattle.std.specs.Prelude.{◌≡◌};
-ghost use Rattle.nz_log.specs.Lits.{are_same_lit, negated_lit, no, yes};
+ghost use Rattle.nz_log.specs.Lits.{are_same_lit, negated_lit};
 
-use nz_term::TermId;
+/// The number of an atom in its log.
+pub type AtomId = usize;
 
-/// A literal: a Boolean term is true, or it is false. The default one fills what a small vector doesn't use.
+/// A literal: an atom, or its negation. The default one fills what a small vector doesn't use.
 #[derive(Clone, Copy, Debug, Default, PartialEq, Eq)]
 pub struct Lit {
-    /// The number of the term in its table.
-    pub term: TermId,
-    /// Whether the term is to be true.
+    /// The number of the atom in its log.
+    pub atom: AtomId,
+    /// Whether it is the atom itself.
     pub sign: bool,
 }
 
 impl Lit {
-    /// The term is true.
-    pub fn holds(term: TermId) -> Lit
-        ensures literal { result ≡ yes term }
-    {
-        Lit { term, sign: true }
-    }
-
-    /// The term is false.
-    pub fn fails(term: TermId) -> Lit
-        ensures literal { result ≡ no term }
-    {
-        Lit { term, sign: false }
-    }
-
     /// The negation.
     pub fn not(self) -> Lit
         ensures negation { result ≡ negated_lit self }
     {
         Lit {
-            term: self.term,
+            atom: self.atom,
             sign: !self.sign,
         }
     }
@@ -42,6 +29,6 @@ impl Lit {
     pub fn is(self, other: Lit) -> bool
         ensures same { result ≡ are_same_lit self other }
     {
-        self.term == other.term && self.sign == other.sign
+        self.atom == other.atom && self.sign == other.sign
     }
 }

@@ -1,4 +1,4 @@
-//! Marks of literals, by the numbers of their terms.
+//! Marks of literals, by the numbers of their atoms.
 ghost use Rattle.std.specs.Prelude.{◌≡◌, ℕ, ◌==◌, not, ◌&&◌, ◌||◌, OnErr, OnOk};
 ghost use Rattle.nz_log.specs.Lits.{are_same_lit};
 ghost use Rattle.nz_log.specs.Marked.{AreNone, has_mark};
@@ -11,9 +11,9 @@ use std::alloc::Global;
 /// Which literals are marked. They grow to the greatest number that was marked.
 #[derive(Debug, Drop)]
 pub struct Marks {
-    // By the numbers of terms, of the literals that they are true.
+    // By the numbers of atoms, of the literals that are these.
     holds: Vec<bool>,
-    // And that they are false.
+    // And of those that are their negations.
     fails: Vec<bool>,
 }
 
@@ -33,9 +33,9 @@ impl Marks {
         ensures has { result ≡ has_mark self.now literal }
     {
         if literal.sign {
-            has_at(&self.holds, literal.term)
+            has_at(&self.holds, literal.atom)
         } else {
-            has_at(&self.fails, literal.term)
+            has_at(&self.fails, literal.atom)
         }
     }
 
@@ -45,9 +45,9 @@ impl Marks {
         ensures unchanged { OnErr result ((l : Lit) → has_mark self.new l ≡ has_mark self.old l) }
     {
         if literal.sign {
-            mark_at(&mut self.holds, literal.term)
+            mark_at(&mut self.holds, literal.atom)
         } else {
-            mark_at(&mut self.fails, literal.term)
+            mark_at(&mut self.fails, literal.atom)
         }
     }
 
@@ -56,9 +56,9 @@ impl Marks {
         ensures unmarked { (l : Lit) → has_mark self.new l ≡ (not (are_same_lit l literal) && has_mark self.old l) }
     {
         if literal.sign {
-            unmark_at(&mut self.holds, literal.term);
+            unmark_at(&mut self.holds, literal.atom);
         } else {
-            unmark_at(&mut self.fails, literal.term);
+            unmark_at(&mut self.fails, literal.atom);
         }
     }
 }

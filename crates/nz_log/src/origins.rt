@@ -1,5 +1,6 @@
 //! How the clauses of a log were made.
 use crate::lits::Lit;
+use crate::multiples::Multiple;
 use crate::sets::Literals;
 use nz_term::TermId;
 
@@ -13,6 +14,21 @@ pub struct Link {
     pub literal: Lit,
 }
 
+/// How a clause was made that holds by arithmetic alone.
+#[derive(Debug, Drop)]
+pub enum Axiom {
+    /// It is the clause of this number of the link table of a term.
+    Link(TermId, usize),
+    /// It is the clause of this number of the unit table of a term.
+    Unit(TermId, usize),
+    /// One of these literals is false, since the sum of their multiples is a contradiction.
+    Farkas(Vec<Multiple>),
+    /// The literal says that a sum of integers is at most an integer; or it is at least the next one.
+    Branch(Lit),
+    /// One of these literals is false, or the sum of their multiples, which is one of integers, is within its rounded limit.
+    Cut(Vec<Multiple>),
+}
+
 /// How a clause was made.
 #[derive(Debug, Drop)]
 pub enum Origin {
@@ -20,6 +36,8 @@ pub enum Origin {
     Assertion(usize),
     /// It is the clause of this number of a term.
     Gate(TermId, usize),
+    /// It holds by arithmetic alone.
+    Axiom(Axiom),
     /// It is the last of the resolvents of a clause with those of the links.
     Chain(ClauseId, Vec<Link>),
 }

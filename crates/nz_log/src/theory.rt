@@ -18,7 +18,8 @@ pub trait Theory: Drop {
     ghost use Rattle.nz_log.specs.declared.lits.Lit.{Lit};
     ghost use Rattle.nz_log.specs.declared.stop.Stop.TheVariants as stop;
     ghost use Rattle.nz_log.specs.Notes.{noted_list};
-    ghost use Rattle.nz_log.specs.Sound.{AreWithin, IsLog};
+    ghost use Rattle.nz_log.specs.Atoms.{AreWithin};
+    ghost use Rattle.nz_log.specs.Sound.{IsLog};
     ghost use Rattle.nz_log.specs.Theories.{AddsUnits, Grows, IsClash};
 
     /// It was told just these literals, the oldest first, and none of them was taken back.
@@ -41,7 +42,7 @@ pub trait Theory: Drop {
         ensures over { (ns : List Node) → is_over self.old ns → is_over self.new ns }
         ensures grows { Grows log.old log.new }
         // Over a table that has the terms of what it was told, the log stays in order.
-        ensures sound { (ls : List Lit) (ns : List Node) (levels : List (List ℕ)) → has_told self.old ls → is_over self.old ns → AreWithin ns (ls ++ literal ∷ []) → IsLog ns levels log.old → IsLog ns levels log.new }
+        ensures sound { (ls : List Lit) (ns : List Node) (levels : List (List ℕ)) → has_told self.old ls → is_over self.old ns → AreWithin ns log.old.atoms (ls ++ literal ∷ []) → IsLog ns levels log.old → IsLog ns levels log.new }
         ensures memory { IfErr result (λ e. e ≡ stop.Memory) };
 
     /// Looks for values that meet all that it was told. Answers `None` where it found them, and otherwise a clause of the log that says why there
@@ -56,7 +57,7 @@ pub trait Theory: Drop {
         ensures clash { (ls : List Lit) → has_told self.old ls → IfOk result (λ r. IfSome r (IsClash log.new ls)) }
         ensures over { (ns : List Node) → is_over self.old ns → is_over self.new ns }
         ensures grows { Grows log.old log.new }
-        ensures sound { (ls : List Lit) (ns : List Node) (levels : List (List ℕ)) → has_told self.old ls → is_over self.old ns → AreWithin ns ls → IsLog ns levels log.old → IsLog ns levels log.new }
+        ensures sound { (ls : List Lit) (ns : List Node) (levels : List (List ℕ)) → has_told self.old ls → is_over self.old ns → AreWithin ns log.old.atoms ls → IsLog ns levels log.old → IsLog ns levels log.new }
         ensures units { AddsUnits work.old work.new }
         // Where the lines are legal, so is the whole list.
         ensures legal { (ns : List Node) (q : Task) → is_over self.old ns → AreLegal q at_first (noted_list ns work.old).lines → AreLegal q at_first (noted_list ns work.new).lines }

@@ -2,4 +2,16 @@
 #![tactic(auto)]
 
 #[cfg(test)]
+mod links;
+#[cfg(test)]
 mod log;
+#[cfg(test)]
+mod rules;
+#[cfg(test)]
+mod sums;
+#[cfg(test)]
+mod terms;
+#[cfg(test)]
+mod units;
+#[cfg(test)]
+mod values;

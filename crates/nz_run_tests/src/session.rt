@@ -5,7 +5,7 @@ use crate::checks::{holds, is};
 use crate::run::{ROOM, sink_is, sink_with};
 use nz_base::{Error, Memory, PlainSink, Work};
 use nz_engine::Engine;
-use nz_log::{ClauseId, Decide, Lit, Note, Step, Stop, Verdict};
+use nz_log::{ClauseId, Decide, Note, Step, Stop, TermLit, Verdict};
 use nz_reply::{Journal, Reply};
 use nz_session::{Fed, Session};
 use nz_term::{TermId, Terms};
@@ -50,7 +50,7 @@ impl Decide for OnceOnly {
     fn check(
         &mut self,
         terms: &Terms,
-        assumed: &[Lit],
+        assumed: &[TermLit],
         work: &mut Work<Note>,
     ) -> Result<Verdict, Stop> {
         if self.has_checked {
@@ -60,7 +60,7 @@ impl Decide for OnceOnly {
         self.engine.check(terms, assumed, work)
     }
 
-    fn steps(&self, id: ClauseId) -> Result<Vec<Step>, Memory> {
+    fn steps(&self, id: ClauseId) -> Result<Vec<Step<'_>>, Memory> {
         self.engine.steps(id)
     }
 }

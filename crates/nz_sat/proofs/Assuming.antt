@@ -7,7 +7,8 @@ use Rattle.std.proofs.lemmas.List.Elements.{All-contains, All-push}
 use Rattle.std.proofs.lemmas.List.Sums.{get_or-le-sum_by, sum_by_push}
 use Rattle.std.proofs.lemmas.Option.{IfSome_then, get_or_from_slice_get, slice_get_within}
 use Rattle.nz_log.specs.declared.lits.Lit.{Lit}
-use Rattle.nz_log.specs.Lits.{TellsLits, are_same_lit, negated_lit}
+use Rattle.nz_log.specs.Atoms.{TellsLits}
+use Rattle.nz_log.specs.Lits.{are_same_lit, negated_lit}
 use Rattle.nz_log.specs.Logs.{LogState, literals_at}
 use Rattle.nz_sat.specs.declared.clauses.Held.{Held}
 use Rattle.nz_sat.specs.declared.search.Search.{Search}
@@ -46,7 +47,7 @@ lowest_level es none i e at unforced =
 -- ---- The arms
 
 module _ (log : LogState) (held : List Held) (assumed : List Lit) (l : Lit) (s : Search) (may : MayAssume log held assumed l s) (undecided : depth s.trail.entries ≡ 0) where
-  pub assume_holds : (e : Assigned) → assigned s.trail.entries l.term ≡ Some e → e.literal ≡ l → Assumes log held assumed l s.trail.entries s None
+  pub assume_holds : (e : Assigned) → assigned s.trail.entries l.atom ≡ Some e → e.literal ≡ l → Assumes log held assumed l s.trail.entries s None
   assume_holds e at same =
       record {
         search = may.search;
@@ -58,18 +59,18 @@ module _ (log : LogState) (held : List Held) (assumed : List Lit) (l : Lit) (s :
         falsified = tt;
       }
 
-  opposite : (e : Assigned) → assigned s.trail.entries l.term ≡ Some e → e.literal ≢ l → e.literal ≡ negated_lit l
+  opposite : (e : Assigned) → assigned s.trail.entries l.atom ≡ Some e → e.literal ≢ l → e.literal ≡ negated_lit l
   opposite e at other =
-      let term : e.literal.term ≡ l.term = (assigned_place s.trail.entries l.term e at).0 in
+      let term : e.literal.atom ≡ l.atom = (assigned_place s.trail.entries l.atom e at).0 in
       elim (either_sign e.literal.sign l.sign) [
-        | inl same ↦ absurd (other (λ i. record { term = term i; sign = same i }))
-        | inr turned ↦ λ i. record { term = term i; sign = turned i }
+        | inl same ↦ absurd (other (λ i. record { atom = term i; sign = same i }))
+        | inr turned ↦ λ i. record { atom = term i; sign = turned i }
       ]
 
   false_later : (i : ℕ) (m : Lit) → IsFalseOn (take i s.trail.entries) m → IsFalseOn s.trail.entries m
   false_later i m h =
       subst (λ (xs : List Assigned). IsFalseOn xs m) (take-append-drop i s.trail.entries)
-      (truth_found (take i s.trail.entries) (drop i s.trail.entries) m.term (not m.sign) h)
+      (truth_found (take i s.trail.entries) (drop i s.trail.entries) m.atom (not m.sign) h)
 
   reason_falsified : TellsLits → (i : ℕ) (e : Assigned) (c : ℕ) → e.literal ≡ negated_lit l → IsReason log (take i s.trail.entries) e.literal c
       → IsFalsifiedUnder assumed s.trail.entries (literals_at log c)
@@ -77,16 +78,16 @@ module _ (log : LogState) (held : List Held) (assumed : List Lit) (l : Lit) (s :
       elim (are_same_lit m e.literal) as (λ b. are_same_lit m e.literal ≡ b → IsFalseOn s.trail.entries m ⊎ Contains assumed (negated_lit m)) [
         | true ↦ λ same.
             let back : negated_lit m ≡ l =
-            ap negated_lit (tells.same m e.literal same ∙ turned) ∙ (λ i. record { term = l.term; sign = sign_again l.sign i }) in
+            ap negated_lit (tells.same m e.literal same ∙ turned) ∙ (λ i. record { atom = l.atom; sign = sign_again l.sign i }) in
             inr (subst (Contains assumed) (sym back) may.among)
         | false ↦ λ differ. inl (false_later i m (reason.others m has (other_lit tells m e.literal differ)))
       ] refl
 
-  pub assume_fails : TellsLits → (e : Assigned) → assigned s.trail.entries l.term ≡ Some e → e.literal ≢ l → Assumes log held assumed l s.trail.entries s e.reason
+  pub assume_fails : TellsLits → (e : Assigned) → assigned s.trail.entries l.atom ≡ Some e → e.literal ≢ l → Assumes log held assumed l s.trail.entries s e.reason
   assume_fails tells e at other =
       let es = s.trail.entries in
       let turned = opposite e at other in
-      let place = (assigned_place es l.term e at).1 in
+      let place = (assigned_place es l.atom e at).1 in
       let caused : IsReasonOf log (take place.0 es) e.literal e.reason = may.search.implied place.0 e place.1 in
       elim e.reason as (λ o. e.reason ≡ o → IsReasonOf log (take place.0 es) e.literal o → Assumes log held assumed l es s o) [
         | None ↦ λ none reason.
@@ -110,7 +111,7 @@ module _ (log : LogState) (held : List Held) (assumed : List Lit) (l : Lit) (s :
   abbrev pub entry : Assigned
   entry = record { literal = l; level = 0; reason = None }
 
-  module _ (free : assigned s.trail.entries l.term ≡ None) (t : TrailState) (size : t.size ≡ s.trail.size) (goes : GoesOn (s.trail.entries ++ entry ∷ []) t.entries) where
+  module _ (free : assigned s.trail.entries l.atom ≡ None) (t : TrailState) (size : t.size ≡ s.trail.size) (goes : GoesOn (s.trail.entries ++ entry ∷ []) t.entries) where
     put_depth : depth (s.trail.entries ++ entry ∷ []) ≡ 0
     put_depth = let one : depth (s.trail.entries ++ entry ∷ []) ≡ depth s.trail.entries + 0 = sum_by_push (λ (x : Assigned). if is_decision x then 1 else 0) s.trail.entries entry in omega arith
 
@@ -122,19 +123,20 @@ module _ (log : LogState) (held : List Held) (assumed : List Lit) (l : Lit) (s :
           listed = h.listed;
           only = h.only;
           named = h.named;
-          on_trail = All-push (λ (e : Assigned). Contains s.atoms e.literal.term) s.trail.entries entry h.on_trail may.atom;
+          there = h.there;
+          on_trail = All-push (λ (e : Assigned). Contains s.atoms e.literal.atom) s.trail.entries entry h.on_trail may.atom;
           within = h.within;
           indexed = h.indexed;
           marks = h.marks;
           unmarked = h.unmarked;
           order = order_put s.trail.size s.trail.entries entry h.order free
-              (All-contains (λ (u : ℕ). u < s.trail.size) s.atoms l.term h.within may.atom) (sym put_depth);
+              (All-contains (λ (u : ℕ). u < s.trail.size) s.atoms l.atom h.within may.atom) (sym put_depth);
           implied = each_push (IsImplied log) s.trail.entries entry h.implied tt;
           reasons = All-push (HasReasonOf (ids held)) s.trail.entries entry h.reasons tt;
         }
 
     put_true : IsTrueOn (s.trail.entries ++ entry ∷ []) l
-    put_true = ap (option_map (λ (x : Assigned). x.literal.sign)) (assigned_missing s.trail.entries (entry ∷ []) l.term free ∙ assigned_one entry l.term refl)
+    put_true = ap (option_map (λ (x : Assigned). x.literal.sign)) (assigned_missing s.trail.entries (entry ∷ []) l.atom free ∙ assigned_one entry l.atom refl)
 
     pub put_waits : (i : ℕ) → Contains (ids held) i → Waits (s.trail.entries ++ entry ∷ []) (length s.trail.entries) (literals_at log i)
     put_waits i has =
@@ -150,7 +152,7 @@ module _ (log : LogState) (held : List Held) (assumed : List Lit) (l : Lit) (s :
           assumed_only = goes_assumed (s.trail.entries ++ entry ∷ []) t.entries assumed goes
               (All-push (IsAssumed assumed) s.trail.entries entry may.assumed_only (λ none level. may.among));
           undecided = goes_depth (s.trail.entries ++ entry ∷ []) t.entries goes ∙ put_depth;
-          kept = λ m h. goes_true (s.trail.entries ++ entry ∷ []) t.entries goes m (truth_found s.trail.entries (entry ∷ []) m.term m.sign h);
+          kept = λ m h. goes_true (s.trail.entries ++ entry ∷ []) t.entries goes m (truth_found s.trail.entries (entry ∷ []) m.atom m.sign h);
           holds = λ none. goes_true (s.trail.entries ++ entry ∷ []) t.entries goes l put_true;
           all_open = all_open;
           falsified = IfSome_then told falsified (λ id q. (held_live log held may.search.are_held id q.0, λ m has. inl (q.1 m has)));

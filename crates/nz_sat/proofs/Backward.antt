@@ -21,7 +21,7 @@ use Rattle.nz_sat.proofs.Trailing.{assigned_at, assigned_found, assigned_missing
 false_more : (front more : List Assigned) (l : Lit) → IsFalseOn front l → IsFalseOn (front ++ more) l
 false_more front more l falsified =
     let e = false_entry front l falsified in
-    ap (option_map (λ (x : Assigned). x.literal.sign)) (assigned_found front more l.term e.0 e.1) ∙ ap Some e.2
+    ap (option_map (λ (x : Assigned). x.literal.sign)) (assigned_found front more l.atom e.0 e.1) ∙ ap Some e.2
 
 pub false_whole : (es : List Assigned) (n : ℕ) (l : Lit) → IsFalseOn (take n es) l → IsFalseOn es l
 false_whole es n l falsified = subst (λ (front : List Assigned). IsFalseOn front l) (take-append-drop n es) (false_more (take n es) (drop n es) l falsified)
@@ -30,13 +30,13 @@ false_whole es n l falsified = subst (λ (front : List Assigned). IsFalseOn fron
 false_push : (front : List Assigned) (e : Assigned) (m : Lit) → IsFalseOn (front ++ e ∷ []) m → (m ≡ negated_lit e.literal) ⊎ IsFalseOn front m
 false_push front e m falsified =
     let x = false_entry (front ++ e ∷ []) m falsified in
-    elim (assigned front m.term) as (λ o. assigned front m.term ≡ o → (m ≡ negated_lit e.literal) ⊎ IsFalseOn front m) [
+    elim (assigned front m.atom) as (λ o. assigned front m.atom ≡ o → (m ≡ negated_lit e.literal) ⊎ IsFalseOn front m) [
       | None ↦ λ none.
-          let one = one_found e m.term x.0 (sym (assigned_missing front (e ∷ []) m.term none) ∙ x.1) in
+          let one = one_found e m.atom x.0 (sym (assigned_missing front (e ∷ []) m.atom none) ∙ x.1) in
           let sign : e.literal.sign ≡ not m.sign = ap (λ (y : Assigned). y.literal.sign) one.1 ∙ x.2 in
           inl (lit_is m (negated_lit e.literal) (sym one.0) (sym (ap not sign ∙ not-not m.sign)))
       | Some y ↦ λ there.
-          let same : y ≡ x.0 = same_Some y x.0 (sym (assigned_found front (e ∷ []) m.term y there) ∙ x.1) in
+          let same : y ≡ x.0 = same_Some y x.0 (sym (assigned_found front (e ∷ []) m.atom y there) ∙ x.1) in
           let sign : y.literal.sign ≡ not m.sign = ap (λ (z : Assigned). z.literal.sign) same ∙ x.2 in
           inr (ap (option_map (λ (z : Assigned). z.literal.sign)) there ∙ ap Some sign)
     ] refl
@@ -60,22 +60,22 @@ module _ (size : ℕ) (es : List Assigned) (order : EachBehind (IsNext size) es)
       ap (λ (k : ℕ). take k es) is ∙ take_more es i e (slice_get_within es i e at)
       ∙ ap (λ (x : Assigned). take i es ++ x ∷ []) (get_or_from_slice_get es i e e at)
 
-  pub fresh : assigned (take i es) e.literal.term ≡ None
+  pub fresh : assigned (take i es) e.literal.atom ≡ None
   fresh = (order i e at).fresh
 
-  pub its_entry : assigned es e.literal.term ≡ Some e
+  pub its_entry : assigned es e.literal.atom ≡ Some e
   its_entry = assigned_at es i e at fresh
 
   pub false_cases : (m : Lit) → IsFalseOn (take n es) m → (m ≡ negated_lit e.literal) ⊎ IsFalseOn (take i es) m
   false_cases m falsified = false_push (take i es) e m (subst (λ (front : List Assigned). IsFalseOn front m) front_is falsified)
 
-  -- its literal isn't false, and those false before are of other terms
+  -- its literal isn't false, and those false before are of other atoms
   pub not_false : IsFalseOn es e.literal → ⊥
   not_false falsified =
       not_itself e.literal.sign
       (same_Some e.literal.sign (not e.literal.sign) (sym (ap (option_map (λ (x : Assigned). x.literal.sign)) its_entry) ∙ falsified))
 
-  pub apart : (m : Lit) → IsFalseOn (take i es) m → m.term ≢ e.literal.term
+  pub apart : (m : Lit) → IsFalseOn (take i es) m → m.atom ≢ e.literal.atom
   apart m falsified same =
       let x = false_entry (take i es) m falsified in
       let clash : None ≡ Some x.0 = sym fresh ∙ ap (assigned (take i es)) (sym same) ∙ x.1 in

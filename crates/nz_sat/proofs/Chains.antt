@@ -11,7 +11,8 @@ use Rattle.nz_lists.proofs.Places.{slice_get-push_cases}
 use Rattle.nz_spec.specs.Literal.{with_one, once, without, StandOnce}
 use Rattle.nz_log.specs.declared.lits.Lit.{Lit}
 use Rattle.nz_log.specs.declared.origins.Link.{Link}
-use Rattle.nz_log.specs.Lits.{TellsLits, negated_lit, are_same_lit, lit_resolvent}
+use Rattle.nz_log.specs.Atoms.{TellsLits}
+use Rattle.nz_log.specs.Lits.{negated_lit, are_same_lit, lit_resolvent}
 use Rattle.nz_log.specs.Logs.{LogState, chained, literals_at}
 
 -- ---- Elements of lists
@@ -150,15 +151,15 @@ module _ {X : Type 0} where
 
 -- ---- Literals
 
-pub lit_is : (l m : Lit) → l.term ≡ m.term → l.sign ≡ m.sign → l ≡ m
-lit_is l m e f = ap (λ (t : ℕ). record { term = t; sign = l.sign }) e ∙ ap (λ (b : Bool). record { term = m.term; sign = b }) f
+pub lit_is : (l m : Lit) → l.atom ≡ m.atom → l.sign ≡ m.sign → l ≡ m
+lit_is l m e f = ap (λ (t : ℕ). record { atom = t; sign = l.sign }) e ∙ ap (λ (b : Bool). record { atom = m.atom; sign = b }) f
 
 not_true : (b : Bool) → (b ≡ true → ⊥) → not b ≡ true
 not_true true f = absurd (f refl)
 not_true false f = refl
 
 pub twice_negated : (l : Lit) → negated_lit (negated_lit l) ≡ l
-twice_negated l = ap (λ (b : Bool). record { term = l.term; sign = b }) (not-not l.sign)
+twice_negated l = ap (λ (b : Bool). record { atom = l.atom; sign = b }) (not-not l.sign)
 
 -- ---- Resolvents
 

@@ -4,7 +4,8 @@ use Rattle.std.specs.Prelude.{Contains, slice_get, option_map}
 use Rattle.std.proofs.lemmas.Option.{same_Some}
 use Rattle.nz_lists.proofs.Places.{slice_get_kept}
 use Rattle.nz_log.specs.declared.lits.Lit.{Lit}
-use Rattle.nz_log.specs.Lits.{TellsLits, are_same_lit, negated_lit}
+use Rattle.nz_log.specs.Atoms.{TellsLits}
+use Rattle.nz_log.specs.Lits.{are_same_lit, negated_lit}
 use Rattle.nz_sat.specs.declared.trail.Assigned.{Assigned}
 use Rattle.nz_sat.specs.Trails.{IsFreeOn, assigned, truth_on}
 use Rattle.nz_sat.specs.Clauses.{IsOpen, by_true, by_two, Waits}
@@ -55,15 +56,15 @@ truth_missing es more t at = ap (option_map (λ (e : Assigned). e.literal.sign))
 
 -- a truth is that of an entry
 pub truth_place : (es : List Assigned) (t : ℕ) (b : Bool) → truth_on es t ≡ Some b
-    → (x : Assigned) × (assigned es t ≡ Some x) × (x.literal ≡ record { term = t; sign = b })
+    → (x : Assigned) × (assigned es t ≡ Some x) × (x.literal ≡ record { atom = t; sign = b })
 truth_place es t b at =
     elim (assigned es t) as (λ o. assigned es t ≡ o → option_map (λ (e : Assigned). e.literal.sign) o ≡ Some b
-    → (x : Assigned) × (o ≡ Some x) × (x.literal ≡ record { term = t; sign = b })) [
+    → (x : Assigned) × (o ≡ Some x) × (x.literal ≡ record { atom = t; sign = b })) [
       | None ↦ λ h k. cc
       | Some x ↦ λ h k.
           let term = (assigned_place es t x h).0 in
           let sign : x.literal.sign ≡ b = same_Some x.literal.sign b k in
-          (x, refl, λ i. record { term = term i; sign = sign i })
+          (x, refl, λ i. record { atom = term i; sign = sign i })
     ] refl at
 
 -- ---- Clauses
@@ -76,16 +77,16 @@ slice_get_behind (e ∷ es) more j x at =
 
 -- an undecided literal that is decided by what comes more
 settled : (es more : List Assigned) (head : ℕ) (c : List Lit) (l : Lit) (b : Bool) → head ≤ length es → Contains c l → IsFreeOn es l
-    → truth_on more l.term ≡ Some b → Waits (es ++ more) head c
+    → truth_on more l.atom ≡ Some b → Waits (es ++ more) head c
 settled es more head c l b before has free at =
-    let now : truth_on (es ++ more) l.term ≡ Some b = truth_missing es more l.term free ∙ at in
+    let now : truth_on (es ++ more) l.atom ≡ Some b = truth_missing es more l.atom free ∙ at in
     elim (either_sign b l.sign) [
       | inl same ↦ inl (by_true l has (now ∙ ap Some same))
       | inr other ↦
-          let x = truth_place more l.term b at in
-          let there = (assigned_place more l.term x.0 x.1).1 in
+          let x = truth_place more l.atom b at in
+          let there = (assigned_place more l.atom x.0 x.1).1 in
           let opposite : negated_lit x.0.literal ≡ l =
-          ap negated_lit x.2 ∙ (λ i. record { term = l.term; sign = (ap not other ∙ sign_again l.sign) i }) in
+          ap negated_lit x.2 ∙ (λ i. record { atom = l.atom; sign = (ap not other ∙ sign_again l.sign) i }) in
           inr
           (record {
             place = length es + there.0;
@@ -97,15 +98,15 @@ settled es more head c l b before has free at =
     ]
 
 pub open_grows : (es more : List Assigned) (head : ℕ) (c : List Lit) → head ≤ length es → IsOpen es c → Waits (es ++ more) head c
-open_grows es more head c before (by_true l has holds) = inl (by_true l has (truth_found es more l.term l.sign holds))
+open_grows es more head c before (by_true l has holds) = inl (by_true l has (truth_found es more l.atom l.sign holds))
 open_grows es more head c before (by_two l m has_l has_m differ free_l free_m) =
-    elim (truth_on more l.term) as (λ o. truth_on more l.term ≡ o → Waits (es ++ more) head c) [
+    elim (truth_on more l.atom) as (λ o. truth_on more l.atom ≡ o → Waits (es ++ more) head c) [
       | Some b ↦ λ h. settled es more head c l b before has_l free_l h
       | None ↦ λ h.
-          elim (truth_on more m.term) as (λ o. truth_on more m.term ≡ o → Waits (es ++ more) head c) [
+          elim (truth_on more m.atom) as (λ o. truth_on more m.atom ≡ o → Waits (es ++ more) head c) [
             | Some b ↦ λ k. settled es more head c m b before has_m free_m k
             | None ↦ λ k.
-                inl (by_two l m has_l has_m differ (truth_missing es more l.term free_l ∙ h) (truth_missing es more m.term free_m ∙ k))
+                inl (by_two l m has_l has_m differ (truth_missing es more l.atom free_l ∙ h) (truth_missing es more m.atom free_m ∙ k))
           ] refl
     ] refl
 

@@ -17,15 +17,17 @@ use Rattle.nz_sat.specs.declared.clauses.Held.{Held}
 use Rattle.nz_sat.specs.declared.search.Search.{Search}
 use Rattle.nz_sat.specs.declared.trail.Assigned.{Assigned}
 use Rattle.nz_sat.specs.Conflicts.{GoesBackTo, HasLast, IsFalsifiedUnder, StaysSound}
+use Rattle.nz_sat.specs.Numbers.{IsTermAtom}
 use Rattle.nz_sat.specs.Sats.{IsLegalWork}
 use Rattle.nz_sat.specs.Searching.{Advances, Carries, ComesTo, Follows, IsConflict, IsNoted, IsSearch, Learns, MayFollow, OpenOrConflict, OpenOrFalsified, Settles, StaysInOrder, Steps, Turns, TurnsOn, WasNoted, WereOpen}
 use Rattle.nz_sat.specs.Theories.{IsMet, IsTold, StaysSoundOver}
 use Rattle.nz_sat.specs.Trails.{GoesOn, IsTrueOn, below, depth, literals_on}
-use Rattle.nz_sat.proofs.Advancing.{far_advances, held_on, log_advances, steps_behind}
+use Rattle.nz_sat.proofs.Advancing.{far_advances, held_on, log_advances, on_kept, steps_behind}
 use Rattle.nz_sat.proofs.Following.{carries_far, goes_first, goes_noted, stays_in_order}
 use Rattle.nz_sat.proofs.Keeping.{goes_assumed, held_live}
 use Rattle.nz_sat.proofs.Levels.{below_twice}
 use Rattle.nz_sat.proofs.Returning.{cut_assumed, cut_conflict, cut_front, cut_last, cut_search, cut_were, grown_noted, grown_open, grown_search, grown_were, units_limit, units_more, units_noted, units_told}
+use Rattle.nz_sat.proofs.Staying.{lit_within}
 use Rattle.nz_sat.proofs.Telling.{clash_falsified, told_on}
 
 -- ---- One look for a conflict
@@ -76,8 +78,11 @@ consult_advances over atoms es log log' held s work work' h same g sound units l
       sound = subst (λ (us : List ℕ). StaysInOrder over us log log') same
           (λ ns levels known within order.
           sound ns levels known
-          (λ k d inside. All-contains (λ (t : ℕ). t < length ns) s.atoms (get_or s.trail.entries k d).literal.term within (h.on_trail k d inside)) order);
+          (λ k d inside.
+          let l = (get_or s.trail.entries k d).literal in
+          lit_within ns log.atoms l (All-contains (IsTermAtom ns log.atoms) s.atoms l.atom within (h.on_trail k d inside))) order);
       holds_more = record { learned = []; joined = sym (append-nil held); held = held_on log log' held g h.are_held };
+      named = on_kept log log' atoms held g h.are_held;
       legal = λ ns levels assumed q known only asked before. legal ns q known before;
       notes = units_noted work work' units;
       limit = units_limit work work' units;
@@ -106,7 +111,7 @@ pub turns_on : {start mid new : Search} → {log log' : LogState} → {held : Li
     → (told : Option ℕ) → ComesTo log' held mid new told → Turns log' held start new work work₂ told
 turns_on {start} {mid} {new} {log} {log'} {held} {work} {work₁} {work₂} h noted carries grows units same told c =
     let goes = goes_noted log held mid.atoms mid.trail.entries new.trail.entries work₁ c.goes_on noted in
-    let grown = grown_noted log log' grows held mid h mid.atoms new.trail.entries work₁ goes in
+    let grown = grown_noted log log' grows held mid h mid.atoms new.trail.entries work₁ refl goes in
     let more = units_more work₁ work₂ units in
     let before = carries.units in
     record {

@@ -17,18 +17,21 @@ use Rattle.nz_spec.specs.Model.{IsAssignment}
 use Rattle.nz_spec.specs.Table.{Node, IsTable, term_in}
 use Rattle.nz_spec.specs.Term.{Term, Assignment, IsTrueUnder, apply, falsum, no_terms, is_true, value_of}
 use Rattle.nz_log.specs.declared.lits.Lit.{Lit}
-use Rattle.nz_log.specs.Lits.{TellsLits, are_same_lit, clause_in, literal_of, negated_lit}
+use Rattle.nz_log.specs.declared.atoms.Atom.{Atom}
+use Rattle.nz_log.specs.Atoms.{TellsLits, clause_in, literal_in}
+use Rattle.nz_log.specs.Lits.{are_same_lit, negated_lit}
 use Rattle.nz_log.specs.Logs.{Entry, LogState, IsLive, entry_at, literals_at}
 use Rattle.nz_log.specs.Sound.{ClausesAreTrue, IsLog, live_terms}
 use Rattle.nz_sat.specs.declared.trail.Assigned.{Assigned}
 use Rattle.nz_sat.specs.Clauses.{IsAssumed, IsFalsified, IsImplied, IsReason, IsReasonOf}
-use Rattle.nz_sat.specs.Numbers.{number_of, numbered}
+use Rattle.nz_sat.specs.Numbers.{IsTermAtom, atom_term, number_of, numbered}
 use Rattle.nz_sat.specs.Trails.{EachBehind, IsFalseOn, is_decision}
 use Rattle.nz_sat.proofs.Backward.{front_place}
 use Rattle.nz_sat.proofs.Chains.{filter_has, has_first, has_found, has_more, lit_is}
 use Rattle.nz_sat.proofs.Clausal.{other_lit}
 use Rattle.nz_sat.proofs.Marks.{false_entry}
 use Rattle.nz_sat.proofs.Numbering.{number_place, unnamed}
+use Rattle.nz_sat.proofs.Staying.{says}
 use Rattle.nz_sat.proofs.Trailing.{assigned_place}
 
 -- ---- Atoms by their numbers
@@ -41,20 +44,23 @@ number_at atoms t has =
       | Some n ↦ λ at. number_place atoms t n at
     ] refl
 
-pub literal_numbered : (ns : List Node) (atoms : List ℕ) (l : Lit) → Contains atoms l.term → literal_by (map (term_in ns) atoms) (numbered atoms l) ≡ literal_of ns l
-literal_numbered ns atoms l has =
-    let n = unwrap_or (number_of atoms l.term) 0 in
-    let at = number_at atoms l.term has in
-    let inside : n < length atoms = slice_get_within atoms n l.term at in
-    ap (λ (t : Term). term_literal t l.sign)
-    (get_or-map (term_in ns) atoms n l.term (apply falsum no_terms) inside ∙ ap (term_in ns) (get_or_from_slice_get atoms n l.term l.term at))
+pub literal_numbered : (ns : List Node) (all : List Atom) (atoms : List ℕ) (l : Lit) → Contains atoms l.atom → IsTermAtom ns all l.atom
+    → literal_by (map (atom_term ns all) atoms) (numbered atoms l) ≡ literal_in ns all l
+literal_numbered ns all atoms l has t =
+    let n = unwrap_or (number_of atoms l.atom) 0 in
+    let at = number_at atoms l.atom has in
+    let inside : n < length atoms = slice_get_within atoms n l.atom at in
+    ap (λ (u : Term). term_literal u l.sign)
+    (get_or-map (atom_term ns all) atoms n l.atom (apply falsum no_terms) inside ∙ ap (atom_term ns all) (get_or_from_slice_get atoms n l.atom l.atom at))
+    ∙ sym (says ns all l t)
 
-pub literals_numbered : (ns : List Node) (atoms : List ℕ) (c : List Lit) → ((l : Lit) → Contains c l → Contains atoms l.term)
-    → literals_by (map (term_in ns) atoms) (map (numbered atoms) c) ≡ clause_in ns c
-literals_numbered ns atoms [] named = refl
-literals_numbered ns atoms (l ∷ c) named =
-    let first = literal_numbered ns atoms l (named l (has_first l c)) in
-    let rest = literals_numbered ns atoms c (λ m has. named m (has_more l m c has)) in
+pub literals_numbered : (ns : List Node) (all : List Atom) (atoms : List ℕ) → All (IsTermAtom ns all) atoms → (c : List Lit) → ((l : Lit) → Contains c l → Contains atoms l.atom)
+    → literals_by (map (atom_term ns all) atoms) (map (numbered atoms) c) ≡ clause_in ns all c
+literals_numbered ns all atoms within [] named = refl
+literals_numbered ns all atoms within (l ∷ c) named =
+    let there = named l (has_first l c) in
+    let first = literal_numbered ns all atoms l there (All-contains (IsTermAtom ns all) atoms l.atom within there) in
+    let rest = literals_numbered ns all atoms within c (λ m has. named m (has_more l m c has)) in
     λ i. first i ∷ rest i
 
 -- ---- Lists
@@ -91,7 +97,7 @@ no_entry h = cc
 module _ (clauses : ClausesAreTrue) (ns : List Node) (table : IsTable ns) (levels : List (List ℕ)) (log : LogState) (order : IsLog ns levels log)
     (a : Assignment) (sorts : IsAssignment a) (hold : AllByRecursion (IsTrueUnder a) (asserted_terms ns levels)) where
   abbrev Holds : Lit → Type 0
-  Holds l = IsTrue (is_literal_true a (literal_of ns l))
+  Holds l = IsTrue (is_literal_true a (literal_in ns log.atoms l))
 
   fronts_hold : (level : ℕ) → AllByRecursion (IsTrueUnder a) (live_terms ns levels level)
   fronts_hold level =
@@ -104,45 +110,52 @@ module _ (clauses : ClausesAreTrue) (ns : List Node) (table : IsTable ns) (level
       (subst (AllByRecursion (IsTrueUnder a)) parts hold)
 
   -- each clause of the log is true
-  pub clause_true : (i : ℕ) → IsLive log i → IsClauseTrue a (clause_in ns (literals_at log i))
+  pub clause_true : (i : ℕ) → IsLive log i → IsClauseTrue a (clause_in ns log.atoms (literals_at log i))
   clause_true i live =
-      elim (entry_at log i) as (λ o. entry_at log i ≡ o → IsSome o → IsClauseTrue a (clause_in ns (elim o [ None ↦ [] | Some e ↦ e.literals ]))) [
+      elim (entry_at log i) as (λ o. entry_at log i ≡ o → IsSome o → IsClauseTrue a (clause_in ns log.atoms (elim o [ None ↦ [] | Some e ↦ e.literals ]))) [
         | None ↦ λ at some. absurd (no_entry some)
         | Some e ↦ λ at some. clauses ns table levels log order i e at a sorts (fronts_hold e.level)
       ] refl live
 
   -- a literal and its negation aren't both
-  both_hold : (l : Lit) → Holds l → Holds (negated_lit l) → ⊥
-  both_hold l h k = signs_clash l.sign (is_true (value_of a (term_in ns l.term))) h k
+  both_hold : (l : Lit) → IsTermAtom ns log.atoms l.atom → Holds l → Holds (negated_lit l) → ⊥
+  both_hold l t h k =
+      let P : Literal → Type 0 = λ m. IsTrue (is_literal_true a m) in
+      signs_clash l.sign (is_true (value_of a (atom_term ns log.atoms l.atom))) (subst P (says ns log.atoms l t) h) (subst P (says ns log.atoms (negated_lit l) t) k)
 
   -- what is false on a trail on which each literal holds doesn't hold
-  false_fails : (es : List Assigned) → ((e : Assigned) → Contains es e → Holds e.literal) → (l : Lit) → IsFalseOn es l → Holds l → ⊥
+  false_fails : (es : List Assigned) → ((e : Assigned) → Contains es e → IsTermAtom ns log.atoms e.literal.atom × Holds e.literal) → (l : Lit) → IsFalseOn es l → Holds l → ⊥
   false_fails es each l falsified h =
       let x = false_entry es l falsified in
-      let place = assigned_place es l.term x.0 x.1 in
+      let place = assigned_place es l.atom x.0 x.1 in
       let turned : x.0.literal ≡ negated_lit l = lit_is x.0.literal (negated_lit l) place.0 x.2 in
-      both_hold l h (subst Holds turned (each x.0 (has_found es place.1.0 x.0 place.1.1)))
+      let known = each x.0 (has_found es place.1.0 x.0 place.1.1) in
+      both_hold l (subst (IsTermAtom ns log.atoms) place.0 known.0) h (subst Holds turned known.1)
 
   -- ---- The trail
 
-  module _ (tells : TellsLits) (atoms : List ℕ) (assumed : List Lit) (es : List Assigned) (implied : EachBehind (IsImplied log) es)
-      (on_trail : All (λ (e : Assigned). Contains atoms e.literal.term) es) (only : All (IsAssumed assumed) es)
-      (assumed_hold : AreTrueLiterals a (map (literal_of ns) assumed))
-      (decided_hold : AreTrueLiterals a (literals_by (map (term_in ns) atoms) (map (λ (e : Assigned). numbered atoms e.literal) (filter is_decision es)))) where
+  module _ (tells : TellsLits) (atoms : List ℕ) (within : All (IsTermAtom ns log.atoms) atoms) (assumed : List Lit) (es : List Assigned) (implied : EachBehind (IsImplied log) es)
+      (on_trail : All (λ (e : Assigned). Contains atoms e.literal.atom) es) (only : All (IsAssumed assumed) es)
+      (assumed_hold : AreTrueLiterals a (map (literal_in ns log.atoms) assumed))
+      (decided_hold : AreTrueLiterals a (literals_by (map (atom_term ns log.atoms) atoms) (map (λ (e : Assigned). numbered atoms e.literal) (filter is_decision es)))) where
+    term_at : (e : Assigned) → Contains es e → IsTermAtom ns log.atoms e.literal.atom
+    term_at e has =
+        All-contains (IsTermAtom ns log.atoms) atoms e.literal.atom within (All-contains (λ (x : Assigned). Contains atoms x.literal.atom) es e on_trail has)
+
     decision_holds : (e : Assigned) → Contains es e → is_decision e ≡ true → Holds e.literal
     decision_holds e has decides =
         let P : Literal → Type 0 = λ l. IsTrue (is_literal_true a l) in
         let f : Assigned → ℕ × Bool = λ (x : Assigned). numbered atoms x.literal in
-        let each = AllByRecursion-map P (literal_by (map (term_in ns) atoms)) (map f (filter is_decision es)) decided_hold in
-        let one = recursion_has (λ p. P (literal_by (map (term_in ns) atoms) p)) f (filter is_decision es) e each (filter_has is_decision es e has decides) in
-        subst P (literal_numbered ns atoms e.literal (All-contains (λ (x : Assigned). Contains atoms x.literal.term) es e on_trail has)) one
+        let each = AllByRecursion-map P (literal_by (map (atom_term ns log.atoms) atoms)) (map f (filter is_decision es)) decided_hold in
+        let one = recursion_has (λ p. P (literal_by (map (atom_term ns log.atoms) atoms) p)) f (filter is_decision es) e each (filter_has is_decision es e has decides) in
+        subst P (literal_numbered ns log.atoms atoms e.literal (All-contains (λ (x : Assigned). Contains atoms x.literal.atom) es e on_trail has) (term_at e has)) one
 
     given_holds : (e : Assigned) → Contains es e → e.reason ≡ None → Holds e.literal
     given_holds e has none =
         elim e.level as (λ n. e.level ≡ n → Holds e.literal) [
           | zero ↦ λ low.
               let among = All-contains (IsAssumed assumed) es e only has none low in
-              recursion_has (λ (l : Literal). IsTrue (is_literal_true a l)) (literal_of ns) assumed e.literal assumed_hold among
+              recursion_has (λ (l : Literal). IsTrue (is_literal_true a l)) (literal_in ns log.atoms) assumed e.literal assumed_hold among
           | suc n ↦ λ high.
               let above : nat_lt 0 (suc n) ≡ true = (Decides-ltb 0 (suc n)).1 (omega arith) in
               let decides : is_decision e ≡ true =
@@ -150,15 +163,15 @@ module _ (clauses : ClausesAreTrue) (ns : List Node) (table : IsTable ns) (level
               decision_holds e has decides
         ] refl
 
-    reason_holds : (before : List Assigned) → ((e : Assigned) → Contains before e → Holds e.literal) → (l : Lit) (c : ℕ) → IsReason log before l c → Holds l
+    reason_holds : (before : List Assigned) → ((e : Assigned) → Contains before e → IsTermAtom ns log.atoms e.literal.atom × Holds e.literal) → (l : Lit) (c : ℕ) → IsReason log before l c → Holds l
     reason_holds before each l c reason =
-        let w = some_true (is_literal_true a) (literal_of ns) (literals_at log c) (clause_true c reason.live) in
+        let w = some_true (is_literal_true a) (literal_in ns log.atoms) (literals_at log c) (clause_true c reason.live) in
         elim (are_same_lit w.0 l) as (λ b. are_same_lit w.0 l ≡ b → Holds l) [
           | true ↦ λ same. subst Holds (tells.same w.0 l same) w.2
           | false ↦ λ differ. absurd (false_fails before each w.0 (reason.others w.0 w.1 (other_lit tells w.0 l differ)) w.2)
         ] refl
 
-    entry_holds : (i : ℕ) (e : Assigned) → slice_get es i ≡ Some e → ((x : Assigned) → Contains (take i es) x → Holds x.literal) → Holds e.literal
+    entry_holds : (i : ℕ) (e : Assigned) → slice_get es i ≡ Some e → ((x : Assigned) → Contains (take i es) x → IsTermAtom ns log.atoms x.literal.atom × Holds x.literal) → Holds e.literal
     entry_holds i e at each =
         elim e.reason as (λ o. e.reason ≡ o → IsReasonOf log (take i es) e.literal o → Holds e.literal) [
           | None ↦ λ none reason. given_holds e (has_found es i e at) none
@@ -170,7 +183,7 @@ module _ (clauses : ClausesAreTrue) (ns : List Node) (table : IsTable ns) (level
     front_holds (suc n) i less e at =
         entry_holds i e at (λ x has.
         let p = front_place es i x has in
-        front_holds n p.0 (omega (arith, p.1)) x p.2)
+        (term_at x (has_found es p.0 x p.2), front_holds n p.0 (omega (arith, p.1)) x p.2))
 
     trail_holds : (e : Assigned) → Contains es e → Holds e.literal
     trail_holds e has =
@@ -179,5 +192,5 @@ module _ (clauses : ClausesAreTrue) (ns : List Node) (table : IsTable ns) (level
     -- so no clause of the log is falsified
     pub none_falsified : (i : ℕ) → IsLive log i → IsFalsified es (literals_at log i) → ⊥
     none_falsified i live falsified =
-        let w = some_true (is_literal_true a) (literal_of ns) (literals_at log i) (clause_true i live) in
-        false_fails es trail_holds w.0 (falsified w.0 w.1) w.2
+        let w = some_true (is_literal_true a) (literal_in ns log.atoms) (literals_at log i) (clause_true i live) in
+        false_fails es (λ e has. (term_at e has, trail_holds e has)) w.0 (falsified w.0 w.1) w.2

@@ -10,7 +10,7 @@ use Rattle.std.proofs.lemmas.Option.{same_Some, slice_get-get_or, slice_get_with
 use Rattle.nz_spec.specs.Legal.{AreLegal, LegalWorkGoesOn, MayDecide, Task, after_line, after_lines, at_first}
 use Rattle.nz_spec.specs.Legal as legal
 use Rattle.nz_spec.specs.Reply as reply
-use Rattle.nz_spec.specs.Table.{Node, term_in}
+use Rattle.nz_spec.specs.Table.{Node}
 use Rattle.nz_spec.specs.Work.{DecisionEntry, UnitLine, WorkLine, WorkList, with_line}
 use Rattle.nz_log.specs.declared.lits.Lit.{Lit}
 use Rattle.nz_log.specs.declared.note.Note.{Note}
@@ -21,7 +21,7 @@ use Rattle.nz_sat.specs.declared.search.Search.{Search}
 use Rattle.nz_sat.specs.declared.trail.Assigned.{Assigned}
 use Rattle.nz_sat.specs.Trails.{AreUpTo, IsTrueOn, assigned, below, decided, depth, is_decision, with_entry}
 use Rattle.nz_sat.specs.Clauses.{HasReasonOf, IsAssumed, IsImplied}
-use Rattle.nz_sat.specs.Numbers.{number_of, numbered}
+use Rattle.nz_sat.specs.Numbers.{atom_term, number_of, numbered}
 use Rattle.nz_sat.specs.Sats.{IsLegalWork}
 use Rattle.nz_sat.specs.Searching.{Advances, AreOpen, AreWaiting, IsNoted, IsSearch, KeepsFirst, WereOpen, ids}
 use Rattle.nz_sat.proofs.Advancing.{grows_none}
@@ -33,7 +33,7 @@ use Rattle.nz_sat.proofs.Trailing.{assigned_at, each_push, level_within, order_p
 module _ (log : LogState) (held : List Held) (s : Search) (h : IsSearch log held s) (t : ℕ) (sign : Bool)
     (free : assigned s.trail.entries t ≡ None) (atom : Contains s.atoms t) where
   abbrev pub literal : Lit
-  literal = record { term = t; sign = sign }
+  literal = record { atom = t; sign = sign }
 
   abbrev pub entry : Assigned
   entry = decided s.trail.entries literal
@@ -56,7 +56,8 @@ module _ (log : LogState) (held : List Held) (s : Search) (h : IsSearch log held
         listed = h.listed;
         only = h.only;
         named = h.named;
-        on_trail = All-push (λ (e : Assigned). Contains s.atoms e.literal.term) s.trail.entries entry h.on_trail atom;
+        there = h.there;
+        on_trail = All-push (λ (e : Assigned). Contains s.atoms e.literal.atom) s.trail.entries entry h.on_trail atom;
         within = h.within;
         indexed = h.indexed;
         marks = h.marks;
@@ -130,16 +131,16 @@ module _ (log : LogState) (held : List Held) (s : Search) (h : IsSearch log held
       }
 
   -- the number of an atom on the trail is another one
-  other_number : (i : ℕ) (e : Assigned) → slice_get s.trail.entries i ≡ Some e → Contains s.atoms e.literal.term → (numbered s.atoms e.literal).0 ≢ number
+  other_number : (i : ℕ) (e : Assigned) → slice_get s.trail.entries i ≡ Some e → Contains s.atoms e.literal.atom → (numbered s.atoms e.literal).0 ≢ number
   other_number i e at has same =
       let mine = found t atom in
-      let its = found e.literal.term has in
+      let its = found e.literal.atom has in
       let one : its.0 ≡ mine.0 = sym (ap (λ (o : Option ℕ). unwrap_or o 0) its.1) ∙ same ∙ ap (λ (o : Option ℕ). unwrap_or o 0) mine.1 in
-      let term : e.literal.term ≡ t =
-      same_Some e.literal.term t
-      (sym (number_place s.atoms e.literal.term its.0 its.1) ∙ ap (slice_get s.atoms) one ∙ number_place s.atoms t mine.0 mine.1) in
+      let on : e.literal.atom ≡ t =
+      same_Some e.literal.atom t
+      (sym (number_place s.atoms e.literal.atom its.0 its.1) ∙ ap (slice_get s.atoms) one ∙ number_place s.atoms t mine.0 mine.1) in
       let there : assigned s.trail.entries t ≡ Some e =
-      ap (assigned s.trail.entries) (sym term) ∙ assigned_at s.trail.entries i e at (h.order i e at).fresh in
+      ap (assigned s.trail.entries) (sym on) ∙ assigned_at s.trail.entries i e at (h.order i e at).fresh in
       let clash : None ≡ Some e = sym free ∙ there in
       cc where
         found : (u : ℕ) → Contains s.atoms u → (n : ℕ) × (number_of s.atoms u ≡ Some n)
@@ -152,7 +153,7 @@ module _ (log : LogState) (held : List Held) (s : Search) (h : IsSearch log held
       let mine = number_found s.atoms t atom.0 (slice_get-get_or s.atoms atom.0 t atom.1 ∙ ap Some atom.2) in
       let is : number ≡ mine.0 = ap (λ (o : Option ℕ). unwrap_or o 0) mine.1 in
       let small : mine.0 < length s.atoms = slice_get_within s.atoms mine.0 t (number_place s.atoms t mine.0 mine.1) in
-      let long : length r.atoms ≡ length s.atoms = ap length (n.named ns) ∙ length-map s.atoms (term_in ns) in
+      let long : length r.atoms ≡ length s.atoms = ap length (n.named ns) ∙ length-map s.atoms (atom_term ns log.atoms) in
       let P : ℕ × Bool → Type 0 = λ p. p.0 ≢ number in
       let f : Assigned → ℕ × Bool = λ e. numbered s.atoms e.literal in
       let each : All (λ (e : Assigned). P (f e)) s.trail.entries =
@@ -174,6 +175,7 @@ module _ (log : LogState) (held : List Held) (s : Search) (h : IsSearch log held
         grows = grows_none log;
         sound = λ ns levels known within order. order;
         holds_more = record { learned = []; joined = sym (append-nil held); held = h.are_held };
+        named = λ on. on;
         legal = λ ns levels assumed q known only asked legal. decided_legal goes_on ns q work n legal;
         notes = unit_noted work.lines (DecisionEntry number sign);
         limit = refl;

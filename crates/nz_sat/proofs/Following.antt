@@ -12,11 +12,12 @@ use Rattle.nz_sat.specs.declared.search.Search.{Search}
 use Rattle.nz_sat.specs.declared.trail.Assigned.{Assigned}
 use Rattle.nz_sat.specs.Trails.{GoesOn, IsTrueOn, below, is_decision}
 use Rattle.nz_sat.specs.Conflicts.{StaysSound}
-use Rattle.nz_sat.specs.Numbers.{numbered}
+use Rattle.nz_sat.specs.Numbers.{IsTermAtom, numbered}
 use Rattle.nz_sat.specs.Searching.{Carries, IsNoted, IsSearch, KeepsFirst, StaysInOrder}
 use Rattle.nz_sat.proofs.Clausal.{truth_found}
 use Rattle.nz_sat.proofs.Cutting.{below_join}
 use Rattle.nz_sat.proofs.Keeping.{goes_assumed}
+use Rattle.nz_sat.proofs.Staying.{lit_within}
 use Rattle.nz_sat.proofs.Visiting.{no_decision}
 
 -- ---- The trail goes on
@@ -43,7 +44,7 @@ goes_noted log held atoms es es' work g h =
 
 pub goes_first : (es es' : List Assigned) → GoesOn es es' → KeepsFirst es es'
 goes_first es es' g l h =
-    subst (λ (xs : List Assigned). IsTrueOn xs l) (sym (ap (below 0) g.joined ∙ below_join 0 es g.more)) (truth_found (below 0 es) (below 0 g.more) l.term l.sign h)
+    subst (λ (xs : List Assigned). IsTrueOn xs l) (sym (ap (below 0) g.joined ∙ below_join 0 es g.more)) (truth_found (below 0 es) (below 0 g.more) l.atom l.sign h)
 
 pub goes_carries : (s s' : Search) (work : WorkList Note) → s'.atoms ≡ s.atoms → GoesOn s.trail.entries s'.trail.entries → Carries s s' work work
 goes_carries s s' work same g =
@@ -65,8 +66,11 @@ carries_far r s t u v w c d =
       units = omega arith;
     }
 
--- the terms of the trail are atoms
+-- the literals of the trail are on atoms of the search
 pub stays_in_order : (over : List Node → Type 0) (log log' : LogState) (held : List Held) (s : Search) → IsSearch log held s → StaysSound s.trail.entries log log'
     → StaysInOrder over s.atoms log log'
 stays_in_order over log log' held s h sound ns levels known within order =
-    sound ns levels (λ k d inside. All-contains (λ (t : ℕ). t < length ns) s.atoms (get_or s.trail.entries k d).literal.term within (h.on_trail k d inside)) order
+    sound ns levels
+    (λ k d inside.
+    let l = (get_or s.trail.entries k d).literal in
+    lit_within ns log.atoms l (All-contains (IsTermAtom ns log.atoms) s.atoms l.atom within (h.on_trail k d inside))) order

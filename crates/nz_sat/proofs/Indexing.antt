@@ -6,7 +6,8 @@ use Rattle.std.specs.declared.alloc.Global.{Global}
 use Rattle.std.proofs.lemmas.List.{get_or_default}
 use Rattle.std.proofs.lemmas.List.Elements.{Contains-append_left, Contains-push, Contains-push_cases}
 use Rattle.nz_log.specs.declared.lits.Lit.{Lit}
-use Rattle.nz_log.specs.Lits.{TellsLits, are_same_lit}
+use Rattle.nz_log.specs.Atoms.{TellsLits}
+use Rattle.nz_log.specs.Lits.{are_same_lit}
 use Rattle.nz_log.specs.Logs.{LogState, literals_at}
 use Rattle.nz_sat.specs.declared.clauses.Index.{Index}
 use Rattle.nz_sat.specs.Clauses.{Adds, IsSameSize, IsWithin, ids_in, ids_of}
@@ -73,7 +74,7 @@ added_all s id n old new all h =
       only = h.only;
     }
 
--- the index keeps its terms
+-- the index keeps its atoms
 pub adding_within : (id : ℕ) (c : List Lit) (n : ℕ) (old new : Index) (l : Lit) → IsAdding id c n old new → IsWithin l old → IsWithin l new
 adding_within id c n old new l h w =
     let first = h.size.0 in

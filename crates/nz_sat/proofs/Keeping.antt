@@ -22,17 +22,17 @@ use Rattle.nz_sat.proofs.Visiting.{goes_depth}
 -- ---- What is true
 
 pub goes_true : (es es' : List Assigned) → GoesOn es es' → (l : Lit) → IsTrueOn es l → IsTrueOn es' l
-goes_true es es' g l h = subst (λ (xs : List Assigned). IsTrueOn xs l) (sym g.joined) (truth_found es g.more l.term l.sign h)
+goes_true es es' g l h = subst (λ (xs : List Assigned). IsTrueOn xs l) (sym g.joined) (truth_found es g.more l.atom l.sign h)
 
 -- ---- The search
 
 -- what follows by a clause that is held is an atom
 reason_named : (log : LogState) (before : List Assigned) (us atoms : List ℕ) (l : Lit) (o : Option ℕ)
-    → All (λ (i : ℕ). All (λ (m : Lit). Contains atoms m.term) (literals_at log i)) us → IsSome o → IsReasonOf log before l o → IsReasonOneOf us o → Contains atoms l.term
+    → All (λ (i : ℕ). All (λ (m : Lit). Contains atoms m.atom) (literals_at log i)) us → IsSome o → IsReasonOf log before l o → IsReasonOneOf us o → Contains atoms l.atom
 reason_named log before us atoms l None named some reason one = cc
 reason_named log before us atoms l (Some c) named some reason one =
-    All-contains (λ (m : Lit). Contains atoms m.term) (literals_at log c) l
-    (All-contains (λ (i : ℕ). All (λ (m : Lit). Contains atoms m.term) (literals_at log i)) us c named one) reason.has
+    All-contains (λ (m : Lit). Contains atoms m.atom) (literals_at log c) l
+    (All-contains (λ (i : ℕ). All (λ (m : Lit). Contains atoms m.atom) (literals_at log i)) us c named one) reason.has
 
 some_reason : (o : Option ℕ) → IsSome o → o ≡ None → ⊥
 some_reason None h e = cc
@@ -42,7 +42,7 @@ pub goes_search : (log : LogState) (held : List Held) (s : Search) (t : TrailSta
     → GoesOn s.trail.entries t.entries → EachBehind (IsImplied log) t.entries → All (HasReasonOf (ids held)) t.entries → IsSearch log held (record s { trail = t })
 goes_search log held s t h size order g implied reasons =
     let es = s.trail.entries in
-    let N : Assigned → Type 0 = λ e. Contains s.atoms e.literal.term in
+    let N : Assigned → Type 0 = λ e. Contains s.atoms e.literal.atom in
     let place : (k : ℕ) (d : Assigned) → k < length g.more → slice_get t.entries (length es + k) ≡ Some (get_or g.more k d) =
     λ k d inside.
     subst (λ (xs : List Assigned). slice_get xs (length es + k) ≡ Some (get_or g.more k d)) (sym g.joined)
@@ -58,6 +58,7 @@ goes_search log held s t h size order g implied reasons =
       listed = h.listed;
       only = h.only;
       named = h.named;
+      there = h.there;
       on_trail = subst (All N) (sym g.joined) (All-append N es g.more h.on_trail more_named);
       within = subst (λ (n : ℕ). All (λ (u : ℕ). u < n) s.atoms) (sym size) h.within;
       indexed = subst (λ (n : ℕ). IsOfSize n s.index) (sym size) h.indexed;
@@ -81,12 +82,12 @@ held_live log held h i has =
 
 pub usable_id : (log : LogState) (held : List Held) (s : Search) → IsSearch log held s → (i : ℕ) → Contains (ids held) i → IsUsable log s.trail.size i
 usable_id log held s h i has =
-    let N : ℕ → Type 0 = λ j. All (λ (l : Lit). Contains s.atoms l.term) (literals_at log j) in
+    let N : ℕ → Type 0 = λ j. All (λ (l : Lit). Contains s.atoms l.atom) (literals_at log j) in
     let atoms = All-contains N (ids held) i h.named has in
     record {
       live = held_live log held h.are_held i has;
       within = λ l there.
-          All-contains (λ (t : ℕ). t < s.trail.size) s.atoms l.term h.within (All-contains (λ (m : Lit). Contains s.atoms m.term) (literals_at log i) l atoms there);
+          All-contains (λ (t : ℕ). t < s.trail.size) s.atoms l.atom h.within (All-contains (λ (m : Lit). Contains s.atoms m.atom) (literals_at log i) l atoms there);
     }
 
 pub search_usable : (log : LogState) (held : List Held) (s : Search) → IsSearch log held s → AreUsable log s.trail.size s.index

@@ -1,6 +1,6 @@
 -- What a conflict teaches: the clause that is put into the log, and its levels.
 use Rattle.std.proofs.Common.{◌≡◌, ◌≢◌, ℕ, ◌<◌, max, Bool, true, false, inl, inr, List, [], ◌∷◌, ◌++◌, length, take, drop, Some, None, refl, sym, ap, subst, ◌∙◌, true≢false, arith}
-use Rattle.std.specs.Prelude.{All, Contains, MatchOption, Option, ◌≤◌}
+use Rattle.std.specs.Prelude.{All, Contains, MatchOption, Option, ◌≤◌, slice_get}
 use Rattle.std.specs.Ordering.{nat_cmp, ord_max}
 use Rattle.std.proofs.lemmas.Bool.{cases_lt}
 use Rattle.std.proofs.lemmas.Bool.Decides.{nat_tests}
@@ -9,7 +9,9 @@ use Rattle.std.proofs.lemmas.List.Elements.{All-contains, All-contains_itself, A
 use Rattle.nz_spec.specs.Literal.{StandOnce}
 use Rattle.nz_log.specs.declared.lits.Lit.{Lit}
 use Rattle.nz_log.specs.declared.origins.Link.{Link}
-use Rattle.nz_log.specs.Lits.{TellsLits}
+use Rattle.nz_spec.specs.Table.{Node}
+use Rattle.nz_log.specs.declared.atoms.Atom.{Atom}
+use Rattle.nz_log.specs.Atoms.{IsLitIn, TellsLits}
 use Rattle.nz_log.specs.Logs.{Entry, LogState, IsLive, Puts, chain_entry, chained, literals_at}
 use Rattle.nz_sat.specs.declared.analyze.Chain.{Chain}
 use Rattle.nz_sat.specs.declared.trail.Assigned.{Assigned}
@@ -27,7 +29,7 @@ pub greater_of : (m n : ℕ) → ord_max nat_cmp m n ≡ max m n
 greater_of m n = grind (arith, nat_tests)
 
 module _ (es : List Assigned) (but : Lit) (c : List Lit) (n : ℕ) (l : Lit) (h : IsGreatestBut es but c n) where
-  kept_reached : 0 < n → (m : Lit) × Contains (c ++ l ∷ []) m × (m ≢ but) × (level_on es m.term ≡ n)
+  kept_reached : 0 < n → (m : Lit) × Contains (c ++ l ∷ []) m × (m ≢ but) × (level_on es m.atom ≡ n)
   kept_reached some = let w = h.reached some in (w.0, Contains-append_left c (l ∷ []) w.0 w.1, w.2, w.3)
 
   pub greatest_same : l ≡ but → IsGreatestBut es but (c ++ l ∷ []) n
@@ -37,17 +39,17 @@ module _ (es : List Assigned) (but : Lit) (c : List Lit) (n : ℕ) (l : Lit) (h 
     reached = kept_reached;
   }
 
-  pub greatest_more : l ≢ but → (k : ℕ) → k ≡ max n (level_on es l.term) → IsGreatestBut es but (c ++ l ∷ []) k
+  pub greatest_more : l ≢ but → (k : ℕ) → k ≡ max n (level_on es l.atom) → IsGreatestBut es but (c ++ l ∷ []) k
   greatest_more other k most = record {
     most = λ m has differs.
         elim (Contains-push_cases c l m has) [
           | inl before ↦ let less = h.most m before differs in omega arith
           | inr is ↦
-              let same : level_on es m.term ≡ level_on es l.term = ap (λ (x : Lit). level_on es x.term) (sym is) in
+              let same : level_on es m.atom ≡ level_on es l.atom = ap (λ (x : Lit). level_on es x.atom) (sym is) in
               omega arith
         ];
     reached = λ some.
-        elim (cases_lt n (level_on es l.term)) [
+        elim (cases_lt n (level_on es l.atom)) [
           | inl less ↦ (l, Contains-push c l, other, omega arith)
           | inr atleast ↦
               let w = kept_reached (omega arith) in
@@ -57,18 +59,18 @@ module _ (es : List Assigned) (but : Lit) (c : List Lit) (n : ℕ) (l : Lit) (h 
 
 -- ---- The greatest level
 
-pub greatest_grown : (es : List Assigned) (c : List Lit) (n : ℕ) (l : Lit) → IsGreatest es c n → (k : ℕ) → k ≡ max n (level_on es l.term) → IsGreatest es (c ++ l ∷ []) k
+pub greatest_grown : (es : List Assigned) (c : List Lit) (n : ℕ) (l : Lit) → IsGreatest es c n → (k : ℕ) → k ≡ max n (level_on es l.atom) → IsGreatest es (c ++ l ∷ []) k
 greatest_grown es c n l h k most =
     record {
       most = λ m has.
           elim (Contains-push_cases c l m has) [
             | inl before ↦ let less = h.most m before in omega arith
             | inr is ↦
-                let same : level_on es m.term ≡ level_on es l.term = ap (λ (x : Lit). level_on es x.term) (sym is) in
+                let same : level_on es m.atom ≡ level_on es l.atom = ap (λ (x : Lit). level_on es x.atom) (sym is) in
                 omega arith
           ];
       reached = λ some.
-          elim (cases_lt n (level_on es l.term)) [
+          elim (cases_lt n (level_on es l.atom)) [
             | inl less ↦ (l, Contains-push c l, omega arith)
             | inr atleast ↦
                 let w = h.reached (omega arith) in
@@ -80,21 +82,21 @@ greatest_grown es c n l h k most =
 
 -- of the literals so far none is of the last level, or this one alone
 abbrev pub IsLone : List Assigned → List Lit → Option Lit → Type 0
-IsLone es c None = (m : Lit) → Contains c m → level_on es m.term ≢ depth es
+IsLone es c None = (m : Lit) → Contains c m → level_on es m.atom ≢ depth es
 IsLone es c (Some l) = IsLoneLast es c l
 
-pub lone_low : (es : List Assigned) (c : List Lit) (l : Lit) (o : Option Lit) → level_on es l.term ≢ depth es → IsLone es c o → IsLone es (c ++ l ∷ []) o
+pub lone_low : (es : List Assigned) (c : List Lit) (l : Lit) (o : Option Lit) → level_on es l.atom ≢ depth es → IsLone es c o → IsLone es (c ++ l ∷ []) o
 lone_low es c l None low h = λ m has.
-    elim (Contains-push_cases c l m has) [ inl before ↦ h m before | inr is ↦ subst (λ (x : Lit). level_on es x.term ≢ depth es) is low ]
+    elim (Contains-push_cases c l m has) [ inl before ↦ h m before | inr is ↦ subst (λ (x : Lit). level_on es x.atom ≢ depth es) is low ]
 lone_low es c l (Some lone) low h =
     record {
       has = Contains-append_left c (l ∷ []) lone h.has;
       last = h.last;
       others = λ m has differ.
-          elim (Contains-push_cases c l m has) [ inl before ↦ h.others m before differ | inr is ↦ subst (λ (x : Lit). level_on es x.term ≢ depth es) is low ];
+          elim (Contains-push_cases c l m has) [ inl before ↦ h.others m before differ | inr is ↦ subst (λ (x : Lit). level_on es x.atom ≢ depth es) is low ];
     }
 
-pub lone_first : (es : List Assigned) (c : List Lit) (l : Lit) → level_on es l.term ≡ depth es → IsLone es c None → IsLone es (c ++ l ∷ []) (Some l)
+pub lone_first : (es : List Assigned) (c : List Lit) (l : Lit) → level_on es l.atom ≡ depth es → IsLone es c None → IsLone es (c ++ l ∷ []) (Some l)
 lone_first es c l last h =
     record {
       has = Contains-push c l;
@@ -112,7 +114,7 @@ lone_again es c l lone same h =
     }
 
 -- another one of the last level
-pub lone_other : (es : List Assigned) (c : List Lit) (i : ℕ) (other l : Lit) → IsLone es (take i c) (Some other) → Contains c l → level_on es l.term ≡ depth es → other ≢ l
+pub lone_other : (es : List Assigned) (c : List Lit) (i : ℕ) (other l : Lit) → IsLone es (take i c) (Some other) → Contains c l → level_on es l.atom ≡ depth es → other ≢ l
     → HasTwoLast es c
 lone_other es c i other l lone has last differ =
     record {
@@ -139,28 +141,30 @@ all_from P xs f = All-weaker (Contains xs) P f xs (All-contains_itself xs)
 puts_literals : (old new : LogState) (id : ℕ) (e : Entry) → Puts old id e new → literals_at new id ≡ e.literals
 puts_literals old new id e p = ap (λ (o : Option Entry). elim o [ None ↦ [] | Some x ↦ x.literals ]) p.made
 
--- the links resolve on terms of the table
-pub links_within : (s : LogState) (es : List Assigned) (n : ℕ) (ks : List Link) → All (λ (e : Assigned). e.literal.term < n) es → AreLinks s es ks
-    → All (λ (k : Link). k.literal.term < n) ks
-links_within s es n ks within links =
-    All-weaker (λ (k : Link). IsLive s k.clause × ((e : Assigned) × Contains es e × (e.literal.term ≡ k.literal.term))) (λ (k : Link). k.literal.term < n)
-    (λ k w. let less = All-contains (λ (e : Assigned). e.literal.term < n) es w.1.0 within w.1.1 in omega (arith, w.1.2, less)) ks links
+-- the links resolve on atoms of the table
+pub links_within : (s : LogState) (es : List Assigned) (ns : List Node) (all : List Atom) (ks : List Link) → All (λ (e : Assigned). IsLitIn ns all e.literal) es → AreLinks s es ks
+    → All (λ (k : Link). IsLitIn ns all k.literal) ks
+links_within s es ns all ks within links =
+    All-weaker (λ (k : Link). IsLive s k.clause × ((e : Assigned) × Contains es e × (e.literal.atom ≡ k.literal.atom))) (λ (k : Link). IsLitIn ns all k.literal)
+    (λ k w.
+    let l = All-contains (λ (e : Assigned). IsLitIn ns all e.literal) es w.1.0 within w.1.1 in
+    record { atom = l.atom; at = ap (slice_get all) (sym w.1.2) ∙ l.at; within = l.within }) ks links
 
 -- ---- A conflict that is the learned clause itself
 
 -- the level of a false literal is one of the trail's
-pub false_level : (size : ℕ) (es : List Assigned) → EachBehind (IsNext size) es → (l : Lit) → IsFalseOn es l → level_on es l.term ≤ depth es
+pub false_level : (size : ℕ) (es : List Assigned) → EachBehind (IsNext size) es → (l : Lit) → IsFalseOn es l → level_on es l.atom ≤ depth es
 false_level size es order l falsified =
     let e = false_entry es l falsified in
-    let place = (assigned_place es l.term e.0 e.1).1 in
+    let place = (assigned_place es l.atom e.0 e.1).1 in
     let most = level_within size es order place.0 e.0 place.1 in
-    let level = level_found es l.term e.0 e.1 in
+    let level = level_found es l.atom e.0 e.1 in
     omega (arith, most, level)
 
 lone_once : (es : List Assigned) (c : List Lit) (l : Lit) → IsLoneLast es c l → IsLearnable es c → StandOnce c
 lone_once es c l lone (inr once) = once
 lone_once es c l lone (inl two) =
-    let none : (m : Lit) → Contains c m → level_on es m.term ≡ depth es → (m ≢ l → ⊥) = λ m has last differ. lone.others m has differ last in
+    let none : (m : Lit) → Contains c m → level_on es m.atom ≡ depth es → (m ≢ l → ⊥) = λ m has last differ. lone.others m has differ last in
     absurd (none two.second two.has_second two.second_last (λ same. none two.first two.has_first two.first_last (λ is. two.differ (is ∙ sym same))))
 
 pub lone_taught : (size : ℕ) (es : List Assigned) → EachBehind (IsNext size) es → (log : LogState) (id : ℕ) (l : Lit) (level : ℕ) → IsLive log id
@@ -193,11 +197,11 @@ unless false f = refl
 
 module _ (old new : LogState) (es : List Assigned) (falsified : ℕ) (marks : List Bool) (c : Chain) (chain : IsChain old es falsified marks c) where
   -- the marks are those of the clause, within the list
-  pub literals_within : (m : Lit) → Contains (chained old (literals_at old falsified) c.links.items) m → m.term < length marks
-  literals_within m has = marked_within marks m.term (chain.marked.each m has)
+  pub literals_within : (m : Lit) → Contains (chained old (literals_at old falsified) c.links.items) m → m.atom < length marks
+  literals_within m has = marked_within marks m.atom (chain.marked.each m has)
 
   pub all_unmarked : (left : List Bool) → ((t : ℕ) → is_marked left t ≡ true → is_marked marks t ≡ true)
-      → ((m : Lit) → Contains (chained old (literals_at old falsified) c.links.items) m → is_marked left m.term ≡ false) → AreUnmarked left
+      → ((m : Lit) → Contains (chained old (literals_at old falsified) c.links.items) m → is_marked left m.atom ≡ false) → AreUnmarked left
   all_unmarked left fewer off t = unless (is_marked left t) (λ on.
       let w = chain.marked.only t (fewer t on) in
       true≢false (sym on ∙ ap (is_marked left) (sym w.2) ∙ off w.0 w.1))

@@ -1,6 +1,6 @@
 -- What a search is after it learned a clause: back where that asserts its literal.
 use Rattle.std.proofs.Common.{◌≡◌, if◌then◌else◌, ℕ, suc, ◌+◌, ◌<◌, Bool, false, List, [], ◌∷◌, ◌++◌, length, take, map, Option, Some, None, inl, inr, refl, sym, ap, subst, ◌∙◌, arith}
-use Rattle.std.specs.Prelude.{All, Contains, filter, nat_le, option_map}
+use Rattle.std.specs.Prelude.{All, Contains, IsSome, filter, nat_le, option_map, slice_get}
 use Rattle.std.proofs.lemmas.List.{append-nil, length_push, map-append, take-append-le, take-map}
 use Rattle.std.proofs.lemmas.List.Elements.{All-contains, All-filter, All-push, All-weaker, Contains-append_left, Contains-push, filter-append}
 use Rattle.std.proofs.lemmas.List.Sums.{fold-append, length-filter, sum_by_push}
@@ -29,6 +29,7 @@ use Rattle.nz_sat.proofs.Keeping.{held_live}
 use Rattle.nz_sat.proofs.LearnedClauses.{all_from}
 use Rattle.nz_sat.proofs.Levels.{below_decided, below_depth, below_false, below_free, below_front, below_twice}
 use Rattle.nz_sat.proofs.Noting.{IsTaught, decisions_on, learned_named}
+use Rattle.nz_sat.proofs.Staying.{terms_stay, there_stay}
 use Rattle.nz_sat.proofs.Trailing.{assigned_one, each_front, each_push, each_weaker}
 
 -- ---- Logs that grow
@@ -79,18 +80,18 @@ module _ (log log' : LogState) (held : List Held) (s : state.Search) (work : Wor
   literal_free : (k : ℕ) → k < depth es → IsFreeOn (below k es) l.literal
   literal_free k less = let last = h.learned.last in below_free s.trail.size es h.search.order k l.literal false_literal (omega (arith, last, less))
 
-  pub literal_missing : assigned front l.literal.term ≡ None
-  literal_missing = free_missing front l.literal.term (literal_free l.level h.learned.earlier)
+  pub literal_missing : assigned front l.literal.atom ≡ None
+  literal_missing = free_missing front l.literal.atom (literal_free l.level h.learned.earlier)
 
-  pub literal_within : l.literal.term < s.trail.size
-  literal_within = All-contains (λ (t : ℕ). t < s.trail.size) s.atoms l.literal.term h.search.within (learned_named log log' held s work falsified l h l.literal h.learned.has)
+  pub literal_within : l.literal.atom < s.trail.size
+  literal_within = All-contains (λ (t : ℕ). t < s.trail.size) s.atoms l.literal.atom h.search.within (learned_named log log' held s work falsified l h l.literal h.learned.has)
 
   -- each literal has its place in the index
   pub literals_within : All (λ (m : Lit). IsWithin m s.index) lits
   literals_within =
       all_from (λ (m : Lit). IsWithin m s.index) lits
       (λ m has.
-      let low = All-contains (λ (t : ℕ). t < s.trail.size) s.atoms m.term h.search.within (learned_named log log' held s work falsified l h m has) in
+      let low = All-contains (λ (t : ℕ). t < s.trail.size) s.atoms m.atom h.search.within (learned_named log log' held s work falsified l h m has) in
       (omega (arith, low, h.search.indexed.0), omega (arith, low, h.search.indexed.1)))
 
   after_depth : depth (after_learned es l) ≡ l.level
@@ -134,8 +135,8 @@ module _ (log log' : LogState) (held : List Held) (s : state.Search) (work : Wor
 
   now_true : IsTrueOn (after_learned es l) l.literal
   now_true =
-      truth_missing front (mine ∷ []) l.literal.term (literal_free l.level h.learned.earlier)
-      ∙ ap (option_map (λ (x : Assigned). x.literal.sign)) (assigned_one mine l.literal.term refl)
+      truth_missing front (mine ∷ []) l.literal.atom (literal_free l.level h.learned.earlier)
+      ∙ ap (option_map (λ (x : Assigned). x.literal.sign)) (assigned_one mine l.literal.atom refl)
 
   after_waits : AreWaiting log' held' (after_learned es l) (length front)
   after_waits =
@@ -195,7 +196,8 @@ module _ (log log' : LogState) (held : List Held) (s : state.Search) (work : Wor
       let f : Assigned → ℕ × Bool = λ (e : Assigned). numbered s.atoms e.literal in
       let c = map (numbered s.atoms) lits in
       record {
-        named = λ ns. ap (λ (x : Search). x.atoms) (goes ns) ∙ h.noted.noted.named ns;
+        named = λ ns.
+            ap (λ (x : Search). x.atoms) (goes ns) ∙ h.noted.noted.named ns ∙ sym (terms_stay log.atoms log'.atoms h.grows.atoms ns s.atoms h.search.there);
         decided = λ ns.
             ap (λ (x : Search). x.decided) (goes ns) ∙ ap (take l.level) (h.noted.noted.decided ns) ∙ take-map f l.level (filter is_decision h.noted.all)
             ∙ ap (map f) (kept_decided ∙ sym after_decided);
@@ -220,7 +222,7 @@ module _ (log log' : LogState) (held : List Held) (s : state.Search) (work : Wor
   after_first m holds =
       let parts : below 0 (after_learned es l) ≡ below 0 es ++ below 0 (mine ∷ []) =
       below_join 0 front (mine ∷ []) ∙ ap (λ (xs : List Assigned). xs ++ below 0 (mine ∷ [])) (below_twice 0 l.level (omega arith) es) in
-      subst (λ (xs : List Assigned). IsTrueOn xs m) (sym parts) (truth_found (below 0 es) (below 0 (mine ∷ [])) m.term m.sign holds)
+      subst (λ (xs : List Assigned). IsTrueOn xs m) (sym parts) (truth_found (below 0 es) (below 0 (mine ∷ [])) m.atom m.sign holds)
 
   -- ---- The search
 
@@ -230,13 +232,13 @@ module _ (log log' : LogState) (held : List Held) (s : state.Search) (work : Wor
     after_search : IsSearch log' held' s'
     after_search =
         let more : (i : ℕ) → Contains (ids held ++ l.clause ∷ []) i → Contains (ids held') i = λ i has. subst (λ (is : List ℕ). Contains is i) (sym ids_more) has in
-        let N : ℕ → Type 0 = λ i. All (λ (m : Lit). Contains s.atoms m.term) (literals_at log' i) in
+        let N : ℕ → Type 0 = λ i. All (λ (m : Lit). Contains s.atoms m.atom) (literals_at log' i) in
         let named : All N (ids held') =
         each_held N
-        (λ i has. subst (All (λ (m : Lit). Contains s.atoms m.term)) (sym (old_literals i has))
-        (All-contains (λ (j : ℕ). All (λ (m : Lit). Contains s.atoms m.term) (literals_at log j)) (ids held) i h.search.named has))
-        (all_from (λ (m : Lit). Contains s.atoms m.term) lits (learned_named log log' held s work falsified l h)) in
-        let on_trail = after_each (λ (e : Assigned). Contains s.atoms e.literal.term) h.search.on_trail (learned_named log log' held s work falsified l h l.literal h.learned.has) in
+        (λ i has. subst (All (λ (m : Lit). Contains s.atoms m.atom)) (sym (old_literals i has))
+        (All-contains (λ (j : ℕ). All (λ (m : Lit). Contains s.atoms m.atom) (literals_at log j)) (ids held) i h.search.named has))
+        (all_from (λ (m : Lit). Contains s.atoms m.atom) lits (learned_named log log' held s work falsified l h)) in
+        let on_trail = after_each (λ (e : Assigned). Contains s.atoms e.literal.atom) h.search.on_trail (learned_named log log' held s work falsified l h l.literal h.learned.has) in
         record {
           are_held = are_held;
           listed = each_held (IsListed log' s'.index)
@@ -249,9 +251,10 @@ module _ (log log' : LogState) (held : List Held) (s : state.Search) (work : Wor
                 | inl old ↦ more i (Contains-append_left (ids held) (l.clause ∷ []) i (h.search.only m i old))
                 | inr same ↦ subst (Contains (ids held')) same (more l.clause (Contains-push (ids held) l.clause))
               ];
-          named = subst (λ (us : List ℕ). All (λ (i : ℕ). All (λ (m : Lit). Contains us m.term) (literals_at log' i)) (ids held')) (sym atoms) named;
-          on_trail = subst (λ (xs : List Assigned). All (λ (e : Assigned). Contains s'.atoms e.literal.term) xs) (sym entries)
-              (subst (λ (us : List ℕ). All (λ (e : Assigned). Contains us e.literal.term) (after_learned es l)) (sym atoms) on_trail);
+          named = subst (λ (us : List ℕ). All (λ (i : ℕ). All (λ (m : Lit). Contains us m.atom) (literals_at log' i)) (ids held')) (sym atoms) named;
+          there = subst (All (λ (t : ℕ). IsSome (slice_get log'.atoms t))) (sym atoms) (there_stay log.atoms log'.atoms h.grows.atoms s.atoms h.search.there);
+          on_trail = subst (λ (xs : List Assigned). All (λ (e : Assigned). Contains s'.atoms e.literal.atom) xs) (sym entries)
+              (subst (λ (us : List ℕ). All (λ (e : Assigned). Contains us e.literal.atom) (after_learned es l)) (sym atoms) on_trail);
           within = subst (All (λ (t : ℕ). t < s'.trail.size)) (sym atoms) (subst (λ (n : ℕ). All (λ (t : ℕ). t < n) s.atoms) (sym size) h.search.within);
           indexed = (index.size.0 ∙ h.search.indexed.0 ∙ sym size, index.size.1 ∙ h.search.indexed.1 ∙ sym size);
           marks = marks ∙ h.search.marks ∙ sym size;

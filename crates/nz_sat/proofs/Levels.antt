@@ -18,7 +18,7 @@ use Rattle.nz_sat.proofs.Trailing.{assigned_found, level_is}
 
 -- ---- The entry of a term
 
-past_other : (k t : ℕ) (es : List Assigned) (e x : Assigned) (b : Bool) → assigned (below k es) t ≡ Some x → (e.literal.term == t) ≡ false
+past_other : (k t : ℕ) (es : List Assigned) (e x : Assigned) (b : Bool) → assigned (below k es) t ≡ Some x → (e.literal.atom == t) ≡ false
     → assigned (if b then e ∷ below k es else below k es) t ≡ Some x
 past_other k t es e x true r differs = ap (λ (c : Bool). if c then Some e else assigned (below k es) t) differs ∙ r
 past_other k t es e x false r differs = r
@@ -27,7 +27,7 @@ past_other k t es e x false r differs = r
 pub found_below : (k t : ℕ) (es : List Assigned) (x : Assigned) → assigned es t ≡ Some x → x.level ≤ k → assigned (below k es) t ≡ Some x
 found_below k t [] x at low = cc
 found_below k t (e ∷ es) x at low =
-    elim (eqb_tells e.literal.term t) [
+    elim (eqb_tells e.literal.atom t) [
       | inl p ↦
           let same : e ≡ x = same_Some e x (ap (λ (b : Bool). if b then Some e else assigned es t) (sym p.0) ∙ at) in
           let less : e.level ≤ k = subst (λ (y : Assigned). y.level ≤ k) (sym same) low in
@@ -49,7 +49,7 @@ found_low k t (e ∷ es) x at =
     elim (leb_tells e.level k) [
       | inl q ↦
           let here : assigned (e ∷ below k es) t ≡ Some x = ap (λ (b : Bool). assigned (if b then e ∷ below k es else below k es) t) (sym q.0) ∙ at in
-          elim (eqb_tells e.literal.term t) [
+          elim (eqb_tells e.literal.atom t) [
             | inl p ↦
                 let same : e ≡ x = same_Some e x (ap (λ (b : Bool). if b then Some e else assigned (below k es) t) (sym p.0) ∙ here) in
                 subst (λ (y : Assigned). y.level ≤ k) same q.1
@@ -76,7 +76,7 @@ at_most_one true = omega arith
 at_most_one false = omega arith
 
 abbrev nobody : Assigned
-nobody = record { literal = record { term = 0; sign = true }; level = 0; reason = None }
+nobody = record { literal = record { atom = 0; sign = true }; level = 0; reason = None }
 
 module _ (size : ℕ) (es : List Assigned) (order : EachBehind (IsNext size) es) where
   abbrev entry : ℕ → Assigned
@@ -161,28 +161,28 @@ module _ (size : ℕ) (es : List Assigned) (order : EachBehind (IsNext size) es)
   below_true k t b at = let f = below_front k in subst (λ (xs : List Assigned). truth_on xs t ≡ Some b) (sym f.joined) (truth_found (below k es) f.more t b at)
 
   -- what is false is so there, or free, by its level
-  pub below_false : (k : ℕ) (l : Lit) → IsFalseOn es l → level_on es l.term ≤ k → IsFalseOn (below k es) l
+  pub below_false : (k : ℕ) (l : Lit) → IsFalseOn es l → level_on es l.atom ≤ k → IsFalseOn (below k es) l
   below_false k l falsified low =
       let e = false_entry es l falsified in
-      let level = level_found es l.term e.0 e.1 in
-      ap (option_map (λ (x : Assigned). x.literal.sign)) (found_below k l.term es e.0 e.1 (omega (arith, level, low))) ∙ ap Some e.2
+      let level = level_found es l.atom e.0 e.1 in
+      ap (option_map (λ (x : Assigned). x.literal.sign)) (found_below k l.atom es e.0 e.1 (omega (arith, level, low))) ∙ ap Some e.2
 
-  pub below_free : (k : ℕ) (l : Lit) → IsFalseOn es l → k < level_on es l.term → IsFreeOn (below k es) l
+  pub below_free : (k : ℕ) (l : Lit) → IsFalseOn es l → k < level_on es l.atom → IsFreeOn (below k es) l
   below_free k l falsified high =
       let e = false_entry es l falsified in
-      let level = level_found es l.term e.0 e.1 in
-      elim (assigned (below k es) l.term) as (λ o. assigned (below k es) l.term ≡ o → IsFreeOn (below k es) l) [
-        | None ↦ λ none. missing_free (below k es) l.term none
+      let level = level_found es l.atom e.0 e.1 in
+      elim (assigned (below k es) l.atom) as (λ o. assigned (below k es) l.atom ≡ o → IsFreeOn (below k es) l) [
+        | None ↦ λ none. missing_free (below k es) l.atom none
         | Some x ↦ λ there.
-            let same : e.0 ≡ x = same_Some e.0 x (sym e.1 ∙ found_on k l.term x there) in
-            let low = found_low k l.term es x there in
+            let same : e.0 ≡ x = same_Some e.0 x (sym e.1 ∙ found_on k l.atom x there) in
+            let low = found_low k l.atom es x there in
             let is = ap (λ (y : Assigned). y.level) same in
             absurd (omega (arith, level, low, high, is))
       ] refl
 
-  pub free_high : (k : ℕ) (l : Lit) → IsFalseOn es l → IsFreeOn (below k es) l → k < level_on es l.term
+  pub free_high : (k : ℕ) (l : Lit) → IsFalseOn es l → IsFreeOn (below k es) l → k < level_on es l.atom
   free_high k l falsified free =
-      elim (leb_tells (level_on es l.term) k) [
+      elim (leb_tells (level_on es l.atom) k) [
         | inl p ↦ let clash : None ≡ Some (not l.sign) = sym free ∙ below_false k l falsified p.1 in cc
         | inr p ↦ p.1
       ]

@@ -24,6 +24,7 @@ pub mod Retaining
 pub mod Returning
 pub mod Running
 pub mod Solving
+pub mod Staying
 pub mod Telling
 pub mod Trailing
 pub mod Visiting

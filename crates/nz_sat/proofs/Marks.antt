@@ -1,4 +1,4 @@
--- Marks of terms, and how many entries of a level are marked.
+-- Marks of atoms, and how many entries of a level are marked.
 use Rattle.std.proofs.Common.{◌≡◌, ◌≢◌, ℕ, zero, suc, ◌+◌, ◌<◌, ◌≤◌, Bool, true, false, not, ◌&&◌, ◌⊎◌, inl, inr, if◌then◌else◌, List, [], ◌∷◌, ◌++◌, length, take, drop, Option, Some, None, refl, sym, ap, subst, ◌∙◌, true≢false, arith, eqb-true}
 use Rattle.std.specs.Prelude.{◌==◌, Contains, slice_get, slice_set, option_map}
 use Rattle.std.proofs.Math.Seq.{take-suc}
@@ -48,28 +48,28 @@ unmark_parts marks u t within on =
 
 module _ (es : List Assigned) (c : List Lit) (l : Lit) (old new : List Bool) where
   -- one that isn't false, or whose term is marked already
-  marks_same : (IsFalseOn es l → is_marked new l.term ≡ true) → MarksFalse es c old new → MarksFalse es (c ++ l ∷ []) old new
+  marks_same : (IsFalseOn es l → is_marked new l.atom ≡ true) → MarksFalse es c old new → MarksFalse es (c ++ l ∷ []) old new
   marks_same f h = record {
     kept = h.kept;
     marked = λ m has false_too.
         elim (Contains-push_cases c l m has) [
           | inl before ↦ h.marked m before false_too
-          | inr is ↦ subst (λ (k : Lit). is_marked new k.term ≡ true) is (f (subst (IsFalseOn es) (sym is) false_too))
+          | inr is ↦ subst (λ (k : Lit). is_marked new k.atom ≡ true) is (f (subst (IsFalseOn es) (sym is) false_too))
         ];
     only = λ t on. elim (h.only t on) [ inl o ↦ inl o | inr w ↦ inr (w.0, Contains-append_left c (l ∷ []) w.0 w.1, w.2, w.3) ];
   }
 
-  marks_set : IsFalseOn es l → l.term < length new → MarksFalse es c old new → MarksFalse es (c ++ l ∷ []) old (slice_set new l.term true)
+  marks_set : IsFalseOn es l → l.atom < length new → MarksFalse es c old new → MarksFalse es (c ++ l ∷ []) old (slice_set new l.atom true)
   marks_set falsified within h = record {
-    kept = λ t on. mark_keeps new l.term t within (h.kept t on);
+    kept = λ t on. mark_keeps new l.atom t within (h.kept t on);
     marked = λ m has false_too.
         elim (Contains-push_cases c l m has) [
-          | inl before ↦ mark_keeps new l.term m.term within (h.marked m before false_too)
+          | inl before ↦ mark_keeps new l.atom m.atom within (h.marked m before false_too)
           | inr is ↦
-              ap (λ (k : Lit). is_marked (slice_set new l.term true) k.term) (sym is) ∙ get_or-set_same new l.term true false within
+              ap (λ (k : Lit). is_marked (slice_set new l.atom true) k.atom) (sym is) ∙ get_or-set_same new l.atom true false within
         ];
     only = λ t on.
-        elim (marks_cases new l.term t on) [
+        elim (marks_cases new l.atom t on) [
           | inl same ↦ inr (l, Contains-push c l, falsified, sym same)
           | inr before ↦ elim (h.only t before) [ inl o ↦ inl o | inr w ↦ inr (w.0, Contains-append_left c (l ∷ []) w.0 w.1, w.2, w.3) ]
         ];
@@ -82,14 +82,14 @@ one_if b = if b then 1 else 0
 
 -- what one entry adds
 abbrev pub counted : List Bool → ℕ → Assigned → ℕ
-counted marks level e = one_if (is_marked marks e.literal.term && (e.level == level))
+counted marks level e = one_if (is_marked marks e.literal.atom && (e.level == level))
 
 abbrev pub one_at : ℕ → ℕ → ℕ
 one_at level n = one_if (n == level)
 
-none_parts : (e : Assigned) (es : List Assigned) (t : ℕ) → assigned (e ∷ es) t ≡ None → (t ≢ e.literal.term) × (assigned es t ≡ None)
+none_parts : (e : Assigned) (es : List Assigned) (t : ℕ) → assigned (e ∷ es) t ≡ None → (t ≢ e.literal.atom) × (assigned es t ≡ None)
 none_parts e es t at =
-    elim (eqb_tells e.literal.term t) [
+    elim (eqb_tells e.literal.atom t) [
       | inl p ↦
           let found : Some e ≡ None = ap (λ (b : Bool). if b then Some e else assigned es t) (sym p.0) ∙ at in
           cc
@@ -103,15 +103,15 @@ marked_apart b marks t level [] at = refl
 marked_apart b marks t level (e ∷ es) at =
     let parts = none_parts e es t at in
     let here : counted (slice_set marks t b) level e ≡ counted marks level e =
-    ap (λ (m : Bool). one_if (m && (e.level == level))) (other_mark marks t e.literal.term b (λ same. parts.0 (sym same))) in
+    ap (λ (m : Bool). one_if (m && (e.level == level))) (other_mark marks t e.literal.atom b (λ same. parts.0 (sym same))) in
     let rest = marked_apart b marks t level es parts.1 in
     let left = sum_by-cons (counted (slice_set marks t b) level) e es in
     let right = sum_by-cons (counted marks level) e es in
     omega arith
 
-pub one_found : (e : Assigned) (t : ℕ) (x : Assigned) → assigned (e ∷ []) t ≡ Some x → (e.literal.term ≡ t) × (e ≡ x)
+pub one_found : (e : Assigned) (t : ℕ) (x : Assigned) → assigned (e ∷ []) t ≡ Some x → (e.literal.atom ≡ t) × (e ≡ x)
 one_found e t x at =
-    elim (eqb_tells e.literal.term t) [
+    elim (eqb_tells e.literal.atom t) [
       | inl p ↦ (p.1, same_Some e x (ap (λ (b : Bool). if b then Some e else None) (sym p.0) ∙ at))
       | inr p ↦
           let found : None ≡ Some x = ap (λ (b : Bool). if b then Some e else None) (sym p.0) ∙ at in
@@ -122,15 +122,15 @@ module _ (size : ℕ) (es : List Assigned) (order : EachBehind (IsNext size) es)
   abbrev CountsOne : List Assigned → Assigned → Type 0
   CountsOne front x = marked_of (slice_set marks t true) level front ≡ marked_of marks level front + one_at level x.level
 
-  old_step : (front : List Assigned) (e x : Assigned) → e.literal.term ≢ t → CountsOne front x → CountsOne (front ++ e ∷ []) x
+  old_step : (front : List Assigned) (e x : Assigned) → e.literal.atom ≢ t → CountsOne front x → CountsOne (front ++ e ∷ []) x
   old_step front e x other ih =
       let here : counted (slice_set marks t true) level e ≡ counted marks level e =
-      ap (λ (m : Bool). one_if (m && (e.level == level))) (other_mark marks t e.literal.term true other) in
+      ap (λ (m : Bool). one_if (m && (e.level == level))) (other_mark marks t e.literal.atom true other) in
       let left = sum_by_push (counted (slice_set marks t true) level) front e in
       let right = sum_by_push (counted marks level) front e in
       omega arith
 
-  last_step : (front : List Assigned) (e : Assigned) → e.literal.term ≡ t → assigned front t ≡ None → CountsOne (front ++ e ∷ []) e
+  last_step : (front : List Assigned) (e : Assigned) → e.literal.atom ≡ t → assigned front t ≡ None → CountsOne (front ++ e ∷ []) e
   last_step front e same none =
       let before : counted marks level e ≡ 0 =
       ap (λ (m : Bool). one_if (m && (e.level == level))) (ap (is_marked marks) same ∙ off) in
@@ -142,7 +142,7 @@ module _ (size : ℕ) (es : List Assigned) (order : EachBehind (IsNext size) es)
       let right = sum_by_push (counted marks level) front e in
       omega arith
 
-  new_step : (front : List Assigned) (e : Assigned) → assigned front e.literal.term ≡ None
+  new_step : (front : List Assigned) (e : Assigned) → assigned front e.literal.atom ≡ None
       → ((x : Assigned) → assigned front t ≡ Some x → CountsOne front x)
       → (x : Assigned) → assigned (front ++ e ∷ []) t ≡ Some x → CountsOne (front ++ e ∷ []) x
   new_step front e fresh f x at =
@@ -177,22 +177,22 @@ not_counted true f = absurd (f refl)
 not_counted false f = refl
 
 pub none_counted : (marks : List Bool) (level : ℕ) (es : List Assigned)
-    → ((e : Assigned) → Contains es e → is_marked marks e.literal.term ≡ true → e.level ≡ level → ⊥) → marked_of marks level es ≡ 0
+    → ((e : Assigned) → Contains es e → is_marked marks e.literal.atom ≡ true → e.level ≡ level → ⊥) → marked_of marks level es ≡ 0
 none_counted marks level [] f = refl
 none_counted marks level (e ∷ es) f =
     let here : counted marks level e ≡ 0 =
-    not_counted (is_marked marks e.literal.term && (e.level == level)) (λ both.
-    let parts = and_parts (is_marked marks e.literal.term) (e.level == level) both in
+    not_counted (is_marked marks e.literal.atom && (e.level == level)) (λ both.
+    let parts = and_parts (is_marked marks e.literal.atom) (e.level == level) both in
     f e (has_first e es) parts.0 (eqb-true e.level level parts.1)) in
     let rest = none_counted marks level es (λ x has on is. f x (has_more e x es has) on is) in
     let sum = sum_by-cons (counted marks level) e es in
     omega arith
 
-pub is_counted : (marks : List Bool) (level : ℕ) (e : Assigned) → is_marked marks e.literal.term ≡ true → e.level ≡ level → counted marks level e ≡ 1
-is_counted marks level e on is = ap one_if (and_from (is_marked marks e.literal.term) (e.level == level) on (eq-eqb e.level level is))
+pub is_counted : (marks : List Bool) (level : ℕ) (e : Assigned) → is_marked marks e.literal.atom ≡ true → e.level ≡ level → counted marks level e ≡ 1
+is_counted marks level e on is = ap one_if (and_from (is_marked marks e.literal.atom) (e.level == level) on (eq-eqb e.level level is))
 
 -- a marked entry of the level counts beside those before it
-pub one_counted : (marks : List Bool) (level : ℕ) (es : List Assigned) (i : ℕ) (e : Assigned) → slice_get es i ≡ Some e → is_marked marks e.literal.term ≡ true
+pub one_counted : (marks : List Bool) (level : ℕ) (es : List Assigned) (i : ℕ) (e : Assigned) → slice_get es i ≡ Some e → is_marked marks e.literal.atom ≡ true
     → e.level ≡ level → marked_of marks level (take i es) + 1 ≤ marked_of marks level es
 one_counted marks level es i e at on is =
     let more : take (i + 1) es ≡ take i es ++ e ∷ [] =
@@ -211,7 +211,7 @@ slice_get_take (suc n) (suc i) (e ∷ es) less = slice_get_take n i es (omega ar
 
 -- two of them count two
 pub two_counted : (marks : List Bool) (level : ℕ) (es : List Assigned) (i j : ℕ) (d e : Assigned) → i < j → slice_get es i ≡ Some d → slice_get es j ≡ Some e
-    → is_marked marks d.literal.term ≡ true → is_marked marks e.literal.term ≡ true → d.level ≡ level → e.level ≡ level → 2 ≤ marked_of marks level es
+    → is_marked marks d.literal.atom ≡ true → is_marked marks e.literal.atom ≡ true → d.level ≡ level → e.level ≡ level → 2 ≤ marked_of marks level es
 two_counted marks level es i j d e less at to on also is same =
     let first = one_counted marks level (take j es) i d (slice_get_take j i es less ∙ at) on is in
     let second = one_counted marks level es j e to also same in
@@ -224,9 +224,9 @@ not_itself true e = true≢false e
 not_itself false e = true≢false (sym e)
 
 -- the entry of a literal that is false
-pub false_entry : (es : List Assigned) (l : Lit) → IsFalseOn es l → (e : Assigned) × (assigned es l.term ≡ Some e) × (e.literal.sign ≡ not l.sign)
+pub false_entry : (es : List Assigned) (l : Lit) → IsFalseOn es l → (e : Assigned) × (assigned es l.atom ≡ Some e) × (e.literal.sign ≡ not l.sign)
 false_entry es l falsified =
-    elim (assigned es l.term) as (λ o. assigned es l.term ≡ o → (e : Assigned) × (assigned es l.term ≡ Some e) × (e.literal.sign ≡ not l.sign)) [
+    elim (assigned es l.atom) as (λ o. assigned es l.atom ≡ o → (e : Assigned) × (assigned es l.atom ≡ Some e) × (e.literal.sign ≡ not l.sign)) [
       | None ↦ λ none. let clash : None ≡ Some (not l.sign) = sym (ap (option_map (λ (e : Assigned). e.literal.sign)) none) ∙ falsified in cc
       | Some e ↦ λ at. (e, at, same_Some e.literal.sign (not l.sign) (sym (ap (option_map (λ (x : Assigned). x.literal.sign)) at) ∙ falsified))
     ] refl
@@ -236,10 +236,10 @@ found_whole es n t x at =
     subst (λ (front : List Assigned). assigned front t ≡ Some x) (take-append-drop n es) (assigned_found (take n es) (drop n es) t x at)
 
 -- it is below the size of the trail
-pub false_within : (size : ℕ) (es : List Assigned) → EachBehind (IsNext size) es → (l : Lit) → IsFalseOn es l → l.term < size
+pub false_within : (size : ℕ) (es : List Assigned) → EachBehind (IsNext size) es → (l : Lit) → IsFalseOn es l → l.atom < size
 false_within size es order l falsified =
     let e = false_entry es l falsified in
-    let p = assigned_place es l.term e.0 e.1 in
+    let p = assigned_place es l.atom e.0 e.1 in
     let within = (order p.1.0 e.0 p.1.1).within in
     omega (arith, p.0, within)
 
@@ -258,21 +258,21 @@ module _ (es : List Assigned) (c : List Lit) (l : Lit) (level : ℕ) (old new : 
   fewer : (n : ℕ) → AreFalseIn es (take n es) (c ++ l ∷ []) → AreFalseIn es (take n es) c
   fewer n within m has falsified = within m (Contains-append_left c (l ∷ []) m has) falsified
 
-  pub counted_same : (IsFalseOn es l → is_marked new l.term ≡ true) → MarksCounted es c level old new count → MarksCounted es (c ++ l ∷ []) level old new count
+  pub counted_same : (IsFalseOn es l → is_marked new l.atom ≡ true) → MarksCounted es c level old new count → MarksCounted es (c ++ l ∷ []) level old new count
   counted_same f h = record {
     marks = marks_same es c l old new f h.marks;
     count = λ n within. h.count n (fewer n within);
   }
 
-  pub counted_set : (size : ℕ) → EachBehind (IsNext size) es → IsFalseOn es l → is_marked new l.term ≡ false → l.term < length new
-      → MarksCounted es c level old new count → MarksCounted es (c ++ l ∷ []) level old (slice_set new l.term true) (count + one_at level (level_on es l.term))
+  pub counted_set : (size : ℕ) → EachBehind (IsNext size) es → IsFalseOn es l → is_marked new l.atom ≡ false → l.atom < length new
+      → MarksCounted es c level old new count → MarksCounted es (c ++ l ∷ []) level old (slice_set new l.atom true) (count + one_at level (level_on es l.atom))
   counted_set size order falsified off within h = record {
     marks = marks_set es c l old new falsified within h.marks;
     count = λ n front.
         let e = false_entry (take n es) l (front l (Contains-push c l) falsified) in
-        let at : level_on es l.term ≡ e.0.level = level_found es l.term e.0 (found_whole es n l.term e.0 e.1) in
-        let one = marked_new size es order new l.term level off within n e.0 e.1 in
-        let added : one_at level (level_on es l.term) ≡ one_at level e.0.level = ap (one_at level) at in
+        let at : level_on es l.atom ≡ e.0.level = level_found es l.atom e.0 (found_whole es n l.atom e.0 e.1) in
+        let one = marked_new size es order new l.atom level off within n e.0 e.1 in
+        let added : one_at level (level_on es l.atom) ≡ one_at level e.0.level = ap (one_at level) at in
         let before = h.count n (fewer n front) in
         omega arith;
   }

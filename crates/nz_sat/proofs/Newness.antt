@@ -6,9 +6,10 @@ use Rattle.std.proofs.lemmas.List.{get_or-map, length-map}
 use Rattle.std.proofs.lemmas.Option.{same_Some, slice_get-map, slice_get_within}
 use Rattle.nz_spec.specs.Legal.{AreNamed}
 use Rattle.nz_spec.specs.Literal.{AreSameSet, StandOnce}
-use Rattle.nz_spec.specs.Table.{Node, term_in}
+use Rattle.nz_spec.specs.Term.{Term}
 use Rattle.nz_log.specs.declared.lits.Lit.{Lit}
-use Rattle.nz_log.specs.Lits.{TellsLits, are_same_lit}
+use Rattle.nz_log.specs.Atoms.{TellsLits}
+use Rattle.nz_log.specs.Lits.{are_same_lit}
 use Rattle.nz_sat.specs.declared.trail.Assigned.{Assigned}
 use Rattle.nz_sat.specs.Clauses.{IsFalsified, IsOpen, by_true, by_two}
 use Rattle.nz_sat.specs.Numbers.{number_of, numbered}
@@ -44,33 +45,33 @@ module _ {X Y : Type 0} (f : X → Y) where
 -- ---- Numbers
 
 module _ (atoms : List ℕ) where
-  same_term : (t u : ℕ) → Contains atoms t → Contains atoms u → unwrap_or (number_of atoms t) 0 ≡ unwrap_or (number_of atoms u) 0 → t ≡ u
-  same_term t u has_t has_u same = same_Some t u (sym (number_at atoms t has_t) ∙ ap (slice_get atoms) same ∙ number_at atoms u has_u)
+  same_atom : (t u : ℕ) → Contains atoms t → Contains atoms u → unwrap_or (number_of atoms t) 0 ≡ unwrap_or (number_of atoms u) 0 → t ≡ u
+  same_atom t u has_t has_u same = same_Some t u (sym (number_at atoms t has_t) ∙ ap (slice_get atoms) same ∙ number_at atoms u has_u)
 
-  numbered_same : (l m : Lit) → Contains atoms l.term → Contains atoms m.term → numbered atoms l ≡ numbered atoms m → l ≡ m
+  numbered_same : (l m : Lit) → Contains atoms l.atom → Contains atoms m.atom → numbered atoms l ≡ numbered atoms m → l ≡ m
   numbered_same l m has_l has_m same =
-      lit_is l m (same_term l.term m.term has_l has_m (ap (λ (p : ℕ × Bool). p.0) same)) (ap (λ (p : ℕ × Bool). p.1) same)
+      lit_is l m (same_atom l.atom m.atom has_l has_m (ap (λ (p : ℕ × Bool). p.0) same)) (ap (λ (p : ℕ × Bool). p.1) same)
 
   -- what one of two clauses has, the other one has where they are the same by numbers
-  same_has : (d c : List Lit) → ((l : Lit) → Contains d l → Contains atoms l.term) → ((l : Lit) → Contains c l → Contains atoms l.term)
+  same_has : (d c : List Lit) → ((l : Lit) → Contains d l → Contains atoms l.atom) → ((l : Lit) → Contains c l → Contains atoms l.atom)
       → AreSameSet (map (numbered atoms) d) (map (numbered atoms) c) → (l : Lit) → Contains d l → Contains c l
   same_has d c named_d named_c same l has =
       let w = map_from (numbered atoms) c (numbered atoms l) ((same (numbered atoms l)).0 (map_has (numbered atoms) d l has)) in
       subst (Contains c) (numbered_same w.0 l (named_c w.0 w.1) (named_d l has) w.2) w.1
 
-  pub numbers_within : (ns : List Node) (c : List Lit) → ((l : Lit) → Contains c l → Contains atoms l.term) → AreNamed (map (term_in ns) atoms) (map (numbered atoms) c)
-  numbers_within ns c named =
-      all_from (λ (p : ℕ × Bool). p.0 < length (map (term_in ns) atoms)) (map (numbered atoms) c)
+  pub numbers_within : (term_of : ℕ → Term) (c : List Lit) → ((l : Lit) → Contains c l → Contains atoms l.atom) → AreNamed (map term_of atoms) (map (numbered atoms) c)
+  numbers_within term_of c named =
+      all_from (λ (p : ℕ × Bool). p.0 < length (map term_of atoms)) (map (numbered atoms) c)
       (λ p has.
       let w = map_from (numbered atoms) c p has in
-      let n = unwrap_or (number_of atoms w.0.term) 0 in
-      let inside : n < length atoms = slice_get_within atoms n w.0.term (number_at atoms w.0.term (named w.0 w.1)) in
+      let n = unwrap_or (number_of atoms w.0.atom) 0 in
+      let inside : n < length atoms = slice_get_within atoms n w.0.atom (number_at atoms w.0.atom (named w.0 w.1)) in
       let same : n ≡ p.0 = ap (λ (q : ℕ × Bool). q.0) w.2 in
-      omega (arith, inside, same, length-map atoms (term_in ns)))
+      omega (arith, inside, same, length-map atoms term_of))
 
   -- ---- Clauses in which each literal is false
 
-  module _ (es : List Assigned) (c : List Lit) (named : (l : Lit) → Contains c l → Contains atoms l.term) (falsified : IsFalsified es c) where
+  module _ (es : List Assigned) (c : List Lit) (named : (l : Lit) → Contains c l → Contains atoms l.atom) (falsified : IsFalsified es c) where
     pub numbers_once : StandOnce c → StandOnce (map (λ (p : ℕ × Bool). p.0) (map (numbered atoms) c))
     numbers_once once i j n at_i at_j =
         let ps = map (numbered atoms) c in
@@ -80,21 +81,21 @@ module _ (atoms : List ℕ) where
         let m = map_at (numbered atoms) c j q.0 q.1 in
         let has_l = has_found c i l.0 l.1 in
         let has_m = has_found c j m.0 m.1 in
-        let one : unwrap_or (number_of atoms l.0.term) 0 ≡ n = ap (λ (r : ℕ × Bool). r.0) l.2 ∙ p.2 in
-        let two : unwrap_or (number_of atoms m.0.term) 0 ≡ n = ap (λ (r : ℕ × Bool). r.0) m.2 ∙ q.2 in
-        let term : l.0.term ≡ m.0.term = same_term l.0.term m.0.term (named l.0 has_l) (named m.0 has_m) (one ∙ sym two) in
+        let one : unwrap_or (number_of atoms l.0.atom) 0 ≡ n = ap (λ (r : ℕ × Bool). r.0) l.2 ∙ p.2 in
+        let two : unwrap_or (number_of atoms m.0.atom) 0 ≡ n = ap (λ (r : ℕ × Bool). r.0) m.2 ∙ q.2 in
+        let atom : l.0.atom ≡ m.0.atom = same_atom l.0.atom m.0.atom (named l.0 has_l) (named m.0 has_m) (one ∙ sym two) in
         let turned : not l.0.sign ≡ not m.0.sign =
-        same_Some (not l.0.sign) (not m.0.sign) (sym (falsified l.0 has_l) ∙ ap (truth_on es) term ∙ falsified m.0 has_m) in
+        same_Some (not l.0.sign) (not m.0.sign) (sym (falsified l.0 has_l) ∙ ap (truth_on es) atom ∙ falsified m.0 has_m) in
         let sign : l.0.sign ≡ m.0.sign = sym (not-not l.0.sign) ∙ ap not turned ∙ not-not m.0.sign in
-        once i j l.0 l.1 (m.1 ∙ ap Some (sym (lit_is l.0 m.0 term sign)))
+        once i j l.0 l.1 (m.1 ∙ ap Some (sym (lit_is l.0 m.0 atom sign)))
 
     -- a clause that was open when the last decision was taken isn't the same as one with one literal of the last level
-    pub open_differs : TellsLits → (size : ℕ) → EachBehind (IsNext size) es → (k : ℕ) (u : Lit) → ((m : Lit) → Contains c m → m ≢ u → level_on es m.term ≤ k)
-        → (d : List Lit) → ((l : Lit) → Contains d l → Contains atoms l.term) → IsOpen (below k es) d
+    pub open_differs : TellsLits → (size : ℕ) → EachBehind (IsNext size) es → (k : ℕ) (u : Lit) → ((m : Lit) → Contains c m → m ≢ u → level_on es m.atom ≤ k)
+        → (d : List Lit) → ((l : Lit) → Contains d l → Contains atoms l.atom) → IsOpen (below k es) d
         → AreSameSet (map (numbered atoms) d) (map (numbered atoms) c) → ⊥
     open_differs tells size order k u others d named_d (by_true l has holds) same =
         let there = same_has d c named_d named same l has in
-        not_itself l.sign (same_Some l.sign (not l.sign) (sym (below_true size es order k l.term l.sign holds) ∙ falsified l there))
+        not_itself l.sign (same_Some l.sign (not l.sign) (sym (below_true size es order k l.atom l.sign holds) ∙ falsified l there))
     open_differs tells size order k u others d named_d (by_two l m has_l has_m differ free_l free_m) same =
         differ (last l has_l free_l ∙ sym (last m has_m free_m)) where
           last : (x : Lit) → Contains d x → IsFreeOn (below k es) x → x ≡ u

@@ -9,13 +9,13 @@ use Rattle.std.proofs.lemmas.Option.{same_Some}
 use Rattle.nz_spec.specs.Legal.{AreLegal, LegalWorkGoesOn, MayLearn, Task, Search, IsDeadEnd, after_lines, at_first, literal_by, literals_by}
 use Rattle.nz_spec.specs.Literal.{AreSameSet, AreTrueLiterals, IsClauseTrue, Literal, is_literal_true}
 use Rattle.nz_spec.specs.Model.{IsModel}
-use Rattle.nz_spec.specs.Table.{Node, term_in}
+use Rattle.nz_spec.specs.Table.{Node}
 use Rattle.nz_spec.specs.Term.{Term, Assignment, IsTrueUnder}
 use Rattle.nz_spec.specs.Work.{WorkLine, WorkList, UnitLine, LearnedEntry, with_line}
 use Rattle.nz_spec.specs.Reply as reply
 use Rattle.nz_log.specs.declared.lits.Lit.{Lit}
 use Rattle.nz_log.specs.declared.note.Note.{Note}
-use Rattle.nz_log.specs.Lits.{TellsLits}
+use Rattle.nz_log.specs.Atoms.{IsLitIn, TellsLits}
 use Rattle.nz_log.specs.Logs.{LogState, literals_at}
 use Rattle.nz_log.specs.Notes.{noted_line, noted_list}
 use Rattle.nz_log.specs.Sound.{ClausesAreTrue, IsLog}
@@ -26,22 +26,25 @@ use Rattle.nz_sat.specs.declared.trail.Assigned.{Assigned}
 use Rattle.nz_sat.specs.Clauses.{IsAssumed, IsFalsified, IsOpen, by_true, by_two}
 use Rattle.nz_log.specs.Theories.{Grows}
 use Rattle.nz_sat.specs.Conflicts.{HasTwoLast, IsLearned, IsLearnable, StaysSound}
-use Rattle.nz_sat.specs.Numbers.{numbered}
-use Rattle.nz_sat.specs.Sats.{HoldsMore, IsAsked}
+use Rattle.nz_sat.specs.Numbers.{IsTermAtom, atom_term, numbered}
+use Rattle.nz_sat.specs.Sats.{AreOn, HoldsMore, IsAsked}
 use Rattle.nz_sat.specs.Searching.{Advances, IsConflict, IsSearch, StaysInOrder, StaysLegal, WasNoted, WereOpen, ids, learned_line}
 use Rattle.nz_sat.specs.Trails.{EachBehind, IsFreeOn, IsFrontOf, IsNext, below, depth, is_decision, level_on}
+use Rattle.nz_sat.proofs.Advancing.{on_kept}
 use Rattle.nz_sat.proofs.Chains.{has_found}
 use Rattle.nz_sat.proofs.DeadEnds.{clause_true, literals_numbered, none_falsified, recursion_left}
+use Rattle.nz_sat.proofs.LearnedClauses.{all_from}
 use Rattle.nz_sat.proofs.Levels.{below_true, free_high}
 use Rattle.nz_sat.proofs.Marks.{false_entry, level_found, not_itself}
 use Rattle.nz_sat.proofs.Numbering.{unit_noted}
 use Rattle.nz_sat.proofs.Newness.{numbers_once, numbers_within, open_differs}
+use Rattle.nz_sat.proofs.Staying.{atoms_stay, lit_within, terms_stay}
 use Rattle.nz_sat.proofs.Trailing.{assigned_place, level_within}
 
 -- A clause that is falsified, and was open when the last decision was taken, has two literals of the last level.
 two_last : (size : ℕ) (es : List Assigned) → EachBehind (IsNext size) es → (c : List Lit) → IsFalsified es c → IsOpen (below (depth es - 1) es) c → HasTwoLast es c
 two_last size es order c falsified (by_true l has holds) =
-    absurd (not_itself l.sign (same_Some l.sign (not l.sign) (sym (below_true size es order (depth es - 1) l.term l.sign holds) ∙ falsified l has)))
+    absurd (not_itself l.sign (same_Some l.sign (not l.sign) (sym (below_true size es order (depth es - 1) l.atom l.sign holds) ∙ falsified l has)))
 two_last size es order c falsified (by_two l m has_l has_m differ free_l free_m) =
     record {
       first = l;
@@ -52,13 +55,13 @@ two_last size es order c falsified (by_two l m has_l has_m differ free_l free_m)
       first_last = last l has_l free_l;
       second_last = last m has_m free_m;
     } where
-      last : (x : Lit) → Contains c x → IsFreeOn (below (depth es - 1) es) x → level_on es x.term ≡ depth es
+      last : (x : Lit) → Contains c x → IsFreeOn (below (depth es - 1) es) x → level_on es x.atom ≡ depth es
       last x has free =
           let high = free_high size es order (depth es - 1) x (falsified x has) free in
           let e = false_entry es x (falsified x has) in
-          let place = (assigned_place es x.term e.0 e.1).1 in
+          let place = (assigned_place es x.atom e.0 e.1).1 in
           let most = level_within size es order place.0 e.0 place.1 in
-          let level = level_found es x.term e.0 e.1 in
+          let level = level_found es x.atom e.0 e.1 in
           omega (arith, high, most, level)
 
 held_two : (size : ℕ) (es : List Assigned) → EachBehind (IsNext size) es → (log : LogState) (held : List Held) → WereOpen log held es → 0 < depth es
@@ -102,27 +105,27 @@ taught falsified search were_open conflict decided noted grows sound learned =
     }
 
 -- the literals of a false clause are of atoms
-pub false_named : (atoms : List ℕ) (es : List Assigned) → All (λ (e : Assigned). Contains atoms e.literal.term) es → (c : List Lit) → IsFalsified es c
-    → (l : Lit) → Contains c l → Contains atoms l.term
+pub false_named : (atoms : List ℕ) (es : List Assigned) → All (λ (e : Assigned). Contains atoms e.literal.atom) es → (c : List Lit) → IsFalsified es c
+    → (l : Lit) → Contains c l → Contains atoms l.atom
 false_named atoms es on_trail c falsified l has =
     let x = false_entry es l (falsified l has) in
-    let place = assigned_place es l.term x.0 x.1 in
-    subst (Contains atoms) place.0 (All-contains (λ (e : Assigned). Contains atoms e.literal.term) es x.0 on_trail (has_found es place.1.0 x.0 place.1.1))
+    let place = assigned_place es l.atom x.0 x.1 in
+    subst (Contains atoms) place.0 (All-contains (λ (e : Assigned). Contains atoms e.literal.atom) es x.0 on_trail (has_found es place.1.0 x.0 place.1.1))
 
 -- the literals of a clause that is held are of atoms
-pub held_named : (atoms : List ℕ) (log : LogState) (us : List ℕ) → All (λ (i : ℕ). All (λ (l : Lit). Contains atoms l.term) (literals_at log i)) us
-    → (i : ℕ) → Contains us i → (l : Lit) → Contains (literals_at log i) l → Contains atoms l.term
+pub held_named : (atoms : List ℕ) (log : LogState) (us : List ℕ) → All (λ (i : ℕ). All (λ (l : Lit). Contains atoms l.atom) (literals_at log i)) us
+    → (i : ℕ) → Contains us i → (l : Lit) → Contains (literals_at log i) l → Contains atoms l.atom
 held_named atoms log us named i has l there =
-    All-contains (λ (m : Lit). Contains atoms m.term) (literals_at log i) l
-    (All-contains (λ (j : ℕ). All (λ (m : Lit). Contains atoms m.term) (literals_at log j)) us i named has) there
+    All-contains (λ (m : Lit). Contains atoms m.atom) (literals_at log i) l
+    (All-contains (λ (j : ℕ). All (λ (m : Lit). Contains atoms m.atom) (literals_at log j)) us i named has) there
 
 -- the log stays in order
-pub stays_in_order : (over : List Node → Type 0) (atoms : List ℕ) (es : List Assigned) → All (λ (e : Assigned). Contains atoms e.literal.term) es → (log log' : LogState) → StaysSound es log log'
+pub stays_in_order : (over : List Node → Type 0) (atoms : List ℕ) (es : List Assigned) → All (λ (e : Assigned). Contains atoms e.literal.atom) es → (log log' : LogState) → StaysSound es log log'
     → StaysInOrder over atoms log log'
 stays_in_order over atoms es on_trail log log' sound ns levels known within =
     sound ns levels
-    (All-weaker (λ (e : Assigned). Contains atoms e.literal.term) (λ (e : Assigned). e.literal.term < length ns)
-    (λ e has. All-contains (λ (t : ℕ). t < length ns) atoms e.literal.term within has) es on_trail)
+    (All-weaker (λ (e : Assigned). Contains atoms e.literal.atom) (λ (e : Assigned). IsLitIn ns log.atoms e.literal)
+    (λ e has. lit_within ns log.atoms e.literal (All-contains (IsTermAtom ns log.atoms) atoms e.literal.atom within has)) es on_trail)
 
 -- ---- Decisions of a trail that goes on
 
@@ -156,8 +159,12 @@ module _ (log log' : LogState) (held : List Held) (s : state.Search) (work : Wor
   abbrev lits : List Lit
   lits = literals_at log' l.clause
 
-  pub learned_named : (m : Lit) → Contains lits m → Contains s.atoms m.term
+  pub learned_named : (m : Lit) → Contains lits m → Contains s.atoms m.atom
   learned_named = false_named s.atoms es h.search.on_trail lits h.learned.falsified
+
+  -- each literal of the clause
+  pub lits_named : All (λ (m : Lit). Contains s.atoms m.atom) lits
+  lits_named = all_from (λ (m : Lit). Contains s.atoms m.atom) lits learned_named
 
   pub stays : (over : List Node → Type 0) → StaysInOrder over s.atoms log log'
   stays over = stays_in_order over s.atoms es h.search.on_trail log log' h.sound
@@ -180,15 +187,21 @@ module _ (log log' : LogState) (held : List Held) (s : state.Search) (work : Wor
     order' : IsLog ns levels log'
     order' = stays (λ ns. ⊤) ns levels tt asked.within asked.order
 
+    within' : All (IsTermAtom ns log'.atoms) s.atoms
+    within' = atoms_stay log.atoms log'.atoms h.grows.atoms ns s.atoms asked.within
+
+    terms_same : map (atom_term ns log.atoms) s.atoms ≡ map (atom_term ns log'.atoms) s.atoms
+    terms_same = sym (terms_stay log.atoms log'.atoms h.grows.atoms ns s.atoms h.search.there)
+
     dead_end : IsDeadEnd q at
     dead_end a model assumed_hold decided_hold =
         let hold = subst (AllByRecursion (IsTrueUnder a)) asked.asserted model.asserted_hold in
         let assumed' = subst (AreTrueLiterals a) asked.assumed_literals assumed_hold in
         let noted = h.noted.noted in
         let named' = subst (λ (ts : List Term). AreTrueLiterals a (literals_by ts at.decided)) (noted.named ns) decided_hold in
-        let decided' = subst (λ (ps : List (ℕ × Bool)). AreTrueLiterals a (literals_by (map (term_in ns) s.atoms) ps)) (noted.decided ns) named' in
-        none_falsified clauses ns asked.table levels log asked.order a model.sorts hold tells s.atoms assumed es h.search.implied h.search.on_trail only assumed'
-        (front_decided a (map (term_in ns) s.atoms) (λ (e : Assigned). numbered s.atoms e.literal) es h.noted.all h.noted.front decided')
+        let decided' = subst (λ (ps : List (ℕ × Bool)). AreTrueLiterals a (literals_by (map (atom_term ns log.atoms) s.atoms) ps)) (noted.decided ns) named' in
+        none_falsified clauses ns asked.table levels log asked.order a model.sorts hold tells s.atoms asked.within assumed es h.search.implied h.search.on_trail only assumed'
+        (front_decided a (map (atom_term ns log.atoms) s.atoms) (λ (e : Assigned). numbered s.atoms e.literal) es h.noted.all h.noted.front decided')
         falsified h.conflict.live h.conflict.falsified
 
     follows : (a : Assignment) → IsModel q.asserted [] a → IsClauseTrue a (literals_by at.atoms (map (numbered s.atoms) lits))
@@ -196,7 +209,7 @@ module _ (log log' : LogState) (held : List Held) (s : state.Search) (work : Wor
         let hold = subst (AllByRecursion (IsTrueUnder a)) asked.asserted model.asserted_hold in
         let holds = clause_true clauses ns asked.table levels log' order' a model.sorts hold l.clause h.learned.live in
         subst (λ (ts : List Term). IsClauseTrue a (literals_by ts (map (numbered s.atoms) lits))) (sym (h.noted.noted.named ns))
-        (subst (IsClauseTrue a) (sym (literals_numbered ns s.atoms lits learned_named)) holds)
+        (subst (IsClauseTrue a) (sym (ap (λ (ts : List Term). literals_by ts (map (numbered s.atoms) lits)) terms_same ∙ literals_numbered ns log'.atoms s.atoms within' lits learned_named)) holds)
 
     may_learn : MayLearn q at l.level (map (numbered s.atoms) lits)
     may_learn =
@@ -211,7 +224,7 @@ module _ (log log' : LogState) (held : List Held) (s : state.Search) (work : Wor
           dead_end = dead_end;
           follows = follows;
           named = subst (λ (ts : List Term). All (λ (p : ℕ × Bool). p.0 < length ts) (map (numbered s.atoms) lits)) (sym (h.noted.noted.named ns))
-              (numbers_within s.atoms ns lits learned_named);
+              (numbers_within s.atoms (atom_term ns log.atoms) lits learned_named);
           once = numbers_once s.atoms es lits learned_named h.learned.falsified h.learned.once;
           new = All-weaker (λ (c : List (ℕ × Bool)). (i : ℕ) × Contains (ids held) i × (map (numbered s.atoms) (literals_at log i) ≡ c))
               (λ (c : List (ℕ × Bool)). AreSameSet c (map (numbered s.atoms) lits) → ⊥)
@@ -227,14 +240,15 @@ module _ (log log' : LogState) (held : List Held) (s : state.Search) (work : Wor
       (goes_on q at_first (noted_list ns work).lines line legal (may_learn tells clauses ns levels assumed q only asked))
 
   -- a step that adds it
-  pub line_advances : TellsLits → ClausesAreTrue → LegalWorkGoesOn → (over : List Node → Type 0) (held' : List Held) → HoldsMore log' held held' → (work' : WorkList Note)
-      → work' ≡ with_line work (learned_line s.atoms log' l) → Advances over s.atoms es log log' held held' work work'
-  line_advances tells clauses goes_on over held' more work' is =
+  pub line_advances : TellsLits → ClausesAreTrue → LegalWorkGoesOn → (over : List Node → Type 0) (held' : List Held) → HoldsMore log' held held' → (AreOn log' s.atoms held → AreOn log' s.atoms held')
+      → (work' : WorkList Note) → work' ≡ with_line work (learned_line s.atoms log' l) → Advances over s.atoms es log log' held held' work work'
+  line_advances tells clauses goes_on over held' more on work' is =
       subst (Advances over s.atoms es log log' held held' work) (sym is)
       (record {
         grows = h.grows;
         sound = stays over;
         holds_more = more;
+        named = λ named. on (on_kept log log' s.atoms held h.grows h.search.are_held named);
         legal = line_legal tells clauses goes_on over;
         notes = unit_noted work.lines (LearnedEntry l.level (map (numbered s.atoms) (literals_at log' l.clause)));
         limit = refl;

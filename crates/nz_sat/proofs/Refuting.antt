@@ -5,7 +5,8 @@ use Rattle.std.proofs.lemmas.List.{take_all}
 use Rattle.std.proofs.lemmas.List.Elements.{All-contains}
 use Rattle.nz_log.specs.declared.lits.Lit.{Lit}
 use Rattle.nz_log.specs.declared.origins.Link.{Link}
-use Rattle.nz_log.specs.Lits.{TellsLits, negated_lit}
+use Rattle.nz_log.specs.Atoms.{TellsLits}
+use Rattle.nz_log.specs.Lits.{negated_lit}
 use Rattle.nz_log.specs.Logs.{LogState, chained, literals_at}
 use Rattle.nz_sat.specs.declared.trail.Assigned.{Assigned}
 use Rattle.nz_sat.specs.Trails.{EachBehind, IsFalseOn, IsNext, depth}
@@ -26,14 +27,14 @@ module _ (s : LogState) (size : ℕ) (es : List Assigned) (order : EachBehind (I
         | inr before ↦ inr (record { false_before = before; marked = w.marked })
       ]
 
-  pub assumed_past : is_marked marks e.literal.term ≡ false → IsOnWayToAssumed s es falsified i marks ks
+  pub assumed_past : is_marked marks e.literal.atom ≡ false → IsOnWayToAssumed s es falsified i marks ks
   assumed_past off = record {
     links = way.links;
     each = λ assumed all under m has.
         elim (way.each assumed all under m has) [
           | inl negated ↦ inl negated
           | inr w ↦ elim (earlier m w) [
-            | inl same ↦ absurd (true≢false (sym w.marked ∙ ap (λ (k : Lit). is_marked marks k.term) same ∙ off))
+            | inl same ↦ absurd (true≢false (sym w.marked ∙ ap (λ (k : Lit). is_marked marks k.atom) same ∙ off))
             | inr before ↦ inr before
           ]
         ];
@@ -68,7 +69,7 @@ module _ (s : LogState) (size : ℕ) (es : List Assigned) (order : EachBehind (I
                 | inl negated ↦ inl negated
                 | inr w ↦ elim (earlier m w) [
                   | inl same ↦ absurd (old.1 same)
-                  | inr before ↦ inr (record { false_before = before.false_before; marked = made.kept m.term before.marked })
+                  | inr before ↦ inr (record { false_before = before.false_before; marked = made.kept m.atom before.marked })
                 ]
               ]
               | inr of_reason ↦

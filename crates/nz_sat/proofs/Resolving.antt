@@ -8,7 +8,8 @@ use Rattle.std.proofs.lemmas.List.Elements.{All-nil, All-push}
 use Rattle.std.proofs.lemmas.Option.{same_Some}
 use Rattle.nz_log.specs.declared.lits.Lit.{Lit}
 use Rattle.nz_log.specs.declared.origins.Link.{Link}
-use Rattle.nz_log.specs.Lits.{TellsLits, negated_lit, lit_resolvent}
+use Rattle.nz_log.specs.Atoms.{TellsLits}
+use Rattle.nz_log.specs.Lits.{negated_lit, lit_resolvent}
 use Rattle.nz_log.specs.Logs.{LogState, IsLive, chained, literals_at}
 use Rattle.nz_sat.specs.declared.analyze.Chain.{Chain}
 use Rattle.nz_sat.specs.declared.trail.Assigned.{Assigned}
@@ -37,13 +38,13 @@ longer_from tells s c ks e clause m has =
 pub links_longer : (s : LogState) (es : List Assigned) (i : ℕ) (e : Assigned) → slice_get es i ≡ Some e → (ks : List Link) (clause : ℕ) → IsLive s clause → AreLinks s es ks
     → AreLinks s es (ks ++ link_of e clause ∷ [])
 links_longer s es i e at ks clause live links =
-    All-push (λ (k : Link). IsLive s k.clause × ((x : Assigned) × Contains es x × (x.literal.term ≡ k.literal.term))) ks (link_of e clause) links
+    All-push (λ (k : Link). IsLive s k.clause × ((x : Assigned) × Contains es x × (x.literal.atom ≡ k.literal.atom))) ks (link_of e clause) links
     (live, (e, has_found es i e at, refl))
 
 pub no_links : (s : LogState) (es : List Assigned) → AreLinks s es []
-no_links s es = All-nil (λ (k : Link). IsLive s k.clause × ((x : Assigned) × Contains es x × (x.literal.term ≡ k.literal.term)))
+no_links s es = All-nil (λ (k : Link). IsLive s k.clause × ((x : Assigned) × Contains es x × (x.literal.atom ≡ k.literal.atom)))
 
-uncounted : (marks : List Bool) (level : ℕ) (e : Assigned) → is_marked marks e.literal.term ≡ false → counted marks level e ≡ 0
+uncounted : (marks : List Bool) (level : ℕ) (e : Assigned) → is_marked marks e.literal.atom ≡ false → counted marks level e ≡ 0
 uncounted marks level e off = ap (λ (m : Bool). one_if (m && (e.level == level))) off
 
 module _ (s : LogState) (size : ℕ) (es : List Assigned) (order : EachBehind (IsNext size) es) (falsified n i : ℕ) (is : n ≡ i + 1) (e : Assigned) (at : slice_get es i ≡ Some e)
@@ -55,12 +56,12 @@ module _ (s : LogState) (size : ℕ) (es : List Assigned) (order : EachBehind (I
   last_level = of_last size es order n i is e at marks (omega (arith, way.count, way.some))
 
   -- an entry that isn't marked is none of the clause
-  pub way_past : is_marked marks e.literal.term ≡ false → IsOnWayBack s es falsified i marks ks left
+  pub way_past : is_marked marks e.literal.atom ≡ false → IsOnWayBack s es falsified i marks ks left
   way_past off = record {
     links = way.links;
     falsified_before = λ m has.
         elim (false_cases size es order n i is e at m (way.falsified_before m has)) [
-          | inl same ↦ absurd (true≢false (sym (way.marked.each m has) ∙ ap (λ (k : Lit). is_marked marks k.term) same ∙ off))
+          | inl same ↦ absurd (true≢false (sym (way.marked.each m has) ∙ ap (λ (k : Lit). is_marked marks k.atom) same ∙ off))
           | inr before ↦ before
         ];
     marked = way.marked;
@@ -72,7 +73,7 @@ module _ (s : LogState) (size : ℕ) (es : List Assigned) (order : EachBehind (I
     linked = way.linked;
   }
 
-  module _ (on : is_marked marks e.literal.term ≡ true) where
+  module _ (on : is_marked marks e.literal.atom ≡ true) where
     sum_here : marked_of marks (depth es) (take n es) ≡ marked_of marks (depth es) (take i es) + 1
     sum_here =
         let sum = front_counted size es order n i is e at marks (depth es) in
@@ -82,7 +83,7 @@ module _ (s : LogState) (size : ℕ) (es : List Assigned) (order : EachBehind (I
     -- the clause has its negation
     has_negated : Contains so_far (negated_lit e.literal)
     has_negated =
-        let w = way.marked.only e.literal.term on in
+        let w = way.marked.only e.literal.atom on in
         elim (false_cases size es order n i is e at w.0 (way.falsified_before w.0 w.1)) [
           | inl same ↦ subst (Contains so_far) same w.1
           | inr before ↦ absurd (apart size es order n i is e at w.0 before w.2)
@@ -92,13 +93,13 @@ module _ (s : LogState) (size : ℕ) (es : List Assigned) (order : EachBehind (I
     before_here m has other =
         elim (false_cases size es order n i is e at m (way.falsified_before m has)) [ inl same ↦ absurd (other same) | inr before ↦ before ]
 
-    earlier : marked_of marks (depth es) (take i es) ≡ 0 → (m : Lit) → Contains so_far m → IsFalseOn (take i es) m → level_on es m.term < depth es
+    earlier : marked_of marks (depth es) (take i es) ≡ 0 → (m : Lit) → Contains so_far m → IsFalseOn (take i es) m → level_on es m.atom < depth es
     earlier none m has before =
         let x = false_entry (take i es) m before in
-        let p = assigned_place (take i es) m.term x.0 x.1 in
-        let found = found_whole es i m.term x.0 x.1 in
-        let place = assigned_place es m.term x.0 found in
-        let is_level : level_on es m.term ≡ x.0.level = level_found es m.term x.0 found in
+        let p = assigned_place (take i es) m.atom x.0 x.1 in
+        let found = found_whole es i m.atom x.0 x.1 in
+        let place = assigned_place es m.atom x.0 found in
+        let is_level : level_on es m.atom ≡ x.0.level = level_found es m.atom x.0 found in
         let most : x.0.level ≤ depth es = level_within size es order place.1.0 x.0 place.1.1 in
         elim (cases_eq x.0.level (depth es)) [
           | inl same ↦
@@ -122,7 +123,7 @@ module _ (s : LogState) (size : ℕ) (es : List Assigned) (order : EachBehind (I
           falsified_too = λ m has. false_whole es n m (way.falsified_before m (subst (λ (l : List Link). Contains (chained s (literals_at s falsified) l) m) links has));
           has = subst (λ (l : List Link). Contains (chained s (literals_at s falsified) l) c.literal) (sym links) (subst (Contains so_far) (sym literal) has_negated);
           last =
-              ap (λ (k : Lit). level_on es k.term) literal ∙ level_found es e.literal.term e (its_entry size es order n i is e at) ∙ last_level;
+              ap (λ (k : Lit). level_on es k.atom) literal ∙ level_found es e.literal.atom e (its_entry size es order n i is e at) ∙ last_level;
           others = λ m has other.
               let there = subst (λ (l : List Link). Contains (chained s (literals_at s falsified) l) m) links has in
               let before = before_here m there (λ same. other (same ∙ sym literal)) in
@@ -132,7 +133,7 @@ module _ (s : LogState) (size : ℕ) (es : List Assigned) (order : EachBehind (I
 
     -- the reason of the entry, its other literals before it
     module _ (tells : TellsLits) (clause : ℕ) (reason : e.reason ≡ Some clause) (implied : IsImplied s (take i es) e) (new : List Bool) (more : ℕ)
-        (made : MarksCounted es (literals_at s clause) (depth es) (slice_set marks e.literal.term false) new more) where
+        (made : MarksCounted es (literals_at s clause) (depth es) (slice_set marks e.literal.atom false) new more) where
       reason_is : IsReason s (take i es) e.literal clause
       reason_is = subst (IsReasonOf s (take i es) e.literal) reason implied
 
@@ -150,12 +151,12 @@ module _ (s : LogState) (size : ℕ) (es : List Assigned) (order : EachBehind (I
       before_new m has =
           elim (parts m has) [ inl old ↦ before_here m old.0 old.1 | inr of_reason ↦ reason_is.others m of_reason.0 of_reason.1 ]
 
-      on_new : (m : Lit) → Contains (chained s (literals_at s falsified) longer) m → is_marked new m.term ≡ true
+      on_new : (m : Lit) → Contains (chained s (literals_at s falsified) longer) m → is_marked new m.atom ≡ true
       on_new m has =
           elim (parts m has) [
             | inl old ↦
                 let other = apart size es order n i is e at m (before_here m old.0 old.1) in
-                made.marks.kept m.term (other_mark marks e.literal.term m.term false other ∙ way.marked.each m old.0)
+                made.marks.kept m.atom (other_mark marks e.literal.atom m.atom false other ∙ way.marked.each m old.0)
             | inr of_reason ↦ made.marks.marked m of_reason.0 (false_whole es i m (reason_is.others m of_reason.0 of_reason.1))
           ]
 
@@ -169,19 +170,19 @@ module _ (s : LogState) (size : ℕ) (es : List Assigned) (order : EachBehind (I
           subst (λ (c : List Lit). Contains c m) (sym longer_is)
           (resolvent_second tells (negated_lit e.literal) so_far (literals_at s clause) m has (λ same. other (sym same ∙ twice_negated e.literal)))
 
-      only_new : (t : ℕ) → is_marked new t ≡ true → (m : Lit) × Contains (chained s (literals_at s falsified) longer) m × (m.term ≡ t)
+      only_new : (t : ℕ) → is_marked new t ≡ true → (m : Lit) × Contains (chained s (literals_at s falsified) longer) m × (m.atom ≡ t)
       only_new t up =
           elim (made.marks.only t up) [
             | inl old ↦
-                let was = unmark_parts marks e.literal.term t (marked_within marks e.literal.term on) old in
+                let was = unmark_parts marks e.literal.atom t (marked_within marks e.literal.atom on) old in
                 let w = way.marked.only t was.1 in
-                (w.0, has_old w.0 w.1 (λ same. was.0 (sym w.2 ∙ ap (λ (k : Lit). k.term) same)), w.2)
+                (w.0, has_old w.0 w.1 (λ same. was.0 (sym w.2 ∙ ap (λ (k : Lit). k.atom) same)), w.2)
             | inr w ↦ (w.0, has_of_reason w.0 w.1 (λ same. not_false size es order n i is e at (subst (IsFalseOn es) same w.2)), w.3)
           ]
 
       counts_new : left - 1 + more ≡ marked_of new (depth es) (take i es)
       counts_new =
-          let off = marked_apart false marks e.literal.term (depth es) (take i es) (fresh size es order n i is e at) in
+          let off = marked_apart false marks e.literal.atom (depth es) (take i es) (fresh size es order n i is e at) in
           let step = made.count i (λ m has false_too. reason_is.others m has (λ same. not_false size es order n i is e at (subst (IsFalseOn es) same false_too))) in
           omega (arith, way.count, sum_here, off, step)
 
@@ -214,15 +215,15 @@ module _ (s : LogState) (size : ℕ) (es : List Assigned) (order : EachBehind (I
   whole = take_all n es (omega (arith, all))
 
   abbrev IsOfLast : Lit → Type 0
-  IsOfLast l = (i : ℕ) × (e : Assigned) × (slice_get es i ≡ Some e) × (e.literal.term ≡ l.term) × (e.literal.sign ≡ not l.sign) × (e.level ≡ depth es)
+  IsOfLast l = (i : ℕ) × (e : Assigned) × (slice_get es i ≡ Some e) × (e.literal.atom ≡ l.atom) × (e.literal.sign ≡ not l.sign) × (e.level ≡ depth es)
 
-  of_last_level : (l : Lit) → Contains (literals_at s falsified) l → level_on es l.term ≡ depth es → IsOfLast l
+  of_last_level : (l : Lit) → Contains (literals_at s falsified) l → level_on es l.atom ≡ depth es → IsOfLast l
   of_last_level l has last =
       let e = false_entry es l (falses l has) in
-      let p = assigned_place es l.term e.0 e.1 in
-      (p.1.0, e.0, p.1.1, p.0, e.2, sym (level_found es l.term e.0 e.1) ∙ last)
+      let p = assigned_place es l.atom e.0 e.1 in
+      (p.1.0, e.0, p.1.1, p.0, e.2, sym (level_found es l.atom e.0 e.1) ∙ last)
 
-  marked_here : (l : Lit) → Contains (literals_at s falsified) l → (w : IsOfLast l) → is_marked new w.1.literal.term ≡ true
+  marked_here : (l : Lit) → Contains (literals_at s falsified) l → (w : IsOfLast l) → is_marked new w.1.literal.atom ≡ true
   marked_here l has w = ap (is_marked new) w.3 ∙ made.marks.marked l has (falses l has)
 
   two_left : HasTwoLast es (literals_at s falsified) → 2 ≤ marked_of new (depth es) es
@@ -237,7 +238,7 @@ module _ (s : LogState) (size : ℕ) (es : List Assigned) (order : EachBehind (I
             elim (cases_eq a.0 b.0) [
               | inl same ↦
                   let one : a.1 ≡ b.1 = same_Some a.1 b.1 (sym a.2 ∙ ap (slice_get es) same ∙ b.2) in
-                  let term : two.first.term ≡ two.second.term = sym a.3 ∙ ap (λ (x : Assigned). x.literal.term) one ∙ b.3 in
+                  let term : two.first.atom ≡ two.second.atom = sym a.3 ∙ ap (λ (x : Assigned). x.literal.atom) one ∙ b.3 in
                   let sign : not two.first.sign ≡ not two.second.sign = sym a.4 ∙ ap (λ (x : Assigned). x.literal.sign) one ∙ b.4 in
                   absurd (two.differ (lit_is two.first two.second term (sym (not-not two.first.sign) ∙ ap not sign ∙ not-not two.second.sign)))
               | inr other ↦ two_counted new (depth es) es b.0 a.0 b.1 a.1 (omega (arith, most, other)) b.2 a.2 also on b.5 a.5
@@ -246,7 +247,7 @@ module _ (s : LogState) (size : ℕ) (es : List Assigned) (order : EachBehind (I
 
   pub way_starts : HasTwoLast es (literals_at s falsified) → IsOnWayBack s es falsified n new [] left
   way_starts two =
-      let none = none_counted old (depth es) (take n es) (λ x has on last. true≢false (sym on ∙ unmarked x.literal.term)) in
+      let none = none_counted old (depth es) (take n es) (λ x has on last. true≢false (sym on ∙ unmarked x.literal.atom)) in
       let step = made.count n (λ l has false_too. subst (λ (front : List Assigned). IsFalseOn front l) (sym whole) false_too) in
       let count : left ≡ marked_of new (depth es) (take n es) = omega (arith, none, step) in
       let many : 2 ≤ marked_of new (depth es) (take n es) = subst (λ (front : List Assigned). 2 ≤ marked_of new (depth es) front) (sym whole) (two_left two) in

@@ -1,6 +1,6 @@
 -- What a search keeps where it goes back, and where the log or the work list grows.
 use Rattle.std.proofs.Common.{◌≡◌, ℕ, ◌<◌, ◌≤◌, Bool, List, [], ◌∷◌, ◌++◌, map, inl, inr, refl, sym, ap, subst, ◌∙◌, arith, if◌then◌else◌}
-use Rattle.std.specs.Prelude.{All, Contains}
+use Rattle.std.specs.Prelude.{All, Contains, IsSome, slice_get}
 use Rattle.std.proofs.lemmas.Bool.{cases_lt}
 use Rattle.std.proofs.lemmas.List.Elements.{All-contains, All-weaker, Contains-append_left}
 use Rattle.std.proofs.lemmas.List.Sums.{sum_by-append}
@@ -27,6 +27,7 @@ use Rattle.nz_sat.proofs.Learning.{literals_kept, reason_kept}
 use Rattle.nz_sat.proofs.LearnedClauses.{all_from, false_level}
 use Rattle.nz_sat.proofs.Levels.{below_depth, below_false, below_front, below_twice, found_below}
 use Rattle.nz_sat.proofs.Marks.{false_entry, level_found}
+use Rattle.nz_sat.proofs.Staying.{terms_stay, there_stay}
 use Rattle.nz_sat.proofs.Trailing.{each_front, each_weaker}
 
 -- ---- The log grows
@@ -47,7 +48,8 @@ module _ (log log' : LogState) (g : Grows log log') (held : List Held) (s : Sear
         are_held = held_on log log' held g h.are_held;
         listed = each_kept (λ i c. (l : Lit) → Contains c l → Contains (ids_of s.index l) i) h.listed;
         only = h.only;
-        named = each_kept (λ i c. All (λ (l : Lit). Contains s.atoms l.term) c) h.named;
+        named = each_kept (λ i c. All (λ (l : Lit). Contains s.atoms l.atom) c) h.named;
+        there = there_stay log.atoms log'.atoms g.atoms s.atoms h.there;
         on_trail = h.on_trail;
         within = h.within;
         indexed = h.indexed;
@@ -64,10 +66,10 @@ module _ (log log' : LogState) (g : Grows log log') (held : List Held) (s : Sear
   pub grown_were : (es : List Assigned) → WereOpen log held es → WereOpen log' held es
   grown_were es were k less = grown_open (below k es) (were k less)
 
-  pub grown_noted : (atoms : List ℕ) (es : List Assigned) (work : WorkList Note) → IsNoted log held atoms es work → IsNoted log' held atoms es work
-  grown_noted atoms es work n =
+  pub grown_noted : (atoms : List ℕ) (es : List Assigned) (work : WorkList Note) → s.atoms ≡ atoms → IsNoted log held atoms es work → IsNoted log' held atoms es work
+  grown_noted atoms es work same n =
       record {
-        named = n.named;
+        named = λ ns. n.named ns ∙ sym (terms_stay log.atoms log'.atoms g.atoms ns atoms (subst (All (λ (t : ℕ). IsSome (slice_get log.atoms t))) same h.there));
         decided = n.decided;
         learned = λ ns.
             All-weaker (λ (c : List (ℕ × Bool)). (i : ℕ) × Contains (ids held) i × (map (numbered atoms) (literals_at log i) ≡ c))
@@ -128,7 +130,8 @@ cut_search log held s s' h rest size f =
       listed = h.listed;
       only = h.only;
       named = h.named;
-      on_trail = front_each (λ (e : Assigned). Contains s.atoms e.literal.term) es es' f h.on_trail;
+      there = h.there;
+      on_trail = front_each (λ (e : Assigned). Contains s.atoms e.literal.atom) es es' f h.on_trail;
       within = subst (λ (n : ℕ). All (λ (t : ℕ). t < n) s.atoms) (sym size) h.within;
       indexed = (h.indexed.0 ∙ sym size, h.indexed.1 ∙ sym size);
       marks = h.marks ∙ sym size;
@@ -179,9 +182,9 @@ module _ (log : LogState) (held : List Held) (s : Search) (h : IsSearch log held
       let same = cut_depth in
       let w = b.greatest.reached (omega arith) in
       let e = false_entry es w.0 (c.falsified w.0 w.1) in
-      let level = level_found es w.0.term e.0 e.1 in
-      let there = found_below b.level w.0.term es e.0 e.1 (omega (arith, level, w.2)) in
-      let now : level_on es' w.0.term ≡ e.0.level = ap (λ (xs : List Assigned). level_on xs w.0.term) b.cut ∙ level_found (below b.level es) w.0.term e.0 there in
+      let level = level_found es w.0.atom e.0 e.1 in
+      let there = found_below b.level w.0.atom es e.0 e.1 (omega (arith, level, w.2)) in
+      let now : level_on es' w.0.atom ≡ e.0.level = ap (λ (xs : List Assigned). level_on xs w.0.atom) b.cut ∙ level_found (below b.level es) w.0.atom e.0 there in
       record { literal = w.0; has = w.1; last = omega (arith, now, level, w.2, same) }
 
   pub cut_assumed : (assumed : List Lit) → All (IsAssumed assumed) es → All (IsAssumed assumed) es'

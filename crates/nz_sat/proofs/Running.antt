@@ -85,7 +85,7 @@ pub has_decided : LegalWorkGoesOn → (over : List Node → Type 0) → {s mid :
     → IsSearch log held s → AreOpen log held s.trail.entries → WereOpen log held s.trail.entries → IsNoted log held s.atoms s.trail.entries work
     → assigned s.trail.entries t ≡ None → Contains s.atoms t → mid ≡ record s { trail = mid.trail } → Decides s mid t work work' → HasDecided over log held s mid work work'
 has_decided goes_on over {s} {mid} {log} {held} {work} {work'} t h all_open were_open is_noted free atom rest d =
-    let trail : TrailState = with_entry s.trail (decided s.trail.entries (record { term = t; sign = d.sign })) in
+    let trail : TrailState = with_entry s.trail (decided s.trail.entries (record { atom = t; sign = d.sign })) in
     let made : Search = record s { trail = trail } in
     let line : WorkLine Note = UnitLine (DecisionEntry (unwrap_or (number_of s.atoms t) 0) d.sign) in
     let units = sum_by_push (λ (x : WorkLine Note). if is_unit x then 1 else 0) work.lines line in
@@ -103,7 +103,7 @@ has_decided goes_on over {s} {mid} {log} {held} {work} {work'} t h all_open were
         units = omega (arith, units);
       };
       advances = decided_advances log held s h t d.sign free atom goes_on over work is_noted;
-      front = record { more = decided s.trail.entries (record { term = t; sign = d.sign }) ∷ []; joined = refl };
+      front = record { more = decided s.trail.entries (record { atom = t; sign = d.sign }) ∷ []; joined = refl };
       units = units;
     }))
 
@@ -165,6 +165,7 @@ first_advances {over} {assumed} start {mid} {log} {log'} {held} {held'} {work} {
       grows = step'.grows;
       sound = step'.sound;
       holds_more = step'.holds_more;
+      named = step'.named;
       legal = λ ns levels all q known only. step'.legal ns levels all q known (assumed_wider assumed all only mid.trail.entries a.assumed_only);
       notes = step'.notes;
       limit = step'.limit;
@@ -190,6 +191,7 @@ runs_ordered {assumed} {start} {s} {new} {log} {held} {work} h rest =
         listed = q.listed;
         only = q.only;
         named = q.named;
+        there = q.there;
         on_trail = q.on_trail;
         within = q.within;
         indexed = q.indexed;

@@ -2,14 +2,16 @@
 use Rattle.std.proofs.Common.{◌≡◌, ℕ, ◌+◌, ◌<◌, ◌≤◌, List, [], ◌∷◌, ◌++◌, length, take, drop, get_or, not, inl, inr, Option, None, Some, sym, ap, subst, ◌∙◌, arith}
 use Rattle.std.specs.Prelude.{All, Contains, IfSome, option_map, slice_get}
 use Rattle.std.proofs.lemmas.List.{get_or-map, length-append, length-map, length-take-le, map_push, take-append-drop, take-append-le, take-map, take-take, take_all, take_more}
-use Rattle.std.proofs.lemmas.List.Elements.{All-contains, Contains-append_left, recursion_from_All}
+use Rattle.std.proofs.lemmas.List.Elements.{All-contains, All-weaker, Contains-append_left, recursion_from_All}
 use Rattle.std.proofs.lemmas.Bool.Decides.{leb_tells}
 use Rattle.std.proofs.lemmas.Option.{get_or_from_slice_get, slice_get-get_or, slice_get_within}
 use Rattle.nz_spec.specs.Table.{Node}
 use Rattle.nz_log.specs.declared.lits.Lit.{Lit}
+use Rattle.nz_log.specs.declared.atoms.Atom.{Atom}
+use Rattle.nz_log.specs.Atoms.{AreWithin, IsLitIn}
 use Rattle.nz_log.specs.Lits.{negated_lit}
 use Rattle.nz_log.specs.Logs.{LogState, literals_at}
-use Rattle.nz_log.specs.Sound.{AreWithin, IsLog}
+use Rattle.nz_log.specs.Sound.{IsLog}
 use Rattle.nz_log.specs.Theories.{Grows, IsClash}
 use Rattle.nz_sat.specs.declared.trail.Assigned.{Assigned}
 use Rattle.nz_sat.specs.Clauses.{IsFalsified}
@@ -18,6 +20,7 @@ use Rattle.nz_sat.specs.Trails.{EachBehind, IsFrontOf, IsNext, assigned, literal
 use Rattle.nz_sat.proofs.Advancing.{grows_far, grows_none}
 use Rattle.nz_sat.proofs.Chains.{has_found}
 use Rattle.nz_sat.proofs.LearnedClauses.{all_from}
+use Rattle.nz_sat.proofs.Staying.{lit_stays}
 use Rattle.nz_sat.proofs.Trailing.{assigned_at}
 
 -- ---- Literals of a trail
@@ -47,19 +50,19 @@ front_step es i e at =
     let inside = slice_get_within es i e at in
     ap literals_on (take_more es i e inside ∙ ap (λ (x : Assigned). take i es ++ x ∷ []) (get_or_from_slice_get es i e e at)) ∙ map_push literal_of (take i es) e
 
--- the literals of a front are of terms of the table
-front_within : (ns : List Node) (n : ℕ) (es : List Assigned) → All (λ (e : Assigned). e.literal.term < length ns) es → AreWithin ns (literals_on (take n es))
-front_within ns n es within =
-    recursion_from_All (λ (l : Lit). l.term < length ns) (literals_on (take n es))
-    (all_from (λ (l : Lit). l.term < length ns) (literals_on (take n es))
+-- the literals of a front are of atoms of the table
+front_within : (ns : List Node) (all : List Atom) (n : ℕ) (es : List Assigned) → All (λ (e : Assigned). IsLitIn ns all e.literal) es → AreWithin ns all (literals_on (take n es))
+front_within ns all n es within =
+    recursion_from_All (IsLitIn ns all) (literals_on (take n es))
+    (all_from (IsLitIn ns all) (literals_on (take n es))
     (λ l has.
     let e = entry_from es l (front_among n es l has) in
-    subst (λ (x : Lit). x.term < length ns) e.3
-    (All-contains (λ (x : Assigned). x.literal.term < length ns) es e.1 within (has_found es e.0 e.1 e.2))))
+    subst (IsLitIn ns all) e.3
+    (All-contains (λ (x : Assigned). IsLitIn ns all x.literal) es e.1 within (has_found es e.0 e.1 e.2))))
 
-pub all_within : (ns : List Node) (es : List Assigned) → All (λ (e : Assigned). e.literal.term < length ns) es → AreWithin ns (literals_on es)
-all_within ns es within =
-    subst (λ (xs : List Assigned). AreWithin ns (literals_on xs)) (take_all (length es) es (omega arith)) (front_within ns (length es) es within)
+pub all_within : (ns : List Node) (all : List Atom) (es : List Assigned) → All (λ (e : Assigned). IsLitIn ns all e.literal) es → AreWithin ns all (literals_on es)
+all_within ns all es within =
+    subst (λ (xs : List Assigned). AreWithin ns all (literals_on xs)) (take_all (length es) es (omega arith)) (front_within ns all (length es) es within)
 
 -- ---- Telling
 
@@ -81,10 +84,12 @@ tells_first has_told over es log i t is =
 -- one literal more
 pub tells_sound : (has_told : List Lit → Type 0) (over over' : List Node → Type 0) (es : List Assigned) (log mid log' : LogState) (i : ℕ) → Tells has_told over over' es log mid i → (e : Assigned)
     → slice_get es i ≡ Some e
-    → ((ns : List Node) (levels : List (List ℕ)) → over' ns → AreWithin ns (literals_on (take i es) ++ e.literal ∷ []) → IsLog ns levels mid → IsLog ns levels log')
+    → ((ns : List Node) (levels : List (List ℕ)) → over' ns → AreWithin ns mid.atoms (literals_on (take i es) ++ e.literal ∷ []) → IsLog ns levels mid → IsLog ns levels log')
     → StaysSoundOver over es log log'
 tells_sound has_told over over' es log mid log' i h e at sound ns levels known within order =
-    sound ns levels (h.keeps ns known) (subst (AreWithin ns) (front_step es i e at) (front_within ns (i + 1) es within)) (h.sound ns levels known within order)
+    let within' = All-weaker (λ (x : Assigned). IsLitIn ns log.atoms x.literal) (λ (x : Assigned). IsLitIn ns mid.atoms x.literal)
+    (λ x l. lit_stays log.atoms mid.atoms h.grows.atoms ns x.literal l) es within in
+    sound ns levels (h.keeps ns known) (subst (AreWithin ns mid.atoms) (front_step es i e at) (front_within ns mid.atoms (i + 1) es within')) (h.sound ns levels known within order)
 
 pub tells_on : (has_told has_told' : List Lit → Type 0) (over over' over'' : List Node → Type 0) (es : List Assigned) (log mid log' : LogState) (i : ℕ)
     → Tells has_told over over' es log mid i → (e : Assigned) → slice_get es i ≡ Some e → has_told' (literals_on (take i es) ++ e.literal ∷ []) → Grows mid log'
@@ -122,8 +127,8 @@ tells_clash log es i e at (Some id) c =
 pub clash_falsified : (size : ℕ) (es : List Assigned) → EachBehind (IsNext size) es → (log : LogState) (id : ℕ) → IsClash log (literals_on es) id → IsFalsified es (literals_at log id)
 clash_falsified size es order log id c l has =
     let e = entry_from es (negated_lit l) (c.negations l has) in
-    let there : assigned es e.1.literal.term ≡ Some e.1 = assigned_at es e.0 e.1 e.2 (order e.0 e.1 e.2).fresh in
-    let term : e.1.literal.term ≡ l.term = ap (λ (x : Lit). x.term) e.3 in
+    let there : assigned es e.1.literal.atom ≡ Some e.1 = assigned_at es e.0 e.1 e.2 (order e.0 e.1 e.2).fresh in
+    let term : e.1.literal.atom ≡ l.atom = ap (λ (x : Lit). x.atom) e.3 in
     let sign : e.1.literal.sign ≡ not l.sign = ap (λ (x : Lit). x.sign) e.3 in
     ap (option_map (λ (x : Assigned). x.literal.sign)) (ap (assigned es) (sym term) ∙ there) ∙ ap Some sign
 

@@ -36,7 +36,7 @@ module _ (P : List Assigned → Assigned → Type 0) where
       subst (λ (front : List Assigned). P front e) (take_at es (e ∷ []) (length es) refl) (h (length es) e at)
 
 -- one entry more that is in order
-pub order_put : (n : ℕ) (es : List Assigned) (e : Assigned) → EachBehind (IsNext n) es → assigned es e.literal.term ≡ None → e.literal.term < n
+pub order_put : (n : ℕ) (es : List Assigned) (e : Assigned) → EachBehind (IsNext n) es → assigned es e.literal.atom ≡ None → e.literal.atom < n
     → e.level ≡ depth (es ++ e ∷ []) → EachBehind (IsNext n) (es ++ e ∷ [])
 order_put n es e before fresh within level = each_push (IsNext n) es e before (record { fresh = fresh; within = within; level = level })
 
@@ -58,29 +58,29 @@ missing_step false e o p q h at = h at
 pub assigned_found : (es more : List Assigned) (t : ℕ) (x : Assigned) → assigned es t ≡ Some x → assigned (es ++ more) t ≡ Some x
 assigned_found [] more t x at = cc
 assigned_found (e ∷ es) more t x at =
-    found_step (e.literal.term == t) e x (assigned es t) (assigned (es ++ more) t) (assigned_found es more t x) at
+    found_step (e.literal.atom == t) e x (assigned es t) (assigned (es ++ more) t) (assigned_found es more t x) at
 
 pub assigned_missing : (es more : List Assigned) (t : ℕ) → assigned es t ≡ None → assigned (es ++ more) t ≡ assigned more t
 assigned_missing [] more t at = refl
 assigned_missing (e ∷ es) more t at =
-    missing_step (e.literal.term == t) e (assigned es t) (assigned (es ++ more) t) (assigned more t) (assigned_missing es more t) at
+    missing_step (e.literal.atom == t) e (assigned es t) (assigned (es ++ more) t) (assigned more t) (assigned_missing es more t) at
 
 -- one entry
-pub assigned_one : (e : Assigned) (t : ℕ) → e.literal.term ≡ t → assigned (e ∷ []) t ≡ Some e
-assigned_one e t same = ap (λ (b : Bool). if b then Some e else None) (eq-eqb e.literal.term t same)
+pub assigned_one : (e : Assigned) (t : ℕ) → e.literal.atom ≡ t → assigned (e ∷ []) t ≡ Some e
+assigned_one e t same = ap (λ (b : Bool). if b then Some e else None) (eq-eqb e.literal.atom t same)
 
-pub assigned_none : (e : Assigned) (t : ℕ) → e.literal.term ≢ t → assigned (e ∷ []) t ≡ None
-assigned_none e t other = ap (λ (b : Bool). if b then Some e else None) (ne_eqb e.literal.term t other)
+pub assigned_none : (e : Assigned) (t : ℕ) → e.literal.atom ≢ t → assigned (e ∷ []) t ≡ None
+assigned_none e t other = ap (λ (b : Bool). if b then Some e else None) (ne_eqb e.literal.atom t other)
 
 -- an entry that is found is of the term, and has a place
-pub assigned_place : (es : List Assigned) (t : ℕ) (x : Assigned) → assigned es t ≡ Some x → (x.literal.term ≡ t) × ((i : ℕ) × (slice_get es i ≡ Some x))
+pub assigned_place : (es : List Assigned) (t : ℕ) (x : Assigned) → assigned es t ≡ Some x → (x.literal.atom ≡ t) × ((i : ℕ) × (slice_get es i ≡ Some x))
 assigned_place [] t x at = cc
 assigned_place (e ∷ es) t x at =
-    elim (eqb_tells e.literal.term t) [
+    elim (eqb_tells e.literal.atom t) [
       | inl p ↦
           let same : Some e ≡ Some x = ap (λ (b : Bool). if b then Some e else assigned es t) (sym p.0) ∙ at in
           let one : e ≡ x = same_Some e x same in
-          (ap (λ (y : Assigned). y.literal.term) (sym one) ∙ p.1, (0, same))
+          (ap (λ (y : Assigned). y.literal.atom) (sym one) ∙ p.1, (0, same))
       | inr p ↦
           let rest : assigned es t ≡ Some x = ap (λ (b : Bool). if b then Some e else assigned es t) (sym p.0) ∙ at in
           let r = assigned_place es t x rest in
@@ -88,43 +88,43 @@ assigned_place (e ∷ es) t x at =
     ]
 
 -- an entry whose term is new where it stands is that of its term
-pub assigned_at : (es : List Assigned) (i : ℕ) (e : Assigned) → slice_get es i ≡ Some e → assigned (take i es) e.literal.term ≡ None
-    → assigned es e.literal.term ≡ Some e
+pub assigned_at : (es : List Assigned) (i : ℕ) (e : Assigned) → slice_get es i ≡ Some e → assigned (take i es) e.literal.atom ≡ None
+    → assigned es e.literal.atom ≡ Some e
 assigned_at es i e at fresh =
     let parts : take i es ++ (e ∷ drop (suc i) es) ≡ es = ap (λ (rest : List Assigned). take i es ++ rest) (sym (drop_found es i e at)) ∙ take-append-drop i es in
-    let here : assigned (e ∷ drop (suc i) es) e.literal.term ≡ Some e = assigned_found (e ∷ []) (drop (suc i) es) e.literal.term e (assigned_one e e.literal.term refl) in
-    ap (λ (xs : List Assigned). assigned xs e.literal.term) (sym parts) ∙ assigned_missing (take i es) (e ∷ drop (suc i) es) e.literal.term fresh ∙ here
+    let here : assigned (e ∷ drop (suc i) es) e.literal.atom ≡ Some e = assigned_found (e ∷ []) (drop (suc i) es) e.literal.atom e (assigned_one e e.literal.atom refl) in
+    ap (λ (xs : List Assigned). assigned xs e.literal.atom) (sym parts) ∙ assigned_missing (take i es) (e ∷ drop (suc i) es) e.literal.atom fresh ∙ here
 
 -- ---- The table of entries
 
-module _ (es : List Assigned) (e : Assigned) (by_term : List (Option Assigned)) (within : e.literal.term < length by_term) (fresh : assigned es e.literal.term ≡ None) where
+module _ (es : List Assigned) (e : Assigned) (by_atom : List (Option Assigned)) (within : e.literal.atom < length by_atom) (fresh : assigned es e.literal.atom ≡ None) where
   -- the entry of another term is as before
-  other_entry : (t : ℕ) → (t ≡ e.literal.term → ⊥) → assigned (es ++ e ∷ []) t ≡ assigned es t
+  other_entry : (t : ℕ) → (t ≡ e.literal.atom → ⊥) → assigned (es ++ e ∷ []) t ≡ assigned es t
   other_entry t other =
       elim (assigned es t) as (λ o. assigned es t ≡ o → assigned (es ++ e ∷ []) t ≡ o) [
         | None ↦ λ h. assigned_missing es (e ∷ []) t h ∙ assigned_none e t (λ same. other (sym same))
         | Some x ↦ λ h. assigned_found es (e ∷ []) t x h
       ] refl
 
-  pub table_put : ((t : ℕ) → slice_index_or by_term t None ≡ assigned es t) → (t : ℕ)
-      → slice_index_or (slice_set by_term e.literal.term (Some e)) t None ≡ assigned (es ++ e ∷ []) t
+  pub table_put : ((t : ℕ) → slice_index_or by_atom t None ≡ assigned es t) → (t : ℕ)
+      → slice_index_or (slice_set by_atom e.literal.atom (Some e)) t None ≡ assigned (es ++ e ∷ []) t
   table_put table t =
-      elim (cases_eq t e.literal.term) [
+      elim (cases_eq t e.literal.atom) [
         | inl same ↦
-            ap (λ (n : ℕ). slice_index_or (slice_set by_term e.literal.term (Some e)) n None) same
-            ∙ get_or-set_same by_term e.literal.term (Some e) None within
-            ∙ sym (ap (assigned (es ++ e ∷ [])) same ∙ assigned_missing es (e ∷ []) e.literal.term fresh ∙ assigned_one e e.literal.term refl)
-        | inr other ↦ get_or-set_other by_term e.literal.term t (Some e) None other ∙ table t ∙ sym (other_entry t other)
+            ap (λ (n : ℕ). slice_index_or (slice_set by_atom e.literal.atom (Some e)) n None) same
+            ∙ get_or-set_same by_atom e.literal.atom (Some e) None within
+            ∙ sym (ap (assigned (es ++ e ∷ [])) same ∙ assigned_missing es (e ∷ []) e.literal.atom fresh ∙ assigned_one e e.literal.atom refl)
+        | inr other ↦ get_or-set_other by_atom e.literal.atom t (Some e) None other ∙ table t ∙ sym (other_entry t other)
       ]
 
-  pub table_pop : ((t : ℕ) → slice_index_or by_term t None ≡ assigned (es ++ e ∷ []) t) → (t : ℕ)
-      → slice_index_or (slice_set by_term e.literal.term None) t None ≡ assigned es t
+  pub table_pop : ((t : ℕ) → slice_index_or by_atom t None ≡ assigned (es ++ e ∷ []) t) → (t : ℕ)
+      → slice_index_or (slice_set by_atom e.literal.atom None) t None ≡ assigned es t
   table_pop table t =
-      elim (cases_eq t e.literal.term) [
+      elim (cases_eq t e.literal.atom) [
         | inl same ↦
-            ap (λ (n : ℕ). slice_index_or (slice_set by_term e.literal.term None) n None) same
-            ∙ get_or-set_same by_term e.literal.term None None within ∙ sym (ap (assigned es) same ∙ fresh)
-        | inr other ↦ get_or-set_other by_term e.literal.term t None None other ∙ table t ∙ other_entry t other
+            ap (λ (n : ℕ). slice_index_or (slice_set by_atom e.literal.atom None) n None) same
+            ∙ get_or-set_same by_atom e.literal.atom None None within ∙ sym (ap (assigned es) same ∙ fresh)
+        | inr other ↦ get_or-set_other by_atom e.literal.atom t None None other ∙ table t ∙ other_entry t other
       ]
 
 -- ---- Levels

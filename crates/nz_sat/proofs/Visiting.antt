@@ -80,9 +80,9 @@ waits_on es es' head c g before w = subst (λ (xs : List Assigned). Waits xs hea
 module _ (s : LogState) (es : List Assigned) (size id : ℕ) (usable : IsUsable s size id) (l : Lit) (unit : IsUnit es (literals_at s id) l) where
   pub unit_open : IsOpen (es ++ implied es l id ∷ []) (literals_at s id)
   unit_open =
-      let missing = free_missing es l.term unit.free in
-      let now : truth_on (es ++ implied es l id ∷ []) l.term ≡ Some l.sign =
-      ap (option_map (λ (e : Assigned). e.literal.sign)) (assigned_missing es (implied es l id ∷ []) l.term missing ∙ assigned_one (implied es l id) l.term refl) in
+      let missing = free_missing es l.atom unit.free in
+      let now : truth_on (es ++ implied es l id ∷ []) l.atom ≡ Some l.sign =
+      ap (option_map (λ (e : Assigned). e.literal.sign)) (assigned_missing es (implied es l id ∷ []) l.atom missing ∙ assigned_one (implied es l id) l.atom refl) in
       by_true l unit.has now
 
   pub unit_implied : EachBehind (IsImplied s) es → EachBehind (IsImplied s) (es ++ implied es l id ∷ [])

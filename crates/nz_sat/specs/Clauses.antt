@@ -75,25 +75,25 @@ IsAssumed assumed e = e.reason ≡ None → e.level ≡ 0 → Contains assumed e
 
 -- ---- The index
 
--- the list of a term
+-- the list of an atom
 abbrev pub ids_in : List (Vec ℕ Global) → ℕ → List ℕ
 ids_in lists t = elim (slice_get lists t) [ None ↦ [] | Some ids ↦ ids.items ]
 
 -- the clauses that stand beside a literal
 abbrev pub ids_of : Index → Lit → List ℕ
-ids_of x l = if l.sign then ids_in x.positive.items l.term else ids_in x.negative.items l.term
+ids_of x l = if l.sign then ids_in x.positive.items l.atom else ids_in x.negative.items l.atom
 
--- the index has terms below a number
+-- the index has atoms below a number
 abbrev pub IsOfSize : ℕ → Index → Type 0
 IsOfSize n x = (length x.positive.items ≡ n) × (length x.negative.items ≡ n)
 
--- it has as many terms
+-- it has as many atoms
 abbrev pub IsSameSize : (old new : Index) → Type 0
 IsSameSize x y = (length y.positive.items ≡ length x.positive.items) × (length y.negative.items ≡ length x.negative.items)
 
--- it has the term of a literal
+-- it has the atom of a literal
 abbrev pub IsWithin : Lit → Index → Type 0
-IsWithin l x = (l.term < length x.positive.items) × (l.term < length x.negative.items)
+IsWithin l x = (l.atom < length x.positive.items) × (l.atom < length x.negative.items)
 
 -- a clause stands beside each of its literals
 abbrev pub IsListed : LogState → Index → ℕ → Type 0
@@ -106,10 +106,10 @@ pub record Adds (s : LogState) (id : ℕ) (old new : Index) : Type 0 where
   pub kept : (l : Lit) (i : ℕ) → Contains (ids_of old l) i → Contains (ids_of new l) i
   pub only : (l : Lit) (i : ℕ) → Contains (ids_of new l) i → Contains (ids_of old l) i ⊎ (id ≡ i)
 
--- A clause of the log with terms below a number.
+-- A clause of the log with atoms below a number.
 pub record IsUsable (s : LogState) (size : ℕ) (i : ℕ) : Type 0 where
   pub live : IsLive s i
-  pub within : (l : Lit) → Contains (literals_at s i) l → l.term < size
+  pub within : (l : Lit) → Contains (literals_at s i) l → l.atom < size
 
 -- each clause of the index is one
 abbrev pub AreUsable : LogState → ℕ → Index → Type 0

@@ -3,6 +3,7 @@ use Rattle.std.specs.Prelude.{◌≡◌, ◌≢◌, ℕ, ◌+◌, ◌<◌, ◌�
 use Rattle.nz_spec.specs.Literal.{StandOnce}
 use Rattle.nz_spec.specs.Table.{Node}
 use Rattle.nz_log.specs.declared.lits.Lit.{Lit}
+use Rattle.nz_log.specs.Atoms.{IsLitIn}
 use Rattle.nz_log.specs.Lits.{negated_lit}
 use Rattle.nz_log.specs.declared.origins.Link.{Link}
 use Rattle.nz_log.specs.Logs.{LogState, IsLive, chained, literals_at}
@@ -15,26 +16,26 @@ use Rattle.nz_sat.specs.Clauses.{IsFalsified, IsAssumed}
 
 -- where the trail is over a table, the log stays in order
 abbrev pub StaysSound : List Assigned → LogState → LogState → Type 0
-StaysSound es old new = (ns : List Node) (levels : List (List ℕ)) → All (λ (e : Assigned). e.literal.term < length ns) es → IsLog ns levels old → IsLog ns levels new
+StaysSound es old new = (ns : List Node) (levels : List (List ℕ)) → All (λ (e : Assigned). IsLitIn ns old.atoms e.literal) es → IsLog ns levels old → IsLog ns levels new
 
--- ---- Marks, by the numbers of terms
+-- ---- Marks, by the numbers of atoms
 
 abbrev pub is_marked : List Bool → ℕ → Bool
 is_marked marks t = slice_index_or marks t false
 
--- no term is marked
+-- no atom is marked
 abbrev pub AreUnmarked : List Bool → Type 0
 AreUnmarked marks = (t : ℕ) → is_marked marks t ≡ false
 
 -- how many entries of a level are marked
 abbrev pub marked_of : List Bool → ℕ → List Assigned → ℕ
-marked_of marks level es = count_by (λ (e : Assigned). is_marked marks e.literal.term && (e.level == level)) es
+marked_of marks level es = count_by (λ (e : Assigned). is_marked marks e.literal.atom && (e.level == level)) es
 
--- The terms of these literals that are false are marked, beside those that were.
+-- The atoms of these literals that are false are marked, beside those that were.
 pub record MarksFalse (es : List Assigned) (c : List Lit) (old new : List Bool) : Type 0 where
   pub kept : (t : ℕ) → is_marked old t ≡ true → is_marked new t ≡ true
-  pub marked : (l : Lit) → Contains c l → IsFalseOn es l → is_marked new l.term ≡ true
-  pub only : (t : ℕ) → is_marked new t ≡ true → (is_marked old t ≡ true) ⊎ ((l : Lit) × Contains c l × IsFalseOn es l × (l.term ≡ t))
+  pub marked : (l : Lit) → Contains c l → IsFalseOn es l → is_marked new l.atom ≡ true
+  pub only : (t : ℕ) → is_marked new t ≡ true → (is_marked old t ≡ true) ⊎ ((l : Lit) × Contains c l × IsFalseOn es l × (l.atom ≡ t))
 
 -- the false ones of these literals are false in a front of the trail
 abbrev pub AreFalseIn : (es front : List Assigned) → List Lit → Type 0
@@ -52,36 +53,36 @@ pub record HasTwoLast (es : List Assigned) (c : List Lit) : Type 0 where
   pub has_first : Contains c first
   pub has_second : Contains c second
   pub differ : first ≢ second
-  pub first_last : level_on es first.term ≡ depth es
-  pub second_last : level_on es second.term ≡ depth es
+  pub first_last : level_on es first.atom ≡ depth es
+  pub second_last : level_on es second.atom ≡ depth es
 
 -- A clause has a literal of the last level.
 pub record HasLast (es : List Assigned) (c : List Lit) : Type 0 where
   pub literal : Lit
   pub has : Contains c literal
-  pub last : level_on es literal.term ≡ depth es
+  pub last : level_on es literal.atom ≡ depth es
 
 -- A clause has this literal of the last level, and no other.
 pub record IsLoneLast (es : List Assigned) (c : List Lit) (l : Lit) : Type 0 where
   pub has : Contains c l
-  pub last : level_on es l.term ≡ depth es
-  pub others : (m : Lit) → Contains c m → m ≢ l → level_on es m.term ≢ depth es
+  pub last : level_on es l.atom ≡ depth es
+  pub others : (m : Lit) → Contains c m → m ≢ l → level_on es m.atom ≢ depth es
 
 -- a clause has two literals of the last level, or has each once, so that it may be the learned clause itself
 abbrev pub IsLearnable : List Assigned → List Lit → Type 0
 IsLearnable es c = HasTwoLast es c ⊎ StandOnce c
 
--- the links rest on live clauses, and resolve on terms of the trail
+-- the links rest on live clauses, and resolve on atoms of the trail
 abbrev pub AreLinks : LogState → List Assigned → List Link → Type 0
-AreLinks s es ks = All (λ (k : Link). IsLive s k.clause × ((e : Assigned) × Contains es e × (e.literal.term ≡ k.literal.term))) ks
+AreLinks s es ks = All (λ (k : Link). IsLive s k.clause × ((e : Assigned) × Contains es e × (e.literal.atom ≡ k.literal.atom))) ks
 
--- Just the terms of these literals are marked.
+-- Just the atoms of these literals are marked.
 pub record AreMarked (c : List Lit) (marks : List Bool) : Type 0 where
-  pub each : (m : Lit) → Contains c m → is_marked marks m.term ≡ true
-  pub only : (t : ℕ) → is_marked marks t ≡ true → (m : Lit) × Contains c m × (m.term ≡ t)
+  pub each : (m : Lit) → Contains c m → is_marked marks m.atom ≡ true
+  pub only : (t : ℕ) → is_marked marks t ≡ true → (m : Lit) × Contains c m × (m.atom ≡ t)
 
 -- The way back along the trail, down to a place: the chain so far comes to a clause whose literals are false before that place, just
--- its terms are marked, and so many of them are of the last level. Where one is left, there is a link.
+-- its atoms are marked, and so many of them are of the last level. Where one is left, there is a link.
 pub record IsOnWayBack (s : LogState) (es : List Assigned) (falsified place : ℕ) (marks : List Bool) (ks : List Link) (left : ℕ) : Type 0 where
   pub links : AreLinks s es ks
   pub falsified_before : IsFalsified (take place es) (chained s (literals_at s falsified) ks)
@@ -90,25 +91,25 @@ pub record IsOnWayBack (s : LogState) (es : List Assigned) (falsified place : �
   pub some : 0 < left
   pub linked : left ≡ 1 → 0 < length ks
 
--- The chain from a clause comes to one in which each literal is false, and this one alone of the last level; just its terms are marked.
+-- The chain from a clause comes to one in which each literal is false, and this one alone of the last level; just its atoms are marked.
 pub record IsChain (s : LogState) (es : List Assigned) (falsified : ℕ) (marks : List Bool) (c : Chain) : Type 0 where
   pub links : AreLinks s es c.links.items
   pub some : 0 < length c.links.items
   pub falsified_too : IsFalsified es (chained s (literals_at s falsified) c.links.items)
   pub has : Contains (chained s (literals_at s falsified) c.links.items) c.literal
-  pub last : level_on es c.literal.term ≡ depth es
-  pub others : (m : Lit) → Contains (chained s (literals_at s falsified) c.links.items) m → m ≢ c.literal → level_on es m.term < depth es
+  pub last : level_on es c.literal.atom ≡ depth es
+  pub others : (m : Lit) → Contains (chained s (literals_at s falsified) c.links.items) m → m ≢ c.literal → level_on es m.atom < depth es
   pub marked : AreMarked (chained s (literals_at s falsified) c.links.items) marks
 
 -- A level is the greatest of those of the literals but one.
 pub record IsGreatestBut (es : List Assigned) (but : Lit) (c : List Lit) (level : ℕ) : Type 0 where
-  pub most : (m : Lit) → Contains c m → m ≢ but → level_on es m.term ≤ level
-  pub reached : 0 < level → (m : Lit) × Contains c m × (m ≢ but) × (level_on es m.term ≡ level)
+  pub most : (m : Lit) → Contains c m → m ≢ but → level_on es m.atom ≤ level
+  pub reached : 0 < level → (m : Lit) × Contains c m × (m ≢ but) × (level_on es m.atom ≡ level)
 
 -- A level is the greatest of those of the literals, and 0 where there are none.
 pub record IsGreatest (es : List Assigned) (c : List Lit) (level : ℕ) : Type 0 where
-  pub most : (m : Lit) → Contains c m → level_on es m.term ≤ level
-  pub reached : 0 < level → (m : Lit) × Contains c m × (level_on es m.term ≡ level)
+  pub most : (m : Lit) → Contains c m → level_on es m.atom ≤ level
+  pub reached : 0 < level → (m : Lit) × Contains c m × (level_on es m.atom ≡ level)
 
 -- The trail is cut at the greatest level of the literals of a clause.
 pub record GoesBackTo (c : List Lit) (es es' : List Assigned) : Type 0 where
@@ -122,10 +123,10 @@ pub record IsLearned (s : LogState) (es : List Assigned) (l : Learned) : Type 0 
   pub once : StandOnce (literals_at s l.clause)
   pub falsified : IsFalsified es (literals_at s l.clause)
   pub has : Contains (literals_at s l.clause) l.literal
-  pub last : level_on es l.literal.term ≡ depth es
+  pub last : level_on es l.literal.atom ≡ depth es
   pub earlier : l.level < depth es
-  pub others : (m : Lit) → Contains (literals_at s l.clause) m → m ≢ l.literal → level_on es m.term ≤ l.level
-  pub reached : 0 < l.level → (m : Lit) × Contains (literals_at s l.clause) m × (m ≢ l.literal) × (level_on es m.term ≡ l.level)
+  pub others : (m : Lit) → Contains (literals_at s l.clause) m → m ≢ l.literal → level_on es m.atom ≤ l.level
+  pub reached : 0 < l.level → (m : Lit) × Contains (literals_at s l.clause) m × (m ≢ l.literal) × (level_on es m.atom ≡ l.level)
 
 -- each literal is the negation of an assumed one
 abbrev pub Refutes : List Lit → List Lit → Type 0
@@ -135,10 +136,10 @@ Refutes assumed c = (l : Lit) → Contains c l → Contains assumed (negated_lit
 abbrev pub IsFalsifiedUnder : List Lit → List Assigned → List Lit → Type 0
 IsFalsifiedUnder assumed es c = (l : Lit) → Contains c l → IsFalseOn es l ⊎ Contains assumed (negated_lit l)
 
--- A literal is false before a place of the trail, and its term is marked.
+-- A literal is false before a place of the trail, and its atom is marked.
 pub record IsMarkedBefore (es : List Assigned) (place : ℕ) (marks : List Bool) (l : Lit) : Type 0 where
   pub false_before : IsFalseOn (take place es) l
-  pub marked : is_marked marks l.term ≡ true
+  pub marked : is_marked marks l.atom ≡ true
 
 -- The way back to the assumed literals, down to a place: each literal of the clause so far is the negation of an assumed one, or is false
 -- before that place, and marked.

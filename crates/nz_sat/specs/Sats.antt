@@ -7,13 +7,15 @@ use Rattle.nz_spec.specs.Literal.{are_same_sign, StandOnce}
 use Rattle.nz_spec.specs.Work.{WorkList}
 use Rattle.nz_log.specs.declared.lits.Lit.{Lit}
 use Rattle.nz_log.specs.declared.note.Note.{Note}
-use Rattle.nz_log.specs.Lits.{literal_of}
+use Rattle.nz_log.specs.Atoms.{literal_in}
+use Rattle.nz_log.specs.Lits.{negated_lit}
 use Rattle.nz_log.specs.Logs.{LogState, IsLive, literals_at, level_at}
 use Rattle.nz_log.specs.Notes.{noted_list}
 use Rattle.nz_log.specs.Sound.{IsLog}
 use Rattle.nz_sat.specs.declared.clauses.Held.{Held}
+use Rattle.nz_sat.specs.Numbers.{IsTermAtom}
 
--- The clauses, by the numbers of terms the truths that the last search left, and the theory.
+-- The clauses, by the numbers of atoms in the log the truths that the last search left, and the theory.
 pub record SatState (T : Type 0) : Type 0 where
   pub clauses : List Held
   pub truths : List (Option Bool)
@@ -25,12 +27,12 @@ module _ {T : Type 0} where
   abbrev pub truth_of : SatState T → ℕ → Option Bool
   truth_of s t = slice_index_or s.truths t None
 
-  -- whether a literal is true, where its term has a truth
+  -- whether a literal is true, where its atom has a truth
   abbrev pub literal_truth : SatState T → Lit → Option Bool
-  literal_truth s l = option_map (are_same_sign l.sign) (truth_of s l.term)
+  literal_truth s l = option_map (are_same_sign l.sign) (truth_of s l.atom)
 
   abbrev pub IsTrueLit : SatState T → Lit → Type 0
-  IsTrueLit s l = truth_of s l.term ≡ Some l.sign
+  IsTrueLit s l = truth_of s l.atom ≡ Some l.sign
 
   -- One of the literals is true.
   abbrev pub IsTrueClause : SatState T → List Lit → Type 0
@@ -48,7 +50,7 @@ module _ {T : Type 0} where
     pub told : has_told literals
     pub feasible : is_feasible
     pub hold : All (IsTrueLit s) literals
-    pub all : (l : Lit) → Contains atoms l.term → IsTrueLit s l → Contains literals l
+    pub all : (l : Lit) → Contains atoms l.atom → IsTrueLit s l → Contains literals l
 
 -- ---- Clauses
 
@@ -64,6 +66,10 @@ held_of log id = record { id = id; level = level_at log id }
 abbrev pub held_up_to : ℕ → List Held → List Held
 held_up_to level held = filter (λ (h : Held). nat_le h.level level) held
 
+-- each literal of a clause is on one of these atoms
+abbrev pub AreOn : LogState → List ℕ → List Held → Type 0
+AreOn log atoms held = All (λ (h : Held). All (λ (l : Lit). Contains atoms l.atom) (literals_at log h.id)) held
+
 -- The clauses that were held still are, then those that were learned.
 pub record HoldsMore (log : LogState) (old new : List Held) : Type 0 where
   pub learned : List Held
@@ -72,19 +78,24 @@ pub record HoldsMore (log : LogState) (old new : List Held) : Type 0 where
 
 -- ---- What a search is asked
 
--- Each term that a clause names is an atom, and each that an assumed literal names. No atom is named twice.
-pub record AreAtoms (log : LogState) (held : List Held) (assumed : List Lit) (atoms : List ℕ) : Type 0 where
-  pub clauses : All (λ (h : Held). All (λ (l : Lit). Contains atoms l.term) (literals_at log h.id)) held
-  pub assumed_named : All (λ (l : Lit). Contains atoms l.term) assumed
+-- no literal of these is the negation of one of them
+abbrev pub AreConsistent : List Lit → Type 0
+AreConsistent ls = All (λ (l : Lit). Contains ls (negated_lit l) → ⊥) ls
+
+-- Each literal of a clause is on one of these atoms, and each assumed literal. No atom stands twice.
+pub record AreNamed (log : LogState) (held : List Held) (assumed : List Lit) (atoms : List ℕ) : Type 0 where
+  pub clauses : AreOn log atoms held
+  pub assumed_named : All (λ (l : Lit). Contains atoms l.atom) assumed
   pub once : StandOnce atoms
 
--- The task of a search: over a table that has the atoms, and levels of assertions, of which all are asserted.
+-- The task of a search: over a table that has the terms of the atoms, and levels of assertions, of which all are asserted.
 pub record IsAsked (ns : List Node) (levels : List (List ℕ)) (log : LogState) (atoms : List ℕ) (assumed : List Lit) (q : Task) : Type 0 where
   pub table : IsTable ns
-  pub within : All (λ (t : ℕ). t < length ns) atoms
+  pub within : All (IsTermAtom ns log.atoms) atoms
+  pub named : All (λ (l : Lit). Contains atoms l.atom) assumed
   pub order : IsLog ns levels log
   pub asserted : q.asserted ≡ asserted_terms ns levels
-  pub assumed_literals : q.assumed ≡ map (literal_of ns) assumed
+  pub assumed_literals : q.assumed ≡ map (literal_in ns log.atoms) assumed
 
 -- the lines of a work list, over a table, are legal
 abbrev pub IsLegalWork : List Node → Task → WorkList Note → Type 0

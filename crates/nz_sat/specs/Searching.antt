@@ -1,7 +1,7 @@
 -- A search under way.
-use Rattle.std.specs.Prelude.{◌≡◌, ℕ, suc, ◌<◌, ◌≤◌, ◌++◌, ◌⊎◌, Bool, All, Contains, List, [], ◌∷◌, length, map, filter, Option, Some, None, IfErr, IfOk, IfSome, IsSome, OnOk, unwrap_or}
+use Rattle.std.specs.Prelude.{◌≡◌, ℕ, suc, ◌<◌, ◌≤◌, ◌++◌, ◌⊎◌, Bool, All, Contains, List, [], ◌∷◌, length, map, filter, slice_get, Option, Some, None, IfErr, IfOk, IfSome, IsSome, OnOk, unwrap_or}
 use Rattle.std.specs.declared.result.Result.{Result}
-use Rattle.nz_spec.specs.Table.{Node, term_in}
+use Rattle.nz_spec.specs.Table.{Node}
 use Rattle.nz_spec.specs.Literal.{StandOnce}
 use Rattle.nz_spec.specs.Legal.{after_lines, at_first, Task}
 use Rattle.nz_spec.specs.Work.{DecisionEntry, IsSpent, LearnedEntry, UnitLine, WorkLine, WorkList, unit_count, with_line}
@@ -9,7 +9,6 @@ use Rattle.nz_log.specs.declared.lits.Lit.{Lit}
 use Rattle.nz_log.specs.declared.note.Note.{Note}
 use Rattle.nz_log.specs.declared.stop.Stop.{Stop}
 use Rattle.nz_log.specs.declared.stop.Stop.TheVariants.{Spent}
-use Rattle.nz_log.specs.Lits.{AreConsistent}
 use Rattle.nz_log.specs.Logs.{LogState, IsLive, literals_at}
 use Rattle.nz_log.specs.Notes.{noted_list}
 use Rattle.nz_sat.specs.declared.clauses.Held.{Held}
@@ -21,21 +20,23 @@ use Rattle.nz_sat.specs.Trails.{EachBehind, GoesOn, IsFrontOf, IsTrail, IsTrueOn
 use Rattle.nz_sat.specs.Clauses.{HasReasonOf, IsAssumed, IsFalsified, IsImplied, IsListed, IsOfSize, IsOpen, Waits, ids_of}
 use Rattle.nz_log.specs.Theories.{Grows}
 use Rattle.nz_sat.specs.Conflicts.{AreUnmarked, IsFalsifiedUnder}
-use Rattle.nz_sat.specs.Numbers.{noted_atoms, number_of, numbered}
-use Rattle.nz_sat.specs.Sats.{AreHeld, HoldsMore, IsAsked, IsLegalWork}
+use Rattle.nz_sat.specs.Numbers.{IsTermAtom, atom_term, noted_atoms, number_of, numbered}
+use Rattle.nz_sat.specs.Sats.{AreConsistent, AreHeld, AreOn, HoldsMore, IsAsked, IsLegalWork}
 use Rattle.nz_sat.specs.Theories.{IsMet, IsTold}
 
 abbrev pub ids : List Held → List ℕ
 ids held = map (λ (h : Held). h.id) held
 
--- Each clause that is held is in the index, and no other; the terms of clauses and trail are atoms, and have their places in each table; each
+-- Each clause that is held is in the index, and no other; clauses and trail are over its atoms, which the log has, and which have their
+-- places in each table; each
 -- entry of the trail that has a reason follows by it.
 pub record IsSearch (log : LogState) (held : List Held) (s : Search) : Type 0 where
   pub are_held : AreHeld log held
   pub listed : All (IsListed log s.index) (ids held)
   pub only : (l : Lit) (i : ℕ) → Contains (ids_of s.index l) i → Contains (ids held) i
-  pub named : All (λ (i : ℕ). All (λ (l : Lit). Contains s.atoms l.term) (literals_at log i)) (ids held)
-  pub on_trail : All (λ (e : Assigned). Contains s.atoms e.literal.term) s.trail.entries
+  pub named : All (λ (i : ℕ). All (λ (l : Lit). Contains s.atoms l.atom) (literals_at log i)) (ids held)
+  pub there : All (λ (t : ℕ). IsSome (slice_get log.atoms t)) s.atoms
+  pub on_trail : All (λ (e : Assigned). Contains s.atoms e.literal.atom) s.trail.entries
   pub within : All (λ (t : ℕ). t < s.trail.size) s.atoms
   pub indexed : IsOfSize s.trail.size s.index
   pub marks : length s.seen.items ≡ s.trail.size
@@ -58,7 +59,7 @@ WereOpen log held es = (k : ℕ) → k < depth es → AreOpen log held (below k 
 
 -- The work list, over each table, tells the atoms, the decisions of the trail, and what was learned: clauses that are held.
 pub record IsNoted (log : LogState) (held : List Held) (atoms : List ℕ) (es : List Assigned) (work : WorkList Note) : Type 0 where
-  pub named : (ns : List Node) → (after_lines at_first (noted_list ns work).lines).atoms ≡ map (term_in ns) atoms
+  pub named : (ns : List Node) → (after_lines at_first (noted_list ns work).lines).atoms ≡ map (atom_term ns log.atoms) atoms
   pub decided : (ns : List Node) → (after_lines at_first (noted_list ns work).lines).decided ≡ map (λ (e : Assigned). numbered atoms e.literal) (filter is_decision es)
   pub learned : (ns : List Node) → All (λ (c : List (ℕ × Bool)). (i : ℕ) × Contains (ids held) i × (map (numbered atoms) (literals_at log i) ≡ c)) (after_lines at_first (noted_list ns work).lines).learned
 
@@ -84,7 +85,7 @@ pub record MayAssume (log : LogState) (held : List Held) (assumed : List Lit) (l
   pub all_open : AreOpen log held s.trail.entries
   pub assumed_only : All (IsAssumed assumed) s.trail.entries
   pub among : Contains assumed literal
-  pub atom : Contains s.atoms literal.term
+  pub atom : Contains s.atoms literal.atom
   pub consistent : AreConsistent assumed
 
 -- The same where one more assumed literal is true, or a clause is told that is falsified but for negations of assumed literals.
@@ -108,10 +109,10 @@ pub record AssumesAll (log : LogState) (held : List Held) (assumed : List Lit) (
 
 -- ---- Steps
 
--- where the atoms are of a table of these, the log stays in order
+-- where the atoms are terms of a table of these, the log stays in order
 abbrev pub StaysInOrder : (List Node → Type 0) → List ℕ → LogState → LogState → Type 0
 StaysInOrder over atoms old new =
-    (ns : List Node) (levels : List (List ℕ)) → over ns → All (λ (t : ℕ). t < length ns) atoms → IsLog ns levels old → IsLog ns levels new
+    (ns : List Node) (levels : List (List ℕ)) → over ns → All (IsTermAtom ns old.atoms) atoms → IsLog ns levels old → IsLog ns levels new
 
 -- where the old lines are legal, so are the new ones
 abbrev pub StaysLegal : (List Node → Type 0) → List ℕ → LogState → List Assigned → (old new : WorkList Note) → Type 0
@@ -127,6 +128,7 @@ pub record Advances (over : List Node → Type 0) (atoms : List ℕ) (es : List 
   pub grows : Grows log log'
   pub sound : StaysInOrder over atoms log log'
   pub holds_more : HoldsMore log' held held'
+  pub named : AreOn log atoms held → AreOn log' atoms held'
   pub legal : StaysLegal over atoms log es work work'
   pub notes : noted_atoms work'.lines ≡ noted_atoms work.lines
   pub limit : work'.limit ≡ work.limit
@@ -255,7 +257,7 @@ pub record Satisfies (log : LogState) (held : List Held) (assumed : List Lit) (a
   pub all_decided : All (λ (t : ℕ). IsSome (assigned s.trail.entries t)) s.atoms
 
 -- An atom is decided, and noted.
-pub record Decides (s s' : Search) (term : ℕ) (work work' : WorkList Note) : Type 0 where
+pub record Decides (s s' : Search) (atom : ℕ) (work work' : WorkList Note) : Type 0 where
   pub sign : Bool
-  pub trail : s'.trail ≡ with_entry s.trail (decided s.trail.entries (record { term = term; sign = sign }))
-  pub noted : work' ≡ with_line work (UnitLine (DecisionEntry (unwrap_or (number_of s.atoms term) 0) sign))
+  pub trail : s'.trail ≡ with_entry s.trail (decided s.trail.entries (record { atom = atom; sign = sign }))
+  pub noted : work' ≡ with_line work (UnitLine (DecisionEntry (unwrap_or (number_of s.atoms atom) 0) sign))

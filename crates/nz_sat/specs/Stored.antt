@@ -6,16 +6,16 @@ use Rattle.nz_sat.specs.declared.trail.Assigned.{Assigned}
 use Rattle.nz_sat.specs.Trails.{TrailState, IsTrail, assigned}
 
 abbrev pub trail_of : List Assigned → List (Option Assigned) → TrailState
-trail_of entries by_term = record { entries = entries; size = length by_term }
+trail_of entries by_atom = record { entries = entries; size = length by_atom }
 
 -- 1 where there is no entry
 abbrev pub vacancy : Option Assigned → ℕ
 vacancy None = 1
 vacancy (Some e) = 0
 
--- The trail is in order, the table has the entry of each term, and there is room for the terms that have none.
-pub record IsTabled (entries : Vec Assigned Global) (by_term : List (Option Assigned)) : Type 0 where
-  pub order : IsTrail (trail_of entries.items by_term)
-  pub table : (t : ℕ) → slice_index_or by_term t None ≡ assigned entries.items t
-  pub vacant : length entries.items + sum_by vacancy by_term ≡ length by_term
-  pub room : length by_term ≤ vec_capacity entries
+-- The trail is in order, the table has the entry of each atom, and there is room for the atoms that have none.
+pub record IsTabled (entries : Vec Assigned Global) (by_atom : List (Option Assigned)) : Type 0 where
+  pub order : IsTrail (trail_of entries.items by_atom)
+  pub table : (t : ℕ) → slice_index_or by_atom t None ≡ assigned entries.items t
+  pub vacant : length entries.items + sum_by vacancy by_atom ≡ length by_atom
+  pub room : length by_atom ≤ vec_capacity entries

@@ -2,6 +2,7 @@
 use Rattle.std.specs.Prelude.{ℕ, ◌<◌, ◌≤◌, All, List, length, take}
 use Rattle.nz_spec.specs.Table.{Node}
 use Rattle.nz_log.specs.declared.lits.Lit.{Lit}
+use Rattle.nz_log.specs.Atoms.{IsLitIn}
 use Rattle.nz_log.specs.Logs.{LogState}
 use Rattle.nz_log.specs.Sound.{IsLog}
 use Rattle.nz_sat.specs.declared.trail.Assigned.{Assigned}
@@ -21,4 +22,4 @@ pub record IsMet (has_told : List Lit → Type 0) (is_feasible : Type 0) (es : L
 -- where the trail is over a table in which what it knows of terms is so, the log stays in order
 abbrev pub StaysSoundOver : (List Node → Type 0) → List Assigned → LogState → LogState → Type 0
 StaysSoundOver over es old new =
-    (ns : List Node) (levels : List (List ℕ)) → over ns → All (λ (e : Assigned). e.literal.term < length ns) es → IsLog ns levels old → IsLog ns levels new
+    (ns : List Node) (levels : List (List ℕ)) → over ns → All (λ (e : Assigned). IsLitIn ns old.atoms e.literal) es → IsLog ns levels old → IsLog ns levels new

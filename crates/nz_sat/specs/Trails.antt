@@ -3,7 +3,7 @@ use Rattle.std.specs.Prelude.{◌≡◌, ℕ, ◌+◌, ◌<◌, ◌≤◌, ◌==
 use Rattle.nz_log.specs.declared.lits.Lit.{Lit}
 use Rattle.nz_sat.specs.declared.trail.Assigned.{Assigned}
 
--- The entries, the oldest first, and a number that all terms are below.
+-- The entries, the oldest first, and a number that all atoms are below.
 pub record TrailState : Type 0 where
   pub entries : List Assigned
   pub size : ℕ
@@ -21,22 +21,22 @@ literals_on es = map (λ (e : Assigned). e.literal) es
 
 -- ---- What is true
 
--- the entry of a term
+-- the entry of an atom
 abbrev pub assigned : List Assigned → ℕ → Option Assigned
 assigned [] t = None
-assigned (e ∷ es) t = if e.literal.term == t then Some e else assigned es t
+assigned (e ∷ es) t = if e.literal.atom == t then Some e else assigned es t
 
 abbrev pub truth_on : List Assigned → ℕ → Option Bool
 truth_on es t = option_map (λ (e : Assigned). e.literal.sign) (assigned es t)
 
 abbrev pub IsTrueOn : List Assigned → Lit → Type 0
-IsTrueOn es l = truth_on es l.term ≡ Some l.sign
+IsTrueOn es l = truth_on es l.atom ≡ Some l.sign
 
 abbrev pub IsFalseOn : List Assigned → Lit → Type 0
-IsFalseOn es l = truth_on es l.term ≡ Some (not l.sign)
+IsFalseOn es l = truth_on es l.atom ≡ Some (not l.sign)
 
 abbrev pub IsFreeOn : List Assigned → Lit → Type 0
-IsFreeOn es l = truth_on es l.term ≡ None
+IsFreeOn es l = truth_on es l.atom ≡ None
 
 -- what is told of a literal: that it is true, that it is false, or that it is neither
 abbrev pub HasValue : List Assigned → Lit → Option Bool → Type 0
@@ -44,7 +44,7 @@ HasValue es l None = IsFreeOn es l
 HasValue es l (Some true) = IsTrueOn es l
 HasValue es l (Some false) = IsFalseOn es l
 
--- the truths by the numbers of terms
+-- the truths by the numbers of atoms
 abbrev pub AreTruthsOn : List Assigned → List (Option Bool) → Type 0
 AreTruthsOn es truths = (t : ℕ) → slice_index_or truths t None ≡ truth_on es t
 
@@ -58,7 +58,7 @@ is_decision e = elim e.reason [ None ↦ nat_lt 0 e.level | Some c ↦ false ]
 abbrev pub depth : List Assigned → ℕ
 depth es = count_by is_decision es
 
--- the level of a term, 0 where it isn't decided
+-- the level of an atom, 0 where it isn't decided
 abbrev pub level_on : List Assigned → ℕ → ℕ
 level_on es t = elim (assigned es t) [ None ↦ 0 | Some e ↦ e.level ]
 
@@ -79,10 +79,10 @@ implied es l c = record { literal = l; level = depth es; reason = Some c }
 abbrev pub EachBehind : (List Assigned → Assigned → Type 0) → List Assigned → Type 0
 EachBehind P es = (i : ℕ) (e : Assigned) → slice_get es i ≡ Some e → P (take i es) e
 
--- An entry is of a new term, below the size, and its level is how many decisions there are up to it.
+-- An entry is of a new atom, below the size, and its level is how many decisions there are up to it.
 pub record IsNext (size : ℕ) (before : List Assigned) (e : Assigned) : Type 0 where
-  pub fresh : assigned before e.literal.term ≡ None
-  pub within : e.literal.term < size
+  pub fresh : assigned before e.literal.atom ≡ None
+  pub within : e.literal.atom < size
   pub level : e.level ≡ depth (before ++ e ∷ [])
 
 abbrev pub IsTrail : TrailState → Type 0

@@ -31,7 +31,7 @@ struct Chain {
     literal: Lit,
 }
 
-/// Marks the terms of the false ones of these literals. Answers how many of those that weren't marked are of the level.
+/// Marks the atoms of the false ones of these literals. Answers how many of those that weren't marked are of the level.
 fn mark(
     trail: &Trail,
     order: &mut Order,
@@ -45,10 +45,10 @@ fn mark(
 {
     let mut count = 0;
     for literal in literals {
-        if trail.value(*literal) == Some(false) && !seen[literal.term] {
-            seen[literal.term] = true;
-            order.raise(literal.term);
-            if trail.level_of(literal.term) == level {
+        if trail.value(*literal) == Some(false) && !seen[literal.atom] {
+            seen[literal.atom] = true;
+            order.raise(literal.atom);
+            if trail.level_of(literal.atom) == level {
                 count += 1;
             }
         }
@@ -58,12 +58,12 @@ fn mark(
 
 /// Takes the marks off.
 fn unmark(seen: &mut [bool], literals: &[Lit])
-    requires within { All (λ l. l.term < length seen.old) literals.now }
+    requires within { All (λ l. l.atom < length seen.old) literals.now }
     ensures only { (t : ℕ) → is_marked seen.new t ≡ true → is_marked seen.old t ≡ true }
-    ensures unmarked { All (λ l. is_marked seen.new l.term ≡ false) literals.now }
+    ensures unmarked { All (λ l. is_marked seen.new l.atom ≡ false) literals.now }
 {
     for literal in literals {
-        seen[literal.term] = false;
+        seen[literal.atom] = false;
     }
 }
 
@@ -93,11 +93,11 @@ fn chain_back(
     let mut left = mark(trail, order, seen, log.clause(falsified), level);
     for i in (0..count).rev() {
         let entry = trail.entry(i);
-        if seen[entry.literal.term] {
+        if seen[entry.literal.atom] {
             let literal = entry.literal.not();
             match entry.reason {
                 Some(clause) if left > 1 => {
-                    seen[entry.literal.term] = false;
+                    seen[entry.literal.atom] = false;
                     left -= 1;
                     left += mark(trail, order, seen, log.clause(clause), level);
                     links.push(Link { clause, literal })?;
@@ -117,7 +117,7 @@ fn level_but(trail: &Trail, literals: &[Lit], but: Lit) -> usize
     let mut level = 0;
     for literal in literals {
         if !literal.is(but) {
-            level = level.max(trail.level_of(literal.term));
+            level = level.max(trail.level_of(literal.atom));
         }
     }
     level
@@ -129,7 +129,7 @@ pub fn greatest_level(trail: &Trail, literals: &[Lit]) -> usize
 {
     let mut level = 0;
     for literal in literals {
-        level = level.max(trail.level_of(literal.term));
+        level = level.max(trail.level_of(literal.atom));
     }
     level
 }
@@ -143,7 +143,7 @@ fn lone_last(trail: &Trail, literals: &[Lit]) -> Option<Lit>
     let last = trail.level();
     let mut lone: Option<Lit> = None;
     for literal in literals {
-        if trail.level_of(literal.term) == last {
+        if trail.level_of(literal.atom) == last {
             match lone {
                 Some(other) => {
                     if !other.is(*literal) {
@@ -248,7 +248,7 @@ fn chain_to_assumed(
     mark(trail, order, seen, log.clause(falsified), 0);
     for i in (0..count).rev() {
         let entry = trail.entry(i);
-        if seen[entry.literal.term] {
+        if seen[entry.literal.atom] {
             if let Some(clause) = entry.reason {
                 mark(trail, order, seen, log.clause(clause), 0);
                 links.push(Link {

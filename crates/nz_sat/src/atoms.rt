@@ -1,19 +1,17 @@
-//! The atoms that a work list names, by their numbers there.
+//! The atoms of a search, by the numbers that a work list gives them.
 ghost use Rattle.std.specs.Prelude.{◌≡◌, ◌≢◌, ℕ, ◌<◌, true, [], ◌∷◌, ◌++◌, All, None, slice_index_or, IfOk, OnErr, OnOk};
-ghost use Rattle.nz_spec.specs.Work.{NoteLine};
-ghost use Rattle.nz_sat.specs.Numbers.{noted_atoms, number_of, number_or};
+ghost use Rattle.nz_sat.specs.Numbers.{number_of, number_or};
 
-use nz_base::{Memory, Noted, Work};
-use nz_log::Note;
-use nz_term::TermId;
+use nz_base::Memory;
+use nz_log::AtomId;
 use std::alloc::Global;
 use std::marker::Model;
 
-/// The atoms, each with its number: how many were named before it. A contract sees them in that order.
+/// The atoms, each with its number: how many stand before it. A contract sees them in that order.
 #[derive(Debug, Drop)]
 pub struct Atoms {
-    terms: Vec<TermId>,
-    // By the numbers of terms.
+    ids: Vec<AtomId>,
+    // By the numbers of atoms in the log.
     numbers: Vec<Option<usize>>,
 }
 
@@ -22,12 +20,11 @@ impl Model for Atoms {
 
     ghost Value = { List ℕ };
 
-    ghost use Rattle.nz_spec.specs.Work.{NoteLine};
     ghost use Rattle.nz_sat.specs.Numbers.{IsNumbered};
 
-    ghost view = { λ a. a.terms.items };
+    ghost view = { λ a. a.ids.items };
 
-    ghost invariant = { λ a. IsNumbered a.terms.items a.numbers.items };
+    ghost invariant = { λ a. IsNumbered a.ids.items a.numbers.items };
 }
 
 impl Atoms {
@@ -36,62 +33,50 @@ impl Atoms {
         ensures none { result ≡ [] }
     {
         Atoms {
-            terms: Vec::new(alloc),
+            ids: Vec::new(alloc),
             numbers: Vec::new(alloc),
         }
     }
 
-    /// The atoms that a work list names.
-    pub fn noted(alloc: Global, work: &Work<Note>) -> Result<Atoms, Memory>
-        ensures noted { IfOk result (λ a. a ≡ noted_atoms work.now.lines) }
+    /// These atoms, numbered in their order.
+    pub fn of(alloc: Global, ids: &[AtomId]) -> Result<Atoms, Memory>
+        ensures atoms { IfOk result (λ a. a ≡ ids.now) }
     {
         let mut atoms = Atoms::none(alloc);
-        for i in 0..work.len() {
-            match work.get(i) {
-                Noted::Unit(_) => {}
-                Noted::Note(note) => atoms.hear(note)?,
-            }
+        for id in ids {
+            atoms.name(*id)?;
         }
         Ok(atoms)
     }
 
-    /// Takes what a note tells.
-    fn hear(&mut self, note: &Note) -> Result<(), Memory>
-        ensures heard { OnOk result (self.new ≡ self.old ++ noted_atoms (NoteLine note.now ∷ [])) }
+    /// Gives an atom the next number, if it has none.
+    fn name(&mut self, atom: AtomId) -> Result<(), Memory>
+        ensures named { OnOk result (self.new ≡ self.old ++ atom ∷ []) }
     {
-        match note {
-            Note::Atom(term) => self.name(*term),
-        }
-    }
-
-    /// Gives a term the next number, if it has none.
-    fn name(&mut self, term: TermId) -> Result<(), Memory>
-        ensures named { OnOk result (self.new ≡ self.old ++ term ∷ []) }
-    {
-        self.terms.reserve(1)?;
-        give(&mut self.numbers, term, self.terms.len())?;
-        self.terms.push(term).unwrap();
+        self.ids.reserve(1)?;
+        give(&mut self.numbers, atom, self.ids.len())?;
+        self.ids.push(atom).unwrap();
         Ok(())
     }
 
-    /// The terms in the order of their numbers.
-    pub fn terms(&self) -> &[TermId]
-        ensures terms { result.now ≡ self.now }
+    /// The atoms in the order of their numbers.
+    pub fn ids(&self) -> &[AtomId]
+        ensures ids { result.now ≡ self.now }
     {
-        self.terms.as_slice()
+        self.ids.as_slice()
     }
 
-    /// The number of a term.
-    pub fn number(&self, term: TermId) -> Option<usize>
-        ensures number { result ≡ number_of self.now term }
+    /// The number of an atom.
+    pub fn number(&self, atom: AtomId) -> Option<usize>
+        ensures number { result ≡ number_of self.now atom }
     {
-        match self.numbers.get(term) {
+        match self.numbers.get(atom) {
             Some(number) => *number,
             None => None,
         }
     }
 
-    /// A number above those of all these terms.
+    /// A number above all these atoms.
     pub fn size(&self) -> usize
         ensures within { All (λ t. t < result) self.now }
     {
@@ -99,19 +84,19 @@ impl Atoms {
     }
 }
 
-/// Gives a term a number, if it has none.
-fn give(numbers: &mut Vec<Option<usize>>, term: TermId, number: usize) -> Result<(), Memory>
-    ensures given { OnOk result (slice_index_or numbers.new.items term None ≡ number_or (slice_index_or numbers.old.items term None) true number) }
-    ensures others { (t : ℕ) → t ≢ term → slice_index_or numbers.new.items t None ≡ slice_index_or numbers.old.items t None }
+/// Gives an atom a number, if it has none.
+fn give(numbers: &mut Vec<Option<usize>>, atom: AtomId, number: usize) -> Result<(), Memory>
+    ensures given { OnOk result (slice_index_or numbers.new.items atom None ≡ number_or (slice_index_or numbers.old.items atom None) true number) }
+    ensures others { (t : ℕ) → t ≢ atom → slice_index_or numbers.new.items t None ≡ slice_index_or numbers.old.items t None }
     ensures unchanged { OnErr result (numbers.new.items ≡ numbers.old.items) }
 {
-    let Some(size) = term.checked_add(1) else {
+    let Some(size) = atom.checked_add(1) else {
         return Err(Memory);
     };
     if numbers.len() < size {
         numbers.resize(size, None)?;
     }
-    numbers[term] = Some(match numbers[term] {
+    numbers[atom] = Some(match numbers[atom] {
         Some(earlier) => earlier,
         None => number,
     });

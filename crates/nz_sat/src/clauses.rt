@@ -6,8 +6,7 @@ ghost use Rattle.nz_sat.specs.Clauses.{Adds, IsOfSize, IsSameSize, IsWithin, ids
 
 use nz_base::Memory;
 use nz_log::laws::tells_lits;
-use nz_log::{ClauseId, Lit, Log};
-use nz_term::TermId;
+use nz_log::{AtomId, ClauseId, Lit, Log};
 use std::alloc::Global;
 
 /// A clause of a search, with its level.
@@ -20,13 +19,13 @@ pub struct Held {
 /// For each literal the clauses that have it.
 #[derive(Debug, Drop)]
 pub struct Index {
-    // By the numbers of terms: the clauses that have the term, and those that have its negation.
+    // By the numbers of atoms: the clauses that have the atom, and those that have its negation.
     positive: Vec<Vec<ClauseId>>,
     negative: Vec<Vec<ClauseId>>,
 }
 
 impl Index {
-    /// An index without clauses, for terms below a number.
+    /// An index without clauses, for atoms below a number.
     pub fn new(alloc: Global, size: usize) -> Result<Index, Memory>
         ensures size { IfOk result (λ x. IsOfSize size x) }
         ensures empty { IfOk result (λ x. (l : Lit) → ids_of x l ≡ []) }
@@ -42,9 +41,9 @@ impl Index {
         ensures ids { result.now ≡ ids_of self.now literal }
     {
         if literal.sign {
-            list_at(&self.positive, literal.term)
+            list_at(&self.positive, literal.atom)
         } else {
-            list_at(&self.negative, literal.term)
+            list_at(&self.negative, literal.atom)
         }
     }
 
@@ -60,9 +59,9 @@ impl Index {
         ensures others { (m : Lit) → m ≢ literal → ids_of self.new m ≡ ids_of self.old m }
     {
         if literal.sign {
-            return put(&mut self.positive, literal.term, id);
+            return put(&mut self.positive, literal.atom, id);
         }
-        put(&mut self.negative, literal.term, id)
+        put(&mut self.negative, literal.atom, id)
     }
 
     /// Puts a clause beside its literals.
@@ -95,23 +94,23 @@ fn empty_lists(alloc: Global, size: usize) -> Result<Vec<Vec<ClauseId>>, Memory>
     Ok(lists)
 }
 
-/// The list of a term.
-fn list_at(lists: &[Vec<ClauseId>], term: TermId) -> &[ClauseId]
-    ensures ids { result.now ≡ ids_in lists.now term }
+/// The list of an atom.
+fn list_at(lists: &[Vec<ClauseId>], atom: AtomId) -> &[ClauseId]
+    ensures ids { result.now ≡ ids_in lists.now atom }
 {
-    match lists.get(term) {
+    match lists.get(atom) {
         Some(list) => list.as_slice(),
         None => &[],
     }
 }
 
-/// Puts a clause into the list of a term.
-fn put(lists: &mut Vec<Vec<ClauseId>>, term: TermId, id: ClauseId) -> Result<(), Memory>
-    requires within { term < length lists.old.items }
+/// Puts a clause into the list of an atom.
+fn put(lists: &mut Vec<Vec<ClauseId>>, atom: AtomId, id: ClauseId) -> Result<(), Memory>
+    requires within { atom < length lists.old.items }
     ensures size { length lists.new.items ≡ length lists.old.items }
-    ensures put { OnOk result (ids_in lists.new.items term ≡ ids_in lists.old.items term ++ id ∷ []) }
-    ensures others { (t : ℕ) → t ≢ term → ids_in lists.new.items t ≡ ids_in lists.old.items t }
+    ensures put { OnOk result (ids_in lists.new.items atom ≡ ids_in lists.old.items atom ++ id ∷ []) }
+    ensures others { (t : ℕ) → t ≢ atom → ids_in lists.new.items t ≡ ids_in lists.old.items t }
 {
-    lists[term].push(id)?;
+    lists[atom].push(id)?;
     Ok(())
 }

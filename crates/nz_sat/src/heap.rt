@@ -1,68 +1,68 @@
-//! A binary heap of terms, the one with the greatest key on top, and of two with one key that of the lesser number.
+//! A binary heap of atoms, the one with the greatest key on top, and of two with one key that of the lesser number.
 ghost use Rattle.std.specs.Prelude.{◌≡◌, ◌<◌, ◌≤◌, true, IfSome};
 
 use nz_base::Memory;
-use nz_term::TermId;
+use nz_log::AtomId;
 use std::alloc::Global;
 
 /// Terms below a number, each with a key, of which some stand in a heap.
 #[derive(Debug, Drop)]
 pub struct Heap {
-    // The first so many are the heap: below each two greater places stand terms that come behind it.
-    terms: Vec<TermId>,
+    // The first so many are the heap: below each two greater places stand atoms that come behind it.
+    atoms: Vec<AtomId>,
     count: usize,
-    // By the numbers of terms: the keys, and the places in the heap.
+    // By the numbers of atoms: the keys, and the places in the heap.
     keys: Vec<u64>,
     places: Vec<Option<usize>>,
 }
 
 impl Heap {
-    /// An empty heap for terms below a number, each with the key 0.
+    /// An empty heap for atoms below a number, each with the key 0.
     pub fn new(alloc: Global, size: usize) -> Result<Heap, Memory> {
         Ok(Heap {
-            terms: vec![in alloc; 0; size]?,
+            atoms: vec![in alloc; 0; size]?,
             count: 0,
             keys: vec![in alloc; 0; size]?,
             places: vec![in alloc; None; size]?,
         })
     }
 
-    /// Puts a term into the heap, where it isn't there.
-    pub fn insert(&mut self, term: TermId) {
+    /// Puts an atom into the heap, where it isn't there.
+    pub fn insert(&mut self, atom: AtomId) {
         let place = self.count;
-        if self.place(term).is_none() && place < self.terms.len() {
+        if self.place(atom).is_none() && place < self.atoms.len() {
             self.count = place + 1;
-            self.put(place, term);
+            self.put(place, atom);
             self.rise(place);
         }
     }
 
-    /// Takes the first term out of the heap.
-    pub fn take(&mut self) -> Option<TermId>
+    /// Takes the first atom out of the heap.
+    pub fn take(&mut self) -> Option<AtomId>
         ensures fewer { IfSome result (λ _. self.new.count < self.old.count) }
     {
-        let first = self.term(0)?;
+        let first = self.atom(0)?;
         let last = self.count - 1;
-        let moved = self.term(last);
+        let moved = self.atom(last);
         self.count = last;
         if let Some(place) = self.places.get_mut(first) {
             *place = None;
         }
-        if let Some(term) = moved {
+        if let Some(atom) = moved {
             if last > 0 {
-                self.put(0, term);
+                self.put(0, atom);
                 self.sink(0);
             }
         }
         Some(first)
     }
 
-    /// Adds to the key of a term.
-    pub fn raise(&mut self, term: TermId, step: u64) {
-        if let Some(key) = self.keys.get_mut(term) {
+    /// Adds to the key of an atom.
+    pub fn raise(&mut self, atom: AtomId, step: u64) {
+        if let Some(key) = self.keys.get_mut(atom) {
             *key = key.saturating_add(step);
         }
-        if let Some(place) = self.place(term) {
+        if let Some(place) = self.place(atom) {
             self.rise(place);
         }
     }
@@ -76,89 +76,89 @@ impl Heap {
         }
     }
 
-    /// The place of a term in the heap.
-    fn place(&self, term: TermId) -> Option<usize> {
-        *self.places.get(term)?
+    /// The place of an atom in the heap.
+    fn place(&self, atom: AtomId) -> Option<usize> {
+        *self.places.get(atom)?
     }
 
-    /// The term at a place of the heap.
-    fn term(&self, place: usize) -> Option<TermId>
+    /// The atom at a place of the heap.
+    fn atom(&self, place: usize) -> Option<AtomId>
         ensures within { IfSome result (λ _. place < self.now.count) }
     {
         if place < self.count {
-            self.terms.get(place).copied()
+            self.atoms.get(place).copied()
         } else {
             None
         }
     }
 
-    /// Whether a term comes before another.
-    fn is_before(&self, term: TermId, other: TermId) -> bool {
-        match (self.keys.get(term), self.keys.get(other)) {
-            (Some(key), Some(least)) => key > least || key == least && term < other,
+    /// Whether an atom comes before another.
+    fn is_before(&self, atom: AtomId, other: AtomId) -> bool {
+        match (self.keys.get(atom), self.keys.get(other)) {
+            (Some(key), Some(least)) => key > least || key == least && atom < other,
             _ => false,
         }
     }
 
-    /// Puts a term at a place.
-    fn put(&mut self, place: usize, term: TermId)
+    /// Puts an atom at a place.
+    fn put(&mut self, place: usize, atom: AtomId)
         ensures count { self.new.count ≡ self.old.count }
     {
-        if let Some(at) = self.terms.get_mut(place) {
-            *at = term;
+        if let Some(at) = self.atoms.get_mut(place) {
+            *at = atom;
         }
-        if let Some(at) = self.places.get_mut(term) {
+        if let Some(at) = self.places.get_mut(atom) {
             *at = Some(place);
         }
     }
 
-    /// Moves the term at a place up, past those that come behind it.
+    /// Moves the atom at a place up, past those that come behind it.
     fn rise(&mut self, from: usize)
         ensures count { self.new.count ≡ self.old.count }
     {
-        let Some(term) = self.term(from) else {
+        let Some(atom) = self.atom(from) else {
             return;
         };
         let mut place = from;
         while place > 0 {
             let above = (place - 1) / 2;
-            match self.term(above) {
-                Some(other) if self.is_before(term, other) => self.put(place, other),
+            match self.atom(above) {
+                Some(other) if self.is_before(atom, other) => self.put(place, other),
                 _ => break,
             }
             place = above;
         }
-        self.put(place, term);
+        self.put(place, atom);
     }
 
-    /// Moves the term at a place down, past those that come before it.
+    /// Moves the atom at a place down, past those that come before it.
     fn sink(&mut self, from: usize)
         ensures count { self.new.count ≡ self.old.count }
     {
-        let Some(term) = self.term(from) else {
+        let Some(atom) = self.atom(from) else {
             return;
         };
         let mut place = from;
-        while let Some(below) = self.first_below(place, term) {
+        while let Some(below) = self.first_below(place, atom) {
             place = below;
         }
-        self.put(place, term);
+        self.put(place, atom);
     }
 
-    /// Moves the first of the two terms below a place up to it, where that comes before this term. Answers the place that is free then.
-    fn first_below(&mut self, place: usize, term: TermId) -> Option<usize>
+    /// Moves the first of the two atoms below a place up to it, where that comes before this atom. Answers the place that is free then.
+    fn first_below(&mut self, place: usize, atom: AtomId) -> Option<usize>
         ensures count { self.new.count ≡ self.old.count }
         ensures below { IfSome result (λ below. place < below × below < self.old.count) }
     {
         let left = place.checked_mul(2)?.checked_add(1)?;
-        let (mut below, mut first) = (left, self.term(left)?);
-        if let Some(other) = self.term(left + 1) {
+        let (mut below, mut first) = (left, self.atom(left)?);
+        if let Some(other) = self.atom(left + 1) {
             if self.is_before(other, first) {
                 below = left + 1;
                 first = other;
             }
         }
-        if !self.is_before(first, term) {
+        if !self.is_before(first, atom) {
             return None;
         }
         self.put(place, first);

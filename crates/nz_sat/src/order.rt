@@ -6,31 +6,30 @@ use crate::atoms::Atoms;
 use crate::heap::Heap;
 use crate::trail::Trail;
 use nz_base::Memory;
-use nz_log::Lit;
-use nz_term::TermId;
+use nz_log::{AtomId, Lit};
 use std::alloc::Global;
 
-// The greatest step: a term takes part in fewer conflicts than would bring its activity to the type's end.
+// The greatest step: an atom takes part in fewer conflicts than would bring its activity to the type's end.
 const GREATEST: u64 = 1 << 60;
 
-/// How much each term took part in conflicts of late, and the sign that it had last.
+/// How much each atom took part in conflicts of late, and the sign that it had last.
 #[derive(Debug, Drop)]
 pub struct Order {
     // Has the undecided atoms, and maybe decided ones; the keys are the activities.
     heap: Heap,
-    // By the numbers of terms.
+    // By the numbers of atoms.
     signs: Vec<bool>,
-    // What is added where a term takes part.
+    // What is added where an atom takes part.
     step: u64,
 }
 
 impl Order {
-    /// No term took part in a conflict, and each sign is `false`.
+    /// No atom took part in a conflict, and each sign is `false`.
     pub fn new(alloc: Global, atoms: &Atoms) -> Result<Order, Memory> {
         let size = atoms.size();
         let mut heap = Heap::new(alloc, size)?;
-        for term in atoms.terms() {
-            heap.insert(*term);
+        for atom in atoms.ids() {
+            heap.insert(*atom);
         }
         Ok(Order {
             heap,
@@ -39,25 +38,25 @@ impl Order {
         })
     }
 
-    /// The sign that a term had last.
-    pub fn sign(&self, term: TermId) -> bool {
-        match self.signs.get(term) {
+    /// The sign that an atom had last.
+    pub fn sign(&self, atom: AtomId) -> bool {
+        match self.signs.get(atom) {
             Some(sign) => *sign,
             None => false,
         }
     }
 
-    /// Keeps the sign of a literal that is taken off the trail: its term is undecided again.
+    /// Keeps the sign of a literal that is taken off the trail: its atom is undecided again.
     pub fn keep(&mut self, literal: Lit) {
-        if let Some(sign) = self.signs.get_mut(literal.term) {
+        if let Some(sign) = self.signs.get_mut(literal.atom) {
             *sign = literal.sign;
         }
-        self.heap.insert(literal.term);
+        self.heap.insert(literal.atom);
     }
 
-    /// A term takes part in a conflict.
-    pub fn raise(&mut self, term: TermId) {
-        self.heap.raise(term, self.step);
+    /// An atom takes part in a conflict.
+    pub fn raise(&mut self, atom: AtomId) {
+        self.heap.raise(atom, self.step);
     }
 
     /// What took part in the conflicts so far counts less.
@@ -70,27 +69,27 @@ impl Order {
     }
 
     /// The undecided atom that took most part.
-    pub fn next(&mut self, atoms: &Atoms, trail: &Trail) -> Option<TermId>
+    pub fn next(&mut self, atoms: &Atoms, trail: &Trail) -> Option<AtomId>
         ensures undecided { IfSome result (λ t. Contains atoms.now t × (assigned trail.now.entries t ≡ None)) }
         ensures none { result ≡ None → All (λ t. IsSome (assigned trail.now.entries t)) atoms.now }
     {
-        while let Some(term) = self.heap.take() {
-            if atoms.number(term).is_some() && trail.assigned(term).is_none() {
-                return Some(term);
+        while let Some(atom) = self.heap.take() {
+            if atoms.number(atom).is_some() && trail.assigned(atom).is_none() {
+                return Some(atom);
             }
         }
-        first_undecided(atoms.terms(), trail)
+        first_undecided(atoms.ids(), trail)
     }
 }
 
-/// The first undecided one of these terms.
-fn first_undecided(terms: &[TermId], trail: &Trail) -> Option<TermId>
-    ensures undecided { IfSome result (λ t. Contains terms.now t × (assigned trail.now.entries t ≡ None)) }
-    ensures none { result ≡ None → All (λ t. IsSome (assigned trail.now.entries t)) terms.now }
+/// The first undecided one of these atoms.
+fn first_undecided(atoms: &[AtomId], trail: &Trail) -> Option<AtomId>
+    ensures undecided { IfSome result (λ t. Contains atoms.now t × (assigned trail.now.entries t ≡ None)) }
+    ensures none { result ≡ None → All (λ t. IsSome (assigned trail.now.entries t)) atoms.now }
 {
-    for term in terms {
-        if trail.assigned(*term).is_none() {
-            return Some(*term);
+    for atom in atoms {
+        if trail.assigned(*atom).is_none() {
+            return Some(*atom);
         }
     }
     None

@@ -5,19 +5,18 @@ ghost use Rattle.nz_spec.specs.Table.{Node};
 ghost use Rattle.nz_spec.specs.Work.{IsSpent, unit_count};
 ghost use Rattle.nz_log.specs.declared.lits.Lit.{Lit};
 ghost use Rattle.nz_log.specs.declared.stop.Stop.TheVariants as stop;
-ghost use Rattle.nz_log.specs.Lits.{AreConsistent};
 ghost use Rattle.nz_log.specs.Logs.{IsLive, literals_at};
 ghost use Rattle.nz_log.specs.Sound.{IsLog};
 ghost use Rattle.nz_log.specs.Theories.{Grows};
 ghost use Rattle.nz_sat.specs.Conflicts.{Refutes};
-ghost use Rattle.nz_sat.specs.Numbers.{noted_atoms};
-ghost use Rattle.nz_sat.specs.Sats.{AreAtoms, AreHeld, HoldsMore, IsAsked, IsLegalWork, IsSatisfied, IsTheoryMet, held_of, held_up_to, literal_truth};
+ghost use Rattle.nz_sat.specs.Numbers.{AreNotedIn, IsTermAtom, noted_atoms};
+ghost use Rattle.nz_sat.specs.Sats.{AreConsistent, AreHeld, AreNamed, AreOn, HoldsMore, IsAsked, IsLegalWork, IsSatisfied, IsTheoryMet, held_of, held_up_to, literal_truth};
 
 use crate::clauses::Held;
 use crate::consult::take_back;
 use crate::search::Search;
 use nz_base::{Memory, Work};
-use nz_log::{ClauseId, Lit, Log, Note, Stop, Theory};
+use nz_log::{AtomId, ClauseId, Lit, Log, Note, Stop, Theory};
 use std::alloc::Global;
 use std::marker::Model;
 
@@ -26,7 +25,7 @@ use std::marker::Model;
 #[derive(Debug, Drop)]
 pub struct Sat<T> {
     clauses: Vec<Held>,
-    // By the numbers of terms.
+    // By the numbers of atoms.
     truths: Vec<Option<bool>>,
     /// What it was told last are the literals that are true.
     pub theory: T,
@@ -71,8 +70,9 @@ impl<T: Theory> Sat<T> {
         Ok(())
     }
 
-    /// Searches for truths of the noted atoms under which each clause has a true literal, each assumed literal is true, and the theory is
-    /// feasible. Answers `None` where it found them, and otherwise a clause of the log whose literals are negations of assumed ones.
+    /// Searches for truths of these atoms, which are those that the work list notes, under which each clause has a true literal, each assumed
+    /// literal is true, and the theory is feasible. Answers `None` where it found them, and otherwise a clause of the log whose literals are
+    /// negations of assumed ones.
     ///
     /// # Errors
     ///
@@ -81,26 +81,30 @@ impl<T: Theory> Sat<T> {
     pub fn solve(
         &mut self,
         log: &mut Log,
+        atoms: &[AtomId],
         assumed: &[Lit],
         work: &mut Work<Note>,
     ) -> Result<Option<ClauseId>, Stop>
         requires held { AreHeld log.old self.old.clauses }
-        requires atoms { AreAtoms log.old self.old.clauses assumed.now (noted_atoms work.old.lines) }
+        requires noted { AreNotedIn log.old.atoms work.old.lines atoms.now }
+        requires named { AreNamed log.old self.old.clauses assumed.now atoms.now }
         requires consistent { AreConsistent assumed.now }
         requires notes { unit_count work.old.lines ≡ 0 }
         requires told { (ls : List Lit) × T.has_told self.old.theory ls }
-        ensures satisfied { IfOk result (λ r. r ≡ None → IsSatisfied log.new self.new assumed.now (noted_atoms work.old.lines)) }
+        ensures satisfied { IfOk result (λ r. r ≡ None → IsSatisfied log.new self.new assumed.now atoms.now) }
         // The theory was told just the literals of atoms that are true, and some values meet them.
-        ensures feasible { IfOk result (λ r. r ≡ None → IsTheoryMet (T.has_told self.new.theory) (T.is_feasible self.new.theory) self.new (noted_atoms work.old.lines)) }
+        ensures feasible { IfOk result (λ r. r ≡ None → IsTheoryMet (T.has_told self.new.theory) (T.is_feasible self.new.theory) self.new atoms.now) }
         ensures told { OnOk result ((ls : List Lit) × T.has_told self.new.theory ls) }
         ensures refuted { IfOk result (λ r. IfSome r (λ id. IsLive log.new id × Refutes assumed.now (literals_at log.new id))) }
         ensures grows { Grows log.old log.new }
         ensures held { HoldsMore log.new self.old.clauses self.new.clauses }
+        // What was learned is over the same atoms.
+        ensures named { AreOn log.new atoms.now self.new.clauses }
         ensures over { (ns : List Node) → T.is_over self.old.theory ns → T.is_over self.new.theory ns }
-        // Where the atoms are of a table in which what the theory knows of terms is so, the log stays in order.
-        ensures sound { (ns : List Node) (levels : List (List ℕ)) → T.is_over self.old.theory ns → All (λ t. t < length ns) (noted_atoms work.old.lines) → IsLog ns levels log.old → IsLog ns levels log.new }
+        // Where the atoms are terms of a table in which what the theory knows of terms is so, the log stays in order.
+        ensures sound { (ns : List Node) (levels : List (List ℕ)) → T.is_over self.old.theory ns → All (IsTermAtom ns log.old.atoms) atoms.now → IsLog ns levels log.old → IsLog ns levels log.new }
         // Where the notes are legal, so is the whole list.
-        ensures legal { (ns : List Node) (levels : List (List ℕ)) (q : Task) → T.is_over self.old.theory ns → IsAsked ns levels log.old (noted_atoms work.old.lines) assumed.now q → IsLegalWork ns q work.old → IsLegalWork ns q work.new }
+        ensures legal { (ns : List Node) (levels : List (List ℕ)) (q : Task) → T.is_over self.old.theory ns → IsAsked ns levels log.old atoms.now assumed.now q → IsLegalWork ns q work.old → IsLegalWork ns q work.new }
         // No atom is named that wasn't.
         ensures notes { noted_atoms work.new.lines ≡ noted_atoms work.old.lines }
         ensures limit { work.new.limit ≡ work.old.limit }
@@ -109,7 +113,7 @@ impl<T: Theory> Sat<T> {
         self.truths.clear();
         take_back(&mut self.theory, 0);
         let alloc = *self.clauses.allocator();
-        let mut search = Search::new(alloc, log, &self.clauses, work)?;
+        let mut search = Search::new(alloc, log, &self.clauses, atoms)?;
         let refuted = search.run(log, &mut self.clauses, &mut self.theory, assumed, work)?;
         if refuted.is_none() {
             self.truths = search.trail.truths(alloc)?;
@@ -117,11 +121,11 @@ impl<T: Theory> Sat<T> {
         Ok(refuted)
     }
 
-    /// Whether a literal is true after the last search, where its term has a truth.
+    /// Whether a literal is true after the last search, where its atom has a truth.
     pub fn truth(&self, lit: Lit) -> Option<bool>
         ensures truth { result ≡ literal_truth self.now lit }
     {
-        match self.truths.get(lit.term) {
+        match self.truths.get(lit.atom) {
             Some(Some(truth)) => Some(*truth == lit.sign),
             _ => None,
         }

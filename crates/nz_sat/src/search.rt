@@ -1,18 +1,17 @@
 //! The search: decisions, what follows from them, and what each conflict teaches.
-ghost use Rattle.std.specs.Prelude.{◌≡◌, ℕ, ◌<◌, ◌≤◌, ◌++◌, ◌∷◌, [], All, Contains, List, None, Some, length, map, IfErr, IfOk, IfSome, IsSome, OnErr, OnOk};
+ghost use Rattle.std.specs.Prelude.{◌≡◌, ℕ, ◌<◌, ◌≤◌, ◌++◌, ◌∷◌, [], All, Contains, List, None, Some, length, map, slice_get, IfErr, IfOk, IfSome, IsSome, OnErr, OnOk};
 ghost use Rattle.nz_spec.specs.Table.{Node};
 ghost use Rattle.nz_spec.specs.Work.{IsSpent, UnitLine, unit_count, with_line};
 ghost use Rattle.nz_base.specs.Entries.{entry_of};
 ghost use Rattle.nz_log.specs.declared.lits.Lit.{Lit};
 ghost use Rattle.nz_log.specs.declared.stop.Stop.TheVariants as stop;
-ghost use Rattle.nz_log.specs.Lits.{AreConsistent};
 ghost use Rattle.nz_log.specs.Logs.{IsLive, literals_at};
 ghost use Rattle.nz_sat.specs.declared.clauses.Held.{Held};
 ghost use Rattle.nz_sat.specs.Clauses.{Adds, AreUsable, IsImplied, IsWithin};
 ghost use Rattle.nz_log.specs.Theories.{AddsUnits, Grows};
 ghost use Rattle.nz_sat.specs.Conflicts.{GoesBackTo, HasLast, RefutesFrom, StaysSound};
-ghost use Rattle.nz_sat.specs.Numbers.{noted_atoms, numbered};
-ghost use Rattle.nz_sat.specs.Sats.{AreHeld, HoldsMore, held_of};
+ghost use Rattle.nz_sat.specs.Numbers.{numbered};
+ghost use Rattle.nz_sat.specs.Sats.{AreConsistent, AreHeld, AreOn, HoldsMore, held_of};
 ghost use Rattle.nz_sat.specs.Searching.{Advances, Assumes, AssumesAll, ComesTo, Follows, MayAssume, MayFollow, Starts, Decides, IsConflict, IsSearch, Learns, WasNoted, WereOpen, after_learned, learned_line};
 ghost use Rattle.nz_sat.specs.Theories.{IsMet, IsTold};
 ghost use Rattle.nz_sat.specs.Trails.{EachBehind, GoesOn, IsFrontOf, IsTrail, assigned, below, depth};
@@ -26,9 +25,8 @@ use crate::propagate::{propagate, visit_held};
 use crate::trail::Trail;
 use nz_base::{Entry, Literals, Memory, Work};
 use nz_log::laws::{clauses_are_true, tells_lits};
-use nz_log::{ClauseId, Lit, Log, Note, Stop, Theory};
+use nz_log::{AtomId, ClauseId, Lit, Log, Note, Stop, Theory};
 use nz_spec::work::legal_work_goes_on;
-use nz_term::TermId;
 use std::alloc::Global;
 
 /// A search under way.
@@ -38,20 +36,21 @@ pub struct Search {
     pub trail: Trail,
     index: Index,
     order: Order,
-    // By the numbers of terms, the marks of the conflict analysis: none between two conflicts.
+    // By the numbers of atoms, the marks of the conflict analysis: none between two conflicts.
     seen: Vec<bool>,
 }
 
 impl Search {
     /// A search over these clauses, with nothing decided.
-    pub fn new(alloc: Global, log: &Log, held: &[Held], work: &Work<Note>) -> Result<Search, Memory>
+    pub fn new(alloc: Global, log: &Log, held: &[Held], atoms: &[AtomId]) -> Result<Search, Memory>
         requires held { AreHeld log.now held.now }
-        requires named { All (λ h. All (λ l. Contains (noted_atoms work.now.lines) l.term) (literals_at log.now h.id)) held.now }
+        requires named { All (λ h. All (λ l. Contains atoms.now l.atom) (literals_at log.now h.id)) held.now }
+        requires there { All (λ t. IsSome (slice_get log.now.atoms t)) atoms.now }
         ensures search { IfOk result (λ s. IsSearch log.now held.now s) }
-        ensures atoms { IfOk result (λ s. s.atoms ≡ noted_atoms work.now.lines) }
+        ensures atoms { IfOk result (λ s. s.atoms ≡ atoms.now) }
         ensures none { IfOk result (λ s. s.trail.entries ≡ []) }
     {
-        let atoms = Atoms::noted(alloc, work)?;
+        let atoms = Atoms::of(alloc, atoms)?;
         let size = atoms.size();
         let order = Order::new(alloc, &atoms)?;
         let mut index = Index::new(alloc, size)?;
@@ -85,13 +84,13 @@ impl Search {
     /// or the negation of the assumed one.
     fn assume(&mut self, log: &Log, literal: Lit) -> Option<ClauseId>
         requires usable { AreUsable log.now self.old.trail.size self.old.index }
-        requires within { literal.term < self.old.trail.size }
+        requires within { literal.atom < self.old.trail.size }
         requires undecided { depth self.old.trail.entries ≡ 0 }
         ensures rest { self.new ≡ record self.old { trail = self.new.trail } }
         ensures comes { (held : List Held) (assumed : List Lit) → MayAssume log.now held assumed literal self.old → Assumes log.now held assumed literal self.old.trail.entries self.new result }
     {
         tells_lits();
-        match self.trail.assigned(literal.term) {
+        match self.trail.assigned(literal.atom) {
             Some(entry) if entry.literal.is(literal) => None,
             Some(entry) => entry.reason,
             None => {
@@ -112,7 +111,7 @@ impl Search {
     ) -> Option<ClauseId>
         requires search { IsSearch log.now held.now self.old }
         requires none { self.old.trail.entries ≡ [] }
-        requires named { All (λ l. Contains self.old.atoms l.term) assumed.now }
+        requires named { All (λ l. Contains self.old.atoms l.atom) assumed.now }
         requires consistent { AreConsistent assumed.now }
         ensures rest { self.new ≡ record self.old { trail = self.new.trail } }
         ensures comes { AssumesAll log.now held.now assumed.now self.new result }
@@ -243,7 +242,7 @@ impl Search {
         learned: Learned,
     ) -> Result<(), Stop>
         requires live { IsLive log.now learned.clause }
-        requires named { All (λ l. Contains self.now.atoms l.term) (literals_at log.now learned.clause) }
+        requires named { All (λ l. Contains self.now.atoms l.atom) (literals_at log.now learned.clause) }
         ensures noted { OnOk result (work.new ≡ with_line work.old (learned_line self.now.atoms log.now learned)) }
         ensures free { OnOk result (unit_count work.old.lines < work.old.limit) }
         ensures err { OnErr result (work.new ≡ work.old) }
@@ -267,6 +266,7 @@ impl Search {
         ensures rest { self.new ≡ record self.old { index = self.new.index } }
         ensures more { HoldsMore log.now held.old.items held.new.items }
         ensures held { OnOk result (held.new.items ≡ held.old.items ++ held_of log.now id ∷ []) }
+        ensures named { (atoms : List ℕ) → All (λ l. Contains atoms l.atom) (literals_at log.now id) → AreOn log.now atoms held.old.items → AreOn log.now atoms held.new.items }
         ensures added { OnOk result (Adds log.now id self.old.index self.new.index) }
     {
         held.push(Held {
@@ -278,8 +278,8 @@ impl Search {
 
     /// Goes back to where a learned clause asserts its literal, and puts that on the trail. Answers its place.
     fn go_back<T: Theory>(&mut self, theory: &mut T, learned: Learned) -> usize
-        requires free { assigned (below learned.level self.old.trail.entries) learned.literal.term ≡ None }
-        requires within { learned.literal.term < self.old.trail.size }
+        requires free { assigned (below learned.level self.old.trail.entries) learned.literal.atom ≡ None }
+        requires within { learned.literal.atom < self.old.trail.size }
         requires told { IsTold (T.has_told theory.old) self.old.trail.entries }
         ensures rest { self.new ≡ record self.old { trail = self.new.trail; order = self.new.order } }
         ensures size { self.new.trail.size ≡ self.old.trail.size }
@@ -336,7 +336,7 @@ impl Search {
     }
 
     /// The undecided atom that took most part in conflicts.
-    pub(crate) fn next(&mut self) -> Option<TermId>
+    pub(crate) fn next(&mut self) -> Option<AtomId>
         ensures rest { self.new ≡ record self.old { order = self.new.order } }
         ensures undecided { IfSome result (λ t. Contains self.new.atoms t × (assigned self.new.trail.entries t ≡ None)) }
         ensures none { result ≡ None → All (λ t. IsSome (assigned self.new.trail.entries t)) self.new.atoms }
@@ -345,24 +345,24 @@ impl Search {
     }
 
     /// Decides an atom, with the sign that it had last. Answers the place of its literal on the trail.
-    pub(crate) fn decide(&mut self, work: &mut Work<Note>, term: TermId) -> Result<usize, Stop>
-        requires free { assigned self.old.trail.entries term ≡ None }
-        requires named { Contains self.old.atoms term }
-        requires within { term < self.old.trail.size }
+    pub(crate) fn decide(&mut self, work: &mut Work<Note>, atom: AtomId) -> Result<usize, Stop>
+        requires free { assigned self.old.trail.entries atom ≡ None }
+        requires named { Contains self.old.atoms atom }
+        requires within { atom < self.old.trail.size }
         ensures rest { self.new ≡ record self.old { trail = self.new.trail } }
-        ensures decides { OnOk result (Decides self.old self.new term work.old work.new) }
+        ensures decides { OnOk result (Decides self.old self.new atom work.old work.new) }
         ensures place { IfOk result (λ place. place ≡ length self.old.trail.entries) }
         ensures free { OnOk result (unit_count work.old.lines < work.old.limit) }
         ensures err { OnErr result (work.new ≡ work.old) }
         ensures spent { IfErr result (λ e. e ≡ stop.Spent → IsSpent work.new) }
     {
-        let Some(atom) = self.atoms.number(term) else {
+        let Some(number) = self.atoms.number(atom) else {
             unreachable!()
         };
-        let sign = self.order.sign(term);
-        note(work, Entry::Decision { atom, sign })?;
+        let sign = self.order.sign(atom);
+        note(work, Entry::Decision { atom: number, sign })?;
         let place = self.trail.len();
-        self.trail.decide(Lit { term, sign });
+        self.trail.decide(Lit { atom, sign });
         Ok(place)
     }
 }
@@ -383,12 +383,12 @@ fn note(work: &mut Work<Note>, entry: Entry) -> Result<(), Stop>
 
 /// These literals by the numbers of their atoms.
 fn by_numbers(alloc: Global, atoms: &Atoms, literals: &[Lit]) -> Result<Literals, Memory>
-    requires named { All (λ l. Contains atoms.now l.term) literals.now }
+    requires named { All (λ l. Contains atoms.now l.atom) literals.now }
     ensures numbers { IfOk result (λ ps. ps ≡ map (numbered atoms.now) literals.now) }
 {
     let mut pairs = Vec::with_capacity(alloc, literals.len())?;
     for literal in literals {
-        match atoms.number(literal.term) {
+        match atoms.number(literal.atom) {
             Some(number) => pairs.push((number, literal.sign))?,
             None => unreachable!(),
         }

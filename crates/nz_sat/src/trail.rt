@@ -3,8 +3,7 @@ ghost use Rattle.std.specs.Prelude.{◌≡◌, ◌^◌, ◌<◌, ◌≤◌, [], 
 ghost use Rattle.nz_sat.specs.Trails.{AreTruthsOn, AreUpTo, DropsLast, HasValue, IsTrail, assigned, decided, depth, empty_trail, implied, level_on, with_entry};
 
 use nz_base::Memory;
-use nz_log::{ClauseId, Lit};
-use nz_term::TermId;
+use nz_log::{AtomId, ClauseId, Lit};
 use std::alloc::{AllocError, Global};
 use std::marker::Model;
 
@@ -18,13 +17,13 @@ pub struct Assigned {
     pub reason: Option<ClauseId>,
 }
 
-/// The literals that are true. A contract sees them, the oldest first, and below which number all terms are.
+/// The literals that are true. A contract sees them, the oldest first, and below which number all atoms are.
 #[derive(Debug, Drop)]
 pub struct Trail {
-    // Has room for each term.
+    // Has room for each atom.
     entries: Vec<Assigned>,
-    // By the numbers of terms.
-    by_term: Vec<Option<Assigned>>,
+    // By the numbers of atoms.
+    by_atom: Vec<Option<Assigned>>,
 }
 
 impl Model for Trail {
@@ -34,19 +33,19 @@ impl Model for Trail {
 
     ghost use Rattle.nz_sat.specs.Stored.{IsTabled, trail_of};
 
-    ghost view = { λ t. trail_of t.entries.items t.by_term.items };
+    ghost view = { λ t. trail_of t.entries.items t.by_atom.items };
 
-    ghost invariant = { λ t. IsTabled t.entries t.by_term.items };
+    ghost invariant = { λ t. IsTabled t.entries t.by_atom.items };
 }
 
 impl Trail {
-    /// A trail without entries, for terms below a number.
+    /// A trail without entries, for atoms below a number.
     pub fn new(alloc: Global, size: usize) -> Result<Trail, Memory>
         ensures empty { IfOk result (λ t. t ≡ empty_trail size) }
     {
         Ok(Trail {
             entries: Vec::with_capacity(alloc, size)?,
-            by_term: vec![in alloc; None; size]?,
+            by_atom: vec![in alloc; None; size]?,
         })
     }
 
@@ -67,31 +66,31 @@ impl Trail {
         self.entries[i]
     }
 
-    /// The entry of a term.
-    pub fn assigned(&self, term: TermId) -> Option<Assigned>
-        ensures assigned { result ≡ assigned self.now.entries term }
+    /// The entry of an atom.
+    pub fn assigned(&self, atom: AtomId) -> Option<Assigned>
+        ensures assigned { result ≡ assigned self.now.entries atom }
     {
-        match self.by_term.get(term) {
+        match self.by_atom.get(atom) {
             Some(entry) => *entry,
             None => None,
         }
     }
 
-    /// Whether a literal is true, where its term is decided.
+    /// Whether a literal is true, where its atom is decided.
     pub fn value(&self, literal: Lit) -> Option<bool>
         ensures value { HasValue self.now.entries literal result }
     {
-        match self.assigned(literal.term) {
+        match self.assigned(literal.atom) {
             Some(entry) => Some(entry.literal.sign == literal.sign),
             None => None,
         }
     }
 
-    /// The level at which a term was decided, 0 where it isn't.
-    pub fn level_of(&self, term: TermId) -> usize
-        ensures level { result ≡ level_on self.now.entries term }
+    /// The level at which an atom was decided, 0 where it isn't.
+    pub fn level_of(&self, atom: AtomId) -> usize
+        ensures level { result ≡ level_on self.now.entries atom }
     {
-        match self.assigned(term) {
+        match self.assigned(atom) {
             Some(entry) => entry.level,
             None => 0,
         }
@@ -110,20 +109,20 @@ impl Trail {
 
     /// Puts a literal on the trail.
     fn put(&mut self, entry: Assigned)
-        requires free { assigned self.old.entries entry.literal.term ≡ None }
-        requires within { entry.literal.term < self.old.size }
+        requires free { assigned self.old.entries entry.literal.atom ≡ None }
+        requires within { entry.literal.atom < self.old.size }
         requires level { entry.level ≡ depth (self.old.entries ++ entry ∷ []) }
         ensures put { self.new ≡ with_entry self.old entry }
         ensures order { IsTrail self.new }
     {
-        self.by_term[entry.literal.term] = Some(entry);
+        self.by_atom[entry.literal.atom] = Some(entry);
         self.entries.push(entry).unwrap();
     }
 
     /// Puts an assumed literal on the trail, before the first decision.
     pub fn assume(&mut self, literal: Lit)
-        requires free { assigned self.old.entries literal.term ≡ None }
-        requires within { literal.term < self.old.size }
+        requires free { assigned self.old.entries literal.atom ≡ None }
+        requires within { literal.atom < self.old.size }
         requires undecided { depth self.old.entries ≡ 0 }
         ensures put { self.new ≡ with_entry self.old (record { literal = literal; level = 0; reason = None }) }
         ensures order { IsTrail self.new }
@@ -137,8 +136,8 @@ impl Trail {
 
     /// Decides a literal.
     pub fn decide(&mut self, literal: Lit)
-        requires free { assigned self.old.entries literal.term ≡ None }
-        requires within { literal.term < self.old.size }
+        requires free { assigned self.old.entries literal.atom ≡ None }
+        requires within { literal.atom < self.old.size }
         ensures put { self.new ≡ with_entry self.old (decided self.old.entries literal) }
         ensures order { IsTrail self.new }
     {
@@ -152,8 +151,8 @@ impl Trail {
 
     /// Puts a literal on the trail that a clause makes true.
     pub fn imply(&mut self, literal: Lit, reason: ClauseId)
-        requires free { assigned self.old.entries literal.term ≡ None }
-        requires within { literal.term < self.old.size }
+        requires free { assigned self.old.entries literal.atom ≡ None }
+        requires within { literal.atom < self.old.size }
         ensures put { self.new ≡ with_entry self.old (implied self.old.entries literal reason) }
         ensures order { IsTrail self.new }
     {
@@ -176,15 +175,15 @@ impl Trail {
             return None;
         }
         self.entries.pop();
-        self.by_term[last.literal.term] = None;
+        self.by_atom[last.literal.atom] = None;
         Some(last.literal)
     }
 
-    /// The truth of each term, by number.
+    /// The truth of each atom, by number.
     pub fn truths(&self, alloc: Global) -> Result<Vec<Option<bool>>, Memory>
         ensures truths { IfOk result (λ v. AreTruthsOn self.now.entries v.items) }
     {
-        Ok(signs(alloc, &self.by_term)?)
+        Ok(signs(alloc, &self.by_atom)?)
     }
 }
 

@@ -1,10 +1,10 @@
 //! The search from its start to its end.
 ghost use Rattle.std.specs.Prelude.{◌≡◌, ◌<◌, ◌≤◌, [], All, Contains, List, None, length, IfOk, IfSome};
 ghost use Rattle.nz_log.specs.declared.lits.Lit.{Lit};
-ghost use Rattle.nz_log.specs.Lits.{AreConsistent};
 ghost use Rattle.nz_log.specs.Logs.{IsLive, literals_at};
 ghost use Rattle.nz_sat.specs.Clauses.{IsAssumed};
 ghost use Rattle.nz_sat.specs.Conflicts.{HasLast, Refutes};
+ghost use Rattle.nz_sat.specs.Sats.{AreConsistent};
 ghost use Rattle.nz_sat.specs.Searching.{AreOpen, AreWaiting, IsConflict, IsNoted, IsSearch, Runs, Satisfies, Settles, SettlesOn, Steps, TurnsOn, WasNoted, WereOpen, assumed_entries};
 ghost use Rattle.nz_sat.specs.Theories.{IsTold};
 ghost use Rattle.nz_sat.specs.Trails.{assigned, depth};
@@ -12,9 +12,8 @@ ghost use Rattle.nz_sat.specs.Trails.{assigned, depth};
 use crate::clauses::Held;
 use crate::search::Search;
 use nz_base::Work;
-use nz_log::{ClauseId, Lit, Log, Note, Stop, Theory};
+use nz_log::{AtomId, ClauseId, Lit, Log, Note, Stop, Theory};
 use nz_spec::work::legal_work_goes_on;
-use nz_term::TermId;
 
 impl Search {
     /// Learns from a clause in which each literal is false, one of them of the last level, makes true what the clauses make true with that, and
@@ -79,21 +78,21 @@ impl Search {
         held: &mut Vec<Held>,
         theory: &mut T,
         work: &mut Work<Note>,
-        term: TermId,
+        atom: AtomId,
     ) -> Result<Option<ClauseId>, Stop>
         requires search { IsSearch log.old held.old.items self.old }
         requires all_open { AreOpen log.old held.old.items self.old.trail.entries }
         requires were_open { WereOpen log.old held.old.items self.old.trail.entries }
         requires noted { IsNoted log.old held.old.items self.old.atoms self.old.trail.entries work.old }
         requires told { IsTold (T.has_told theory.old) self.old.trail.entries }
-        requires free { assigned self.old.trail.entries term ≡ None }
-        requires named { Contains self.old.atoms term }
+        requires free { assigned self.old.trail.entries atom ≡ None }
+        requires named { Contains self.old.atoms atom }
         ensures steps { Steps (T.is_over theory.old) (T.is_over theory.new) (T.has_told theory.new) (T.is_feasible theory.new) self.old.atoms self.old.trail.entries self.new.trail.entries log.old log.new held.old.items held.new.items work.old work.new result }
         ensures settled { IfOk result (λ r. r ≡ None → SettlesOn log.new held.new.items self.old self.new work.old work.new) }
         ensures refuted { IfOk result (λ r. IfSome r (λ id. IsLive log.new id × ((assumed : List Lit) → All (IsAssumed assumed) self.old.trail.entries → Refutes assumed (literals_at log.new id)))) }
     {
         legal_work_goes_on();
-        let from = self.decide(work, term)?;
+        let from = self.decide(work, atom)?;
         self.settle(log, held, theory, work, from)
     }
 
@@ -108,7 +107,7 @@ impl Search {
     ) -> Result<Option<ClauseId>, Stop>
         requires search { IsSearch log.old held.old.items self.old }
         requires none { self.old.trail.entries ≡ [] }
-        requires named { All (λ l. Contains self.old.atoms l.term) assumed.now }
+        requires named { All (λ l. Contains self.old.atoms l.atom) assumed.now }
         requires consistent { AreConsistent assumed.now }
         requires noted { IsNoted log.old held.old.items self.old.atoms [] work.old }
         requires told { T.has_told theory.old [] }
@@ -135,7 +134,7 @@ impl Search {
     ) -> Result<Option<ClauseId>, Stop>
         requires search { IsSearch log.old held.old.items self.old }
         requires none { self.old.trail.entries ≡ [] }
-        requires named { All (λ l. Contains self.old.atoms l.term) assumed.now }
+        requires named { All (λ l. Contains self.old.atoms l.atom) assumed.now }
         requires consistent { AreConsistent assumed.now }
         requires noted { IsNoted log.old held.old.items self.old.atoms [] work.old }
         requires told { T.has_told theory.old [] }
@@ -146,8 +145,8 @@ impl Search {
         if let Some(refuted) = self.begin(log, held, theory, assumed, work)? {
             return Ok(Some(refuted));
         }
-        while let Some(term) = self.next() {
-            if let Some(found) = self.turn(log, held, theory, work, term)? {
+        while let Some(atom) = self.next() {
+            if let Some(found) = self.turn(log, held, theory, work, atom)? {
                 return Ok(Some(found));
             }
         }

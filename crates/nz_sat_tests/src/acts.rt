@@ -3,7 +3,7 @@
 
 use crate::problem::Problem;
 use nz_base::Memory;
-use nz_log::{Lit, Stop};
+use nz_log::{Stop, TermLit};
 use nz_term::{Operator, TermId};
 use std::alloc::Global;
 use std::test::Fail;
@@ -43,15 +43,15 @@ struct Wrong {
 }
 
 /// The literal of a number.
-fn literal(number: Number) -> Lit {
-    Lit {
+fn literal(number: Number) -> TermLit {
+    TermLit {
         term: (number.unsigned_abs() as usize).saturating_sub(1),
         sign: number > 0,
     }
 }
 
 /// The literals of these numbers.
-fn literals(alloc: Global, numbers: &[Number]) -> Result<Vec<Lit>, Memory> {
+fn literals(alloc: Global, numbers: &[Number]) -> Result<Vec<TermLit>, Memory> {
     let mut literals = Vec::new(alloc);
     for number in numbers {
         literals.push(literal(*number))?;
@@ -60,7 +60,7 @@ fn literals(alloc: Global, numbers: &[Number]) -> Result<Vec<Lit>, Memory> {
 }
 
 /// The term that a literal is.
-fn term(problem: &mut Problem, literal: Lit) -> Result<TermId, Memory> {
+fn term(problem: &mut Problem, literal: TermLit) -> Result<TermId, Memory> {
     if literal.sign {
         return Ok(literal.term);
     }
@@ -84,7 +84,7 @@ pub fn holds(alloc: Global, problem: &mut Problem, assumed: &[Number]) -> Result
 }
 
 /// Whether a clause has just these literals.
-fn is_of(clause: &[Lit], literals: &[Lit]) -> bool {
+fn is_of(clause: &[TermLit], literals: &[TermLit]) -> bool {
     clause.len() == literals.len() && literals.iter().all(|one| clause.contains(one))
 }
 

@@ -1,78 +1,84 @@
-//! Problems for the search: constants, and the clauses of terms over them in a log. What a call asks of its arguments is tested there, so
-//! that the tests have nothing to prove.
-ghost use Rattle.std.specs.Prelude.{◌≡◌, ℕ, ◌<◌, ◌∷◌, [], All, IfOk, IfSome, IsTrue, List, OnOk, Some, length, slice_get};
+//! Problems for the search: constants, and the clauses of terms over them in a log. What a call asks of its arguments is tested here, so
+//! that the tests have nothing to prove: the problem's invariant is known to no other file.
+ghost use Rattle.std.specs.Prelude.{◌≡◌, ◌<◌, [], All, Contains, IfOk, IfSome, IsTrue, OnOk, length};
 ghost use Rattle.std.specs.Bool.{OnTrue};
-ghost use Rattle.nz_spec.specs.Gates.{HasBooleanArguments};
-ghost use Rattle.nz_spec.specs.Table.{HasItsArguments, Node, term_in};
+ghost use Rattle.nz_spec.specs.Literal.{StandOnce};
+ghost use Rattle.nz_spec.specs.Table.{HasItsArguments};
 ghost use Rattle.nz_spec.specs.Term.{head_fits};
 ghost use Rattle.nz_spec.specs.Work.{unit_count};
 ghost use Rattle.nz_term.specs.Heads.{head_of};
-ghost use Rattle.nz_log.specs.Lits.{AreConsistent, gates_at};
 ghost use Rattle.nz_log.specs.Logs.{IsLive};
-ghost use Rattle.nz_log.specs.Sound.{live_at};
-ghost use Rattle.nz_sat.specs.Numbers.{noted_atoms};
-ghost use Rattle.nz_sat_tests.specs.Problems.{AreBelow, IsPosed};
+ghost use Rattle.nz_log.specs.TermLits.{gates_at};
+ghost use Rattle.nz_sat.specs.Numbers.{AreNotedIn};
+ghost use Rattle.nz_sat.specs.Sats.{AreConsistent};
 
 use nz_base::{Memory, Text, Work};
-use nz_log::laws::logs_stay;
-use nz_log::{ClauseId, Lit, Log, NoNumbers, Note, Stop, gate_count};
+use nz_log::{
+    Atom, AtomId, ClauseId, Lit, Literal, Log, NoNumbers, Note, Stop, TermLit, gate_count,
+};
 use nz_sat::Sat;
-use nz_spec::derivation::gates_are_true;
 use nz_term::{Constant, Head, Operator, Sort, TermId, Terms, operators_are_no_leaves};
+use nz_term_samples::are_below;
 use std::alloc::Global;
 use std::marker::Model;
 
-/// A problem under way. A contract sees its table of terms.
+/// A problem under way.
 #[derive(Drop)]
 pub struct Problem {
     alloc: Global,
     terms: Terms,
-    asserted: Vec<TermId>,
-    log: Log,
-    sat: Sat<NoNumbers>,
+    asserted: usize,
+    held: Held,
     limit: u64,
     left: u64,
 }
 
-impl Model for Problem {
-    ghost use Rattle.std.specs.Prelude.{List};
-    ghost use Rattle.nz_spec.specs.Table.{Node};
+/// Clauses of a log that a search holds, over these atoms of the log.
+#[derive(Drop)]
+struct Held {
+    log: Log,
+    sat: Sat<NoNumbers>,
+    atoms: Vec<AtomId>,
+}
 
-    ghost Value = { List Node };
+impl Model for Held {
+    ghost use Rattle.nz_sat_tests.specs.Problems.{HeldState, IsPosed};
 
-    ghost use Rattle.nz_sat_tests.specs.Problems.{IsPosed};
+    ghost Value = { HeldState };
 
-    ghost view = { λ p. p.terms };
+    ghost view = { λ h. record { log = h.log; sat = h.sat; atoms = h.atoms.items } };
 
-    ghost invariant = { λ p. IsPosed p.terms p.asserted.items p.log p.sat };
+    ghost invariant = { λ h. IsPosed h.log h.sat h.atoms.items };
 }
 
 impl Problem {
     /// A problem without clauses, each of whose searches may take so many units.
     pub fn new(alloc: Global, limit: u64) -> Result<Problem, Memory> {
-        logs_stay();
         Ok(Problem {
             alloc,
             terms: Terms::new(alloc)?,
-            asserted: Vec::new(alloc),
-            log: Log::new(alloc)?,
-            sat: Sat::new(alloc, NoNumbers::new()),
+            asserted: 0,
+            held: Held {
+                log: Log::new(alloc)?,
+                sat: Sat::new(alloc, NoNumbers::new()),
+                atoms: Vec::new(alloc),
+            },
             limit,
             left: limit,
         })
     }
 
-    /// The term of this head over these.
+    /// The term of this head over these, which is an atom.
     fn make(&mut self, head: Head<'_>, kids: &[TermId]) -> Result<TermId, Memory>
         requires fits { IsTrue (head_fits (head_of head)) }
         requires leaves { HasItsArguments (head_of head) kids.now }
-        ensures within { IfOk result (λ id. id < length self.new) }
     {
-        logs_stay();
         if !are_below(kids, self.terms.len()) {
             return Err(Memory);
         }
-        self.terms.make(head, kids)
+        let term = self.terms.make(head, kids)?;
+        self.held.name(term)?;
+        Ok(term)
     }
 
     /// The constant of this number.
@@ -91,34 +97,28 @@ impl Problem {
         let known = self.terms.len();
         let term = self.make(Head::Operator(operator), kids)?;
         if known <= term {
-            add_gates(&mut self.log, &mut self.sat, &self.terms, term)?;
+            add_gates(&mut self.held, &self.terms, term)?;
         }
         Ok(term)
     }
 
     /// Asserts a term.
     pub fn assert(&mut self, term: TermId) -> Result<(), Memory> {
-        logs_stay();
         if self.terms.len() <= term {
             return Err(Memory);
         }
-        let place = self.asserted.len();
-        self.asserted.push(term)?;
-        add_assertion(&mut self.log, &mut self.sat, place, term)
+        let place = self.asserted;
+        self.asserted = place.checked_add(1).ok_or(Memory)?;
+        self.held.give(place, term)
     }
 
     /// Searches under these assumed literals, where each term is an atom. Answers the literals of the clause that refutes them, where there is one.
-    pub fn solve(&mut self, assumed: &[Lit]) -> Result<Option<Vec<Lit>>, Stop> {
-        let count = self.terms.len();
-        if !name_below(assumed, count) || !are_consistent(assumed) {
-            return Err(Stop::Memory);
-        }
+    pub fn solve(&mut self, assumed: &[TermLit]) -> Result<Option<Vec<TermLit>>, Stop> {
         let mut work = Work::new(self.alloc)?;
         work.reserve(self.limit)?;
-        note_atoms(count, &mut work)?;
-        let refuted = self.sat.solve(&mut self.log, assumed, &mut work)?;
+        let refuted = self.held.solve(assumed, &mut work)?;
         self.left = work.left();
-        Ok(literals_of(self.alloc, &self.log, refuted)?)
+        Ok(refuted)
     }
 
     /// How many units the last search didn't use.
@@ -127,104 +127,154 @@ impl Problem {
     }
 
     /// Whether a literal is true after the last search, where its term has a truth.
-    pub fn truth(&self, literal: Lit) -> Option<bool> {
-        self.sat.truth(literal)
+    pub fn truth(&self, literal: TermLit) -> Option<bool> {
+        let atom = self.held.log.find_term(literal.term)?;
+        self.held.sat.truth(Lit {
+            atom,
+            sign: literal.sign,
+        })
     }
 }
 
-/// Adds the clause of this number of a term of the gate table.
-fn add_gate(
-    log: &mut Log,
-    sat: &mut Sat<NoNumbers>,
-    terms: &Terms,
-    term: TermId,
-    j: usize,
-) -> Result<(), Memory>
-    requires within { term < length terms.now }
-    requires table { j < length (gates_at terms.now term) }
-    ensures posed { (asserted : List ℕ) → HasBooleanArguments (term_in terms.now term) → IsPosed terms.now asserted log.old sat.old → IsPosed terms.now asserted log.new sat.new }
-{
-    let clause = log.gate(terms, term, j)?;
-    sat.add(log, clause)
+impl Held {
+    /// A term is an atom.
+    fn name(&mut self, term: TermId) -> Result<(), Memory> {
+        let atom = self.log.term_atom(term)?;
+        if !self.atoms.contains(&atom) {
+            self.atoms.push(atom)?;
+        }
+        Ok(())
+    }
+
+    /// Holds a clause, whose literals are on the atoms.
+    fn hold(&mut self, id: ClauseId) -> Result<(), Memory>
+        requires live { IsLive self.old.log id }
+    {
+        if !are_on(self.log.clause(id), &self.atoms) {
+            return Err(Memory);
+        }
+        self.sat.add(&self.log, id)
+    }
+
+    /// Adds that the term of a live assertion is true.
+    fn give(&mut self, place: usize, term: TermId) -> Result<(), Memory> {
+        let clause = self.log.given(place, term, 0)?;
+        self.hold(clause)
+    }
+
+    /// Adds the clause of this number of a term of the gate table.
+    fn gate(&mut self, terms: &Terms, term: TermId, j: usize) -> Result<(), Memory>
+        requires within { term < length terms.now }
+        requires table { j < length (gates_at terms.now term) }
+    {
+        let clause = self.log.gate(terms, term, j)?;
+        self.hold(clause)
+    }
+
+    /// Searches under these assumed literals. Answers the literals of the clause that refutes them, where there is one.
+    fn solve(
+        &mut self,
+        assumed: &[TermLit],
+        work: &mut Work<Note>,
+    ) -> Result<Option<Vec<TermLit>>, Stop>
+        requires empty { work.old.lines ≡ [] }
+    {
+        let literals = self.log.lits_of(assumed)?;
+        note_question(&self.log, &self.atoms, &literals, work)?;
+        let refuted = self.sat.solve(&mut self.log, &self.atoms, &literals, work)?;
+        Ok(on_terms(*self.atoms.allocator(), &self.log, refuted)?)
+    }
 }
 
 /// Adds the clauses of a term of the gate table that holds no number.
-fn add_gates(
-    log: &mut Log,
-    sat: &mut Sat<NoNumbers>,
-    terms: &Terms,
-    term: TermId,
-) -> Result<(), Memory>
-    requires within { term < length terms.now }
-    ensures posed { (asserted : List ℕ) → IsPosed terms.now asserted log.old sat.old → IsPosed terms.now asserted log.new sat.new }
-{
-    gates_are_true();
-    if terms.holds_number(term) {
+fn add_gates(held: &mut Held, terms: &Terms, term: TermId) -> Result<(), Memory> {
+    if terms.len() <= term || terms.holds_number(term) {
         return Err(Memory);
     }
     for j in 0..gate_count(terms, term) {
-        add_gate(log, sat, terms, term, j)?;
+        held.gate(terms, term, j)?;
     }
     Ok(())
 }
 
-/// Adds that the term of a live assertion is true.
-fn add_assertion(
-    log: &mut Log,
-    sat: &mut Sat<NoNumbers>,
-    place: usize,
-    term: TermId,
-) -> Result<(), Memory>
-    ensures posed { (ns : List Node) (asserted : List ℕ) → term < length ns → slice_get (live_at (asserted ∷ []) 0) place ≡ Some term → IsPosed ns asserted log.old sat.old → IsPosed ns asserted log.new sat.new }
-{
-    let clause = log.given(place, term, 0)?;
-    sat.add(log, clause)
-}
-
-/// The literals of this clause, if it is one.
-fn literals_of(
+/// The literals of this clause, if it is one, on terms.
+fn on_terms(
     alloc: Global,
     log: &Log,
     clause: Option<ClauseId>,
-) -> Result<Option<Vec<Lit>>, Memory>
+) -> Result<Option<Vec<TermLit>>, Memory>
     requires live { IfSome clause (IsLive log.now) }
 {
-    match clause {
-        Some(id) => Ok(Some(Vec::from_slice(alloc, log.clause(id))?)),
-        None => Ok(None),
+    let Some(id) = clause else {
+        return Ok(None);
+    };
+    let mut literals = Vec::new(alloc);
+    for literal in log.clause(id) {
+        if let Literal::Term(on_term) = log.literal(*literal) {
+            literals.push(on_term)?;
+        }
     }
+    Ok(Some(literals))
 }
 
-/// Notes the terms below this number as atoms.
-fn note_atoms(count: usize, work: &mut Work<Note>) -> Result<(), Memory>
+/// Notes the terms of these atoms, where a search over them may assume these literals.
+fn note_question(
+    log: &Log,
+    atoms: &[AtomId],
+    assumed: &[Lit],
+    work: &mut Work<Note>,
+) -> Result<(), Memory>
     requires empty { work.old.lines ≡ [] }
-    ensures atoms { OnOk result (AreBelow count (noted_atoms work.new.lines)) }
+    ensures noted { OnOk result (AreNotedIn log.now.atoms work.new.lines atoms.now) }
     ensures units { OnOk result (unit_count work.new.lines ≡ 0) }
+    ensures once { OnOk result (StandOnce atoms.now) }
+    ensures among { OnOk result (All (λ l. Contains atoms.now l.atom) assumed.now) }
+    ensures consistent { OnOk result (AreConsistent assumed.now) }
 {
-    for term in 0..count {
-        work.note(Note::Atom(term))?;
+    let noted = note_atoms(log, atoms, work)?;
+    if noted && stand_once(atoms) && are_on(assumed, atoms) && are_consistent(assumed) {
+        Ok(())
+    } else {
+        Err(Memory)
     }
-    Ok(())
 }
 
-/// Whether each of these is below this number.
-fn are_below(terms: &[TermId], count: usize) -> bool
-    ensures below { OnTrue result (All (λ t. t < count) terms.now) }
+/// Notes the terms of these atoms. Answers whether each of them is one.
+fn note_atoms(log: &Log, atoms: &[AtomId], work: &mut Work<Note>) -> Result<bool, Memory>
+    requires empty { work.old.lines ≡ [] }
+    ensures noted { IfOk result (λ b. OnTrue b (AreNotedIn log.now.atoms work.new.lines atoms.now)) }
+    ensures units { IfOk result (λ b. OnTrue b (unit_count work.new.lines ≡ 0)) }
 {
-    for i in 0..terms.len() {
-        if count <= terms[i] {
+    for atom in atoms {
+        if log.atom_count() <= *atom {
+            return Ok(false);
+        }
+        match log.atom(*atom) {
+            Atom::Term(term) => work.note(Note::Atom(*term))?,
+            Atom::AtMost(_) => return Ok(false),
+        }
+    }
+    Ok(true)
+}
+
+/// Whether each of these literals is on one of these atoms.
+fn are_on(literals: &[Lit], atoms: &[AtomId]) -> bool
+    ensures among { OnTrue result (All (λ l. Contains atoms.now l.atom) literals.now) }
+{
+    for i in 0..literals.len() {
+        if !atoms.contains(&literals[i].atom) {
             return false;
         }
     }
     true
 }
 
-/// Whether these literals name terms below this number.
-fn name_below(literals: &[Lit], count: usize) -> bool
-    ensures below { OnTrue result (All (λ l. l.term < count) literals.now) }
+/// Whether none of these stands twice.
+fn stand_once(atoms: &[AtomId]) -> bool
+    ensures once { OnTrue result (StandOnce atoms.now) }
 {
-    for i in 0..literals.len() {
-        if count <= literals[i].term {
+    for i in 0..atoms.len() {
+        if atoms[..i].contains(&atoms[i]) {
             return false;
         }
     }

@@ -24,6 +24,7 @@ pub mod Derivations
 pub mod Divisions
 pub mod Examples
 pub mod FarkasSums
+pub mod FirstOperations
 pub mod FormNumbers
 pub mod FormPlaces
 pub mod FormSums
@@ -37,6 +38,7 @@ pub mod FractionZeros
 pub mod GateSettling
 pub mod GateTruths
 pub mod InfinitesimalLaws
+pub mod InfinitesimalMoves
 pub mod InfinitesimalOrder
 pub mod Instances
 pub mod IntegerSums
@@ -48,6 +50,7 @@ pub mod Normal
 pub mod NormalGates
 pub mod NormalSorts
 pub mod Pieces
+pub mod PivotRuns
 pub mod Placed
 pub mod PositionMovesKeep
 pub mod ReadOperands

@@ -14,11 +14,13 @@ pub mod Error
 pub mod Example
 pub mod Expression
 pub mod Farkas
+pub mod FirstOperations
 pub mod Form
 pub mod FormOf
 pub mod FormPlace
 pub mod Gates
 pub mod Infinitesimal
+pub mod InfinitesimalMoves
 pub mod Kept
 pub mod Legal
 pub mod Limits
@@ -34,6 +36,7 @@ pub mod Operations
 pub mod Order
 pub mod Outside
 pub mod Parse
+pub mod Pivots
 pub mod PositionMoves
 pub mod Reading
 pub mod Reply

@@ -6,11 +6,13 @@
 pub mod arithmetic;
 pub mod basis;
 pub mod climb;
+pub mod computation;
 pub mod derivation;
 pub mod elaboration;
 pub mod example;
 pub mod form;
 pub mod infinitesimal;
+pub mod pivots;
 pub mod reply;
 pub mod script;
 pub mod table;

@@ -56,6 +56,32 @@ pub fn integer(terms: &mut Terms, n: i64) -> Result<TermId, Memory> {
     }
 }
 
+/// A natural number times a term of this sort of numbers.
+pub fn times(
+    terms: &mut Terms,
+    sort: NumberSort,
+    number: u128,
+    id: TermId,
+) -> Result<TermId, Memory> {
+    let factor = numeral(terms, number)?;
+    operation(terms, Operator::Product(sort), &[factor, id])
+}
+
+/// An integer times a term of this sort of numbers.
+pub fn multiple(
+    terms: &mut Terms,
+    sort: NumberSort,
+    number: i64,
+    id: TermId,
+) -> Result<TermId, Memory> {
+    let size = times(terms, sort, number.unsigned_abs() as u128, id)?;
+    if number < 0 {
+        operation(terms, Operator::Difference(sort), &[size])
+    } else {
+        Ok(size)
+    }
+}
+
 /// Whether each of these is below this number.
 pub fn are_below(ids: &[TermId], count: usize) -> bool
     ensures below { OnTrue result (All (λ k. k < count) ids.now) }

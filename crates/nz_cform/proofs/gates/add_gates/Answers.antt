@@ -1,8 +1,8 @@
 -- One clause after another.
 use Rattle.std.proofs.Common.{◌≡◌, ◌<◌, length, refl, sym, subst, ◌∙◌, arith, add-one}
 use Rattle.std.specs.Prelude.{IsSome}
-use Rattle.nz_log.specs.Lits.{gates_at}
 use Rattle.nz_log.specs.Logs.{gate_entry, Puts}
+use Rattle.nz_log.specs.TermLits.{gates_at}
 use Rattle.nz_cform.specs.Covering.{AreAdded, HasGatesBelow}
 use Rattle.nz_cform.proofs.GatesPut.{added_more, below_more, put_kept}
 use Rattle.nz_cform.proofs.gates.add_gates.Goals as goal
@@ -21,16 +21,19 @@ loop-j-preserved c =
     let old = c.loop-j.log in
     let new = c.gate.new.self in
     let id = c.in_ok-clause.clause in
-    let puts : Puts old id (gate_entry ns old t j) new = c.in_ok-clause.ensures.made in
+    let puts : Puts old id (gate_entry ns new t j) new = c.in_ok-clause.ensures.made in
     let inside : j < length (gates_at ns t) = omega (arith, c.gate_count-j-end.ensures.count) in
     let before = c.loop-j.invariant in
     record {
-      gates = λ s has. rw add-one (below_more ns old new s t j id puts inside (before.gates s has));
+      gates = λ s has. rw add-one (below_more c.atoms_of_terms.ensures.atoms ns old new s t j id puts c.in_ok-clause.ensures.there inside (before.gates s has));
       added = λ start added.
           subst (λ l. AreAdded start l new) (sym c.in_ok-push.ensures.items)
-          (added_more start old new c.loop-j.clauses.items id (gate_entry ns old t j) puts t j refl (before.added start added));
-      kept = λ i live.
-          put_kept old new id (gate_entry ns old t j) puts i (subst (λ o. IsSome o) (sym (before.kept i live)) live) ∙ before.kept i live;
+          (added_more start old new c.loop-j.clauses.items id (gate_entry ns new t j) puts t j refl (before.added start added));
+      kept = record {
+        clauses = λ i live.
+            put_kept old new id (gate_entry ns new t j) puts i (subst (λ o. IsSome o) (sym (before.kept.clauses i live)) live) ∙ before.kept.clauses i live;
+        atoms = λ i a at. puts.atoms i a (before.kept.atoms i a at);
+      };
       told = puts.told ∙ before.told;
       sound = λ levels boolean order. c.gate.ensures.sound levels boolean (before.sound levels boolean order);
     }

@@ -3,4 +3,4 @@ use Rattle.nz_cform.proofs.Staying as laws
 use Rattle.nz_cform.proofs.laws.covers_stay.Goals as goal
 
 pub returns : goal.returns
-returns c = record { stay = laws.covers_stay c.term_stays.ensures.stays }
+returns c = record { stay = laws.covers_stay c.term_stays.ensures.stays c.atoms_of_terms.ensures.atoms }

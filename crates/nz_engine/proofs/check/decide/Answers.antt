@@ -1,4 +1,4 @@
-use Rattle.nz_log.specs.Lits.{AreNegations}
+use Rattle.nz_log.specs.TermLits.{AreNegations}
 use Rattle.nz_engine.specs.Checking.{IsPosed}
 use Rattle.nz_engine.specs.Engines.{literals_in}
 use Rattle.nz_engine.proofs.Refuting.{dead_end}

@@ -12,10 +12,10 @@ returns c =
     let ns = c.args.terms.now in
     let p = c.args.prepared.now in
     record {
-      model = IfOk-weaker c.values.result (λ ps. ps ≡ flat_map (value_at ns p.sat) p.form.terms) _
-          (λ ps is levels assumed posed satisfied.
+      model = IfOk-weaker c.values.result (λ ps. ps ≡ flat_map (value_at ns p) p.form.terms) _
+          (λ ps is levels assumed posed there satisfied.
           made_true c.gates_decide.ensures.numbers c.gates_are_named.ensures.named c.one_number.ensures.one c.term_of_node.ensures.node c.assigns_by_number.ensures.listed
-          ns posed.table (asserted_numbers levels) assumed p.form.terms p.sat
-          (is_found c.gates_decide.ensures.plain ns levels assumed p posed c.values.ensures.listed satisfied) ps is)
+          ns posed.table (asserted_numbers levels) assumed p.form.terms p
+          (is_found c.gates_decide.ensures.plain ns levels assumed p posed c.atoms_of_terms.ensures.atoms c.values.ensures.listed there satisfied) ps is)
           c.values.ensures.values;
     }

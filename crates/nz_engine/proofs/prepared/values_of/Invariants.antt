@@ -5,4 +5,4 @@ use Rattle.nz_engine.specs.Checking.{value_at}
 use Rattle.nz_engine.proofs.prepared.values_of.Given as goal
 
 abbrev pub invariant-loop-term : goal.invariant-loop-term
-invariant-loop-term l = l.values ≡ flat_map (value_at l.terms l.sat) (take l.term-index l.atoms)
+invariant-loop-term l = l.values ≡ flat_map (value_at l.terms l.prepared) (take l.term-index l.covered)

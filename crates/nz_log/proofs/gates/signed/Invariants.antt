@@ -1,5 +1,5 @@
 use Rattle.std.proofs.Common.{◌≡◌, ◌∷◌, take}
-use Rattle.nz_log.specs.Lits.{signed}
+use Rattle.nz_log.specs.TermLits.{signed}
 use Rattle.nz_log.proofs.gates.signed.Given as goal
 
 -- the terms so far are listed

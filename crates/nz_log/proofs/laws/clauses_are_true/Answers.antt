@@ -6,6 +6,6 @@ pub returns : goal.returns
 returns c =
     let resolvents = c.resolvent_is_true.ensures in
     record {
-      clauses = laws.clauses_are_true c.gates_are_true.ensures.gates resolvents.together resolvents.resolvent c.tells_literals.ensures.tells
+      clauses = laws.clauses_are_true c.derived_clauses_are_true.ensures.clauses c.gates_are_true.ensures.gates resolvents.together resolvents.resolvent c.tells_literals.ensures.tells
           c.one_number.ensures.one;
     }

@@ -7,7 +7,7 @@ use Rattle.nz_log.proofs.steps.mark_links.Goals as goal
 
 pub loop-link-preserved : goal.loop-link-preserved
 loop-link-preserved c =
-    let d : Link = record { clause = 0; literal = record { term = 0; sign = false } } in
+    let d : Link = record { clause = 0; literal = record { atom = 0; sign = false } } in
     let ks = c.args.links.now in
     let i = c.loop-link.link-index in
     let marks = c.loop-link.marks.items in

@@ -1,11 +1,14 @@
 -- The clause of each number is spelled out behind those that it is made of.
 use Rattle.std.proofs.Common.{◌≡◌, ℕ, ◌<◌, ◌≤◌, ◌++◌, List, length, true, false, Option, Some, None, ap, sym, subst, ◌∙◌, add-one, arith}
 use Rattle.std.proofs.Math.ListN.{length-set}
+use Rattle.nz_spec.specs.Table.{Node, IsTable}
 use Rattle.nz_log.specs.Logs.{Entry, level_at}
-use Rattle.nz_log.specs.Spelling.{is_marked, AreMarked, IsClosed, origin_place, origin_steps}
+use Rattle.nz_log.specs.Sound.{IsLog}
+use Rattle.nz_log.specs.Spelling.{is_marked, AreMarked, IsClosed, origin_place, origin_steps, steps_of}
 use Rattle.nz_log.specs.Stored.{entry_of}
 use Rattle.nz_log.proofs.Marking.{marked_within, same_get}
-use Rattle.nz_log.proofs.Naming.{literals_agree}
+use Rattle.nz_log.proofs.Agreeing.{literals_agree}
+use Rattle.nz_log.proofs.Pushing.{steps_long}
 use Rattle.nz_log.proofs.Spelled.{ArePlaced, all_derive, placed_next, placed_skip}
 use Rattle.nz_log.proofs.steps.spelled.Goals as goal
 use Rattle.nz_log.proofs.steps.spelled.Goals.{then-index+in_ok-place, else-index}
@@ -21,7 +24,8 @@ loop-i-preserved c =
     let last = marked_within marks c.args.id need.itself in
     let within : i < length marks = omega (arith, last) in
     let grow = c.derivations_grow.ensures.grow in
-    let agree = literals_agree c.tells_literals.ensures.tells c.one_number.ensures.one in
+    let agree = λ (ns : List Node) (table : IsTable ns) (levels : List (List ℕ)) (order : IsLog ns levels s).
+    literals_agree c.tells_literals.ensures.tells c.one_number.ensures.one ns table s.atoms order.atoms in
     elim c.if-index.branch [
       | then-index+in_ok-place w ↦
           let here : is_marked marks i ≡ true = same_get marks i false c.index.result.now within ∙ sym c.index.ensures ∙ w.if-index.true in
@@ -34,7 +38,7 @@ loop-i-preserved c =
           let marked : AreMarked marks e.origin = subst P at (need.closed i here) in
           let room : i < length places = omega (arith, within, need.long, c.loop-i.invariant.long) in
           let next = w.spell.new.steps.items in
-          let Q : List ℕ → Type 0 = λ ps. next ≡ steps ++ origin_steps ps (length steps) e.origin in
+          let Q : List ℕ → Type 0 = λ ps. (ns : List Node) → steps_of ns next ≡ steps_of ns steps ++ origin_steps ns s.atoms ps (length steps) e.origin in
           let spelled : Q places = subst Q w.deref.ensures.value w.in_ok-place.ensures.spelled in
           let R : List ℕ → Type 0 = λ ps. w.in_ok-place.place ≡ origin_place ps (length steps) e.origin in
           let place_is : R places = subst R w.deref.ensures.value w.in_ok-place.ensures.place in
@@ -43,8 +47,8 @@ loop-i-preserved c =
             long = length-set places i _ ∙ c.loop-i.invariant.long;
             placed = λ ns levels table order.
                 rw add-one
-                (placed_next grow ns (agree ns table) levels s order (level_at s c.args.id) marks places steps i (c.loop-i.invariant.placed ns levels table order)
-                e at below marked room next spelled w.in_ok-place.place place_is);
+                (placed_next grow ns table levels s (agree ns table levels order) order (level_at s c.args.id) marks places (steps_of ns steps) (length steps) (steps_long ns steps) i
+                (c.loop-i.invariant.placed ns levels table order) e at below marked room (steps_of ns next) (spelled ns) w.in_ok-place.place place_is);
           })
       | else-index w ↦
           let here : is_marked marks i ≡ false = same_get marks i false c.index.result.now within ∙ sym c.index.ensures ∙ w.if-index.false in
@@ -53,14 +57,16 @@ loop-i-preserved c =
             long = c.loop-i.invariant.long;
             placed = λ ns levels table order.
                 rw add-one
-                (placed_skip grow ns (agree ns table) levels s order (level_at s c.args.id) marks places steps i (c.loop-i.invariant.placed ns levels table order) here);
+                (placed_skip grow ns table levels s (agree ns table levels order) order (level_at s c.args.id) marks places (steps_of ns steps) (length steps) (steps_long ns steps) i
+                (c.loop-i.invariant.placed ns levels table order) here);
           })
     ]
 
 pub returns : goal.returns
 returns c =
     let s = c.args.log.now in
-    let agree = literals_agree c.tells_literals.ensures.tells c.one_number.ensures.one in
+    let agree = λ (ns : List Node) (table : IsTable ns) (levels : List (List ℕ)) (order : IsLog ns levels s).
+    literals_agree c.tells_literals.ensures.tells c.one_number.ensures.one ns table s.atoms order.atoms in
     let marks = c.in_ok-marks.marks.items in
     let need = c.in_ok-marks.ensures.needed in
     let places = c.loop-i.places.items in
@@ -71,11 +77,11 @@ returns c =
     let P : Option Entry → Type 0 = IsClosed marks in
     let marked : AreMarked marks e.origin = subst P at (need.closed c.args.id need.itself) in
     let next = c.spell-2.new.steps.items in
-    let Q : List ℕ → Type 0 = λ ps. next ≡ steps ++ origin_steps ps (length steps) e.origin in
+    let Q : List ℕ → Type 0 = λ ps. (ns : List Node) → steps_of ns next ≡ steps_of ns steps ++ origin_steps ns s.atoms ps (length steps) e.origin in
     let spelled : Q places = subst Q c.deref-2.ensures.value c.in_ok-spell.ensures.spelled in
     record {
       derives = λ ns levels table order.
-          let N : ℕ → Type 0 = λ n. ArePlaced ns levels s (level_at s c.args.id) marks places steps n in
-          all_derive c.derivations_grow.ensures.grow ns (agree ns table) levels s order marks places steps c.args.id
-          (subst N end (c.loop-i.invariant.placed ns levels table order)) e at c.stored-2.ensures.rests marked next spelled;
+          let N : ℕ → Type 0 = λ n. ArePlaced ns levels s (level_at s c.args.id) marks places (steps_of ns steps) n in
+          all_derive c.derivations_grow.ensures.grow ns table levels s (agree ns table levels order) order marks places (steps_of ns steps) (length steps) (steps_long ns steps) c.args.id
+          (subst N end (c.loop-i.invariant.placed ns levels table order)) e at c.stored-2.ensures.rests marked (steps_of ns next) (spelled ns);
     }

@@ -13,7 +13,7 @@ use Rattle.nz_sat.proofs.analyze.chain_back.Goals as goal
 use Rattle.nz_sat.proofs.analyze.chain_back.Goals.{in_default-via-in-Some+else-left-gt1, in_default-via-in_default}
 
 abbrev is_marked_of : List Bool → ℕ → Assigned → Bool
-is_marked_of marks level e = is_marked marks e.literal.term && (e.level == level)
+is_marked_of marks level e = is_marked marks e.literal.atom && (e.level == level)
 
 pub loop-i-init : goal.loop-i-init
 loop-i-init c =

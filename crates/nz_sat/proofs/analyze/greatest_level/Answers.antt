@@ -12,8 +12,8 @@ loop-literal-preserved c =
     let es = c.args.trail.now.entries in
     let i = c.loop-literal.literal-index in
     let n = c.loop-literal.level in
-    let l = get_or c.args.literals.now i (record { term = 0; sign = false }) in
+    let l = get_or c.args.literals.now i (record { atom = 0; sign = false }) in
     let before = take i c.args.literals.now in
-    let more : take (i + 1) c.args.literals.now ≡ before ++ l ∷ [] = take_more c.args.literals.now i (record { term = 0; sign = false }) (omega arith) in
-    let most : c.max-level.result ≡ max n (level_on es l.term) = c.max-level.ensures ∙ greater_of n c.level_of.result ∙ ap (max n) c.level_of.ensures.level in
+    let more : take (i + 1) c.args.literals.now ≡ before ++ l ∷ [] = take_more c.args.literals.now i (record { atom = 0; sign = false }) (omega arith) in
+    let most : c.max-level.result ≡ max n (level_on es l.atom) = c.max-level.ensures ∙ greater_of n c.level_of.result ∙ ap (max n) c.level_of.ensures.level in
     subst (λ (d : List Lit). IsGreatest es d c.max-level.result) (sym more) (greatest_grown es before n l c.loop-literal.invariant c.max-level.result most)

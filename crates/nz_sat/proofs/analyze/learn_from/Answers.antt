@@ -3,6 +3,7 @@ use Rattle.std.proofs.Common.{◌<◌, List, length, subst, sym, ◌∙◌}
 use Rattle.std.specs.Prelude.{All, Contains}
 use Rattle.nz_log.specs.declared.lits.Lit.{Lit}
 use Rattle.nz_log.specs.declared.origins.Link.{Link}
+use Rattle.nz_log.specs.Atoms.{IsLitIn}
 use Rattle.nz_log.specs.Logs.{Puts, chain_entry}
 use Rattle.nz_sat.specs.Conflicts.{IsGreatestBut}
 use Rattle.nz_sat.proofs.LearnedClauses.{all_from, links_within, literals_are, literals_within, taught}
@@ -19,7 +20,7 @@ unmark-requires c =
     subst (λ (ks : List Link). Puts old c.in_ok-clause.clause (chain_entry old c.args.falsified ks) new) c.deref.ensures.value c.in_ok-clause.ensures.made in
     let is = c.clause-literals.ensures.literals ∙ literals_are old new es c.args.falsified marks chain c.in_ok-links.ensures.chain c.in_ok-clause.clause puts in
     record {
-      within = all_from (λ (m : Lit). m.term < length marks) c.clause-literals.result.now
+      within = all_from (λ (m : Lit). m.atom < length marks) c.clause-literals.result.now
           (λ m has. literals_within old new es c.args.falsified marks chain c.in_ok-links.ensures.chain m (subst (λ (l : List Lit). Contains l m) is has));
     }
 
@@ -27,8 +28,8 @@ pub returns-clause-sound : goal.returns-clause-sound
 returns-clause-sound c ns levels within order =
     let chain = c.in_ok-links.field-0 in
     c.in_ok-clause.ensures.sound ns levels
-    (subst (λ (ks : List Link). All (λ (k : Link). k.literal.term < length ns) ks) (sym c.deref.ensures.value)
-    (links_within c.args.log.now c.args.trail.now.entries (length ns) chain.links.items within c.in_ok-links.ensures.chain.links))
+    (subst (λ (ks : List Link). All (λ (k : Link). IsLitIn ns c.args.log.now.atoms k.literal) ks) (sym c.deref.ensures.value)
+    (links_within c.args.log.now c.args.trail.now.entries ns c.args.log.now.atoms chain.links.items within c.in_ok-links.ensures.chain.links))
     order
 
 pub returns-clause-learned : goal.returns-clause-learned

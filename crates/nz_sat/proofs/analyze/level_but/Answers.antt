@@ -15,14 +15,14 @@ loop-literal-preserved c =
     let but = c.args.but in
     let i = c.loop-literal.literal-index in
     let n = c.loop-literal.level in
-    let l = get_or c.args.literals.now i (record { term = 0; sign = false }) in
+    let l = get_or c.args.literals.now i (record { atom = 0; sign = false }) in
     let before = take i c.args.literals.now in
-    let more : take (i + 1) c.args.literals.now ≡ before ++ l ∷ [] = take_more c.args.literals.now i (record { term = 0; sign = false }) (omega arith) in
+    let more : take (i + 1) c.args.literals.now ≡ before ++ l ∷ [] = take_more c.args.literals.now i (record { atom = 0; sign = false }) (omega arith) in
     subst (λ (d : List Lit). IsGreatestBut es but d c.if-not-is.level) (sym more)
     (elim c.if-not-is.branch [
       | then-not-is w ↦
           let other : l ≢ but = λ same. true≢false (sym (ap (are_same_lit l) (sym same) ∙ c.tells_lits.ensures.tells.one l) ∙ sym c.is.ensures.same ∙ w.if-not-is.true) in
-          let most : c.if-not-is.level ≡ max n (level_on es l.term) = w.level-is ∙ w.max-level.ensures ∙ greater_of n w.level_of.result ∙ ap (max n) w.level_of.ensures.level in
+          let most : c.if-not-is.level ≡ max n (level_on es l.atom) = w.level-is ∙ w.max-level.ensures ∙ greater_of n w.level_of.result ∙ ap (max n) w.level_of.ensures.level in
           greatest_more es but before n l c.loop-literal.invariant other c.if-not-is.level most
       | else-not-is w ↦
           let same : l ≡ but = c.tells_lits.ensures.tells.same l but (sym c.is.ensures.same ∙ w.if-not-is.false) in

@@ -11,7 +11,7 @@ use Rattle.nz_sat.proofs.analyze.lone_last.Goals as goal
 use Rattle.nz_sat.proofs.analyze.lone_last.Goals.{then-level_of-last+in-Some+else-not-is, then-level_of-last+in-None, else-level_of-last}
 
 abbrev blank : Lit
-blank = record { term = 0; sign = false }
+blank = record { atom = 0; sign = false }
 
 pub returns-then-not-is : goal.returns-then-not-is
 returns-then-not-is c =
@@ -22,7 +22,7 @@ returns-then-not-is c =
     let other = c.in-Some.other in
     let lone : IsLone es (take i cs) (Some other) = subst (IsLone es (take i cs)) c.in-Some.is c.loop-literal.invariant in
     let differ : are_same_lit other lit ≡ false = search rules in
-    let last : level_on es lit.term ≡ depth es = sym c.level_of.ensures.level ∙ c.if-level_of-last.true ∙ c.level-last.ensures.level in
+    let last : level_on es lit.atom ≡ depth es = sym c.level_of.ensures.level ∙ c.if-level_of-last.true ∙ c.level-last.ensures.level in
     record { lone = lone_other es cs i other lit lone (Contains-get_or cs i blank (omega arith)) last (other_lit c.tells_lits.ensures.tells other lit differ) }
 
 pub loop-literal-preserved : goal.loop-literal-preserved
@@ -43,10 +43,10 @@ loop-literal-preserved c =
           subst P (sym w.lone-is) (lone_again es before lit other (c.tells_lits.ensures.tells.same other lit same) lone)
       | then-level_of-last+in-None w ↦
           let lone : IsLone es before None = subst (IsLone es before) w.in-None.is c.loop-literal.invariant in
-          let last : level_on es lit.term ≡ depth es = sym c.level_of.ensures.level ∙ w.if-level_of-last.true ∙ c.level-last.ensures.level in
+          let last : level_on es lit.atom ≡ depth es = sym c.level_of.ensures.level ∙ w.if-level_of-last.true ∙ c.level-last.ensures.level in
           subst P (sym w.lone-is) (lone_first es before lit last lone)
       | else-level_of-last w ↦
-          let low : level_on es lit.term ≢ depth es = λ last. w.if-level_of-last.false (c.level_of.ensures.level ∙ last ∙ sym c.level-last.ensures.level) in
+          let low : level_on es lit.atom ≢ depth es = λ last. w.if-level_of-last.false (c.level_of.ensures.level ∙ last ∙ sym c.level-last.ensures.level) in
           subst P (sym w.lone-is) (lone_low es before lit c.loop-literal.lone low c.loop-literal.invariant)
     ])
 

@@ -3,6 +3,7 @@ use Rattle.std.proofs.Common.{◌≡◌, ◌<◌, List, length, subst, sym, rule
 use Rattle.std.specs.Prelude.{All}
 use Rattle.std.proofs.lemmas.List.{nil_from_length}
 use Rattle.nz_log.specs.declared.origins.Link.{Link}
+use Rattle.nz_log.specs.Atoms.{IsLitIn}
 use Rattle.nz_log.specs.Logs.{chained, literals_at}
 use Rattle.nz_sat.specs.Conflicts.{RefutesFrom}
 use Rattle.nz_sat.proofs.LearnedClauses.{links_within}
@@ -19,6 +20,6 @@ returns-then-is_empty-clause-refutes c =
 pub returns-clause-sound : goal.returns-clause-sound
 returns-clause-sound c ns levels within order =
     c.chain.ensures.sound ns levels
-    (subst (λ (ks : List Link). All (λ (k : Link). k.literal.term < length ns) ks) (sym c.deref.ensures.value)
-    (links_within c.args.log.now c.args.trail.now.entries (length ns) c.in_ok-links.links.items within c.in_ok-links.ensures.links))
+    (subst (λ (ks : List Link). All (λ (k : Link). IsLitIn ns c.args.log.now.atoms k.literal) ks) (sym c.deref.ensures.value)
+    (links_within c.args.log.now c.args.trail.now.entries ns c.args.log.now.atoms c.in_ok-links.links.items within c.in_ok-links.ensures.links))
     order

@@ -11,7 +11,7 @@ use Rattle.nz_sat.proofs.propagate.status_of.Goals as goal
 use Rattle.nz_sat.proofs.propagate.status_of.Goals.{in-Some-false, in-None+in-Some+else-not-is, in-None+in-None-undecided}
 
 abbrev blank : Lit
-blank = record { term = 0; sign = false }
+blank = record { atom = 0; sign = false }
 
 pub loop-literal-preserved : goal.loop-literal-preserved
 loop-literal-preserved c =

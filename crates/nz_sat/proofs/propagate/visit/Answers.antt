@@ -17,7 +17,7 @@ pub imply-requires : goal.imply-requires
 imply-requires c =
     let unit = unit_left c in
     record {
-      free = free_missing c.args.trail.now.entries c.in-Unit.literal.term unit.free;
+      free = free_missing c.args.trail.now.entries c.in-Unit.literal.atom unit.free;
       within = c.requires.usable.within c.in-Unit.literal unit.has;
     }
 

@@ -5,11 +5,11 @@ use Rattle.nz_sat.proofs.Numbering.{unnamed}
 use Rattle.nz_sat.proofs.search.by_numbers.Goals as goal
 
 abbrev blank : Lit
-blank = record { term = 0; sign = false }
+blank = record { atom = 0; sign = false }
 
 pub unreachable-requires : goal.unreachable-requires
 unreachable-requires c =
     let i = c.loop-literal.literal-index in
     let l = get_or c.args.literals.now i blank in
     let inside : i < length c.args.literals.now = omega arith in
-    unnamed c.args.atoms.now l.term (c.requires.named i blank inside) (sym c.in-None.ensures.number)
+    unnamed c.args.atoms.now l.atom (c.requires.named i blank inside) (sym c.in-None.ensures.number)

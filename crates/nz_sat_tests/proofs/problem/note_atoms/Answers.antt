@@ -1,16 +1,23 @@
-use Rattle.std.proofs.Common.{◌≡◌, ◌+◌, ◌∷◌, ◌++◌, [], sym, ap, ◌∙◌, subst}
-use Rattle.nz_spec.specs.Work.{WorkList, NoteLine, unit_count}
+use Rattle.std.proofs.Common.{◌≡◌, ◌+◌, ◌∷◌, ◌++◌, [], take, sym, ap, ◌∙◌, subst}
+use Rattle.std.proofs.lemmas.List.{take_more}
+use Rattle.std.specs.Prelude.{Some}
+use Rattle.nz_spec.specs.Work.{WorkLine, WorkList, NoteLine, unit_count}
 use Rattle.nz_log.specs.declared.note.Note.{Note}
 use Rattle.nz_log.specs.declared.note.Note.TheVariants.{Atom}
-use Rattle.nz_sat.specs.Numbers.{noted_atoms}
-use Rattle.nz_sat_tests.specs.Problems.{AreBelow}
-use Rattle.nz_sat_tests.proofs.Noting.{below_push, noted_push, units_push}
+use Rattle.nz_sat.specs.Numbers.{AreNotedIn}
+use Rattle.nz_sat_tests.proofs.Noting.{noted_one, units_push}
 use Rattle.nz_sat_tests.proofs.problem.note_atoms.Goals as goal
 
-pub loop-term-preserved : goal.loop-term-preserved
-loop-term-preserved c =
-    let t = c.loop-term.term in
-    let old = c.loop-term.work.lines in
-    let lines : c.note.new.self.lines ≡ old ++ NoteLine (Atom t) ∷ [] = ap (λ (w : WorkList Note). w.lines) c.in_ok-note.ensures.ok in
-    let so_far = c.loop-term.invariant in
-    (subst (AreBelow (t + 1)) (sym (ap noted_atoms lines ∙ noted_push old t)) (below_push t (noted_atoms old) so_far.0), ap unit_count lines ∙ units_push old t ∙ so_far.1)
+pub loop-atom-preserved : goal.loop-atom-preserved
+loop-atom-preserved c =
+    let i = c.loop-atom.atom-index in
+    let atoms = c.args.atoms.now in
+    let old = c.loop-atom.work.lines in
+    let t = c.in-Term.term in
+    let lines : c.note.new.self.lines ≡ old ++ NoteLine (Atom t) ∷ [] = ap (λ (w : WorkList Note). w.lines) c.in_ok-note-in-Term.ensures.ok in
+    let so_far = c.loop-atom.invariant in
+    let one = noted_one c.args.log.now.atoms old (take i atoms) _ t (c.atom.ensures.atom ∙ ap Some c.in-Term.is) so_far.0 in (
+      subst (λ ls. AreNotedIn c.args.log.now.atoms ls (take (i + 1) atoms)) (sym lines)
+          (subst (AreNotedIn c.args.log.now.atoms (old ++ NoteLine (Atom t) ∷ [])) (sym (take_more atoms i _ c.loop-atom-test.true)) one),
+      ap unit_count lines ∙ units_push old t ∙ so_far.1,
+    )

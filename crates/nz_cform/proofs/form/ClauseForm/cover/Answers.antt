@@ -33,7 +33,7 @@ returns-clause-gates c =
     on_ok_weaker c.add_gates.result
     (λ gates has. all_gates ns c.add_gates.new.log c.list.new.self t
     (gates c.list.new.self
-    (told_and_listed ns c.args.log.now c.place.new.self c.args.self.now c.list.new.self t c.args.level told.clauses c.in_ok-list.ensures.taken c.requires.uncovered
+    (told_and_listed ns c.args.log.now c.place.new.self c.args.self.now c.list.new.self t c.args.level told.clauses told.atoms c.in_ok-list.ensures.taken c.requires.uncovered
     told.told told.others highest has)))
     c.add_gates.ensures.gates
 

@@ -1,9 +1,9 @@
-use Rattle.std.proofs.Common.{◌≡◌, List, map, Some, IfOk, rules, sym, ap, ◌∙◌, subst}
+use Rattle.std.proofs.Common.{◌≡◌, List, Some, IfOk, rules, sym, ap, ◌∙◌, subst}
 use Rattle.nz_spec.specs.Decide.{asserted_terms}
 use Rattle.nz_spec.specs.Steps.{Derives}
-use Rattle.nz_log.specs.declared.lits.Lit.{Lit}
-use Rattle.nz_log.specs.Lits.{clause_in}
-use Rattle.nz_log.specs.Spelling.{step_of}
+use Rattle.nz_log.specs.declared.term_lits.TermLit.{TermLit}
+use Rattle.nz_log.specs.Spelling.{steps_of}
+use Rattle.nz_log.specs.TermLits.{clause_of_terms}
 use Rattle.nz_engine.specs.Engines.{EngineState, IsKept, IsReadied, clause_at, log_of, table_of}
 use Rattle.nz_engine.proofs.Refuting.{derived}
 use Rattle.nz_engine.proofs.engine.EngineDecide.steps.Goals as goal
@@ -19,5 +19,5 @@ returns c =
     let own : EngineState = record { levels = levels; table = table; log = prepared.log } in
     let same : own ≡ c.args.self.now = ap (λ o. let e : EngineState = record { levels = levels; table = table; log = log_of o } in e) (sym kept) ∙ c.self.view_is in
     record {
-      derives = subst (λ (e : EngineState). IfOk c.steps.result (λ steps. (d : List Lit) → clause_at e c.args.id ≡ Some d → Derives (asserted_terms e.table e.levels) (map (step_of e.table) steps.items) (clause_in e.table d))) same all;
+      derives = subst (λ (e : EngineState). IfOk c.steps.result (λ steps. (d : List TermLit) → clause_at e c.args.id ≡ Some d → Derives (asserted_terms e.table e.levels) (steps_of e.table steps.items) (clause_of_terms e.table d))) same all;
     }

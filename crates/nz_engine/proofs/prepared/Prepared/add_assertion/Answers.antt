@@ -18,11 +18,11 @@ returns-clause-stands c = λ levels placed plain h.
     let new : PreparedState = record { log = c.given.new.self; form = c.self-2.inside.form; sat = c.add.new.self; given = c.in-Some.given; above = c.self-2.inside.above } in
     let also : CoversAlso ns old t n mid = subst (CoversAlso ns old t n) (sym c.self-2.view_is) c.in_ok-cover.ensures.covered in
     let before : IsPrepared ns levels levels mid =
-    covered ns levels levels old mid t n also h c.gates_are_named.ensures.named c.known_table.ensures.table c.requires.within plain
+    covered ns levels levels old mid t n also h c.atoms_of_terms.ensures.atoms c.gates_are_named.ensures.named c.known_table.ensures.table c.requires.within plain
     (stands_there (live_at levels n) old.given t placed.live) (placed_below levels old.given t n placed) placed.behind in
     let same : mid.given ≡ c.self.inside.given = also.given ∙ sym (ap (λ (s : PreparedState). s.given) c.self.view_is) in
     let next : c.in-Some.given ≡ c.self.inside.given + 1 = c.in-Some.ensures.1 in
     let there : IsPlaced levels mid.given t n = subst (λ k. IsPlaced levels k t n) (sym also.given) placed in
-    assertion_given ns levels levels mid new c.in_ok-clause.clause t n c.in_ok-clause.ensures.made c.in_ok-add.ensures.added refl (omega (arith, same, next)) there (also.told t) before
-    c.covers_stay.ensures.stay c.logs_stay_leveled.ensures.stay (subst (λ o. IsSome o) (sym (also.covers.gates.told t)) also.here)
+    assertion_given ns levels levels mid new c.in_ok-clause.clause t n c.in_ok-clause.ensures.made c.in_ok-clause.ensures.there c.in_ok-add.ensures.added refl (omega (arith, same, next)) there (also.told t) before
+    c.atoms_of_terms.ensures.atoms c.covers_stay.ensures.stay c.logs_stay_leveled.ensures.stay (subst (λ o. IsSome o) (sym (also.covers.gates.told t)) also.here)
     (c.in_ok-clause.ensures.sound ns levels c.requires.within there.live before.order)

@@ -4,7 +4,7 @@ use Rattle.std.proofs.lemmas.List.{take_all, take_more}
 use Rattle.std.proofs.lemmas.List.Elements.{All-push, All-weaker, Contains-get_or}
 use Rattle.nz_spec.specs.Gates.{IsGated}
 use Rattle.nz_spec.specs.Table.{term_in}
-use Rattle.nz_log.specs.declared.lits.Lit.{Lit}
+use Rattle.nz_log.specs.declared.term_lits.TermLit.{TermLit}
 use Rattle.nz_cform.specs.Forms.{covered_at}
 use Rattle.nz_engine.specs.Checking.{AreCovered, terms_named}
 use Rattle.nz_engine.proofs.Going.{standing}
@@ -29,24 +29,24 @@ loop-literal-preserved c =
     let ns = c.args.terms.now in
     let assumed = c.args.assumed.now in
     let k = c.loop-literal.literal-index in
-    let l : Lit = get_or assumed k (record { term = 0; sign = false }) in
+    let l : TermLit = get_or assumed k (record { term = 0; sign = false }) in
     let before = c.loop-literal.invariant in
     let did = c.in_ok-assume_term.ensures in
     let form = c.assume_term.new.self.form in
-    let P : Lit → Type 0 = λ m. IsSome (covered_at form m.term) in
+    let P : TermLit → Type 0 = λ m. IsSome (covered_at form m.term) in
     let plain = c.gates_decide.ensures.plain (term_in ns l.term) (all_named (λ t. IsGated (term_in ns t)) assumed c.requires.gated k (record { term = 0; sign = false }) c.loop-literal-test.true) in
     record {
       standing = did.stands c.args.levels.now (terms_named assumed)
           (record {
             last = sym c.len-level.ensures.count;
-            named = contains_map (λ (m : Lit). m.term) assumed l (Contains-get_or assumed k (record { term = 0; sign = false }) c.loop-literal-test.true);
+            named = contains_map (λ (m : TermLit). m.term) assumed l (Contains-get_or assumed k (record { term = 0; sign = false }) c.loop-literal-test.true);
             plain = plain;
             all_given = c.requires.all_given ∙ sym before.given;
             standing = before.standing;
           });
       covered = subst (All P) (sym (take_more assumed k (record { term = 0; sign = false }) c.loop-literal-test.true))
           (All-push P (take k assumed) l
-          (All-weaker (λ (m : Lit). IsSome (covered_at c.loop-literal.self.form m.term)) P (λ m some. did.stays m.term some) (take k assumed) before.covered) did.covered);
+          (All-weaker (λ (m : TermLit). IsSome (covered_at c.loop-literal.self.form m.term)) P (λ m some. did.stays m.term some) (take k assumed) before.covered) did.covered);
       given = did.given ∙ before.given;
     }
 

@@ -8,11 +8,11 @@ use Rattle.nz_engine.proofs.prepared.Prepared.values.Goals as goal
 
 pub values_of-requires : goal.values_of-requires
 values_of-requires c =
-    let atoms = c.terms-atoms.result.now in
+    let atoms = c.terms.result.now in
     record {
       within = All-weaker (Contains atoms) (λ t. t < length c.args.terms.now)
           (λ t has.
-          let n = some_of (covered_at c.self.inside.form t) ((c.terms-atoms.ensures.covered t).0 has) in
+          let n = some_of (covered_at c.self.inside.form t) ((c.terms.ensures.covered t).0 has) in
           c.requires.covers.within t n.0 (ap (λ (p : PreparedState). covered_at p.form t) (sym c.self.view_is) ∙ n.1))
           atoms (All-contains_itself atoms);
     }

@@ -1,7 +1,7 @@
 use Rattle.std.proofs.Common.{◌<◌, length, rules}
 use Rattle.std.specs.Prelude.{All}
 use Rattle.std.proofs.lemmas.List.Elements.{All-weaker}
-use Rattle.nz_log.specs.declared.lits.Lit.{Lit}
+use Rattle.nz_log.specs.declared.term_lits.TermLit.{TermLit}
 use Rattle.nz_engine_tests.specs.Benches.{IsGatedAt}
 use Rattle.nz_engine_tests.proofs.bench.Bench.check.Goals as goal
 
@@ -9,5 +9,5 @@ use Rattle.nz_engine_tests.proofs.bench.Bench.check.Goals as goal
 pub ask-requires-clause-gated : goal.ask-requires-clause-gated
 ask-requires-clause-gated c =
     let ns = c.self.inside.terms in
-    let below : All (λ (l : Lit). l.term < length ns) c.args.assumed.now = search rules in
-    All-weaker (λ (l : Lit). l.term < length ns) (λ (l : Lit). IsGatedAt ns l.term) (λ l small. c.self.invariant.gated l.term small) c.args.assumed.now below
+    let below : All (λ (l : TermLit). l.term < length ns) c.args.assumed.now = search rules in
+    All-weaker (λ (l : TermLit). l.term < length ns) (λ (l : TermLit). IsGatedAt ns l.term) (λ l small. c.self.invariant.gated l.term small) c.args.assumed.now below

@@ -1,12 +1,13 @@
 -- The clause is in order over the old log, and the old clauses stay so.
-use Rattle.std.proofs.Common.{◌≡◌, ℕ, ◌<◌, ◌≤◌, List, length, sym, subst, arith, rules}
+use Rattle.std.proofs.Common.{◌≡◌, ℕ, ◌<◌, ◌≤◌, List, sym, subst, arith, rules}
 use Rattle.std.specs.Prelude.{IfOk, OnErr}
 use Rattle.nz_log.specs.declared.origins.Link.{Link}
+use Rattle.nz_log.specs.Atoms.{IsLitIn}
 use Rattle.nz_log.specs.Logs.{LogState, chain_entry, chain_of, level_at, level_of_links, level_with, IsLive, Puts, RestsOn}
 use Rattle.nz_log.proofs.Growing.{chain_grows}
 use Rattle.nz_log.proofs.Members.{each_of}
 use Rattle.nz_log.proofs.Ordering.{chain_rests}
-use Rattle.nz_log.proofs.Soundness.{chain_in_order, level_grows, rule_in_order}
+use Rattle.nz_log.proofs.Soundness.{chain_in_order, level_grows, rule_keeps_order}
 use Rattle.nz_log.proofs.log.Log.chain.Goals as goal
 
 pub returns-clause-sound : goal.returns-clause-sound
@@ -16,9 +17,10 @@ returns-clause-sound c ns levels within order =
     let e = chain_entry s c.args.first ks in
     let made : IfOk c.put.result (λ id. Puts s id e c.put.new.self) = search rules in
     let unchanged : OnErr c.put.result (c.put.new.self ≡ s) = search rules in
-    rule_in_order s c.put.new.self e c.put.result made unchanged ns levels
+    let atoms : c.put.new.self.atoms ≡ s.atoms = search rules in
+    rule_keeps_order s c.put.new.self e c.put.result made unchanged atoms ns levels
     (λ id above. chain_in_order ns levels s order id c.args.first ks above c.requires.first
-    (each_of (λ (k : Link). IsLive s k.clause) ks c.requires.live) (each_of (λ (k : Link). k.literal.term < length ns) ks within))
+    (each_of (λ (k : Link). IsLive s k.clause) ks c.requires.live) (each_of (λ (k : Link). IsLitIn ns s.atoms k.literal) ks within))
     order
 
 pub returns-clause-grows : goal.returns-clause-grows

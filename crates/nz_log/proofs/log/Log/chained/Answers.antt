@@ -23,7 +23,7 @@ pub loop-link-preserved : goal.loop-link-preserved
 loop-link-preserved c =
     let s = c.args.self.now in
     let ks = c.args.links.now in
-    let d : Link = record { clause = 0; literal = record { term = 0; sign = false } } in
+    let d : Link = record { clause = 0; literal = record { atom = 0; sign = false } } in
     let k = get_or ks c.loop-link.link-index d in
     let old = c.loop-link.resolvent in
     let new = c.resolve_with.new.self in

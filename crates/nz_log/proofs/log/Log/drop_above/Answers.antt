@@ -10,15 +10,15 @@ use Rattle.nz_log.proofs.log.Log.drop_above.Goals as goal
 
 -- what the calls did to the fields
 inside_dropped : (c : goal.After-trim)
-    → Drops (log_of c.self.inside.clauses.items c.self.inside.told.items) c.args.level (log_of c.trim.new.clauses.items c.drop_told.new.told.items)
+    → Drops (log_of c.self.inside.clauses.items c.self.inside.told.items c.self.inside.atoms) c.args.level (log_of c.trim.new.clauses.items c.drop_told.new.told.items c.self.inside.atoms)
 inside_dropped c =
-    drops_from c.self.inside.clauses.items c.trim.new.clauses.items c.self.inside.told.items c.drop_told.new.told.items c.args.level
+    drops_from c.self.inside.clauses.items c.trim.new.clauses.items c.self.inside.told.items c.drop_told.new.told.items c.self.inside.atoms c.args.level
     (λ i. ap (option_map entry_of) (c.trim.ensures.kept i) ∙ c.drop_clauses.ensures.kept i)
     c.drop_told.ensures.kept
 
-dropped : (c : goal.After-trim) → Drops c.args.self.now c.args.level (log_of c.trim.new.clauses.items c.drop_told.new.told.items)
+dropped : (c : goal.After-trim) → Drops c.args.self.now c.args.level (log_of c.trim.new.clauses.items c.drop_told.new.told.items c.self.inside.atoms)
 dropped c =
-    let P : LogState → Type 0 = λ s. Drops s c.args.level (log_of c.trim.new.clauses.items c.drop_told.new.told.items) in
+    let P : LogState → Type 0 = λ s. Drops s c.args.level (log_of c.trim.new.clauses.items c.drop_told.new.told.items c.self.inside.atoms) in
     subst P c.self.view_is (inside_dropped c)
 
 pub invariant_of-self : goal.invariant_of-self

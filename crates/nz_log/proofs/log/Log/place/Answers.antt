@@ -7,8 +7,9 @@ use Rattle.nz_log.proofs.Ordering.{told_ordered}
 use Rattle.nz_log.proofs.log.Log.place.Goals as goal
 
 pub invariant_of-self : goal.invariant_of-self
-invariant_of-self c = (told_ordered _ _ _ c.self.invariant.0, c.self.invariant.1)
+invariant_of-self c = (told_ordered _ _ _ _ _ c.self.invariant.0, c.self.invariant.1)
 
 pub returns-clause-sound : goal.returns-clause-sound
 returns-clause-sound c ns levels order =
-    told_in_order c.args.self.now (log_of c.self.inside.clauses.items c.tell.new.told.items) (ap (λ (s : LogState). s.entries) c.self.view_is) ns levels order
+    told_in_order c.args.self.now (log_of c.self.inside.clauses.items c.tell.new.told.items c.self.inside.atoms) (ap (λ (s : LogState). s.entries) c.self.view_is)
+    (ap (λ (s : LogState). s.atoms) c.self.view_is) ns levels order

@@ -7,10 +7,10 @@ use Rattle.nz_sat.proofs.atoms.Atoms.name.Goals as goal
 
 pub invariant_of-self-2 : goal.invariant_of-self-2
 invariant_of-self-2 c =
-    let us = c.self.inside.terms.items in
+    let us = c.self.inside.ids.items in
     let old = c.self.inside.numbers.items in
     let new = c.give.new.numbers.items in
-    let t = c.args.term in
+    let t = c.args.atom in
     let items : c.push.new.self.items ≡ us ++ t ∷ [] = search rules in
     let long : c.len.result ≡ length us = search rules in
     let here : slice_index_or new t None ≡ number_or (slice_index_or old t None) true (length us) =

@@ -7,7 +7,7 @@ use Rattle.nz_sat.proofs.Indexing.{added_all, adding_more, adding_none, adding_w
 use Rattle.nz_sat.proofs.clauses.Index.add.Goals as goal
 
 abbrev blank : Lit
-blank = record { term = 0; sign = false }
+blank = record { atom = 0; sign = false }
 
 pub loop-literal-init : goal.loop-literal-init
 loop-literal-init c = adding_none c.args.id (literals_at c.args.log.now c.args.id) c.args.self.now

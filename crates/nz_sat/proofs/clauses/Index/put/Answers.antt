@@ -13,10 +13,10 @@ returns c =
       size = (refl, c.put-2.ensures.size);
       put = rw c.if-literal.false c.put-2.ensures.put;
       others = λ m other.
-          elim m.sign as (λ b. m.sign ≡ b → (if b then ids_in positive m.term else ids_in new m.term) ≡ (if b then ids_in positive m.term else ids_in old m.term)) [
+          elim m.sign as (λ b. m.sign ≡ b → (if b then ids_in positive m.atom else ids_in new m.atom) ≡ (if b then ids_in positive m.atom else ids_in old m.atom)) [
             | true ↦ λ e. refl
             | false ↦ λ e.
-                c.put-2.ensures.others m.term
-                (λ same. other (let sign : m.sign ≡ l.sign = e ∙ sym c.if-literal.false in λ i. record { term = same i; sign = sign i }))
+                c.put-2.ensures.others m.atom
+                (λ same. other (let sign : m.sign ≡ l.sign = e ∙ sym c.if-literal.false in λ i. record { atom = same i; sign = sign i }))
           ] refl;
     }

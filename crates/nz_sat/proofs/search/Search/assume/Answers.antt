@@ -32,7 +32,7 @@ returns-in-None-clause-comes c held assumed may =
     let p = c.propagate.ensures in
     let t = c.propagate.new.trail in
     let put = c.assume.ensures.put in
-    let free : assigned s.trail.entries l.term ≡ None = sym c.in-None.ensures.assigned in
+    let free : assigned s.trail.entries l.atom ≡ None = sym c.in-None.ensures.assigned in
     let size : t.size ≡ s.trail.size = p.size ∙ ap (λ (u : TrailState). u.size) put in
     let goes : GoesOn (with_entry s.trail (entry log held assumed l s may c.requires.undecided)).entries t.entries =
     subst (λ (u : TrailState). GoesOn u.entries t.entries) put p.goes_on in

@@ -8,7 +8,7 @@ use Rattle.nz_log.specs.declared.lits.Lit.{Lit}
 use Rattle.nz_log.specs.Logs.{LogState}
 use Rattle.nz_sat.specs.declared.clauses.Held.{Held}
 use Rattle.nz_sat.specs.Clauses.{IsAssumed}
-use Rattle.nz_log.specs.Lits.{AreConsistent}
+use Rattle.nz_sat.specs.Sats.{AreConsistent}
 use Rattle.nz_sat.specs.declared.search.Search.{Search}
 use Rattle.nz_sat.specs.Searching.{AreOpen, IsSearch, MayAssume}
 use Rattle.nz_sat.specs.Trails.{IsTrueOn}
@@ -16,7 +16,7 @@ use Rattle.nz_sat.proofs.Keeping.{held_live, none_told, reasons_assumed, search_
 use Rattle.nz_sat.proofs.search.Search.assume_all.Goals as goal
 
 abbrev blank : Lit
-blank = record { term = 0; sign = false }
+blank = record { atom = 0; sign = false }
 
 pub returns-then-is_some-clause-comes : goal.returns-then-is_some-clause-comes
 returns-then-is_some-clause-comes c =
@@ -48,7 +48,7 @@ loop-literal-init c =
 
 -- the next literal may be assumed
 may_assume : (log : LogState) (held : List Held) (assumed : List Lit) (s start : Search) (i : ℕ) → i < length assumed → s ≡ record start { trail = s.trail }
-    → IsSearch log held s → AreOpen log held s.trail.entries → All (IsAssumed assumed) s.trail.entries → All (λ (m : Lit). Contains start.atoms m.term) assumed
+    → IsSearch log held s → AreOpen log held s.trail.entries → All (IsAssumed assumed) s.trail.entries → All (λ (m : Lit). Contains start.atoms m.atom) assumed
     → AreConsistent assumed → MayAssume log held assumed (get_or assumed i blank) s
 may_assume log held assumed s start i inside rest search all_open assumed_only named consistent =
     record {
@@ -56,15 +56,15 @@ may_assume log held assumed s start i inside rest search all_open assumed_only n
       all_open = all_open;
       assumed_only = assumed_only;
       among = Contains-get_or assumed i blank inside;
-      atom = subst (λ (us : List ℕ). Contains us (get_or assumed i blank).term) (sym (ap (λ (r : Search). r.atoms) rest)) (named i blank inside);
+      atom = subst (λ (us : List ℕ). Contains us (get_or assumed i blank).atom) (sym (ap (λ (r : Search). r.atoms) rest)) (named i blank inside);
       consistent = consistent;
     }
 
 -- the atoms are those of the start
-atom_named : (c : goal.After-assume-arg-in-loop-literal-1) → Contains c.loop-literal.self.atoms (get_or c.args.assumed.now c.loop-literal.literal-index blank).term
+atom_named : (c : goal.After-assume-arg-in-loop-literal-1) → Contains c.loop-literal.self.atoms (get_or c.args.assumed.now c.loop-literal.literal-index blank).atom
 atom_named c =
     let inside : c.loop-literal.literal-index < length c.args.assumed.now = omega arith in
-    subst (λ (us : List ℕ). Contains us (get_or c.args.assumed.now c.loop-literal.literal-index blank).term) (sym (ap (λ (s : Search). s.atoms) c.loop-literal.invariant.rest))
+    subst (λ (us : List ℕ). Contains us (get_or c.args.assumed.now c.loop-literal.literal-index blank).atom) (sym (ap (λ (s : Search). s.atoms) c.loop-literal.invariant.rest))
     (c.requires.named c.loop-literal.literal-index blank inside)
 
 pub assume-falsified-requires : goal.assume-falsified-requires
@@ -73,7 +73,7 @@ assume-falsified-requires c =
     let before = c.loop-literal.invariant in
     record {
       usable = search_usable c.args.log.now c.args.held.now s before.search;
-      within = All-contains (λ (t : ℕ). t < s.trail.size) s.atoms (get_or c.args.assumed.now c.loop-literal.literal-index blank).term before.search.within (atom_named c);
+      within = All-contains (λ (t : ℕ). t < s.trail.size) s.atoms (get_or c.args.assumed.now c.loop-literal.literal-index blank).atom before.search.within (atom_named c);
       undecided = before.undecided;
     }
 

@@ -1,11 +1,8 @@
 -- The learned clause is noted and added, and its literal is true where the search goes back to.
 use Rattle.std.proofs.Common.{◌≡◌, ◌<◌, ◌++◌, ◌∷◌, [], List, None, length, take, drop, vec_len, sym, ap, subst, ◌∙◌, arith, rules}
 use Rattle.std.proofs.lemmas.List.{take_all, take-append-le}
-use Rattle.std.specs.Prelude.{Contains}
 use Rattle.nz_spec.specs.Work.{WorkList}
-use Rattle.nz_log.specs.declared.lits.Lit.{Lit}
 use Rattle.nz_log.specs.declared.note.Note.{Note}
-use Rattle.nz_log.specs.Logs.{literals_at}
 use Rattle.nz_sat.specs.declared.clauses.Held.{Held}
 use Rattle.nz_sat.specs.declared.search.Search.{Search}
 use Rattle.nz_sat.specs.Clauses.{Adds}
@@ -15,8 +12,7 @@ use Rattle.nz_sat.specs.Searching.{Advances, Learns, after_learned}
 use Rattle.nz_sat.specs.Trails.{assigned, below}
 use Rattle.nz_sat.proofs.Advancing.{log_advances}
 use Rattle.nz_sat.proofs.Learning.{learned, literal_missing, literal_within, literals_within}
-use Rattle.nz_sat.proofs.LearnedClauses.{all_from}
-use Rattle.nz_sat.proofs.Noting.{conflict_like, learned_named, line_advances, stays_in_order, taught}
+use Rattle.nz_sat.proofs.Noting.{conflict_like, line_advances, lits_named, stays_in_order, taught}
 use Rattle.nz_sat.proofs.search.Search.learn.Goals as goal
 
 pub learned_clause-requires-clause-live : goal.learned_clause-requires-clause-live
@@ -39,10 +35,9 @@ returns-in_err-learned-clause-advances g c =
 
 pub note_learned-requires-clause-named : goal.note_learned-requires-clause-named
 note_learned-requires-clause-named g c =
-    all_from (λ (m : Lit). Contains c.args.self.now.atoms m.term) (literals_at c.learned_clause.new.log c.in_ok-learned.learned.clause)
-    (learned_named c.args.log.now c.learned_clause.new.log c.args.held.now.items c.args.self.now c.args.work.now c.args.falsified c.in_ok-learned.learned
+    lits_named c.args.log.now c.learned_clause.new.log c.args.held.now.items c.args.self.now c.args.work.now c.args.falsified c.in_ok-learned.learned
     (taught c.args.falsified c.requires.search c.requires.all_open c.requires.conflict c.requires.decided c.requires.noted c.learned_clause.ensures.grows
-    c.learned_clause.ensures.sound c.in_ok-learned.ensures.learned))
+    c.learned_clause.ensures.sound c.in_ok-learned.ensures.learned)
 
 pub returns-in_err-note_learned-clause-advances : goal.returns-in_err-note_learned-clause-advances
 returns-in_err-note_learned-clause-advances g c =
@@ -64,19 +59,22 @@ returns-in_err-hold-clause-advances g c =
     line_advances c.args.log.now c.learned_clause.new.log c.args.held.now.items c.args.self.now c.args.work.now c.args.falsified c.in_ok-learned.learned
     (taught c.args.falsified c.requires.search c.requires.all_open c.requires.conflict c.requires.decided c.requires.noted c.learned_clause.ensures.grows
     c.learned_clause.ensures.sound c.in_ok-learned.ensures.learned)
-    c.tells_lits.ensures.tells c.clauses_are_true.ensures.clauses c.legal_work_goes_on.ensures.goes_on (g.T.Theory.is_over c.args.theory.now) c.hold.new.held.items c.hold.ensures.more c.note_learned.new.work c.in_ok-note_learned.ensures.noted
+    c.tells_lits.ensures.tells c.clauses_are_true.ensures.clauses c.legal_work_goes_on.ensures.goes_on (g.T.Theory.is_over c.args.theory.now) c.hold.new.held.items c.hold.ensures.more
+    (c.hold.ensures.named c.args.self.now.atoms (lits_named c.args.log.now c.learned_clause.new.log c.args.held.now.items c.args.self.now c.args.work.now c.args.falsified c.in_ok-learned.learned
+    (taught c.args.falsified c.requires.search c.requires.all_open c.requires.conflict c.requires.decided c.requires.noted c.learned_clause.ensures.grows
+    c.learned_clause.ensures.sound c.in_ok-learned.ensures.learned))) c.note_learned.new.work c.in_ok-note_learned.ensures.noted
 
 pub go_back-requires-clause-free : goal.go_back-requires-clause-free
 go_back-requires-clause-free g c =
     let l = c.in_ok-learned.learned in
-    subst (λ (x : Search). assigned (below l.level x.trail.entries) l.literal.term ≡ None) (sym c.hold.ensures.rest)
+    subst (λ (x : Search). assigned (below l.level x.trail.entries) l.literal.atom ≡ None) (sym c.hold.ensures.rest)
     (literal_missing c.args.log.now c.learned_clause.new.log c.args.held.now.items c.args.self.now c.args.work.now c.args.falsified c.in_ok-learned.learned
     (taught c.args.falsified c.requires.search c.requires.all_open c.requires.conflict c.requires.decided c.requires.noted c.learned_clause.ensures.grows
     c.learned_clause.ensures.sound c.in_ok-learned.ensures.learned))
 
 pub go_back-requires-clause-within : goal.go_back-requires-clause-within
 go_back-requires-clause-within g c =
-    subst (λ (x : Search). c.in_ok-learned.learned.literal.term < x.trail.size) (sym c.hold.ensures.rest)
+    subst (λ (x : Search). c.in_ok-learned.learned.literal.atom < x.trail.size) (sym c.hold.ensures.rest)
     (literal_within c.args.log.now c.learned_clause.new.log c.args.held.now.items c.args.self.now c.args.work.now c.args.falsified c.in_ok-learned.learned
     (taught c.args.falsified c.requires.search c.requires.all_open c.requires.conflict c.requires.decided c.requires.noted c.learned_clause.ensures.grows
     c.learned_clause.ensures.sound c.in_ok-learned.ensures.learned))
@@ -86,7 +84,10 @@ returns-clause-advances g c =
     line_advances c.args.log.now c.learned_clause.new.log c.args.held.now.items c.args.self.now c.args.work.now c.args.falsified c.in_ok-learned.learned
     (taught c.args.falsified c.requires.search c.requires.all_open c.requires.conflict c.requires.decided c.requires.noted c.learned_clause.ensures.grows
     c.learned_clause.ensures.sound c.in_ok-learned.ensures.learned)
-    c.tells_lits.ensures.tells c.clauses_are_true.ensures.clauses c.legal_work_goes_on.ensures.goes_on (g.T.Theory.is_over c.args.theory.now) c.hold.new.held.items c.hold.ensures.more c.note_learned.new.work c.in_ok-note_learned.ensures.noted
+    c.tells_lits.ensures.tells c.clauses_are_true.ensures.clauses c.legal_work_goes_on.ensures.goes_on (g.T.Theory.is_over c.args.theory.now) c.hold.new.held.items c.hold.ensures.more
+    (c.hold.ensures.named c.args.self.now.atoms (lits_named c.args.log.now c.learned_clause.new.log c.args.held.now.items c.args.self.now c.args.work.now c.args.falsified c.in_ok-learned.learned
+    (taught c.args.falsified c.requires.search c.requires.all_open c.requires.conflict c.requires.decided c.requires.noted c.learned_clause.ensures.grows
+    c.learned_clause.ensures.sound c.in_ok-learned.ensures.learned))) c.note_learned.new.work c.in_ok-note_learned.ensures.noted
 
 pub returns-clause-learned : goal.returns-clause-learned
 returns-clause-learned g c =

@@ -1,6 +1,6 @@
 -- One clause more is in the index.
 use Rattle.std.proofs.Common.{◌≡◌, ℕ, ◌<◌, List, length, false, get_or, inl, inr, ap, sym, subst, ◌∙◌, arith, below_more, rules}
-use Rattle.std.specs.Prelude.{All, Contains, replicate}
+use Rattle.std.specs.Prelude.{All, Contains, IsSome, replicate, slice_get}
 use Rattle.std.proofs.lemmas.List.{get_or_default, length-replicate}
 use Rattle.std.proofs.lemmas.List.Elements.{All-contains, All-map, All-nil}
 use Rattle.nz_log.specs.declared.lits.Lit.{Lit}
@@ -45,8 +45,8 @@ add-requires-clause-within c k d there =
     let inside : i < length held = omega arith in
     let l = get_or (literals_at c.args.log.now (get_or held i blank).id) k d in
     let named = c.requires.named i blank inside k d there in
-    let atom : Contains c.in_ok-atoms.atoms l.term = subst (λ (us : List ℕ). Contains us l.term) (sym c.in_ok-atoms.ensures.noted) named in
-    let small : l.term < c.size-size.result = All-contains (λ (t : ℕ). t < c.size-size.result) c.in_ok-atoms.atoms l.term c.size-size.ensures.within atom in
+    let atom : Contains c.in_ok-atoms.atoms l.atom = subst (λ (us : List ℕ). Contains us l.atom) (sym c.in_ok-atoms.ensures.atoms) named in
+    let small : l.atom < c.size-size.result = All-contains (λ (t : ℕ). t < c.size-size.result) c.in_ok-atoms.atoms l.atom c.size-size.ensures.within atom in
     let first = before.size.0 in
     let second = before.size.1 in
     (omega arith, omega arith)
@@ -55,13 +55,13 @@ pub returns-clause-search : goal.returns-clause-search
 returns-clause-search c =
     let log = c.args.log.now in
     let held = c.args.held.now in
-    let us = c.atoms.inside.terms.items in
+    let us = c.atoms.inside.ids.items in
     let t = c.in_ok-new.field-0 in
     let size = c.size-size.result in
     let before = c.loop-clause.invariant in
     let empty : t ≡ empty_trail size = c.in_ok-new.ensures.empty in
-    let noted = c.atoms.view_is ∙ c.in_ok-atoms.ensures.noted in
-    let N : List ℕ → ℕ → Type 0 = λ vs i. All (λ (l : Lit). Contains vs l.term) (literals_at log i) in
+    let noted = c.atoms.view_is ∙ c.in_ok-atoms.ensures.atoms in
+    let N : List ℕ → ℕ → Type 0 = λ vs i. All (λ (l : Lit). Contains vs l.atom) (literals_at log i) in
     let small : All (λ (u : ℕ). u < size) us = subst (λ (vs : List ℕ). All (λ (u : ℕ). u < size) vs) (sym c.atoms.view_is) c.size-size.ensures.within in
     let marks : c.in_ok-vec.field-0.items ≡ replicate size false = search rules in
     record {
@@ -69,7 +69,8 @@ returns-clause-search c =
       listed = All-map (IsListed log c.loop-clause.index) (λ (h : Held). h.id) held (λ k d inside. before.listed k d (omega arith));
       only = before.only;
       named = All-map (N us) (λ (h : Held). h.id) held (λ k d inside. subst (λ (vs : List ℕ). N vs (get_or held k d).id) (sym noted) (c.requires.named k d inside));
-      on_trail = subst (λ (u : TrailState). All (λ (e : Assigned). Contains us e.literal.term) u.entries) (sym empty) (All-nil (λ (e : Assigned). Contains us e.literal.term));
+      there = subst (All (λ (u : ℕ). IsSome (slice_get log.atoms u))) (sym noted) c.requires.there;
+      on_trail = subst (λ (u : TrailState). All (λ (e : Assigned). Contains us e.literal.atom) u.entries) (sym empty) (All-nil (λ (e : Assigned). Contains us e.literal.atom));
       within = subst (λ (u : TrailState). All (λ (v : ℕ). v < u.size) us) (sym empty) small;
       indexed = subst (λ (u : TrailState). IsOfSize u.size c.loop-clause.index) (sym empty) before.size;
       marks = ap length marks ∙ length-replicate size false ∙ sym (ap (λ (u : TrailState). u.size) empty);

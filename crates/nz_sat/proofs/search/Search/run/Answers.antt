@@ -11,8 +11,8 @@ use Rattle.nz_sat.proofs.Advancing.{steps_same}
 use Rattle.nz_sat.proofs.Running.{met_told, run_advances, run_steps, runs_on, runs_ordered}
 use Rattle.nz_sat.proofs.search.Search.run.Goals as goal
 
-pub loop-term-init : goal.loop-term-init
-loop-term-init g c =
+pub loop-atom-init : goal.loop-atom-init
+loop-atom-init g c =
     let none : c.in_ok-refuted.field-0 ≡ None = search rules in
     record {
       advances = c.begin.ensures.steps.advances;
@@ -22,41 +22,41 @@ loop-term-init g c =
     }
 
 pub turn-requires-clause-search : goal.turn-requires-clause-search
-turn-requires-clause-search g c = (runs_ordered c.loop-term.invariant.runs c.next.ensures.rest).search
+turn-requires-clause-search g c = (runs_ordered c.loop-atom.invariant.runs c.next.ensures.rest).search
 
 pub turn-requires-clause-all_open : goal.turn-requires-clause-all_open
-turn-requires-clause-all_open g c = (runs_ordered c.loop-term.invariant.runs c.next.ensures.rest).all_open
+turn-requires-clause-all_open g c = (runs_ordered c.loop-atom.invariant.runs c.next.ensures.rest).all_open
 
 pub turn-requires-clause-were_open : goal.turn-requires-clause-were_open
-turn-requires-clause-were_open g c = (runs_ordered c.loop-term.invariant.runs c.next.ensures.rest).were_open
+turn-requires-clause-were_open g c = (runs_ordered c.loop-atom.invariant.runs c.next.ensures.rest).were_open
 
 pub turn-requires-clause-noted : goal.turn-requires-clause-noted
-turn-requires-clause-noted g c = (runs_ordered c.loop-term.invariant.runs c.next.ensures.rest).noted
+turn-requires-clause-noted g c = (runs_ordered c.loop-atom.invariant.runs c.next.ensures.rest).noted
 
 pub turn-requires-clause-told : goal.turn-requires-clause-told
 turn-requires-clause-told g c =
-    subst (λ (s : Search). IsTold (g.T.Theory.has_told c.loop-term.theory) s.trail.entries) (sym c.next.ensures.rest) (met_told c.loop-term.invariant.met)
+    subst (λ (s : Search). IsTold (g.T.Theory.has_told c.loop-atom.theory) s.trail.entries) (sym c.next.ensures.rest) (met_told c.loop-atom.invariant.met)
 
 pub returns-in_err-found-clause-steps : goal.returns-in_err-found-clause-steps
 returns-in_err-found-clause-steps g c =
     let same : Err c.in_err-found.field-0.0 ≡ c.from_residual-in_err-found.result = search rules in
     steps_same same
-    (run_steps c.loop-term.invariant.advances (runs_ordered c.loop-term.invariant.runs c.next.ensures.rest) c.loop-term.invariant.keeps c.in_err-found.ensures.steps)
+    (run_steps c.loop-atom.invariant.advances (runs_ordered c.loop-atom.invariant.runs c.next.ensures.rest) c.loop-atom.invariant.keeps c.in_err-found.ensures.steps)
 
 pub returns-in-Some-2-clause-steps : goal.returns-in-Some-2-clause-steps
 returns-in-Some-2-clause-steps g c =
     steps_same (ap Ok c.in-Some-2.is)
-    (run_steps c.loop-term.invariant.advances (runs_ordered c.loop-term.invariant.runs c.next.ensures.rest) c.loop-term.invariant.keeps c.in_ok-found.ensures.steps)
+    (run_steps c.loop-atom.invariant.advances (runs_ordered c.loop-atom.invariant.runs c.next.ensures.rest) c.loop-atom.invariant.keeps c.in_ok-found.ensures.steps)
 
 pub returns-in-Some-2-clause-refuted : goal.returns-in-Some-2-clause-refuted
 returns-in-Some-2-clause-refuted g c =
     let P : ℕ → Type 0 =
     λ id. IsLive c.turn.new.log id × ((assumed : List Lit) → All (IsAssumed assumed) c.next.new.self.trail.entries → Refutes assumed (literals_at c.turn.new.log id)) in
     let refuted : P c.in-Some-2.found = subst (λ (told : Option ℕ). IfSome told P) c.in-Some-2.is c.in_ok-found.ensures.refuted in
-    (refuted.0, refuted.1 c.args.assumed.now (runs_ordered c.loop-term.invariant.runs c.next.ensures.rest).assumed_only)
+    (refuted.0, refuted.1 c.args.assumed.now (runs_ordered c.loop-atom.invariant.runs c.next.ensures.rest).assumed_only)
 
-pub loop-term-smaller : goal.loop-term-smaller
-loop-term-smaller g c =
+pub loop-atom-smaller : goal.loop-atom-smaller
+loop-atom-smaller g c =
     let none : c.in_ok-found.field-0 ≡ None = search rules in
     let settled = c.in_ok-found.ensures.settled none in
     let more = settled.more in
@@ -64,26 +64,26 @@ loop-term-smaller g c =
     let limit = c.turn.ensures.steps.advances.limit in
     omega arith
 
-pub loop-term-preserved : goal.loop-term-preserved
-loop-term-preserved g c =
+pub loop-atom-preserved : goal.loop-atom-preserved
+loop-atom-preserved g c =
     let none : c.in_ok-found.field-0 ≡ None = search rules in
     let settled = c.in_ok-found.ensures.settled none in
-    let runs = runs_ordered c.loop-term.invariant.runs c.next.ensures.rest in
+    let runs = runs_ordered c.loop-atom.invariant.runs c.next.ensures.rest in
     record {
-      advances = run_advances c.loop-term.invariant.advances runs c.loop-term.invariant.keeps c.turn.ensures.steps.advances;
+      advances = run_advances c.loop-atom.invariant.advances runs c.loop-atom.invariant.keeps c.turn.ensures.steps.advances;
       runs = runs_on runs settled.settles;
       met = c.in_ok-found.ensures.steps.met none;
-      keeps = λ ns known. c.turn.ensures.steps.known ns (c.loop-term.invariant.keeps ns known);
+      keeps = λ ns known. c.turn.ensures.steps.known ns (c.loop-atom.invariant.keeps ns known);
     }
 
 pub returns-clause-steps : goal.returns-clause-steps
 returns-clause-steps g c =
-    let t = c.loop-term.invariant in
-    let met = subst (λ (s : Search). IsMet (g.T.Theory.has_told c.loop-term.theory) (g.T.Theory.is_feasible c.loop-term.theory) s.trail.entries) (sym c.next.ensures.rest) t.met in
+    let t = c.loop-atom.invariant in
+    let met = subst (λ (s : Search). IsMet (g.T.Theory.has_told c.loop-atom.theory) (g.T.Theory.is_feasible c.loop-atom.theory) s.trail.entries) (sym c.next.ensures.rest) t.met in
     record { advances = t.advances; known = t.keeps; told = met_told met; met = λ none. met; spent = search rules }
 
 pub returns-clause-satisfied : goal.returns-clause-satisfied
 returns-clause-satisfied g c =
-    let h = runs_ordered c.loop-term.invariant.runs c.next.ensures.rest in
+    let h = runs_ordered c.loop-atom.invariant.runs c.next.ensures.rest in
     let none : c.next.result ≡ None = search rules in
     λ told. record { search = h.search; all_open = h.all_open; same = h.same; hold = h.hold; all_decided = c.next.ensures.none none }

@@ -5,8 +5,8 @@ use Rattle.nz_sat.specs.Searching.{Advances, Runs, assumed_entries}
 use Rattle.nz_sat.specs.Theories.{IsMet}
 use Rattle.nz_sat.proofs.search.Search.run.Given as goal
 
-abbrev pub invariant-loop-term : goal.invariant-loop-term
-invariant-loop-term g l =
+abbrev pub invariant-loop-atom : goal.invariant-loop-atom
+invariant-loop-atom g l =
     record {
       advances : Advances (g.T.Theory.is_over l.fn.theory) l.fn.self.atoms (assumed_entries l.assumed) l.fn.log l.log l.fn.held.items l.held.items l.fn.work l.work;
       runs : Runs l.log l.held.items l.assumed l.fn.self l.self l.work;
@@ -14,5 +14,5 @@ invariant-loop-term g l =
       keeps : (ns : List Node) → g.T.Theory.is_over l.fn.theory ns → g.T.Theory.is_over l.theory ns;
     }
 
-abbrev pub decreases-loop-term : goal.decreases-loop-term
-decreases-loop-term g l = l.work.limit - unit_count l.work.lines
+abbrev pub decreases-loop-atom : goal.decreases-loop-atom
+decreases-loop-atom g l = l.work.limit - unit_count l.work.lines

@@ -12,7 +12,7 @@ use Rattle.nz_sat.proofs.search.Search.turn.Goals as goal
 
 pub decide-requires-clause-within : goal.decide-requires-clause-within
 decide-requires-clause-within g c =
-    All-contains (λ (t : ℕ). t < c.args.self.now.trail.size) c.args.self.now.atoms c.args.term c.requires.search.within c.requires.named
+    All-contains (λ (t : ℕ). t < c.args.self.now.trail.size) c.args.self.now.atoms c.args.atom c.requires.search.within c.requires.named
 
 pub returns-in_err-from-clause-steps : goal.returns-in_err-from-clause-steps
 returns-in_err-from-clause-steps g c =
@@ -31,17 +31,17 @@ returns-in_err-from-clause-steps g c =
 
 pub settle-requires-clause-search : goal.settle-requires-clause-search
 settle-requires-clause-search g c =
-    (has_decided c.legal_work_goes_on.ensures.goes_on (g.T.Theory.is_over c.args.theory.now) c.args.term c.requires.search c.requires.all_open c.requires.were_open c.requires.noted
+    (has_decided c.legal_work_goes_on.ensures.goes_on (g.T.Theory.is_over c.args.theory.now) c.args.atom c.requires.search c.requires.all_open c.requires.were_open c.requires.noted
     c.requires.free c.requires.named c.in_ok-from.ensures.rest c.in_ok-from.ensures.decides).search
 
 pub settle-requires-clause-all_open : goal.settle-requires-clause-all_open
 settle-requires-clause-all_open g c =
-    (has_decided c.legal_work_goes_on.ensures.goes_on (g.T.Theory.is_over c.args.theory.now) c.args.term c.requires.search c.requires.all_open c.requires.were_open c.requires.noted
+    (has_decided c.legal_work_goes_on.ensures.goes_on (g.T.Theory.is_over c.args.theory.now) c.args.atom c.requires.search c.requires.all_open c.requires.were_open c.requires.noted
     c.requires.free c.requires.named c.in_ok-from.ensures.rest c.in_ok-from.ensures.decides).were_open
 
 pub settle-requires-clause-from : goal.settle-requires-clause-from
 settle-requires-clause-from g c =
-    let d = has_decided c.legal_work_goes_on.ensures.goes_on (g.T.Theory.is_over c.args.theory.now) c.args.term c.requires.search c.requires.all_open c.requires.were_open c.requires.noted
+    let d = has_decided c.legal_work_goes_on.ensures.goes_on (g.T.Theory.is_over c.args.theory.now) c.args.atom c.requires.search c.requires.all_open c.requires.were_open c.requires.noted
     c.requires.free c.requires.named c.in_ok-from.ensures.rest c.in_ok-from.ensures.decides in
     let long = ap length d.front.joined ∙ length-append c.args.self.now.trail.entries d.front.more in
     let place = c.in_ok-from.ensures.place in
@@ -50,29 +50,29 @@ settle-requires-clause-from g c =
 pub settle-requires-clause-waits : goal.settle-requires-clause-waits
 settle-requires-clause-waits g c =
     subst (AreWaiting c.args.log.now c.args.held.now.items c.decide.new.self.trail.entries) (sym c.in_ok-from.ensures.place)
-    (has_decided c.legal_work_goes_on.ensures.goes_on (g.T.Theory.is_over c.args.theory.now) c.args.term c.requires.search c.requires.all_open c.requires.were_open c.requires.noted
+    (has_decided c.legal_work_goes_on.ensures.goes_on (g.T.Theory.is_over c.args.theory.now) c.args.atom c.requires.search c.requires.all_open c.requires.were_open c.requires.noted
     c.requires.free c.requires.named c.in_ok-from.ensures.rest c.in_ok-from.ensures.decides).waits
 
 pub settle-requires-clause-noted : goal.settle-requires-clause-noted
 settle-requires-clause-noted g c =
-    (has_decided c.legal_work_goes_on.ensures.goes_on (g.T.Theory.is_over c.args.theory.now) c.args.term c.requires.search c.requires.all_open c.requires.were_open c.requires.noted
+    (has_decided c.legal_work_goes_on.ensures.goes_on (g.T.Theory.is_over c.args.theory.now) c.args.atom c.requires.search c.requires.all_open c.requires.were_open c.requires.noted
     c.requires.free c.requires.named c.in_ok-from.ensures.rest c.in_ok-from.ensures.decides).noted
 
 pub settle-requires-clause-told : goal.settle-requires-clause-told
 settle-requires-clause-told g c =
-    let d = has_decided c.legal_work_goes_on.ensures.goes_on (g.T.Theory.is_over c.args.theory.now) c.args.term c.requires.search c.requires.all_open c.requires.were_open c.requires.noted
+    let d = has_decided c.legal_work_goes_on.ensures.goes_on (g.T.Theory.is_over c.args.theory.now) c.args.atom c.requires.search c.requires.all_open c.requires.were_open c.requires.noted
     c.requires.free c.requires.named c.in_ok-from.ensures.rest c.in_ok-from.ensures.decides in
     told_on (g.T.Theory.has_told c.args.theory.now) c.args.self.now.trail.entries c.decide.new.self.trail.entries d.front c.requires.told
 
 pub returns-clause-steps : goal.returns-clause-steps
 returns-clause-steps g c =
-    let d = has_decided c.legal_work_goes_on.ensures.goes_on (g.T.Theory.is_over c.args.theory.now) c.args.term c.requires.search c.requires.all_open c.requires.were_open c.requires.noted
+    let d = has_decided c.legal_work_goes_on.ensures.goes_on (g.T.Theory.is_over c.args.theory.now) c.args.atom c.requires.search c.requires.all_open c.requires.were_open c.requires.noted
     c.requires.free c.requires.named c.in_ok-from.ensures.rest c.in_ok-from.ensures.decides in
     steps_on d.carries d.advances (λ ns known. known) c.settle.ensures.steps
 
 pub returns-clause-settled : goal.returns-clause-settled
 returns-clause-settled g c =
-    let d = has_decided c.legal_work_goes_on.ensures.goes_on (g.T.Theory.is_over c.args.theory.now) c.args.term c.requires.search c.requires.all_open c.requires.were_open c.requires.noted
+    let d = has_decided c.legal_work_goes_on.ensures.goes_on (g.T.Theory.is_over c.args.theory.now) c.args.atom c.requires.search c.requires.all_open c.requires.were_open c.requires.noted
     c.requires.free c.requires.named c.in_ok-from.ensures.rest c.in_ok-from.ensures.decides in
     IfOk-weaker c.settle.result
     (λ (o : Option ℕ). o ≡ None → Settles c.settle.new.log c.settle.new.held.items c.decide.new.self c.settle.new.self c.decide.new.work c.settle.new.work)
@@ -81,6 +81,6 @@ returns-clause-settled g c =
 
 pub returns-clause-refuted : goal.returns-clause-refuted
 returns-clause-refuted g c =
-    let d = has_decided c.legal_work_goes_on.ensures.goes_on (g.T.Theory.is_over c.args.theory.now) c.args.term c.requires.search c.requires.all_open c.requires.were_open c.requires.noted
+    let d = has_decided c.legal_work_goes_on.ensures.goes_on (g.T.Theory.is_over c.args.theory.now) c.args.atom c.requires.search c.requires.all_open c.requires.were_open c.requires.noted
     c.requires.free c.requires.named c.in_ok-from.ensures.rest c.in_ok-from.ensures.decides in
     refutes_far c.args.self.now.trail.entries c.decide.new.self.trail.entries c.settle.new.log d.carries.assumed_only c.settle.result c.settle.ensures.refuted

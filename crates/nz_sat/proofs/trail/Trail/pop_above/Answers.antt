@@ -19,31 +19,31 @@ returns-then-last-level-clause-below c none =
     let P : TrailState → Type 0 = λ s. (k : ℕ) → (d : Assigned) → k < length s.entries → (get_or s.entries k d).level ≤ c.args.level in
     subst P c.self.view_is
     (λ k d inside.
-    let highest = last_highest (length c.self.inside.by_term.items) es last c.self.invariant.order at k (get_or es k d) (slice_get-get_or es k d inside) in
+    let highest = last_highest (length c.self.inside.by_atom.items) es last c.self.invariant.order at k (get_or es k d) (slice_get-get_or es k d inside) in
     omega (arith, highest, c.if-last-level.true))
 
 pub invariant_of-self : goal.invariant_of-self
 invariant_of-self c =
     let es = c.pop.new.self.items in
-    let by_term = c.self.inside.by_term.items in
+    let by_atom = c.self.inside.by_atom.items in
     let e = c.in_ok-last.field-0.now in
-    let t = e.literal.term in
+    let t = e.literal.atom in
     let old = c.self.invariant in
-    let new = slice_set by_term t None in
+    let new = slice_set by_atom t None in
     let items : c.self.inside.entries.items ≡ es ++ e ∷ [] = search rules in
-    let order : EachBehind (IsNext (length by_term)) (es ++ e ∷ []) = subst (λ (xs : List Assigned). EachBehind (IsNext (length by_term)) xs) items old.order in
-    let last : IsNext (length by_term) es e = each_last (IsNext (length by_term)) es e order in
-    let within : t < length by_term = last.within in
+    let order : EachBehind (IsNext (length by_atom)) (es ++ e ∷ []) = subst (λ (xs : List Assigned). EachBehind (IsNext (length by_atom)) xs) items old.order in
+    let last : IsNext (length by_atom) es e = each_last (IsNext (length by_atom)) es e order in
+    let within : t < length by_atom = last.within in
     let fresh : assigned es t ≡ None = last.fresh in
-    let table : (u : ℕ) → slice_index_or by_term u None ≡ assigned (es ++ e ∷ []) u =
-    subst (λ (xs : List Assigned). (u : ℕ) → slice_index_or by_term u None ≡ assigned xs u) items old.table in
-    let long = length-set by_term t None in
-    let none : vacancy (get_or by_term t None) ≡ 0 = ap vacancy (table t ∙ assigned_missing es (e ∷ []) t fresh ∙ assigned_one e t refl) in
-    let more = sum_by-set vacancy by_term t None None within in
+    let table : (u : ℕ) → slice_index_or by_atom u None ≡ assigned (es ++ e ∷ []) u =
+    subst (λ (xs : List Assigned). (u : ℕ) → slice_index_or by_atom u None ≡ assigned xs u) items old.table in
+    let long = length-set by_atom t None in
+    let none : vacancy (get_or by_atom t None) ≡ 0 = ap vacancy (table t ∙ assigned_missing es (e ∷ []) t fresh ∙ assigned_one e t refl) in
+    let more = sum_by-set vacancy by_atom t None None within in
     let count : length c.self.inside.entries.items ≡ length es + 1 = ap length items ∙ length_push es e in
     record {
-      order = subst (λ (n : ℕ). EachBehind (IsNext n) es) (sym long) (each_front (IsNext (length by_term)) es (e ∷ []) order);
-      table = table_pop es e by_term within fresh table;
+      order = subst (λ (n : ℕ). EachBehind (IsNext n) es) (sym long) (each_front (IsNext (length by_atom)) es (e ∷ []) order);
+      table = table_pop es e by_atom within fresh table;
       vacant = omega (arith, old.vacant);
       room = omega (arith, old.room, c.pop.ensures.capacity);
     }

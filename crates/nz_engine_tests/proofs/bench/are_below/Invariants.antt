@@ -1,6 +1,0 @@
--- Each so far is below the number.
-use Rattle.std.proofs.Common.{ℕ, ◌<◌, get_or}
-use Rattle.nz_engine_tests.proofs.bench.are_below.Given as goal
-
-abbrev pub invariant-loop-i : goal.invariant-loop-i
-invariant-loop-i l = (k d : ℕ) → k < l.i → get_or l.terms k d < l.count

@@ -1,0 +1,22 @@
+-- The table with one more, where it wasn't there.
+use Rattle.std.proofs.Common.{List, subst}
+use Rattle.nz_log.specs.declared.atoms.Atom.{Atom}
+use Rattle.nz_log.specs.Atoms.{Stay}
+use Rattle.nz_log.proofs.AtomTables.{put_atoms, put_stays, put_there}
+use Rattle.nz_log.proofs.atoms.Atoms.put.Goals as goal
+
+pub invariant_of-self-2 : goal.invariant_of-self-2
+invariant_of-self-2 c =
+    put_atoms c.self.inside.atoms.keys c.insert_full.new.self.keys c.args.atom c.in_ok-id.ensures.keys c.insert_full.ensures.unique c.requires.normal c.self.invariant
+
+pub returns-clause-there : goal.returns-clause-there
+returns-clause-there c = put_there c.insert_full.new.self.keys c.args.atom c.in_ok-id.id c.in_ok-id.ensures.stored
+
+pub returns-clause-stay : goal.returns-clause-stay
+returns-clause-stay c =
+    subst (λ (list : List Atom). Stay list c.insert_full.new.self.keys) c.self.view_is
+    (put_stays c.self.inside.atoms.keys c.insert_full.new.self.keys c.args.atom c.in_ok-id.ensures.keys)
+
+pub returns-clause-atoms : goal.returns-clause-atoms
+returns-clause-atoms c =
+    put_atoms c.self.inside.atoms.keys c.insert_full.new.self.keys c.args.atom c.in_ok-id.ensures.keys c.insert_full.ensures.unique c.requires.normal c.self.invariant

@@ -1,0 +1,15 @@
+-- An atom more.
+use Rattle.std.proofs.Common.{List, subst}
+use Rattle.nz_log.specs.Logs.{JoinsAtoms, LogState}
+use Rattle.nz_log.specs.Stored.{log_of}
+use Rattle.nz_log.proofs.AtomLiterals.{log_joins}
+use Rattle.nz_log.proofs.Ordering.{told_ordered}
+use Rattle.nz_log.proofs.log.Log.bound_atom.Goals as goal
+
+pub invariant_of-self : goal.invariant_of-self
+invariant_of-self c = (told_ordered _ _ _ _ _ c.self.invariant.0, c.self.invariant.1)
+
+pub returns-clause-joins : goal.returns-clause-joins
+returns-clause-joins c =
+    subst (λ (s : LogState). JoinsAtoms s (log_of c.self.inside.clauses.items c.self.inside.told.items c.put.new.self)) c.self.view_is
+    (log_joins c.self.inside.clauses.items c.self.inside.told.items c.self.inside.atoms c.put.new.self c.put.ensures.stay)

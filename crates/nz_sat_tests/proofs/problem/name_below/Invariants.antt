@@ -1,7 +1,0 @@
--- Each so far names a term below the number.
-use Rattle.std.proofs.Common.{ℕ, ◌<◌, get_or}
-use Rattle.nz_log.specs.declared.lits.Lit.{Lit}
-use Rattle.nz_sat_tests.proofs.problem.name_below.Given as goal
-
-abbrev pub invariant-loop-i : goal.invariant-loop-i
-invariant-loop-i l = (k : ℕ) (d : Lit) → k < l.i → (get_or l.literals k d).term < l.count

@@ -1,0 +1,6 @@
+-- The law.
+use Rattle.nz_simplex.proofs.Contradicting as contradicting
+use Rattle.nz_simplex.proofs.laws.clashes_contradict.Goals as goal
+
+pub returns : goal.returns
+returns c = record { contradict = contradicting.clashes_contradict }

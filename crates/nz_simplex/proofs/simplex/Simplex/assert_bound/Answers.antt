@@ -1,0 +1,119 @@
+-- A bound that is tighter stands, and a nonbasic form outside of it has moved to it; else nothing changes.
+use Rattle.std.proofs.Common.{◌≡◌, ℕ, List, length, Option, sym, ap, ◌∙◌, subst, arith, Ok}
+use Rattle.std.specs.Prelude.{◌↔◌, vec_capacity}
+use Rattle.nz_spec.specs.Infinitesimal.{infinitesimal_cmp}
+use Rattle.nz_trail.specs.Bounds.{ClashesWith, IsExcluded, IsImplied, TrailState, asserted}
+use Rattle.nz_trail.specs.declared.limits.Bound.{Bound}
+use Rattle.nz_trail.specs.declared.limits.Bound.TheVariants.{Kept, Tighter, Clash}
+use Rattle.nz_simplex.specs.Moves.{IsBounded}
+use Rattle.nz_simplex.specs.State.{State}
+use Rattle.nz_simplex.specs.Stored.{IsStored, state_of}
+use Rattle.nz_simplex.proofs.Bounded.{asserted_shown}
+use Rattle.nz_simplex.proofs.Bounding.{clash_shown, kept_shown, same_ok, tighter_shown}
+use Rattle.nz_simplex.proofs.Exchanging.{written_back}
+use Rattle.nz_simplex.proofs.simplex.Simplex.assert_bound.Goals as goal
+
+pub invariant_of-self-in-Tighter : goal.invariant_of-self-in-Tighter
+invariant_of-self-in-Tighter g c =
+    let x = c.self.inside in
+    let stored = c.self.invariant in
+    let new = c.move_within.new.values in
+    let long : length new ≡ length x.values.items = omega (arith, c.move_within.auto.values, c.as_mut_slice.ensures.len, x.values.ok.0) in
+    let vars : c.assert_bound.new.self.vars ≡ x.trail.vars = ap (λ (t : TrailState g.row.S.Denot). t.vars) (c.assert_bound.ensures.grown (c.in_ok-outcome.was ∙ ap Ok c.in-Tighter.is)) in
+    subst
+    (λ (vs : List (Option g.row.S.Denot)). IsStored (state_of g.S.Coordinate.stands_for x.tab c.assert_bound.new.self vs x.why.items) c.assert_bound.new.self.vars x.basic.items x.nonbasic.items
+    (vec_capacity x.basic) (vec_capacity x.nonbasic) (vec_capacity x.why))
+    (sym (written_back x.values.len x.values.items new x.values.ok.0 long))
+    (record {
+      sound =
+          (asserted_shown g.S.Coordinate.stands_for g.S.Scalar.order g.met.S.Scalar.laws.ordered g.met.S.Coordinate.faithful.compares x.tab x.trail c.assert_bound.new.self x.values.items c.as_mut_slice.result.now new x.why.items
+          c.args.self.now c.args.var c.args.side c.args.value c.args.reason c.self.view_is c.self.invariant.sound c.requires.known (c.in_ok-outcome.ensures.tighter.0 c.in-Tighter.is)
+          (c.assert_bound.ensures.grown (c.in_ok-outcome.was ∙ ap Ok c.in-Tighter.is))
+          c.moves_keep_ready.ensures.ready c.sum_moves.ensures.moves c.positions_have_values.ensures.values c.infinitesimals_move.ensures.moves c.nonbasic_form_is_itself.ensures.itself c.known_tableau.ensures.tableau
+          c.as_mut_slice.ensures.value c.move_within.auto.values c.move_within.ensures.still c.move_within.ensures.moved c.move_within.ensures.stays c.move_within.ensures.follows).sound;
+      basic_listed = stored.basic_listed;
+      nonbasic_listed = stored.nonbasic_listed;
+      numbered = omega (arith, vars, stored.numbered);
+      room_for_basic = stored.room_for_basic;
+      room_for_nonbasic = stored.room_for_nonbasic;
+      room_for_why = stored.room_for_why;
+    })
+
+pub returns-in-Tighter-clause-bounded : goal.returns-in-Tighter-clause-bounded
+returns-in-Tighter-clause-bounded g c =
+    let x = c.self.inside in
+    let new = c.move_within.new.values in
+    let long : length new ≡ length x.values.items = omega (arith, c.move_within.auto.values, c.as_mut_slice.ensures.len, x.values.ok.0) in
+    λ e.
+    subst
+    (λ (vs : List (Option g.row.S.Denot)). IsBounded c.args.self.now (state_of g.S.Coordinate.stands_for x.tab c.assert_bound.new.self vs x.why.items)
+    (asserted c.args.var c.args.side (g.S.Coordinate.stands_for c.args.value) c.args.reason))
+    (sym (written_back x.values.len x.values.items new x.values.ok.0 long))
+    (asserted_shown g.S.Coordinate.stands_for g.S.Scalar.order g.met.S.Scalar.laws.ordered g.met.S.Coordinate.faithful.compares x.tab x.trail c.assert_bound.new.self x.values.items c.as_mut_slice.result.now new x.why.items
+    c.args.self.now c.args.var c.args.side c.args.value c.args.reason c.self.view_is c.self.invariant.sound c.requires.known (c.in_ok-outcome.ensures.tighter.0 c.in-Tighter.is)
+    (c.assert_bound.ensures.grown (c.in_ok-outcome.was ∙ ap Ok c.in-Tighter.is))
+    c.moves_keep_ready.ensures.ready c.sum_moves.ensures.moves c.positions_have_values.ensures.values c.infinitesimals_move.ensures.moves c.nonbasic_form_is_itself.ensures.itself c.known_tableau.ensures.tableau
+    c.as_mut_slice.ensures.value c.move_within.auto.values c.move_within.ensures.still c.move_within.ensures.moved c.move_within.ensures.stays c.move_within.ensures.follows).bounded
+
+pub returns-in-Tighter-clause-kept : goal.returns-in-Tighter-clause-kept
+returns-in-Tighter-clause-kept g c =
+    subst (λ (o : Bound). (o ≡ Kept) ↔ IsImplied infinitesimal_cmp c.args.self.now.asserted (asserted c.args.var c.args.side (g.S.Coordinate.stands_for c.args.value) c.args.reason)) c.in-Tighter.is
+    (subst (λ (s : State). (c.in_ok-outcome.outcome ≡ Kept) ↔ IsImplied infinitesimal_cmp s.asserted (asserted c.args.var c.args.side (g.S.Coordinate.stands_for c.args.value) c.args.reason)) c.self.view_is
+    (kept_shown g.S.Coordinate.stands_for g.S.Scalar.order g.met.S.Coordinate.faithful.compares c.self.inside.trail.asserted (asserted c.args.var c.args.side c.args.value c.args.reason) c.in_ok-outcome.outcome c.in_ok-outcome.ensures.kept))
+
+pub returns-in-Tighter-clause-clash : goal.returns-in-Tighter-clause-clash
+returns-in-Tighter-clause-clash g c =
+    subst
+    (λ (o : Bound). (r : ℕ) → (s : ℕ) → (o ≡ Clash r s)
+    ↔ ((r ≡ c.args.reason) × ClashesWith infinitesimal_cmp c.args.self.now.asserted (asserted c.args.var c.args.side (g.S.Coordinate.stands_for c.args.value) c.args.reason) s))
+    c.in-Tighter.is
+    (subst
+    (λ (s : State). (r : ℕ) → (t : ℕ) → (c.in_ok-outcome.outcome ≡ Clash r t)
+    ↔ ((r ≡ c.args.reason) × ClashesWith infinitesimal_cmp s.asserted (asserted c.args.var c.args.side (g.S.Coordinate.stands_for c.args.value) c.args.reason) t))
+    c.self.view_is
+    (clash_shown g.S.Coordinate.stands_for g.S.Scalar.order g.met.S.Coordinate.faithful.compares c.self.inside.trail.asserted (asserted c.args.var c.args.side c.args.value c.args.reason) c.in_ok-outcome.outcome c.in_ok-outcome.ensures.clash))
+
+pub returns-in-Tighter-clause-tighter : goal.returns-in-Tighter-clause-tighter
+returns-in-Tighter-clause-tighter g c =
+    subst
+    (λ (o : Bound). (o ≡ Tighter)
+    ↔ ((¬ IsImplied infinitesimal_cmp c.args.self.now.asserted (asserted c.args.var c.args.side (g.S.Coordinate.stands_for c.args.value) c.args.reason))
+    × (¬ IsExcluded infinitesimal_cmp c.args.self.now.asserted (asserted c.args.var c.args.side (g.S.Coordinate.stands_for c.args.value) c.args.reason))))
+    c.in-Tighter.is
+    (subst
+    (λ (s : State). (c.in_ok-outcome.outcome ≡ Tighter)
+    ↔ ((¬ IsImplied infinitesimal_cmp s.asserted (asserted c.args.var c.args.side (g.S.Coordinate.stands_for c.args.value) c.args.reason))
+    × (¬ IsExcluded infinitesimal_cmp s.asserted (asserted c.args.var c.args.side (g.S.Coordinate.stands_for c.args.value) c.args.reason))))
+    c.self.view_is
+    (tighter_shown g.S.Coordinate.stands_for g.S.Scalar.order g.met.S.Coordinate.faithful.compares c.self.inside.trail.asserted (asserted c.args.var c.args.side c.args.value c.args.reason) c.in_ok-outcome.outcome c.in_ok-outcome.ensures.tighter))
+
+pub invariant_of-self-in_default : goal.invariant_of-self-in_default
+invariant_of-self-in_default g c =
+    let x = c.self.inside in
+    let same : c.assert_bound.new.self ≡ x.trail = c.assert_bound.ensures.unchanged (λ e. c.in_default.not-Tighter (same_ok (sym c.in_ok-outcome.was ∙ e))) in
+    subst
+    (λ (t : TrailState g.row.S.Denot). IsStored (state_of g.S.Coordinate.stands_for x.tab t x.values.items x.why.items) t.vars x.basic.items x.nonbasic.items
+    (vec_capacity x.basic) (vec_capacity x.nonbasic) (vec_capacity x.why))
+    (sym same) c.self.invariant
+
+pub returns-in_default : goal.returns-in_default
+returns-in_default g c =
+    let x = c.self.inside in
+    let same : c.assert_bound.new.self ≡ x.trail = c.assert_bound.ensures.unchanged (λ e. c.in_default.not-Tighter (same_ok (sym c.in_ok-outcome.was ∙ e))) in
+    record {
+      kept = subst (λ (s : State). (c.in_ok-outcome.outcome ≡ Kept) ↔ IsImplied infinitesimal_cmp s.asserted (asserted c.args.var c.args.side (g.S.Coordinate.stands_for c.args.value) c.args.reason)) c.self.view_is
+          (kept_shown g.S.Coordinate.stands_for g.S.Scalar.order g.met.S.Coordinate.faithful.compares c.self.inside.trail.asserted (asserted c.args.var c.args.side c.args.value c.args.reason) c.in_ok-outcome.outcome c.in_ok-outcome.ensures.kept);
+      clash = subst
+          (λ (s : State). (r : ℕ) → (t : ℕ) → (c.in_ok-outcome.outcome ≡ Clash r t)
+          ↔ ((r ≡ c.args.reason) × ClashesWith infinitesimal_cmp s.asserted (asserted c.args.var c.args.side (g.S.Coordinate.stands_for c.args.value) c.args.reason) t))
+          c.self.view_is
+          (clash_shown g.S.Coordinate.stands_for g.S.Scalar.order g.met.S.Coordinate.faithful.compares c.self.inside.trail.asserted (asserted c.args.var c.args.side c.args.value c.args.reason) c.in_ok-outcome.outcome c.in_ok-outcome.ensures.clash);
+      tighter = subst
+          (λ (s : State). (c.in_ok-outcome.outcome ≡ Tighter)
+          ↔ ((¬ IsImplied infinitesimal_cmp s.asserted (asserted c.args.var c.args.side (g.S.Coordinate.stands_for c.args.value) c.args.reason))
+          × (¬ IsExcluded infinitesimal_cmp s.asserted (asserted c.args.var c.args.side (g.S.Coordinate.stands_for c.args.value) c.args.reason))))
+          c.self.view_is
+          (tighter_shown g.S.Coordinate.stands_for g.S.Scalar.order g.met.S.Coordinate.faithful.compares c.self.inside.trail.asserted (asserted c.args.var c.args.side c.args.value c.args.reason) c.in_ok-outcome.outcome c.in_ok-outcome.ensures.tighter);
+      bounded = λ e. absurd (c.in_default.not-Tighter (same_ok e));
+      unchanged = λ n. ap (λ (t : TrailState g.row.S.Denot). state_of g.S.Coordinate.stands_for x.tab t x.values.items x.why.items) same ∙ c.self.view_is;
+    }

@@ -1,0 +1,49 @@
+-- A value that isn't known is that of a basic form, and is known from now on.
+use Rattle.std.proofs.Common.{true≢false, sym, ◌∙◌}
+use Rattle.std.specs.Prelude.{IsSome}
+use Rattle.nz_simplex.specs.State.{value_in}
+use Rattle.nz_simplex.proofs.Renewing.{basic_form, renewed_at, renewed_itself}
+use Rattle.nz_simplex.proofs.simplex.Simplex.renew_one.Goals as goal
+
+pub returns-then-has_value-clause-renewed : goal.returns-then-has_value-clause-renewed
+returns-then-has_value-clause-renewed g c = renewed_itself c.args.self.now
+
+pub returns-in_err-value-clause-renewed : goal.returns-in_err-value-clause-renewed
+returns-in_err-value-clause-renewed g c = renewed_itself c.args.self.now
+
+pub computed-requires : goal.computed-requires
+computed-requires g c = record {
+  known = c.requires.known;
+  basic =
+      basic_form c.args.self.now c.known_state.ensures.sound c.args.var
+      (λ (some : IsSome (value_in c.args.self.now c.args.var)). true≢false (sym (c.has_value.ensures.known.1 some) ∙ c.if-has_value.false));
+}
+
+pub invariant_of-self : goal.invariant_of-self
+invariant_of-self g c =
+    let x = c.self.inside in
+    let stored = c.self.invariant in
+    let after =
+    renewed_at g.S.Coordinate.stands_for x.tab x.trail x.values.items x.why.items c.args.var c.in_ok-value.value c.args.self.now c.self.view_is stored.sound c.requires.known
+    (λ some. true≢false (sym (c.has_value.ensures.known.1 some) ∙ c.if-has_value.false)) c.in_ok-value.ensures.value in
+    record {
+      sound = after.sound;
+      basic_listed = stored.basic_listed;
+      nonbasic_listed = stored.nonbasic_listed;
+      numbered = stored.numbered;
+      room_for_basic = stored.room_for_basic;
+      room_for_nonbasic = stored.room_for_nonbasic;
+      room_for_why = stored.room_for_why;
+    }
+
+pub returns-clause-renewed : goal.returns-clause-renewed
+returns-clause-renewed g c =
+    let x = c.self.inside in
+    (renewed_at g.S.Coordinate.stands_for x.tab x.trail x.values.items x.why.items c.args.var c.in_ok-value.value c.args.self.now c.self.view_is c.self.invariant.sound c.requires.known
+    (λ some. true≢false (sym (c.has_value.ensures.known.1 some) ∙ c.if-has_value.false)) c.in_ok-value.ensures.value).renewed
+
+pub returns-clause-valued : goal.returns-clause-valued
+returns-clause-valued g c =
+    let x = c.self.inside in
+    (renewed_at g.S.Coordinate.stands_for x.tab x.trail x.values.items x.why.items c.args.var c.in_ok-value.value c.args.self.now c.self.view_is c.self.invariant.sound c.requires.known
+    (λ some. true≢false (sym (c.has_value.ensures.known.1 some) ∙ c.if-has_value.false)) c.in_ok-value.ensures.value).valued

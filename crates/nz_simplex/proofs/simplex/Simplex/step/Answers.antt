@@ -1,0 +1,182 @@
+-- The least forms are exchanged, and the values follow; or no form can help; or it stops.
+use Rattle.std.proofs.Common.{rules, ◌≡◌, ℕ, ◌<◌, refl, true, false, List, length, Option, None, sym, ap, ◌∙◌, subst, arith}
+use Rattle.std.specs.Prelude.{◌==◌, if◌then◌else◌, All, IsSome, Err, slice_index_or, vec_capacity}
+use Rattle.nz_spec.specs.Bland.{IsCheckStep}
+use Rattle.nz_spec.specs.Pivots.{pivot}
+use Rattle.nz_spec.specs.Table.{Node}
+use Rattle.nz_tab.specs.Rows.{is_nonbasic}
+use Rattle.nz_simplex.specs.declared.answer.SimplexStop.{SimplexStop}
+use Rattle.nz_simplex.specs.Checks.{Answers}
+use Rattle.nz_simplex.specs.State.{State, IsOver, nonbasic_in, position_over, value_in}
+use Rattle.nz_simplex.specs.Stored.{IsStored, state_of}
+use Rattle.nz_simplex.proofs.Exchanging.{enters_nonbasic, enters_nonzero, exchange_place, exchanged_sound, exchanged_step, helpless, may_step, written_back}
+use Rattle.nz_simplex.proofs.Pointed.{all_below, all_known, all_listed, some_at}
+use Rattle.nz_simplex.proofs.ValuesAfter.{equal_number}
+use Rattle.nz_simplex.proofs.simplex.Simplex.step.Goals as goal
+
+pub first_helper-requires-clause-listed : goal.first_helper-requires-clause-listed
+first_helper-requires-clause-listed g c =
+    let x = c.self.inside in
+    let here : State = state_of g.S.Coordinate.stands_for x.tab x.trail x.values.items x.why.items in
+    subst (λ (ks : List ℕ). All (λ k. k < x.trail.vars) ks) (sym (c.as_slice.ensures.value ∙ c.self.invariant.nonbasic_listed))
+    (all_below (length x.tab.forms) x.trail.vars (nonbasic_in here) c.self.invariant.numbered)
+
+pub first_helper-requires-clause-held : goal.first_helper-requires-clause-held
+first_helper-requires-clause-held g c =
+    let x = c.self.inside in
+    subst (λ (vs : List (Option g.row.S.Denot)). All (λ k. k < length vs) c.as_slice.result.now) (sym c.as_slice-2.ensures.value)
+    (subst (λ (ks : List ℕ). All (λ k. k < length x.values.items) ks) (sym (c.as_slice.ensures.value ∙ c.self.invariant.nonbasic_listed))
+    (all_listed g.S.Coordinate.stands_for x.tab x.trail x.values.items x.why.items c.self.invariant.sound))
+
+pub first_helper-requires-clause-valued : goal.first_helper-requires-clause-valued
+first_helper-requires-clause-valued g c =
+    let x = c.self.inside in
+    subst (λ (vs : List (Option g.row.S.Denot)). All (λ k. IsSome (slice_index_or vs k None)) c.as_slice.result.now) (sym c.as_slice-2.ensures.value)
+    (subst (λ (ks : List ℕ). All (λ k. IsSome (slice_index_or x.values.items k None)) ks) (sym (c.as_slice.ensures.value ∙ c.self.invariant.nonbasic_listed))
+    (all_known g.S.Coordinate.stands_for x.tab x.trail x.values.items x.why.items c.self.invariant.sound))
+
+pub returns-in_default-clause-helpless : goal.returns-in_default-clause-helpless
+returns-in_default-clause-helpless g c =
+    let x = c.self.inside in
+    let b = c.args.broken.now in
+    let none : c.first_helper.result ≡ None = search rules in
+    λ e.
+    helpless g.S.Coordinate.stands_for x.tab x.trail x.values.items x.why.items c.args.self.now c.self.view_is c.self.invariant.sound b.var c.requires.known c.requires.basic b.side c.rows_tell.ensures.tell c.known_tableau.ensures.tableau
+    (record {
+      slice = c.as_slice-2.result.now;
+      listing = c.as_slice.result.now;
+      is_values = c.as_slice-2.ensures.value;
+      is_nonbasic = c.as_slice.ensures.value ∙ c.self.invariant.nonbasic_listed;
+      found = c.in_default.ensures.first;
+    })
+
+pub returns-then-left-eq0-clause-stops : goal.returns-then-left-eq0-clause-stops
+returns-then-left-eq0-clause-stops g c =
+    let x = c.self.inside in
+    let b = c.args.broken.now in
+    λ ns over. (
+      sym c.left.ensures.left ∙ c.if-left-eq0.true,
+      (
+        pivot b.var c.in-Some.enters,
+        may_step g.S.Coordinate.stands_for x.tab x.trail x.values.items x.why.items c.args.self.now c.self.view_is c.self.invariant.sound b.var c.requires.known c.requires.basic b.side c.rows_tell.ensures.tell c.known_tableau.ensures.tableau c.in-Some.enters
+            (record {
+              slice = c.as_slice-2.result.now;
+              listing = c.as_slice.result.now;
+              is_values = c.as_slice-2.ensures.value;
+              is_nonbasic = c.as_slice.ensures.value ∙ c.self.invariant.nonbasic_listed;
+              found = c.in-Some.ensures.first;
+            })
+            b.limit.value c.requires.broken ns over,
+      ),
+    )
+
+pub pivot-requires-clause-enters : goal.pivot-requires-clause-enters
+pivot-requires-clause-enters g c =
+    let x = c.self.inside in
+    let b = c.args.broken.now in
+    enters_nonbasic g.S.Coordinate.stands_for x.tab x.trail x.values.items x.why.items c.args.self.now c.self.view_is c.self.invariant.sound b.var c.requires.known c.requires.basic b.side c.in-Some.enters
+    (record {
+      slice = c.as_slice-2.result.now;
+      listing = c.as_slice.result.now;
+      is_values = c.as_slice-2.ensures.value;
+      is_nonbasic = c.as_slice.ensures.value ∙ c.self.invariant.nonbasic_listed;
+      found = c.in-Some.ensures.first;
+    })
+
+pub pivot-requires-clause-nonzero : goal.pivot-requires-clause-nonzero
+pivot-requires-clause-nonzero g c =
+    let x = c.self.inside in
+    let b = c.args.broken.now in
+    enters_nonzero g.S.Coordinate.stands_for x.tab x.trail x.values.items x.why.items c.args.self.now c.self.view_is c.self.invariant.sound b.var c.requires.known c.requires.basic b.side c.in-Some.enters
+    (record {
+      slice = c.as_slice-2.result.now;
+      listing = c.as_slice.result.now;
+      is_values = c.as_slice-2.ensures.value;
+      is_nonbasic = c.as_slice.ensures.value ∙ c.self.invariant.nonbasic_listed;
+      found = c.in-Some.ensures.first;
+    })
+
+pub returns-in-Err-clause-stops : goal.returns-in-Err-clause-stops
+returns-in-Err-clause-stops g c =
+    let x = c.self.inside in
+    let b = c.args.broken.now in
+    subst (λ (e : SimplexStop). (ns : List Node) → IsOver ns c.args.self.now → Answers ns c.args.self.now (g.W.Steps.units_left c.args.work.now) (Err e)) (sym c.exchange_stop.ensures.stop)
+    (exchange_place g.S.Coordinate.stands_for x.tab x.trail x.values.items x.why.items c.args.self.now c.self.view_is c.self.invariant.sound b.var c.requires.known c.requires.basic b.side c.rows_tell.ensures.tell c.known_tableau.ensures.tableau c.in-Some.enters
+    (record {
+      slice = c.as_slice-2.result.now;
+      listing = c.as_slice.result.now;
+      is_values = c.as_slice-2.ensures.value;
+      is_nonbasic = c.as_slice.ensures.value ∙ c.self.invariant.nonbasic_listed;
+      found = c.in-Some.ensures.first;
+    })
+    b.limit.value c.requires.broken c.in-Err.wide c.in-Err.ensures.stops)
+
+pub move_to-requires-clause-nonbasic : goal.move_to-requires-clause-nonbasic
+move_to-requires-clause-nonbasic g c =
+    let i = c.args.broken.now.var in
+    c.in_default-pivot.ensures.pivoted.rows.nonbasic i
+    ∙ ap (λ b. if b then true else if i == c.in-Some.enters then false else is_nonbasic c.self.inside.tab.grid i) (equal_number i i refl)
+
+pub move_to-requires-clause-some : goal.move_to-requires-clause-some
+move_to-requires-clause-some g c =
+    let x = c.self.inside in
+    let stands = g.S.Coordinate.stands_for in
+    let i = c.args.broken.now.var in
+    subst (λ (vs : List (Option g.row.S.Denot)). IsSome (slice_index_or vs i None)) (sym c.as_mut_slice.ensures.value)
+    (some_at stands x.values.items i (subst (λ (s : State). IsSome (value_in s i)) (sym c.self.view_is) c.requires.valued))
+
+pub invariant_of-self-2 : goal.invariant_of-self-2
+invariant_of-self-2 g c =
+    let x = c.self.inside in
+    let b = c.args.broken.now in
+    let stored = c.self.invariant in
+    let pivoted = c.in_default-pivot.ensures.pivoted in
+    let new = c.move_to.new.values in
+    let same : new ≡ _ = sym (written_back x.values.len x.values.items new x.values.ok.0 (omega (arith, c.move_to.auto.values, c.as_mut_slice.ensures.len, x.values.ok.0))) in
+    subst
+    (λ (vs : List (Option g.row.S.Denot)). IsStored (state_of g.S.Coordinate.stands_for c.pivot.new.self x.trail vs x.why.items) x.trail.vars c.list_basic.new.basic.items c.list_nonbasic.new.nonbasic.items
+    (vec_capacity c.list_basic.new.basic) (vec_capacity c.list_nonbasic.new.nonbasic) (vec_capacity x.why))
+    same
+    (record {
+      sound =
+          exchanged_sound g.S.Coordinate.stands_for x.tab x.trail x.values.items x.why.items c.args.self.now c.self.view_is c.self.invariant.sound b.var c.requires.known c.requires.basic b.side c.rows_tell.ensures.tell c.known_tableau.ensures.tableau c.in-Some.enters
+          (record {
+            slice = c.as_slice-2.result.now;
+            listing = c.as_slice.result.now;
+            is_values = c.as_slice-2.ensures.value;
+            is_nonbasic = c.as_slice.ensures.value ∙ c.self.invariant.nonbasic_listed;
+            found = c.in-Some.ensures.first;
+          })
+          b.limit.value c.requires.broken c.pivot.new.self c.as_mut_slice.result.now new pivoted c.as_mut_slice.ensures.value c.move_to.ensures.moved c.move_to.ensures.stays
+          c.moves_keep_ready.ensures.ready c.check_steps_keep_basis.ensures.kept c.infinitesimals_move.ensures.moves c.nonbasic_form_is_itself.ensures.itself c.known_tableau-2.ensures.tableau c.move_to.auto.values c.move_to.ensures.follows;
+      basic_listed = c.list_basic.ensures.listed;
+      nonbasic_listed = c.list_nonbasic.ensures.listed;
+      numbered = omega (arith, ap length pivoted.forms, stored.numbered);
+      room_for_basic = omega (arith, ap length pivoted.forms, stored.room_for_basic, c.list_basic.ensures.capacity);
+      room_for_nonbasic = omega (arith, ap length pivoted.forms, stored.room_for_nonbasic, c.list_nonbasic.ensures.capacity);
+      room_for_why = omega (arith, ap length pivoted.forms, stored.room_for_why);
+    })
+
+pub returns-clause-taken : goal.returns-clause-taken
+returns-clause-taken g c =
+    let x = c.self.inside in
+    let b = c.args.broken.now in
+    let pivoted = c.in_default-pivot.ensures.pivoted in
+    let new = c.move_to.new.values in
+    λ e. (
+      c.in-Some.enters,
+      c.note.ensures.noted,
+      subst
+          (λ (vs : List (Option g.row.S.Denot)). (ns : List Node) → IsOver ns c.args.self.now
+          → IsCheckStep (position_over ns c.args.self.now) (position_over ns (state_of g.S.Coordinate.stands_for c.pivot.new.self x.trail vs x.why.items)) b.var c.in-Some.enters)
+          (sym (written_back x.values.len x.values.items new x.values.ok.0 (omega (arith, c.move_to.auto.values, c.as_mut_slice.ensures.len, x.values.ok.0))))
+          (exchanged_step g.S.Coordinate.stands_for x.tab x.trail x.values.items x.why.items c.args.self.now c.self.view_is c.self.invariant.sound b.var c.requires.known c.requires.basic b.side c.rows_tell.ensures.tell c.known_tableau.ensures.tableau c.in-Some.enters
+          (record {
+            slice = c.as_slice-2.result.now;
+            listing = c.as_slice.result.now;
+            is_values = c.as_slice-2.ensures.value;
+            is_nonbasic = c.as_slice.ensures.value ∙ c.self.invariant.nonbasic_listed;
+            found = c.in-Some.ensures.first;
+          })
+          b.limit.value c.requires.broken c.pivot.new.self c.as_mut_slice.result.now new pivoted c.as_mut_slice.ensures.value c.move_to.ensures.moved c.move_to.ensures.stays),
+    )

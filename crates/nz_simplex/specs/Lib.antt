@@ -1,0 +1,12 @@
+pub mod Checks
+pub mod Choices
+pub mod Contradictions
+pub mod Faithful
+pub mod FaithfulScalars
+pub mod Moves
+pub mod OtherUnits
+pub mod SaidBounds
+pub mod Standing
+pub mod State
+pub mod Stored
+pub mod Tabled

@@ -1,0 +1,158 @@
+-- Numbers below a bound that pass a test.
+use Rattle.std.proofs.Common.{◌≡◌, ℕ, zero, suc, ◌+◌, ◌<◌, ◌≤◌, Bool, true, false, ◌⊎◌, inl, inr, List, [], ◌∷◌, ◌++◌, length, flat_map, refl, sym, ap, ◌∙◌, subst, arith}
+use Rattle.std.specs.Prelude.{◌==◌, if◌then◌else◌, not, ◌≢◌, slice_index_or}
+use Rattle.std.proofs.Math.Seq.{get_or-append_seam}
+use Rattle.std.proofs.lemmas.Grind.{flat_map-append}
+use Rattle.std.proofs.lemmas.List.{append-nil, append_assoc, length_push, length-append}
+use Rattle.std.specs.List.{AllByRecursion}
+use Rattle.nz_lists.proofs.Elements.{AllByRecursion-append}
+use Rattle.nz_spec.specs.BasisMoves.{numbers}
+use Rattle.nz_tab.specs.Rows.{basic, counted}
+
+-- ---- Tests of two numbers
+
+pub equal-number : (k i : ℕ) → k ≡ i → (k == i) ≡ true
+equal-number k i e = grind (arith, e)
+
+pub same-number : (k i : ℕ) → (k == i) ≡ true → k ≡ i
+same-number k i e = grind (arith, e)
+
+pub other-number : (k i : ℕ) → k ≢ i → (k == i) ≡ false
+other-number k i h = grind (arith, h)
+
+-- ---- One number more
+
+pub one_passes : (f : ℕ → Bool) (n : ℕ) → f n ≡ true → numbers (suc n) f ≡ numbers n f ++ n ∷ []
+one_passes f n e = ap (λ b. if b then numbers n f ++ n ∷ [] else numbers n f) e
+
+pub one_fails : (f : ℕ → Bool) (n : ℕ) → f n ≡ false → numbers (suc n) f ≡ numbers n f
+one_fails f n e = ap (λ b. if b then numbers n f ++ n ∷ [] else numbers n f) e
+
+pub below_or_past : (k n : ℕ) → (k < n) ⊎ (n ≤ k)
+below_or_past k n = grind arith
+
+pub below_same_or_past : (k n : ℕ) → (k < n) ⊎ ((k ≡ n) ⊎ (n < k))
+below_same_or_past k n = grind arith
+
+pub same_or_below : (k n : ℕ) → k < suc n → (k ≡ n) ⊎ (k < n)
+same_or_below k n h = grind (arith, h)
+
+-- a number that passes, and those before it
+pub numbers_split : (f : ℕ → Bool) (k n : ℕ) → f k ≡ true → k < n → (rest : List ℕ) × (numbers n f ≡ numbers k f ++ k ∷ rest)
+numbers_split f k zero e h = absurd (omega (arith, h))
+numbers_split f k (suc n) e h = by_place (same_or_below k n h) (numbers_split f k n e)
+  where
+    onto : (b : Bool) (rest : List ℕ) → numbers n f ≡ numbers k f ++ k ∷ rest → (more : List ℕ) × ((if b then numbers n f ++ n ∷ [] else numbers n f) ≡ numbers k f ++ k ∷ more)
+    onto true rest g = (rest ++ n ∷ [], ap (λ (l : List ℕ). l ++ n ∷ []) g ∙ append_assoc (numbers k f) (k ∷ rest) (n ∷ []))
+    onto false rest g = (rest, g)
+
+    by_place : (k ≡ n) ⊎ (k < n) → (k < n → (rest : List ℕ) × (numbers n f ≡ numbers k f ++ k ∷ rest)) → (rest : List ℕ) × (numbers (suc n) f ≡ numbers k f ++ k ∷ rest)
+    by_place (inl same) before = ([], subst (λ (m : ℕ). numbers (suc m) f ≡ numbers k f ++ k ∷ []) same (one_passes f k e))
+    by_place (inr below) before = let found = before below in onto (f n) found.0 found.1
+
+pub counted_split : (k n : ℕ) → k < n → (rest : List ℕ) × (counted n ≡ counted k ++ k ∷ rest)
+counted_split k n h = numbers_split (λ m. true) k n refl h
+
+-- so it stands behind them
+pub number_at : (f : ℕ → Bool) (k n d : ℕ) → f k ≡ true → k < n → slice_index_or (numbers n f) (length (numbers k f)) d ≡ k
+number_at f k n d e h =
+    let found = numbers_split f k n e h in
+    ap (λ (l : List ℕ). slice_index_or l (length (numbers k f)) d) found.1 ∙ get_or-append_seam (numbers k f) k found.0 d
+
+pub place_within : (f : ℕ → Bool) (k n : ℕ) → f k ≡ true → k < n → length (numbers k f) < length (numbers n f)
+place_within f k n e h =
+    let found = numbers_split f k n e h in
+    let long : length (numbers n f) ≡ length (numbers k f) + suc (length found.0) = ap length found.1 ∙ length-append (numbers k f) (k ∷ found.0) in
+    omega (arith, long)
+
+pub count_counted : (n : ℕ) → length (counted n) ≡ n
+count_counted zero = refl
+count_counted (suc n) = length_push (counted n) n ∙ omega (arith, count_counted n)
+
+pub counted_at : (k n d : ℕ) → k < n → slice_index_or (counted n) k d ≡ k
+counted_at k n d h = subst (λ (m : ℕ). slice_index_or (counted n) m d ≡ k) (count_counted k) (number_at (λ m. true) k n d refl h)
+
+-- ---- What passes
+
+pub all_pass : (f : ℕ → Bool) (n : ℕ) → AllByRecursion (λ k. f k ≡ true) (numbers n f)
+all_pass f zero = _
+all_pass f (suc n) = by_test (f n) refl (all_pass f n)
+  where
+    by_test : (b : Bool) → f n ≡ b → AllByRecursion (λ k. f k ≡ true) (numbers n f) → AllByRecursion (λ k. f k ≡ true) (if b then numbers n f ++ n ∷ [] else numbers n f)
+    by_test true e h = AllByRecursion-append (λ k. f k ≡ true) (numbers n f) (n ∷ []) h (e, _)
+    by_test false e h = h
+
+pub numbers-same : (f g : ℕ → Bool) → ((k : ℕ) → f k ≡ g k) → (n : ℕ) → numbers n f ≡ numbers n g
+numbers-same f g h zero = refl
+numbers-same f g h (suc n) = ap (λ (b : Bool). if b then numbers n f ++ n ∷ [] else numbers n f) (h n) ∙ ap (λ (l : List ℕ). if g n then l ++ n ∷ [] else l) (numbers-same f g h n)
+
+-- to go over the numbers that pass is to go over all, with nothing for the others
+module _ {A : Type 0} (h : ℕ → List A) (f : ℕ → Bool) where
+  abbrev pub where_passes : ℕ → List A
+  where_passes k = if f k then h k else []
+
+  pub flat_numbers : (n : ℕ) → flat_map h (numbers n f) ≡ flat_map where_passes (counted n)
+  flat_numbers zero = refl
+  flat_numbers (suc n) = by_test (f n) refl (flat_numbers n) ∙ sym (flat_map-append where_passes (counted n) (n ∷ []))
+    where
+      by_test : (b : Bool) → f n ≡ b → flat_map h (numbers n f) ≡ flat_map where_passes (counted n)
+          → flat_map h (if b then numbers n f ++ n ∷ [] else numbers n f) ≡ flat_map where_passes (counted n) ++ ((if f n then h n else []) ++ [])
+      by_test true e before =
+          flat_map-append h (numbers n f) (n ∷ [])
+          ∙ ap (λ (l : List A). l ++ (h n ++ [])) before
+          ∙ ap (λ (b : Bool). flat_map where_passes (counted n) ++ ((if b then h n else []) ++ [])) (sym e)
+      by_test false e before =
+          before
+          ∙ sym (append-nil (flat_map where_passes (counted n)))
+          ∙ ap (λ (b : Bool). flat_map where_passes (counted n) ++ ((if b then h n else []) ++ [])) (sym e)
+
+pub flat-same : {A : Type 0} (h g : ℕ → List A) (P : ℕ → Type 0) → ((k : ℕ) → P k → h k ≡ g k) → (ks : List ℕ) → AllByRecursion P ks → flat_map h ks ≡ flat_map g ks
+flat-same h g P same [] all = refl
+flat-same h g P same (k ∷ ks) all = ap (λ l. l ++ flat_map h ks) (same k all.0) ∙ ap (λ l. g k ++ l) (flat-same h g P same ks all.1)
+
+pub flat_all : {A : Type 0} (h g : ℕ → List A) → ((k : ℕ) → h k ≡ g k) → (ks : List ℕ) → flat_map h ks ≡ flat_map g ks
+flat_all h g same [] = refl
+flat_all h g same (k ∷ ks) = ap (λ l. l ++ flat_map h ks) (same k) ∙ ap (λ l. g k ++ l) (flat_all h g same ks)
+
+-- ---- How many pass
+
+module _ (f g : ℕ → Bool) (p : ℕ) (less : f p ≡ false) (more : g p ≡ true) (same : (k : ℕ) → k ≢ p → f k ≡ g k) where
+  count_before : (n : ℕ) → n ≤ p → length (numbers n f) ≡ length (numbers n g)
+  count_before zero h = refl
+  count_before (suc n) h =
+      ap (λ (b : Bool). length (if b then numbers n f ++ n ∷ [] else numbers n f)) (same n (λ e. omega (arith, e, h)))
+      ∙ by_test (g n) (count_before n (omega (arith, h)))
+    where
+      by_test : (b : Bool) → length (numbers n f) ≡ length (numbers n g)
+          → length (if b then numbers n f ++ n ∷ [] else numbers n f) ≡ length (if b then numbers n g ++ n ∷ [] else numbers n g)
+      by_test true before = length_push (numbers n f) n ∙ ap (λ (m : ℕ). m + 1) before ∙ sym (length_push (numbers n g) n)
+      by_test false before = before
+
+  -- one more, where they differ at one number alone
+  pub count_more : (n : ℕ) → p < n → length (numbers n g) ≡ suc (length (numbers n f))
+  count_more zero h = absurd (omega (arith, h))
+  count_more (suc n) h = by_place (same_or_below p n h) (count_more n)
+    where
+      by_test : (b : Bool) → length (numbers n g) ≡ suc (length (numbers n f))
+          → length (if b then numbers n g ++ n ∷ [] else numbers n g) ≡ suc (length (if b then numbers n f ++ n ∷ [] else numbers n f))
+      by_test true before = length_push (numbers n g) n ∙ ap (λ (m : ℕ). m + 1) before ∙ omega (arith, length_push (numbers n f) n)
+      by_test false before = before
+
+      by_place : (p ≡ n) ⊎ (p < n) → (p < n → length (numbers n g) ≡ suc (length (numbers n f))) → length (numbers (suc n) g) ≡ suc (length (numbers (suc n) f))
+      by_place (inl e) before =
+          ap length (one_passes g n (subst (λ (m : ℕ). g m ≡ true) e more))
+          ∙ length_push (numbers n g) n
+          ∙ omega (arith, count_before n (omega (arith, e)), ap length (one_fails f n (subst (λ (m : ℕ). f m ≡ false) e less)))
+      by_place (inr below) before =
+          by_test (g n) (before below)
+          ∙ ap (λ (b : Bool). suc (length (if b then numbers n f ++ n ∷ [] else numbers n f))) (sym (same n (λ e. omega (arith, e, below))))
+
+-- each number passes one of two opposite tests
+pub count_both : (f : ℕ → Bool) (n : ℕ) → length (numbers n f) + length (numbers n (basic f)) ≡ n
+count_both f zero = refl
+count_both f (suc n) = by_test (f n) (count_both f n)
+  where
+    by_test : (b : Bool) → length (numbers n f) + length (numbers n (basic f)) ≡ n
+        → length (if b then numbers n f ++ n ∷ [] else numbers n f) + length (if not b then numbers n (basic f) ++ n ∷ [] else numbers n (basic f)) ≡ suc n
+    by_test true h = omega (arith, h, length_push (numbers n f) n)
+    by_test false h = omega (arith, h, length_push (numbers n (basic f)) n)
