@@ -1,11 +1,11 @@
 //! Values of the units, once the simplex is feasible.
-ghost use Rattle.std.specs.Prelude.{List, IfErr, OnOk};
+ghost use Rattle.std.specs.Prelude.{◌≡◌, List, IfErr, OnOk};
 ghost use Rattle.nz_spec.specs.Bland.{Point};
 ghost use Rattle.nz_spec.specs.Form.{Part};
 ghost use Rattle.nz_spec.specs.Literal.{Literal};
-ghost use Rattle.nz_spec.specs.LiteralBounds.{position_under};
-ghost use Rattle.nz_spec.specs.Table.{Node};
+ghost use Rattle.nz_log.specs.declared.stop.Stop.TheVariants as stop;
 ghost use Rattle.nz_log.specs.Places.{IsPlaceIn, OnWide};
+ghost use Rattle.nz_simplex.specs.State.{position_over};
 ghost use Rattle.nz_reals.specs.Chosen.{AddsValues};
 ghost use Rattle.nz_reals.specs.Stands.{IsAt, IsFeasible, IsOver};
 
@@ -15,11 +15,11 @@ use nz_delta::{Delta, choose_delta};
 use nz_frac::Frac;
 use nz_lin::Part;
 use nz_log::{Site, Stop};
-use nz_term::{Assign, Head, TermId, Terms, Value};
+use nz_term::{Assign, Head, Sort, TermId, Terms, Value};
 use nz_trail::{Limit, Side, Var};
 
 impl Reals {
-    /// Puts a value for each constant among the units behind those of an assignment: the value at the point, where a fraction stands for the
+    /// Puts a value for each constant of sort `Real` among the units behind those of an assignment: the value at the point, where a fraction stands for the
     /// infinitesimal that keeps all values within their bounds.
     ///
     /// # Errors
@@ -28,8 +28,9 @@ impl Reals {
     pub fn add_values(&self, terms: &Terms, values: &mut Assign) -> Result<(), Stop>
         requires over { IsOver self.now terms.now }
         requires feasible { IsFeasible self.now }
-        ensures adds { OnOk result ((ns : List Node) → (fs : List (List Part)) → (ls : List Literal) → (x : Point) → IsAt self.now ns fs ls x → AddsValues self.now terms.now (position_under fs x ls) values.old values.new) }
-        ensures place { (ns : List Node) → (fs : List (List Part)) → (ls : List Literal) → (x : Point) → IsAt self.now ns fs ls x → IfErr result (λ e. OnWide e (IsPlaceIn ns fs ls x)) }
+        ensures values { OnOk result (AddsValues self.now terms.now (position_over terms.now self.now.simplex) values.old values.new) }
+        ensures place { IfErr result (λ e. OnWide e (λ p. (fs : List (List Part)) (ls : List Literal) (x : Point) → IsAt self.now terms.now fs ls x → IsPlaceIn terms.now fs ls x p)) }
+        ensures unspent { IfErr result (λ e. e ≡ stop.Spent → ⊥) }
     {
         let delta = self.delta()?;
         for var in 0..self.simplex.len() {
@@ -52,9 +53,10 @@ impl Reals {
 
     /// The lesser of a fraction and what the bounds of a form allow.
     fn limited(&self, var: Var, least: Frac) -> Result<Frac, Stop> {
+        let value = self.simplex.value(var);
         let (lower, upper) = self.simplex.bounds(var);
-        let above = above(var, lower, self.simplex.value(var), least)?;
-        below(var, self.simplex.value(var), upper, above)
+        let above = above(var, lower, value, least)?;
+        below(var, value, upper, above)
     }
 
     /// The value of a form where a fraction stands for the infinitesimal.
@@ -96,11 +98,14 @@ fn at(value: Delta, delta: Frac) -> Result<Frac, nz_frac::Wide> {
     value.c.add(value.k.mul(delta)?)
 }
 
-/// The constant that a form is, if it is one alone.
+/// The constant of sort `Real` that a form is, if it is one alone.
 fn constant_alone(terms: &Terms, parts: &[Part]) -> Option<TermId> {
     match parts {
         [part] if part.coefficient == Frac::whole(1) => match terms.head(part.unit) {
-            Head::Constant(_) => Some(part.unit),
+            Head::Constant(constant) => match constant.sort {
+                Sort::Real => Some(part.unit),
+                _ => None,
+            },
             _ => None,
         },
         _ => None,
