@@ -16,7 +16,7 @@ const SCRIPTS: u64 = 300;
 const ASSERTIONS: usize = 7;
 
 /// Numbers that look random.
-#[derive(Debug)]
+#[derive(Debug, Drop)]
 struct Seed {
     state: u64,
 }
