@@ -101,10 +101,10 @@ module _ (t : Theory) (ns : List Node) (over : IsOver ns t.simplex) (forms : Are
         ];
       }
         where
-          abbrev pair : ℕ × spec.Value
+          pair : ℕ × spec.Value
           pair = (x.unit, spec.number x.value)
 
-          abbrev more : List (ℕ × spec.Value)
+          more : List (ℕ × spec.Value)
           more = h.added ++ pair ∷ []
 
           one_unit : (f : List Part) (u v : ℕ) → is_form_of u f ≡ true → is_form_of v f ≡ true → u ≡ v

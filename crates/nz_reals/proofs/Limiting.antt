@@ -1,11 +1,11 @@
 -- A fraction for the infinitesimal: the least of 1 and what the values of all forms and their bounds allow.
-use Rattle.std.proofs.Common.{◌≡◌, ℕ, zero, suc, ◌<◌, ◌≤◌, ◌⊎◌, inl, inr, Bool, true, false, List, [], ◌∷◌, ◌++◌, map, length, Option, Some, None, IfOk, Result, pos, refl, sym, ap, ◌∙◌, subst, arith, append_assoc}
+use Rattle.std.proofs.Common.{◌≡◌, ℕ, zero, suc, ◌+◌, ◌<◌, ◌≤◌, ◌⊎◌, inl, inr, Bool, true, false, List, [], ◌∷◌, ◌++◌, map, length, Option, Some, None, IfOk, Result, pos, refl, sym, ap, ◌∙◌, subst, true≢false, arith, append_assoc, append-nil}
 use Rattle.std.specs.Prelude.{All, Contains, IsSome, option_map, unwrap_or, if◌then◌else◌}
 use Rattle.std.proofs.lemmas.Int.{ints}
 use Rattle.std.proofs.lemmas.List.{length-map}
 use Rattle.std.proofs.lemmas.List.Elements.{All-contains, All-from_recursion, Contains-append_cases, Contains-append_left, Contains-append_right}
 use Rattle.std.proofs.lemmas.Result.{IfOk-weaker}
-use Rattle.nz_fractions.specs.Fraction.{Fraction, IsNumber, Product, Sum, fraction_lt, outcome, whole, ◌=ℚ◌, ◌≤ℚ◌, ◌<ℚ◌, ◌+ℚ◌, ◌*ℚ◌}
+use Rattle.nz_fractions.specs.Fraction.{Fraction, IsNumber, Operation, Product, Sum, first_wide, fraction_lt, is_wide, outcome, whole, ◌=ℚ◌, ◌≤ℚ◌, ◌<ℚ◌, ◌+ℚ◌, ◌*ℚ◌}
 use Rattle.nz_fractions.proofs.Arithmetic.{+ℚ-same, outcome-product, outcome-sum}
 use Rattle.nz_fractions.proofs.Laws.{lowest-same, ≤ℚ-from_lt, ≤ℚ_refl, ≤ℚ_trans, =ℚ_refl, =ℚ_trans}
 use Rattle.nz_spec.specs.Bland as bland
@@ -22,6 +22,9 @@ use Rattle.nz_spec.specs.ToldBounds.{AreNumbers}
 use Rattle.nz_spec.proofs.InfinitesimalOrder.{not_less}
 use Rattle.nz_spec.proofs.ToldBounds.{at_most_parts}
 use Rattle.nz_frac.specs.Operations.{operation_of}
+use Rattle.nz_delta.specs.declared.delta.Delta.{Delta}
+use Rattle.nz_delta.specs.DeltaSpace.{infinitesimal_of}
+use Rattle.nz_delta.specs.Pairs.{pair_of}
 use Rattle.nz_lin.specs.Forms.{parts_over}
 use Rattle.nz_trail.specs.declared.limits.Side.{Side}
 use Rattle.nz_trail.specs.declared.limits.Side.TheVariants.{Lower, Upper}
@@ -35,6 +38,7 @@ use Rattle.nz_simplex.specs.State.{IsOver, IsSound, State, position_over, value_
 use Rattle.nz_reals.specs.Limits.{HasValues, IsLimitPlace, IsModelPlace, listed, pair_on, pairs_below, pairs_of, value_of}
 use Rattle.nz_reals.specs.State.{Theory}
 use Rattle.nz_reals.proofs.Elements.{by_each, has_cases, has_first, has_more, has_none}
+use Rattle.nz_reals.proofs.Refuting.{first_is}
 
 -- ---- Tests
 
@@ -115,11 +119,39 @@ same_least ps e o none h = subst (λ (l : List Pair). IsLeastLimit l e) (sym (ap
     nothing [] = refl
     nothing (x ∷ xs) = ap (λ l. x ∷ l) (nothing xs)
 
+-- the first operation that leaves the numbers is one of the limit's
+pub limit_stop : (pair : Pair) (op : Operation) → Some op ≡ first_wide (delta_operations (pair ∷ [])) → Contains (limit_operations pair) op × (is_wide op.operator op.left op.right ≡ true)
+unfolding delta_operations first_wide
+limit_stop pair op e = by_test (is_limiting pair) (sym e)
+  where
+    by_test : (b : Bool) → first_wide (if b then limit_operations pair ++ [] else []) ≡ Some op → Contains (limit_operations pair) op × (is_wide op.operator op.left op.right ≡ true)
+    by_test true f = first_is (limit_operations pair) op (ap first_wide (sym (append-nil (limit_operations pair))) ∙ f)
+    by_test false f = absurd cc
+
 -- ---- Bounds and values
 
 -- a bound that stands, as a pair
 pub pair_is : (t : Theory) (k : ℕ) (side : Side) (o : Option Infinitesimal) → bound_in t.simplex.asserted side k ≡ o → pair_on t k side ≡ option_map (λ (b : Infinitesimal). in_order (half side) b (value_of t k)) o
 pair_is t k side o e = ap (option_map (λ (b : Infinitesimal). in_order (half side) b (value_of t k))) e
+
+-- the pair that the code makes of a bound and a value
+pub one_pair : (t : Theory) (k : ℕ) (side : Side) (bound value : Delta) (pair : Delta × Delta) → Some (infinitesimal_of bound) ≡ bound_in t.simplex.asserted side k → infinitesimal_of value ≡ value_of t k
+    → pair_of pair ≡ in_order (half side) (infinitesimal_of bound) (infinitesimal_of value) → pair_on t k side ≡ Some (pair_of pair)
+one_pair t k side bound value pair stands is order =
+    pair_is t k side (Some (infinitesimal_of bound)) (sym stands)
+    ∙ ap (λ (x : Infinitesimal). Some (in_order (half side) (infinitesimal_of bound) x)) (sym is)
+    ∙ ap Some (sym order)
+
+-- the values of the first forms are numbers, with one more
+pub numbers_more : (t : Theory) (n : ℕ) → AreNumbers n (value_of t) → IsNumber (value_of t n).standard × IsNumber (value_of t n).coefficient → AreNumbers (n + 1) (value_of t)
+numbers_more t n before last k less =
+    elim (below_or_last k less) [
+      | inl below ↦ before k below
+      | inr same ↦ subst (λ (m : ℕ). IsNumber (value_of t m).standard × IsNumber (value_of t m).coefficient) (sym same) last
+    ]
+  where
+    below_or_last : (i : ℕ) → i < n + 1 → (i < n) ⊎ (i ≡ n)
+    below_or_last i h = grind (arith, h)
 
 -- the bound of a pair
 pub bound_of_pair : (t : Theory) (k : ℕ) (side : Side) (pair : Pair) → pair_on t k side ≡ Some pair → (b : Infinitesimal) × (bound_in t.simplex.asserted side k ≡ Some b) × (pair ≡ in_order (half side) b (value_of t k))
@@ -131,10 +163,7 @@ bound_of_pair t k side pair e = by_case (bound_in t.simplex.asserted side k) ref
     by_case (Some b) is f = (b, is, cc)
 
 some_is : (o : Option Infinitesimal) → IsSome o → o ≡ Some (unwrap_or o zero_infinitesimal)
-some_is None h = absurd (no_value h)
-  where
-    no_value : IsSome {A = Infinitesimal} None → ⊥
-    no_value k = cc
+some_is None h = absurd (true≢false (sym h))
 some_is (Some x) h = refl
 
 -- the bounds of a position are those that stand
