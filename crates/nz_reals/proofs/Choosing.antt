@@ -1,15 +1,14 @@
 -- The values of forms that are constants alone, one after another.
-use Rattle.std.proofs.Common.{◌≡◌, ℕ, zero, suc, ◌+◌, ◌<◌, ◌⊎◌, inl, inr, Bool, true, false, List, [], ◌∷◌, ◌++◌, map, length, Option, Some, None, refl, sym, ap, ◌∙◌, subst, true≢false, arith, append-nil, append_assoc, pos}
-use Rattle.std.specs.Prelude.{◌==◌, ◌&&◌, Contains, option_map, slice_get, slice_index_or}
+use Rattle.std.proofs.Common.{◌≡◌, ℕ, ◌+◌, ◌<◌, ◌⊎◌, inl, inr, true, false, List, [], ◌∷◌, ◌++◌, map, length, Option, Some, None, refl, sym, ap, ◌∙◌, subst, true≢false, arith, append-nil, append_assoc}
+use Rattle.std.specs.Prelude.{◌==◌, Contains, option_map, slice_get}
 use Rattle.std.specs.Cmp.{first_so, second_so}
 use Rattle.std.proofs.lemmas.List.{length-map, map-append}
 use Rattle.std.proofs.lemmas.List.Elements.{Contains-append_left, Contains-push, Contains-push_cases}
 use Rattle.std.proofs.lemmas.Option.{slice_get-get_or}
-use Rattle.nz_fractions.specs.Fraction.{Fraction, IsNumber, ◌=ℚ◌}
+use Rattle.nz_fractions.specs.Fraction.{Fraction}
 use Rattle.nz_spec.specs.Infinitesimal.{IsLeastLimit, at}
-use Rattle.nz_spec.specs.Bland.{HasValue, PositionsHaveValues}
+use Rattle.nz_spec.specs.Bland.{PositionsHaveValues}
 use Rattle.nz_spec.specs.Literal.{StandOnce}
-use Rattle.nz_spec.specs.Places.{IsChosen}
 use Rattle.nz_spec.specs.Table.{Node, OneNumber}
 use Rattle.nz_spec.specs.Term as spec
 use Rattle.nz_spec.specs.Term.{real_sort}
@@ -22,7 +21,7 @@ use Rattle.nz_lin.specs.declared.form.Part.{Part}
 use Rattle.nz_lin.specs.Forms.{AreUnits, parts_over}
 use Rattle.nz_tab.specs.Units.{is_form_of, is_one, is_unit_form}
 use Rattle.nz_simplex.specs.State.{IsOver, IsSound, position_over}
-use Rattle.nz_reals.specs.Chosen.{AddsValues, AreValues, IsAlone, IsConstant, IsRealConstant, Puts, PutsFirst, PutsNone, PutsValue}
+use Rattle.nz_reals.specs.Chosen.{AddsValues, IsAlone, IsRealConstant, Puts, PutsFirst, PutsNone, PutsValue}
 use Rattle.nz_reals.specs.Limits.{HasValues, pairs_below, value_of}
 use Rattle.nz_reals.specs.State.{Theory, sum_at}
 use Rattle.nz_reals.specs.Stored.{AreForms}

@@ -1,6 +1,6 @@
 -- Where a list of work leads when a form has joined.
-use Rattle.std.proofs.Common.{◌≡◌, ℕ, zero, suc, ◌<◌, Bool, true, false, List, [], ◌∷◌, ◌++◌, map, take, length, Option, Some, None, Result, Ok, Err, refl, sym, ap, ◌∙◌, subst, true≢false, arith, pos}
-use Rattle.std.specs.Prelude.{◌==◌, ◌&&◌, ◌||◌, Contains, IfErr, OnOk, fold, is_some, option_map, slice_get, if◌then◌else◌}
+use Rattle.std.proofs.Common.{◌≡◌, ℕ, suc, ◌<◌, Bool, true, false, List, [], ◌∷◌, ◌++◌, map, take, length, Option, Some, None, Result, Ok, Err, refl, sym, ap, ◌∙◌, subst, true≢false, arith, pos}
+use Rattle.std.specs.Prelude.{◌==◌, ◌&&◌, ◌||◌, IfErr, OnOk, fold, is_some, option_map, slice_get, if◌then◌else◌}
 use Rattle.std.specs.List.{AllByRecursion, list_any}
 use Rattle.std.proofs.lemmas.List.{map-append}
 use Rattle.std.proofs.lemmas.List.Sums.{fold_push}
@@ -8,14 +8,14 @@ use Rattle.nz_lists.proofs.Elements.{AllByRecursion-append}
 use Rattle.nz_lists.proofs.Tests.{same_tests}
 use Rattle.nz_fractions.specs.Fraction.{whole}
 use Rattle.nz_spec.specs.BasisMoves.{JoinsKeepBasis}
-use Rattle.nz_spec.specs.Bland.{Point, Position, lower_side, upper_side}
+use Rattle.nz_spec.specs.Bland.{Point, Position}
 use Rattle.nz_spec.specs.Form as spec
 use Rattle.nz_spec.specs.Form.{unit_form}
 use Rattle.nz_spec.specs.FormOf.{TermHasItsNumber}
-use Rattle.nz_spec.specs.Legal.{AreLegal, Lead, LegalWorkGoesOn, MayJoin, Search, Task, after_line, after_lines, at_first, no_point, position_of, sum_of_atom, told_literals}
-use Rattle.nz_spec.specs.Literal.{Literal, TellsLiterals, are_same_literal, are_same_parts, term_literal}
+use Rattle.nz_spec.specs.Legal.{AreLegal, Lead, LegalWorkGoesOn, Search, Task, after_line, after_lines, at_first, no_point, position_of, sum_of_atom, told_literals}
+use Rattle.nz_spec.specs.Literal.{Literal, TellsLiterals, are_same_literal, term_literal}
 use Rattle.nz_spec.specs.LiteralBounds as bounds
-use Rattle.nz_spec.specs.LiteralBounds.{is_unit_alone, joined, position_under, tightest, with_new_unit}
+use Rattle.nz_spec.specs.LiteralBounds.{is_unit_alone, joined, with_new_unit}
 use Rattle.nz_spec.specs.Notes.{form_note}
 use Rattle.nz_spec.specs.PositionMoves.{with_form, with_unit}
 use Rattle.nz_spec.specs.Same.{are_same_fraction, are_same_term}
@@ -23,7 +23,7 @@ use Rattle.nz_spec.specs.Table.{Node, HasOneNumberEach, OneNumber, term_in}
 use Rattle.nz_spec.specs.Term.{Term}
 use Rattle.nz_spec.specs.Work.{WorkList, NoteLine, with_line}
 use Rattle.nz_lin.specs.declared.form.Part.{Part}
-use Rattle.nz_lin.specs.Forms.{AreInOrder, AreUnits, NamesUnit, part_over, parts_over}
+use Rattle.nz_lin.specs.Forms.{AreInOrder, AreUnits, NamesUnit, parts_over}
 use Rattle.nz_tab.specs.Units.{is_form_of, is_one, is_unit_form, new_units, unit_number, unit_of}
 use Rattle.nz_trail.specs.declared.limits.Side.TheVariants.{Lower, Upper}
 use Rattle.nz_log.specs.declared.note.Note.{Note}
@@ -42,7 +42,6 @@ use Rattle.nz_reals.specs.declared.reals.Told.{Told}
 use Rattle.nz_reals.specs.Joins.{AddsForm, IsNamedSum, StopsJoining}
 use Rattle.nz_reals.specs.Stands.{AreBounds, HasTold, IsAt, IsOver}
 use Rattle.nz_reals.specs.State.{Theory, literal_over, told_lits}
-use Rattle.nz_reals.proofs.Elements.{each_of}
 use Rattle.nz_reals.proofs.JoiningRows.{joining_place}
 use Rattle.nz_reals.proofs.Standing.{position_is}
 

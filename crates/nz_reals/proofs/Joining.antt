@@ -1,10 +1,10 @@
 -- Forms when a sum has joined: each stands once, and is found.
-use Rattle.std.proofs.Common.{◌≡◌, ℕ, zero, suc, ◌+◌, ◌<◌, ◌≤◌, ◌⊎◌, inl, inr, Bool, true, false, List, [], ◌∷◌, ◌++◌, map, length, Option, Some, None, refl, sym, ap, ap₂, ◌∙◌, subst, true≢false, arith, append-nil, append_assoc, length-append, pos}
-use Rattle.std.specs.Prelude.{◌==◌, ◌&&◌, Contains, IsSome, is_some, option_map, slice_get, slice_index_or, if◌then◌else◌}
+use Rattle.std.proofs.Common.{◌≡◌, ℕ, zero, suc, ◌+◌, ◌<◌, ◌⊎◌, inl, inr, Bool, true, false, List, [], ◌∷◌, ◌++◌, map, length, Option, Some, None, refl, sym, ap, ◌∙◌, subst, true≢false, arith, append-nil, append_assoc, pos}
+use Rattle.std.specs.Prelude.{◌==◌, ◌&&◌, Contains, is_some, option_map, slice_get, slice_index_or, if◌then◌else◌}
 use Rattle.std.specs.List.{AllByRecursion}
 use Rattle.std.specs.Ordering.{int_eq}
 use Rattle.std.specs.Cmp.{first_so, second_so, signed_Decides}
-use Rattle.std.proofs.lemmas.List.Elements.{Contains-append_cases, Contains-append_left, Contains-push_cases}
+use Rattle.std.proofs.lemmas.List.Elements.{Contains-append_cases, Contains-push_cases}
 use Rattle.std.proofs.lemmas.Option.{slice_get-get_or, slice_get_within}
 use Rattle.nz_lists.proofs.Elements.{AllByRecursion-append, AllByRecursion-weaker}
 use Rattle.nz_lists.proofs.Places.{slice_get_kept, slice_get-push_cases}
@@ -12,7 +12,6 @@ use Rattle.nz_lists.proofs.Tests.{same_tests}
 use Rattle.nz_fractions.specs.Fraction.{Fraction, IsNumber, whole, denominator, fraction_eq, fraction_lt}
 use Rattle.nz_fractions.proofs.Laws.{lowest-same, =ℚ-from_same}
 use Rattle.nz_fractions.proofs.Order.{fraction_eq-same, same-fraction_eq}
-use Rattle.nz_spec.specs.Form as spec
 use Rattle.nz_spec.specs.Literal.{StandOnce}
 use Rattle.nz_spec.specs.Table.{Node, HasOneNumberEach, OneNumber, term_in}
 use Rattle.nz_spec.specs.Term.{is_zero}

@@ -6,8 +6,8 @@ use Rattle.std.proofs.lemmas.List.{get_or_past, length-map, map-append}
 use Rattle.nz_fractions.specs.Fraction.{IsNumber}
 use Rattle.nz_spec.specs.Infinitesimal.{Infinitesimal}
 use Rattle.nz_spec.specs.Basis.{IsBasis}
-use Rattle.nz_spec.specs.BasisMoves.{AreRows, JoinsKeepBasis, Rows, joining_row}
-use Rattle.nz_spec.specs.Bland.{Point, Position, is_nonbasic, zero_infinitesimal}
+use Rattle.nz_spec.specs.BasisMoves.{AreRows, JoinsKeepBasis, joining_row}
+use Rattle.nz_spec.specs.Bland.{Position, is_nonbasic, zero_infinitesimal}
 use Rattle.nz_spec.specs.Form as spec
 use Rattle.nz_spec.specs.Form.{unit_form}
 use Rattle.nz_spec.specs.FormOf.{TermHasItsNumber, number_in}
@@ -25,8 +25,7 @@ use Rattle.nz_tab.specs.Joins.{number_by}
 use Rattle.nz_tab.specs.Tables.{forms_over}
 use Rattle.nz_tab.specs.Units.{is_unit_form, new_units, unit_number, unit_of, with_units}
 use Rattle.nz_tab.proofs.Numbering.{are_numbered, units_numbered}
-use Rattle.nz_tab.proofs.Uniting.{Holds, below, joined_to, not_below, units_join}
-use Rattle.nz_log.specs.declared.place.Place.{Place}
+use Rattle.nz_tab.proofs.Uniting.{below, joined_to, not_below, units_join}
 use Rattle.nz_log.specs.declared.place.Site.TheVariants.{Joining}
 use Rattle.nz_log.specs.Places.{IsPlaceIn}
 use Rattle.nz_simplex.specs.Moves.{JoinStops, joined_over, joining, unit_terms, with_all_units}

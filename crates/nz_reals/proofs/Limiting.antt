@@ -1,22 +1,19 @@
 -- A fraction for the infinitesimal: the least of 1 and what the values of all forms and their bounds allow.
-use Rattle.std.proofs.Common.{◌≡◌, ℕ, zero, suc, ◌+◌, ◌<◌, ◌≤◌, ◌⊎◌, inl, inr, Bool, true, false, List, [], ◌∷◌, ◌++◌, map, length, Option, Some, None, IfOk, Result, pos, refl, sym, ap, ◌∙◌, subst, true≢false, arith, append_assoc, append-nil}
-use Rattle.std.specs.Prelude.{All, Contains, IsSome, option_map, unwrap_or, if◌then◌else◌}
+use Rattle.std.proofs.Common.{◌≡◌, ℕ, zero, suc, ◌+◌, ◌<◌, ◌≤◌, ◌⊎◌, inl, inr, Bool, true, false, List, [], ◌∷◌, ◌++◌, length, Option, Some, None, pos, refl, sym, ap, ◌∙◌, subst, true≢false, arith, append-nil}
+use Rattle.std.specs.Prelude.{Contains, IsSome, option_map, unwrap_or, if◌then◌else◌}
 use Rattle.std.proofs.lemmas.Int.{ints}
 use Rattle.std.proofs.lemmas.List.{length-map}
 use Rattle.std.proofs.lemmas.List.Elements.{All-contains, All-from_recursion, Contains-append_cases, Contains-append_left, Contains-append_right}
-use Rattle.std.proofs.lemmas.Result.{IfOk-weaker}
 use Rattle.nz_fractions.specs.Fraction.{Fraction, IsNumber, Operation, Product, Sum, first_wide, fraction_lt, is_wide, outcome, whole, ◌=ℚ◌, ◌≤ℚ◌, ◌<ℚ◌, ◌+ℚ◌, ◌*ℚ◌}
 use Rattle.nz_fractions.proofs.Arithmetic.{+ℚ-same, outcome-product, outcome-sum}
 use Rattle.nz_fractions.proofs.Laws.{lowest-same, ≤ℚ-from_lt, ≤ℚ_refl, ≤ℚ_trans, =ℚ_refl, =ℚ_trans}
 use Rattle.nz_spec.specs.Bland as bland
-use Rattle.nz_spec.specs.Bland.{HasValue, IsOutside, MeetsBounds, Point, Position, PositionsHaveValues, bound_on, lower_side, upper_side, zero_infinitesimal}
+use Rattle.nz_spec.specs.Bland.{HasValue, IsOutside, Point, Position, PositionsHaveValues, bound_on, lower_side, upper_side, zero_infinitesimal}
 use Rattle.nz_spec.specs.Form as spec
-use Rattle.nz_spec.specs.Infinitesimal.{Infinitesimal, IsLeastLimit, Pair, at, delta_operations, is_limiting, limit, limit_operations, limits, ◌=δ◌, ◌≤δ◌}
+use Rattle.nz_spec.specs.Infinitesimal.{Infinitesimal, IsLeastLimit, Pair, at, delta_operations, is_limiting, limit, limit_operations, limits, ◌≤δ◌}
 use Rattle.nz_spec.specs.Literal.{Literal}
 use Rattle.nz_spec.specs.LiteralBounds.{position_under}
-use Rattle.nz_spec.specs.Notes as notes
-use Rattle.nz_spec.specs.Notes.{limit_site, model_site}
-use Rattle.nz_spec.specs.Places.{IsChosen, IsOfLimit, IsOfModel, IsOperationIn, IsPairOf, IsWithinBounds, in_order}
+use Rattle.nz_spec.specs.Places.{IsChosen, IsOfLimit, IsOperationIn, IsPairOf, IsWithinBounds, in_order}
 use Rattle.nz_spec.specs.Table.{Node}
 use Rattle.nz_spec.specs.ToldBounds.{AreNumbers}
 use Rattle.nz_spec.proofs.InfinitesimalOrder.{not_less}
@@ -31,14 +28,18 @@ use Rattle.nz_trail.specs.declared.limits.Side.TheVariants.{Lower, Upper}
 use Rattle.nz_log.specs.declared.place.Place.{Place}
 use Rattle.nz_log.specs.declared.place.Site.{Site}
 use Rattle.nz_log.specs.Places as places
-use Rattle.nz_log.specs.Places.{IsPlaceIn, IsSiteWithin, site_of}
+use Rattle.nz_log.specs.declared.stop.Stop.{Stop}
+use Rattle.nz_log.specs.declared.stop.Stop.TheVariants.{Wide, Spent, Memory}
+use Rattle.nz_log.specs.Places.{IsPlaceIn, IsSiteWithin, OnWide, site_of}
 use Rattle.nz_simplex.specs.Checks as checks
 use Rattle.nz_simplex.specs.Standing.{bound_in, half}
 use Rattle.nz_simplex.specs.State.{IsOver, IsSound, State, position_over, value_in}
 use Rattle.nz_reals.specs.Limits.{HasValues, IsLimitPlace, IsModelPlace, listed, pair_on, pairs_below, pairs_of, value_of}
+use Rattle.nz_reals.specs.Stands.{IsAt}
 use Rattle.nz_reals.specs.State.{Theory}
 use Rattle.nz_reals.proofs.Elements.{by_each, has_cases, has_first, has_more, has_none}
 use Rattle.nz_reals.proofs.Refuting.{first_is}
+use Rattle.nz_reals.proofs.Standing.{position_is}
 
 -- ---- Tests
 
@@ -331,6 +332,19 @@ module _ (t : Theory) (ns : List Node) (over : IsOver ns t.simplex) (sound : IsS
       by_side : (side : Side) → (b : Infinitesimal) × (bound_in t.simplex.asserted side h.form ≡ Some b) × (h.pair ≡ in_order (half side) b (value_of t h.form)) → IsOfLimit p h.form (places.half side) (operation_of place.wide)
       by_side Lower b = of_limit Lower b
       by_side Upper b = of_limit Upper b
+
+-- ---- Wherever the theory stands
+
+module _ (t : Theory) (ns : List Node) (over : IsOver ns t.simplex) (sound : IsSound t.simplex) (feasible : checks.IsFeasible ns t.simplex) where
+  pub limit_stands : (place : Place) → IsLimitPlace t place → (fs : List (List spec.Part)) (ls : List Literal) (x : Point) → IsAt t ns fs ls x → IsPlaceIn ns fs ls x place
+  limit_stands place h fs ls x at = limit_place t ns over sound place feasible.within (has_values t ns over sound feasible) h fs ls x (position_is t ns fs ls x at)
+
+  pub model_stands : PositionsHaveValues → AreNumbers (length t.simplex.forms) (value_of t) → (d : Fraction) → IsLeastLimit (pairs_below t (length t.simplex.forms)) d → (e : Stop) → OnWide e (IsModelPlace t d)
+      → OnWide e (λ (place : Place). (fs : List (List spec.Part)) (ls : List Literal) (x : Point) → IsAt t ns fs ls x → IsPlaceIn ns fs ls x place)
+  model_stands values numbers d least (Wide place) h = λ fs ls x at.
+      model_place t ns over sound values (has_values t ns over sound feasible) numbers d place feasible.within least h fs ls x (position_is t ns fs ls x at)
+  model_stands values numbers d least Spent h = tt
+  model_stands values numbers d least Memory h = tt
 
 -- ---- The value where a fraction stands for the infinitesimal
 

@@ -21,7 +21,6 @@ use nz_base::{Memory, Work};
 use nz_lin::Bound;
 use nz_log::{Atom, AtomId, Log, Note, Site, Stop};
 use nz_spec::basis::joins_keep_basis;
-use nz_spec::deciding::telling_sets_bounds;
 use nz_spec::derivation::tells_literals;
 use nz_spec::form::term_has_its_number;
 use nz_spec::table::one_number;
@@ -75,7 +74,6 @@ impl Reals {
         ensures ends { (ns : List Node) (q : Task) → AreUnits ns sum.sides.parts → IsNamedSum ns sum.sides.parts number work.old → Stands (IsAt self.old ns) ns q work.old → Ends (IsAt self.new ns) ns q work.new result }
     {
         joins_keep_basis();
-        telling_sets_bounds();
         tells_literals();
         one_number();
         legal_work_goes_on();

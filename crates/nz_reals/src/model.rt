@@ -1,5 +1,5 @@
 //! Values of the units, once the simplex is feasible.
-ghost use Rattle.std.specs.Prelude.{◌≡◌, ◌<◌, ℕ, List, [], ◌∷◌, ◌++◌, IfErr, IfOk, IfSome, IsSome, IsTrue, None, OnOk, false, length, option_map, true, if◌then◌else◌};
+ghost use Rattle.std.specs.Prelude.{◌≡◌, ◌<◌, ℕ, List, ◌++◌, IfErr, IfOk, IfSome, None, OnOk, false, length, option_map, true, if◌then◌else◌};
 ghost use Rattle.nz_fractions.specs.Fraction.{IsNumber, fraction_lt, is_wide, ◌=ℚ◌};
 ghost use Rattle.nz_spec.specs.Bland.{Point};
 ghost use Rattle.nz_spec.specs.Form as spec;
@@ -15,7 +15,7 @@ ghost use Rattle.nz_lin.specs.Forms.{AreUnits};
 ghost use Rattle.nz_log.specs.declared.stop.Stop.TheVariants as stop;
 ghost use Rattle.nz_log.specs.Places.{IsPlaceIn, OnWide};
 ghost use Rattle.nz_simplex.specs.Standing.{bound_in, half};
-ghost use Rattle.nz_simplex.specs.State.{position_over, value_in};
+ghost use Rattle.nz_simplex.specs.State.{position_over};
 ghost use Rattle.nz_tab.specs.Units.{is_one};
 ghost use Rattle.nz_reals.specs.Chosen.{AddsValues, IsAlone, IsRealConstant, Puts};
 ghost use Rattle.nz_reals.specs.Limits.{HasValues, IsLimitPlace, IsModelPlace, IsOfValueAt, listed, pair_on, pairs_below, pairs_of, value_of};

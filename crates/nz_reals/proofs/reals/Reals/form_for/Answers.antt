@@ -1,4 +1,4 @@
-use Rattle.std.proofs.Common.{◌≡◌, sym, ap, ◌∙◌, subst}
+use Rattle.std.proofs.Common.{sym, subst}
 use Rattle.nz_log.specs.Standing.{Ends}
 use Rattle.nz_reals.specs.Stands.{IsAt}
 use Rattle.nz_reals.proofs.Ending.{form_ends}
