@@ -1,22 +1,20 @@
 -- An atom that the theory learns of.
-use Rattle.std.proofs.Common.{◌≡◌, ◌==◌, ℕ, ◌<◌, ◌⊎◌, inl, inr, Bool, true, false, List, [], ◌∷◌, ◌++◌, map, length, Option, Some, None, refl, sym, ap, ◌∙◌, subst, true≢false, if◌then◌else◌, arith}
+use Rattle.std.proofs.Common.{◌≡◌, ◌==◌, ℕ, Bool, true, false, List, [], ◌∷◌, ◌++◌, Option, Some, None, refl, sym, ap, ◌∙◌, subst, if◌then◌else◌, arith}
 use Rattle.std.specs.Prelude.{IsSome, IsTrue, slice_get, slice_index_or}
-use Rattle.std.specs.List.{AllByRecursion}
 use Rattle.std.proofs.lemmas.List.Elements.{All-push, All-weaker}
 use Rattle.nz_spec.specs.Farkas.{bound_of, is_linear_literal}
-use Rattle.nz_spec.specs.Legal.{Search, literal_by}
+use Rattle.nz_spec.specs.Legal.{literal_by}
 use Rattle.nz_spec.specs.Literal.{Literal, is_at_most}
 use Rattle.nz_spec.specs.LiteralBounds.{turned}
 use Rattle.nz_spec.specs.Table.{IsTable, Node}
 use Rattle.nz_spec.specs.Work.{WorkList}
 use Rattle.nz_lin.specs.declared.bound.Bound.{Bound}
-use Rattle.nz_lin.specs.declared.form.Part.{Part}
 use Rattle.nz_lin.specs.Bounds.{HasUnits}
 use Rattle.nz_lin.specs.Forms.{AreUnits, parts_over}
 use Rattle.nz_log.specs.declared.atoms.Atom.{Atom}
 use Rattle.nz_log.specs.declared.atoms.Atom.TheVariants.{Term, AtMost}
 use Rattle.nz_log.specs.declared.note.Note.{Note}
-use Rattle.nz_log.specs.Atoms.{AreAtoms, IsLitIn, IsNormal, literal_in}
+use Rattle.nz_log.specs.Atoms.{AreAtoms, IsLitIn, IsNormal}
 use Rattle.nz_log.specs.Standing.{search_after}
 use Rattle.nz_reals.specs.Joins.{AddsForm, IsAtomFor, IsNamedSum, IsNumberIn, MayAddSum, MayJoinBound, MayLearn}
 use Rattle.nz_reals.specs.Known.{IsSaidOf, Known}

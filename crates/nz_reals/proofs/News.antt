@@ -1,6 +1,6 @@
 -- Whether a bound is tighter than what stands.
-use Rattle.std.proofs.Common.{◌≡◌, ℕ, zero, suc, ◌<◌, ◌⊎◌, inl, inr, Bool, true, false, List, [], ◌∷◌, ◌++◌, length, Option, Some, None, refl, sym, ap, ap₂, ◌∙◌, subst, true≢false, arith, Less, Equal, Greater, Ordering}
-use Rattle.std.specs.Prelude.{◌==◌, ◌&&◌, Any, Contains, fold, option_map, slice_index_or, if◌then◌else◌}
+use Rattle.std.proofs.Common.{◌≡◌, ℕ, ◌⊎◌, inl, inr, Bool, true, false, List, [], ◌∷◌, Option, Some, None, refl, sym, ap, ap₂, ◌∙◌, subst, true≢false, arith, Less, Equal, Greater, Ordering}
+use Rattle.std.specs.Prelude.{◌==◌, ◌&&◌, Contains, fold, if◌then◌else◌}
 use Rattle.std.specs.Ordering.{is_lt, ordering_reverse}
 use Rattle.nz_spec.specs.Infinitesimal.{Infinitesimal, infinitesimal_cmp}
 use Rattle.nz_spec.specs.PositionMoves.{is_outside}
@@ -10,7 +10,7 @@ use Rattle.nz_trail.specs.declared.limits.Side.{Side}
 use Rattle.nz_trail.specs.declared.limits.Side.TheVariants.{Lower, Upper}
 use Rattle.nz_simplex.specs.Standing.{Held, half, is_bound_of, is_news, is_side, standing, standing_with}
 use Rattle.nz_reals.proofs.Elements.{has_cases}
-use Rattle.nz_reals.proofs.Whys.{IsAmong, stands_among}
+use Rattle.nz_reals.proofs.Whys.{stands_among}
 
 -- ---- Tighter
 

@@ -1,6 +1,6 @@
 -- Sums with the other signs, and sums over a table of terms.
-use Rattle.std.proofs.Common.{◌≡◌, zero, suc, ◌<◌, Bool, true, false, List, [], ◌∷◌, map, length, get_or, ◌≤◌, Some, refl, sym, ap, ◌∙◌, subst, true≢false, arith}
-use Rattle.std.specs.Prelude.{ℤ, pos, negsuc, neg_ℤ, int_lt, ◌&&◌, ◌*ℤ◌, if◌then◌else◌}
+use Rattle.std.proofs.Common.{◌≡◌, zero, suc, ◌<◌, Bool, true, false, List, [], ◌∷◌, map, length, get_or, ◌≤◌, refl, sym, ap, ◌∙◌, true≢false, arith}
+use Rattle.std.specs.Prelude.{ℤ, pos, negsuc, neg_ℤ, int_lt, ◌&&◌, if◌then◌else◌}
 use Rattle.std.specs.List.{AllByRecursion}
 use Rattle.std.proofs.lemmas.Int.{ints}
 use Rattle.nz_fractions.specs.Fraction.{Fraction, neg_ℚ, whole, denominator, fraction_lt, fraction_eq, ◌=ℚ◌}

@@ -3,9 +3,8 @@ use Rattle.std.proofs.Common.{◌≡◌, ℕ, zero, suc, ◌<◌, ◌⊎◌, inl
 use Rattle.std.specs.Prelude.{Contains, flat_map, fold, option_map, unwrap_or, ◌&&◌, if◌then◌else◌}
 use Rattle.std.specs.List.{AllByRecursion}
 use Rattle.nz_lists.proofs.Elements.{AllByRecursion-append}
-use Rattle.nz_fractions.specs.Fraction.{Fraction, whole, neg_ℚ, ◌=ℚ◌, ◌<ℚ◌}
+use Rattle.nz_fractions.specs.Fraction.{Fraction, whole, neg_ℚ, ◌=ℚ◌}
 use Rattle.nz_fractions.proofs.Laws.{=ℚ_refl}
-use Rattle.nz_spec.specs.Basis.{Coefficients}
 use Rattle.nz_spec.specs.BasisMoves.{numbers}
 use Rattle.nz_spec.specs.Bland as bland
 use Rattle.nz_spec.specs.Bland.{bound_on}
@@ -114,7 +113,8 @@ module _ (ns : List Node) (s : State) (r : IsRefuted ns s) (P : ℕ × Fraction 
 
   pub why_each : length (position_over ns s).forms ≡ length s.forms → AllByRecursion P s.why
   why_each same =
-      subst (AllByRecursion P) (sym r.why)
-      (held r.side r.broken (whole (pos 1)) r.bound r.refutes.bounded (inl (=ℚ_refl (whole (pos 1)))),
-      each_flat P (multiplier s.asserted r.side r.row) (numbers (length s.forms) (nonbasic_in s))
-      (numbers_below (λ (k : ℕ). AllByRecursion P (multiplier s.asserted r.side r.row k)) (length s.forms) (nonbasic_in s) (λ k less. one_held k (omega (arith, less, same)))))
+      subst (AllByRecursion P) (sym r.why) (
+        held r.side r.broken (whole (pos 1)) r.bound r.refutes.bounded (inl (=ℚ_refl (whole (pos 1)))),
+        each_flat P (multiplier s.asserted r.side r.row) (numbers (length s.forms) (nonbasic_in s))
+            (numbers_below (λ (k : ℕ). AllByRecursion P (multiplier s.asserted r.side r.row k)) (length s.forms) (nonbasic_in s) (λ k less. one_held k (omega (arith, less, same)))),
+      )
