@@ -16,7 +16,7 @@ use Rattle.nz_spec.specs.Term.{is_zero}
 use Rattle.nz_trail.specs.Bounds.{other_side}
 use Rattle.nz_trail.specs.declared.limits.Side.{Side}
 use Rattle.nz_trail.specs.declared.limits.Side.TheVariants.{Lower, Upper}
-use Rattle.nz_simplex.specs.Checks.{IsRefuted, holding_side, multiplier, multipliers}
+use Rattle.nz_simplex.specs.Checks.{IsRefuted, holding_side, multiplier}
 use Rattle.nz_simplex.specs.Choices.{is_below_zero, size_of}
 use Rattle.nz_simplex.specs.Standing.{Held, bound_in, half, is_bound_of, is_news, reason_in, standing, standing_with}
 use Rattle.nz_simplex.specs.State.{State, nonbasic_in, position_over}
