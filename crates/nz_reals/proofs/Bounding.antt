@@ -1,5 +1,6 @@
 -- What a literal says of the forms, as the definitions find it: the first form that is its sum, or the sum with the other signs.
 use Rattle.std.proofs.Common.{◌≡◌, ℕ, zero, suc, ◌+◌, ◌<◌, ◌⊎◌, inl, inr, Bool, true, false, List, [], ◌∷◌, map, length, Option, Some, refl, sym, ap, ◌∙◌, true≢false, arith, pos}
+use Rattle.std.proofs.lemmas.Bool.{false_from_ne_true}
 use Rattle.std.specs.Prelude.{option_map, slice_get, slice_index_or, if◌then◌else◌}
 use Rattle.std.specs.List.{AllByRecursion}
 use Rattle.std.proofs.lemmas.List.{length-map}
@@ -64,10 +65,6 @@ found_from (f ∷ fs) k (suc v) ps side less other found =
 
 -- ---- Forms and their negatives
 
-to_false : (b : Bool) → (b ≡ true → ⊥) → b ≡ false
-to_false true f = absurd (f refl)
-to_false false f = refl
-
 module _ (ns : List Node) (one : HasOneNumberEach ns) (tells : TellsLiterals) where
   -- the first coefficients are above 0, so the one isn't the other's negative, but for the empty sum
   not_negated : (f g : List Part) → IsFormSum f → IsFormSum g → parts_over ns f ≡ map negated_part (parts_over ns g) → parts_over ns f ≡ parts_over ns g
@@ -110,13 +107,13 @@ module _ (ns : List Node) (one : HasOneNumberEach ns) (tells : TellsLiterals) wh
       others : (ps : List spec.Part) → (ps ≡ parts_over ns f) ⊎ (ps ≡ map negated_part (parts_over ns f)) → (i : ℕ) → i < v → IsOther (at_form over i) ps
       others ps (inl is) i less =
           let no = apart i less in (
-            to_false (are_same_parts (at_form over i) ps) (λ t. no.0 (sums_told tells (at_form over i) ps t ∙ is)),
-            to_false (are_same_parts (at_form over i) (map negated_part ps)) (λ t. no.1 (sums_told tells (at_form over i) (map negated_part ps) t ∙ ap (map negated_part) is)),
+            false_from_ne_true (are_same_parts (at_form over i) ps) (λ t. no.0 (sums_told tells (at_form over i) ps t ∙ is)),
+            false_from_ne_true (are_same_parts (at_form over i) (map negated_part ps)) (λ t. no.1 (sums_told tells (at_form over i) (map negated_part ps) t ∙ ap (map negated_part) is)),
           )
       others ps (inr is) i less =
           let no = apart i less in (
-            to_false (are_same_parts (at_form over i) ps) (λ t. no.1 (sums_told tells (at_form over i) ps t ∙ is)),
-            to_false (are_same_parts (at_form over i) (map negated_part ps)) (λ t. no.0 (sums_told tells (at_form over i) (map negated_part ps) t ∙ ap (map negated_part) is ∙ parts_back (parts_over ns f))),
+            false_from_ne_true (are_same_parts (at_form over i) ps) (λ t. no.1 (sums_told tells (at_form over i) ps t ∙ is)),
+            false_from_ne_true (are_same_parts (at_form over i) (map negated_part ps)) (λ t. no.0 (sums_told tells (at_form over i) (map negated_part ps) t ∙ ap (map negated_part) is ∙ parts_back (parts_over ns f))),
           )
 
       inside : v < length over
@@ -131,7 +128,7 @@ module _ (ns : List Node) (one : HasOneNumberEach ns) (tells : TellsLiterals) wh
       found_lower : (ps : List spec.Part) → ps ≡ map negated_part (parts_over ns f) → (parts_over ns f ≡ map negated_part (parts_over ns f) → ⊥) → bounded_from 0 over ps ≡ Some (v, lower_side)
       found_lower ps is differs =
           found_from over 0 v ps lower_side inside (others ps (inr is)) (
-            to_false (are_same_parts (at_form over v) ps) (λ t. differs (sym (over_at v f at) ∙ sums_told tells (at_form over v) ps t ∙ is)),
+            false_from_ne_true (are_same_parts (at_form over v) ps) (λ t. differs (sym (over_at v f at) ∙ sums_told tells (at_form over v) ps t ∙ is)),
             ap (λ (x : List spec.Part). are_same_parts x (map negated_part ps)) (over_at v f at ∙ sym (ap (map negated_part) is ∙ parts_back (parts_over ns f))) ∙ sums_same tells (map negated_part ps),
           )
           ∙ ap (λ (n : ℕ). let x : Option (ℕ × Side) = Some (n, lower_side) in x) (omega arith)

@@ -1,10 +1,11 @@
 -- The values of forms that are constants alone, one after another.
-use Rattle.std.proofs.Common.{◌≡◌, ℕ, ◌+◌, ◌<◌, ◌⊎◌, inl, inr, true, false, List, [], ◌∷◌, ◌++◌, map, length, Option, Some, None, refl, sym, ap, ◌∙◌, subst, true≢false, arith, append-nil, append_assoc}
+use Rattle.std.proofs.Common.{◌≡◌, ℕ, ◌+◌, ◌<◌, inl, inr, true, false, List, [], ◌∷◌, ◌++◌, map, length, Option, Some, None, refl, sym, ap, ◌∙◌, subst, true≢false, arith, append_assoc}
 use Rattle.std.specs.Prelude.{◌==◌, Contains, option_map, slice_get}
 use Rattle.std.specs.Cmp.{first_so, second_so}
 use Rattle.std.proofs.lemmas.List.{length-map, map-append}
 use Rattle.std.proofs.lemmas.List.Elements.{Contains-append_left, Contains-push, Contains-push_cases}
 use Rattle.std.proofs.lemmas.Option.{slice_get-get_or}
+use Rattle.nz_tab.proofs.Numbers.{same-number}
 use Rattle.nz_fractions.specs.Fraction.{Fraction}
 use Rattle.nz_spec.specs.Infinitesimal.{IsLeastLimit, at}
 use Rattle.nz_spec.specs.Bland.{PositionsHaveValues}
@@ -26,15 +27,15 @@ use Rattle.nz_reals.specs.Limits.{HasValues, pairs_below, value_of}
 use Rattle.nz_reals.specs.State.{Theory, sum_at}
 use Rattle.nz_reals.specs.Stored.{AreForms}
 use Rattle.nz_reals.proofs.Elements.{at_of, map_from, push_new}
-use Rattle.nz_reals.proofs.Joining.{alone_is, number_told}
-use Rattle.nz_reals.proofs.Limiting.{chosen, known_values}
+use Rattle.nz_reals.proofs.Joining.{alone_is}
+use Rattle.nz_reals.proofs.Limiting.{chosen, known_values, below_or_last}
 
 -- ---- One form for a unit
 
 -- the form of a unit has one part, which is its unit
 unit_part : (f : List Part) (u : ℕ) → is_form_of u f ≡ true → (p : Part) × (f ≡ p ∷ []) × (p.unit ≡ u) × (is_unit_form f ≡ true)
 unit_part [] u e = absurd (true≢false (sym e))
-unit_part (p ∷ []) u e = (p, refl, number_told p.unit u (first_so (p.unit == u) (is_one p.coefficient) e), second_so (p.unit == u) (is_one p.coefficient) e)
+unit_part (p ∷ []) u e = (p, refl, same-number p.unit u (first_so (p.unit == u) (is_one p.coefficient) e), second_so (p.unit == u) (is_one p.coefficient) e)
 unit_part (p ∷ q ∷ qs) u e = absurd (true≢false (sym e))
 
 module _ (t : Theory) (ns : List Node) (over : IsOver ns t.simplex) (forms : AreForms t.simplex) (one : OneNumber) where
@@ -53,26 +54,14 @@ module _ (t : Theory) (ns : List Node) (over : IsOver ns t.simplex) (forms : Are
   -- ---- One form after another
 
   module _ (e : Fraction) (old : List (ℕ × spec.Value)) where
-    pub puts_first : PutsFirst t ns e 0 old old
-    puts_first = record {
-      added = [];
-      joined = sym (append-nil old);
-      once = λ i j x h k. absurd cc;
-      right = λ u v h. absurd (let less = h.1 in omega (arith, less));
-      all = λ k u h alone. absurd (omega (arith, h));
-    }
-
     module _ (n : ℕ) (mid new : List (ℕ × spec.Value)) (less : n < length t.simplex.forms) (h : PutsFirst t ns e n old mid) where
-      below_or_last : (k : ℕ) → k < n + 1 → (k < n) ⊎ (k ≡ n)
-      below_or_last k i = grind (arith, i)
-
       puts_none : PutsNone t ns n mid new → PutsFirst t ns e (n + 1) old new
       puts_none x = record {
         added = h.added;
         joined = x.same ∙ h.joined;
         once = h.once;
         right = λ u v has. let r = h.right u v has in (r.0, let k = r.1 in omega (arith, k), r.2, r.3);
-        all = λ k u i alone. elim (below_or_last k i) [
+        all = λ k u i alone. elim (below_or_last n k i) [
           | inl before ↦ h.all k u before alone
           | inr last ↦ absurd (x.none u (subst (λ (m : ℕ). IsAlone ns (sum_at t m) u) last alone))
         ];
@@ -92,7 +81,7 @@ module _ (t : Theory) (ns : List Node) (over : IsOver ns t.simplex) (forms : Are
               let value : spec.number x.value ≡ v = ap (λ (y : ℕ × spec.Value). y.1) same in
               (n, omega arith, subst (IsAlone ns (sum_at t n)) unit x.alone, (x.value, sym value, x.right, x.number))
         ];
-        all = λ k u i alone. elim (below_or_last k i) [
+        all = λ k u i alone. elim (below_or_last n k i) [
           | inl before ↦ let v = h.all k u before alone in (v.0, Contains-append_left h.added (pair ∷ []) (u, v.0) v.1)
           | inr last ↦
               let unit : u ≡ x.unit = one_unit (sum_at t n) u x.unit (subst (λ (m : ℕ). is_form_of u (sum_at t m) ≡ true) last alone.0) x.alone.0 in
@@ -108,7 +97,7 @@ module _ (t : Theory) (ns : List Node) (over : IsOver ns t.simplex) (forms : Are
 
           one_unit : (f : List Part) (u v : ℕ) → is_form_of u f ≡ true → is_form_of v f ≡ true → u ≡ v
           one_unit [] u v a b = absurd (true≢false (sym a))
-          one_unit (p ∷ []) u v a b = sym (number_told p.unit u (first_so (p.unit == u) (is_one p.coefficient) a)) ∙ number_told p.unit v (first_so (p.unit == v) (is_one p.coefficient) b)
+          one_unit (p ∷ []) u v a b = sym (same-number p.unit u (first_so (p.unit == u) (is_one p.coefficient) a)) ∙ same-number p.unit v (first_so (p.unit == v) (is_one p.coefficient) b)
           one_unit (p ∷ q ∷ qs) u v a b = absurd (true≢false (sym a))
 
           fresh : Contains (map (λ (v : ℕ × spec.Value). v.0) h.added) x.unit → ⊥

@@ -1,9 +1,12 @@
 -- Where a list of work leads when a form has joined.
-use Rattle.std.proofs.Common.{◌≡◌, ℕ, suc, ◌<◌, Bool, true, false, List, [], ◌∷◌, ◌++◌, map, take, length, Option, Some, None, Result, Ok, Err, refl, sym, ap, ◌∙◌, subst, true≢false, arith, pos}
+use Rattle.std.proofs.Common.{◌≡◌, ℕ, suc, ◌<◌, Bool, true, false, List, [], ◌∷◌, ◌++◌, map, take, length, Some, Result, Ok, Err, refl, sym, ap, ◌∙◌, subst, true≢false, arith, pos}
+use Rattle.std.specs.Cmp.{first_so}
 use Rattle.std.specs.Prelude.{◌==◌, ◌&&◌, ◌||◌, IfErr, OnOk, fold, is_some, option_map, slice_get, if◌then◌else◌}
 use Rattle.std.specs.List.{AllByRecursion, list_any}
 use Rattle.std.proofs.lemmas.List.{map-append}
 use Rattle.std.proofs.lemmas.List.Sums.{fold_push}
+use Rattle.nz_reals.proofs.Joining.{some_suc}
+use Rattle.nz_tab.proofs.Numbers.{equal-number, same-number, other-number}
 use Rattle.nz_lists.proofs.Elements.{AllByRecursion-append}
 use Rattle.nz_lists.proofs.Tests.{same_tests}
 use Rattle.nz_fractions.specs.Fraction.{whole}
@@ -47,30 +50,13 @@ use Rattle.nz_reals.proofs.Standing.{position_is}
 
 -- ---- The same units
 
-and_first : (a b : Bool) → (a && b) ≡ true → a ≡ true
-and_first true b e = refl
-and_first false b e = e
-
-number_itself : (n : ℕ) → (n == n) ≡ true
-number_itself n = grind arith
-
-number_told : (k n : ℕ) → (k == n) ≡ true → k ≡ n
-number_told k n f = grind (arith, f)
-
-number_other : (k n : ℕ) → (k ≡ n → ⊥) → (k == n) ≡ false
-number_other k n other = by_test (k == n) refl
-  where
-    by_test : (b : Bool) → (k == n) ≡ b → b ≡ false
-    by_test true e = absurd (other (number_told k n e))
-    by_test false e = refl
-
 both_true : (a b : Bool) → b ≡ true → (a && b) ≡ a
 both_true true b e = e
 both_true false b e = refl
 
 module _ (ns : List Node) (one : HasOneNumberEach ns) (tells : TellsLiterals) where
   term_itself : (t : Term) → are_same_term t t ≡ true
-  term_itself t = and_first (are_same_term t t) true (tells.one (term_literal t true))
+  term_itself t = first_so (are_same_term t t) true (tells.one (term_literal t true))
 
   term_told : (t u : Term) → are_same_term t u ≡ true → t ≡ u
   term_told t u e =
@@ -81,8 +67,8 @@ module _ (ns : List Node) (one : HasOneNumberEach ns) (tells : TellsLiterals) wh
   unit_tested : (p : Part) (u : ℕ) → p.unit < length ns → u < length ns → are_same_term (term_in ns p.unit) (term_in ns u) ≡ (p.unit == u)
   unit_tested p u h k =
       same_tests (are_same_term (term_in ns p.unit) (term_in ns u)) (p.unit == u)
-      (λ e. let same : p.unit ≡ u = one p.unit u h k (term_told (term_in ns p.unit) (term_in ns u) e) in ap (λ (n : ℕ). n == u) same ∙ number_itself u)
-      (λ e. ap (λ (n : ℕ). are_same_term (term_in ns n) (term_in ns u)) (number_told p.unit u e) ∙ term_itself (term_in ns u))
+      (λ e. let same : p.unit ≡ u = one p.unit u h k (term_told (term_in ns p.unit) (term_in ns u) e) in ap (λ (n : ℕ). n == u) same ∙ equal-number u u refl)
+      (λ e. ap (λ (n : ℕ). are_same_term (term_in ns n) (term_in ns u)) (same-number p.unit u e) ∙ term_itself (term_in ns u))
 
   alone_test : (g : List Part) (u : ℕ) → AllByRecursion (NamesUnit ns) g → u < length ns → is_unit_alone (parts_over ns g) (term_in ns u) ≡ is_form_of u g
   alone_test [] u names k = refl
@@ -102,10 +88,6 @@ module _ (ns : List Node) (one : HasOneNumberEach ns) (tells : TellsLiterals) wh
       by_tests false true = refl
       by_tests false false = refl
 
-  some_suc : (o : Option ℕ) → is_some (option_map suc o) ≡ is_some o
-  some_suc None = refl
-  some_suc (Some n) = refl
-
   any_is : (gs : List (List Part)) (u : ℕ) → AllByRecursion (AreUnits ns) gs → u < length ns → list_any (λ f. is_unit_alone f (term_in ns u)) (map (parts_over ns) gs) ≡ is_some (unit_number gs u)
   any_is [] u units k = refl
   any_is (g ∷ gs) u units k =
@@ -118,7 +100,7 @@ module _ (ns : List Node) (one : HasOneNumberEach ns) (tells : TellsLiterals) wh
       by_test false h = h ∙ sym (some_suc (unit_number gs u))
 
   some_pushed : (gs : List (List Part)) (p : Part) (u : ℕ) → (p.unit ≡ u → ⊥) → is_some (unit_number (gs ++ unit_of p ∷ []) u) ≡ is_some (unit_number gs u)
-  some_pushed [] p u other = ap (λ (b : Bool). is_some (if b && is_one (whole (pos 1)) then Some 0 else option_map suc (unit_number [] u))) (number_other p.unit u other)
+  some_pushed [] p u other = ap (λ (b : Bool). is_some (if b && is_one (whole (pos 1)) then Some 0 else option_map suc (unit_number [] u))) (other-number p.unit u other)
   some_pushed (g ∷ gs) p u other = by_test (is_form_of u g) (some_pushed gs p u other)
     where
       by_test : (b : Bool) → is_some (unit_number (gs ++ unit_of p ∷ []) u) ≡ is_some (unit_number gs u)

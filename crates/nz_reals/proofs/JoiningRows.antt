@@ -3,6 +3,7 @@ use Rattle.std.proofs.Common.{◌≡◌, ℕ, ◌+◌, ◌<◌, ◌≤◌, ◌�
 use Rattle.std.specs.Prelude.{Contains, is_some, nat_lt, if◌then◌else◌}
 use Rattle.std.proofs.Math.Path.{fun_ext}
 use Rattle.std.proofs.lemmas.List.{get_or_past, length-map, map-append}
+use Rattle.nz_tab.proofs.Numbers.{below_or_past}
 use Rattle.nz_fractions.specs.Fraction.{IsNumber}
 use Rattle.nz_spec.specs.Infinitesimal.{Infinitesimal}
 use Rattle.nz_spec.specs.Basis.{IsBasis}
@@ -33,9 +34,6 @@ use Rattle.nz_simplex.specs.State.{IsOver, IsSound, State, nonbasic_in, point_in
 use Rattle.nz_simplex.proofs.JoinedPositions.{units_joined}
 use Rattle.nz_reals.proofs.Placing.{nonbasic_is}
 use Rattle.nz_reals.proofs.Refuting.{first_is}
-
-below_or_past : (k n : ℕ) → (k < n) ⊎ (n ≤ k)
-below_or_past k n = grind arith
 
 -- ---- Units that join
 

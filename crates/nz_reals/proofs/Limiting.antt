@@ -4,6 +4,7 @@ use Rattle.std.specs.Prelude.{Contains, IsSome, option_map, unwrap_or, if◌then
 use Rattle.std.proofs.lemmas.Int.{ints}
 use Rattle.std.proofs.lemmas.List.{length-map}
 use Rattle.std.proofs.lemmas.List.Elements.{All-contains, All-from_recursion, Contains-append_cases, Contains-append_left, Contains-append_right}
+use Rattle.nz_tab.proofs.Numbers.{same_or_below}
 use Rattle.nz_fractions.specs.Fraction.{Fraction, IsNumber, Operation, Product, Sum, first_wide, fraction_lt, is_wide, outcome, whole, ◌=ℚ◌, ◌≤ℚ◌, ◌<ℚ◌, ◌+ℚ◌, ◌*ℚ◌}
 use Rattle.nz_fractions.proofs.Arithmetic.{+ℚ-same, outcome-product, outcome-sum}
 use Rattle.nz_fractions.proofs.Laws.{lowest-same, ≤ℚ-from_lt, ≤ℚ_refl, ≤ℚ_trans, =ℚ_refl, =ℚ_trans}
@@ -112,14 +113,6 @@ one_least e is =
       reached = has_first (whole (pos 1)) [];
     })
 
--- where no pair comes, it stays
-pub same_least : (ps : List Pair) (e : Fraction) (o : Option Pair) → o ≡ None → IsLeastLimit ps e → IsLeastLimit (ps ++ listed o) e
-same_least ps e o none h = subst (λ (l : List Pair). IsLeastLimit l e) (sym (ap (λ (x : Option Pair). ps ++ listed x) none ∙ nothing ps)) h
-  where
-    nothing : (xs : List Pair) → xs ++ [] ≡ xs
-    nothing [] = refl
-    nothing (x ∷ xs) = ap (λ l. x ∷ l) (nothing xs)
-
 -- the first operation that leaves the numbers is one of the limit's
 pub limit_stop : (pair : Pair) (op : Operation) → Some op ≡ first_wide (delta_operations (pair ∷ [])) → Contains (limit_operations pair) op × (is_wide op.operator op.left op.right ≡ true)
 unfolding delta_operations first_wide
@@ -143,16 +136,16 @@ one_pair t k side bound value pair stands is order =
     ∙ ap (λ (x : Infinitesimal). Some (in_order (half side) (infinitesimal_of bound) x)) (sym is)
     ∙ ap Some (sym order)
 
+pub below_or_last : (n k : ℕ) → k < n + 1 → (k < n) ⊎ (k ≡ n)
+below_or_last n k less = grind (arith, less)
+
 -- the values of the first forms are numbers, with one more
 pub numbers_more : (t : Theory) (n : ℕ) → AreNumbers n (value_of t) → IsNumber (value_of t n).standard × IsNumber (value_of t n).coefficient → AreNumbers (n + 1) (value_of t)
 numbers_more t n before last k less =
-    elim (below_or_last k less) [
+    elim (below_or_last n k less) [
       | inl below ↦ before k below
       | inr same ↦ subst (λ (m : ℕ). IsNumber (value_of t m).standard × IsNumber (value_of t m).coefficient) (sym same) last
     ]
-  where
-    below_or_last : (i : ℕ) → i < n + 1 → (i < n) ⊎ (i ≡ n)
-    below_or_last i h = grind (arith, h)
 
 -- the bound of a pair
 pub bound_of_pair : (t : Theory) (k : ℕ) (side : Side) (pair : Pair) → pair_on t k side ≡ Some pair → (b : Infinitesimal) × (bound_in t.simplex.asserted side k ≡ Some b) × (pair ≡ in_order (half side) b (value_of t k))
@@ -171,10 +164,6 @@ some_is (Some x) h = refl
 bound_is : (ns : List Node) (s : State) (side : Side) (k : ℕ) → bound_on (half side) (position_over ns s) k ≡ bound_in s.asserted side k
 bound_is ns s Lower k = refl
 bound_is ns s Upper k = refl
-
-side_of : bland.Side → Side
-side_of lower_side = Lower
-side_of upper_side = Upper
 
 module _ (t : Theory) (ns : List Node) (over : IsOver ns t.simplex) (sound : IsSound t.simplex) where
   abbrev p : Position
@@ -251,9 +240,6 @@ module _ (t : Theory) (ns : List Node) (over : IsOver ns t.simplex) (sound : IsS
           | inl same ↦ Contains-append_right (pairs_below t m) (pairs_of t m) pair (subst (λ (i : ℕ). Contains (pairs_of t i) pair) same (in_pairs k side pair is))
           | inr below ↦ Contains-append_left (pairs_below t m) (pairs_of t m) pair (below_has m k side pair below is)
         ]
-      where
-        same_or_below : (i j : ℕ) → i < suc j → (i ≡ j) ⊎ (i < j)
-        same_or_below i j h = grind (arith, h)
 
     -- a form has one value in numbers
     one_value : (k : ℕ) (x : Infinitesimal) → k < n → HasValue p k x → IsNumber x.standard × IsNumber x.coefficient → x ≡ value_of t k

@@ -40,7 +40,7 @@ use Rattle.nz_log.specs.Logs.{Entry, LogState, Puts, axiom_entry, entry_at, lite
 use Rattle.nz_log.specs.Theories.{Grows, IsClash}
 use Rattle.nz_reals.specs.Known.{Known}
 use Rattle.nz_reals.specs.Stands.{IsKnown, IsOf, IsOver}
-use Rattle.nz_reals.specs.State.{Theory, known_at, literal_over}
+use Rattle.nz_reals.specs.State.{Theory, known_at}
 use Rattle.nz_reals.specs.Sums.{is_turned, turned_sum}
 use Rattle.nz_reals.specs.Tells.{AreBoundsOf, AreKnown, AreOf, IsSumPlace, literals_of, multiples_over}
 use Rattle.nz_reals.proofs.Contradicting.{some_known, turned_names}

@@ -13,7 +13,7 @@ use Rattle.nz_spec.specs.Infinitesimal.{Infinitesimal, infinitesimal_cmp}
 use Rattle.nz_spec.specs.Literal.{Literal, TellsLiterals}
 use Rattle.nz_spec.specs.Table.{Node}
 use Rattle.nz_lin.specs.Forms.{parts_over}
-use Rattle.nz_trail.specs.Bounds.{ClashesWith, asserted}
+use Rattle.nz_trail.specs.Bounds.{ClashesWith}
 use Rattle.nz_trail.specs.declared.limits.Side.{Side}
 use Rattle.nz_log.specs.declared.atoms.Atom.{Atom}
 use Rattle.nz_log.specs.declared.lits.Lit.{Lit}
