@@ -6,8 +6,8 @@ use Rattle.nz_session.proofs.Answering.{checked_answer}
 use Rattle.nz_session.proofs.LegalWork.{right_undecided}
 use Rattle.nz_session.proofs.desk.Desk.undecided.Goals as goal
 
-pub returns-in-Ok-clause-right : goal.returns-in-Ok-clause-right
-returns-in-Ok-clause-right g c x t h e r u =
+pub returns-clause-right : goal.returns-clause-right
+returns-clause-right g c x t h e r u =
     let desk = c.args.self.now in
     let right =
     right_undecided c.normal_keeps_value.ensures.keeps desk.terms desk.live x h.live desk.limit h.bounded desk.work (record { limit = desk.limit; work = c.take.result })
