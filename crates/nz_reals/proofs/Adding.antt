@@ -1,22 +1,21 @@
 -- An atom that the theory learns of.
-use Rattle.std.proofs.Common.{◌≡◌, ◌==◌, ℕ, ◌<◌, ◌⊎◌, inl, inr, Bool, true, false, List, [], ◌∷◌, ◌++◌, map, length, Option, Some, None, refl, sym, ap, ◌∙◌, subst, true≢false, if◌then◌else◌, arith}
+use Rattle.std.proofs.Common.{◌≡◌, ◌==◌, ℕ, Bool, true, false, List, [], ◌∷◌, ◌++◌, Option, Some, None, refl, sym, ap, ◌∙◌, subst, if◌then◌else◌}
 use Rattle.std.specs.Prelude.{IsSome, IsTrue, slice_get, slice_index_or}
-use Rattle.std.specs.List.{AllByRecursion}
 use Rattle.std.proofs.lemmas.List.Elements.{All-push, All-weaker}
+use Rattle.nz_tab.proofs.Numbers.{equal-number, same-number}
 use Rattle.nz_spec.specs.Farkas.{bound_of, is_linear_literal}
-use Rattle.nz_spec.specs.Legal.{Search, literal_by}
+use Rattle.nz_spec.specs.Legal.{literal_by}
 use Rattle.nz_spec.specs.Literal.{Literal, is_at_most}
 use Rattle.nz_spec.specs.LiteralBounds.{turned}
 use Rattle.nz_spec.specs.Table.{IsTable, Node}
 use Rattle.nz_spec.specs.Work.{WorkList}
 use Rattle.nz_lin.specs.declared.bound.Bound.{Bound}
-use Rattle.nz_lin.specs.declared.form.Part.{Part}
 use Rattle.nz_lin.specs.Bounds.{HasUnits}
 use Rattle.nz_lin.specs.Forms.{AreUnits, parts_over}
 use Rattle.nz_log.specs.declared.atoms.Atom.{Atom}
 use Rattle.nz_log.specs.declared.atoms.Atom.TheVariants.{Term, AtMost}
 use Rattle.nz_log.specs.declared.note.Note.{Note}
-use Rattle.nz_log.specs.Atoms.{AreAtoms, IsLitIn, IsNormal, literal_in}
+use Rattle.nz_log.specs.Atoms.{AreAtoms, IsLitIn, IsNormal}
 use Rattle.nz_log.specs.Standing.{search_after}
 use Rattle.nz_reals.specs.Joins.{AddsForm, IsAtomFor, IsNamedSum, IsNumberIn, MayAddSum, MayJoinBound, MayLearn}
 use Rattle.nz_reals.specs.Known.{IsSaidOf, Known}
@@ -75,16 +74,10 @@ of_added old mid new atoms ids id b s k of adds simplex at normal nonzero sum fo
       All-push (λ (i : ℕ). (x : Atom) × (slice_get atoms i ≡ Some x) × IsKnownAtom new i x) ids id
       (All-weaker (λ (i : ℕ). (x : Atom) × (slice_get atoms i ≡ Some x) × IsKnownAtom old i x) (λ (i : ℕ). (x : Atom) × (slice_get atoms i ≡ Some x) × IsKnownAtom new i x)
       (λ i a. (a.0, a.1, still i a.0 a.2)) ids of.all)
-      (AtMost b, at, subst IsSome (sym (kept id ∙ ap (λ (t : Bool). if t then Some k else known_at mid id) (number_itself id))) refl);
+      (AtMost b, at, subst IsSome (sym (kept id ∙ ap (λ (t : Bool). if t then Some k else known_at mid id) (equal-number id id refl))) refl);
   right = λ i j knows. by_test i j (i == id) refl (sym (kept i) ∙ knows);
 }
   where
-    number_itself : (n : ℕ) → (n == n) ≡ true
-    number_itself n = grind arith
-
-    number_told : (m n : ℕ) → (m == n) ≡ true → m ≡ n
-    number_told m n f = grind (arith, f)
-
     same : (i : ℕ) → known_at mid i ≡ known_at old i
     same i = ap (λ (ks : List (Option Known)). slice_index_or ks i None) adds.known
 
@@ -100,7 +93,7 @@ of_added old mid new atoms ids id b s k of adds simplex at normal nonzero sum fo
     by_test i j true e f =
         let equal : k ≡ j = cc in (
           b,
-          ap (slice_get atoms) (number_told i id e) ∙ at,
+          ap (slice_get atoms) (same-number i id e) ∙ at,
           subst (IsKnown new b) equal (record {
             normal = normal;
             sum = nonzero;

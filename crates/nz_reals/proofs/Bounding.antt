@@ -1,5 +1,6 @@
 -- What a literal says of the forms, as the definitions find it: the first form that is its sum, or the sum with the other signs.
-use Rattle.std.proofs.Common.{◌≡◌, ℕ, zero, suc, ◌+◌, ◌<◌, ◌⊎◌, inl, inr, Bool, true, false, List, [], ◌∷◌, map, length, Option, Some, None, refl, sym, ap, ◌∙◌, subst, true≢false, arith, pos}
+use Rattle.std.proofs.Common.{◌≡◌, ℕ, zero, suc, ◌+◌, ◌<◌, ◌⊎◌, inl, inr, Bool, true, false, List, [], ◌∷◌, map, length, Option, Some, refl, sym, ap, ◌∙◌, true≢false, arith, pos}
+use Rattle.std.proofs.lemmas.Bool.{false_from_ne_true}
 use Rattle.std.specs.Prelude.{option_map, slice_get, slice_index_or, if◌then◌else◌}
 use Rattle.std.specs.List.{AllByRecursion}
 use Rattle.std.proofs.lemmas.List.{length-map}
@@ -9,7 +10,7 @@ use Rattle.nz_fractions.specs.Fraction.{Fraction, fraction_lt, neg_ℚ, whole}
 use Rattle.nz_spec.specs.Bland.{at_least_bound, at_most_bound, Side, lower_side, upper_side}
 use Rattle.nz_spec.specs.Form as spec
 use Rattle.nz_spec.specs.Form.{negated_part}
-use Rattle.nz_spec.specs.Literal.{Literal, StandOnce, TellsLiterals, are_same_parts, is_at_most}
+use Rattle.nz_spec.specs.Literal.{StandOnce, TellsLiterals, are_same_parts, is_at_most}
 use Rattle.nz_spec.specs.LiteralBounds.{FormBound, bound_on_side, bound_said, bounded_from, sum_bound}
 use Rattle.nz_spec.specs.Table.{Node, HasOneNumberEach}
 use Rattle.nz_lin.specs.declared.bound.Bound.{Bound}
@@ -19,7 +20,7 @@ use Rattle.nz_trail.specs.declared.limits.Side.TheVariants as trail
 use Rattle.nz_log.specs.declared.lits.Lit.{Lit}
 use Rattle.nz_log.specs.Atoms.{with_sign}
 use Rattle.nz_simplex.specs.Standing.{half}
-use Rattle.nz_reals.specs.Known.{IsSaidOf, Known, Said, form_bound, no_of, said_by, said_on, yes_of}
+use Rattle.nz_reals.specs.Known.{Known, Said, form_bound, no_of, said_on, yes_of}
 use Rattle.nz_reals.specs.Stands.{IsKnown, IsOver}
 use Rattle.nz_reals.specs.State.{Theory, known_at, literal_over}
 use Rattle.nz_reals.specs.Stored.{AreForms}
@@ -64,10 +65,6 @@ found_from (f ∷ fs) k (suc v) ps side less other found =
 
 -- ---- Forms and their negatives
 
-to_false : (b : Bool) → (b ≡ true → ⊥) → b ≡ false
-to_false true f = absurd (f refl)
-to_false false f = refl
-
 module _ (ns : List Node) (one : HasOneNumberEach ns) (tells : TellsLiterals) where
   -- the first coefficients are above 0, so the one isn't the other's negative, but for the empty sum
   not_negated : (f g : List Part) → IsFormSum f → IsFormSum g → parts_over ns f ≡ map negated_part (parts_over ns g) → parts_over ns f ≡ parts_over ns g
@@ -99,22 +96,25 @@ module _ (ns : List Node) (one : HasOneNumberEach ns) (tells : TellsLiterals) wh
           let g = slice_index_or fs i [] in
           let there : slice_get fs i ≡ Some g = slice_get-get_or fs i [] (omega (arith, less, inside)) in
           let same : parts_over ns g ≡ parts_over ns f → ⊥ = λ e.
-              let equal : g ≡ f = one_sum ns one g f (at_of (AreUnits ns) fs units i g there).names (at_of (AreUnits ns) fs units v f at).names e in
-              let number = single i v g there (at ∙ ap Some (sym equal)) in
-              omega (arith, less, number)
-          in
-          (λ e. same (sym (over_at i g there) ∙ e),
-          λ e. same (not_negated g f (at_of IsFormSum fs sums i g there) (at_of IsFormSum fs sums v f at) (sym (over_at i g there) ∙ e)))
+          let equal : g ≡ f = one_sum ns one g f (at_of (AreUnits ns) fs units i g there).names (at_of (AreUnits ns) fs units v f at).names e in
+          let number = single i v g there (at ∙ ap Some (sym equal)) in
+          omega (arith, less, number)
+          in (
+            λ e. same (sym (over_at i g there) ∙ e),
+            λ e. same (not_negated g f (at_of IsFormSum fs sums i g there) (at_of IsFormSum fs sums v f at) (sym (over_at i g there) ∙ e)),
+          )
 
       others : (ps : List spec.Part) → (ps ≡ parts_over ns f) ⊎ (ps ≡ map negated_part (parts_over ns f)) → (i : ℕ) → i < v → IsOther (at_form over i) ps
       others ps (inl is) i less =
-          let no = apart i less in
-          (to_false (are_same_parts (at_form over i) ps) (λ t. no.0 (sums_told tells (at_form over i) ps t ∙ is)),
-          to_false (are_same_parts (at_form over i) (map negated_part ps)) (λ t. no.1 (sums_told tells (at_form over i) (map negated_part ps) t ∙ ap (map negated_part) is)))
+          let no = apart i less in (
+            false_from_ne_true (are_same_parts (at_form over i) ps) (λ t. no.0 (sums_told tells (at_form over i) ps t ∙ is)),
+            false_from_ne_true (are_same_parts (at_form over i) (map negated_part ps)) (λ t. no.1 (sums_told tells (at_form over i) (map negated_part ps) t ∙ ap (map negated_part) is)),
+          )
       others ps (inr is) i less =
-          let no = apart i less in
-          (to_false (are_same_parts (at_form over i) ps) (λ t. no.1 (sums_told tells (at_form over i) ps t ∙ is)),
-          to_false (are_same_parts (at_form over i) (map negated_part ps)) (λ t. no.0 (sums_told tells (at_form over i) (map negated_part ps) t ∙ ap (map negated_part) is ∙ parts_back (parts_over ns f))))
+          let no = apart i less in (
+            false_from_ne_true (are_same_parts (at_form over i) ps) (λ t. no.1 (sums_told tells (at_form over i) ps t ∙ is)),
+            false_from_ne_true (are_same_parts (at_form over i) (map negated_part ps)) (λ t. no.0 (sums_told tells (at_form over i) (map negated_part ps) t ∙ ap (map negated_part) is ∙ parts_back (parts_over ns f))),
+          )
 
       inside : v < length over
       inside = let h = slice_get_within fs v f at in omega (arith, h, length-map fs (parts_over ns))
@@ -128,7 +128,7 @@ module _ (ns : List Node) (one : HasOneNumberEach ns) (tells : TellsLiterals) wh
       found_lower : (ps : List spec.Part) → ps ≡ map negated_part (parts_over ns f) → (parts_over ns f ≡ map negated_part (parts_over ns f) → ⊥) → bounded_from 0 over ps ≡ Some (v, lower_side)
       found_lower ps is differs =
           found_from over 0 v ps lower_side inside (others ps (inr is)) (
-            to_false (are_same_parts (at_form over v) ps) (λ t. differs (sym (over_at v f at) ∙ sums_told tells (at_form over v) ps t ∙ is)),
+            false_from_ne_true (are_same_parts (at_form over v) ps) (λ t. differs (sym (over_at v f at) ∙ sums_told tells (at_form over v) ps t ∙ is)),
             ap (λ (x : List spec.Part). are_same_parts x (map negated_part ps)) (over_at v f at ∙ sym (ap (map negated_part) is ∙ parts_back (parts_over ns f))) ∙ sums_same tells (map negated_part ps),
           )
           ∙ ap (λ (n : ℕ). let x : Option (ℕ × Side) = Some (n, lower_side) in x) (omega arith)

@@ -1,19 +1,24 @@
 -- Where a list of work leads when a form has joined.
-use Rattle.std.proofs.Common.{◌≡◌, ℕ, zero, suc, ◌<◌, Bool, true, false, List, [], ◌∷◌, ◌++◌, map, take, length, Option, Some, None, Result, Ok, Err, refl, sym, ap, ◌∙◌, subst, true≢false, arith, pos}
-use Rattle.std.specs.Prelude.{◌==◌, ◌&&◌, ◌||◌, Contains, IfErr, OnOk, fold, is_some, option_map, slice_get, if◌then◌else◌}
+use Rattle.std.proofs.Common.{◌≡◌, ℕ, suc, ◌<◌, Bool, true, false, List, [], ◌∷◌, ◌++◌, map, take, length, Some, Result, Ok, Err, refl, sym, ap, ◌∙◌, subst, true≢false, arith, pos}
+use Rattle.std.specs.Cmp.{first_so}
+use Rattle.std.specs.Prelude.{◌==◌, ◌&&◌, ◌||◌, IfErr, OnOk, fold, is_some, option_map, slice_get, if◌then◌else◌}
 use Rattle.std.specs.List.{AllByRecursion, list_any}
 use Rattle.std.proofs.lemmas.List.{map-append}
 use Rattle.std.proofs.lemmas.List.Sums.{fold_push}
+use Rattle.nz_reals.proofs.Joining.{some_suc}
+use Rattle.nz_tab.proofs.Numbers.{equal-number, same-number, other-number}
 use Rattle.nz_lists.proofs.Elements.{AllByRecursion-append}
 use Rattle.nz_lists.proofs.Tests.{same_tests}
 use Rattle.nz_fractions.specs.Fraction.{whole}
-use Rattle.nz_spec.specs.Bland.{Point, Position, lower_side, upper_side}
+use Rattle.nz_spec.specs.BasisMoves.{JoinsKeepBasis}
+use Rattle.nz_spec.specs.Bland.{Point, Position}
 use Rattle.nz_spec.specs.Form as spec
 use Rattle.nz_spec.specs.Form.{unit_form}
-use Rattle.nz_spec.specs.Legal.{AreLegal, Lead, LegalWorkGoesOn, MayJoin, Search, Task, after_line, after_lines, at_first, no_point, position_of, sum_of_atom, told_literals}
-use Rattle.nz_spec.specs.Literal.{Literal, TellsLiterals, are_same_literal, are_same_parts, term_literal}
+use Rattle.nz_spec.specs.FormOf.{TermHasItsNumber}
+use Rattle.nz_spec.specs.Legal.{AreLegal, Lead, LegalWorkGoesOn, Search, Task, after_line, after_lines, at_first, no_point, position_of, sum_of_atom, told_literals}
+use Rattle.nz_spec.specs.Literal.{Literal, TellsLiterals, are_same_literal, term_literal}
 use Rattle.nz_spec.specs.LiteralBounds as bounds
-use Rattle.nz_spec.specs.LiteralBounds.{is_unit_alone, joined, position_under, tightest, with_new_unit}
+use Rattle.nz_spec.specs.LiteralBounds.{is_unit_alone, joined, with_new_unit}
 use Rattle.nz_spec.specs.Notes.{form_note}
 use Rattle.nz_spec.specs.PositionMoves.{with_form, with_unit}
 use Rattle.nz_spec.specs.Same.{are_same_fraction, are_same_term}
@@ -21,7 +26,7 @@ use Rattle.nz_spec.specs.Table.{Node, HasOneNumberEach, OneNumber, term_in}
 use Rattle.nz_spec.specs.Term.{Term}
 use Rattle.nz_spec.specs.Work.{WorkList, NoteLine, with_line}
 use Rattle.nz_lin.specs.declared.form.Part.{Part}
-use Rattle.nz_lin.specs.Forms.{AreInOrder, AreUnits, NamesUnit, part_over, parts_over}
+use Rattle.nz_lin.specs.Forms.{AreInOrder, AreUnits, NamesUnit, parts_over}
 use Rattle.nz_tab.specs.Units.{is_form_of, is_one, is_unit_form, new_units, unit_number, unit_of}
 use Rattle.nz_trail.specs.declared.limits.Side.TheVariants.{Lower, Upper}
 use Rattle.nz_log.specs.declared.note.Note.{Note}
@@ -30,36 +35,20 @@ use Rattle.nz_log.specs.Notes.{noted_line, noted_list}
 use Rattle.nz_log.specs.declared.place.Place.{Place}
 use Rattle.nz_log.specs.declared.stop.Stop.{Stop}
 use Rattle.nz_log.specs.declared.stop.Stop.TheVariants.{Wide, Spent, Memory}
+use Rattle.nz_log.specs.Places.{IsPlaceIn}
 use Rattle.nz_log.specs.Standing.{Ends, IsStoppedAt, Standing, Stands, search_after}
 use Rattle.nz_simplex.specs.Moves.{joined_over, unit_terms, with_all_units}
 use Rattle.nz_simplex.specs.Standing.{Held, bound_in}
 use Rattle.nz_simplex.specs.State as simplex_state
-use Rattle.nz_simplex.specs.State.{State, point_in, position_over}
+use Rattle.nz_simplex.specs.State.{IsSound, State, point_in, position_over}
 use Rattle.nz_reals.specs.declared.reals.Told.{Told}
 use Rattle.nz_reals.specs.Joins.{AddsForm, IsNamedSum, StopsJoining}
 use Rattle.nz_reals.specs.Stands.{AreBounds, HasTold, IsAt, IsOver}
 use Rattle.nz_reals.specs.State.{Theory, literal_over, told_lits}
-use Rattle.nz_reals.proofs.Elements.{each_of}
+use Rattle.nz_reals.proofs.JoiningRows.{joining_place}
 use Rattle.nz_reals.proofs.Standing.{position_is}
 
 -- ---- The same units
-
-and_first : (a b : Bool) → (a && b) ≡ true → a ≡ true
-and_first true b e = refl
-and_first false b e = e
-
-number_itself : (n : ℕ) → (n == n) ≡ true
-number_itself n = grind arith
-
-number_told : (k n : ℕ) → (k == n) ≡ true → k ≡ n
-number_told k n f = grind (arith, f)
-
-number_other : (k n : ℕ) → (k ≡ n → ⊥) → (k == n) ≡ false
-number_other k n other = by_test (k == n) refl
-  where
-    by_test : (b : Bool) → (k == n) ≡ b → b ≡ false
-    by_test true e = absurd (other (number_told k n e))
-    by_test false e = refl
 
 both_true : (a b : Bool) → b ≡ true → (a && b) ≡ a
 both_true true b e = e
@@ -67,7 +56,7 @@ both_true false b e = refl
 
 module _ (ns : List Node) (one : HasOneNumberEach ns) (tells : TellsLiterals) where
   term_itself : (t : Term) → are_same_term t t ≡ true
-  term_itself t = and_first (are_same_term t t) true (tells.one (term_literal t true))
+  term_itself t = first_so (are_same_term t t) true (tells.one (term_literal t true))
 
   term_told : (t u : Term) → are_same_term t u ≡ true → t ≡ u
   term_told t u e =
@@ -78,8 +67,8 @@ module _ (ns : List Node) (one : HasOneNumberEach ns) (tells : TellsLiterals) wh
   unit_tested : (p : Part) (u : ℕ) → p.unit < length ns → u < length ns → are_same_term (term_in ns p.unit) (term_in ns u) ≡ (p.unit == u)
   unit_tested p u h k =
       same_tests (are_same_term (term_in ns p.unit) (term_in ns u)) (p.unit == u)
-      (λ e. let same : p.unit ≡ u = one p.unit u h k (term_told (term_in ns p.unit) (term_in ns u) e) in ap (λ (n : ℕ). n == u) same ∙ number_itself u)
-      (λ e. ap (λ (n : ℕ). are_same_term (term_in ns n) (term_in ns u)) (number_told p.unit u e) ∙ term_itself (term_in ns u))
+      (λ e. let same : p.unit ≡ u = one p.unit u h k (term_told (term_in ns p.unit) (term_in ns u) e) in ap (λ (n : ℕ). n == u) same ∙ equal-number u u refl)
+      (λ e. ap (λ (n : ℕ). are_same_term (term_in ns n) (term_in ns u)) (same-number p.unit u e) ∙ term_itself (term_in ns u))
 
   alone_test : (g : List Part) (u : ℕ) → AllByRecursion (NamesUnit ns) g → u < length ns → is_unit_alone (parts_over ns g) (term_in ns u) ≡ is_form_of u g
   alone_test [] u names k = refl
@@ -99,10 +88,6 @@ module _ (ns : List Node) (one : HasOneNumberEach ns) (tells : TellsLiterals) wh
       by_tests false true = refl
       by_tests false false = refl
 
-  some_suc : (o : Option ℕ) → is_some (option_map suc o) ≡ is_some o
-  some_suc None = refl
-  some_suc (Some n) = refl
-
   any_is : (gs : List (List Part)) (u : ℕ) → AllByRecursion (AreUnits ns) gs → u < length ns → list_any (λ f. is_unit_alone f (term_in ns u)) (map (parts_over ns) gs) ≡ is_some (unit_number gs u)
   any_is [] u units k = refl
   any_is (g ∷ gs) u units k =
@@ -115,7 +100,7 @@ module _ (ns : List Node) (one : HasOneNumberEach ns) (tells : TellsLiterals) wh
       by_test false h = h ∙ sym (some_suc (unit_number gs u))
 
   some_pushed : (gs : List (List Part)) (p : Part) (u : ℕ) → (p.unit ≡ u → ⊥) → is_some (unit_number (gs ++ unit_of p ∷ []) u) ≡ is_some (unit_number gs u)
-  some_pushed [] p u other = ap (λ (b : Bool). is_some (if b && is_one (whole (pos 1)) then Some 0 else option_map suc (unit_number [] u))) (number_other p.unit u other)
+  some_pushed [] p u other = ap (λ (b : Bool). is_some (if b && is_one (whole (pos 1)) then Some 0 else option_map suc (unit_number [] u))) (other-number p.unit u other)
   some_pushed (g ∷ gs) p u other = by_test (is_form_of u g) (some_pushed gs p u other)
     where
       by_test : (b : Bool) → is_some (unit_number (gs ++ unit_of p ∷ []) u) ≡ is_some (unit_number gs u)
@@ -270,21 +255,33 @@ module _ (ns : List Node) (q : Task) (work : WorkList Note) (number : ℕ) where
         no_told [] e r y at = cc
         no_told (t ∷ ts) e r y at = cc
 
-    -- where a form joins, or doesn't
-    pub form_ends : (new : Theory) (r : Result ℕ Stop) → AddsForm old new f → OnOk r ((ms : List Node) → IsOver old ms → AreUnits ms f → position_over ms new.simplex ≡ joined_over ms old.simplex f)
-        → IfErr r (StopsJoining old f) → ((place : Place) → StopsJoining old f (Wide place) → IsStoppedAt ns q later place) → Ends (IsAt new ns) ns q later r
-    form_ends new (Ok v) adds is stops wide = stands_then new adds (is ns stands.at.over units)
-    form_ends new (Err (Wide place)) adds is stops wide = wide place stops
-    form_ends new (Err Spent) adds is stops wide = absurd stops
-    form_ends new (Err Memory) adds is stops wide = (P.point, legal_then)
+    module _ (law : JoinsKeepBasis) (numbers : TermHasItsNumber) (sound : IsSound old.simplex) where
+      stops_there : (place : Place) → StopsJoining old f (Wide place) → IsStoppedAt ns q later place
+      stops_there place stops = record {
+        point = P.point;
+        legal = legal_then;
+        leaves =
+            subst (λ (fs : List (List spec.Part)). IsPlaceIn ns fs (told_literals (search_after ns later)) P.point place) (sym then_forms)
+            (subst (λ (ls : List Literal). IsPlaceIn ns P.forms ls P.point place) (sym then_told)
+            (subst (IsPlaceIn ns P.forms [] P.point) (λ i. record { wide = place.wide; site = sym stops.0 i })
+            (joining_place ns old.simplex f sound law numbers stands.at.over units place.wide (stops.4 ns stands.at.over units) stops.1 stops.2 stops.3)));
+      }
+
+      -- where a form joins, or doesn't
+      pub form_ends : (new : Theory) (r : Result ℕ Stop) → AddsForm old new f → OnOk r ((ms : List Node) → IsOver old ms → AreUnits ms f → position_over ms new.simplex ≡ joined_over ms old.simplex f)
+          → IfErr r (StopsJoining old f) → Ends (IsAt new ns) ns q later r
+      form_ends new (Ok v) adds is stops = stands_then new adds (is ns stands.at.over units)
+      form_ends new (Err (Wide place)) adds is stops = stops_there place stops
+      form_ends new (Err Spent) adds is stops = absurd stops
+      form_ends new (Err Memory) adds is stops = (P.point, legal_then)
 
 -- ---- Other results
 
 -- an error says the same of any result
-pub ends_err : {A B : Type 0} (IsThere : Standing) (ns : List Node) (q : Task) (work : WorkList Note) (e : Stop) → Ends {A = A} IsThere ns q work (Err e) → Ends {A = B} IsThere ns q work (Err e)
-ends_err IsThere ns q work (Wide place) h = h
-ends_err IsThere ns q work Spent h = h
-ends_err IsThere ns q work Memory h = h
+pub ends_err : (A B : Type 0) (IsThere : Standing) (ns : List Node) (q : Task) (work : WorkList Note) (e : Stop) → Ends {A = A} IsThere ns q work (Err e) → Ends {A = B} IsThere ns q work (Err e)
+ends_err A B IsThere ns q work (Wide place) h = h
+ends_err A B IsThere ns q work Spent h = h
+ends_err A B IsThere ns q work Memory h = h
 
 -- the lines of a list at which a theory stands are legal
 pub stands_legal : (IsThere : Standing) (ns : List Node) (q : Task) (work : WorkList Note) → Stands IsThere ns q work → AreLegal q (noted_list ns work).lines

@@ -1,15 +1,18 @@
 -- Forms when a sum has joined: each stands once, and is found.
-use Rattle.std.proofs.Common.{◌≡◌, ℕ, zero, suc, ◌+◌, ◌<◌, ◌≤◌, ◌⊎◌, inl, inr, Bool, true, false, List, [], ◌∷◌, ◌++◌, map, length, Option, Some, None, refl, sym, ap, ap₂, ◌∙◌, subst, true≢false, arith, append-nil, append_assoc, length-append, pos}
-use Rattle.std.specs.Prelude.{◌==◌, ◌&&◌, Contains, IsSome, is_some, option_map, slice_get, slice_index_or, if◌then◌else◌}
+use Rattle.std.proofs.Common.{◌≡◌, ℕ, zero, suc, ◌+◌, ◌<◌, ◌⊎◌, inl, inr, Bool, true, false, List, [], ◌∷◌, ◌++◌, map, length, Option, Some, None, refl, sym, ap, ◌∙◌, subst, true≢false, arith, append-nil, append_assoc, pos}
+use Rattle.std.specs.Prelude.{◌==◌, ◌&&◌, Contains, is_some, option_map, slice_get, slice_index_or, if◌then◌else◌}
 use Rattle.std.specs.List.{AllByRecursion}
 use Rattle.std.specs.Ordering.{int_eq}
 use Rattle.std.specs.Cmp.{first_so, second_so, signed_Decides}
-use Rattle.std.proofs.lemmas.List.Elements.{Contains-append_cases, Contains-append_left, Contains-push_cases}
+use Rattle.std.proofs.lemmas.List.Elements.{Contains-append_cases, Contains-push_cases}
 use Rattle.std.proofs.lemmas.Option.{slice_get-get_or, slice_get_within}
+use Rattle.nz_tab.proofs.Numbers.{equal-number, same-number}
 use Rattle.nz_lists.proofs.Elements.{AllByRecursion-append, AllByRecursion-weaker}
 use Rattle.nz_lists.proofs.Places.{slice_get_kept, slice_get-push_cases}
-use Rattle.nz_fractions.specs.Fraction.{Fraction, whole, denominator, fraction_eq, fraction_lt}
-use Rattle.nz_spec.specs.Form as spec
+use Rattle.nz_lists.proofs.Tests.{same_tests}
+use Rattle.nz_fractions.specs.Fraction.{Fraction, IsNumber, whole, denominator, fraction_eq, fraction_lt}
+use Rattle.nz_fractions.proofs.Laws.{lowest-same, =ℚ-from_same}
+use Rattle.nz_fractions.proofs.Order.{fraction_eq-same, same-fraction_eq}
 use Rattle.nz_spec.specs.Literal.{StandOnce}
 use Rattle.nz_spec.specs.Table.{Node, HasOneNumberEach, OneNumber, term_in}
 use Rattle.nz_spec.specs.Term.{is_zero}
@@ -36,16 +39,10 @@ use Rattle.nz_reals.proofs.Tolds.{slice_get_last}
 
 -- ---- Units among forms
 
-number_itself : (n : ℕ) → (n == n) ≡ true
-number_itself n = grind arith
-
-number_told : (k n : ℕ) → (k == n) ≡ true → k ≡ n
-number_told k n f = grind (arith, f)
-
 unit_alone : (p : Part) → is_form_of p.unit (unit_of p) ≡ true
-unit_alone p = ap (λ (b : Bool). b && is_one (whole (pos 1))) (number_itself p.unit)
+unit_alone p = ap (λ (b : Bool). b && is_one (whole (pos 1))) (equal-number p.unit p.unit refl)
 
-some_suc : (o : Option ℕ) → is_some (option_map suc o) ≡ is_some o
+pub some_suc : (o : Option ℕ) → is_some (option_map suc o) ≡ is_some o
 some_suc None = refl
 some_suc (Some n) = refl
 
@@ -205,18 +202,25 @@ module _ (old new : State) (f : List Part) (v : ℕ) (joined : IsJoined old new 
 
 -- ---- A unit alone
 
-one_is : (q : Fraction) → is_one q ≡ true → q ≡ whole (pos 1)
+pub one_is : (q : Fraction) → is_one q ≡ true → q ≡ whole (pos 1)
 one_is q e =
     let numerator = (signed_Decides q.numerator (pos 1)).0 (first_so (int_eq q.numerator (pos 1)) (q.below == 0) e) in
-    let below = number_told q.below 0 (second_so (int_eq q.numerator (pos 1)) (q.below == 0) e) in
+    let below = same-number q.below 0 (second_so (int_eq q.numerator (pos 1)) (q.below == 0) e) in
     λ i. record { numerator = numerator i; below = below i }
 
+-- numbers are the same where they are equal
+pub one_test : (q : Fraction) → IsNumber q → IsNumber (whole (pos 1)) → fraction_eq q (whole (pos 1)) ≡ is_one q
+one_test q number one =
+    same_tests (fraction_eq q (whole (pos 1))) (is_one q)
+    (λ e. ap is_one (lowest-same (same-fraction_eq q (whole (pos 1)) e) (record { lowest = number.lowest }) (record { lowest = one.lowest })))
+    (λ e. fraction_eq-same q (whole (pos 1)) (=ℚ-from_same (one_is q e)))
+
 -- over a table, what is the form of the unit is the unit alone
-alone_is : (ns : List Node) → HasOneNumberEach ns → (f g : List Part) (p : Part) → f ≡ p ∷ [] → is_unit_form f ≡ true → is_form_of p.unit g ≡ true → AreUnits ns f → AreUnits ns g → g ≡ f
+pub alone_is : (ns : List Node) → HasOneNumberEach ns → (f g : List Part) (p : Part) → f ≡ p ∷ [] → is_unit_form f ≡ true → is_form_of p.unit g ≡ true → AreUnits ns f → AreUnits ns g → g ≡ f
 alone_is ns one f [] p is unit e fs gs = absurd (true≢false (sym e))
 alone_is ns one f (q ∷ r ∷ rs) p is unit e fs gs = absurd (true≢false (sym e))
 alone_is ns one f (q ∷ []) p is unit e fs gs =
-    let name : q.unit ≡ p.unit = number_told q.unit p.unit (first_so (q.unit == p.unit) (is_one q.coefficient) e) in
+    let name : q.unit ≡ p.unit = same-number q.unit p.unit (first_so (q.unit == p.unit) (is_one q.coefficient) e) in
     let mine : q.coefficient ≡ whole (pos 1) = one_is q.coefficient (second_so (q.unit == p.unit) (is_one q.coefficient) e) in
     let theirs : p.coefficient ≡ whole (pos 1) = one_is p.coefficient (sym (ap is_unit_form is) ∙ unit) in
     let over : parts_over ns (q ∷ []) ≡ parts_over ns (p ∷ []) = λ i. record { coefficient = (mine ∙ sym theirs) i; unit = term_in ns (name i) } ∷ [] in

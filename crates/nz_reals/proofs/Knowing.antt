@@ -1,6 +1,6 @@
 -- What is known of atoms, where the theory changes otherwise.
 use Rattle.std.proofs.Common.{◌≡◌, ℕ, List, Option, Some, None, map, take, refl, sym, ap, ◌∙◌, subst, zero, suc, [], ◌∷◌}
-use Rattle.std.specs.Prelude.{All, Contains, IsSome, slice_get, slice_index_or}
+use Rattle.std.specs.Prelude.{Contains, IsSome, slice_get, slice_index_or}
 use Rattle.std.proofs.lemmas.List.Elements.{All-contains, All-weaker}
 use Rattle.nz_lin.specs.declared.bound.Bound.{Bound}
 use Rattle.nz_lin.specs.declared.form.Part.{Part}
@@ -9,8 +9,8 @@ use Rattle.nz_log.specs.declared.atoms.Atom.TheVariants.{Term, AtMost}
 use Rattle.nz_log.specs.declared.lits.Lit.{Lit}
 use Rattle.nz_reals.specs.declared.reals.Told.{Told}
 use Rattle.nz_reals.specs.Known.{Known}
-use Rattle.nz_reals.specs.Stands.{IsKnown, IsKnownAtom, IsOf}
-use Rattle.nz_reals.specs.State.{Theory, known_at, told_lits}
+use Rattle.nz_reals.specs.Stands.{IsKnownAtom, IsOf}
+use Rattle.nz_reals.specs.State.{Theory, known_at}
 use Rattle.nz_reals.specs.Sums.{turned_sum}
 
 pub of_kept : (old new : Theory) (atoms : List Atom) (ids : List ℕ) → new.known ≡ old.known → new.simplex.forms ≡ old.simplex.forms → IsOf old atoms ids → IsOf new atoms ids

@@ -1,11 +1,14 @@
 pub mod Adding
 pub mod Bounding
+pub mod Choosing
 pub mod Contradicting
 pub mod Elements
 pub mod Ending
 pub mod Joining
+pub mod JoiningRows
 pub mod Keeping
 pub mod Knowing
+pub mod Limiting
 pub mod News
 pub mod Placing
 pub mod Refuting

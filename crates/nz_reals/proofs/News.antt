@@ -1,7 +1,10 @@
 -- Whether a bound is tighter than what stands.
-use Rattle.std.proofs.Common.{◌≡◌, ℕ, zero, suc, ◌<◌, ◌⊎◌, inl, inr, Bool, true, false, List, [], ◌∷◌, ◌++◌, length, Option, Some, None, refl, sym, ap, ap₂, ◌∙◌, subst, true≢false, arith, Less, Equal, Greater, Ordering}
-use Rattle.std.specs.Prelude.{◌==◌, ◌&&◌, Any, Contains, fold, option_map, slice_index_or, if◌then◌else◌}
+use Rattle.std.proofs.Common.{◌≡◌, ℕ, ◌⊎◌, inl, inr, Bool, true, false, List, [], ◌∷◌, Option, Some, None, refl, sym, ap, ap₂, ◌∙◌, subst, true≢false, arith, Less, Equal, Greater, Ordering}
+use Rattle.std.proofs.lemmas.Bool.{false_from_ne_true}
+use Rattle.std.specs.Prelude.{◌==◌, ◌&&◌, Contains, fold, if◌then◌else◌}
 use Rattle.std.specs.Ordering.{is_lt, ordering_reverse}
+use Rattle.std.specs.Cmp.{first_so, second_so}
+use Rattle.nz_tab.proofs.Numbers.{equal-number, same-number}
 use Rattle.nz_spec.specs.Infinitesimal.{Infinitesimal, infinitesimal_cmp}
 use Rattle.nz_spec.specs.PositionMoves.{is_outside}
 use Rattle.nz_spec.proofs.InfinitesimalOrder.{at_most-less, infinitesimal_total, less-at_most, never_less, not_less}
@@ -10,7 +13,7 @@ use Rattle.nz_trail.specs.declared.limits.Side.{Side}
 use Rattle.nz_trail.specs.declared.limits.Side.TheVariants.{Lower, Upper}
 use Rattle.nz_simplex.specs.Standing.{Held, half, is_bound_of, is_news, is_side, standing, standing_with}
 use Rattle.nz_reals.proofs.Elements.{has_cases}
-use Rattle.nz_reals.proofs.Whys.{IsAmong, stands_among}
+use Rattle.nz_reals.proofs.Whys.{stands_among}
 
 -- ---- Tighter
 
@@ -23,35 +26,31 @@ less_told Less e = refl
 less_told Equal e = absurd (true≢false (sym e))
 less_told Greater e = absurd (true≢false (sym e))
 
-to_false : (b : Bool) → (b ≡ true → ⊥) → b ≡ false
-to_false true f = absurd (f refl)
-to_false false f = refl
-
 pub slack_all : (side : Side) (x y z : Infinitesimal) → Slack side x y → Slack side y z → Slack side x z
-slack_all Lower x y z h k = to_false (is_outside (half Lower) x z) (λ t.
+slack_all Lower x y z h k = false_from_ne_true (is_outside (half Lower) x z) (λ t.
     let less = less-at_most z x y (less_told (infinitesimal_cmp z x) t) (not_less x y (λ e. true≢false (sym (ap is_lt e) ∙ h))) in
     true≢false (sym (ap is_lt less) ∙ k))
-slack_all Upper x y z h k = to_false (is_outside (half Upper) x z) (λ t.
+slack_all Upper x y z h k = false_from_ne_true (is_outside (half Upper) x z) (λ t.
     let less = at_most-less y x z (not_less y x (λ e. true≢false (sym (ap is_lt e) ∙ h))) (less_told (infinitesimal_cmp x z) t) in
     true≢false (sym (ap is_lt less) ∙ k))
 
 -- what isn't tighter than something isn't tighter than what is
 slack_news : (side : Side) (x y z : Infinitesimal) → Slack side x z → is_outside (half side) y z ≡ true → Slack side x y
-slack_news Lower x y z h t = to_false (is_outside (half Lower) x y) (λ u.
+slack_news Lower x y z h t = false_from_ne_true (is_outside (half Lower) x y) (λ u.
     let less = infinitesimal_total.trans z y x (less_told (infinitesimal_cmp z y) t) (less_told (infinitesimal_cmp y x) u) in
     true≢false (sym (ap is_lt less) ∙ h))
-slack_news Upper x y z h t = to_false (is_outside (half Upper) x y) (λ u.
+slack_news Upper x y z h t = false_from_ne_true (is_outside (half Upper) x y) (λ u.
     let less = infinitesimal_total.trans x y z (less_told (infinitesimal_cmp x y) u) (less_told (infinitesimal_cmp y z) t) in
     true≢false (sym (ap is_lt less) ∙ h))
 
 slack_itself : (side : Side) (x : Infinitesimal) → Slack side x x
-slack_itself Lower x = to_false (is_outside (half Lower) x x) (λ t. never_less x (less_told (infinitesimal_cmp x x) t))
-slack_itself Upper x = to_false (is_outside (half Upper) x x) (λ t. never_less x (less_told (infinitesimal_cmp x x) t))
+slack_itself Lower x = false_from_ne_true (is_outside (half Lower) x x) (λ t. never_less x (less_told (infinitesimal_cmp x x) t))
+slack_itself Upper x = false_from_ne_true (is_outside (half Upper) x x) (λ t. never_less x (less_told (infinitesimal_cmp x x) t))
 
 -- in the words of a trail
 pub slack_is : (side : Side) (x y : Infinitesimal) → ¬ IsTighter infinitesimal_cmp side x y → Slack side x y
-slack_is Lower x y n = to_false (is_outside (half Lower) x y) (λ t. n (infinitesimal_total.antisymm x y ∙ ap ordering_reverse (less_told (infinitesimal_cmp y x) t)))
-slack_is Upper x y n = to_false (is_outside (half Upper) x y) (λ t. n (less_told (infinitesimal_cmp x y) t))
+slack_is Lower x y n = false_from_ne_true (is_outside (half Lower) x y) (λ t. n (infinitesimal_total.antisymm x y ∙ ap ordering_reverse (less_told (infinitesimal_cmp y x) t)))
+slack_is Upper x y n = false_from_ne_true (is_outside (half Upper) x y) (λ t. n (less_told (infinitesimal_cmp x y) t))
 
 is_slack : (side : Side) (x y : Infinitesimal) → Slack side x y → ¬ IsTighter infinitesimal_cmp side x y
 is_slack Lower x y h t = true≢false (sym (ap is_lt (infinitesimal_total.antisymm y x ∙ ap ordering_reverse t)) ∙ h)
@@ -105,10 +104,7 @@ side_itself Upper = refl
 
 bound_is_of : (v : ℕ) (side : Side) (e : Held) → IsOn v side e → is_bound_of v side e ≡ true
 bound_is_of v side e on =
-    ap₂ (λ (a b : Bool). a && b) (ap (λ (n : ℕ). n == v) on.var ∙ number_itself v) (ap (λ (s : Side). is_side side s) on.side ∙ side_itself side)
-  where
-    number_itself : (n : ℕ) → (n == n) ≡ true
-    number_itself n = grind arith
+    ap₂ (λ (a b : Bool). a && b) (ap (λ (n : ℕ). n == v) on.var ∙ equal-number v v refl) (ap (λ (s : Side). is_side side s) on.side ∙ side_itself side)
 
 side_told : (side other : Side) → is_side side other ≡ true → other ≡ side
 side_told Lower Lower e = refl
@@ -117,18 +113,7 @@ side_told Upper Lower e = absurd (true≢false (sym e))
 side_told Upper Upper e = refl
 
 of_bound : (v : ℕ) (side : Side) (e : Held) → is_bound_of v side e ≡ true → IsOn v side e
-of_bound v side e t = record { var = number_told e.var v (first (e.var == v) (is_side side e.side) t); side = side_told side e.side (second (e.var == v) (is_side side e.side) t) }
-  where
-    number_told : (k n : ℕ) → (k == n) ≡ true → k ≡ n
-    number_told k n f = grind (arith, f)
-
-    first : (a b : Bool) → (a && b) ≡ true → a ≡ true
-    first true b f = refl
-    first false b f = f
-
-    second : (a b : Bool) → (a && b) ≡ true → b ≡ true
-    second true b f = f
-    second false b f = absurd (true≢false (sym f))
+of_bound v side e t = record { var = same-number e.var v (first_so (e.var == v) (is_side side e.side) t); side = side_told side e.side (second_so (e.var == v) (is_side side e.side) t) }
 
 -- where one is at least as tight, what stands is
 pub implied_old : (bs : List Held) (b : Held) → IsImplied infinitesimal_cmp bs b → is_news b.side b.value (standing bs b.var b.side) ≡ false

@@ -1,12 +1,12 @@
 -- Where an operation leaves the numbers, at the places of the definitions.
-use Rattle.std.proofs.Common.{◌≡◌, ℕ, zero, suc, ◌==◌, ◌<◌, ◌⊎◌, inl, inr, Bool, true, false, List, [], ◌∷◌, ◌++◌, map, length, Option, Some, None, Result, Ok, Err, refl, sym, ap, ◌∙◌, subst, arith, pos, append_assoc, append-nil}
-use Rattle.std.specs.Prelude.{All, Contains, IfErr, IsSome, fold, is_some, option_map, slice_index_or, if◌then◌else◌}
+use Rattle.std.proofs.Common.{◌≡◌, ℕ, ◌==◌, ◌<◌, inl, Bool, true, false, List, [], ◌∷◌, ◌++◌, map, length, Option, Some, None, Result, Ok, Err, refl, sym, ap, ◌∙◌, subst, pos, append_assoc, append-nil}
+use Rattle.std.specs.Prelude.{Contains, IsSome, fold, is_some, option_map, slice_index_or, if◌then◌else◌}
 use Rattle.std.specs.List.{AllByRecursion}
 use Rattle.std.proofs.Math.Path.{fun_ext}
 use Rattle.std.proofs.lemmas.List.{length-map}
 use Rattle.std.proofs.lemmas.List.Elements.{All-contains, All-from_recursion, Contains-append_left, Contains-push}
 use Rattle.std.proofs.lemmas.Option.{slice_get-get_or, slice_get_within}
-use Rattle.nz_fractions.specs.Fraction.{Fraction, IsNumber, Operation, whole}
+use Rattle.nz_fractions.specs.Fraction.{Fraction, IsNumber, whole}
 use Rattle.nz_fractions.proofs.Laws.{=ℚ_refl}
 use Rattle.nz_spec.specs.Basis.{IsRow}
 use Rattle.nz_spec.specs.BasisMoves.{exchange}
@@ -22,7 +22,7 @@ use Rattle.nz_spec.specs.Places.{IsOfSum, IsOperationIn, IsSizeIn}
 use Rattle.nz_spec.specs.PositionMoves.{moved_within}
 use Rattle.nz_spec.specs.Pivots.{Pivot, Lead}
 use Rattle.nz_spec.specs.Table.{Node}
-use Rattle.nz_spec.specs.Work.{PivotEntry, UnitLine, WorkLine, WorkList, with_line}
+use Rattle.nz_spec.specs.Work.{PivotEntry, UnitLine, WorkList, with_line}
 use Rattle.nz_frac.specs.Operations.{operation_of}
 use Rattle.nz_lin.specs.Forms.{parts_over}
 use Rattle.nz_log.specs.declared.atoms.Atom.{Atom}
@@ -37,14 +37,13 @@ use Rattle.nz_log.specs.declared.place.Place.{Place}
 use Rattle.nz_log.specs.declared.stop.Stop.{Stop}
 use Rattle.nz_log.specs.declared.stop.Stop.TheVariants.{Wide, Spent, Memory}
 use Rattle.nz_log.specs.Places.{IsPlaceIn, IsSiteWithin, OnWide, site_of}
-use Rattle.nz_log.specs.Theories.{AddsPivots, EndsAt, Leads}
+use Rattle.nz_log.specs.Theories.{EndsAt, Leads}
 use Rattle.nz_simplex.specs.declared.answer.Place as simplex
 use Rattle.nz_simplex.specs.declared.answer.Site as simplex_site
 use Rattle.nz_simplex.specs.declared.answer.Site.TheVariants.{Row, Point as At}
 use Rattle.nz_simplex.specs.declared.answer.SimplexStop.{SimplexStop}
 use Rattle.nz_simplex.specs.declared.answer.SimplexStop.TheVariants as stops
 use Rattle.nz_simplex.specs.Checks.{Answers, IsPlace, IsRefuted, IsSite, site_operations}
-use Rattle.nz_simplex.specs.Standing.{Held}
 use Rattle.nz_simplex.specs.State.{IsSound, State, nonbasic_in, point_in, position_over, value_in}
 use Rattle.nz_reals.specs.declared.reals.Told.{Told}
 use Rattle.nz_reals.specs.Known.{Known}

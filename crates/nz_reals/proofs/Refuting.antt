@@ -1,21 +1,20 @@
 -- Clauses that refute: what the log has then, and where a sum leaves the numbers.
 use Rattle.std.proofs.Common.{◌≡◌, ℕ, ◌<◌, Bool, true, false, not, List, [], ◌∷◌, ◌++◌, map, length, get_or, take, ◌+◌, Option, Some, None, Result, Ok, Err, Global, refl, sym, ap, ◌∙◌, subst}
-use Rattle.std.specs.Prelude.{All, Contains, IfOk, IfErr, IsSome, IsTrue, slice_get, slice_index_or, if◌then◌else◌}
+use Rattle.std.specs.Prelude.{All, Contains, IfOk, IsSome, IsTrue, slice_get, slice_index_or, if◌then◌else◌}
 use Rattle.std.specs.List.{AllByRecursion, list_all}
 use Rattle.std.specs.declared.vec.Vec.{Vec}
 use Rattle.std.proofs.lemmas.List.Elements.{All-contains, Contains-get_or}
 use Rattle.std.proofs.lemmas.List.{map-append, take_more}
 use Rattle.nz_lists.proofs.Elements.{AllByRecursion-append}
-use Rattle.nz_fractions.specs.Fraction.{Fraction, IsNumber, Operation, first_wide, is_wide}
+use Rattle.nz_fractions.specs.Fraction.{IsNumber, Operation, first_wide, is_wide}
 use Rattle.nz_spec.specs.Farkas as farkas
 use Rattle.nz_spec.specs.Farkas.{is_contradiction, is_multiple, negations_of, sum_of_multiples}
 use Rattle.nz_spec.specs.FormOf.{number_in}
 use Rattle.nz_spec.specs.Computation.{at_once, turned_into}
-use Rattle.nz_spec.specs.Literal.{Literal, StandOnce, clause_of, once}
+use Rattle.nz_spec.specs.Literal.{StandOnce, clause_of, once}
 use Rattle.nz_spec.specs.Notes.{sum_site}
-use Rattle.nz_spec.specs.Places.{LeavesNumbers}
 use Rattle.nz_spec.specs.Steps.{farkas_step}
-use Rattle.nz_spec.specs.Table.{Node, IsTable}
+use Rattle.nz_spec.specs.Table.{Node}
 use Rattle.nz_frac.specs.declared.frac.Wide as frac
 use Rattle.nz_frac.specs.Operations.{operation_of}
 use Rattle.nz_lin.specs.declared.bound.Bound.{Bound}
@@ -28,21 +27,20 @@ use Rattle.nz_log.specs.declared.atoms.Atom.{Atom}
 use Rattle.nz_log.specs.declared.atoms.Atom.TheVariants.{AtMost}
 use Rattle.nz_log.specs.declared.lits.Lit.{Lit}
 use Rattle.nz_log.specs.declared.multiples.Multiple.{Multiple}
-use Rattle.nz_log.specs.declared.place.Place.{Place}
 use Rattle.nz_log.specs.declared.place.Site.TheVariants.{Sum}
 use Rattle.nz_log.specs.declared.stop.Stop.{Stop}
 use Rattle.nz_log.specs.declared.stop.Stop.TheVariants.{Wide}
 use Rattle.nz_log.specs.Places.{OnWide}
 use Rattle.nz_simplex.specs.Contradictions.{Contradicts}
-use Rattle.nz_log.specs.Atoms.{IsAtomIn, IsLitIn, Stay, TellsLits, literal_in}
+use Rattle.nz_log.specs.Atoms.{IsAtomIn, IsLitIn, TellsLits, literal_in}
 use Rattle.nz_log.specs.Axioms.{AreMultiplesIn, farkas_of, first_wide_in_step, multiple_in, multiples_in, negated_lits}
 use Rattle.nz_log.specs.Leveled.{AreTold, Names}
 use Rattle.nz_log.specs.Lits.{are_same_lit, negated_lit}
 use Rattle.nz_log.specs.Logs.{Entry, LogState, Puts, axiom_entry, entry_at, literals_at, told_of}
-use Rattle.nz_log.specs.Theories.{Grows, IsBoundIn, IsClash}
+use Rattle.nz_log.specs.Theories.{Grows, IsClash}
 use Rattle.nz_reals.specs.Known.{Known}
 use Rattle.nz_reals.specs.Stands.{IsKnown, IsOf, IsOver}
-use Rattle.nz_reals.specs.State.{Theory, known_at, literal_over}
+use Rattle.nz_reals.specs.State.{Theory, known_at}
 use Rattle.nz_reals.specs.Sums.{is_turned, turned_sum}
 use Rattle.nz_reals.specs.Tells.{AreBoundsOf, AreKnown, AreOf, IsSumPlace, literals_of, multiples_over}
 use Rattle.nz_reals.proofs.Contradicting.{some_known, turned_names}

@@ -1,22 +1,22 @@
 -- What is known of an atom, its literal in a log, and the bound that a literal says.
-use Rattle.std.proofs.Common.{◌≡◌, ℕ, ◌<◌, ◌≤◌, Bool, true, false, List, [], ◌∷◌, map, length, Option, Some, None, refl, sym, ap, ◌∙◌, subst, true≢false, arith, pos}
-use Rattle.std.specs.Prelude.{IsSome, ◌&&◌, slice_get, slice_index_or, if◌then◌else◌}
+use Rattle.std.proofs.Common.{◌≡◌, ℕ, ◌<◌, ◌≤◌, Bool, true, false, List, [], ◌∷◌, map, length, Option, Some, None, refl, sym, ap, ◌∙◌, subst, arith, pos}
+use Rattle.std.specs.Prelude.{◌&&◌, slice_get, if◌then◌else◌}
 use Rattle.std.specs.List.{AllByRecursion}
 use Rattle.std.proofs.lemmas.Option.{get_or_from_slice_get}
 use Rattle.std.proofs.lemmas.Int.{ints}
 use Rattle.nz_fractions.specs.Fraction.{Fraction, whole, neg_ℚ, ◌=ℚ◌, ◌*ℚ◌, ◌<ℚ◌, denominator}
-use Rattle.nz_fractions.proofs.Laws.{=ℚ_refl, =ℚ_sym, =ℚ_trans, =ℚ-from_same}
+use Rattle.nz_fractions.proofs.Laws.{=ℚ_sym, =ℚ_trans, =ℚ-from_same}
 use Rattle.nz_fractions.proofs.Arithmetic.{*ℚ_comm, *ℚ-one, neg_ℚ-same}
-use Rattle.nz_spec.specs.Basis.{Valuation, worth}
+use Rattle.nz_spec.specs.Basis.{worth}
 use Rattle.nz_spec.specs.Bland.{at_least_bound, at_most_bound}
 use Rattle.nz_spec.specs.Farkas as farkas
 use Rattle.nz_spec.specs.Form as spec
 use Rattle.nz_spec.specs.Form.{MayPrecede, Numbering, AreRising, negated_part}
 use Rattle.nz_spec.specs.FormOf.{TermHasItsNumber, number_in}
-use Rattle.nz_spec.specs.Literal.{Literal, term_literal, is_at_most, is_below, negation_of, are_same_literal, TellsLiterals}
+use Rattle.nz_spec.specs.Literal.{Literal, term_literal, is_at_most, negation_of, are_same_literal, TellsLiterals}
 use Rattle.nz_spec.specs.Same.{are_same_term}
 use Rattle.nz_spec.specs.Table.{Node, IsTable, term_in}
-use Rattle.nz_spec.specs.Term.{Term, is_zero}
+use Rattle.nz_spec.specs.Term.{is_zero}
 use Rattle.nz_lin.specs.declared.bound.Bound.{Bound}
 use Rattle.nz_lin.specs.declared.form.Part.{Part}
 use Rattle.nz_lin.specs.Bounds.{bounded}

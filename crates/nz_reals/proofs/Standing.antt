@@ -1,16 +1,15 @@
 -- Where a theory stands, when a literal is told, when the last ones are taken back, and when a check moves the point.
-use Rattle.std.proofs.Common.{◌≡◌, ℕ, zero, suc, ◌<◌, ◌≤◌, ◌⊎◌, inl, inr, Bool, true, false, List, [], ◌∷◌, ◌++◌, map, take, length, Option, Some, None, refl, sym, ap, ◌∙◌, subst, arith, min}
-use Rattle.std.specs.Prelude.{option_map, slice_get, slice_index_or}
+use Rattle.std.proofs.Common.{◌≡◌, ℕ, zero, suc, ◌≤◌, ◌⊎◌, inl, inr, true, List, [], ◌∷◌, ◌++◌, map, take, length, Option, Some, None, refl, sym, ap, ◌∙◌, subst, arith}
+use Rattle.std.specs.Prelude.{option_map, slice_get}
 use Rattle.std.specs.List.{AllByRecursion}
 use Rattle.std.proofs.lemmas.List.{length-map, map-append, take-append-le, take_all}
 use Rattle.std.proofs.lemmas.Option.{slice_get_within}
-use Rattle.nz_lists.proofs.Places.{slice_get-push_cases}
-use Rattle.nz_spec.specs.Bland.{Point, Position, NonbasicFormsFit, bound_on, lower_side, upper_side}
+use Rattle.nz_spec.specs.Bland.{Point, Position, NonbasicFormsFit, lower_side, upper_side}
 use Rattle.nz_spec.specs.Form.{Part}
 use Rattle.nz_spec.specs.Infinitesimal.{Infinitesimal}
 use Rattle.nz_spec.specs.Literal.{Literal, TellsLiterals}
 use Rattle.nz_spec.specs.LiteralBounds as bounds
-use Rattle.nz_spec.specs.LiteralBounds.{FormBound, TellingSetsBounds, bound_said, moved_by, position_under, stands_of, tightest}
+use Rattle.nz_spec.specs.LiteralBounds.{FormBound, TellingSetsBounds, bound_said, moved_by, position_under}
 use Rattle.nz_spec.specs.PositionMoves.{is_outside, with_bound}
 use Rattle.nz_spec.specs.Table.{Node, OneNumber}
 use Rattle.nz_lin.specs.Forms.{AreUnits, parts_over}
@@ -22,12 +21,12 @@ use Rattle.nz_log.specs.declared.atoms.Atom.{Atom}
 use Rattle.nz_log.specs.declared.lits.Lit.{Lit}
 use Rattle.nz_log.specs.Atoms.{literal_in}
 use Rattle.nz_simplex.specs.Moves.{IsBounded}
-use Rattle.nz_simplex.specs.Standing.{Held, bound_in, half, is_news, standing}
+use Rattle.nz_simplex.specs.Standing.{Held, half, is_news, standing}
 use Rattle.nz_simplex.specs.State.{IsSound, State, point_in, position_over}
 use Rattle.nz_reals.specs.declared.reals.Told.{Told}
-use Rattle.nz_reals.specs.Known.{Known, form_bound, said_by}
+use Rattle.nz_reals.specs.Known.{form_bound}
 use Rattle.nz_reals.specs.Stands.{AreBounds, IsAt, IsOf, IsOver}
-use Rattle.nz_reals.specs.State.{Theory, known_at, literal_over, sum_at, told_lits}
+use Rattle.nz_reals.specs.State.{Theory, literal_over, told_lits}
 use Rattle.nz_reals.specs.Stored.{AreForms, AreTolds}
 use Rattle.nz_reals.specs.Tells.{IsTold, held_by, told_now}
 use Rattle.nz_reals.proofs.Bounding.{said_bound}

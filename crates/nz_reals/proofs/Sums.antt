@@ -1,6 +1,7 @@
 -- Sums with the other signs, and sums over a table of terms.
-use Rattle.std.proofs.Common.{◌≡◌, zero, suc, ◌<◌, Bool, true, false, List, [], ◌∷◌, map, length, get_or, ◌≤◌, Some, refl, sym, ap, ◌∙◌, subst, true≢false, arith}
-use Rattle.std.specs.Prelude.{ℤ, pos, negsuc, neg_ℤ, int_lt, ◌&&◌, ◌*ℤ◌, if◌then◌else◌}
+use Rattle.std.proofs.Common.{◌≡◌, zero, suc, ◌<◌, Bool, true, false, List, [], ◌∷◌, map, length, get_or, ◌≤◌, refl, sym, ap, ◌∙◌, true≢false, arith}
+use Rattle.std.specs.Cmp.{first_so}
+use Rattle.std.specs.Prelude.{ℤ, pos, negsuc, neg_ℤ, int_lt, ◌&&◌, if◌then◌else◌}
 use Rattle.std.specs.List.{AllByRecursion}
 use Rattle.std.proofs.lemmas.Int.{ints}
 use Rattle.nz_fractions.specs.Fraction.{Fraction, neg_ℚ, whole, denominator, fraction_lt, fraction_eq, ◌=ℚ◌}
@@ -174,10 +175,6 @@ module _ (ns : List Node) (one : HasOneNumberEach ns) where
 
 -- ---- The test of sums
 
-and_first : (a b : Bool) → (a && b) ≡ true → a ≡ true
-and_first true b e = refl
-and_first false b e = e
-
 pub sums_told : (tells : TellsLiterals) (ps qs : List spec.Part) → are_same_parts ps qs ≡ true → ps ≡ qs
 sums_told tells ps qs e =
     let zero : Fraction = whole (pos 0) in
@@ -186,7 +183,7 @@ sums_told tells ps qs e =
     cc
 
 pub sums_same : (tells : TellsLiterals) (ps : List spec.Part) → are_same_parts ps ps ≡ true
-sums_same tells ps = and_first (are_same_parts ps ps) (are_same_fraction (whole (pos 0)) (whole (pos 0))) (tells.one (is_at_most ps (whole (pos 0))))
+sums_same tells ps = first_so (are_same_parts ps ps) (are_same_fraction (whole (pos 0)) (whole (pos 0))) (tells.one (is_at_most ps (whole (pos 0))))
 
 -- ---- A bound by its literal
 

@@ -1,39 +1,34 @@
 -- What bounds that were told are worth: literals that clash contradict.
-use Rattle.std.proofs.Common.{◌≡◌, ℕ, ◌<◌, Bool, List, [], ◌∷◌, ◌++◌, map, length, Option, Some, None, refl, sym, ap, ◌∙◌, subst, pos, false}
-use Rattle.std.specs.Prelude.{Contains, IsSome, slice_get, slice_index_or}
-use Rattle.std.specs.List.{AllByRecursion}
-use Rattle.std.proofs.lemmas.List.Elements.{Contains-append_right}
+use Rattle.std.proofs.Common.{◌≡◌, ℕ, List, [], ◌∷◌, ◌++◌, map, length, Some, refl, sym, ap, ◌∙◌, subst, pos, false}
+use Rattle.std.specs.Prelude.{slice_get, slice_index_or}
 use Rattle.std.proofs.lemmas.Option.{get_or_from_slice_get}
 use Rattle.nz_lists.proofs.Elements.{AllByRecursion-weaker}
 use Rattle.nz_lists.proofs.Places.{slice_get_kept, slice_index_or-map}
-use Rattle.nz_fractions.specs.Fraction.{Fraction, whole, ◌=ℚ◌, ◌*ℚ◌}
+use Rattle.nz_fractions.specs.Fraction.{Fraction, whole, ◌*ℚ◌}
 use Rattle.nz_fractions.proofs.Arithmetic.{*ℚ-one}
 use Rattle.nz_spec.specs.Basis.{form_at}
-use Rattle.nz_spec.specs.Farkas as farkas
 use Rattle.nz_spec.specs.Form as spec
 use Rattle.nz_spec.specs.FormOf.{TermHasItsNumber, number_in}
 use Rattle.nz_spec.specs.Infinitesimal.{Infinitesimal, infinitesimal_cmp}
 use Rattle.nz_spec.specs.Literal.{Literal, TellsLiterals}
 use Rattle.nz_spec.specs.Table.{Node}
 use Rattle.nz_lin.specs.Forms.{parts_over}
-use Rattle.nz_trail.specs.Bounds.{ClashesWith, asserted, other_side}
+use Rattle.nz_trail.specs.Bounds.{ClashesWith}
 use Rattle.nz_trail.specs.declared.limits.Side.{Side}
 use Rattle.nz_log.specs.declared.atoms.Atom.{Atom}
 use Rattle.nz_log.specs.declared.lits.Lit.{Lit}
-use Rattle.nz_log.specs.declared.multiples.Multiple.{Multiple}
 use Rattle.nz_simplex.specs.Checks.{IsRefuted}
-use Rattle.nz_simplex.specs.Contradictions.{AreMultiplesFor, AreSaid, ClashesContradict, IsSaid, SaysBound, both_once}
+use Rattle.nz_simplex.specs.Contradictions.{AreMultiplesFor, AreSaid, ClashesContradict, IsSaid, SaysBound}
 use Rattle.nz_simplex.specs.SaidBounds.{LiteralsSayBounds, SumsStay}
 use Rattle.nz_simplex.specs.Standing.{Held}
 use Rattle.nz_simplex.specs.State.{position_over}
 use Rattle.nz_reals.specs.declared.reals.Told.{Told}
 use Rattle.nz_reals.specs.Known.{Known, said_by}
 use Rattle.nz_reals.specs.Stands.{IsOf, IsOver}
-use Rattle.nz_reals.specs.State.{Theory, known_at, lit_at, literal_over}
+use Rattle.nz_reals.specs.State.{Theory, known_at, literal_over}
 use Rattle.nz_reals.specs.Stored.{AreTolds, IsBacked}
 use Rattle.nz_reals.specs.Sums.{turned_sum}
 use Rattle.nz_reals.specs.Tells.{AreKnown, Clashes, Refutes, both, held_by, multiple_at, multiples_over, told_now}
-use Rattle.nz_reals.proofs.Elements.{each_of, has_first}
 use Rattle.nz_reals.proofs.Refuting.{known_units}
 use Rattle.nz_reals.proofs.Saying.{form_is, known_says, literal_of_known, sum_over}
 use Rattle.nz_reals.proofs.Tolds.{clash_known, slice_get_last}

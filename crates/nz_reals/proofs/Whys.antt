@@ -1,11 +1,11 @@
 -- What the reasons and multipliers of a clash are.
 use Rattle.std.proofs.Common.{◌≡◌, ℕ, zero, suc, ◌<◌, ◌⊎◌, inl, inr, Bool, true, false, List, [], ◌∷◌, ◌++◌, length, Option, Some, None, refl, sym, ap, ◌∙◌, subst, arith, pos}
+use Rattle.std.specs.Cmp.{first_so}
 use Rattle.std.specs.Prelude.{Contains, flat_map, fold, option_map, unwrap_or, ◌&&◌, if◌then◌else◌}
 use Rattle.std.specs.List.{AllByRecursion}
 use Rattle.nz_lists.proofs.Elements.{AllByRecursion-append}
-use Rattle.nz_fractions.specs.Fraction.{Fraction, whole, neg_ℚ, ◌=ℚ◌, ◌<ℚ◌}
+use Rattle.nz_fractions.specs.Fraction.{Fraction, whole, neg_ℚ, ◌=ℚ◌}
 use Rattle.nz_fractions.proofs.Laws.{=ℚ_refl}
-use Rattle.nz_spec.specs.Basis.{Coefficients}
 use Rattle.nz_spec.specs.BasisMoves.{numbers}
 use Rattle.nz_spec.specs.Bland as bland
 use Rattle.nz_spec.specs.Bland.{bound_on}
@@ -16,7 +16,7 @@ use Rattle.nz_spec.specs.Term.{is_zero}
 use Rattle.nz_trail.specs.Bounds.{other_side}
 use Rattle.nz_trail.specs.declared.limits.Side.{Side}
 use Rattle.nz_trail.specs.declared.limits.Side.TheVariants.{Lower, Upper}
-use Rattle.nz_simplex.specs.Checks.{IsRefuted, holding_side, multiplier, multipliers}
+use Rattle.nz_simplex.specs.Checks.{IsRefuted, holding_side, multiplier}
 use Rattle.nz_simplex.specs.Choices.{is_below_zero, size_of}
 use Rattle.nz_simplex.specs.Standing.{Held, bound_in, half, is_bound_of, is_news, reason_in, standing, standing_with}
 use Rattle.nz_simplex.specs.State.{State, nonbasic_in, position_over}
@@ -30,10 +30,6 @@ pub record IsAmong (bs : List Held) (v : ℕ) (side : Side) (b : Held) : Type 0 
   pub has : Contains bs b
   pub of : is_bound_of v side b ≡ true
 
-and_first : (a b : Bool) → (a && b) ≡ true → a ≡ true
-and_first true b e = refl
-and_first false b e = e
-
 among_more : (x : Held) (xs : List Held) (v : ℕ) (side : Side) (b : Held) → IsAmong xs v side b → IsAmong (x ∷ xs) v side b
 among_more x xs v side b h = record { has = has_more x b xs h.has; of = h.of }
 
@@ -44,7 +40,7 @@ stands_from (x ∷ xs) v side o b e = by_rest (stands_from xs v side (standing_w
     by_test : (t : Bool) → (is_bound_of v side x && is_news side x.value o) ≡ t → (if t then Some x else o) ≡ Some b → (o ≡ Some b) ⊎ IsAmong (x ∷ xs) v side b
     by_test true t f =
         let same : x ≡ b = cc in
-        inr (subst (IsAmong (x ∷ xs) v side) same (record { has = has_first x xs; of = and_first (is_bound_of v side x) (is_news side x.value o) t }))
+        inr (subst (IsAmong (x ∷ xs) v side) same (record { has = has_first x xs; of = first_so (is_bound_of v side x) (is_news side x.value o) t }))
     by_test false t f = inl f
 
     by_rest : (standing_with v side o x ≡ Some b) ⊎ IsAmong xs v side b → (o ≡ Some b) ⊎ IsAmong (x ∷ xs) v side b
@@ -114,7 +110,8 @@ module _ (ns : List Node) (s : State) (r : IsRefuted ns s) (P : ℕ × Fraction 
 
   pub why_each : length (position_over ns s).forms ≡ length s.forms → AllByRecursion P s.why
   why_each same =
-      subst (AllByRecursion P) (sym r.why)
-      (held r.side r.broken (whole (pos 1)) r.bound r.refutes.bounded (inl (=ℚ_refl (whole (pos 1)))),
-      each_flat P (multiplier s.asserted r.side r.row) (numbers (length s.forms) (nonbasic_in s))
-      (numbers_below (λ (k : ℕ). AllByRecursion P (multiplier s.asserted r.side r.row k)) (length s.forms) (nonbasic_in s) (λ k less. one_held k (omega (arith, less, same)))))
+      subst (AllByRecursion P) (sym r.why) (
+        held r.side r.broken (whole (pos 1)) r.bound r.refutes.bounded (inl (=ℚ_refl (whole (pos 1)))),
+        each_flat P (multiplier s.asserted r.side r.row) (numbers (length s.forms) (nonbasic_in s))
+            (numbers_below (λ (k : ℕ). AllByRecursion P (multiplier s.asserted r.side r.row k)) (length s.forms) (nonbasic_in s) (λ k less. one_held k (omega (arith, less, same)))),
+      )

@@ -77,9 +77,9 @@ pub record IsNamedSum (ns : List Node) (f : List Part) (number : ℕ) (work : Wo
   pub may : MayJoin (search_after ns work) number
   pub sum : sum_of_atom (search_after ns work) number ≡ parts_over ns f
 
--- why a sum doesn't join: want of memory, or the first operation on its row that leaves the numbers
+-- why a sum doesn't join: want of memory, or the first operation on its row that leaves the numbers; a unit alone has no row
 abbrev pub StopsJoining : Theory → List Part → Stop → Type 0
-StopsJoining t f (Wide place) = (place.site ≡ Joining) × IsNumber place.wide.a × IsNumber place.wide.b
+StopsJoining t f (Wide place) = (place.site ≡ Joining) × (is_unit_form f ≡ false) × IsNumber place.wide.a × IsNumber place.wide.b
     × ((ns : List Node) → IsOver t ns → AreUnits ns f → JoinStops ns t.simplex f (tab.Wide place.wide))
 StopsJoining t f Spent = ⊥
 StopsJoining t f Memory = ⊤

@@ -1,14 +1,12 @@
 -- What is known of atoms stays known where atoms join.
 use Rattle.std.proofs.Common.{◌≡◌, ℕ, List, Some}
-use Rattle.std.specs.Prelude.{All, slice_get}
+use Rattle.std.specs.Prelude.{slice_get}
 use Rattle.std.proofs.lemmas.List.Elements.{All-weaker}
-use Rattle.nz_lin.specs.declared.bound.Bound.{Bound}
 use Rattle.nz_log.specs.declared.atoms.Atom.{Atom}
 use Rattle.nz_log.specs.declared.atoms.Atom.TheVariants.{AtMost}
 use Rattle.nz_log.specs.Atoms.{Stay}
-use Rattle.nz_reals.specs.Known.{Known}
-use Rattle.nz_reals.specs.State.{Theory, known_at}
-use Rattle.nz_reals.specs.Stands.{IsKnown, IsKnownAtom, IsOf}
+use Rattle.nz_reals.specs.State.{Theory}
+use Rattle.nz_reals.specs.Stands.{IsKnownAtom, IsOf}
 
 pub of_stays : (t : Theory) (old new : List Atom) (ids : List ℕ) → IsOf t old ids → Stay old new → IsOf t new ids
 of_stays t old new ids of stay = record {

@@ -1,5 +1,5 @@
 -- What an atom says of a form of a simplex, and what its negation says.
-use Rattle.std.specs.Prelude.{◌≡◌, ℕ, Bool, true, false, List, [], ◌∷◌, map, pos, negsuc, if◌then◌else◌}
+use Rattle.std.specs.Prelude.{◌≡◌, ℕ, Bool, true, false, List, [], ◌∷◌, map, if◌then◌else◌}
 use Rattle.nz_fractions.specs.Fraction.{Fraction, neg_ℚ}
 use Rattle.nz_spec.specs.Infinitesimal.{Infinitesimal}
 use Rattle.nz_spec.specs.Bland.{at_least_bound, at_most_bound}

@@ -2,6 +2,7 @@ pub mod Chosen
 pub mod Joins
 pub mod Knowing
 pub mod Known
+pub mod Limits
 pub mod Stands
 pub mod State
 pub mod Stored

@@ -1,5 +1,5 @@
 -- What the theory was told, what it knows, and where it stands.
-use Rattle.std.specs.Prelude.{◌≡◌, ℕ, List, map, take, All, Contains, Option, Some, None, IsSome, slice_get, false, ⊤}
+use Rattle.std.specs.Prelude.{◌≡◌, ℕ, List, map, take, All, Some, IsSome, slice_get, false, ⊤}
 use Rattle.nz_spec.specs.Bland.{Point, lower_side, upper_side}
 use Rattle.nz_spec.specs.Form.{Part}
 use Rattle.nz_spec.specs.Literal as spec
@@ -17,7 +17,7 @@ use Rattle.nz_simplex.specs.State as simplex
 use Rattle.nz_simplex.specs.State.{point_in}
 use Rattle.nz_reals.specs.declared.reals.Told.{Told}
 use Rattle.nz_reals.specs.Known.{Known, IsSaidOf}
-use Rattle.nz_reals.specs.State.{Theory, known_at, sum_at, told_lits, literal_over}
+use Rattle.nz_reals.specs.State.{Theory, known_at, told_lits, literal_over}
 use Rattle.nz_reals.specs.Sums.{AreNonzero, turned_sum}
 
 -- it was told these literals, the oldest first

@@ -1,5 +1,5 @@
 -- What a contract sees of the theory.
-use Rattle.std.specs.Prelude.{◌≡◌, ℕ, List, [], Option, Some, None, map, option_map, slice_index_or, false}
+use Rattle.std.specs.Prelude.{ℕ, List, [], Option, Some, None, map, option_map, slice_index_or, false}
 use Rattle.nz_spec.specs.Literal as spec
 use Rattle.nz_spec.specs.Literal.{term_literal}
 use Rattle.nz_spec.specs.Table.{Node, term_in}

@@ -1,5 +1,5 @@
 -- What the fields of the theory are.
-use Rattle.std.specs.Prelude.{◌≡◌, ℕ, ◌<◌, ◌≤◌, false, List, length, Option, Some, None, slice_get}
+use Rattle.std.specs.Prelude.{◌≡◌, ℕ, ◌<◌, ◌≤◌, false, List, length, Option, Some, slice_get}
 use Rattle.std.specs.List.{AllByRecursion}
 use Rattle.nz_spec.specs.Literal.{StandOnce}
 use Rattle.nz_spec.specs.Table.{Node}
@@ -11,7 +11,7 @@ use Rattle.nz_simplex.specs.Standing.{Held}
 use Rattle.nz_simplex.specs.State.{State, IsOver}
 use Rattle.nz_tab.specs.Units.{is_unit_form}
 use Rattle.nz_reals.specs.declared.reals.Told.{Told}
-use Rattle.nz_reals.specs.Known.{Known, Said, said_by}
+use Rattle.nz_reals.specs.Known.{Known, said_by}
 use Rattle.nz_reals.specs.State.{Theory, known_at}
 use Rattle.nz_reals.specs.Sums.{IsFormSum, zero_bound}
 

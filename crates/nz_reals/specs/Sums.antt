@@ -1,5 +1,5 @@
 -- Sums of units as they join a simplex: with a first coefficient that isn't below 0.
-use Rattle.std.specs.Prelude.{◌≡◌, ◌<◌, Bool, false, List, [], ◌∷◌, map, pos, if◌then◌else◌, ⊤}
+use Rattle.std.specs.Prelude.{◌≡◌, Bool, false, List, [], ◌∷◌, map, pos, if◌then◌else◌}
 use Rattle.std.specs.List.{AllByRecursion}
 use Rattle.nz_fractions.specs.Fraction.{whole, fraction_lt}
 use Rattle.nz_spec.specs.Term.{is_zero}

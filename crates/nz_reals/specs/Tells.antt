@@ -5,7 +5,7 @@ use Rattle.nz_fractions.specs.Fraction.{Fraction, whole}
 use Rattle.nz_spec.specs.Farkas as farkas
 use Rattle.nz_spec.specs.Farkas.{sum_of_multiples}
 use Rattle.nz_spec.specs.FormOf.{number_in}
-use Rattle.nz_spec.specs.Infinitesimal.{Infinitesimal, infinitesimal_cmp}
+use Rattle.nz_spec.specs.Infinitesimal.{infinitesimal_cmp}
 use Rattle.nz_spec.specs.Notes.{sum_site}
 use Rattle.nz_spec.specs.Places.{LeavesNumbers}
 use Rattle.nz_spec.specs.Table.{Node}
@@ -35,7 +35,7 @@ use Rattle.nz_simplex.specs.Standing.{Held}
 use Rattle.nz_reals.specs.declared.reals.Told.{Told}
 use Rattle.nz_reals.specs.Known.{Known, said_by}
 use Rattle.nz_reals.specs.Stands.{IsOver}
-use Rattle.nz_reals.specs.State.{Theory, known_at, lit_at, literal_over, told_lits}
+use Rattle.nz_reals.specs.State.{Theory, known_at, lit_at, literal_over}
 
 -- ---- A literal that is told
 

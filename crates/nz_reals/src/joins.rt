@@ -21,8 +21,8 @@ use nz_base::{Memory, Work};
 use nz_lin::Bound;
 use nz_log::{Atom, AtomId, Log, Note, Site, Stop};
 use nz_spec::basis::joins_keep_basis;
-use nz_spec::deciding::telling_sets_bounds;
 use nz_spec::derivation::tells_literals;
+use nz_spec::form::term_has_its_number;
 use nz_spec::table::one_number;
 use nz_spec::work::legal_work_goes_on;
 use nz_tab::TabStop;
@@ -70,13 +70,15 @@ impl Reals {
         ensures form { IfOk result (λ v. slice_get self.new.simplex.forms v ≡ Some sum.sides.parts) }
         ensures adds { AddsForm self.old self.new sum.sides.parts }
         ensures lines { NotesForm number work.old work.new }
+        ensures unspent { IfErr result (λ e. e ≡ stop.Spent → ⊥) }
         ensures ends { (ns : List Node) (q : Task) → AreUnits ns sum.sides.parts → IsNamedSum ns sum.sides.parts number work.old → Stands (IsAt self.old ns) ns q work.old → Ends (IsAt self.new ns) ns q work.new result }
     {
         joins_keep_basis();
-        telling_sets_bounds();
         tells_literals();
         one_number();
         legal_work_goes_on();
+        term_has_its_number();
+        stored(self);
         if let Some(var) = self.find(&sum)? {
             return Ok(var);
         }
@@ -106,6 +108,7 @@ impl Reals {
         ensures adds { AddsForm self.old self.new sum.sides.parts }
         ensures position { OnOk result ((ns : List Node) → IsOver self.old ns → AreUnits ns sum.sides.parts → position_over ns self.new.simplex ≡ joined_over ns self.old.simplex sum.sides.parts) }
         ensures stops { IfErr result (StopsJoining self.old sum.sides.parts) }
+        ensures unspent { IfErr result (λ e. e ≡ stop.Spent → ⊥) }
         ensures unchanged { OnErr result (self.new ≡ self.old) }
     {
         one_number();

@@ -1,10 +1,9 @@
 //! Bounds on sums of units over a simplex: which the theory knows, and which it was told.
-ghost use Rattle.std.specs.Prelude.{◌≡◌, ◌<◌, ℕ, List, [], ◌∷◌, All, Contains, IfOk, IfSome, IsSome, Ok, None, length, map, Some};
-ghost use Rattle.nz_frac.specs.Operations.{operation_of};
+ghost use Rattle.std.specs.Prelude.{◌≡◌, ◌<◌, ℕ, List, [], All, Contains, IfOk, IfSome, IsSome, Ok, None, length, map, Some};
 ghost use Rattle.nz_log.specs.declared.atoms.Atom.{Atom};
 ghost use Rattle.nz_simplex.specs.State.{IsSound};
 ghost use Rattle.nz_reals.specs.Known.{known_of, said_by, said_of};
-ghost use Rattle.nz_reals.specs.Stands.{HasTold, IsOf};
+ghost use Rattle.nz_reals.specs.Stands.{IsOf};
 ghost use Rattle.nz_reals.specs.State.{empty_theory, known_at, told_lits};
 ghost use Rattle.nz_reals.specs.Stored.{AreForms, AreTolds};
 ghost use Rattle.nz_reals.specs.Tells.{AreKnown, Clashes, IsTold, Refutes, both, multiple_at};

@@ -1,6 +1,6 @@
 //! Clauses that say why literals aren't true together.
-ghost use Rattle.std.specs.Prelude.{◌≡◌, ℕ, List, All, Contains, IfErr, IfOk, map};
-ghost use Rattle.nz_spec.specs.Table.{IsTable, Node};
+ghost use Rattle.std.specs.Prelude.{◌≡◌, ℕ, List, All, IfErr, IfOk};
+ghost use Rattle.nz_spec.specs.Table.{Node};
 ghost use Rattle.nz_log.specs.declared.lits.Lit.{Lit};
 ghost use Rattle.nz_log.specs.declared.stop.Stop.TheVariants as stop;
 ghost use Rattle.nz_log.specs.Axioms.{AreMultiplesIn};
@@ -66,11 +66,7 @@ pub(crate) fn stopped(wide: Wide, site: Site) -> Stop
 }
 
 /// The bounds of these literals, with their multipliers.
-fn bounds_of(
-    alloc: Global,
-    log: &Log,
-    multiples: &[Multiple],
-) -> Result<Vec<lin::Multiple>, Memory>
+fn bounds_of(alloc: Global, log: &Log, multiples: &[Multiple]) -> Result<Vec<lin::Multiple>, Memory>
     requires bounds { All (λ m. IsBoundIn log.now m.literal) multiples.now }
     ensures bounds { IfOk result (λ bs. (ns : List Node) → AreMultiplesIn ns log.now.atoms multiples.now → AreBoundsOf ns log.now.atoms multiples.now bs.items) }
 {

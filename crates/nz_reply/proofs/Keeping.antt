@@ -7,7 +7,7 @@ use Rattle.nz_spec.specs.Farkas as farkas
 use Rattle.nz_spec.specs.Gates.{holds}
 use Rattle.nz_spec.specs.Notes as notes
 use Rattle.nz_spec.specs.Notes.{atom_note, term_site, sum_site}
-use Rattle.nz_spec.specs.Table.{Node, TermStays, term_in}
+use Rattle.nz_spec.specs.Table.{Node, TermStays}
 use Rattle.nz_spec.specs.Term.{sort_of}
 use Rattle.nz_spec.specs.Work.{WorkLine, UnitLine, NoteLine, WorkList}
 use Rattle.nz_spec.specs.Reply as spec
@@ -16,7 +16,7 @@ use Rattle.nz_frac.specs.Operations.{operation_of}
 use Rattle.nz_lin.specs.declared.bound.Bound.{Bound}
 use Rattle.nz_lin.specs.declared.bound.Multiple.{Multiple}
 use Rattle.nz_lin.specs.declared.form.Part.{Part}
-use Rattle.nz_lin.specs.Bounds.{bounded, literal_over, multiple_over, multiples_over, HasUnits}
+use Rattle.nz_lin.specs.Bounds.{bounded, literal_over, multiples_over, HasUnits}
 use Rattle.nz_lin.specs.Forms.{NamesUnit, parts_over}
 use Rattle.nz_sexpr.specs.Packed.{packed_heard_view}
 use Rattle.nz_log.specs.declared.note.Note.{Note}

@@ -186,15 +186,15 @@ impl<E: Decide> Desk<E> {
                 self.last = Some(LastAnswer::Refutation);
                 said(Reply::Unsat)
             }
-            Err(Stop::Spent) => self.undecided(Reason::UnitsSpent(self.limit), None),
-            Err(Stop::Wide(place)) => self.undecided(Reason::Wide(place.wide), Some(place)),
+            Err(Stop::Spent) => self.undecided(&Reason::UnitsSpent(self.limit), None),
+            Err(Stop::Wide(place)) => self.undecided(&Reason::Wide(place.wide), Some(place)),
             Err(Stop::Memory) => said(Reply::Error(Error::OutOfMemory)),
         }
     }
 
     /// The answer where a check wasn't decided, which is kept for `get-info`.
-    fn undecided(&mut self, reason: Reason, place: Option<Place>) -> Answer
-        ensures right { (c : Context) (tree : script.Tree) → Holds E.levels E.table self.old c → outcome_of c.state tree ≡ accepted (check_sat []) → reason_of reason ≡ reason_by self.old.limit place → IsUndecided self.old.terms self.old.live.asserted self.old.limit self.old.work place → IsAnswer E.levels E.table c (intact tree) result self.new }
+    fn undecided(&mut self, reason: &Reason, place: Option<Place>) -> Answer
+        ensures right { (c : Context) (tree : script.Tree) → Holds E.levels E.table self.old c → outcome_of c.state tree ≡ accepted (check_sat []) → reason_of reason.now ≡ reason_by self.old.limit place → IsUndecided self.old.terms self.old.live.asserted self.old.limit self.old.work place → IsAnswer E.levels E.table c (intact tree) result self.new }
         ensures terms { table_of self.new ≡ table_of self.old }
     {
         normal_keeps_value();
@@ -205,9 +205,9 @@ impl<E: Decide> Desk<E> {
         let Ok(cause) = cause_of(self.alloc, place, done) else {
             return said(Reply::Error(Error::OutOfMemory));
         };
-        self.last = Some(LastAnswer::Undecided(reason));
+        self.last = Some(LastAnswer::Undecided(*reason));
         Answer {
-            reply: Reply::Unknown(reason),
+            reply: Reply::Unknown(*reason),
             cause,
             exits: false,
         }

@@ -1,5 +1,5 @@
-use Rattle.std.proofs.Common.{◌≡◌, ap, sym, ◌∙◌}
-use Rattle.nz_fractions.specs.Fraction.{Fraction, fraction_lt}
+use Rattle.std.proofs.Common.{ap, sym, ◌∙◌}
+use Rattle.nz_fractions.specs.Fraction.{fraction_lt}
 use Rattle.nz_delta.proofs.LimitLemmas.{lt-cmp}
 use Rattle.nz_reals.proofs.Sums.{turned_first}
 use Rattle.nz_reals.proofs.forms.is_turned.Goals as goal

@@ -1,14 +1,11 @@
-use Rattle.std.proofs.Common.{◌≡◌, ap, sym, ◌∙◌, subst, Bool, true, false, List, map, if◌then◌else◌, rules}
-use Rattle.std.specs.Prelude.{pos}
-use Rattle.nz_fractions.specs.Fraction.{Fraction, whole}
-use Rattle.nz_spec.specs.Table.{IsTable, Node}
-use Rattle.nz_spec.specs.Literal.{Literal, is_at_most}
+use Rattle.std.proofs.Common.{◌≡◌, ap, sym, ◌∙◌, subst, Bool, true, false, map, if◌then◌else◌, rules}
+use Rattle.nz_fractions.specs.Fraction.{Fraction}
+use Rattle.nz_spec.specs.Literal.{is_at_most}
 use Rattle.nz_lin.specs.declared.bound.Bound.{Bound}
-use Rattle.nz_lin.specs.declared.form.Part.{Part}
 use Rattle.nz_lin.specs.Bounds.{HasUnits}
-use Rattle.nz_lin.specs.Forms.{AreUnits, negated, parts_over}
+use Rattle.nz_lin.specs.Forms.{negated, parts_over}
 use Rattle.nz_reals.specs.Sums.{is_turned, turned_sum, zero_bound}
-use Rattle.nz_reals.proofs.Sums.{negated_units, negation_over, zero_bound_is}
+use Rattle.nz_reals.proofs.Sums.{negation_over, zero_bound_is}
 use Rattle.nz_reals.proofs.forms.zeroed.Goals as goal
 
 pub returns-then-is_turned : goal.returns-then-is_turned

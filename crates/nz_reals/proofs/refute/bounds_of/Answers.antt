@@ -1,12 +1,9 @@
-use Rattle.std.proofs.Common.{◌≡◌, List, sym, ap, ◌∙◌, subst, rules, arith, take, length, ◌≤◌, ◌+◌, Some}
+use Rattle.std.proofs.Common.{◌≡◌, List, sym, subst, rules, arith, take, ◌+◌, Some}
 use Rattle.std.specs.Prelude.{slice_get}
 use Rattle.nz_lin.specs.declared.bound.Bound.{Bound}
 use Rattle.nz_log.specs.declared.atoms.Atom.TheVariants.{AtMost}
 use Rattle.std.proofs.lemmas.List.{take_all}
-use Rattle.nz_spec.specs.Table.{Node}
-use Rattle.nz_lin.specs.declared.bound.Multiple as lin
 use Rattle.nz_log.specs.declared.multiples.Multiple.{Multiple}
-use Rattle.nz_log.specs.Axioms.{AreMultiplesIn}
 use Rattle.nz_reals.specs.Tells.{AreBoundsOf}
 use Rattle.nz_reals.proofs.Refuting.{bounds_more, lit_among}
 use Rattle.nz_reals.proofs.refute.bounds_of.Goals as goal

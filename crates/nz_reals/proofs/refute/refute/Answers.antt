@@ -1,19 +1,13 @@
-use Rattle.std.proofs.Common.{rules, ◌≡◌, List, sym, ap, ◌∙◌, subst, Some, Result, Ok, Err}
-use Rattle.std.specs.Prelude.{All, IfErr, OnErr, slice_get}
+use Rattle.std.proofs.Common.{◌≡◌, List, sym, subst, Some}
+use Rattle.std.specs.Prelude.{All, slice_get}
 use Rattle.std.proofs.lemmas.List.Elements.{All-from_recursion}
-use Rattle.nz_spec.specs.Table.{IsTable, Node}
 use Rattle.nz_spec.specs.Steps.{farkas_step}
 use Rattle.nz_lin.specs.Stops.{IsStopAt}
 use Rattle.nz_lin.specs.declared.bound.Bound.{Bound}
 use Rattle.nz_log.specs.declared.atoms.Atom.{Atom}
 use Rattle.nz_log.specs.declared.atoms.Atom.TheVariants.{AtMost}
 use Rattle.nz_log.specs.declared.multiples.Multiple.{Multiple}
-use Rattle.nz_log.specs.declared.stop.Stop.{Stop}
 use Rattle.nz_log.specs.Axioms.{AreMultiplesIn, first_wide_in_step, multiples_in}
-use Rattle.nz_log.specs.Logs.{LogState}
-use Rattle.nz_log.specs.Theories.{Grows}
-use Rattle.nz_log.specs.Places.{OnWide}
-use Rattle.nz_reals.specs.Stands.{IsOver}
 use Rattle.nz_reals.specs.Tells.{AreBoundsOf}
 use Rattle.nz_reals.proofs.Contradicting.{contradict_in}
 use Rattle.nz_reals.proofs.Refuting.{all_bounds, all_in, clash_is, sum_stops, told_then}

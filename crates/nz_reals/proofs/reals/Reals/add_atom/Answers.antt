@@ -1,5 +1,5 @@
-use Rattle.std.proofs.Common.{rules, ◌≡◌, ◌<◌, ℕ, List, Option, Some, Result, Ok, Err, length, map, sym, ap, ◌∙◌, subst}
-use Rattle.std.specs.Prelude.{slice_get}
+use Rattle.std.proofs.Common.{rules, ◌≡◌, ◌<◌, ℕ, Some, Err, length, map, sym, ap, ◌∙◌, subst}
+use Rattle.std.specs.Prelude.{slice_get, ⊤}
 use Rattle.std.proofs.lemmas.Option.{slice_get_within}
 use Rattle.nz_log.specs.declared.stop.Stop.TheVariants.{Memory}
 use Rattle.nz_log.specs.Standing.{Ends}
@@ -35,7 +35,7 @@ returns-in_err-var-clause-ends c = λ ns q lit known stands.
     let e = c.in_err-var.field-0.0 in
     let stop : c.from_residual-in_err-var.result ≡ Err e = search rules in
     subst (λ r. Ends (IsAt c.form_for.new.self ns) ns q c.form_for.new.work r) (sym stop)
-    (ends_err {A = ℕ} (IsAt c.form_for.new.self ns) ns q c.form_for.new.work e (c.in_err-var.ensures.ends ns q units named stands))
+    (ends_err ℕ ⊤ (IsAt c.form_for.new.self ns) ns q c.form_for.new.work e (c.in_err-var.ensures.ends ns q units named stands))
 
 pub keep-requires-clause-form : goal.keep-requires-clause-form
 keep-requires-clause-form c =

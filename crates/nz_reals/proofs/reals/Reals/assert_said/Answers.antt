@@ -1,14 +1,12 @@
-use Rattle.std.proofs.Common.{rules, ◌≡◌, ◌≢◌, ◌++◌, ◌∷◌, [], ℕ, List, Option, Some, Ok, inl, inr, get_or, length, sym, ap, ◌∙◌, subst, arith}
-use Rattle.std.specs.Prelude.{slice_get}
+use Rattle.std.proofs.Common.{rules, ◌≡◌, ◌++◌, ◌∷◌, [], List, Some, Ok, inl, inr, get_or, length, sym, ap, ◌∙◌, subst, arith}
 use Rattle.std.specs.HashMap.{get}
 use Rattle.std.proofs.lemmas.Option.{get_or_from_slice_get, slice_get_within}
 use Rattle.nz_log.specs.Keys.{are_same_atom}
-use Rattle.nz_simplex.specs.State.{State}
 use Rattle.nz_reals.specs.declared.reals.Told.{Told}
 use Rattle.nz_reals.specs.Known.{known_of, said_of}
 use Rattle.nz_reals.specs.State.{Theory, known_at, known_list}
 use Rattle.nz_reals.specs.Stored.{IsStored}
-use Rattle.nz_reals.specs.Tells.{Clashes, IsTold, told_now}
+use Rattle.nz_reals.specs.Tells.{Clashes, told_now}
 use Rattle.nz_reals.proofs.Tolds.{clash_place, clashes_here, stored_more, told_here}
 use Rattle.nz_reals.proofs.reals.Reals.assert_said.Goals as goal
 

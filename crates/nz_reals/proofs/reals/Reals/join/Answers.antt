@@ -1,4 +1,4 @@
-use Rattle.std.proofs.Common.{rules, ◌≡◌, ℕ, List, Option, Some, None, ◌⊎◌, inl, inr, Bool, true, false, sym, ap, ◌∙◌, subst}
+use Rattle.std.proofs.Common.{◌≡◌, Some, sym, ap, ◌∙◌, subst}
 use Rattle.std.specs.Prelude.{OnOk}
 use Rattle.std.specs.HashMap.{Updates, get}
 use Rattle.nz_lin.specs.Forms.{Numbered}
@@ -8,7 +8,6 @@ use Rattle.nz_log.specs.Keys.{are_same_atom}
 use Rattle.nz_simplex.specs.Moves.{IsJoined}
 use Rattle.nz_reals.specs.Joins.{AddsForm, IsFree, MayAddSum}
 use Rattle.nz_reals.specs.State.{Theory, known_list}
-use Rattle.nz_reals.specs.Stored.{IsStored}
 use Rattle.nz_reals.specs.Sums.{zero_bound}
 use Rattle.nz_reals.proofs.Joining.{adds_form, key_apart, key_decided, finds_then, form_then, forms_then, tolds_then}
 use Rattle.nz_reals.proofs.reals.Reals.join.Goals as goal

@@ -1,12 +1,7 @@
-use Rattle.std.proofs.Common.{rules, ◌≡◌, ◌==◌, ◌<◌, ℕ, List, [], Option, Some, None, Result, Ok, Err, ◌⊎◌, inl, inr, Bool, true, false, length, sym, ap, ◌∙◌, subst, if◌then◌else◌}
-use Rattle.std.specs.Prelude.{OnOk, OnErr, option_map, slice_index_or}
-use Rattle.std.specs.HashMap.{get}
-use Rattle.nz_lists.proofs.Places.{slice_index_or-map}
-use Rattle.nz_log.specs.Keys.{are_same_atom}
-use Rattle.nz_reals.specs.declared.forms.Bounded.{Bounded}
-use Rattle.nz_reals.specs.Known.{Known, known_of}
+use Rattle.std.proofs.Common.{◌≡◌, ◌==◌, ◌<◌, ℕ, [], Some, None, length, sym, ap, ◌∙◌, subst, if◌then◌else◌}
+use Rattle.std.specs.Prelude.{OnOk, slice_index_or}
+use Rattle.nz_reals.specs.Known.{known_of}
 use Rattle.nz_reals.specs.State.{Theory, known_at, known_list, told_lits}
-use Rattle.nz_reals.specs.Stored.{IsStored}
 use Rattle.nz_reals.proofs.Keeping.{keeps, known_cases}
 use Rattle.nz_reals.proofs.Joining.{kept_tolds}
 use Rattle.nz_reals.proofs.reals.Reals.keep.Goals as goal

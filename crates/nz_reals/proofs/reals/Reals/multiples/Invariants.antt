@@ -1,4 +1,4 @@
-use Rattle.std.proofs.Common.{◌≡◌, List, map, take}
+use Rattle.std.proofs.Common.{◌≡◌, map, take}
 use Rattle.nz_reals.specs.Tells.{multiple_at}
 use Rattle.nz_reals.proofs.reals.Reals.multiples.Given as goal
 

@@ -1,8 +1,8 @@
-use Rattle.std.proofs.Common.{rules, ◌≡◌, ℕ, Option, None, List, [], sym, subst}
+use Rattle.std.proofs.Common.{rules, ◌≡◌, None, sym, subst}
 use Rattle.std.specs.HashMap.{get}
 use Rattle.nz_log.specs.declared.atoms.Atom.{Atom}
 use Rattle.nz_log.specs.Keys.{are_same_atom}
-use Rattle.nz_reals.specs.State.{Theory, empty_theory, known_list}
+use Rattle.nz_reals.specs.State.{empty_theory, known_list}
 use Rattle.nz_reals.specs.Stored.{IsStored}
 use Rattle.nz_reals.proofs.Tolds.{stored_empty}
 use Rattle.nz_reals.proofs.reals.Reals.new.Goals as goal

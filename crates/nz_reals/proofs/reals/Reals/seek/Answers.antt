@@ -1,4 +1,4 @@
-use Rattle.std.proofs.Common.{rules, ◌≡◌, ℕ, List, sym, ap, ◌∙◌, subst}
+use Rattle.std.proofs.Common.{sym, ◌∙◌, subst}
 use Rattle.std.specs.Prelude.{IfErr}
 use Rattle.nz_reals.specs.State.{Theory, known_list}
 use Rattle.nz_reals.specs.Tells.{IsMoved}

@@ -1,5 +1,5 @@
-use Rattle.std.proofs.Common.{rules, ◌≡◌, ◌++◌, ◌∷◌, [], ℕ, List, Option, Some, None, Result, Ok, Err, sym, ap, ◌∙◌, subst}
-use Rattle.std.specs.Prelude.{Contains, IfErr, IfSome, IsSome}
+use Rattle.std.proofs.Common.{rules, ◌≡◌, ◌++◌, ◌∷◌, [], List, Ok, Err, sym, ap, subst}
+use Rattle.std.specs.Prelude.{Contains, IfErr, IfSome}
 use Rattle.nz_spec.specs.LiteralBounds.{moved_by}
 use Rattle.nz_log.specs.declared.lits.Lit.{Lit}
 use Rattle.nz_log.specs.declared.multiples.Multiple.{Multiple}
@@ -9,7 +9,7 @@ use Rattle.nz_log.specs.Axioms.{AreMultiplesIn}
 use Rattle.nz_log.specs.Leveled.{AreTold}
 use Rattle.nz_log.specs.Places.{IsPlaceIn, OnWide}
 use Rattle.nz_reals.specs.Stands.{IsOver}
-use Rattle.nz_reals.specs.State.{Theory, known_at, told_lits}
+use Rattle.nz_reals.specs.State.{Theory, told_lits}
 use Rattle.nz_reals.specs.Tells.{AreKnown, AreOf, IsSumPlace, IsTold, Refutes, both, literals_of}
 use Rattle.nz_reals.proofs.Contradicting.{some_known}
 use Rattle.nz_reals.proofs.Knowing.{is_known, of_kept}

@@ -1,17 +1,11 @@
-use Rattle.std.proofs.Common.{rules, ◌≡◌, ℕ, ◌<◌, List, Option, Some, None, Result, Ok, Err, length, map, sym, ap, ◌∙◌, subst}
-use Rattle.std.specs.List.{AllByRecursion}
+use Rattle.std.proofs.Common.{rules, ◌≡◌, ℕ, ◌<◌, List, Some, None, Ok, Err, length, map, sym, ap, ◌∙◌, subst}
 use Rattle.std.proofs.lemmas.List.Elements.{All-from_recursion}
 use Rattle.nz_fractions.specs.Fraction.{Fraction}
-use Rattle.nz_spec.specs.Table.{Node}
-use Rattle.nz_log.specs.declared.lits.Lit.{Lit}
 use Rattle.nz_log.specs.declared.multiples.Multiple.{Multiple}
 use Rattle.nz_log.specs.declared.stop.Stop.TheVariants.{Memory}
-use Rattle.nz_log.specs.Axioms.{AreMultiplesIn}
-use Rattle.nz_log.specs.Leveled.{AreTold}
 use Rattle.nz_log.specs.Places.{OnWide}
 use Rattle.nz_reals.specs.Stands.{IsOver}
-use Rattle.nz_reals.specs.State.{Theory, told_lits}
-use Rattle.nz_reals.specs.Tells.{AreKnown, AreOf, IsMoved, IsSumPlace, Refutes, literals_of, multiple_at}
+use Rattle.nz_reals.specs.Tells.{AreKnown, AreOf, IsSumPlace, Refutes, multiple_at}
 use Rattle.nz_reals.proofs.Knowing.{of_kept}
 use Rattle.nz_reals.proofs.Placing.{in_of_each, leads_on, leads_to_place, leads_to_stop, sum_in_check, there, told_of_each, why_known, why_of, why_told}
 use Rattle.nz_reals.proofs.Telling.{check_refutes}

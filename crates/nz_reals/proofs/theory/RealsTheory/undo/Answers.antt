@@ -1,16 +1,11 @@
-use Rattle.std.proofs.Common.{rules, ◌≡◌, ◌≤◌, ℕ, List, Option, Some, take, length, sym, ap, ◌∙◌, subst, arith}
+use Rattle.std.proofs.Common.{◌≡◌, List, Some, take, sym, ap, ◌∙◌, subst}
 use Rattle.std.specs.Prelude.{slice_get}
 use Rattle.std.specs.HashMap.{get}
-use Rattle.nz_spec.specs.Bland.{Point}
-use Rattle.nz_spec.specs.Form.{Part}
-use Rattle.nz_spec.specs.Literal.{Literal}
-use Rattle.nz_spec.specs.Table.{Node}
-use Rattle.nz_log.specs.declared.lits.Lit.{Lit}
 use Rattle.nz_log.specs.Keys.{are_same_atom}
 use Rattle.std.proofs.lemmas.Option.{slice_get-get_or}
 use Rattle.nz_reals.specs.declared.reals.Told.{Told}
 use Rattle.nz_simplex.specs.State.{State}
-use Rattle.nz_reals.specs.Stands.{HasTold, IsAt, IsOf}
+use Rattle.nz_reals.specs.Stands.{IsAt, IsOf}
 use Rattle.nz_reals.specs.State.{Theory, known_list, told_lits}
 use Rattle.nz_reals.proofs.Knowing.{of_kept, told_then}
 use Rattle.nz_reals.proofs.Standing.{undone_at}
@@ -25,7 +20,7 @@ after c = record { simplex = c.undo.new.self; known = known_list c.self.inside.b
 
 undone : (c : goal.After-truncate) → IsUndone (before c) (after c) c.args.mark c.in-Some.first.now
 undone c =
-    let at : slice_get c.self.inside.told.items c.args.mark ≡ Some c.in-Some.first.now = 
+    let at : slice_get c.self.inside.told.items c.args.mark ≡ Some c.in-Some.first.now =
     (let l = c.in-Some.ensures.lookup in
     subst (λ (ts : List Told). slice_get ts c.args.mark ≡ Some c.in-Some.first.now) c.deref.ensures.value
     (slice_get-get_or c.deref.result.now c.args.mark c.in-Some.first.now l.3.0 ∙ ap Some (sym l.1))) in

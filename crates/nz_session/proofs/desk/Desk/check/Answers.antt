@@ -1,4 +1,4 @@
-use Rattle.std.proofs.Common.{ℕ, List, [], ◌≡◌, ◌∙◌, map, Err, refl, rules, sym, ap, subst}
+use Rattle.std.proofs.Common.{◌≡◌, ℕ, List, Err, refl, sym, subst, rules}
 use Rattle.std.specs.Prelude.{All}
 use Rattle.nz_log.specs.declared.stop.Stop.TheVariants.{Wide, Spent}
 use Rattle.nz_spec.specs.Taken.{IsTakenBoolean}

@@ -6,12 +6,12 @@ use Rattle.nz_session.proofs.Answering.{checked_answer}
 use Rattle.nz_session.proofs.LegalWork.{right_undecided}
 use Rattle.nz_session.proofs.desk.Desk.undecided.Goals as goal
 
-pub returns-in-Ok-clause-right : goal.returns-in-Ok-clause-right
-returns-in-Ok-clause-right g c x t h e r u =
+pub returns-clause-right : goal.returns-clause-right
+returns-clause-right g c x t h e r u =
     let desk = c.args.self.now in
     let right =
     right_undecided c.normal_keeps_value.ensures.keeps desk.terms desk.live x h.live desk.limit h.bounded desk.work (record { limit = desk.limit; work = c.take.result })
-    c.take.ensures.lines refl c.args.place (reason_of c.args.reason) (cause_of desk.terms c.in-Ok.cause) u r (c.in-Ok.ensures.cause desk.terms) in
+    c.take.ensures.lines refl c.args.place (reason_of c.args.reason.now) (cause_of desk.terms c.in-Ok.cause) u r (c.in-Ok.ensures.cause desk.terms) in
     checked_answer g.E.Decide.levels g.E.Decide.table x t _ _ desk.last
     (record { live = h.live; sorted = h.sorted; told = h.told; front = h.front; last = h.last; bound = h.bound; values = h.values; success = h.success; bounded = h.bounded }) refl e refl right
     (c.in-Ok.ensures.within desk.terms (subst (AreNotedWithin desk.terms) (sym c.take.ensures.lines) u.noted) u.sited) tt
