@@ -60,7 +60,8 @@ told_alike old new same t h = subst (λ ts. IsSome (slice_index_or ts t None)) (
 
 -- atoms join
 pub joined_posed : (old new : LogState) (sat : SatState NoNumbers) (atoms : List ℕ) → JoinsAtoms old new → IsPosed old sat atoms → IsPosed new sat atoms
-joined_posed old new sat atoms joins = still_posed old new (λ i live. ap (λ es. unwrap_or (slice_get es i) None) joins.entries) sat atoms
+joined_posed old new sat atoms joins =
+    still_posed old new (λ i live. ap (λ es. unwrap_or (slice_get es i) None) joins.entries) (told_alike old new joins.told) joins.atoms sat atoms
 
 -- a clause is put
 pub put_posed : (old new : LogState) (sat : SatState NoNumbers) (atoms : List ℕ) (id : ℕ) (e : Entry) → Puts old id e new → IsPosed old sat atoms → IsPosed new sat atoms
