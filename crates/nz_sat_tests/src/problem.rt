@@ -181,10 +181,18 @@ impl Held {
     {
         let literals = self.log.lits_of(assumed)?;
         note_question(&self.log, &self.atoms, &literals, work)?;
-        self.sat.theory = NoNumbers::new();
+        begin_anew(&mut self.sat);
         let refuted = self.sat.solve(&mut self.log, &self.atoms, &literals, work)?;
         Ok(on_terms(*self.atoms.allocator(), &self.log, refuted)?)
     }
+}
+
+/// Takes back what the theory of a search was told.
+fn begin_anew(sat: &mut Sat<NoNumbers>)
+    ensures clauses { sat.new.clauses ≡ sat.old.clauses }
+    ensures none { sat.new.theory.told ≡ 0 }
+{
+    sat.theory = NoNumbers::new();
 }
 
 /// Adds the clauses of a term of the gate table that holds no number.
