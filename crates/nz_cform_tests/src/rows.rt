@@ -13,13 +13,13 @@ use std::test::Fail;
 
 /// Comparisons with a number: of a sum of the reals `x` (0) and `y` (1), which two of them share, and of the one of the two that `p` chooses (7).
 #[derive(Clone, Copy)]
-struct Script {
+struct Comparisons {
     within: TermId,
     equal: TermId,
     chosen: TermId,
 }
 
-fn script(terms: &mut Terms, alloc: Global) -> Result<Script, Memory> {
+fn compare(terms: &mut Terms, alloc: Global) -> Result<Comparisons, Memory> {
     let x = constant(alloc, terms, b"x", Sort::Real)?;
     let y = constant(alloc, terms, b"y", Sort::Real)?;
     let sum = operation(terms, Operator::Sum(NumberSort::Real), &[x, y])?;
@@ -29,7 +29,7 @@ fn script(terms: &mut Terms, alloc: Global) -> Result<Script, Memory> {
     let p = constant(alloc, terms, b"p", Sort::Bool)?;
     let choice = operation(terms, Operator::Ite(Sort::Real), &[p, x, y])?;
     let chosen = operation(terms, Operator::AtMost, &[choice, one])?;
-    Ok(Script {
+    Ok(Comparisons {
         within,
         equal,
         chosen,
@@ -44,17 +44,17 @@ struct Covered {
     counts: [[usize; 3]; 4],
 }
 
-fn covered(alloc: Global) -> Result<Covered, FormStop> {
+fn cover(alloc: Global) -> Result<Covered, FormStop> {
     let mut terms = Terms::new(alloc)?;
-    let script = script(&mut terms, alloc)?;
+    let compared = compare(&mut terms, alloc)?;
     complete(alloc, &mut terms)?;
     covers_stay();
     let mut log = Log::new(alloc)?;
     let mut form = ClauseForm::new(alloc);
-    let within = counted(alloc, &terms, &mut log, &mut form, script.within, 1)?;
-    let equal = counted(alloc, &terms, &mut log, &mut form, script.equal, 1)?;
-    let chosen = counted(alloc, &terms, &mut log, &mut form, script.chosen, 1)?;
-    let again = counted(alloc, &terms, &mut log, &mut form, script.chosen, 1)?;
+    let within = counted(alloc, &terms, &mut log, &mut form, compared.within, 1)?;
+    let equal = counted(alloc, &terms, &mut log, &mut form, compared.equal, 1)?;
+    let chosen = counted(alloc, &terms, &mut log, &mut form, compared.chosen, 1)?;
+    let again = counted(alloc, &terms, &mut log, &mut form, compared.chosen, 1)?;
     Ok(Covered {
         log,
         form,
@@ -65,7 +65,7 @@ fn covered(alloc: Global) -> Result<Covered, FormStop> {
 #[test]
 fn shared_sums_have_their_rows_once(rt: HostRuntime) -> Result<(), Fail> {
     // Two of a comparison and three of an equation; two of the last comparison, and four of the choice.
-    let counts = covered(rt.alloc())?.counts;
+    let counts = cover(rt.alloc())?.counts;
     assert_eq!(rt; counts, [[2, 5, 1], [3, 6, 2], [6, 9, 7], [0, 9, 7]]);
     Ok(())
 }
@@ -124,7 +124,7 @@ fn are_bounds(log: &Log, atoms: &[AtomId]) -> bool {
 
 #[test]
 fn bounds_of_rows_are_listed_once(rt: HostRuntime) -> Result<(), Fail> {
-    let covered = covered(rt.alloc())?;
+    let covered = cover(rt.alloc())?;
     assert!(rt; are_bounds(&covered.log, covered.form.bounds()));
     Ok(())
 }
