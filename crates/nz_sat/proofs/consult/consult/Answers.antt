@@ -4,6 +4,14 @@ use Rattle.nz_sat.specs.Theories.{Consults, TheoryState, state_of}
 use Rattle.nz_sat.proofs.Telling.{consults_checked}
 use Rattle.nz_sat.proofs.consult.consult.Goals as goal
 
+-- Of the atoms it knows still, with those that joined since.
+pub check-requires : goal.check-requires
+check-requires g c =
+    let told = c.tell.ensures.comes in
+    record {
+      known = (c.args.atoms.now, g.T.Theory.stays c.tell.new.theory c.args.log.now.atoms c.tell.new.log.atoms c.args.atoms.now (told.keeps.of c.args.log.now.atoms c.args.atoms.now c.requires.of) told.grows.atoms);
+    }
+
 pub returns-clause-comes : goal.returns-clause-comes
 returns-clause-comes g c =
     let none : c.in_ok-clash.clash ≡ None = search rules in
