@@ -4,7 +4,7 @@ ghost use Rattle.nz_spec.specs.Order.{HasCompanions};
 ghost use Rattle.nz_log.specs.Logs.{told_level};
 ghost use Rattle.nz_cform.specs.Covering.{Covers};
 
-use crate::taken::is_taken;
+use crate::taken::need_taken;
 use nz_base::Memory;
 use nz_cform::{ClauseForm, FormStop};
 use nz_log::Log;
@@ -26,9 +26,10 @@ pub(crate) fn counted(
     ensures told { (t : ℕ) → told_level log.new t ≤ level }
     ensures covers { OnOk result (Covers terms.now log.new form.new) }
 {
-    if terms.len() <= id || !is_taken(terms, id) {
+    if terms.len() <= id {
         return Err(FormStop::Memory);
     }
+    need_taken(terms, id)?;
     let clauses = form.add_term(alloc, log, terms, id, level)?;
     Ok([clauses.len(), form.terms().len(), form.bounds().len()])
 }
