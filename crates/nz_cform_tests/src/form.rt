@@ -1,9 +1,7 @@
 //! The gates of terms that share arguments, each once.
-use crate::counts::{complete, counted};
+use crate::cover::Cover;
 use nz_base::Memory;
-use nz_cform::laws::covers_stay;
-use nz_cform::{ClauseForm, FormStop};
-use nz_log::Log;
+use nz_cform::FormStop;
 use nz_term::{Operator, Sort, TermId, Terms};
 use nz_term_samples::{constant, operation};
 use std::alloc::Global;
@@ -22,12 +20,9 @@ fn shared(terms: &mut Terms, alloc: Global) -> Result<TermId, Memory> {
 fn added_twice(alloc: Global) -> Result<[[usize; 3]; 2], FormStop> {
     let mut terms = Terms::new(alloc)?;
     let both = shared(&mut terms, alloc)?;
-    complete(alloc, &mut terms)?;
-    covers_stay();
-    let mut log = Log::new(alloc)?;
-    let mut form = ClauseForm::new(alloc);
-    let first = counted(alloc, &terms, &mut log, &mut form, both, 1)?;
-    let again = counted(alloc, &terms, &mut log, &mut form, both, 1)?;
+    let mut cover = Cover::new(alloc, terms)?;
+    let first = cover.add(alloc, both, 1)?;
+    let again = cover.add(alloc, both, 1)?;
     Ok([first, again])
 }
 
@@ -42,15 +37,10 @@ fn shared_terms_have_their_gates_once(rt: HostRuntime) -> Result<(), Fail> {
 fn added_anew(alloc: Global) -> Result<(usize, [usize; 3]), FormStop> {
     let mut terms = Terms::new(alloc)?;
     let both = shared(&mut terms, alloc)?;
-    complete(alloc, &mut terms)?;
-    covers_stay();
-    let mut log = Log::new(alloc)?;
-    let mut form = ClauseForm::new(alloc);
-    counted(alloc, &terms, &mut log, &mut form, both, 1)?;
-    log.drop_above(0);
-    form.cut(0);
-    let covered = form.terms().len();
-    let anew = counted(alloc, &terms, &mut log, &mut form, both, 2)?;
+    let mut cover = Cover::new(alloc, terms)?;
+    cover.add(alloc, both, 1)?;
+    let covered = cover.cut(0);
+    let anew = cover.add(alloc, both, 2)?;
     Ok((covered, anew))
 }
 

@@ -2,7 +2,7 @@
 #![tactic(auto)]
 
 #[cfg(test)]
-mod counts;
+mod cover;
 #[cfg(test)]
 mod form;
 #[cfg(test)]

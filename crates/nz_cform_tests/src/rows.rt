@@ -1,8 +1,7 @@
 //! The rows of comparisons and of a choice of numbers, each once, and their bounds.
-use crate::counts::{complete, counted};
+use crate::cover::Cover;
 use nz_base::Memory;
-use nz_cform::laws::covers_stay;
-use nz_cform::{ClauseForm, FormStop};
+use nz_cform::FormStop;
 use nz_frac::Frac;
 use nz_lin::{Bound, Part};
 use nz_log::{AtomId, Lit, Literal, Log};
@@ -36,37 +35,31 @@ fn compare(terms: &mut Terms, alloc: Global) -> Result<Comparisons, Memory> {
     })
 }
 
-/// What the comparisons come to, one after another, and the last once more, with the log and what is covered.
-#[derive(Drop)]
-struct Covered {
-    log: Log,
-    form: ClauseForm,
-    counts: [[usize; 3]; 4],
-}
-
-fn cover(alloc: Global) -> Result<Covered, FormStop> {
-    let mut terms = Terms::new(alloc)?;
-    let compared = compare(&mut terms, alloc)?;
-    complete(alloc, &mut terms)?;
-    covers_stay();
-    let mut log = Log::new(alloc)?;
-    let mut form = ClauseForm::new(alloc);
-    let within = counted(alloc, &terms, &mut log, &mut form, compared.within, 1)?;
-    let equal = counted(alloc, &terms, &mut log, &mut form, compared.equal, 1)?;
-    let chosen = counted(alloc, &terms, &mut log, &mut form, compared.chosen, 1)?;
-    let again = counted(alloc, &terms, &mut log, &mut form, compared.chosen, 1)?;
-    Ok(Covered {
-        log,
-        form,
-        counts: [within, equal, chosen, again],
-    })
+/// What the comparisons come to, one after another, and the last once more.
+fn cover_all(
+    alloc: Global,
+    cover: &mut Cover,
+    compared: Comparisons,
+) -> Result<[[usize; 3]; 4], FormStop> {
+    let within = cover.add(alloc, compared.within, 1)?;
+    let equal = cover.add(alloc, compared.equal, 1)?;
+    let chosen = cover.add(alloc, compared.chosen, 1)?;
+    let again = cover.add(alloc, compared.chosen, 1)?;
+    Ok([within, equal, chosen, again])
 }
 
 #[test]
-fn shared_sums_have_their_rows_once(rt: HostRuntime) -> Result<(), Fail> {
+fn shared_sums_have_their_rows_and_bounds_once(rt: HostRuntime) -> Result<(), Fail> {
+    let mut terms = Terms::new(rt.alloc())?;
+    let compared = compare(&mut terms, rt.alloc())?;
+    let mut cover = Cover::new(rt.alloc(), terms)?;
+
     // Two of a comparison and three of an equation; two of the last comparison, and four of the choice.
-    let counts = cover(rt.alloc())?.counts;
-    assert_eq!(rt; counts, [[2, 5, 1], [3, 6, 2], [6, 9, 7], [0, 9, 7]]);
+    assert_eq!(rt;
+        cover_all(rt.alloc(), &mut cover, compared)?,
+        [[2, 5, 1], [3, 6, 2], [6, 9, 7], [0, 9, 7]]
+    );
+    assert!(rt; are_bounds(cover.log(), cover.form().bounds()));
     Ok(())
 }
 
@@ -120,11 +113,4 @@ fn are_bounds(log: &Log, atoms: &[AtomId]) -> bool {
         }
     }
     true
-}
-
-#[test]
-fn bounds_of_rows_are_listed_once(rt: HostRuntime) -> Result<(), Fail> {
-    let covered = cover(rt.alloc())?;
-    assert!(rt; are_bounds(&covered.log, covered.form.bounds()));
-    Ok(())
 }

@@ -63,12 +63,7 @@ fn need_row(terms: &Terms, head: Head<'_>, kids: &[TermId]) -> Result<(), Memory
 }
 
 /// They take an operator over two arguments.
-fn need_pair(
-    terms: &Terms,
-    operator: Operator,
-    left: TermId,
-    right: TermId,
-) -> Result<(), Memory>
+fn need_pair(terms: &Terms, operator: Operator, left: TermId, right: TermId) -> Result<(), Memory>
     requires left { left < length terms.now }
     requires right { right < length terms.now }
     ensures row { OnOk result (IsRowOf (operator_of operator) (terms_at (term_in terms.now) (left ∷ right ∷ []))) }

@@ -1,7 +1,8 @@
 -- Each operator has its head.
-use Rattle.std.proofs.Common.{ap, ◌∙◌}
+use Rattle.std.proofs.Common.{◌≡◌, ap, rules}
 use Rattle.nz_spec.specs.Table.{term_in}
 use Rattle.nz_spec.specs.Term.{bool_sort, real_sort, over_real, conjunction, exclusion, equality, at_most, sum}
+use Rattle.nz_term.specs.declared.heads.NumberSort.TheVariants.{Real}
 use Rattle.nz_term.specs.declared.heads.Operator.TheVariants.{Sum}
 use Rattle.nz_term.specs.Constants.{sort_of}
 use Rattle.nz_term.specs.Heads.{operator_of}
@@ -43,7 +44,8 @@ pub returns-in-Sum-Real : goal.returns-in-Sum-Real
 returns-in-Sum-Real c =
     let t = term_in c.args.terms.now c.args.left in
     let u = term_in c.args.terms.now c.args.right in
+    let is : c.args.operator ≡ Sum Real = search rules in
     record {
-      row = pair_row real_sort (sum over_real) (operator_of c.args.operator) t u c.need_sorts-in-Sum-Real.result
-          (ap operator_of (c.in-Sum-Real.is ∙ ap Sum c.in-Sum-Real.field-0-is)) (sum_row t u) c.need_sorts-in-Sum-Real.ensures.sorts;
+      row = pair_row real_sort (sum over_real) (operator_of c.args.operator) t u c.need_sorts-in-Sum-Real.result (ap operator_of is) (sum_row t u)
+          c.need_sorts-in-Sum-Real.ensures.sorts;
     }
