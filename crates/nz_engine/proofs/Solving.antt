@@ -314,8 +314,8 @@ module _ (ns : List Node) (p : PreparedState) (own : AtomsOfTerms) (are : AreAto
 
 -- ---- A search that is handed its atoms
 
-module _ (sums : FormsAreSums) (own : AtomsOfTerms) (ns : List Node) (levels : List (List ℕ)) (assumed : List TermLit) (p : PreparedState) (posed : IsPosed ns levels assumed p)
-    (ids : List ℕ) (lits : List Lit) (n : AreHanded ns p assumed ids lits) where
+module _ (sums : FormsAreSums) (own : AtomsOfTerms) {ns : List Node} {levels : List (List ℕ)} {assumed : List TermLit} {p : PreparedState} (posed : IsPosed ns levels assumed p)
+    {ids : List ℕ} {lits : List Lit} (n : AreHanded ns p assumed ids lits) where
   abbrev ready : IsPrepared ns levels (levels ++ terms_named assumed ∷ []) p
   ready = posed.standing.raised
 
@@ -508,3 +508,24 @@ pub posed_named : AtomsOfTerms → CoversStay → LogsStay → LogsStayLeveled �
 posed_named own covers stay leveled ns levels assumed p q rest joins all posed =
     posed_joined own covers ns levels assumed p q (ap (λ (s : PreparedState). s.form) rest) (ap (λ (s : PreparedState). s.given) rest) (ap (λ (s : PreparedState). s.above) rest) stay leveled
     joins all (ap (λ (s : PreparedState). s.sat.clauses) rest) posed
+
+-- ---- What is known before a search
+
+-- Where atoms were named in a log, a search over these and these literals may begin, over the levels over which it might have before.
+pub record IsReady (ns : List Node) (assumed : List TermLit) (old p : PreparedState) (ids : List ℕ) (lits : List Lit) : Type 0 where
+  pub handed : AreHanded ns p assumed ids lits
+  pub posed : (levels : List (List ℕ)) → IsPosed ns levels assumed old → IsPosed ns levels assumed p
+  pub some : (levels : List (List ℕ)) × IsPosed ns levels assumed p
+
+pub is_ready : AtomsOfTerms → CoversStay → LogsStay → LogsStayLeveled → {ns : List Node} {assumed : List TermLit} (old : PreparedState) {p q : PreparedState} {ids xs : List ℕ} {lits ls : List Lit}
+    → p ≡ q → q ≡ record old { log = q.log } → JoinsAtoms old.log q.log → AreAtoms q.log.atoms → AreHanded ns q assumed xs ls → ids ≡ xs → lits ≡ ls
+    → (levels : List (List ℕ)) × IsPosed ns levels assumed old → IsReady ns assumed old p ids lits
+is_ready own covers stay leveled {ns} {assumed} old {p} {q} {ids} {xs} {lits} {ls} view rest joins all handed same_ids same_lits begun =
+    let posed : (levels : List (List ℕ)) → IsPosed ns levels assumed old → IsPosed ns levels assumed p = λ levels h.
+    subst (IsPosed ns levels assumed) (sym view) (posed_named own covers stay leveled ns levels assumed old q rest joins all h) in
+    record {
+      handed = subst (λ (s : PreparedState). AreHanded ns s assumed ids lits) (sym view)
+          (subst (λ (is : List ℕ). AreHanded ns q assumed is lits) (sym same_ids) (subst (AreHanded ns q assumed xs) (sym same_lits) handed));
+      posed = posed;
+      some = (begun.0, posed begun.0 begun.1);
+    }

@@ -241,17 +241,17 @@ impl Prepared {
         ensures works { Works terms.now work.old work.new }
         ensures spent { IfErr result (λ s. OnSpent s (IsSpent work.new)) }
     {
-        known_table(terms);
         covers_stay();
         logs_stay();
         logs_stay_leveled();
         atoms_of_terms();
         forms_are_sums();
         let named = self.named(terms, assumed)?;
-        let theory = begun(self.alloc, &self.log, &named.atoms, work)?;
+        let atoms: &[AtomId] = &named.atoms;
+        let literals: &[Lit] = &named.literals;
+        let theory = begun(self.alloc, &self.log, atoms, work)?;
         self.sat.theory = theory;
-        self.sat
-            .solve(&mut self.log, &named.atoms, &named.literals, work)
+        self.sat.solve(&mut self.log, atoms, literals, work)
     }
 
     /// The atoms of the covered Boolean terms and the bounds, and the assumed literals on atoms. Atoms join the log's where they aren't there.

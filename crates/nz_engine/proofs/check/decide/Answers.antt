@@ -9,7 +9,7 @@ use Rattle.nz_log.specs.Verdicts.{OnSpent, task_in}
 use Rattle.nz_reals.specs.Stands.{IsAt}
 use Rattle.nz_engine.specs.Checking.{IsPosed, IsStop, terms_named}
 use Rattle.nz_engine.specs.Engines.{literals_in}
-use Rattle.nz_engine.proofs.Ending.{legal_none, root_stop, root_unspent, solve_stop, works_none}
+use Rattle.nz_engine.proofs.Ending.{legal_none, model_stop, root_stop, root_unspent, solve_stop, unspent, works_none}
 use Rattle.nz_engine.proofs.Naming.{ends_legal}
 use Rattle.nz_engine.proofs.Refuting.{dead_end}
 use Rattle.nz_engine.proofs.check.decide.Goals as goal
@@ -74,3 +74,31 @@ model-requires-clause-covers c = (c.in_ok-refuted.ensures.posed c.args.levels.no
 
 pub model-requires-clause-found : goal.model-requires-clause-found
 model-requires-clause-found c = (c.args.assumed.now, c.in_ok-refuted.ensures.found c.in-None.is)
+
+pub returns-in_err-values-clause-legal : goal.returns-in_err-values-clause-legal
+returns-in_err-values-clause-legal c =
+    ends_legal (IsAt c.solve.new.self.sat.theory c.args.terms.now) c.args.terms.now (task_in c.args.terms.now c.args.levels.now c.args.assumed.now) c.solve.new.work c.solve.result
+    (c.solve.ensures.ends c.args.levels.now c.in_ok-prepared.ensures.posed)
+
+pub returns-in_err-values-clause-spent : goal.returns-in_err-values-clause-spent
+returns-in_err-values-clause-spent c =
+    let same : Err c.in_err-values.field-0.0 ≡ c.from_residual-in_err-values.result = search rules in
+    subst (λ r. IfErr r (λ (s : Stop). OnSpent s (IsSpent c.solve.new.work))) same (unspent c.in_err-values.field-0.0 (IsSpent c.solve.new.work) c.in_err-values.ensures.unspent)
+
+pub returns-in_err-values-clause-stopped : goal.returns-in_err-values-clause-stopped
+returns-in_err-values-clause-stopped c =
+    let same : Err c.in_err-values.field-0.0 ≡ c.from_residual-in_err-values.result = search rules in
+    let q = task_in c.args.terms.now c.args.levels.now c.args.assumed.now in
+    subst (λ r. IfErr r (λ (s : Stop). OnWide s (IsStop c.args.terms.now q c.solve.new.work))) same
+    (model_stop c.args.terms.now q c.solve.new.work c.solve.new.self.sat.theory c.in_err-values.field-0.0 c.in_err-values.ensures.place
+    (c.in_ok-refuted.ensures.ends c.args.levels.now c.in_ok-prepared.ensures.posed) c.in_ok-refuted.ensures.works.within)
+
+pub returns-in-None-clause-answer : goal.returns-in-None-clause-answer
+returns-in-None-clause-answer c =
+    let levels = c.args.levels.now in
+    c.in_ok-values.ensures.model levels c.args.assumed.now (c.in_ok-refuted.ensures.posed levels c.in_ok-prepared.ensures.posed) (c.in_ok-refuted.ensures.found c.in-None.is)
+
+pub returns-in-None-clause-legal : goal.returns-in-None-clause-legal
+returns-in-None-clause-legal c =
+    ends_legal (IsAt c.solve.new.self.sat.theory c.args.terms.now) c.args.terms.now (task_in c.args.terms.now c.args.levels.now c.args.assumed.now) c.solve.new.work c.solve.result
+    (c.solve.ensures.ends c.args.levels.now c.in_ok-prepared.ensures.posed)
