@@ -1,8 +1,8 @@
 -- Notes of atoms are legal: each is of what is asked, and none is named twice. Where a list of them leads, the theory of no sum stands.
-use Rattle.std.proofs.Common.{◌≡◌, ◌≢◌, inl, inr, ℕ, zero, suc, ◌<◌, Bool, true, false, List, [], ◌∷◌, ◌++◌, append-nil, length, get_or, take, map, Option, Some, None, option_map, Result, Ok, Err, refl, sym, ap, ◌∙◌, subst, arith, append_assoc}
+use Rattle.std.proofs.Common.{◌≡◌, ◌≢◌, inl, inr, ℕ, zero, suc, ◌+◌, ◌<◌, Bool, true, false, List, [], ◌∷◌, ◌++◌, append-nil, length, get_or, take, map, Option, Some, None, option_map, Result, Ok, Err, refl, sym, ap, ◌∙◌, subst, arith, append_assoc}
 use Rattle.std.specs.Prelude.{All, Contains, flat_map, slice_get, slice_index_or, ⊤}
 use Rattle.std.specs.List.{AllByRecursion, AllPairs}
-use Rattle.std.proofs.lemmas.List.{length-map, map-append, take_all}
+use Rattle.std.proofs.lemmas.List.{length-map, map-append, take_all, take_more}
 use Rattle.std.proofs.lemmas.Option.{get_or_from_slice_get, slice_get-get_or, slice_get_within}
 use Rattle.std.proofs.lemmas.List.Elements.{All-contains, All-contains_itself, All-from_recursion, All-map, All-take, All-weaker, Contains-append_cases, Contains-append_left, Contains-append_right, recursion_from_All}
 use Rattle.nz_lists.proofs.Elements.{AllByRecursion-append, AllByRecursion-weaker}
@@ -17,7 +17,7 @@ use Rattle.nz_spec.specs.Notes.{atom_note, form_note}
 use Rattle.nz_spec.specs.Order.{post_order, post_orders, companions, listing_order, listing_orders}
 use Rattle.nz_spec.specs.Table.{Node, IsTable, term_in}
 use Rattle.nz_spec.specs.Term.{falsum, Term, apply, Terms, no_terms, terms}
-use Rattle.nz_spec.specs.Work.{WorkLine, UnitLine, NoteLine, WorkList, unit_count}
+use Rattle.nz_spec.specs.Work.{WorkLine, UnitLine, NoteLine, WorkList, unit_count, with_line}
 use Rattle.nz_lin.specs.Bounds.{bounded}
 use Rattle.nz_lin.specs.Forms.{parts_over}
 use Rattle.nz_log.specs.declared.atoms.Atom as log
@@ -297,6 +297,18 @@ notes_all all ids ks work within lines =
 
 pub noted_lines : (all : List log.Atom) (ids : List ℕ) (old new : WorkList Note) → old.lines ≡ [] → new ≡ record old { lines = old.lines ++ atom_lines all ids } → new.lines ≡ atom_lines all ids
 noted_lines all ids old new none e = ap (λ (w : WorkList Note). w.lines) e ∙ ap (λ ls. ls ++ atom_lines all ids) none
+
+-- one atom more is noted
+pub notes_more : (all : List log.Atom) (ids : List ℕ) (n d : ℕ) (old work new : WorkList Note) (note : Note) → n < length ids
+    → work ≡ record old { lines = old.lines ++ atom_lines all (take n ids) } → note ≡ note_of (atom_at all (get_or ids n d)) → new ≡ with_line work (NoteLine note)
+    → new ≡ record old { lines = old.lines ++ atom_lines all (take (n + 1) ids) }
+notes_more all ids n d old work new note below before is step =
+    let line = λ (i : ℕ). NoteLine (note_of (atom_at all i)) in
+    step ∙ ap (λ (w : WorkList Note). with_line w (NoteLine note)) before
+    ∙ ap (λ (ls : List (WorkLine Note)). record old { lines = ls })
+    (append_assoc old.lines (atom_lines all (take n ids)) (NoteLine note ∷ [])
+    ∙ ap (λ (ls : List (WorkLine Note)). old.lines ++ ls)
+    (ap (λ (m : Note). atom_lines all (take n ids) ++ NoteLine m ∷ []) is ∙ sym (map-append line (take n ids) (get_or ids n d ∷ [])) ∙ ap (atom_lines all) (sym (take_more ids n d below))))
 
 -- the first so many atoms
 pub begun_first : (all : List log.Atom) (ids : List ℕ) (old new : WorkList Note) → old.lines ≡ [] → NotesFirst all ids old new → HasBegun all ids old new

@@ -403,8 +403,8 @@ fn note_atoms(
     ensures first { NotesFirst log.now.atoms atoms.now work.old work.new }
 {
     for id in atoms {
-        let note = noted(alloc, log.atom(*id))?;
-        work.note(note)?;
+        let line = noted(alloc, log.atom(*id))?;
+        work.note(line)?;
     }
     Ok(())
 }
