@@ -176,7 +176,7 @@ module _ (rows_meet : RowsMeetTables) (decides : TablesDecide) (met : ToldBounds
       let one_true = true_clause (held_of p.log i) held in
       let each = All-contains (λ (x : Held). All (λ (l : Lit). IsSearched ns p.log p.form l.atom) (literals_at p.log x.id)) p.sat.clauses (held_of p.log i) ready.searched held in
       let s = All-contains (λ (l : Lit). IsSearched ns p.log p.form l.atom) (literals_at p.log i) one_true.0 each one_true.1 in
-      (one_true.0, (one_true.1, lit_met one_true.0 s one_true.2))
+      (one_true.0, one_true.1, lit_met one_true.0 s one_true.2)
 
   -- ---- Constants
 

@@ -400,24 +400,24 @@ module _ (ns : List Node) (levels roots : List (List ℕ)) (p q : PreparedState)
 
 filter_short : (f : ℕ → Bool) (xs : List ℕ) → length (filter f xs) ≤ length xs
 filter_short f [] = omega arith
-filter_short f (x ∷ xs) = by_test (f x)
+filter_short f (x ∷ xs) = by_test (f x) (filter_short f xs)
   where
-    by_test : (b : Bool) → length (cond b (x ∷ filter f xs) (filter f xs)) ≤ suc (length xs)
-    by_test true = let rest = filter_short f xs in omega (arith, rest)
-    by_test false = let rest = filter_short f xs in omega (arith, rest)
+    by_test : (b : Bool) → length (filter f xs) ≤ length xs → length (cond b (x ∷ filter f xs) (filter f xs)) ≤ suc (length xs)
+    by_test true rest = omega (arith, rest)
+    by_test false rest = omega (arith, rest)
 
 -- where no element is left out, each passes the test
 filter_all : (f : ℕ → Bool) (xs : List ℕ) → length (filter f xs) ≡ length xs → (y : ℕ) → Contains xs y → f y ≡ true
 filter_all f [] e y c = absurd (has_none y c)
-filter_all f (x ∷ xs) e y c = by_test (f x) refl e
+filter_all f (x ∷ xs) e y c = by_test (f x) refl e (λ k more. filter_all f xs k y more)
   where
-    by_test : (b : Bool) → f x ≡ b → length (cond b (x ∷ filter f xs) (filter f xs)) ≡ suc (length xs) → f y ≡ true
-    by_test true t k =
+    by_test : (b : Bool) → f x ≡ b → length (cond b (x ∷ filter f xs) (filter f xs)) ≡ suc (length xs) → (length (filter f xs) ≡ length xs → Contains xs y → f y ≡ true) → f y ≡ true
+    by_test true t k rest =
         elim (has_cases x y xs c) [
           | inl same ↦ ap f (sym same) ∙ t
-          | inr more ↦ filter_all f xs (omega (arith, k)) y more
+          | inr more ↦ rest (omega (arith, k)) more
         ]
-    by_test false t k = let rest = filter_short f xs in absurd (omega (arith, rest, k))
+    by_test false t k rest = let short = filter_short f xs in absurd (omega (arith, short, k))
 
 -- so what is cut to as many has all that there were
 pub all_kept : (old new : ListingState) (level : ℕ) → ((i : ℕ) → IsSome (listed_at old i) → Contains old.ids i) → listings.Cuts old level new → length new.ids ≡ length old.ids → (i : ℕ) → IsSome (listed_at old i)

@@ -244,7 +244,7 @@ module _ (sums : FormsAreSums) (ns : List Node) (table : IsTable ns) (levels roo
         by_atom : (a : Atom) → slice_get p.log.atoms i ≡ Some a → IsOfForm ns p.form i a → IsAtom q (atom_literal ns p.log.atoms i)
         by_atom (Term t) at of =
             let is : atom_literal ns p.log.atoms i ≡ term_literal (term_in ns t) true = literal_at_atom ns p.log.atoms (record { atom = i; sign = true }) (Term t) at in
-            subst (IsAtom q) (sym is) (refl, (of.1, listed t of.0))
+            subst (IsAtom q) (sym is) (refl, of.1, listed t of.0)
         by_atom (AtMost b) at of =
             let x = bound_of_row i b at of in
             subst (IsAtom q) (sym (bound_in_log ns p.log.atoms (record { atom = i; sign = true }) b at (normal_bound p.log.atoms i b ready.order.atoms at)))

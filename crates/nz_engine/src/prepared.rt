@@ -263,6 +263,7 @@ impl Prepared {
         ensures handed { IfOk result (λ n. AreHanded terms.now self.new assumed.now n.atoms.items n.literals.items) }
     {
         atoms_of_terms();
+        self.log.atom_count();
         let booleans = booleans_of(self.alloc, terms, self.form.terms())?;
         let mut atoms = self.log.term_atoms(&booleans)?;
         atoms.extend_from_slice(self.form.bounds())?;

@@ -9,6 +9,7 @@ use Rattle.nz_log.specs.Verdicts.{OnSpent, task_in}
 use Rattle.nz_reals.specs.Stands.{IsAt}
 use Rattle.nz_engine.specs.Checking.{IsPosed, IsStop, terms_named}
 use Rattle.nz_engine.specs.Engines.{literals_in}
+use Rattle.nz_engine.proofs.Answering.{readied}
 use Rattle.nz_engine.proofs.Ending.{legal_none, model_stop, root_stop, root_unspent, solve_stop, unspent, works_none}
 use Rattle.nz_engine.proofs.Naming.{ends_legal}
 use Rattle.nz_engine.proofs.Refuting.{dead_end}
@@ -24,13 +25,13 @@ returns-in_err-prepared-clause-works c = works_none c.args.terms.now c.args.work
 
 pub returns-in_err-prepared-clause-spent : goal.returns-in_err-prepared-clause-spent
 returns-in_err-prepared-clause-spent c =
-    let same : Err c.in_err-prepared.field-0.0 ≡ c.from_residual-in_err-prepared.result = search rules in
+    let same : Err c.in_err-prepared.field-0.0 ≡ c.from_residual.result = search rules in
     let roots = asserted_numbers c.args.levels.now ++ terms_named c.args.assumed.now in
     subst (λ r. IfErr r (λ (s : Stop). OnSpent s (IsSpent c.args.work.now))) same (root_unspent c.args.terms.now roots c.in_err-prepared.field-0.0 (IsSpent c.args.work.now) c.in_err-prepared.ensures.stop)
 
 pub returns-in_err-prepared-clause-stopped : goal.returns-in_err-prepared-clause-stopped
 returns-in_err-prepared-clause-stopped c =
-    let same : Err c.in_err-prepared.field-0.0 ≡ c.from_residual-in_err-prepared.result = search rules in
+    let same : Err c.in_err-prepared.field-0.0 ≡ c.from_residual.result = search rules in
     let q = task_in c.args.terms.now c.args.levels.now c.args.assumed.now in
     subst (λ r. IfErr r (λ (s : Stop). OnWide s (IsStop c.args.terms.now q c.args.work.now))) same
     (root_stop c.args.terms.now c.args.levels.now c.args.assumed.now c.args.work.now c.in_err-prepared.field-0.0 c.requires.no_steps c.in_err-prepared.ensures.stop)
@@ -75,30 +76,33 @@ model-requires-clause-covers c = (c.in_ok-refuted.ensures.posed c.args.levels.no
 pub model-requires-clause-found : goal.model-requires-clause-found
 model-requires-clause-found c = (c.args.assumed.now, c.in_ok-refuted.ensures.found c.in-None.is)
 
-pub returns-in_err-values-clause-legal : goal.returns-in_err-values-clause-legal
-returns-in_err-values-clause-legal c =
+pub returns-in_err-values-in-None-clause-legal : goal.returns-in_err-values-in-None-clause-legal
+returns-in_err-values-in-None-clause-legal c =
     ends_legal (IsAt c.solve.new.self.sat.theory c.args.terms.now) c.args.terms.now (task_in c.args.terms.now c.args.levels.now c.args.assumed.now) c.solve.new.work c.solve.result
     (c.solve.ensures.ends c.args.levels.now c.in_ok-prepared.ensures.posed)
 
-pub returns-in_err-values-clause-spent : goal.returns-in_err-values-clause-spent
-returns-in_err-values-clause-spent c =
-    let same : Err c.in_err-values.field-0.0 ≡ c.from_residual-in_err-values.result = search rules in
-    subst (λ r. IfErr r (λ (s : Stop). OnSpent s (IsSpent c.solve.new.work))) same (unspent c.in_err-values.field-0.0 (IsSpent c.solve.new.work) c.in_err-values.ensures.unspent)
+pub returns-in_err-values-in-None-clause-spent : goal.returns-in_err-values-in-None-clause-spent
+returns-in_err-values-in-None-clause-spent c =
+    let same : Err c.in_err-values-in-None.field-0.0 ≡ c.from_residual-in_err-values-in-None.result = search rules in
+    subst (λ r. IfErr r (λ (s : Stop). OnSpent s (IsSpent c.solve.new.work))) same (unspent c.in_err-values-in-None.field-0.0 (IsSpent c.solve.new.work) c.in_err-values-in-None.ensures.unspent)
 
-pub returns-in_err-values-clause-stopped : goal.returns-in_err-values-clause-stopped
-returns-in_err-values-clause-stopped c =
-    let same : Err c.in_err-values.field-0.0 ≡ c.from_residual-in_err-values.result = search rules in
+pub returns-in_err-values-in-None-clause-stopped : goal.returns-in_err-values-in-None-clause-stopped
+returns-in_err-values-in-None-clause-stopped c =
+    let same : Err c.in_err-values-in-None.field-0.0 ≡ c.from_residual-in_err-values-in-None.result = search rules in
     let q = task_in c.args.terms.now c.args.levels.now c.args.assumed.now in
     subst (λ r. IfErr r (λ (s : Stop). OnWide s (IsStop c.args.terms.now q c.solve.new.work))) same
-    (model_stop c.args.terms.now q c.solve.new.work c.solve.new.self.sat.theory c.in_err-values.field-0.0 c.in_err-values.ensures.place
+    (model_stop c.args.terms.now q c.solve.new.work c.solve.new.self.sat.theory c.in_err-values-in-None.field-0.0 c.in_err-values-in-None.ensures.place
     (c.in_ok-refuted.ensures.ends c.args.levels.now c.in_ok-prepared.ensures.posed) c.in_ok-refuted.ensures.works.within)
 
-pub returns-in-None-clause-answer : goal.returns-in-None-clause-answer
-returns-in-None-clause-answer c =
+pub returns-in_ok-values-in-None-clause-answer : goal.returns-in_ok-values-in-None-clause-answer
+returns-in_ok-values-in-None-clause-answer c =
     let levels = c.args.levels.now in
-    c.in_ok-values.ensures.model levels c.args.assumed.now (c.in_ok-refuted.ensures.posed levels c.in_ok-prepared.ensures.posed) (c.in_ok-refuted.ensures.found c.in-None.is)
+    c.in_ok-values-in-None.ensures.model levels c.args.assumed.now (c.in_ok-refuted.ensures.posed levels c.in_ok-prepared.ensures.posed) (c.in_ok-refuted.ensures.found c.in-None.is)
 
-pub returns-in-None-clause-legal : goal.returns-in-None-clause-legal
-returns-in-None-clause-legal c =
+pub returns-in_ok-values-in-None-clause-legal : goal.returns-in_ok-values-in-None-clause-legal
+returns-in_ok-values-in-None-clause-legal c =
     ends_legal (IsAt c.solve.new.self.sat.theory c.args.terms.now) c.args.terms.now (task_in c.args.terms.now c.args.levels.now c.args.assumed.now) c.solve.new.work c.solve.result
     (c.solve.ensures.ends c.args.levels.now c.in_ok-prepared.ensures.posed)
+
+pub returns-in_ok-values-in-None-clause-readied : goal.returns-in_ok-values-in-None-clause-readied
+returns-in_ok-values-in-None-clause-readied c = readied c.args.terms.now c.args.levels.now c.args.assumed.now c.solve.new.self (c.in_ok-refuted.ensures.posed c.args.levels.now c.in_ok-prepared.ensures.posed)

@@ -3,6 +3,7 @@ use Rattle.std.proofs.Common.{rules, ◌≡◌, ℕ, List, None, Err, IfOk, refl
 use Rattle.std.specs.Prelude.{IfSome}
 use Rattle.nz_lists.proofs.Results.{on_ok}
 use Rattle.nz_log.specs.declared.lits.Lit.{Lit}
+use Rattle.nz_log.specs.declared.stop.Stop.TheVariants.{Memory}
 use Rattle.nz_log.specs.Logs.{IsLive, literals_at}
 use Rattle.nz_log.specs.Standing.{Ends}
 use Rattle.nz_log.specs.Verdicts.{task_in}
@@ -20,7 +21,11 @@ pub named-requires : goal.named-requires
 named-requires c = record { covers = c.requires.posed.1.standing.raised.covers }
 
 pub returns-in_err-named-clause-ends : goal.returns-in_err-named-clause-ends
-returns-in_err-named-clause-ends c = λ levels posed. legal_none (task_in c.args.terms.now levels c.args.assumed.now) c.args.terms.now c.args.work.now c.requires.no_steps
+returns-in_err-named-clause-ends c = λ levels posed.
+    let same : Err Memory ≡ c.from_residual.result = search rules in
+    let ns = c.args.terms.now in
+    let q = task_in ns levels c.args.assumed.now in
+    subst (Ends (IsAt c.named.new.self.sat.theory ns) ns q c.args.work.now) same (legal_none q ns c.args.work.now c.requires.no_steps)
 
 pub returns-in_err-named-clause-works : goal.returns-in_err-named-clause-works
 returns-in_err-named-clause-works c = works_none c.args.terms.now c.args.work.now c.requires.no_steps
@@ -29,7 +34,7 @@ pub begun-requires-clause-learnable : goal.begun-requires-clause-learnable
 begun-requires-clause-learnable c =
     let sums = c.forms_are_sums.ensures.sums in
     let own = c.atoms_of_terms.ensures.atoms in
-    let r = is_ready own c.covers_stay.ensures.stay c.logs_stay.ensures.stay c.logs_stay_leveled.ensures.stay c.args.self.now c.self-2.view_is c.in_ok-named.ensures.rest c.in_ok-named.ensures.joins
+    let r = is_ready own c.covers_stay.ensures.stay c.logs_stay.ensures.stay c.logs_stay_leveled.ensures.stay c.args.self.now c.self.view_is c.in_ok-named.ensures.rest c.in_ok-named.ensures.joins
     c.in_ok-named.ensures.all c.in_ok-named.ensures.handed c.deref-atoms.ensures.value c.deref-literals.ensures.value c.requires.posed in
     ids_learnable sums own r.some.1 r.handed
 
@@ -37,13 +42,13 @@ pub returns-in_err-theory-clause-ends : goal.returns-in_err-theory-clause-ends
 returns-in_err-theory-clause-ends c =
     let sums = c.forms_are_sums.ensures.sums in
     let own = c.atoms_of_terms.ensures.atoms in
-    let r = is_ready own c.covers_stay.ensures.stay c.logs_stay.ensures.stay c.logs_stay_leveled.ensures.stay c.args.self.now c.self-2.view_is c.in_ok-named.ensures.rest c.in_ok-named.ensures.joins
+    let r = is_ready own c.covers_stay.ensures.stay c.logs_stay.ensures.stay c.logs_stay_leveled.ensures.stay c.args.self.now c.self.view_is c.in_ok-named.ensures.rest c.in_ok-named.ensures.joins
     c.in_ok-named.ensures.all c.in_ok-named.ensures.handed c.deref-atoms.ensures.value c.deref-literals.ensures.value c.requires.posed in
     let ns = c.args.terms.now in
     λ levels posed.
     let same : Err c.in_err-theory.field-0.0 ≡ c.from_residual-in_err-theory.result = search rules in
     let q = task_in ns levels c.args.assumed.now in
-    let there = IsAt c.self-2.inside.sat.theory ns in
+    let there = IsAt c.self.inside.sat.theory ns in
     subst (Ends there ns q c.begun.new.work) same
     (stopped_ends there ns q c.begun.new.work c.in_err-theory.field-0.0 (c.in_err-theory.ensures.stopped ns q (may_begin sums own (r.posed levels posed) r.handed)))
 
@@ -51,15 +56,15 @@ pub returns-in_err-theory-clause-works : goal.returns-in_err-theory-clause-works
 returns-in_err-theory-clause-works c =
     let sums = c.forms_are_sums.ensures.sums in
     let own = c.atoms_of_terms.ensures.atoms in
-    let r = is_ready own c.covers_stay.ensures.stay c.logs_stay.ensures.stay c.logs_stay_leveled.ensures.stay c.args.self.now c.self-2.view_is c.in_ok-named.ensures.rest c.in_ok-named.ensures.joins
+    let r = is_ready own c.covers_stay.ensures.stay c.logs_stay.ensures.stay c.logs_stay_leveled.ensures.stay c.args.self.now c.self.view_is c.in_ok-named.ensures.rest c.in_ok-named.ensures.joins
     c.in_ok-named.ensures.all c.in_ok-named.ensures.handed c.deref-atoms.ensures.value c.deref-literals.ensures.value c.requires.posed in
-    works_begun c.args.terms.now c.self-2.inside.log.atoms c.deref-atoms.result.now c.args.work.now c.begun.new.work (ids_within sums own r.some.1 r.handed) c.begun.ensures.begun
+    works_begun c.args.terms.now c.self.inside.log.atoms c.deref-atoms.result.now c.args.work.now c.begun.new.work (ids_within sums own r.some.1 r.handed) c.begun.ensures.begun
 
 pub solve-requires-clause-held : goal.solve-requires-clause-held
 solve-requires-clause-held c =
     let sums = c.forms_are_sums.ensures.sums in
     let own = c.atoms_of_terms.ensures.atoms in
-    let r = is_ready own c.covers_stay.ensures.stay c.logs_stay.ensures.stay c.logs_stay_leveled.ensures.stay c.args.self.now c.self-2.view_is c.in_ok-named.ensures.rest c.in_ok-named.ensures.joins
+    let r = is_ready own c.covers_stay.ensures.stay c.logs_stay.ensures.stay c.logs_stay_leveled.ensures.stay c.args.self.now c.self.view_is c.in_ok-named.ensures.rest c.in_ok-named.ensures.joins
     c.in_ok-named.ensures.all c.in_ok-named.ensures.handed c.deref-atoms.ensures.value c.deref-literals.ensures.value c.requires.posed in
     r.some.1.standing.raised.held
 
@@ -67,7 +72,7 @@ pub solve-requires-clause-named : goal.solve-requires-clause-named
 solve-requires-clause-named c =
     let sums = c.forms_are_sums.ensures.sums in
     let own = c.atoms_of_terms.ensures.atoms in
-    let r = is_ready own c.covers_stay.ensures.stay c.logs_stay.ensures.stay c.logs_stay_leveled.ensures.stay c.args.self.now c.self-2.view_is c.in_ok-named.ensures.rest c.in_ok-named.ensures.joins
+    let r = is_ready own c.covers_stay.ensures.stay c.logs_stay.ensures.stay c.logs_stay_leveled.ensures.stay c.args.self.now c.self.view_is c.in_ok-named.ensures.rest c.in_ok-named.ensures.joins
     c.in_ok-named.ensures.all c.in_ok-named.ensures.handed c.deref-atoms.ensures.value c.deref-literals.ensures.value c.requires.posed in
     are_named sums own r.some.1 r.handed
 
@@ -75,7 +80,7 @@ pub solve-requires-clause-told_terms : goal.solve-requires-clause-told_terms
 solve-requires-clause-told_terms c =
     let sums = c.forms_are_sums.ensures.sums in
     let own = c.atoms_of_terms.ensures.atoms in
-    let r = is_ready own c.covers_stay.ensures.stay c.logs_stay.ensures.stay c.logs_stay_leveled.ensures.stay c.args.self.now c.self-2.view_is c.in_ok-named.ensures.rest c.in_ok-named.ensures.joins
+    let r = is_ready own c.covers_stay.ensures.stay c.logs_stay.ensures.stay c.logs_stay_leveled.ensures.stay c.args.self.now c.self.view_is c.in_ok-named.ensures.rest c.in_ok-named.ensures.joins
     c.in_ok-named.ensures.all c.in_ok-named.ensures.handed c.deref-atoms.ensures.value c.deref-literals.ensures.value c.requires.posed in
     ids_told sums own r.some.1 r.handed
 
@@ -83,7 +88,7 @@ pub solve-requires-clause-consistent : goal.solve-requires-clause-consistent
 solve-requires-clause-consistent c =
     let sums = c.forms_are_sums.ensures.sums in
     let own = c.atoms_of_terms.ensures.atoms in
-    let r = is_ready own c.covers_stay.ensures.stay c.logs_stay.ensures.stay c.logs_stay_leveled.ensures.stay c.args.self.now c.self-2.view_is c.in_ok-named.ensures.rest c.in_ok-named.ensures.joins
+    let r = is_ready own c.covers_stay.ensures.stay c.logs_stay.ensures.stay c.logs_stay_leveled.ensures.stay c.args.self.now c.self.view_is c.in_ok-named.ensures.rest c.in_ok-named.ensures.joins
     c.in_ok-named.ensures.all c.in_ok-named.ensures.handed c.deref-atoms.ensures.value c.deref-literals.ensures.value c.requires.posed in
     are_consistent sums own r.some.1 r.handed c.requires.consistent
 
@@ -91,12 +96,12 @@ pub returns-clause-posed : goal.returns-clause-posed
 returns-clause-posed c =
     let sums = c.forms_are_sums.ensures.sums in
     let own = c.atoms_of_terms.ensures.atoms in
-    let r = is_ready own c.covers_stay.ensures.stay c.logs_stay.ensures.stay c.logs_stay_leveled.ensures.stay c.args.self.now c.self-2.view_is c.in_ok-named.ensures.rest c.in_ok-named.ensures.joins
+    let r = is_ready own c.covers_stay.ensures.stay c.logs_stay.ensures.stay c.logs_stay_leveled.ensures.stay c.args.self.now c.self.view_is c.in_ok-named.ensures.rest c.in_ok-named.ensures.joins
     c.in_ok-named.ensures.all c.in_ok-named.ensures.handed c.deref-atoms.ensures.value c.deref-literals.ensures.value c.requires.posed in
-    let new : PreparedState = record { log = c.solve.new.log; form = c.self-2.inside.form; sat = c.solve.new.self; given = c.self-2.inside.given; above = c.self-2.inside.above } in
+    let new : PreparedState = record { log = c.solve.new.log; form = c.self.inside.form; sat = c.solve.new.self; given = c.self.inside.given; above = c.self.inside.above } in
     let ns = c.args.terms.now in
     let assumed = c.args.assumed.now in
-    let mid : PreparedState = record new { log = c.self-2.inside.log; sat = c.self-2.inside.sat } in
+    let mid : PreparedState = record new { log = c.self.inside.log; sat = c.self.inside.sat } in
     let grows = c.solve.ensures.grows in
     on_ok c.solve.result
     (λ levels posed.
@@ -109,7 +114,7 @@ pub returns-clause-ends : goal.returns-clause-ends
 returns-clause-ends c =
     let sums = c.forms_are_sums.ensures.sums in
     let own = c.atoms_of_terms.ensures.atoms in
-    let r = is_ready own c.covers_stay.ensures.stay c.logs_stay.ensures.stay c.logs_stay_leveled.ensures.stay c.args.self.now c.self-2.view_is c.in_ok-named.ensures.rest c.in_ok-named.ensures.joins
+    let r = is_ready own c.covers_stay.ensures.stay c.logs_stay.ensures.stay c.logs_stay_leveled.ensures.stay c.args.self.now c.self.view_is c.in_ok-named.ensures.rest c.in_ok-named.ensures.joins
     c.in_ok-named.ensures.all c.in_ok-named.ensures.handed c.deref-atoms.ensures.value c.deref-literals.ensures.value c.requires.posed in
     let ns = c.args.terms.now in
     let assumed = c.args.assumed.now in
@@ -124,9 +129,9 @@ pub returns-clause-found : goal.returns-clause-found
 returns-clause-found c =
     let sums = c.forms_are_sums.ensures.sums in
     let own = c.atoms_of_terms.ensures.atoms in
-    let r = is_ready own c.covers_stay.ensures.stay c.logs_stay.ensures.stay c.logs_stay_leveled.ensures.stay c.args.self.now c.self-2.view_is c.in_ok-named.ensures.rest c.in_ok-named.ensures.joins
+    let r = is_ready own c.covers_stay.ensures.stay c.logs_stay.ensures.stay c.logs_stay_leveled.ensures.stay c.args.self.now c.self.view_is c.in_ok-named.ensures.rest c.in_ok-named.ensures.joins
     c.in_ok-named.ensures.all c.in_ok-named.ensures.handed c.deref-atoms.ensures.value c.deref-literals.ensures.value c.requires.posed in
-    let new : PreparedState = record { log = c.solve.new.log; form = c.self-2.inside.form; sat = c.solve.new.self; given = c.self-2.inside.given; above = c.self-2.inside.above } in
+    let new : PreparedState = record { log = c.solve.new.log; form = c.self.inside.form; sat = c.solve.new.self; given = c.self.inside.given; above = c.self.inside.above } in
     let ns = c.args.terms.now in
     let assumed = c.args.assumed.now in
     let ends : (levels : List (List ℕ)) → IsPosed ns levels assumed c.args.self.now → Ends (IsAt c.solve.new.self.theory ns) ns (task_in ns levels assumed) c.solve.new.work c.solve.result = λ levels posed.
@@ -135,7 +140,7 @@ returns-clause-found c =
     c.solve.ensures.ends ns levels q (c.in_ok-theory.ensures.over ns begun.table (ids_within sums own begun r.handed)) (is_asked sums own begun r.handed)
     (c.in_ok-theory.ensures.stands ns q (may_begin sums own begun r.handed)) in
     let levels = c.requires.posed.0 in
-    let of : IsOf c.solve.new.self.theory c.self-2.inside.log.atoms c.deref-atoms.result.now = c.solve.ensures.of c.self-2.inside.log.atoms c.deref-atoms.result.now c.in_ok-theory.ensures.of in
+    let of : IsOf c.solve.new.self.theory c.self.inside.log.atoms c.deref-atoms.result.now = c.solve.ensures.of c.self.inside.log.atoms c.deref-atoms.result.now c.in_ok-theory.ensures.of in
     found_of sums own r.some.1 r.handed new c.solve.ensures.grows refl of (task_in ns levels assumed) c.solve.new.work c.solve.result c.solve.ensures.satisfied c.solve.ensures.feasible
     (ends levels c.requires.posed.1)
 
@@ -143,9 +148,9 @@ pub returns-clause-refuted : goal.returns-clause-refuted
 returns-clause-refuted c =
     let sums = c.forms_are_sums.ensures.sums in
     let own = c.atoms_of_terms.ensures.atoms in
-    let r = is_ready own c.covers_stay.ensures.stay c.logs_stay.ensures.stay c.logs_stay_leveled.ensures.stay c.args.self.now c.self-2.view_is c.in_ok-named.ensures.rest c.in_ok-named.ensures.joins
+    let r = is_ready own c.covers_stay.ensures.stay c.logs_stay.ensures.stay c.logs_stay_leveled.ensures.stay c.args.self.now c.self.view_is c.in_ok-named.ensures.rest c.in_ok-named.ensures.joins
     c.in_ok-named.ensures.all c.in_ok-named.ensures.handed c.deref-atoms.ensures.value c.deref-literals.ensures.value c.requires.posed in
-    let new : PreparedState = record { log = c.solve.new.log; form = c.self-2.inside.form; sat = c.solve.new.self; given = c.self-2.inside.given; above = c.self-2.inside.above } in
+    let new : PreparedState = record { log = c.solve.new.log; form = c.self.inside.form; sat = c.solve.new.self; given = c.self.inside.given; above = c.self.inside.above } in
     let grows = c.solve.ensures.grows in
     let log = c.solve.new.log in
     refuted_by log c.args.assumed.now (named_have sums own r.some.1 r.handed new grows refl).named c.solve.result
@@ -155,7 +160,7 @@ pub returns-clause-works : goal.returns-clause-works
 returns-clause-works c =
     let sums = c.forms_are_sums.ensures.sums in
     let own = c.atoms_of_terms.ensures.atoms in
-    let r = is_ready own c.covers_stay.ensures.stay c.logs_stay.ensures.stay c.logs_stay_leveled.ensures.stay c.args.self.now c.self-2.view_is c.in_ok-named.ensures.rest c.in_ok-named.ensures.joins
+    let r = is_ready own c.covers_stay.ensures.stay c.logs_stay.ensures.stay c.logs_stay_leveled.ensures.stay c.args.self.now c.self.view_is c.in_ok-named.ensures.rest c.in_ok-named.ensures.joins
     c.in_ok-named.ensures.all c.in_ok-named.ensures.handed c.deref-atoms.ensures.value c.deref-literals.ensures.value c.requires.posed in
-    works_solved c.args.terms.now c.self-2.inside.log.atoms c.deref-atoms.result.now c.args.work.now c.begun.new.work c.solve.new.work (ids_within sums own r.some.1 r.handed) c.begun.ensures.begun
+    works_solved c.args.terms.now c.self.inside.log.atoms c.deref-atoms.result.now c.args.work.now c.begun.new.work c.solve.new.work (ids_within sums own r.some.1 r.handed) c.begun.ensures.begun
     c.solve.ensures.notes c.solve.ensures.limit c.solve.ensures.within
