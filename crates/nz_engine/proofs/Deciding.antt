@@ -283,7 +283,7 @@ module _ (rows_meet : RowsMeetTables) (decides : TablesDecide) (met : ToldBounds
             kids = k.node.kids;
             node = k.at ∙ ap Some node;
             sort = value_real k.name.sort x.1 r.2.0 k.real r.2.1;
-            fits = subst ValueFits (sym r.2.1) r.2.2.1;
+            fits = subst ValueFits (sym r.2.1) r.2.3;
           }
 
   sorted : IsAssignment values

@@ -137,11 +137,11 @@ root_more ns xs ys Spent more h = h
 root_more ns xs ys Memory more h = tt
 
 -- a search that stopped
-pub solve_stop : {A : Type 0} (IsThere : Standing) (ns : List Node) (q : Task) (work : WorkList Note) (e : Stop) → Ends {A = A} IsThere ns q work (Err e) → unit_count work.lines ≤ work.limit
+pub solve_stop : (A : Type 0) (IsThere : Standing) (ns : List Node) (q : Task) (work : WorkList Note) (e : Stop) → Ends {A = A} IsThere ns q work (Err e) → unit_count work.lines ≤ work.limit
     → OnWide e (IsStop ns q work)
-solve_stop IsThere ns q work (Wide place) h few = stop_at ns q work place h few
-solve_stop IsThere ns q work Spent h few = tt
-solve_stop IsThere ns q work Memory h few = tt
+solve_stop A IsThere ns q work (Wide place) h few = stop_at ns q work place h few
+solve_stop A IsThere ns q work Spent h few = tt
+solve_stop A IsThere ns q work Memory h few = tt
 
 -- values that weren't found
 pub model_stop : (ns : List Node) (q : Task) (work : WorkList Note) (t : Theory) (e : Stop) → OnWide e (IsStopOf ns t) → Stands (IsAt t ns) ns q work → unit_count work.lines ≤ work.limit

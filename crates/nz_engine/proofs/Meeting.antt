@@ -319,4 +319,4 @@ module _ (met : ToldBoundsAreMet) (keep : ChosenFractionsKeepBounds) (numbers : 
             let value : number_of v ≡ q = ap number_of r.2.1 in
             let same : m ≡ k = one_place k m r.1 is in
             subst (λ (p : Fraction). p =ℚ worth_of (term_in ns i)) (sym value)
-            (subst (λ (p : Fraction). q =ℚ p) (ap (λ (n : ℕ). at (y n) e) (sym same) ∙ sym (worth_at (Some m) is)) r.2.2.0)
+            (subst (λ (p : Fraction). q =ℚ p) (ap (λ (n : ℕ). at (y n) e) (sym same) ∙ sym (worth_at (Some m) is)) r.2.2)

@@ -332,15 +332,15 @@ begun_more all ids old mid new lines limit h =
 
 -- ---- Stops
 
-pub ends_stopped : {A : Type 0} (IsThere : Standing) (ns : List Node) (q : Task) (work : WorkList Note) (e : Stop) → Ends {A = A} IsThere ns q work (Err e) → EndsWith ns q work e
-ends_stopped IsThere ns q work (Wide place) h = h
-ends_stopped IsThere ns q work Spent h = h
-ends_stopped IsThere ns q work Memory h = h
+pub ends_stopped : (A : Type 0) (IsThere : Standing) (ns : List Node) (q : Task) (work : WorkList Note) (e : Stop) → Ends {A = A} IsThere ns q work (Err e) → EndsWith ns q work e
+ends_stopped A IsThere ns q work (Wide place) h = h
+ends_stopped A IsThere ns q work Spent h = h
+ends_stopped A IsThere ns q work Memory h = h
 
-pub stopped_ends : {A : Type 0} (IsThere : Standing) (ns : List Node) (q : Task) (work : WorkList Note) (e : Stop) → EndsWith ns q work e → Ends {A = A} IsThere ns q work (Err e)
-stopped_ends IsThere ns q work (Wide place) h = h
-stopped_ends IsThere ns q work Spent h = h
-stopped_ends IsThere ns q work Memory h = h
+pub stopped_ends : (A : Type 0) (IsThere : Standing) (ns : List Node) (q : Task) (work : WorkList Note) (e : Stop) → EndsWith ns q work e → Ends {A = A} IsThere ns q work (Err e)
+stopped_ends A IsThere ns q work (Wide place) h = h
+stopped_ends A IsThere ns q work Spent h = h
+stopped_ends A IsThere ns q work Memory h = h
 
 -- whatever comes of a call, the lines are legal
 pub ends_legal : {A : Type 0} (IsThere : Standing) (ns : List Node) (q : Task) (work : WorkList Note) (r : Result A Stop) → Ends IsThere ns q work r → AreLegal q (noted_list ns work).lines

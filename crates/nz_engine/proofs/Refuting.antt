@@ -211,7 +211,7 @@ pub assumed_of : (ns : List Node) (levels : List (List ℕ)) (assumed : List Ter
 assumed_of ns levels assumed log (Sat ps) h = h.1
 assumed_of ns levels assumed log (Unsat id) h = tt
 
-pub negations_of : (ns : List Node) (levels : List (List ℕ)) (assumed : List TermLit) (log : LogState) (v : Verdict) → IsAnswer ns levels assumed log v
+pub negations_told : (ns : List Node) (levels : List (List ℕ)) (assumed : List TermLit) (log : LogState) (v : Verdict) → IsAnswer ns levels assumed log v
     → IfUnsat v (λ id. AreNegations assumed (literals_in log id))
-negations_of ns levels assumed log (Sat ps) h = tt
-negations_of ns levels assumed log (Unsat id) h = h.1
+negations_told ns levels assumed log (Sat ps) h = tt
+negations_told ns levels assumed log (Unsat id) h = h.1

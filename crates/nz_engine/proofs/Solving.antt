@@ -529,3 +529,9 @@ is_ready own covers stay leveled {ns} {assumed} old {p} {q} {ids} {xs} {lits} {l
       posed = posed;
       some = (begun.0, posed begun.0 begun.1);
     }
+
+-- and may again when it has learned
+pub posed_after : AtomsOfTerms → CoversStay → {ns : List Node} {assumed : List TermLit} {old p : PreparedState} {ids : List ℕ} {lits : List Lit} → IsReady ns assumed old p ids lits → (q : PreparedState)
+    → q.form ≡ p.form → q.given ≡ p.given → q.above ≡ p.above → (levels : List (List ℕ)) → theories.Grows p.log q.log → HoldsMore q.log p.sat.clauses q.sat.clauses
+    → AreSearched ns q.log q.form q.sat.clauses → (IsLog ns levels p.log → IsLog ns levels q.log) → IsPosed ns levels assumed p → IsPosed ns levels assumed q
+posed_after own covers {ns} {assumed} {old} {p} r q form given above levels grows more on sound h = posed_on own covers ns levels assumed p q form given above grows more on sound h

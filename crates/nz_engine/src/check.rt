@@ -183,12 +183,12 @@ pub fn decide(
             verdict: Verdict::Unsat(clause),
             prepared,
         }),
-        None => {
-            let values = model(alloc, terms, &prepared)?;
-            Ok(Found {
+        None => match model(alloc, terms, &prepared) {
+            Ok(values) => Ok(Found {
                 verdict: Verdict::Sat(values),
                 prepared,
-            })
-        }
+            }),
+            Err(stop) => Err(stop),
+        },
     }
 }

@@ -1,15 +1,14 @@
 //! An engine with its table. What a call asks of its arguments is tested here, so that the tests have nothing to prove: the bench's invariant
 //! is known to no other file.
-ghost use Rattle.std.specs.Prelude.{◌≡◌, ◌<◌, All, IsTrue, length, true};
+ghost use Rattle.std.specs.Prelude.{◌≡◌, All, IsTrue, OnOk};
 ghost use Rattle.std.specs.Bool.{OnTrue};
 ghost use Rattle.nz_spec.specs.Decide.{IsFrontOfTable};
-ghost use Rattle.nz_spec.specs.Gates.{is_boolean_term};
 ghost use Rattle.nz_spec.specs.Order.{HasCompanions};
-ghost use Rattle.nz_spec.specs.Table.{HasItsArguments, term_in};
+ghost use Rattle.nz_spec.specs.Table.{HasItsArguments};
 ghost use Rattle.nz_spec.specs.Term.{head_fits};
 ghost use Rattle.nz_term.specs.Heads.{head_of};
 ghost use Rattle.nz_log.specs.TermLits.{AreConsistent};
-ghost use Rattle.nz_engine_tests.specs.Benches.{AreFormulaLits, AreTaken, IsReady};
+ghost use Rattle.nz_engine_tests.specs.Benches.{AreFormulaLits, AreTaken, IsFormula, IsReady};
 
 use crate::taken::need_taken;
 use nz_base::{Memory, Text, Work};
@@ -145,8 +144,7 @@ impl Bench {
 
 /// Whether a number is of a term of sort `Bool`.
 fn is_formula(terms: &Terms, term: TermId) -> bool
-    ensures within { OnTrue result (term < length terms.now) }
-    ensures boolean { OnTrue result (is_boolean_term (term_in terms.now term) ≡ true) }
+    ensures formula { OnTrue result (IsFormula terms.now term) }
 {
     if terms.len() <= term {
         return false;

@@ -1,13 +1,12 @@
 //! What an engine asks of terms. It is tested here, so that tests have nothing to prove of it: where it doesn't hold, the answer is `Memory`, which
 //! fails the test.
-ghost use Rattle.std.specs.Prelude.{◌≡◌, ◌<◌, [], ◌∷◌, true, All, OnOk, length};
-ghost use Rattle.nz_spec.specs.Elaboration.{all_terms, has_sort};
+ghost use Rattle.std.specs.Prelude.{ℕ, ◌<◌, ◌≤◌, All, OnOk, length};
 ghost use Rattle.nz_spec.specs.Table.{HasItsArguments, term_in, terms_at};
-ghost use Rattle.nz_spec.specs.Taken.{IsTaken};
+ghost use Rattle.nz_spec.specs.Term.{Sort};
 ghost use Rattle.nz_term.specs.Constants.{sort_of};
 ghost use Rattle.nz_term.specs.Heads.{head_of, operator_of};
 ghost use Rattle.nz_engine_tests.specs.Benches.{AreTaken};
-ghost use Rattle.nz_engine_tests.specs.Sorted.{AreInOrder, IsInOrder, IsRowOf};
+ghost use Rattle.nz_engine_tests.specs.Sorted.{AreAlike, AreBranches, AreInOrder, IsInOrder, IsRowOf};
 
 use nz_base::Memory;
 use nz_term::{Head, NumberSort, Operator, Sort, TermId, Terms};

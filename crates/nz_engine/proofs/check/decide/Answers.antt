@@ -1,5 +1,5 @@
 -- What each way out of a check says.
-use Rattle.std.proofs.Common.{rules, ◌≡◌, ◌++◌, Err, IfErr, subst}
+use Rattle.std.proofs.Common.{rules, ◌≡◌, ◌++◌, ℕ, Option, Err, IfErr, subst}
 use Rattle.nz_spec.specs.Decide.{asserted_numbers}
 use Rattle.nz_spec.specs.Work.{IsSpent}
 use Rattle.nz_log.specs.declared.stop.Stop.{Stop}
@@ -48,7 +48,7 @@ returns-in_err-refuted-clause-stopped c =
     let same : Err c.in_err-refuted.field-0.0 ≡ c.from_residual-in_err-refuted.result = search rules in
     let q = task_in c.args.terms.now c.args.levels.now c.args.assumed.now in
     subst (λ r. IfErr r (λ (s : Stop). OnWide s (IsStop c.args.terms.now q c.solve.new.work))) same
-    (solve_stop (IsAt c.solve.new.self.sat.theory c.args.terms.now) c.args.terms.now q c.solve.new.work c.in_err-refuted.field-0.0
+    (solve_stop (Option ℕ) (IsAt c.solve.new.self.sat.theory c.args.terms.now) c.args.terms.now q c.solve.new.work c.in_err-refuted.field-0.0
     (c.in_err-refuted.ensures.ends c.args.levels.now c.in_ok-prepared.ensures.posed) c.in_err-refuted.ensures.works.within)
 
 -- ---- A clause refutes
@@ -76,33 +76,28 @@ model-requires-clause-covers c = (c.in_ok-refuted.ensures.posed c.args.levels.no
 pub model-requires-clause-found : goal.model-requires-clause-found
 model-requires-clause-found c = (c.args.assumed.now, c.in_ok-refuted.ensures.found c.in-None.is)
 
-pub returns-in_err-values-in-None-clause-legal : goal.returns-in_err-values-in-None-clause-legal
-returns-in_err-values-in-None-clause-legal c =
+pub returns-in-Err-in-None-clause-legal : goal.returns-in-Err-in-None-clause-legal
+returns-in-Err-in-None-clause-legal c =
     ends_legal (IsAt c.solve.new.self.sat.theory c.args.terms.now) c.args.terms.now (task_in c.args.terms.now c.args.levels.now c.args.assumed.now) c.solve.new.work c.solve.result
     (c.solve.ensures.ends c.args.levels.now c.in_ok-prepared.ensures.posed)
 
-pub returns-in_err-values-in-None-clause-spent : goal.returns-in_err-values-in-None-clause-spent
-returns-in_err-values-in-None-clause-spent c =
-    let same : Err c.in_err-values-in-None.field-0.0 ≡ c.from_residual-in_err-values-in-None.result = search rules in
-    subst (λ r. IfErr r (λ (s : Stop). OnSpent s (IsSpent c.solve.new.work))) same (unspent c.in_err-values-in-None.field-0.0 (IsSpent c.solve.new.work) c.in_err-values-in-None.ensures.unspent)
+pub returns-in-Err-in-None-clause-spent : goal.returns-in-Err-in-None-clause-spent
+returns-in-Err-in-None-clause-spent c = unspent c.in-Err-in-None.stop (IsSpent c.solve.new.work) (c.in-Err-in-None.ensures.unspent)
 
-pub returns-in_err-values-in-None-clause-stopped : goal.returns-in_err-values-in-None-clause-stopped
-returns-in_err-values-in-None-clause-stopped c =
-    let same : Err c.in_err-values-in-None.field-0.0 ≡ c.from_residual-in_err-values-in-None.result = search rules in
-    let q = task_in c.args.terms.now c.args.levels.now c.args.assumed.now in
-    subst (λ r. IfErr r (λ (s : Stop). OnWide s (IsStop c.args.terms.now q c.solve.new.work))) same
-    (model_stop c.args.terms.now q c.solve.new.work c.solve.new.self.sat.theory c.in_err-values-in-None.field-0.0 c.in_err-values-in-None.ensures.place
-    (c.in_ok-refuted.ensures.ends c.args.levels.now c.in_ok-prepared.ensures.posed) c.in_ok-refuted.ensures.works.within)
+pub returns-in-Err-in-None-clause-stopped : goal.returns-in-Err-in-None-clause-stopped
+returns-in-Err-in-None-clause-stopped c =
+    model_stop c.args.terms.now (task_in c.args.terms.now c.args.levels.now c.args.assumed.now) c.solve.new.work c.solve.new.self.sat.theory c.in-Err-in-None.stop c.in-Err-in-None.ensures.place
+    (c.in_ok-refuted.ensures.ends c.args.levels.now c.in_ok-prepared.ensures.posed) c.in_ok-refuted.ensures.works.within
 
-pub returns-in_ok-values-in-None-clause-answer : goal.returns-in_ok-values-in-None-clause-answer
-returns-in_ok-values-in-None-clause-answer c =
+pub returns-in-Ok-in-None-clause-answer : goal.returns-in-Ok-in-None-clause-answer
+returns-in-Ok-in-None-clause-answer c =
     let levels = c.args.levels.now in
-    c.in_ok-values-in-None.ensures.model levels c.args.assumed.now (c.in_ok-refuted.ensures.posed levels c.in_ok-prepared.ensures.posed) (c.in_ok-refuted.ensures.found c.in-None.is)
+    c.in-Ok-in-None.ensures.model levels c.args.assumed.now (c.in_ok-refuted.ensures.posed levels c.in_ok-prepared.ensures.posed) (c.in_ok-refuted.ensures.found c.in-None.is)
 
-pub returns-in_ok-values-in-None-clause-legal : goal.returns-in_ok-values-in-None-clause-legal
-returns-in_ok-values-in-None-clause-legal c =
+pub returns-in-Ok-in-None-clause-legal : goal.returns-in-Ok-in-None-clause-legal
+returns-in-Ok-in-None-clause-legal c =
     ends_legal (IsAt c.solve.new.self.sat.theory c.args.terms.now) c.args.terms.now (task_in c.args.terms.now c.args.levels.now c.args.assumed.now) c.solve.new.work c.solve.result
     (c.solve.ensures.ends c.args.levels.now c.in_ok-prepared.ensures.posed)
 
-pub returns-in_ok-values-in-None-clause-readied : goal.returns-in_ok-values-in-None-clause-readied
-returns-in_ok-values-in-None-clause-readied c = readied c.args.terms.now c.args.levels.now c.args.assumed.now c.solve.new.self (c.in_ok-refuted.ensures.posed c.args.levels.now c.in_ok-prepared.ensures.posed)
+pub returns-in-Ok-in-None-clause-readied : goal.returns-in-Ok-in-None-clause-readied
+returns-in-Ok-in-None-clause-readied c = readied c.args.terms.now c.args.levels.now c.args.assumed.now c.solve.new.self (c.in_ok-refuted.ensures.posed c.args.levels.now c.in_ok-prepared.ensures.posed)

@@ -1,5 +1,5 @@
 -- The atoms are noted, and then the forms that join.
-use Rattle.std.proofs.Common.{rules, ◌≡◌, ◌++◌, List, Err, IfErr, take, ap, subst, ◌∙◌, append-nil}
+use Rattle.std.proofs.Common.{rules, ◌≡◌, ◌++◌, List, Err, IfErr, take, ap, subst, ◌∙◌}
 use Rattle.std.proofs.lemmas.Result.{IfErr-weaker, IfOk-weaker}
 use Rattle.nz_lists.proofs.Results.{on_ok}
 use Rattle.std.proofs.lemmas.Option.{slice_get_within}
@@ -30,9 +30,9 @@ returns-in_err-note_atoms-clause-stopped c =
     let work = c.note_atoms.new.work in
     subst (λ r. IfErr r (λ (e : Stop). (ns : List Node) (q : Task) → MayBegin ns q all ids → EndsWith ns q work e)) same
     (λ ns q may.
-    let first = begun_first c.args.log.now.atoms c.args.atoms.now c.args.work.now c.note_atoms.new.work c.requires.no_steps c.note_atoms.ensures.first in
-    legal_first c.tells_lits.ensures.tells c.tells_literals.ensures.tells ns may.table c.args.log.now.atoms may.atoms q c.args.atoms.now may c.note_atoms.new.work first.count
-    (first.lines ∙ append-nil (atom_lines c.args.log.now.atoms (take first.count c.args.atoms.now))))
+    let first = c.note_atoms.ensures.first in
+    legal_first c.tells_lits.ensures.tells c.tells_literals.ensures.tells ns may.table all may.atoms q ids may work first.count
+    (noted_lines all (take first.count ids) c.args.work.now work c.requires.no_steps first.noted))
 
 -- and then forms
 pub returns-clause-begun : goal.returns-clause-begun

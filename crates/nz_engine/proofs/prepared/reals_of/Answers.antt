@@ -54,7 +54,7 @@ returns-in_err-add_atom-clause-stopped c =
     → Stands (IsAt empty_theory ns) ns q c.args.work.now → EndsWith ns q c.add_atom.new.work s)) same
     (stops c.args.log.now.atoms ids n c.args.work.now c.loop-number.work c.loop-number.reals c.loop-number.invariant (get_or c.args.atoms.now c.loop-number.number 0) 0 below refl
     c.add_atom.new.self c.add_atom.new.work c.add_atom.ensures.lines e
-    (λ ns q within number stands. ends_stopped (IsAt c.add_atom.new.self ns) ns q c.add_atom.new.work e (c.in_err-add_atom.ensures.ends ns q within number stands)))
+    (λ ns q within number stands. ends_stopped (Unit {0}) (IsAt c.add_atom.new.self ns) ns q c.add_atom.new.work e (c.in_err-add_atom.ensures.ends ns q within number stands)))
 
 pub returns-clause-of : goal.returns-clause-of
 returns-clause-of c =

@@ -8,7 +8,7 @@ use Rattle.nz_log.specs.Places.{IsSiteWithin, OnWide, place_of}
 use Rattle.nz_log.specs.Verdicts.{IfSat, OnUnsat, task_in}
 use Rattle.nz_engine.specs.Engines.{EngineState}
 use Rattle.nz_engine.proofs.Ending.{stop_legal, stop_within}
-use Rattle.nz_engine.proofs.Refuting.{assumed_of, negations_of, sat_of, unsat_of}
+use Rattle.nz_engine.proofs.Refuting.{assumed_of, negations_told, sat_of, unsat_of}
 use Rattle.nz_engine.proofs.engine.EngineDecide.check.Goals as goal
 
 pub returns-clause-unsat : goal.returns-clause-unsat
@@ -33,7 +33,7 @@ returns-clause-sat_assumed c =
 pub returns-clause-derived : goal.returns-clause-derived
 returns-clause-derived c =
     let found = c.in_ok-verdict.field-0 in
-    negations_of c.args.terms.now c.self.inside.levels c.args.assumed.now found.prepared.log found.verdict c.in_ok-verdict.ensures.answer
+    negations_told c.args.terms.now c.self.inside.levels c.args.assumed.now found.prepared.log found.verdict c.in_ok-verdict.ensures.answer
 
 pub returns-in_err-verdict-clause-stopped : goal.returns-in_err-verdict-clause-stopped
 returns-in_err-verdict-clause-stopped c =
