@@ -337,10 +337,13 @@ ends_stopped A IsThere ns q work (Wide place) h = h
 ends_stopped A IsThere ns q work Spent h = h
 ends_stopped A IsThere ns q work Memory h = h
 
-pub stopped_ends : (A : Type 0) (IsThere : Standing) (ns : List Node) (q : Task) (work : WorkList Note) (e : Stop) → EndsWith ns q work e → Ends {A = A} IsThere ns q work (Err e)
+stopped_ends : (A : Type 0) (IsThere : Standing) (ns : List Node) (q : Task) (work : WorkList Note) (e : Stop) → EndsWith ns q work e → Ends {A = A} IsThere ns q work (Err e)
 stopped_ends A IsThere ns q work (Wide place) h = h
 stopped_ends A IsThere ns q work Spent h = h
 stopped_ends A IsThere ns q work Memory h = h
+
+pub err_ends : (A : Type 0) (IsThere : Standing) (ns : List Node) (q : Task) (work : WorkList Note) (e : Stop) (r : Result A Stop) → Err e ≡ r → EndsWith ns q work e → Ends {A = A} IsThere ns q work r
+err_ends A IsThere ns q work e r same h = subst (Ends {A = A} IsThere ns q work) same (stopped_ends A IsThere ns q work e h)
 
 -- whatever comes of a call, the lines are legal
 pub ends_legal : {A : Type 0} (IsThere : Standing) (ns : List Node) (q : Task) (work : WorkList Note) (r : Result A Stop) → Ends IsThere ns q work r → AreLegal q (noted_list ns work).lines

@@ -9,8 +9,7 @@ use Rattle.nz_log.specs.Verdicts.{OnSpent, task_in}
 use Rattle.nz_reals.specs.Stands.{IsAt}
 use Rattle.nz_engine.specs.Checking.{IsPosed, IsStop, terms_named}
 use Rattle.nz_engine.specs.Engines.{literals_in}
-use Rattle.nz_engine.proofs.Answering.{readied}
-use Rattle.nz_engine.proofs.Ending.{legal_none, model_stop, root_stop, root_unspent, solve_stop, unspent, works_none}
+use Rattle.nz_engine.proofs.Ending.{legal_none, model_stop, root_stop, root_unspent, solve_stop, works_none}
 use Rattle.nz_engine.proofs.Naming.{ends_legal}
 use Rattle.nz_engine.proofs.Refuting.{dead_end}
 use Rattle.nz_engine.proofs.check.decide.Goals as goal
@@ -76,28 +75,7 @@ model-requires-clause-covers c = (c.in_ok-refuted.ensures.posed c.args.levels.no
 pub model-requires-clause-found : goal.model-requires-clause-found
 model-requires-clause-found c = (c.args.assumed.now, c.in_ok-refuted.ensures.found c.in-None.is)
 
-pub returns-in-Err-in-None-clause-legal : goal.returns-in-Err-in-None-clause-legal
-returns-in-Err-in-None-clause-legal c =
-    ends_legal (IsAt c.solve.new.self.sat.theory c.args.terms.now) c.args.terms.now (task_in c.args.terms.now c.args.levels.now c.args.assumed.now) c.solve.new.work c.solve.result
-    (c.solve.ensures.ends c.args.levels.now c.in_ok-prepared.ensures.posed)
-
-pub returns-in-Err-in-None-clause-spent : goal.returns-in-Err-in-None-clause-spent
-returns-in-Err-in-None-clause-spent c = unspent c.in-Err-in-None.stop (IsSpent c.solve.new.work) (c.in-Err-in-None.ensures.unspent)
-
-pub returns-in-Err-in-None-clause-stopped : goal.returns-in-Err-in-None-clause-stopped
-returns-in-Err-in-None-clause-stopped c =
-    model_stop c.args.terms.now (task_in c.args.terms.now c.args.levels.now c.args.assumed.now) c.solve.new.work c.solve.new.self.sat.theory c.in-Err-in-None.stop c.in-Err-in-None.ensures.place
+pub returns-in-Err-clause-stopped : goal.returns-in-Err-clause-stopped
+returns-in-Err-clause-stopped c =
+    model_stop c.args.terms.now (task_in c.args.terms.now c.args.levels.now c.args.assumed.now) c.solve.new.work c.solve.new.self.sat.theory c.in-Err.stop c.in-Err.ensures.place
     (c.in_ok-refuted.ensures.ends c.args.levels.now c.in_ok-prepared.ensures.posed) c.in_ok-refuted.ensures.works.within
-
-pub returns-in-Ok-in-None-clause-answer : goal.returns-in-Ok-in-None-clause-answer
-returns-in-Ok-in-None-clause-answer c =
-    let levels = c.args.levels.now in
-    c.in-Ok-in-None.ensures.model levels c.args.assumed.now (c.in_ok-refuted.ensures.posed levels c.in_ok-prepared.ensures.posed) (c.in_ok-refuted.ensures.found c.in-None.is)
-
-pub returns-in-Ok-in-None-clause-legal : goal.returns-in-Ok-in-None-clause-legal
-returns-in-Ok-in-None-clause-legal c =
-    ends_legal (IsAt c.solve.new.self.sat.theory c.args.terms.now) c.args.terms.now (task_in c.args.terms.now c.args.levels.now c.args.assumed.now) c.solve.new.work c.solve.result
-    (c.solve.ensures.ends c.args.levels.now c.in_ok-prepared.ensures.posed)
-
-pub returns-in-Ok-in-None-clause-readied : goal.returns-in-Ok-in-None-clause-readied
-returns-in-Ok-in-None-clause-readied c = readied c.args.terms.now c.args.levels.now c.args.assumed.now c.solve.new.self (c.in_ok-refuted.ensures.posed c.args.levels.now c.in_ok-prepared.ensures.posed)

@@ -13,7 +13,7 @@ use Rattle.nz_engine.specs.declared.prepared.Prepared.TheInside.{Inside}
 use Rattle.nz_engine.specs.Checking.{IsPosed}
 use Rattle.nz_engine.specs.Preparing.{PreparedState}
 use Rattle.nz_engine.proofs.Ending.{legal_none, works_begun, works_none, works_solved}
-use Rattle.nz_engine.proofs.Naming.{stopped_ends}
+use Rattle.nz_engine.proofs.Naming.{err_ends}
 use Rattle.nz_engine.proofs.Refuting.{refuted_by}
 use Rattle.nz_engine.proofs.Solving.{are_consistent, are_named, found_of, ids_learnable, ids_told, ids_within, is_asked, is_ready, may_begin, named_have, named_lits, named_searched, posed_after}
 use Rattle.nz_engine.proofs.prepared.Prepared.solve.Goals as goal
@@ -26,7 +26,7 @@ returns-in_err-named-clause-ends c = λ levels posed.
     let same : Err Memory ≡ c.from_residual.result = search rules in
     let ns = c.args.terms.now in
     let q = task_in ns levels c.args.assumed.now in
-    subst (Ends (IsAt c.named.new.self.sat.theory ns) ns q c.args.work.now) same (legal_none q ns c.args.work.now c.requires.no_steps)
+    err_ends (Option ℕ) _ ns q c.args.work.now Memory _ same (legal_none q ns c.args.work.now c.requires.no_steps)
 
 pub returns-in_err-named-clause-works : goal.returns-in_err-named-clause-works
 returns-in_err-named-clause-works c = works_none c.args.terms.now c.args.work.now c.requires.no_steps
@@ -51,8 +51,7 @@ returns-in_err-theory-clause-ends c =
     λ levels posed.
     let same : Err c.in_err-theory.field-0.0 ≡ c.from_residual-in_err-theory.result = search rules in
     let q = task_in ns levels c.args.assumed.now in
-    subst (Ends _ ns q c.begun.new.work) same
-    (stopped_ends (Option ℕ) _ ns q c.begun.new.work c.in_err-theory.field-0.0 (c.in_err-theory.ensures.stopped ns q (may_begin sums own (r.posed levels posed) r.handed)))
+    err_ends (Option ℕ) _ ns q c.begun.new.work c.in_err-theory.field-0.0 _ same (c.in_err-theory.ensures.stopped ns q (may_begin sums own (r.posed levels posed) r.handed))
 
 pub returns-in_err-theory-clause-works : goal.returns-in_err-theory-clause-works
 returns-in_err-theory-clause-works c =
