@@ -3,11 +3,9 @@ use Rattle.std.proofs.Common.{◌≡◌, ℕ, suc, ◌≤◌, List, [], ◌∷�
 use Rattle.std.proofs.lemmas.List.{length-take, take-append-drop, take-append-le, take_all}
 use Rattle.nz_spec.specs.Table.{Node, TermStays}
 use Rattle.nz_spec.specs.Decide.{IsFrontOfTable}
-use Rattle.nz_log.specs.declared.term_lits.TermLit.{TermLit}
 use Rattle.nz_log.specs.Leveled.{LogsStayLeveled}
 use Rattle.nz_log.specs.Sound.{LogsStay}
 use Rattle.nz_cform.specs.Laws.{CoversStay}
-use Rattle.nz_engine.specs.Checking.{IsPosed, terms_named}
 use Rattle.nz_engine.specs.Engines.{IsKept, IsLow, IsReadied, IsSettled}
 use Rattle.nz_engine.specs.Levels.{count_of}
 use Rattle.nz_engine.specs.Preparing.{PreparedState, CutsTo, IsPrepared, KeepsBounds}
@@ -38,10 +36,6 @@ settled covers leveled ns old levels p q last front end cuts keeps r =
 pub kept_low : (ns : List Node) (levels : List (List ℕ)) (o : Option PreparedState) → IsLow ns levels o → IsKept ns levels o
 kept_low ns levels None h = tt
 kept_low ns levels (Some p) h = record { table = h.table; more = []; standing = standing ns levels [] p h.prepared }
-
--- what a search was posed stays
-pub readied : (ns : List Node) (levels : List (List ℕ)) (assumed : List TermLit) (p : PreparedState) → IsPosed ns levels assumed p → IsReadied ns levels p
-readied ns levels assumed p h = record { table = h.table; more = terms_named assumed; standing = h.standing }
 
 -- and so it is when the levels go on
 pub kept_on : LogsStay → (ns : List Node) (old new : List (List ℕ)) (o : Option PreparedState) → GoOn old new → IsLow ns old o → IsKept ns new o

@@ -20,7 +20,6 @@ use Rattle.nz_log.specs.declared.place.Place.{Place}
 use Rattle.nz_log.specs.declared.place.Site as sites
 use Rattle.nz_log.specs.declared.place.Site.TheVariants.{Term, Joining, Exchange, Value, Sum, Limit, Model}
 use Rattle.nz_log.specs.declared.stop.Stop.{Stop}
-use Rattle.nz_log.specs.declared.stop.Stop.TheVariants as stops
 use Rattle.nz_log.specs.declared.stop.Stop.TheVariants.{Wide, Spent, Memory}
 use Rattle.nz_log.specs.declared.term_lits.TermLit.{TermLit}
 use Rattle.nz_log.specs.Atoms.{IsAtomIn}
@@ -150,11 +149,6 @@ model_stop ns q work t (Wide place) f h few =
     stop_at ns q work place (record { point = h.point; legal = h.legal; leaves = f (search_after ns work).forms (told_literals (search_after ns work)) h.point h.at }) few
 model_stop ns q work t Spent f h few = tt
 model_stop ns q work t Memory f h few = tt
-
-pub unspent : (e : Stop) (P : Type 0) → (e ≡ stops.Spent → ⊥) → OnSpent e P
-unspent (Wide place) P f = tt
-unspent Spent P f = absurd (f refl)
-unspent Memory P f = tt
 
 -- ---- What is said of a stop
 

@@ -29,7 +29,7 @@ use Rattle.nz_cform.specs.Laws.{CoversStay}
 use Rattle.nz_sat.specs.declared.clauses.Held.{Held}
 use Rattle.nz_sat.specs.Sats.{AreHeld, held_of, held_up_to}
 use Rattle.nz_engine.specs.Levels.{count_in, count_of}
-use Rattle.nz_engine.specs.Preparing.{PreparedState, AreSearched, HoldsUnit, IsMadeOf, IsOfForm, IsPrepared, IsSearched, IsStanding, CutsTo, KeepsBounds, nothing_prepared}
+use Rattle.nz_engine.specs.Preparing.{PreparedState, AreSearched, HoldsUnit, IsMadeOf, IsOfForm, IsPrepared, IsSearched, IsStanding, CutsTo, KeepsBounds}
 use Rattle.nz_engine.proofs.Placing.{GoOn, count_all, count_cut, count_more, in_all, live_cut, longer_cut, lower_or_not, place_of, stands_there}
 
 pub none_or_some : {X : Type 0} (o : Option X) → (o ≡ None) ⊎ ((x : X) × (o ≡ Some x))
@@ -70,23 +70,6 @@ still_searched ns more p q i stay of s = record { atom = s.atom; at = stay s.ato
 
 none_row : (i t : ℕ) → IsRowAt empty_log i t → ⊥
 none_row i t row = let at : origin_at empty_log i ≡ Some row.0 = row.1 in cc
-
-pub none_prepared : LogsStay → CoversStay → LogsStayLeveled → (ns : List Node) (levels roots : List (List ℕ)) → IsPrepared ns levels roots nothing_prepared
-none_prepared stay covers leveled ns levels roots =
-    record {
-      order = stay.start ns levels;
-      covers = covers.start ns;
-      below = λ t n at. cc;
-      made = λ t n at. cc;
-      taken = λ t some. absurd (true≢false (sym some));
-      leveled = leveled.start;
-      held = All-from_recursion _ [] tt;
-      searched = All-from_recursion _ [] tt;
-      rows = λ i t row. absurd (none_row i t row);
-      units = λ k t below at. absurd (omega (arith, below));
-      within = omega arith;
-      lower = λ t. omega arith;
-    }
 
 -- ---- Levels go on
 

@@ -1,5 +1,5 @@
 -- A search over what is prepared: its atoms, what they say, and what stays when it has learned.
-use Rattle.std.proofs.Common.{◌≡◌, inl, inr, ℕ, suc, ◌<◌, Bool, true, false, not, List, [], ◌∷◌, ◌++◌, length, get_or, map, Option, Some, None, option_map, Result, Ok, Err, IfOk, refl, sym, ap, subst, ◌∙◌}
+use Rattle.std.proofs.Common.{◌≡◌, inl, inr, ℕ, suc, Bool, true, false, not, List, [], ◌∷◌, ◌++◌, get_or, map, Option, Some, None, option_map, Result, Ok, Err, IfOk, refl, sym, ap, subst, ◌∙◌}
 use Rattle.std.specs.Prelude.{All, Contains, IsSome, slice_get}
 use Rattle.std.specs.List.{AllByRecursion}
 use Rattle.std.proofs.lemmas.Option.{get_or_from_slice_get, slice_get_within}
@@ -69,15 +69,6 @@ same_terms atoms t u has_t has_u same =
 -- the truth of a term whose atom is there
 pub truth_there : (p : PreparedState) (t : ℕ) → HasTerm p.log.atoms t → truth_in p t ≡ truth_of p.sat (term_place p.log.atoms t)
 truth_there p t has = ap (λ (o : Option Atom). elim o [ None ↦ None | Some a ↦ truth_of p.sat (term_place p.log.atoms t) ]) has
-
--- and that of one whose atom isn't there
-pub truth_missing : (own : AtomsOfTerms) (p : PreparedState) (t : ℕ) → ((i : ℕ) → slice_get p.log.atoms i ≡ Some (Term t) → ⊥) → truth_in p t ≡ None
-truth_missing own p t missing =
-    let place = term_place p.log.atoms t in
-    elim (slice_get p.log.atoms place) as (λ o. slice_get p.log.atoms place ≡ o → elim o [ None ↦ None | Some a ↦ truth_of p.sat place ] ≡ None) [
-      | None ↦ λ at. refl
-      | Some a ↦ λ at. absurd (missing place (at ∙ ap Some (own.only p.log.atoms t a at)))
-    ] refl
 
 -- where atoms join, these stay
 pub places_stay : (own : AtomsOfTerms) (old new : List Atom) → Stay old new → (ts : List ℕ) → All (HasTerm old) ts → map (term_place new) ts ≡ map (term_place old) ts
@@ -343,9 +334,6 @@ module _ (sums : FormsAreSums) (own : AtomsOfTerms) {ns : List Node} {levels : L
 
   pub ids_within : All (IsAtomAt ns p.log.atoms) ids
   ids_within = All-weaker (IsSearched ns p.log p.form) (IsAtomAt ns p.log.atoms) (searched_within sums ns posed.table levels (levels ++ terms_named assumed ∷ []) p ready) ids ids_searched
-
-  pub ids_there : All (λ i. i < length p.log.atoms) ids
-  ids_there = All-weaker (IsSearched ns p.log p.form) (λ i. i < length p.log.atoms) (λ i s. slice_get_within p.log.atoms i s.atom s.at) ids ids_searched
 
   pub ids_learnable : AreLearnable p.log.atoms ids
   ids_learnable =

@@ -9,7 +9,7 @@ use Rattle.nz_spec.specs.Work.{WorkList}
 use Rattle.nz_log.specs.declared.note.Note.{Note}
 use Rattle.nz_log.specs.declared.stop.Stop.{Stop}
 use Rattle.nz_log.specs.declared.stop.Stop.TheVariants.{Memory}
-use Rattle.nz_engine.specs.Checking.{EndsWith, MayBegin, atom_lines, form_lines}
+use Rattle.nz_engine.specs.Checking.{EndsWith, MayBegin, form_lines}
 use Rattle.nz_engine.proofs.Naming.{begun_first, begun_more, legal_first, noted_lines, notes_all, numbered_first, stands_first}
 use Rattle.nz_engine.proofs.prepared.begun.Goals as goal
 

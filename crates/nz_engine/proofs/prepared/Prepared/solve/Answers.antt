@@ -1,5 +1,5 @@
 -- The atoms are named and noted, the theory learns of them, and the search runs over them.
-use Rattle.std.proofs.Common.{rules, ◌≡◌, ℕ, List, Option, None, Err, IfOk, refl, ap, ◌∙◌, subst}
+use Rattle.std.proofs.Common.{rules, ◌≡◌, ℕ, List, Option, Err, IfOk, refl, ap, ◌∙◌, subst}
 use Rattle.std.specs.Prelude.{IfSome}
 use Rattle.nz_lists.proofs.Results.{on_ok}
 use Rattle.nz_log.specs.declared.lits.Lit.{Lit}
