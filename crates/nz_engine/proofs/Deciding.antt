@@ -324,13 +324,14 @@ module _ (rows_meet : RowsMeetTables) (decides : TablesDecide) (met : ToldBounds
       decided m.term m.sign (posed.assumed_covered k d below) taken.boolean (truth_there p m.term (found.handed.there.named k d below) ∙ holds)
 
   pub made_true : AreModelValues ns (map (term_in ns) (asserted_numbers levels)) [] ps × AreTrueLiterals values (map (literal_of ns) assumed)
-  made_true =
-      (record {
-        values = each_value;
-        makes = record {
-          sorts = sorted;
-          asserted_hold = each_true ns values (asserted_numbers levels) (recursion_from_All (λ t. value_of values (term_in ns t) ≡ truth true) (asserted_numbers levels) asserted_true);
-          assumed_hold = tt;
-        };
-      },
-      signs_true ns values assumed (recursion_from_All (λ (l : TermLit). value_of values (term_in ns l.term) ≡ truth l.sign) assumed assumed_true))
+  made_true = (
+    record {
+      values = each_value;
+      makes = record {
+        sorts = sorted;
+        asserted_hold = each_true ns values (asserted_numbers levels) (recursion_from_All (λ t. value_of values (term_in ns t) ≡ truth true) (asserted_numbers levels) asserted_true);
+        assumed_hold = tt;
+      };
+    },
+    signs_true ns values assumed (recursion_from_All (λ (l : TermLit). value_of values (term_in ns l.term) ≡ truth l.sign) assumed assumed_true),
+  )

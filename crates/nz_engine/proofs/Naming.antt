@@ -152,9 +152,9 @@ module _ (tells : TellsLits) (tells_spec : TellsLiterals) (ns : List Node) (tabl
       let may : MayName q s (lit i) = record { atom = each.0; fresh = fresh; negation_fresh = other } in
       let rest : Lead q (after_line s (NoteLine (atom_note (lit i)))) no_point (map (noted_line ns) (atom_lines all ids)) no_point =
       lead_names q (seen ++ i ∷ []) ids (record s { atoms = s.atoms ++ lit i ∷ [] })
-          (ap (λ (ls : List Literal). ls ++ lit i ∷ []) same ∙ sym (map-append lit seen (i ∷ [])))
-          (subst StandOnce (sym joined) once)
-          (AllByRecursion-append (IsAtomAt ns all) seen (i ∷ []) before (within.0, tt)) within.1 each.1 in
+      (ap (λ (ls : List Literal). ls ++ lit i ∷ []) same ∙ sym (map-append lit seen (i ∷ [])))
+      (subst StandOnce (sym joined) once)
+      (AllByRecursion-append (IsAtomAt ns all) seen (i ∷ []) before (within.0, tt)) within.1 each.1 in
       subst (λ (line : WorkLine spec.Note). (mid : Point) × MayFollow q s no_point line mid × Lead q (after_line s line) mid (map (noted_line ns) (atom_lines all ids)) no_point)
       (sym (line_says i within.0)) (no_point, (may, refl), rest)
 
@@ -209,12 +209,13 @@ module _ (tells : TellsLits) (tells_spec : TellsLiterals) (ns : List Node) (tabl
 
     -- a front of the notes is legal
     pub legal_first : (n : ℕ) → work.lines ≡ atom_lines all (take n ids) → AreLegal q (noted_list ns work).lines
-    legal_first n lines =
-        (no_point,
-        subst (λ (ls : List (WorkLine Note)). Lead q at_first no_point (map (noted_line ns) ls) no_point) (sym lines)
-        (lead_names q [] (take n ids) at_first refl (once_front n ids may.once) tt
-        (recursion_from_All (IsAtomAt ns all) (take n ids) (All-take (IsAtomAt ns all) n ids may.within))
-        (recursion_from_All (λ i. IsAtom q (lit i)) (take n ids) (All-take (λ i. IsAtom q (lit i)) n ids may.nameable))))
+    legal_first n lines = (
+      no_point,
+      subst (λ (ls : List (WorkLine Note)). Lead q at_first no_point (map (noted_line ns) ls) no_point) (sym lines)
+          (lead_names q [] (take n ids) at_first refl (once_front n ids may.once) tt
+          (recursion_from_All (IsAtomAt ns all) (take n ids) (All-take (IsAtomAt ns all) n ids may.within))
+          (recursion_from_All (λ i. IsAtom q (lit i)) (take n ids) (All-take (λ i. IsAtom q (lit i)) n ids may.nameable))),
+    )
       where
         in_front : (k n : ℕ) (xs : List ℕ) (x : ℕ) → slice_get (take n xs) k ≡ Some x → slice_get xs k ≡ Some x
         in_front k zero xs x e = cc

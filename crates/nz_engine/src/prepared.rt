@@ -435,12 +435,7 @@ fn reals_of(
 }
 
 /// Notes these atoms, and makes the theory over the sums that they bound.
-fn begun(
-    alloc: Global,
-    log: &Log,
-    atoms: &[AtomId],
-    work: &mut Work<Note>,
-) -> Result<Reals, Stop>
+fn begun(alloc: Global, log: &Log, atoms: &[AtomId], work: &mut Work<Note>) -> Result<Reals, Stop>
     requires learnable { AreLearnable log.now.atoms atoms.now }
     requires no_steps { work.old.lines ≡ [] }
     ensures untold { IfOk result (λ r. HasTold r []) }

@@ -14,7 +14,9 @@ use crate::taken::need_taken;
 use nz_base::{Memory, Text, Work};
 use nz_engine::Engine;
 use nz_log::{Decide, Stop, TermLit, Verdict};
-use nz_term::{Constant, Head, Operator, Sort, TermId, Terms, add_companions, operators_are_no_leaves};
+use nz_term::{
+    Constant, Head, Operator, Sort, TermId, Terms, add_companions, operators_are_no_leaves,
+};
 use nz_term_samples::are_below;
 use std::alloc::Global;
 use std::marker::Model;
