@@ -1,5 +1,5 @@
 -- Clauses that bounds of one form exclude each other: what the log has then.
-use Rattle.std.proofs.Common.{◌≡◌, ℕ, ◌<◌, List, [], ◌∷◌, ◌++◌, map, Option, Some, None, refl, sym, ap, ◌∙◌, subst, arith, true}
+use Rattle.std.proofs.Common.{◌≡◌, ℕ, List, [], ◌∷◌, ◌++◌, map, Option, Some, None, refl, sym, ap, ◌∙◌, subst, arith, true}
 use Rattle.std.specs.Prelude.{All, Contains, IsSome, slice_index_or}
 use Rattle.std.proofs.lemmas.List.Elements.{All-contains, All-from_recursion, All-push, All-weaker}
 use Rattle.nz_spec.specs.Literal.{StandOnce}
@@ -10,8 +10,7 @@ use Rattle.nz_log.specs.declared.multiples.Multiple.{Multiple}
 use Rattle.nz_log.specs.Atoms.{IsLitIn}
 use Rattle.nz_log.specs.Axioms.{AreMultiplesIn}
 use Rattle.nz_log.specs.Leveled.{AreTold, AreToldAtoms, Names}
-use Rattle.nz_log.specs.Lits.{negated_lit}
-use Rattle.nz_log.specs.Logs.{Entry, IsLive, LogState, Puts, entry_at, literals_at, told_of}
+use Rattle.nz_log.specs.Logs.{Entry, LogState, Puts, literals_at, told_of}
 use Rattle.nz_log.specs.Sound.{IsLog}
 use Rattle.nz_log.specs.Theories.{Grows, IsClash}
 use Rattle.nz_reals.specs.Exclusions.{AddsOn, AreAtomsOver, IsExclusion, Keeps}

@@ -18,7 +18,7 @@ use Rattle.nz_spec.specs.Table.{Node}
 use Rattle.nz_lin.specs.Forms.{parts_over}
 use Rattle.nz_trail.specs.Bounds.{AreApart, ClashesWith, IsOn, IsTighter, IsTightest, asserted, other_side}
 use Rattle.nz_trail.specs.declared.limits.Side.{Side}
-use Rattle.nz_trail.specs.declared.limits.Side.TheVariants.{Lower, Upper}
+use Rattle.nz_trail.specs.declared.limits.Side.TheVariants.{Upper}
 use Rattle.nz_log.specs.declared.atoms.Atom.{Atom}
 use Rattle.nz_log.specs.declared.lits.Lit.{Lit}
 use Rattle.nz_simplex.specs.Checks.{IsRefuted}

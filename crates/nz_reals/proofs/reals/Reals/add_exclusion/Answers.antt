@@ -1,4 +1,4 @@
-use Rattle.std.proofs.Common.{◌≡◌, ◌∷◌, ◌++◌, [], List, ℕ, rules, subst, sym}
+use Rattle.std.proofs.Common.{◌≡◌, ◌∷◌, ◌++◌, [], rules, subst, sym}
 use Rattle.std.specs.Prelude.{All, IfSome}
 use Rattle.nz_log.specs.Theories.{IsClash}
 use Rattle.nz_reals.specs.Exclusions.{IsExclusion}

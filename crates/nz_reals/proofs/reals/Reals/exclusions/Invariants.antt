@@ -1,4 +1,3 @@
-use Rattle.std.proofs.Common.{ℕ}
 use Rattle.std.specs.Prelude.{All}
 use Rattle.nz_reals.specs.Exclusions.{AddsOn, IsExclusion}
 use Rattle.nz_reals.proofs.reals.Reals.exclusions.Given as goal
