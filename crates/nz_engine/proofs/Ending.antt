@@ -161,3 +161,9 @@ pub stop_within : (ns : List Node) (q : Task) (work : WorkList Note) (e : Stop) 
 stop_within ns q work (Wide place) h = h.within
 stop_within ns q work Spent h = tt
 stop_within ns q work Memory h = tt
+
+pub on_spent : {A : Type 0} (r : Result A Stop) (P : Type 0) → IfErr r (λ e. e ≡ Spent → P) → IfErr r (λ e. OnSpent e P)
+on_spent (Ok x) P h = h
+on_spent (Err (Wide place)) P h = tt
+on_spent (Err Spent) P h = h refl
+on_spent (Err Memory) P h = tt

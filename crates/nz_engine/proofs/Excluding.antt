@@ -61,8 +61,9 @@ module _ {p : PreparedState} {atoms : List ℕ} (q : PreparedState) (x : Exclude
       (All-map P (held_of q.log) x.ids (All-weaker (IsExclusion q.log atoms) (λ id. All (λ (l : Lit). Contains atoms l.atom) (literals_at q.log id)) (on_atoms q.log atoms) x.ids x.exclusions)))
 
 pub ready_excluded : FormsAreSums → AtomsOfTerms → CoversStay → {ns : List Node} {assumed : List TermLit} {old p : PreparedState} {ids : List ℕ} {lits : List Lit} → IsReady ns assumed old p ids lits
-    → (q : PreparedState) → Excludes p ids q → IsReady ns assumed old q ids lits
-ready_excluded sums own covers {ns} {assumed} {old} {p} {ids} {lits} r q x =
+    → {was q s : PreparedState} → p ≡ was → Excludes was ids q → s ≡ q → IsReady ns assumed old s ids lits
+ready_excluded sums own covers {ns} {assumed} {old} {p} {ids} {lits} r {was} {q} {s} same excludes view =
+    let x : Excludes p ids q = subst (λ (z : PreparedState). Excludes z ids q) (sym same) excludes in
     let n = r.handed in
     let form : q.form ≡ p.form = ap (λ (s : PreparedState). s.form) x.rest in
     let given : q.given ≡ p.given = ap (λ (s : PreparedState). s.given) x.rest in
@@ -73,7 +74,8 @@ ready_excluded sums own covers {ns} {assumed} {old} {p} {ids} {lits} r q x =
     let after : (levels : List (List ℕ)) → IsPosed ns levels assumed p → IsPosed ns levels assumed q = λ levels h.
     posed_after own covers r q form given above levels grows (holds_exclusions q x were)
     (named_searched sums own h n q grows form (exclusions_on q x were (are_named sums own h n).clauses)) (x.adds.sound ns levels (ids_within sums own h n)) h in
-    record {
+    subst (λ (z : PreparedState). IsReady ns assumed old z ids lits) (sym view)
+    (record {
       handed = record {
         terms = subst (λ (f : FormState). IsListing f.terms) (sym form) n.terms;
         bounds = subst (λ (f : FormState). IsListing f.bounds) (sym form) n.bounds;
@@ -83,4 +85,4 @@ ready_excluded sums own covers {ns} {assumed} {old} {p} {ids} {lits} r q x =
       };
       posed = λ levels h. after levels (r.posed levels h);
       some = (r.some.0, after r.some.0 first);
-    }
+    })
