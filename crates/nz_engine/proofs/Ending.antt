@@ -1,6 +1,6 @@
 -- How a check ends: its lines are legal, and where an operation left the numbers a search may stop.
-use Rattle.std.proofs.Common.{◌≡◌, ℕ, ◌+◌, ◌≤◌, List, [], ◌∷◌, ◌++◌, map, Err, refl, sym, ap, subst, ◌∙◌, arith}
-use Rattle.std.specs.Prelude.{All, Contains, if◌then◌else◌}
+use Rattle.std.proofs.Common.{◌≡◌, ℕ, ◌+◌, ◌≤◌, List, [], ◌∷◌, ◌++◌, map, Result, Ok, Err, refl, sym, ap, subst, ◌∙◌, arith}
+use Rattle.std.specs.Prelude.{All, Contains, IfErr, if◌then◌else◌}
 use Rattle.std.specs.List.{AllByRecursion}
 use Rattle.std.proofs.lemmas.List.Sums.{sum_by-cons}
 use Rattle.nz_fractions.specs.Fraction.{Operation}
@@ -161,3 +161,9 @@ pub stop_within : (ns : List Node) (q : Task) (work : WorkList Note) (e : Stop) 
 stop_within ns q work (Wide place) h = h.within
 stop_within ns q work Spent h = tt
 stop_within ns q work Memory h = tt
+
+pub on_spent : {A : Type 0} (r : Result A Stop) (P : Type 0) → IfErr r (λ e. e ≡ Spent → P) → IfErr r (λ e. OnSpent e P)
+on_spent (Ok x) P h = h
+on_spent (Err (Wide place)) P h = tt
+on_spent (Err Spent) P h = h refl
+on_spent (Err Memory) P h = tt

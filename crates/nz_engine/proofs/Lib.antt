@@ -3,6 +3,7 @@ pub mod Assuming
 pub mod Beginning
 pub mod Deciding
 pub mod Ending
+pub mod Excluding
 pub mod Going
 pub mod Leveling
 pub mod Meeting

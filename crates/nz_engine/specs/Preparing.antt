@@ -16,6 +16,7 @@ use Rattle.nz_log.specs.TermLits.{yes}
 use Rattle.nz_cform.specs.Covering.{AreAdded, Covers, IsRowAt, Keeps}
 use Rattle.nz_cform.specs.Forms.{FormState, Cuts, Grows, covered_at, empty_form}
 use Rattle.nz_cform.specs.Listings.{listed_at}
+use Rattle.nz_reals.specs.Exclusions.{AddsOn, IsExclusion}
 use Rattle.nz_reals.specs.State.{Theory, empty_theory}
 use Rattle.nz_sat.specs.declared.clauses.Held.{Held}
 use Rattle.nz_sat.specs.Sats.{SatState, AreHeld, held_of, held_up_to}
@@ -133,6 +134,14 @@ pub record CoversAlso (ns : List Node) (old : PreparedState) (t level : ℕ) (ne
   pub told : (u : ℕ) → told_level new.log u ≤ level
   pub sound : (levels : List (List ℕ)) → IsLog ns levels old.log → IsLog ns levels new.log
   pub given : new.given ≡ old.given
+
+-- Clauses that bounds on these atoms exclude each other are put and held.
+pub record Excludes (old : PreparedState) (atoms : List ℕ) (new : PreparedState) : Type 0 where
+  pub rest : new ≡ record old { log = new.log; sat = new.sat }
+  pub adds : AddsOn atoms old.log new.log
+  pub ids : List ℕ
+  pub exclusions : All (IsExclusion new.log atoms) ids
+  pub joined : new.sat.clauses ≡ old.sat.clauses ++ map (held_of new.log) ids
 
 -- What is above a level is taken back, and the count is no more than what stands up to it.
 pub record CutsTo (old : PreparedState) (level count : ℕ) (new : PreparedState) : Type 0 where

@@ -30,7 +30,7 @@ ghost use Rattle.nz_simplex.specs.State.{IsSound, position_over};
 ghost use Rattle.nz_engine.specs.Checking.{AreCovered, AreHanded, AreLearnable, AreNumbered, AreTakenAt, EndsWith, HasBegun, HasFound, IsPosed, IsRootStop, IsStopOf, IsTermStop, MayBegin, NotesAll, NotesFirst, NotesForms, Works, atom_lines, note_of, terms_named, truth_in, value_at};
 ghost use Rattle.nz_engine.specs.Engines.{literals_in};
 ghost use Rattle.nz_engine.specs.Levels.{IsPlaced, count_of};
-ghost use Rattle.nz_engine.specs.Preparing.{CoversAlso, CutsTo, IsAssumable, IsPrepared, IsStanding, KeepsBounds, boolean_term, boolean_terms, nothing_prepared};
+ghost use Rattle.nz_engine.specs.Preparing.{CoversAlso, CutsTo, Excludes, IsAssumable, IsPrepared, IsStanding, KeepsBounds, boolean_term, boolean_terms, nothing_prepared};
 
 use crate::levels::Levels;
 use nz_base::{Memory, Work};
@@ -59,6 +59,8 @@ pub struct Prepared {
     given: usize,
     // Whether terms are covered for assumed literals alone.
     above: bool,
+    // Neighbouring bounds with lower numbers have their clauses.
+    excluded: AtomId,
 }
 
 /// The atoms of a search, and the literals that it assumes.
@@ -88,6 +90,7 @@ impl Prepared {
             sat: Sat::new(alloc, Reals::new(alloc)),
             given: 0,
             above: false,
+            excluded: 0,
         })
     }
 
@@ -250,8 +253,20 @@ impl Prepared {
         let atoms: &[AtomId] = &named.atoms;
         let literals: &[Lit] = &named.literals;
         let theory = begun(self.alloc, &self.log, atoms, work)?;
+        self.exclude(&theory, atoms)?;
         self.sat.theory = theory;
         self.sat.solve(&mut self.log, atoms, literals, work)
+    }
+
+    /// Adds the clauses for neighbouring bounds among these atoms, which a theory has learned of, and holds them. Two that had theirs get none.
+    fn exclude(&mut self, theory: &Reals, atoms: &[AtomId]) -> Result<(), Memory>
+        requires of { IsOf theory.now self.old.log.atoms atoms.now }
+        ensures excludes { OnOk result (Excludes self.old atoms.now self.new) }
+    {
+        let clauses = theory.exclusions(&mut self.log, atoms, self.excluded)?;
+        hold(&mut self.sat, &self.log, &clauses)?;
+        self.excluded = self.log.atom_count();
+        Ok(())
     }
 
     /// The atoms of the covered Boolean terms and the bounds, and the assumed literals on atoms. Atoms join the log's where they aren't there.

@@ -6,7 +6,7 @@ use Rattle.std.proofs.lemmas.List.Elements.{All-cons, All-nil}
 use Rattle.std.proofs.lemmas.Option.{get_or_from_slice_get}
 use Rattle.nz_lists.proofs.Elements.{AllByRecursion-weaker}
 use Rattle.nz_lists.proofs.Places.{slice_get_kept, slice_index_or-map}
-use Rattle.nz_fractions.specs.Fraction.{Fraction, fraction_cmp, whole, ◌*ℚ◌}
+use Rattle.nz_fractions.specs.Fraction.{Fraction, fraction_cmp, whole}
 use Rattle.nz_fractions.proofs.Arithmetic.{*ℚ-one}
 use Rattle.nz_fractions.proofs.Order.{fraction_cmp_total}
 use Rattle.nz_spec.specs.Basis.{form_at}

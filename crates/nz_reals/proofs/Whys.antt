@@ -4,7 +4,7 @@ use Rattle.std.specs.Cmp.{first_so}
 use Rattle.std.specs.Prelude.{Contains, flat_map, fold, option_map, unwrap_or, ◌&&◌, if◌then◌else◌}
 use Rattle.std.specs.List.{AllByRecursion}
 use Rattle.nz_lists.proofs.Elements.{AllByRecursion-append}
-use Rattle.nz_fractions.specs.Fraction.{Fraction, whole, neg_ℚ, ◌=ℚ◌}
+use Rattle.nz_fractions.specs.Fraction.{Fraction, whole, neg_ℚ}
 use Rattle.nz_fractions.proofs.Laws.{=ℚ_refl}
 use Rattle.nz_spec.specs.BasisMoves.{numbers}
 use Rattle.nz_spec.specs.Bland as bland

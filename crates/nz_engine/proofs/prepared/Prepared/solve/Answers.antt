@@ -1,7 +1,9 @@
--- The atoms are named and noted, the theory learns of them, and the search runs over them.
-use Rattle.std.proofs.Common.{rules, ◌≡◌, ℕ, List, Option, Err, IfOk, refl, ap, ◌∙◌, subst}
+-- The atoms are named and noted, the theory learns of them, neighbouring bounds get their clauses, and the search runs over them.
+use Rattle.std.proofs.Common.{rules, ◌≡◌, ℕ, List, Option, Err, IfOk, refl, sym, ap, ◌∙◌, subst}
 use Rattle.std.specs.Prelude.{IfSome}
 use Rattle.nz_lists.proofs.Results.{on_ok}
+use Rattle.nz_spec.specs.Work.{IsSpent}
+use Rattle.nz_log.specs.declared.atoms.Atom.{Atom}
 use Rattle.nz_log.specs.declared.lits.Lit.{Lit}
 use Rattle.nz_log.specs.declared.stop.Stop.TheVariants.{Memory}
 use Rattle.nz_log.specs.Logs.{IsLive, literals_at}
@@ -12,7 +14,8 @@ use Rattle.nz_sat.specs.Conflicts.{Refutes}
 use Rattle.nz_engine.specs.declared.prepared.Prepared.TheInside.{Inside}
 use Rattle.nz_engine.specs.Checking.{IsPosed}
 use Rattle.nz_engine.specs.Preparing.{PreparedState}
-use Rattle.nz_engine.proofs.Ending.{legal_none, works_begun, works_none, works_solved}
+use Rattle.nz_engine.proofs.Excluding.{ready_excluded}
+use Rattle.nz_engine.proofs.Ending.{legal_none, on_spent, works_begun, works_none, works_solved}
 use Rattle.nz_engine.proofs.Naming.{err_ends}
 use Rattle.nz_engine.proofs.Refuting.{refuted_by}
 use Rattle.nz_engine.proofs.Solving.{are_consistent, are_named, found_of, ids_learnable, ids_told, ids_within, is_asked, is_ready, may_begin, named_have, named_lits, named_searched, posed_after}
@@ -35,8 +38,7 @@ pub begun-requires-clause-learnable : goal.begun-requires-clause-learnable
 begun-requires-clause-learnable c =
     let sums = c.forms_are_sums.ensures.sums in
     let own = c.atoms_of_terms.ensures.atoms in
-    let view = ap (λ (i : Inside). let p : PreparedState = record { log = i.log; form = i.form; sat = i.sat; given = i.given; above = i.above } in p) c.self-inside.view_is ∙ c.self.view_is in
-    let r = is_ready own c.covers_stay.ensures.stay c.logs_stay.ensures.stay c.logs_stay_leveled.ensures.stay c.args.self.now view c.in_ok-named.ensures.rest c.in_ok-named.ensures.joins
+    let r = is_ready own c.covers_stay.ensures.stay c.logs_stay.ensures.stay c.logs_stay_leveled.ensures.stay c.args.self.now c.self.view_is c.in_ok-named.ensures.rest c.in_ok-named.ensures.joins
     c.in_ok-named.ensures.all c.in_ok-named.ensures.handed c.deref-atoms.ensures.value c.deref-literals.ensures.value c.requires.posed in
     ids_learnable sums own r.some.1 r.handed
 
@@ -44,8 +46,7 @@ pub returns-in_err-theory-clause-ends : goal.returns-in_err-theory-clause-ends
 returns-in_err-theory-clause-ends c =
     let sums = c.forms_are_sums.ensures.sums in
     let own = c.atoms_of_terms.ensures.atoms in
-    let view = ap (λ (i : Inside). let p : PreparedState = record { log = i.log; form = i.form; sat = i.sat; given = i.given; above = i.above } in p) c.self-inside.view_is ∙ c.self.view_is in
-    let r = is_ready own c.covers_stay.ensures.stay c.logs_stay.ensures.stay c.logs_stay_leveled.ensures.stay c.args.self.now view c.in_ok-named.ensures.rest c.in_ok-named.ensures.joins
+    let r = is_ready own c.covers_stay.ensures.stay c.logs_stay.ensures.stay c.logs_stay_leveled.ensures.stay c.args.self.now c.self.view_is c.in_ok-named.ensures.rest c.in_ok-named.ensures.joins
     c.in_ok-named.ensures.all c.in_ok-named.ensures.handed c.deref-atoms.ensures.value c.deref-literals.ensures.value c.requires.posed in
     let ns = c.args.terms.now in
     λ levels posed.
@@ -57,54 +58,79 @@ pub returns-in_err-theory-clause-works : goal.returns-in_err-theory-clause-works
 returns-in_err-theory-clause-works c =
     let sums = c.forms_are_sums.ensures.sums in
     let own = c.atoms_of_terms.ensures.atoms in
-    let view = ap (λ (i : Inside). let p : PreparedState = record { log = i.log; form = i.form; sat = i.sat; given = i.given; above = i.above } in p) c.self-inside.view_is ∙ c.self.view_is in
-    let r = is_ready own c.covers_stay.ensures.stay c.logs_stay.ensures.stay c.logs_stay_leveled.ensures.stay c.args.self.now view c.in_ok-named.ensures.rest c.in_ok-named.ensures.joins
+    let r = is_ready own c.covers_stay.ensures.stay c.logs_stay.ensures.stay c.logs_stay_leveled.ensures.stay c.args.self.now c.self.view_is c.in_ok-named.ensures.rest c.in_ok-named.ensures.joins
     c.in_ok-named.ensures.all c.in_ok-named.ensures.handed c.deref-atoms.ensures.value c.deref-literals.ensures.value c.requires.posed in
-    works_begun c.args.terms.now c.self-inside.inside.0.1.0.atoms c.deref-atoms.result.now c.args.work.now c.begun.new.work (ids_within sums own r.some.1 r.handed) c.begun.ensures.begun
+    works_begun c.args.terms.now c.self.inside.log.atoms c.deref-atoms.result.now c.args.work.now c.begun.new.work (ids_within sums own r.some.1 r.handed) c.begun.ensures.begun
+
+pub returns-in_err-exclude-clause-ends : goal.returns-in_err-exclude-clause-ends
+returns-in_err-exclude-clause-ends c =
+    let sums = c.forms_are_sums.ensures.sums in
+    let own = c.atoms_of_terms.ensures.atoms in
+    let first = is_ready own c.covers_stay.ensures.stay c.logs_stay.ensures.stay c.logs_stay_leveled.ensures.stay c.args.self.now c.self.view_is c.in_ok-named.ensures.rest c.in_ok-named.ensures.joins
+    c.in_ok-named.ensures.all c.in_ok-named.ensures.handed c.deref-atoms.ensures.value c.deref-literals.ensures.value c.requires.posed in
+    let ns = c.args.terms.now in
+    λ levels posed.
+    let same : Err Memory ≡ c.from_residual-in_err-exclude.result = search (rules, c.from_residual-in_err-exclude.ensures, c.in_err-exclude.is, c.in_err-exclude.was) in
+    let q = task_in ns levels c.args.assumed.now in
+    let stands = c.in_ok-theory.ensures.stands ns q (may_begin sums own (first.posed levels posed) first.handed) in
+    err_ends (Option ℕ) _ ns q c.begun.new.work Memory _ same (stands.point, stands.legal)
+
+pub returns-in_err-exclude-clause-works : goal.returns-in_err-exclude-clause-works
+returns-in_err-exclude-clause-works c =
+    let sums = c.forms_are_sums.ensures.sums in
+    let own = c.atoms_of_terms.ensures.atoms in
+    let first = is_ready own c.covers_stay.ensures.stay c.logs_stay.ensures.stay c.logs_stay_leveled.ensures.stay c.args.self.now c.self.view_is c.in_ok-named.ensures.rest c.in_ok-named.ensures.joins
+    c.in_ok-named.ensures.all c.in_ok-named.ensures.handed c.deref-atoms.ensures.value c.deref-literals.ensures.value c.requires.posed in
+    works_begun c.args.terms.now c.self.inside.log.atoms c.deref-atoms.result.now c.args.work.now c.begun.new.work (ids_within sums own first.some.1 first.handed) c.begun.ensures.begun
 
 pub solve-requires-clause-held : goal.solve-requires-clause-held
 solve-requires-clause-held c =
     let sums = c.forms_are_sums.ensures.sums in
     let own = c.atoms_of_terms.ensures.atoms in
-    let view = ap (λ (i : Inside). let p : PreparedState = record { log = i.log; form = i.form; sat = i.sat; given = i.given; above = i.above } in p) c.self-inside.view_is ∙ c.self.view_is in
-    let r = is_ready own c.covers_stay.ensures.stay c.logs_stay.ensures.stay c.logs_stay_leveled.ensures.stay c.args.self.now view c.in_ok-named.ensures.rest c.in_ok-named.ensures.joins
+    let first = is_ready own c.covers_stay.ensures.stay c.logs_stay.ensures.stay c.logs_stay_leveled.ensures.stay c.args.self.now c.self.view_is c.in_ok-named.ensures.rest c.in_ok-named.ensures.joins
     c.in_ok-named.ensures.all c.in_ok-named.ensures.handed c.deref-atoms.ensures.value c.deref-literals.ensures.value c.requires.posed in
+    let view = ap (λ (i : Inside). let p : PreparedState = record { log = i.log; form = i.form; sat = i.sat; given = i.given; above = i.above } in p) c.self-inside.view_is ∙ c.self-2.view_is in
+    let r = ready_excluded sums own c.covers_stay.ensures.stay first c.self.view_is c.in_ok-exclude.ensures.excludes view in
     r.some.1.standing.raised.held
 
 pub solve-requires-clause-named : goal.solve-requires-clause-named
 solve-requires-clause-named c =
     let sums = c.forms_are_sums.ensures.sums in
     let own = c.atoms_of_terms.ensures.atoms in
-    let view = ap (λ (i : Inside). let p : PreparedState = record { log = i.log; form = i.form; sat = i.sat; given = i.given; above = i.above } in p) c.self-inside.view_is ∙ c.self.view_is in
-    let r = is_ready own c.covers_stay.ensures.stay c.logs_stay.ensures.stay c.logs_stay_leveled.ensures.stay c.args.self.now view c.in_ok-named.ensures.rest c.in_ok-named.ensures.joins
+    let first = is_ready own c.covers_stay.ensures.stay c.logs_stay.ensures.stay c.logs_stay_leveled.ensures.stay c.args.self.now c.self.view_is c.in_ok-named.ensures.rest c.in_ok-named.ensures.joins
     c.in_ok-named.ensures.all c.in_ok-named.ensures.handed c.deref-atoms.ensures.value c.deref-literals.ensures.value c.requires.posed in
+    let view = ap (λ (i : Inside). let p : PreparedState = record { log = i.log; form = i.form; sat = i.sat; given = i.given; above = i.above } in p) c.self-inside.view_is ∙ c.self-2.view_is in
+    let r = ready_excluded sums own c.covers_stay.ensures.stay first c.self.view_is c.in_ok-exclude.ensures.excludes view in
     are_named sums own r.some.1 r.handed
 
 pub solve-requires-clause-told_terms : goal.solve-requires-clause-told_terms
 solve-requires-clause-told_terms c =
     let sums = c.forms_are_sums.ensures.sums in
     let own = c.atoms_of_terms.ensures.atoms in
-    let view = ap (λ (i : Inside). let p : PreparedState = record { log = i.log; form = i.form; sat = i.sat; given = i.given; above = i.above } in p) c.self-inside.view_is ∙ c.self.view_is in
-    let r = is_ready own c.covers_stay.ensures.stay c.logs_stay.ensures.stay c.logs_stay_leveled.ensures.stay c.args.self.now view c.in_ok-named.ensures.rest c.in_ok-named.ensures.joins
+    let first = is_ready own c.covers_stay.ensures.stay c.logs_stay.ensures.stay c.logs_stay_leveled.ensures.stay c.args.self.now c.self.view_is c.in_ok-named.ensures.rest c.in_ok-named.ensures.joins
     c.in_ok-named.ensures.all c.in_ok-named.ensures.handed c.deref-atoms.ensures.value c.deref-literals.ensures.value c.requires.posed in
+    let view = ap (λ (i : Inside). let p : PreparedState = record { log = i.log; form = i.form; sat = i.sat; given = i.given; above = i.above } in p) c.self-inside.view_is ∙ c.self-2.view_is in
+    let r = ready_excluded sums own c.covers_stay.ensures.stay first c.self.view_is c.in_ok-exclude.ensures.excludes view in
     ids_told sums own r.some.1 r.handed
 
 pub solve-requires-clause-consistent : goal.solve-requires-clause-consistent
 solve-requires-clause-consistent c =
     let sums = c.forms_are_sums.ensures.sums in
     let own = c.atoms_of_terms.ensures.atoms in
-    let view = ap (λ (i : Inside). let p : PreparedState = record { log = i.log; form = i.form; sat = i.sat; given = i.given; above = i.above } in p) c.self-inside.view_is ∙ c.self.view_is in
-    let r = is_ready own c.covers_stay.ensures.stay c.logs_stay.ensures.stay c.logs_stay_leveled.ensures.stay c.args.self.now view c.in_ok-named.ensures.rest c.in_ok-named.ensures.joins
+    let first = is_ready own c.covers_stay.ensures.stay c.logs_stay.ensures.stay c.logs_stay_leveled.ensures.stay c.args.self.now c.self.view_is c.in_ok-named.ensures.rest c.in_ok-named.ensures.joins
     c.in_ok-named.ensures.all c.in_ok-named.ensures.handed c.deref-atoms.ensures.value c.deref-literals.ensures.value c.requires.posed in
+    let view = ap (λ (i : Inside). let p : PreparedState = record { log = i.log; form = i.form; sat = i.sat; given = i.given; above = i.above } in p) c.self-inside.view_is ∙ c.self-2.view_is in
+    let r = ready_excluded sums own c.covers_stay.ensures.stay first c.self.view_is c.in_ok-exclude.ensures.excludes view in
     are_consistent sums own r.some.1 r.handed c.requires.consistent
 
 pub returns-clause-posed : goal.returns-clause-posed
 returns-clause-posed c =
     let sums = c.forms_are_sums.ensures.sums in
     let own = c.atoms_of_terms.ensures.atoms in
-    let view = ap (λ (i : Inside). let p : PreparedState = record { log = i.log; form = i.form; sat = i.sat; given = i.given; above = i.above } in p) c.self-inside.view_is ∙ c.self.view_is in
-    let r = is_ready own c.covers_stay.ensures.stay c.logs_stay.ensures.stay c.logs_stay_leveled.ensures.stay c.args.self.now view c.in_ok-named.ensures.rest c.in_ok-named.ensures.joins
+    let first = is_ready own c.covers_stay.ensures.stay c.logs_stay.ensures.stay c.logs_stay_leveled.ensures.stay c.args.self.now c.self.view_is c.in_ok-named.ensures.rest c.in_ok-named.ensures.joins
     c.in_ok-named.ensures.all c.in_ok-named.ensures.handed c.deref-atoms.ensures.value c.deref-literals.ensures.value c.requires.posed in
+    let view = ap (λ (i : Inside). let p : PreparedState = record { log = i.log; form = i.form; sat = i.sat; given = i.given; above = i.above } in p) c.self-inside.view_is ∙ c.self-2.view_is in
+    let r = ready_excluded sums own c.covers_stay.ensures.stay first c.self.view_is c.in_ok-exclude.ensures.excludes view in
     let new : PreparedState = record { log = c.solve.new.log; form = c.self-inside.inside.0.1.1.0; sat = c.solve.new.self; given = c.self-inside.inside.0.1.1.1.1.0; above = c.self-inside.inside.0.1.1.1.1.1.0 } in
     let ns = c.args.terms.now in
     let grows = c.solve.ensures.grows in
@@ -113,41 +139,48 @@ returns-clause-posed c =
     let begun = r.posed levels posed in
     let within = ids_within sums own begun r.handed in
     posed_after own c.covers_stay.ensures.stay r new refl refl refl levels grows c.solve.ensures.held (named_searched sums own begun r.handed new grows refl c.solve.ensures.named)
-    (c.solve.ensures.sound ns levels (c.in_ok-theory.ensures.over ns begun.table within) within) begun)
+    (c.solve.ensures.sound ns levels (c.in_ok-theory.ensures.over ns begun.table (ids_within sums own (first.posed levels posed) first.handed)) within) begun)
 
 pub returns-clause-ends : goal.returns-clause-ends
 returns-clause-ends c =
     let sums = c.forms_are_sums.ensures.sums in
     let own = c.atoms_of_terms.ensures.atoms in
-    let view = ap (λ (i : Inside). let p : PreparedState = record { log = i.log; form = i.form; sat = i.sat; given = i.given; above = i.above } in p) c.self-inside.view_is ∙ c.self.view_is in
-    let r = is_ready own c.covers_stay.ensures.stay c.logs_stay.ensures.stay c.logs_stay_leveled.ensures.stay c.args.self.now view c.in_ok-named.ensures.rest c.in_ok-named.ensures.joins
+    let first = is_ready own c.covers_stay.ensures.stay c.logs_stay.ensures.stay c.logs_stay_leveled.ensures.stay c.args.self.now c.self.view_is c.in_ok-named.ensures.rest c.in_ok-named.ensures.joins
     c.in_ok-named.ensures.all c.in_ok-named.ensures.handed c.deref-atoms.ensures.value c.deref-literals.ensures.value c.requires.posed in
+    let view = ap (λ (i : Inside). let p : PreparedState = record { log = i.log; form = i.form; sat = i.sat; given = i.given; above = i.above } in p) c.self-inside.view_is ∙ c.self-2.view_is in
+    let r = ready_excluded sums own c.covers_stay.ensures.stay first c.self.view_is c.in_ok-exclude.ensures.excludes view in
     let ns = c.args.terms.now in
     let assumed = c.args.assumed.now in
     let ends : (levels : List (List ℕ)) → IsPosed ns levels assumed c.args.self.now → Ends (IsAt c.solve.new.self.theory ns) ns (task_in ns levels assumed) c.solve.new.work c.solve.result = λ levels posed.
     let begun = r.posed levels posed in
+    let was = first.posed levels posed in
     let q = task_in ns levels assumed in
-    c.solve.ensures.ends ns levels q (c.in_ok-theory.ensures.over ns begun.table (ids_within sums own begun r.handed)) (is_asked sums own begun r.handed)
-    (c.in_ok-theory.ensures.stands ns q (may_begin sums own begun r.handed)) in
+    c.solve.ensures.ends ns levels q (c.in_ok-theory.ensures.over ns begun.table (ids_within sums own was first.handed)) (is_asked sums own begun r.handed)
+    (c.in_ok-theory.ensures.stands ns q (may_begin sums own was first.handed)) in
     ends
 
 pub returns-clause-found : goal.returns-clause-found
 returns-clause-found c =
     let sums = c.forms_are_sums.ensures.sums in
     let own = c.atoms_of_terms.ensures.atoms in
-    let view = ap (λ (i : Inside). let p : PreparedState = record { log = i.log; form = i.form; sat = i.sat; given = i.given; above = i.above } in p) c.self-inside.view_is ∙ c.self.view_is in
-    let r = is_ready own c.covers_stay.ensures.stay c.logs_stay.ensures.stay c.logs_stay_leveled.ensures.stay c.args.self.now view c.in_ok-named.ensures.rest c.in_ok-named.ensures.joins
+    let first = is_ready own c.covers_stay.ensures.stay c.logs_stay.ensures.stay c.logs_stay_leveled.ensures.stay c.args.self.now c.self.view_is c.in_ok-named.ensures.rest c.in_ok-named.ensures.joins
     c.in_ok-named.ensures.all c.in_ok-named.ensures.handed c.deref-atoms.ensures.value c.deref-literals.ensures.value c.requires.posed in
+    let view = ap (λ (i : Inside). let p : PreparedState = record { log = i.log; form = i.form; sat = i.sat; given = i.given; above = i.above } in p) c.self-inside.view_is ∙ c.self-2.view_is in
+    let r = ready_excluded sums own c.covers_stay.ensures.stay first c.self.view_is c.in_ok-exclude.ensures.excludes view in
     let new : PreparedState = record { log = c.solve.new.log; form = c.self-inside.inside.0.1.1.0; sat = c.solve.new.self; given = c.self-inside.inside.0.1.1.1.1.0; above = c.self-inside.inside.0.1.1.1.1.1.0 } in
     let ns = c.args.terms.now in
     let assumed = c.args.assumed.now in
     let ends : (levels : List (List ℕ)) → IsPosed ns levels assumed c.args.self.now → Ends (IsAt c.solve.new.self.theory ns) ns (task_in ns levels assumed) c.solve.new.work c.solve.result = λ levels posed.
     let begun = r.posed levels posed in
+    let was = first.posed levels posed in
     let q = task_in ns levels assumed in
-    c.solve.ensures.ends ns levels q (c.in_ok-theory.ensures.over ns begun.table (ids_within sums own begun r.handed)) (is_asked sums own begun r.handed)
-    (c.in_ok-theory.ensures.stands ns q (may_begin sums own begun r.handed)) in
+    c.solve.ensures.ends ns levels q (c.in_ok-theory.ensures.over ns begun.table (ids_within sums own was first.handed)) (is_asked sums own begun r.handed)
+    (c.in_ok-theory.ensures.stands ns q (may_begin sums own was first.handed)) in
     let levels = c.requires.posed.0 in
-    let of : IsOf c.solve.new.self.theory c.self-inside.inside.0.1.0.atoms c.deref-atoms.result.now = c.solve.ensures.of c.self-inside.inside.0.1.0.atoms c.deref-atoms.result.now c.in_ok-theory.ensures.of in
+    let atoms : c.self-inside.inside.0.1.0.atoms ≡ c.self.inside.log.atoms =
+    ap (λ (s : PreparedState). s.log.atoms) view ∙ c.in_ok-exclude.ensures.excludes.adds.keeps.atoms ∙ sym (ap (λ (s : PreparedState). s.log.atoms) c.self.view_is) in
+    let of : IsOf c.solve.new.self.theory c.self-inside.inside.0.1.0.atoms c.deref-atoms.result.now =
+    c.solve.ensures.of c.self-inside.inside.0.1.0.atoms c.deref-atoms.result.now (subst (λ (all : List Atom). IsOf c.in_ok-theory.theory all c.deref-atoms.result.now) (sym atoms) c.in_ok-theory.ensures.of) in
     found_of sums own r.some.1 r.handed new c.solve.ensures.grows refl of (task_in ns levels assumed) c.solve.new.work c.solve.result c.solve.ensures.satisfied c.solve.ensures.feasible
     (ends levels c.requires.posed.1)
 
@@ -155,9 +188,10 @@ pub returns-clause-refuted : goal.returns-clause-refuted
 returns-clause-refuted c =
     let sums = c.forms_are_sums.ensures.sums in
     let own = c.atoms_of_terms.ensures.atoms in
-    let view = ap (λ (i : Inside). let p : PreparedState = record { log = i.log; form = i.form; sat = i.sat; given = i.given; above = i.above } in p) c.self-inside.view_is ∙ c.self.view_is in
-    let r = is_ready own c.covers_stay.ensures.stay c.logs_stay.ensures.stay c.logs_stay_leveled.ensures.stay c.args.self.now view c.in_ok-named.ensures.rest c.in_ok-named.ensures.joins
+    let first = is_ready own c.covers_stay.ensures.stay c.logs_stay.ensures.stay c.logs_stay_leveled.ensures.stay c.args.self.now c.self.view_is c.in_ok-named.ensures.rest c.in_ok-named.ensures.joins
     c.in_ok-named.ensures.all c.in_ok-named.ensures.handed c.deref-atoms.ensures.value c.deref-literals.ensures.value c.requires.posed in
+    let view = ap (λ (i : Inside). let p : PreparedState = record { log = i.log; form = i.form; sat = i.sat; given = i.given; above = i.above } in p) c.self-inside.view_is ∙ c.self-2.view_is in
+    let r = ready_excluded sums own c.covers_stay.ensures.stay first c.self.view_is c.in_ok-exclude.ensures.excludes view in
     let new : PreparedState = record { log = c.solve.new.log; form = c.self-inside.inside.0.1.1.0; sat = c.solve.new.self; given = c.self-inside.inside.0.1.1.1.1.0; above = c.self-inside.inside.0.1.1.1.1.1.0 } in
     let grows = c.solve.ensures.grows in
     let log = c.solve.new.log in
@@ -168,8 +202,10 @@ pub returns-clause-works : goal.returns-clause-works
 returns-clause-works c =
     let sums = c.forms_are_sums.ensures.sums in
     let own = c.atoms_of_terms.ensures.atoms in
-    let view = ap (λ (i : Inside). let p : PreparedState = record { log = i.log; form = i.form; sat = i.sat; given = i.given; above = i.above } in p) c.self-inside.view_is ∙ c.self.view_is in
-    let r = is_ready own c.covers_stay.ensures.stay c.logs_stay.ensures.stay c.logs_stay_leveled.ensures.stay c.args.self.now view c.in_ok-named.ensures.rest c.in_ok-named.ensures.joins
+    let first = is_ready own c.covers_stay.ensures.stay c.logs_stay.ensures.stay c.logs_stay_leveled.ensures.stay c.args.self.now c.self.view_is c.in_ok-named.ensures.rest c.in_ok-named.ensures.joins
     c.in_ok-named.ensures.all c.in_ok-named.ensures.handed c.deref-atoms.ensures.value c.deref-literals.ensures.value c.requires.posed in
-    works_solved c.args.terms.now c.self-inside.inside.0.1.0.atoms c.deref-atoms.result.now c.args.work.now c.begun.new.work c.solve.new.work (ids_within sums own r.some.1 r.handed) c.begun.ensures.begun
+    works_solved c.args.terms.now c.self.inside.log.atoms c.deref-atoms.result.now c.args.work.now c.begun.new.work c.solve.new.work (ids_within sums own first.some.1 first.handed) c.begun.ensures.begun
     c.solve.ensures.notes c.solve.ensures.limit c.solve.ensures.within
+
+pub returns-clause-spent : goal.returns-clause-spent
+returns-clause-spent c = on_spent c.solve.result (IsSpent c.solve.new.work) c.solve.ensures.spent

@@ -15,13 +15,13 @@ loop-atom-preserved c =
     let i = c.loop-atom.atom-index in
     elim c.match-lower.branch [
       | in-Some+in_ok-push w ↦
-        let x = w.in-Some.lower in
-        let atom : x.literal.atom ≡ get_or atoms i 0 = subst (λ o. IfSome o (λ (y : Lower). y.literal.atom ≡ get_or atoms i 0)) w.in-Some.is c.lower.ensures.atom in
-        let known : IsSome (known_at t (get_or atoms i 0)) = subst (λ o. IfSome o (λ (y : Lower). IsSome (known_at t (get_or atoms i 0)))) w.in-Some.is c.lower.ensures.known in
-        let has : Contains atoms (get_or atoms i 0) = Contains-get_or atoms i 0 c.loop-atom-test.true in
-        let items : c.match-lower.lowers.items ≡ c.loop-atom.lowers.items ++ x ∷ [] = search rules in
-        subst (All (λ (y : Lower). IsKnownOn t atoms y.literal)) (sym items)
-        (All-push (λ (y : Lower). IsKnownOn t atoms y.literal) c.loop-atom.lowers.items x c.loop-atom.invariant (subst (λ (a : ℕ). Contains atoms a × IsSome (known_at t a)) (sym atom) (has, known)))
+          let x = w.in-Some.lower in
+          let atom : x.literal.atom ≡ get_or atoms i 0 = subst (λ o. IfSome o (λ (y : Lower). y.literal.atom ≡ get_or atoms i 0)) w.in-Some.is c.lower.ensures.atom in
+          let known : IsSome (known_at t (get_or atoms i 0)) = subst (λ o. IfSome o (λ (y : Lower). IsSome (known_at t (get_or atoms i 0)))) w.in-Some.is c.lower.ensures.known in
+          let has : Contains atoms (get_or atoms i 0) = Contains-get_or atoms i 0 c.loop-atom-test.true in
+          let items : c.match-lower.lowers.items ≡ c.loop-atom.lowers.items ++ x ∷ [] = search rules in
+          subst (All (λ (y : Lower). IsKnownOn t atoms y.literal)) (sym items)
+          (All-push (λ (y : Lower). IsKnownOn t atoms y.literal) c.loop-atom.lowers.items x c.loop-atom.invariant (subst (λ (a : ℕ). Contains atoms a × IsSome (known_at t a)) (sym atom) (has, known)))
       | in_default w ↦ subst (λ v. All (λ (y : Lower). IsKnownOn t atoms y.literal) v.items) (sym w.lowers-is) c.loop-atom.invariant
     ]
 
