@@ -20,9 +20,9 @@ use Rattle.nz_spec.specs.Steps.{step_clause}
 use Rattle.nz_spec.specs.Table.{Node, IsTable, term_in}
 use Rattle.nz_spec.specs.Taken.{IsTakenHead, IsTaken}
 use Rattle.nz_spec.specs.Units.{unit_clauses}
-use Rattle.nz_spec.proofs.GateSettling.{AllAre}
-use Rattle.nz_spec.proofs.OperandSorts.{HaveOperands, operands_are}
-use Rattle.nz_reals.proofs.Sums.{neg_nonzero}
+use Rattle.nz_spec.specs.WellSorted.{AllAre, HaveOperands}
+use Rattle.nz_spec.proofs.OperandSorts.{operands_are}
+use Rattle.nz_fractions.proofs.Identities.{neg-nonzero}
 use Rattle.nz_log.specs.declared.atoms.Atom.{Atom}
 use Rattle.nz_log.specs.declared.lits.Lit.{Lit}
 use Rattle.nz_log.specs.Atoms.{clause_in, literal_in}
@@ -49,7 +49,7 @@ with_part_nonzero u c ps h = by_test (is_zero c) refl
 
 alone_nonzero : (op : Arithmetic) (q : Part) (ps : List Part) → HasCoefficient q → AreNonzeroParts ps → AreNonzeroParts (part_alone op q ∷ ps)
 alone_nonzero Sum q ps h k = (h, k)
-alone_nonzero Difference q ps h k = (neg_nonzero q.coefficient h, k)
+alone_nonzero Difference q ps h k = (neg-nonzero q.coefficient h, k)
 alone_nonzero Product q ps h k = (h, k)
 alone_nonzero Quotient q ps h k = (h, k)
 

@@ -44,7 +44,8 @@ use Rattle.nz_reals.specs.Knowing.{of_stays}
 use Rattle.nz_reals.specs.Stands.{HasTold, IsAt, IsFeasible, IsOf}
 use Rattle.nz_reals.specs.Sums.{AreNonzero}
 use Rattle.nz_reals.proofs.Saying.{bound_in_log}
-use Rattle.nz_reals.proofs.Sums.{neg_nonzero, number_back}
+use Rattle.nz_fractions.proofs.Identities.{neg-nonzero}
+use Rattle.nz_reals.proofs.Sums.{number_back}
 use Rattle.nz_sat.specs.Numbers.{IsAtomAt, atom_literal}
 use Rattle.nz_sat.specs.Sats as sat
 use Rattle.nz_sat.specs.Sats.{AreNamed, AreOn, HoldsMore, IsAsked, IsSatisfied, IsTheoryMet, truth_of}
@@ -132,7 +133,7 @@ consistent_lits atoms ls has apart =
 
 unnegated : (ps : List spec.Part) → AreNonzeroParts (map negated_part ps) → AreNonzeroParts ps
 unnegated [] h = tt
-unnegated (p ∷ ps) h = (subst (λ (q : Fraction). is_zero q ≡ false) (number_back p.coefficient) (neg_nonzero (neg_ℚ p.coefficient) h.0), unnegated ps h.1)
+unnegated (p ∷ ps) h = (subst (λ (q : Fraction). is_zero q ≡ false) (number_back p.coefficient) (neg-nonzero (neg_ℚ p.coefficient) h.0), unnegated ps h.1)
 
 by_sign : (ps : List spec.Part) (b : Fraction) (sign : Bool) → IsRowLiteral (with_sign sign (is_at_most ps b)) → AreNonzeroParts ps
 by_sign ps b true h = h
