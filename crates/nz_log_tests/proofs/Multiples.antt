@@ -1,6 +1,6 @@
 -- Multiples of bounds, over every table: each is one, and that of a bound on no units that excludes 0 excludes it too.
 use Rattle.std.proofs.Common.{◌≡◌, ◌||◌, ◌&&◌, ◌*ℤ◌, Bool, true, false, List, [], ◌∷◌, length, eqb, cond, pos, Less, Equal, Greater, refl, sym, ap, ap₂, subst, ◌∙◌, arith}
-use Rattle.std.specs.Prelude.{All, IsTrue, int_lt}
+use Rattle.std.specs.Prelude.{All, int_lt}
 use Rattle.std.specs.Ordering.{is_lt}
 use Rattle.std.specs.Bool.{OnTrue}
 use Rattle.std.specs.List.{list_all}

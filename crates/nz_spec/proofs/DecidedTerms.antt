@@ -6,7 +6,7 @@ use Rattle.std.proofs.lemmas.Bool.{and_parts}
 use Rattle.std.proofs.lemmas.Option.{same_Some}
 use Rattle.std.proofs.lemmas.List.Elements.{Contains-append_left, Contains-append_right, Contains-push}
 use Rattle.nz_lists.proofs.Elements.{AllByRecursion-weaker}
-use Rattle.nz_fractions.specs.Fraction.{Fraction, whole, ◌=ℚ◌, ◌≤ℚ◌, ◌<ℚ◌, ◌+ℚ◌, neg_ℚ, fraction_cmp, fraction_eq, Difference}
+use Rattle.nz_fractions.specs.Fraction.{Fraction, whole, ◌=ℚ◌, ◌≤ℚ◌, ◌<ℚ◌, neg_ℚ, fraction_cmp, fraction_eq, Difference}
 use Rattle.nz_spec.specs.Computation.{Computation, in_turn}
 use Rattle.nz_spec.specs.Term.{NumberSort, over_int, over_real, sort_over, bool_sort, real_sort, is_bool, Constant, Head, constant, integer, decimal_number, verum, falsum, negation, conjunction, disjunction, exclusion, equality, choice, less, at_most, sum, difference, product, quotient, to_real, Term, apply, Terms, no_terms, terms, Value, truth, Assignment, is_true, number_of, are_equal, decimal_value, value_of, values_of, sort_of, IsOfSort}
 use Rattle.nz_spec.specs.Linear.{constant_values, is_linear_node, is_linear, are_linear}

@@ -1,5 +1,5 @@
 -- Infinitesimal numbers that are equal as values, part by part.
-use Rattle.std.proofs.Common.{◌≡◌, true, pos, refl, ap₂}
+use Rattle.std.proofs.Common.{◌≡◌, true, pos, ap₂}
 use Rattle.std.specs.Ordering.{ordering_then}
 use Rattle.std.specs.declared.cmp.Ordering.{Ordering}
 use Rattle.nz_fractions.specs.Fraction.{Fraction, whole, ◌=ℚ◌, ◌+ℚ◌, ◌*ℚ◌}
