@@ -2,4 +2,10 @@
 #![tactic(auto)]
 
 #[cfg(test)]
+mod cover;
+#[cfg(test)]
 mod form;
+#[cfg(test)]
+mod rows;
+#[cfg(test)]
+mod taken;

@@ -176,7 +176,7 @@ module _ (rows_meet : RowsMeetTables) (decides : TablesDecide) (met : ToldBounds
       let one_true = true_clause (held_of p.log i) held in
       let each = All-contains (λ (x : Held). All (λ (l : Lit). IsSearched ns p.log p.form l.atom) (literals_at p.log x.id)) p.sat.clauses (held_of p.log i) ready.searched held in
       let s = All-contains (λ (l : Lit). IsSearched ns p.log p.form l.atom) (literals_at p.log i) one_true.0 each one_true.1 in
-      (one_true.0, (one_true.1, lit_met one_true.0 s one_true.2))
+      (one_true.0, one_true.1, lit_met one_true.0 s one_true.2)
 
   -- ---- Constants
 
@@ -283,7 +283,7 @@ module _ (rows_meet : RowsMeetTables) (decides : TablesDecide) (met : ToldBounds
             kids = k.node.kids;
             node = k.at ∙ ap Some node;
             sort = value_real k.name.sort x.1 r.2.0 k.real r.2.1;
-            fits = subst ValueFits (sym r.2.1) r.2.2.1;
+            fits = subst ValueFits (sym r.2.1) r.2.3;
           }
 
   sorted : IsAssignment values
@@ -324,13 +324,14 @@ module _ (rows_meet : RowsMeetTables) (decides : TablesDecide) (met : ToldBounds
       decided m.term m.sign (posed.assumed_covered k d below) taken.boolean (truth_there p m.term (found.handed.there.named k d below) ∙ holds)
 
   pub made_true : AreModelValues ns (map (term_in ns) (asserted_numbers levels)) [] ps × AreTrueLiterals values (map (literal_of ns) assumed)
-  made_true =
-      (record {
-        values = each_value;
-        makes = record {
-          sorts = sorted;
-          asserted_hold = each_true ns values (asserted_numbers levels) (recursion_from_All (λ t. value_of values (term_in ns t) ≡ truth true) (asserted_numbers levels) asserted_true);
-          assumed_hold = tt;
-        };
-      },
-      signs_true ns values assumed (recursion_from_All (λ (l : TermLit). value_of values (term_in ns l.term) ≡ truth l.sign) assumed assumed_true))
+  made_true = (
+    record {
+      values = each_value;
+      makes = record {
+        sorts = sorted;
+        asserted_hold = each_true ns values (asserted_numbers levels) (recursion_from_All (λ t. value_of values (term_in ns t) ≡ truth true) (asserted_numbers levels) asserted_true);
+        assumed_hold = tt;
+      };
+    },
+    signs_true ns values assumed (recursion_from_All (λ (l : TermLit). value_of values (term_in ns l.term) ≡ truth l.sign) assumed assumed_true),
+  )

@@ -1,7 +1,8 @@
 -- How a check ends: its lines are legal, and where an operation left the numbers a search may stop.
 use Rattle.std.proofs.Common.{◌≡◌, ℕ, ◌+◌, ◌≤◌, List, [], ◌∷◌, ◌++◌, map, Err, refl, sym, ap, subst, ◌∙◌, arith}
-use Rattle.std.specs.Prelude.{All, Contains}
+use Rattle.std.specs.Prelude.{All, Contains, if◌then◌else◌}
 use Rattle.std.specs.List.{AllByRecursion}
+use Rattle.std.proofs.lemmas.List.Sums.{sum_by-cons}
 use Rattle.nz_fractions.specs.Fraction.{Operation}
 use Rattle.nz_spec.specs.Bland.{Point}
 use Rattle.nz_spec.specs.Decide.{asserted_numbers}
@@ -10,7 +11,8 @@ use Rattle.nz_spec.specs.Legal.{Task, Search, Lead, AreLegal, at_first, no_point
 use Rattle.nz_spec.specs.LiteralBounds.{position_under}
 use Rattle.nz_spec.specs.Places.{IsOperationAt, IsOperationIn, IsStoppedLegally}
 use Rattle.nz_spec.specs.Table.{Node, term_in}
-use Rattle.nz_spec.specs.Work.{WorkLine, UnitLine, NoteLine, WorkList, unit_count}
+use Rattle.nz_spec.specs.Notes as noted
+use Rattle.nz_spec.specs.Work.{WorkLine, UnitLine, NoteLine, WorkList, is_unit, unit_count}
 use Rattle.nz_frac.specs.Operations.{operation_of}
 use Rattle.nz_log.specs.declared.atoms.Atom.{Atom}
 use Rattle.nz_log.specs.declared.note.Note.{Note}
@@ -18,7 +20,6 @@ use Rattle.nz_log.specs.declared.place.Place.{Place}
 use Rattle.nz_log.specs.declared.place.Site as sites
 use Rattle.nz_log.specs.declared.place.Site.TheVariants.{Term, Joining, Exchange, Value, Sum, Limit, Model}
 use Rattle.nz_log.specs.declared.stop.Stop.{Stop}
-use Rattle.nz_log.specs.declared.stop.Stop.TheVariants as stops
 use Rattle.nz_log.specs.declared.stop.Stop.TheVariants.{Wide, Spent, Memory}
 use Rattle.nz_log.specs.declared.term_lits.TermLit.{TermLit}
 use Rattle.nz_log.specs.Atoms.{IsAtomIn}
@@ -63,7 +64,9 @@ works_solved ns all ids old mid new within h notes limit few =
 
 same_units : (ns : List Node) (lines : List (WorkLine Note)) → unit_count (map (noted_line ns) lines) ≡ unit_count lines
 same_units ns [] = refl
-same_units ns (UnitLine entry ∷ lines) = ap (λ n. 1 + n) (same_units ns lines)
+same_units ns (UnitLine entry ∷ lines) =
+    sum_by-cons (λ (x : WorkLine noted.Note). if is_unit x then 1 else 0) (UnitLine entry) (map (noted_line ns) lines) ∙ ap (λ n. 1 + n) (same_units ns lines)
+    ∙ sym (sum_by-cons (λ (x : WorkLine Note). if is_unit x then 1 else 0) (UnitLine entry) lines)
 same_units ns (NoteLine note ∷ lines) = same_units ns lines
 
 by_site : (ns : List Node) (q : Task) (s : Search) (x : Point) (site : sites.Site) (op : Operation) → IsOperationIn (told_literals s) (position_under s.forms x (told_literals s)) (site_of ns site) op
@@ -94,6 +97,7 @@ stop_at ns q work place h few =
 -- a term of what is asked, before anything is noted
 term_stop : (ns : List Node) (levels : List (List ℕ)) (assumed : List TermLit) (work : WorkList Note) (root : ℕ) → Contains (asserted_numbers levels ++ terms_named assumed) root → work.lines ≡ []
     → (place : Place) → IsTermPlace ns (term_in ns root) place → IsStop ns (task_in ns levels assumed) work place
+unfolding legal_none
 term_stop ns levels assumed work root has none place h =
     let q = task_in ns levels assumed in
     let count : unit_count (map (noted_line ns) work.lines) ≡ 0 = ap (λ (ls : List (WorkLine Note)). unit_count (map (noted_line ns) ls)) none in
@@ -122,21 +126,21 @@ root_unspent ns roots Memory P h = tt
 
 -- what stops the clauses of one of some terms
 pub root_of : (ns : List Node) (roots : List ℕ) (root : ℕ) (e : Stop) → Contains roots root → IsTermStop ns (term_in ns root) e → IsRootStop ns roots e
-root_of ns roots root (Wide place) has h = (root, (has, h))
+root_of ns roots root (Wide place) has h = (root, has, h)
 root_of ns roots root Spent has h = h
 root_of ns roots root Memory has h = tt
 
 pub root_more : (ns : List Node) (xs ys : List ℕ) (e : Stop) → ((r : ℕ) → Contains xs r → Contains ys r) → IsRootStop ns xs e → IsRootStop ns ys e
-root_more ns xs ys (Wide place) more h = (h.0, (more h.0 h.1, h.2))
+root_more ns xs ys (Wide place) more h = (h.0, more h.0 h.1, h.2)
 root_more ns xs ys Spent more h = h
 root_more ns xs ys Memory more h = tt
 
 -- a search that stopped
-pub solve_stop : {A : Type 0} (IsThere : Standing) (ns : List Node) (q : Task) (work : WorkList Note) (e : Stop) → Ends {A} IsThere ns q work (Err e) → unit_count work.lines ≤ work.limit
+pub solve_stop : (A : Type 0) (IsThere : Standing) (ns : List Node) (q : Task) (work : WorkList Note) (e : Stop) → Ends {A = A} IsThere ns q work (Err e) → unit_count work.lines ≤ work.limit
     → OnWide e (IsStop ns q work)
-solve_stop IsThere ns q work (Wide place) h few = stop_at ns q work place h few
-solve_stop IsThere ns q work Spent h few = tt
-solve_stop IsThere ns q work Memory h few = tt
+solve_stop A IsThere ns q work (Wide place) h few = stop_at ns q work place h few
+solve_stop A IsThere ns q work Spent h few = tt
+solve_stop A IsThere ns q work Memory h few = tt
 
 -- values that weren't found
 pub model_stop : (ns : List Node) (q : Task) (work : WorkList Note) (t : Theory) (e : Stop) → OnWide e (IsStopOf ns t) → Stands (IsAt t ns) ns q work → unit_count work.lines ≤ work.limit
@@ -145,11 +149,6 @@ model_stop ns q work t (Wide place) f h few =
     stop_at ns q work place (record { point = h.point; legal = h.legal; leaves = f (search_after ns work).forms (told_literals (search_after ns work)) h.point h.at }) few
 model_stop ns q work t Spent f h few = tt
 model_stop ns q work t Memory f h few = tt
-
-pub unspent : (e : Stop) (P : Type 0) → (e ≡ stops.Spent → ⊥) → OnSpent e P
-unspent (Wide place) P f = tt
-unspent Spent P f = absurd (f refl)
-unspent Memory P f = tt
 
 -- ---- What is said of a stop
 

@@ -29,7 +29,7 @@ use Rattle.nz_cform.specs.Laws.{CoversStay}
 use Rattle.nz_sat.specs.declared.clauses.Held.{Held}
 use Rattle.nz_sat.specs.Sats.{AreHeld, held_of, held_up_to}
 use Rattle.nz_engine.specs.Levels.{count_in, count_of}
-use Rattle.nz_engine.specs.Preparing.{PreparedState, AreSearched, HoldsUnit, IsMadeOf, IsOfForm, IsPrepared, IsSearched, IsStanding, CutsTo, KeepsBounds, nothing_prepared}
+use Rattle.nz_engine.specs.Preparing.{PreparedState, AreSearched, HoldsUnit, IsMadeOf, IsOfForm, IsPrepared, IsSearched, IsStanding, CutsTo, KeepsBounds}
 use Rattle.nz_engine.proofs.Placing.{GoOn, count_all, count_cut, count_more, in_all, live_cut, longer_cut, lower_or_not, place_of, stands_there}
 
 pub none_or_some : {X : Type 0} (o : Option X) → (o ≡ None) ⊎ ((x : X) × (o ≡ Some x))
@@ -70,23 +70,6 @@ still_searched ns more p q i stay of s = record { atom = s.atom; at = stay s.ato
 
 none_row : (i t : ℕ) → IsRowAt empty_log i t → ⊥
 none_row i t row = let at : origin_at empty_log i ≡ Some row.0 = row.1 in cc
-
-pub none_prepared : LogsStay → CoversStay → LogsStayLeveled → (ns : List Node) (levels roots : List (List ℕ)) → IsPrepared ns levels roots nothing_prepared
-none_prepared stay covers leveled ns levels roots =
-    record {
-      order = stay.start ns levels;
-      covers = covers.start ns;
-      below = λ t n at. cc;
-      made = λ t n at. cc;
-      taken = λ t some. absurd (true≢false (sym some));
-      leveled = leveled.start;
-      held = All-from_recursion _ [] tt;
-      searched = All-from_recursion _ [] tt;
-      rows = λ i t row. absurd (none_row i t row);
-      units = λ k t below at. absurd (omega (arith, below));
-      within = omega arith;
-      lower = λ t. omega arith;
-    }
 
 -- ---- Levels go on
 
@@ -400,24 +383,24 @@ module _ (ns : List Node) (levels roots : List (List ℕ)) (p q : PreparedState)
 
 filter_short : (f : ℕ → Bool) (xs : List ℕ) → length (filter f xs) ≤ length xs
 filter_short f [] = omega arith
-filter_short f (x ∷ xs) = by_test (f x)
+filter_short f (x ∷ xs) = by_test (f x) (filter_short f xs)
   where
-    by_test : (b : Bool) → length (cond b (x ∷ filter f xs) (filter f xs)) ≤ suc (length xs)
-    by_test true = let rest = filter_short f xs in omega (arith, rest)
-    by_test false = let rest = filter_short f xs in omega (arith, rest)
+    by_test : (b : Bool) → length (filter f xs) ≤ length xs → length (cond b (x ∷ filter f xs) (filter f xs)) ≤ suc (length xs)
+    by_test true rest = omega (arith, rest)
+    by_test false rest = omega (arith, rest)
 
 -- where no element is left out, each passes the test
 filter_all : (f : ℕ → Bool) (xs : List ℕ) → length (filter f xs) ≡ length xs → (y : ℕ) → Contains xs y → f y ≡ true
 filter_all f [] e y c = absurd (has_none y c)
-filter_all f (x ∷ xs) e y c = by_test (f x) refl e
+filter_all f (x ∷ xs) e y c = by_test (f x) refl e (λ k more. filter_all f xs k y more)
   where
-    by_test : (b : Bool) → f x ≡ b → length (cond b (x ∷ filter f xs) (filter f xs)) ≡ suc (length xs) → f y ≡ true
-    by_test true t k =
+    by_test : (b : Bool) → f x ≡ b → length (cond b (x ∷ filter f xs) (filter f xs)) ≡ suc (length xs) → (length (filter f xs) ≡ length xs → Contains xs y → f y ≡ true) → f y ≡ true
+    by_test true t k rest =
         elim (has_cases x y xs c) [
           | inl same ↦ ap f (sym same) ∙ t
-          | inr more ↦ filter_all f xs (omega (arith, k)) y more
+          | inr more ↦ rest (omega (arith, k)) more
         ]
-    by_test false t k = let rest = filter_short f xs in absurd (omega (arith, rest, k))
+    by_test false t k rest = let short = filter_short f xs in absurd (omega (arith, short, k))
 
 -- so what is cut to as many has all that there were
 pub all_kept : (old new : ListingState) (level : ℕ) → ((i : ℕ) → IsSome (listed_at old i) → Contains old.ids i) → listings.Cuts old level new → length new.ids ≡ length old.ids → (i : ℕ) → IsSome (listed_at old i)

@@ -66,26 +66,26 @@ own_number i = elim (eqb_tells i i) [ inl same ↦ same.0 | inr other ↦ absurd
 -- a value that is listed stands there
 listed_there : (ps : List (ℕ × Value)) (i : ℕ) (v : Value) → listed_value ps i ≡ Some v → Contains ps (i, v)
 listed_there [] i v e = absurd cc
-listed_there (p ∷ ps) i v e = by_test (p.0 == i) refl e
+listed_there (p ∷ ps) i v e = by_test (p.0 == i) refl e (listed_there ps i v)
   where
-    by_test : (b : Bool) → (p.0 == i) ≡ b → (if b then Some p.1 else listed_value ps i) ≡ Some v → Contains (p ∷ ps) (i, v)
-    by_test true t f =
+    by_test : (b : Bool) → (p.0 == i) ≡ b → (if b then Some p.1 else listed_value ps i) ≡ Some v → (listed_value ps i ≡ Some v → Contains ps (i, v)) → Contains (p ∷ ps) (i, v)
+    by_test true t f rest =
         let first = told_number p.0 i t in
         let value = same_Some p.1 v f in
         (0, omega arith, λ j. (first j, value j))
-    by_test false t f = has_more p (i, v) ps (listed_there ps i v f)
+    by_test false t f rest = has_more p (i, v) ps (rest f)
 
 -- and one that stands there has its number listed
 listed_some : (ps : List (ℕ × Value)) (i : ℕ) (v : Value) → Contains ps (i, v) → listed_value ps i ≡ None → ⊥
 listed_some [] i v c e = has_none (i, v) c
-listed_some (p ∷ ps) i v c e = by_test (p.0 == i) refl e
+listed_some (p ∷ ps) i v c e = by_test (p.0 == i) refl e (listed_some ps i v)
   where
-    by_test : (b : Bool) → (p.0 == i) ≡ b → (if b then Some p.1 else listed_value ps i) ≡ None → ⊥
-    by_test true t f = absurd cc
-    by_test false t f =
+    by_test : (b : Bool) → (p.0 == i) ≡ b → (if b then Some p.1 else listed_value ps i) ≡ None → (Contains ps (i, v) → listed_value ps i ≡ None → ⊥) → ⊥
+    by_test true t f rest = absurd cc
+    by_test false t f rest =
         elim (has_cases p (i, v) ps c) [
           | inl same ↦ true≢false (sym (ap (λ (n : ℕ). n == i) (ap (λ (x : ℕ × Value). x.0) same) ∙ own_number i) ∙ t)
-          | inr more ↦ listed_some ps i v more f
+          | inr more ↦ rest more f
         ]
 
 -- ---- Units that are forms
@@ -142,13 +142,13 @@ module _ (met : ToldBoundsAreMet) (keep : ChosenFractionsKeepBounds) (numbers : 
 
   -- ---- What units are worth
 
-  place : Term → Option ℕ
+  abbrev place : Term → Option ℕ
   place u = unit_number fs (number_in ns u)
 
-  form_number : Term → ℕ
+  abbrev form_number : Term → ℕ
   form_number u = unwrap_or (place u) 0
 
-  pub worth_of : Valuation
+  abbrev pub worth_of : Valuation
   worth_of u = elim (place u) [ None ↦ whole (pos 0) | Some k ↦ at (y k) e ]
 
   abbrev by_form : Valuation
@@ -319,4 +319,4 @@ module _ (met : ToldBoundsAreMet) (keep : ChosenFractionsKeepBounds) (numbers : 
             let value : number_of v ≡ q = ap number_of r.2.1 in
             let same : m ≡ k = one_place k m r.1 is in
             subst (λ (p : Fraction). p =ℚ worth_of (term_in ns i)) (sym value)
-            (subst (λ (p : Fraction). q =ℚ p) (ap (λ (n : ℕ). at (y n) e) (sym same) ∙ sym (worth_at (Some m) is)) r.2.2.0)
+            (subst (λ (p : Fraction). q =ℚ p) (ap (λ (n : ℕ). at (y n) e) (sym same) ∙ sym (worth_at (Some m) is)) r.2.2)

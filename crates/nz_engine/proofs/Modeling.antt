@@ -103,20 +103,22 @@ listed_truth ns p ts t c b has head bool found =
 -- what is listed first
 pub listed_first : (ps qs : List (ℕ × Value)) (i : ℕ) (v : Value) → listed_value ps i ≡ Some v → listed_value (ps ++ qs) i ≡ Some v
 listed_first [] qs i v e = absurd cc
-listed_first (p ∷ ps) qs i v e = by_test (p.0 == i) e
+listed_first (p ∷ ps) qs i v e = by_test (p.0 == i) e (listed_first ps qs i v)
   where
-    by_test : (b : Bool) → (if b then Some p.1 else listed_value ps i) ≡ Some v → (if b then Some p.1 else listed_value (ps ++ qs) i) ≡ Some v
-    by_test true f = f
-    by_test false f = listed_first ps qs i v f
+    by_test : (b : Bool) → (if b then Some p.1 else listed_value ps i) ≡ Some v → (listed_value ps i ≡ Some v → listed_value (ps ++ qs) i ≡ Some v)
+        → (if b then Some p.1 else listed_value (ps ++ qs) i) ≡ Some v
+    by_test true f rest = f
+    by_test false f rest = rest f
 
 -- and what is listed behind
 pub listed_behind : (ps qs : List (ℕ × Value)) (i : ℕ) → listed_value ps i ≡ None → listed_value (ps ++ qs) i ≡ listed_value qs i
 listed_behind [] qs i e = refl
-listed_behind (p ∷ ps) qs i e = by_test (p.0 == i) e
+listed_behind (p ∷ ps) qs i e = by_test (p.0 == i) e (listed_behind ps qs i)
   where
-    by_test : (b : Bool) → (if b then Some p.1 else listed_value ps i) ≡ None → (if b then Some p.1 else listed_value (ps ++ qs) i) ≡ listed_value qs i
-    by_test true f = absurd cc
-    by_test false f = listed_behind ps qs i f
+    by_test : (b : Bool) → (if b then Some p.1 else listed_value ps i) ≡ None → (listed_value ps i ≡ None → listed_value (ps ++ qs) i ≡ listed_value qs i)
+        → (if b then Some p.1 else listed_value (ps ++ qs) i) ≡ listed_value qs i
+    by_test true f rest = absurd cc
+    by_test false f rest = rest f
 
 -- a constant of another sort isn't among the truths
 pub no_truth : (ns : List Node) (p : PreparedState) (ts : List ℕ) (t : ℕ) (c : Constant) → option_map (λ (n : Node). n.head) (slice_get ns t) ≡ Some (constant c) → is_bool c.sort ≡ false

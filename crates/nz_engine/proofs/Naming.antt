@@ -1,8 +1,8 @@
 -- Notes of atoms are legal: each is of what is asked, and none is named twice. Where a list of them leads, the theory of no sum stands.
-use Rattle.std.proofs.Common.{◌≡◌, ◌≢◌, inl, inr, ℕ, zero, suc, ◌<◌, Bool, true, false, List, [], ◌∷◌, ◌++◌, append-nil, length, get_or, take, map, Option, Some, None, option_map, Result, Ok, Err, refl, sym, ap, ◌∙◌, subst, arith, append_assoc}
+use Rattle.std.proofs.Common.{◌≡◌, ◌≢◌, inl, inr, ℕ, zero, suc, ◌+◌, ◌<◌, Bool, true, false, List, [], ◌∷◌, ◌++◌, append-nil, length, get_or, take, map, Option, Some, None, option_map, Result, Ok, Err, refl, sym, ap, ◌∙◌, subst, arith, append_assoc}
 use Rattle.std.specs.Prelude.{All, Contains, flat_map, slice_get, slice_index_or, ⊤}
 use Rattle.std.specs.List.{AllByRecursion, AllPairs}
-use Rattle.std.proofs.lemmas.List.{length-map, map-append, take_all}
+use Rattle.std.proofs.lemmas.List.{length-map, map-append, take_all, take_more}
 use Rattle.std.proofs.lemmas.Option.{get_or_from_slice_get, slice_get-get_or, slice_get_within}
 use Rattle.std.proofs.lemmas.List.Elements.{All-contains, All-contains_itself, All-from_recursion, All-map, All-take, All-weaker, Contains-append_cases, Contains-append_left, Contains-append_right, recursion_from_All}
 use Rattle.nz_lists.proofs.Elements.{AllByRecursion-append, AllByRecursion-weaker}
@@ -17,7 +17,7 @@ use Rattle.nz_spec.specs.Notes.{atom_note, form_note}
 use Rattle.nz_spec.specs.Order.{post_order, post_orders, companions, listing_order, listing_orders}
 use Rattle.nz_spec.specs.Table.{Node, IsTable, term_in}
 use Rattle.nz_spec.specs.Term.{falsum, Term, apply, Terms, no_terms, terms}
-use Rattle.nz_spec.specs.Work.{WorkLine, UnitLine, NoteLine, WorkList, unit_count}
+use Rattle.nz_spec.specs.Work.{WorkLine, UnitLine, NoteLine, WorkList, unit_count, with_line}
 use Rattle.nz_lin.specs.Bounds.{bounded}
 use Rattle.nz_lin.specs.Forms.{parts_over}
 use Rattle.nz_log.specs.declared.atoms.Atom as log
@@ -152,9 +152,9 @@ module _ (tells : TellsLits) (tells_spec : TellsLiterals) (ns : List Node) (tabl
       let may : MayName q s (lit i) = record { atom = each.0; fresh = fresh; negation_fresh = other } in
       let rest : Lead q (after_line s (NoteLine (atom_note (lit i)))) no_point (map (noted_line ns) (atom_lines all ids)) no_point =
       lead_names q (seen ++ i ∷ []) ids (record s { atoms = s.atoms ++ lit i ∷ [] })
-          (ap (λ (ls : List Literal). ls ++ lit i ∷ []) same ∙ sym (map-append lit seen (i ∷ [])))
-          (subst StandOnce (sym joined) once)
-          (AllByRecursion-append (IsAtomAt ns all) seen (i ∷ []) before (within.0, tt)) within.1 each.1 in
+      (ap (λ (ls : List Literal). ls ++ lit i ∷ []) same ∙ sym (map-append lit seen (i ∷ [])))
+      (subst StandOnce (sym joined) once)
+      (AllByRecursion-append (IsAtomAt ns all) seen (i ∷ []) before (within.0, tt)) within.1 each.1 in
       subst (λ (line : WorkLine spec.Note). (mid : Point) × MayFollow q s no_point line mid × Lead q (after_line s line) mid (map (noted_line ns) (atom_lines all ids)) no_point)
       (sym (line_says i within.0)) (no_point, (may, refl), rest)
 
@@ -209,12 +209,13 @@ module _ (tells : TellsLits) (tells_spec : TellsLiterals) (ns : List Node) (tabl
 
     -- a front of the notes is legal
     pub legal_first : (n : ℕ) → work.lines ≡ atom_lines all (take n ids) → AreLegal q (noted_list ns work).lines
-    legal_first n lines =
-        (no_point,
-        subst (λ (ls : List (WorkLine Note)). Lead q at_first no_point (map (noted_line ns) ls) no_point) (sym lines)
-        (lead_names q [] (take n ids) at_first refl (once_front n ids may.once) tt
-        (recursion_from_All (IsAtomAt ns all) (take n ids) (All-take (IsAtomAt ns all) n ids may.within))
-        (recursion_from_All (λ i. IsAtom q (lit i)) (take n ids) (All-take (λ i. IsAtom q (lit i)) n ids may.nameable))))
+    legal_first n lines = (
+      no_point,
+      subst (λ (ls : List (WorkLine Note)). Lead q at_first no_point (map (noted_line ns) ls) no_point) (sym lines)
+          (lead_names q [] (take n ids) at_first refl (once_front n ids may.once) tt
+          (recursion_from_All (IsAtomAt ns all) (take n ids) (All-take (IsAtomAt ns all) n ids may.within))
+          (recursion_from_All (λ i. IsAtom q (lit i)) (take n ids) (All-take (λ i. IsAtom q (lit i)) n ids may.nameable))),
+    )
       where
         in_front : (k n : ℕ) (xs : List ℕ) (x : ℕ) → slice_get (take n xs) k ≡ Some x → slice_get xs k ≡ Some x
         in_front k zero xs x e = cc
@@ -298,6 +299,18 @@ notes_all all ids ks work within lines =
 pub noted_lines : (all : List log.Atom) (ids : List ℕ) (old new : WorkList Note) → old.lines ≡ [] → new ≡ record old { lines = old.lines ++ atom_lines all ids } → new.lines ≡ atom_lines all ids
 noted_lines all ids old new none e = ap (λ (w : WorkList Note). w.lines) e ∙ ap (λ ls. ls ++ atom_lines all ids) none
 
+-- one atom more is noted
+pub notes_more : (all : List log.Atom) (ids : List ℕ) (n d : ℕ) (old work new : WorkList Note) (note : Note) → n < length ids
+    → work ≡ record old { lines = old.lines ++ atom_lines all (take n ids) } → note ≡ note_of (atom_at all (get_or ids n d)) → new ≡ with_line work (NoteLine note)
+    → new ≡ record old { lines = old.lines ++ atom_lines all (take (n + 1) ids) }
+notes_more all ids n d old work new note below before is step =
+    let line = λ (i : ℕ). NoteLine (note_of (atom_at all i)) in
+    step ∙ ap (λ (w : WorkList Note). with_line w (NoteLine note)) before
+    ∙ ap (λ (ls : List (WorkLine Note)). record old { lines = ls })
+    (append_assoc old.lines (atom_lines all (take n ids)) (NoteLine note ∷ [])
+    ∙ ap (λ (ls : List (WorkLine Note)). old.lines ++ ls)
+    (ap (λ (m : Note). atom_lines all (take n ids) ++ NoteLine m ∷ []) is ∙ sym (map-append line (take n ids) (get_or ids n d ∷ [])) ∙ ap (atom_lines all) (sym (take_more ids n d below))))
+
 -- the first so many atoms
 pub begun_first : (all : List log.Atom) (ids : List ℕ) (old new : WorkList Note) → old.lines ≡ [] → NotesFirst all ids old new → HasBegun all ids old new
 begun_first all ids old new none h =
@@ -320,15 +333,18 @@ begun_more all ids old mid new lines limit h =
 
 -- ---- Stops
 
-pub ends_stopped : {A : Type 0} (IsThere : Standing) (ns : List Node) (q : Task) (work : WorkList Note) (e : Stop) → Ends {A} IsThere ns q work (Err e) → EndsWith ns q work e
-ends_stopped IsThere ns q work (Wide place) h = h
-ends_stopped IsThere ns q work Spent h = h
-ends_stopped IsThere ns q work Memory h = h
+pub ends_stopped : (A : Type 0) (IsThere : Standing) (ns : List Node) (q : Task) (work : WorkList Note) (e : Stop) → Ends {A = A} IsThere ns q work (Err e) → EndsWith ns q work e
+ends_stopped A IsThere ns q work (Wide place) h = h
+ends_stopped A IsThere ns q work Spent h = h
+ends_stopped A IsThere ns q work Memory h = h
 
-pub stopped_ends : {A : Type 0} (IsThere : Standing) (ns : List Node) (q : Task) (work : WorkList Note) (e : Stop) → EndsWith ns q work e → Ends {A} IsThere ns q work (Err e)
-stopped_ends IsThere ns q work (Wide place) h = h
-stopped_ends IsThere ns q work Spent h = h
-stopped_ends IsThere ns q work Memory h = h
+stopped_ends : (A : Type 0) (IsThere : Standing) (ns : List Node) (q : Task) (work : WorkList Note) (e : Stop) → EndsWith ns q work e → Ends {A = A} IsThere ns q work (Err e)
+stopped_ends A IsThere ns q work (Wide place) h = h
+stopped_ends A IsThere ns q work Spent h = h
+stopped_ends A IsThere ns q work Memory h = h
+
+pub err_ends : (A : Type 0) (IsThere : Standing) (ns : List Node) (q : Task) (work : WorkList Note) (e : Stop) (r : Result A Stop) → Err e ≡ r → EndsWith ns q work e → Ends {A = A} IsThere ns q work r
+err_ends A IsThere ns q work e r same h = subst (Ends {A = A} IsThere ns q work) same (stopped_ends A IsThere ns q work e h)
 
 -- whatever comes of a call, the lines are legal
 pub ends_legal : {A : Type 0} (IsThere : Standing) (ns : List Node) (q : Task) (work : WorkList Note) (r : Result A Stop) → Ends IsThere ns q work r → AreLegal q (noted_list ns work).lines

@@ -1,5 +1,5 @@
 -- Lists of numbers in which none stands twice, and the Boolean ones of some terms.
-use Rattle.std.proofs.Common.{◌≡◌, ◌≢◌, ◌⊎◌, inl, inr, ℕ, zero, suc, Bool, true, false, true≢false, List, [], ◌∷◌, ◌++◌, map, Some, refl, sym, ap, subst, ◌∙◌, arith}
+use Rattle.std.proofs.Common.{◌≡◌, ◌⊎◌, inl, inr, ℕ, zero, suc, Bool, true, false, true≢false, List, [], ◌∷◌, ◌++◌, map, Some, refl, sym, ap, subst, ◌∙◌, arith}
 use Rattle.std.specs.Prelude.{Contains, if◌then◌else◌, ⊤}
 use Rattle.nz_spec.specs.Gates.{is_boolean_term}
 use Rattle.nz_spec.specs.Literal.{StandOnce}

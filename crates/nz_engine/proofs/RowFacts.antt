@@ -237,8 +237,8 @@ taken_row rows j c e =
 computed_row : (rows : List (Computation Clause)) (j : ℕ) (c : Clause) → (Steps.clause_at rows j).result ≡ Some c
     → (row : Computation Clause) × Contains rows row × (clause_of row.result ≡ c)
 computed_row rows j c e =
-    elim (slice_get rows j) as (λ o. slice_get rows j ≡ o → (elim o [ None ↦ at_once None | Some d ↦ turned_into (λ x. Some (clause_of x)) d ]).result ≡ Some c
-        → (row : Computation Clause) × Contains rows row × (clause_of row.result ≡ c)) [
+    elim (slice_get rows j) as (λ o. slice_get rows j ≡ o → (let made : Computation (Option Clause) = elim o [ None ↦ at_once None | Some d ↦ turned_into (λ x. Some (clause_of x)) d ] in made.result ≡ Some c)
+    → (row : Computation Clause) × Contains rows row × (clause_of row.result ≡ c)) [
       | None ↦ λ at h. cc
       | Some row ↦ λ at h. (row, stands_there rows j row at, same_Some (clause_of row.result) c h)
     ] refl e

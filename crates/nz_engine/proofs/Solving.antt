@@ -1,5 +1,5 @@
 -- A search over what is prepared: its atoms, what they say, and what stays when it has learned.
-use Rattle.std.proofs.Common.{◌≡◌, inl, inr, ℕ, suc, ◌<◌, Bool, true, false, not, List, [], ◌∷◌, ◌++◌, length, get_or, map, Option, Some, None, option_map, Result, Ok, Err, IfOk, refl, sym, ap, subst, ◌∙◌}
+use Rattle.std.proofs.Common.{◌≡◌, inl, inr, ℕ, suc, Bool, true, false, not, List, [], ◌∷◌, ◌++◌, get_or, map, Option, Some, None, option_map, Result, Ok, Err, IfOk, refl, sym, ap, subst, ◌∙◌}
 use Rattle.std.specs.Prelude.{All, Contains, IsSome, slice_get}
 use Rattle.std.specs.List.{AllByRecursion}
 use Rattle.std.proofs.lemmas.Option.{get_or_from_slice_get, slice_get_within}
@@ -70,15 +70,6 @@ same_terms atoms t u has_t has_u same =
 -- the truth of a term whose atom is there
 pub truth_there : (p : PreparedState) (t : ℕ) → HasTerm p.log.atoms t → truth_in p t ≡ truth_of p.sat (term_place p.log.atoms t)
 truth_there p t has = ap (λ (o : Option Atom). elim o [ None ↦ None | Some a ↦ truth_of p.sat (term_place p.log.atoms t) ]) has
-
--- and that of one whose atom isn't there
-pub truth_missing : (own : AtomsOfTerms) (p : PreparedState) (t : ℕ) → ((i : ℕ) → slice_get p.log.atoms i ≡ Some (Term t) → ⊥) → truth_in p t ≡ None
-truth_missing own p t missing =
-    let place = term_place p.log.atoms t in
-    elim (slice_get p.log.atoms place) as (λ o. slice_get p.log.atoms place ≡ o → elim o [ None ↦ None | Some a ↦ truth_of p.sat place ] ≡ None) [
-      | None ↦ λ at. refl
-      | Some a ↦ λ at. absurd (missing place (at ∙ ap Some (own.only p.log.atoms t a at)))
-    ] refl
 
 -- where atoms join, these stay
 pub places_stay : (own : AtomsOfTerms) (old new : List Atom) → Stay old new → (ts : List ℕ) → All (HasTerm old) ts → map (term_place new) ts ≡ map (term_place old) ts
@@ -245,7 +236,7 @@ module _ (sums : FormsAreSums) (ns : List Node) (table : IsTable ns) (levels roo
         by_atom : (a : Atom) → slice_get p.log.atoms i ≡ Some a → IsOfForm ns p.form i a → IsAtom q (atom_literal ns p.log.atoms i)
         by_atom (Term t) at of =
             let is : atom_literal ns p.log.atoms i ≡ term_literal (term_in ns t) true = literal_at_atom ns p.log.atoms (record { atom = i; sign = true }) (Term t) at in
-            subst (IsAtom q) (sym is) (refl, (of.1, listed t of.0))
+            subst (IsAtom q) (sym is) (refl, of.1, listed t of.0)
         by_atom (AtMost b) at of =
             let x = bound_of_row i b at of in
             subst (IsAtom q) (sym (bound_in_log ns p.log.atoms (record { atom = i; sign = true }) b at (normal_bound p.log.atoms i b ready.order.atoms at)))
@@ -315,8 +306,8 @@ module _ (ns : List Node) (p : PreparedState) (own : AtomsOfTerms) (are : AreAto
 
 -- ---- A search that is handed its atoms
 
-module _ (sums : FormsAreSums) (own : AtomsOfTerms) (ns : List Node) (levels : List (List ℕ)) (assumed : List TermLit) (p : PreparedState) (posed : IsPosed ns levels assumed p)
-    (ids : List ℕ) (lits : List Lit) (n : AreHanded ns p assumed ids lits) where
+module _ (sums : FormsAreSums) (own : AtomsOfTerms) {ns : List Node} {levels : List (List ℕ)} {assumed : List TermLit} {p : PreparedState} (posed : IsPosed ns levels assumed p)
+    {ids : List ℕ} {lits : List Lit} (n : AreHanded ns p assumed ids lits) where
   abbrev ready : IsPrepared ns levels (levels ++ terms_named assumed ∷ []) p
   ready = posed.standing.raised
 
@@ -344,9 +335,6 @@ module _ (sums : FormsAreSums) (own : AtomsOfTerms) (ns : List Node) (levels : L
 
   pub ids_within : All (IsAtomAt ns p.log.atoms) ids
   ids_within = All-weaker (IsSearched ns p.log p.form) (IsAtomAt ns p.log.atoms) (searched_within sums ns posed.table levels (levels ++ terms_named assumed ∷ []) p ready) ids ids_searched
-
-  pub ids_there : All (λ i. i < length p.log.atoms) ids
-  ids_there = All-weaker (IsSearched ns p.log p.form) (λ i. i < length p.log.atoms) (λ i s. slice_get_within p.log.atoms i s.atom s.at) ids ids_searched
 
   pub ids_learnable : AreLearnable p.log.atoms ids
   ids_learnable =
@@ -509,3 +497,30 @@ pub posed_named : AtomsOfTerms → CoversStay → LogsStay → LogsStayLeveled �
 posed_named own covers stay leveled ns levels assumed p q rest joins all posed =
     posed_joined own covers ns levels assumed p q (ap (λ (s : PreparedState). s.form) rest) (ap (λ (s : PreparedState). s.given) rest) (ap (λ (s : PreparedState). s.above) rest) stay leveled
     joins all (ap (λ (s : PreparedState). s.sat.clauses) rest) posed
+
+-- ---- What is known before a search
+
+-- Where atoms were named in a log, a search over these and these literals may begin, over the levels over which it might have before.
+pub record IsReady (ns : List Node) (assumed : List TermLit) (old p : PreparedState) (ids : List ℕ) (lits : List Lit) : Type 0 where
+  pub handed : AreHanded ns p assumed ids lits
+  pub posed : (levels : List (List ℕ)) → IsPosed ns levels assumed old → IsPosed ns levels assumed p
+  pub some : (levels : List (List ℕ)) × IsPosed ns levels assumed p
+
+pub is_ready : AtomsOfTerms → CoversStay → LogsStay → LogsStayLeveled → {ns : List Node} {assumed : List TermLit} (old : PreparedState) {p q : PreparedState} {ids xs : List ℕ} {lits ls : List Lit}
+    → p ≡ q → q ≡ record old { log = q.log } → JoinsAtoms old.log q.log → AreAtoms q.log.atoms → AreHanded ns q assumed xs ls → ids ≡ xs → lits ≡ ls
+    → (levels : List (List ℕ)) × IsPosed ns levels assumed old → IsReady ns assumed old p ids lits
+is_ready own covers stay leveled {ns} {assumed} old {p} {q} {ids} {xs} {lits} {ls} view rest joins all handed same_ids same_lits begun =
+    let posed : (levels : List (List ℕ)) → IsPosed ns levels assumed old → IsPosed ns levels assumed p = λ levels h.
+    subst (IsPosed ns levels assumed) (sym view) (posed_named own covers stay leveled ns levels assumed old q rest joins all h) in
+    record {
+      handed = subst (λ (s : PreparedState). AreHanded ns s assumed ids lits) (sym view)
+          (subst (λ (is : List ℕ). AreHanded ns q assumed is lits) (sym same_ids) (subst (AreHanded ns q assumed xs) (sym same_lits) handed));
+      posed = posed;
+      some = (begun.0, posed begun.0 begun.1);
+    }
+
+-- and may again when it has learned
+pub posed_after : AtomsOfTerms → CoversStay → {ns : List Node} {assumed : List TermLit} {old p : PreparedState} {ids : List ℕ} {lits : List Lit} → IsReady ns assumed old p ids lits → (q : PreparedState)
+    → q.form ≡ p.form → q.given ≡ p.given → q.above ≡ p.above → (levels : List (List ℕ)) → theories.Grows p.log q.log → HoldsMore q.log p.sat.clauses q.sat.clauses
+    → AreSearched ns q.log q.form q.sat.clauses → (IsLog ns levels p.log → IsLog ns levels q.log) → IsPosed ns levels assumed p → IsPosed ns levels assumed q
+posed_after own covers {ns} {assumed} {old} {p} r q form given above levels grows more on sound h = posed_on own covers ns levels assumed p q form given above grows more on sound h

@@ -1,5 +1,5 @@
 -- A check: its atoms, its answer, its work, and where it stopped.
-use Rattle.std.specs.Prelude.{◌≡◌, ℕ, ◌<◌, ◌≤◌, ◌++◌, Bool, true, List, [], ◌∷◌, length, All, Contains, Option, Some, None, IsSome, if◌then◌else◌, map, option_map, slice_get, slice_index_or, take, ⊤}
+use Rattle.std.specs.Prelude.{◌≡◌, ℕ, ◌<◌, ◌≤◌, ◌++◌, Bool, List, [], ◌∷◌, length, All, Contains, Option, Some, None, IsSome, if◌then◌else◌, map, option_map, slice_get, slice_index_or, take, ⊤}
 use Rattle.nz_spec.specs.Term as spec_term
 use Rattle.nz_spec.specs.Term.{Head, constant, Value, is_bool, truth}
 use Rattle.nz_spec.specs.Table.{Node, IsTable, term_in, assignment_by}

@@ -24,9 +24,7 @@ use nz_base::{Memory, Work};
 use nz_cform::laws::{covers_stay, rows_meet_tables};
 use nz_log::laws::{atoms_of_terms, clauses_are_true, logs_stay, logs_stay_leveled};
 use nz_log::{Note, Stop, TermLit, Verdict};
-use nz_spec::deciding::{
-    chosen_fractions_keep_bounds, taken_terms_are_in_order, tables_decide, told_bounds_are_met,
-};
+use nz_spec::deciding::{chosen_fractions_keep_bounds, tables_decide, told_bounds_are_met};
 use nz_spec::derivation::tells_literals;
 use nz_spec::form::term_has_its_number;
 use nz_spec::table::{assigns_by_number, one_number, term_of_node, term_stays};
@@ -136,7 +134,6 @@ fn model(alloc: Global, terms: &Terms, prepared: &Prepared) -> Result<Assign, St
     assigns_by_number();
     term_has_its_number();
     tells_literals();
-    taken_terms_are_in_order();
     rows_meet_tables();
     tables_decide();
     told_bounds_are_met();
@@ -183,12 +180,12 @@ pub fn decide(
             verdict: Verdict::Unsat(clause),
             prepared,
         }),
-        None => {
-            let values = model(alloc, terms, &prepared)?;
-            Ok(Found {
+        None => match model(alloc, terms, &prepared) {
+            Ok(values) => Ok(Found {
                 verdict: Verdict::Sat(values),
                 prepared,
-            })
-        }
+            }),
+            Err(stop) => Err(stop),
+        },
     }
 }

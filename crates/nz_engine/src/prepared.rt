@@ -241,17 +241,17 @@ impl Prepared {
         ensures works { Works terms.now work.old work.new }
         ensures spent { IfErr result (λ s. OnSpent s (IsSpent work.new)) }
     {
-        known_table(terms);
         covers_stay();
         logs_stay();
         logs_stay_leveled();
         atoms_of_terms();
         forms_are_sums();
         let named = self.named(terms, assumed)?;
-        let theory = begun(self.alloc, &self.log, &named.atoms, work)?;
+        let atoms: &[AtomId] = &named.atoms;
+        let literals: &[Lit] = &named.literals;
+        let theory = begun(self.alloc, &self.log, atoms, work)?;
         self.sat.theory = theory;
-        self.sat
-            .solve(&mut self.log, &named.atoms, &named.literals, work)
+        self.sat.solve(&mut self.log, atoms, literals, work)
     }
 
     /// The atoms of the covered Boolean terms and the bounds, and the assumed literals on atoms. Atoms join the log's where they aren't there.
@@ -263,6 +263,7 @@ impl Prepared {
         ensures handed { IfOk result (λ n. AreHanded terms.now self.new assumed.now n.atoms.items n.literals.items) }
     {
         atoms_of_terms();
+        self.log.atom_count();
         let booleans = booleans_of(self.alloc, terms, self.form.terms())?;
         let mut atoms = self.log.term_atoms(&booleans)?;
         atoms.extend_from_slice(self.form.bounds())?;
@@ -403,8 +404,8 @@ fn note_atoms(
     ensures first { NotesFirst log.now.atoms atoms.now work.old work.new }
 {
     for id in atoms {
-        let note = noted(alloc, log.atom(*id))?;
-        work.note(note)?;
+        let line = noted(alloc, log.atom(*id))?;
+        work.note(line)?;
     }
     Ok(())
 }
@@ -434,12 +435,7 @@ fn reals_of(
 }
 
 /// Notes these atoms, and makes the theory over the sums that they bound.
-fn begun(
-    alloc: Global,
-    log: &Log,
-    atoms: &[AtomId],
-    work: &mut Work<Note>,
-) -> Result<Reals, Stop>
+fn begun(alloc: Global, log: &Log, atoms: &[AtomId], work: &mut Work<Note>) -> Result<Reals, Stop>
     requires learnable { AreLearnable log.now.atoms atoms.now }
     requires no_steps { work.old.lines ≡ [] }
     ensures untold { IfOk result (λ r. HasTold r []) }

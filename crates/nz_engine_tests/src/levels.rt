@@ -1,6 +1,6 @@
 //! Checks one after another: what is asserted comes and goes, and so does what is assumed.
 
-use crate::formula::Part::{self, And, Atom, Equal, Ite, Not, Or, Xor};
+use crate::formula::Part::{self, AtMost, Atom, Equal, Ite, Less, Not, Or, Real, Sum, Tenths, Xor};
 use crate::trial::{Trial, Tried};
 use std::alloc::Global;
 use std::test::Fail;
@@ -74,6 +74,29 @@ const SPENT: &[Act] = &[
 #[test]
 fn a_spent_check_leaves_the_engine_as_it_was(rt: HostRuntime) -> Result<(), Fail> {
     run(rt.alloc(), SPENT)
+}
+
+// A bound that a popped level alone had comes again; what was learned of it is no longer known.
+const BOUNDS: &[Act] = &[
+    Act::Assert(&[Real(0), Real(1), Less]),
+    Act::Ask(&[], Tried::Sat),
+    Act::Push,
+    Act::Assert(&[Real(1), Real(2), Less]),
+    Act::Ask(&[&[Real(2), Real(0), Less]], Tried::Unsat),
+    Act::Ask(&[&[Real(0), Real(2), Less]], Tried::Sat),
+    Act::Pop,
+    Act::Ask(&[&[Real(2), Real(0), Less]], Tried::Sat),
+    Act::Push,
+    Act::Assert(&[Real(0), Real(1), Sum(2), Tenths(10), AtMost]),
+    Act::Ask(&[&[Tenths(5), Real(0), AtMost]], Tried::Unsat),
+    Act::Ask(&[&[Tenths(4), Real(0), AtMost]], Tried::Sat),
+    Act::Pop,
+    Act::Ask(&[&[Tenths(5), Real(0), AtMost]], Tried::Sat),
+];
+
+#[test]
+fn what_is_popped_bounds_no_longer(rt: HostRuntime) -> Result<(), Fail> {
+    run(rt.alloc(), BOUNDS)
 }
 
 // Over six constants: what is asserted, and literals of which one of each list may be assumed together.

@@ -12,4 +12,6 @@ mod levels;
 #[cfg(test)]
 mod rows;
 #[cfg(test)]
+mod taken;
+#[cfg(test)]
 mod trial;

@@ -24,6 +24,7 @@ pub enum Tried {
     Sat,
     Unsat,
     Spent,
+    Wide,
 }
 
 /// Another answer than was wanted, and where.
@@ -79,6 +80,7 @@ impl Trial {
             Answer::Unsat(0) => Err(Fail::new("a clause without a step")),
             Answer::Unsat(_) => Ok(Tried::Unsat),
             Answer::Spent => Ok(Tried::Spent),
+            Answer::Wide => Ok(Tried::Wide),
             Answer::Unasked => Err(Fail::new("the engine can't be asked")),
         }
     }

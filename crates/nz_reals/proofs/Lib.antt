@@ -4,6 +4,7 @@ pub mod Choosing
 pub mod Contradicting
 pub mod Elements
 pub mod Ending
+pub mod Excluding
 pub mod Joining
 pub mod JoiningRows
 pub mod Keeping

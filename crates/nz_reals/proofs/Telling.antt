@@ -1,11 +1,14 @@
--- What bounds that were told are worth: literals that clash contradict.
-use Rattle.std.proofs.Common.{◌≡◌, ℕ, List, [], ◌∷◌, ◌++◌, map, length, Some, refl, sym, ap, ◌∙◌, subst, pos, false}
+-- What bounds are worth: literals that clash contradict, those that were told, and two whose bounds leave a form no value.
+use Rattle.std.proofs.Common.{◌≡◌, ℕ, zero, suc, List, [], ◌∷◌, ◌++◌, map, length, Some, Ordering, Less, Equal, Greater, refl, sym, ap, ◌∙◌, subst, pos, false}
 use Rattle.std.specs.Prelude.{slice_get, slice_index_or}
+use Rattle.std.specs.Ordering.{ordering_reverse, ordering_then}
+use Rattle.std.proofs.lemmas.List.Elements.{All-cons, All-nil}
 use Rattle.std.proofs.lemmas.Option.{get_or_from_slice_get}
 use Rattle.nz_lists.proofs.Elements.{AllByRecursion-weaker}
 use Rattle.nz_lists.proofs.Places.{slice_get_kept, slice_index_or-map}
-use Rattle.nz_fractions.specs.Fraction.{Fraction, whole, ◌*ℚ◌}
+use Rattle.nz_fractions.specs.Fraction.{Fraction, fraction_cmp, whole, ◌*ℚ◌}
 use Rattle.nz_fractions.proofs.Arithmetic.{*ℚ-one}
+use Rattle.nz_fractions.proofs.Order.{fraction_cmp_total}
 use Rattle.nz_spec.specs.Basis.{form_at}
 use Rattle.nz_spec.specs.Form as spec
 use Rattle.nz_spec.specs.FormOf.{TermHasItsNumber, number_in}
@@ -13,16 +16,18 @@ use Rattle.nz_spec.specs.Infinitesimal.{Infinitesimal, infinitesimal_cmp}
 use Rattle.nz_spec.specs.Literal.{Literal, TellsLiterals}
 use Rattle.nz_spec.specs.Table.{Node}
 use Rattle.nz_lin.specs.Forms.{parts_over}
-use Rattle.nz_trail.specs.Bounds.{ClashesWith}
+use Rattle.nz_trail.specs.Bounds.{AreApart, ClashesWith, IsOn, IsTighter, IsTightest, asserted, other_side}
 use Rattle.nz_trail.specs.declared.limits.Side.{Side}
+use Rattle.nz_trail.specs.declared.limits.Side.TheVariants.{Upper}
 use Rattle.nz_log.specs.declared.atoms.Atom.{Atom}
 use Rattle.nz_log.specs.declared.lits.Lit.{Lit}
 use Rattle.nz_simplex.specs.Checks.{IsRefuted}
 use Rattle.nz_simplex.specs.Contradictions.{AreMultiplesFor, AreSaid, ClashesContradict, IsSaid, SaysBound}
 use Rattle.nz_simplex.specs.SaidBounds.{LiteralsSayBounds, SumsStay}
 use Rattle.nz_simplex.specs.Standing.{Held}
-use Rattle.nz_simplex.specs.State.{position_over}
+use Rattle.nz_simplex.specs.State.{State, position_over}
 use Rattle.nz_reals.specs.declared.reals.Told.{Told}
+use Rattle.nz_reals.specs.Exclusions.{AreOpposed}
 use Rattle.nz_reals.specs.Known.{Known, said_by}
 use Rattle.nz_reals.specs.Stands.{IsOf, IsOver}
 use Rattle.nz_reals.specs.State.{Theory, known_at, literal_over}
@@ -42,6 +47,40 @@ once r = whole (pos 1)
 
 lit_found : (ts : List Told) (r : ℕ) (x : Told) → slice_get ts r ≡ Some x → lit_in ts r ≡ x.literal
 lit_found ts r x at = ap (λ (y : Told). y.literal) (get_or_from_slice_get ts r x (record { literal = record { atom = 0; sign = false }; mark = 0 }) at)
+
+-- ---- One bound alone
+
+never_less : (x : Infinitesimal) → infinitesimal_cmp x x ≡ Less → ⊥
+unfolding infinitesimal_cmp
+never_less x e =
+    by_cases (fraction_cmp x.standard x.standard) (fraction_cmp x.coefficient x.coefficient) (fraction_cmp_total.antisymm x.standard x.standard)
+    (fraction_cmp_total.antisymm x.coefficient x.coefficient) e
+  where
+    by_cases : (o p : Ordering) → o ≡ ordering_reverse o → p ≡ ordering_reverse p → ordering_then o p ≡ Less → ⊥
+    by_cases Less p h k e = cc
+    by_cases Equal Less h k e = cc
+    by_cases Equal Equal h k e = cc
+    by_cases Equal Greater h k e = cc
+    by_cases Greater p h k e = cc
+
+-- an upper bound alone is the tightest
+alone : (v r : ℕ) (x : Infinitesimal) → IsTightest infinitesimal_cmp (asserted v Upper x r ∷ []) (asserted v Upper x r)
+alone v r x =
+    let b : Held = asserted v Upper x r in
+    record {
+      before = [];
+      after = [];
+      parts = refl;
+      tightest = All-cons (λ (e : Held). IsOn v Upper e → ¬ IsTighter infinitesimal_cmp Upper e.value x) b [] (λ on. never_less x) (All-nil (λ (e : Held). IsOn v Upper e → ¬ IsTighter infinitesimal_cmp Upper e.value x));
+      first = All-nil (λ (e : Held). IsOn v Upper e → IsTighter infinitesimal_cmp Upper x e.value);
+    }
+
+-- the one of two
+abbrev one_of : {X : Type 0} → X → X → ℕ → X
+one_of x y zero = x
+one_of x y (suc n) = y
+
+-- ---- Two literals, or those of a check
 
 module _ (t : Theory) (atoms : List Atom) (ids : List ℕ) (of : IsOf t atoms ids) (say : LiteralsSayBounds) (sums : SumsStay) (numbers : TermHasItsNumber) (tells : TellsLiterals) where
   module _ (ns : List Node) (over : IsOver t ns) where
@@ -80,6 +119,25 @@ module _ (t : Theory) (atoms : List Atom) (ids : List ℕ) (of : IsOf t atoms id
     for_each : (ws : List (ℕ × Fraction)) → AreMultiplesFor (literal_for t.told) once ws (multiples_over ns t (map (multiple_at t) ws))
     for_each [] = tt
     for_each (w ∷ ws) = (refl, *ℚ-one w.1, for_each ws)
+
+  -- two literals whose bounds leave a form no value
+  pub opposed_refute : ClashesContradict → (l o : Lit) → AreOpposed t l o → Refutes t (both l o)
+  opposed_refute contradict l o a = λ ns over.
+      let N = number_in ns in
+      let low = held_by a.first l 0 in
+      let high = held_by a.second o 1 in
+      let upper : Held = asserted a.first.form Upper high.value 1 in
+      let same : upper ≡ high = λ i. record { var = sym a.form i; side = sym a.above.upper i; value = high.value; reason = 1 } in
+      let s : State = record t.simplex { asserted = high ∷ [] } in
+      let literal : ℕ → Literal = one_of (literal_over ns t l) (literal_over ns t o) in
+      let tightest : IsTightest infinitesimal_cmp (high ∷ []) upper = subst (λ (b : Held). IsTightest infinitesimal_cmp (b ∷ []) upper) same (alone a.first.form 1 high.value) in
+      let clash : ClashesWith infinitesimal_cmp (high ∷ []) low 1 = record {
+        value = high.value;
+        tightest = subst (λ (side : Side). IsTightest infinitesimal_cmp (high ∷ []) (asserted a.first.form (other_side side) high.value 1)) (sym a.above.lower) tightest;
+        apart = subst (λ (side : Side). AreApart infinitesimal_cmp side low.value high.value) (sym a.above.lower) a.above.greater;
+      } in
+      contradict.assert N literal once ns s low 1 (multiples_over ns t (both l o)) clash (literal_says ns over o a.second a.knows_other, tt) (literal_says ns over l a.first a.knows)
+      (refl, *ℚ-one (whole (pos 1)), (refl, *ℚ-one (whole (pos 1)), tt))
 
   -- two bounds that leave a form no value
   pub clash_refutes : ClashesContradict → AreTolds t → (l : Lit) (k : Known) (other : ℕ) (o : Told) → known_at t l.atom ≡ Some k

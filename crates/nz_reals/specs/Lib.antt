@@ -1,4 +1,5 @@
 pub mod Chosen
+pub mod Exclusions
 pub mod Joins
 pub mod Knowing
 pub mod Known

@@ -1,24 +1,43 @@
 //! What atoms say of the forms of a simplex.
-ghost use Rattle.std.specs.Prelude.{◌≡◌, IfOk, List};
+ghost use Rattle.std.specs.Prelude.{◌≡◌, IfOk, IfSome, List, true};
 ghost use Rattle.nz_fractions.specs.Fraction.{whole};
 ghost use Rattle.nz_spec.specs.Table.{IsTable, Node};
 ghost use Rattle.nz_lin.specs.Bounds.{HasUnits};
+ghost use Rattle.nz_trail.specs.declared.limits.Side.TheVariants.{Lower};
+ghost use Rattle.nz_reals.specs.Exclusions.{IsAbove};
 ghost use Rattle.nz_reals.specs.Known.{IsSaidOf, known_of, said_by, said_of};
 ghost use Rattle.nz_reals.specs.Sums.{is_turned, turned_sum, zero_bound};
 
 use nz_base::Memory;
-use nz_delta::Delta;
+use nz_delta::{Delta, Scalar, stands_for_infinitesimal};
 use nz_frac::Frac;
 use nz_lin::{Bound, Part};
 use nz_spec::table::one_number;
 use nz_trail::{Side, Var};
 use std::alloc::Global;
+use std::cmp::Ordering;
 
 /// A bound on a side.
 #[derive(Clone, Copy, Debug)]
 pub(crate) struct Said {
     pub side: Side,
     pub value: Delta,
+}
+
+impl Said {
+    /// Whether it is a lower bound, and the other one an upper bound below it.
+    pub(crate) fn is_above(&self, other: &Said) -> bool
+        ensures above { result ≡ true → IsAbove (said_of self.now) (said_of other.now) }
+    {
+        stands_for_infinitesimal();
+        match self.side {
+            Side::Upper => false,
+            Side::Lower => match other.side {
+                Side::Lower => false,
+                Side::Upper => matches!(Scalar::cmp(&self.value, &other.value), Ordering::Greater),
+            },
+        }
+    }
 }
 
 /// What an atom says of a form, and what its negation says.
@@ -55,6 +74,20 @@ impl Bounded {
             var,
             yes: on_side(Side::Upper, limit, 0),
             no: on_side(Side::Lower, limit, 1),
+        }
+    }
+
+    /// The sign of the literal that says a lower bound. A sum without units has none.
+    pub(crate) fn lower_sign(&self) -> Option<bool>
+        ensures lower { IfSome result (λ sign. (said_by (known_of self.now) sign).side ≡ Lower) }
+    {
+        match self.yes.side {
+            Side::Lower => return Some(true),
+            Side::Upper => {}
+        }
+        match self.no.side {
+            Side::Lower => Some(false),
+            Side::Upper => None,
         }
     }
 

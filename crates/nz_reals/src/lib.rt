@@ -4,6 +4,7 @@
 mod forms;
 mod joins;
 mod model;
+mod neighbours;
 mod reals;
 mod refute;
 mod theory;

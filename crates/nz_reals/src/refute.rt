@@ -10,12 +10,13 @@ ghost use Rattle.nz_log.specs.Sound.{IsLog};
 ghost use Rattle.nz_log.specs.Theories.{Grows, IsBoundIn, IsClash};
 ghost use Rattle.nz_lin.specs.Bounds.{HasUnits, literal_over};
 ghost use Rattle.nz_log.specs.Atoms.{IsLitIn, literal_in};
+ghost use Rattle.nz_reals.specs.Exclusions.{Keeps};
 ghost use Rattle.nz_reals.specs.Stands.{IsOf, IsOver};
-ghost use Rattle.nz_reals.specs.Tells.{AreBoundsOf, AreKnown, AreOf, IsSumPlace, Refutes, literals_of};
+ghost use Rattle.nz_reals.specs.Tells.{AreBoundsOf, AreKnown, AreOf, IsSumPlace, Refutes, both, literals_of};
 
 use crate::reals::{Reals, stored};
 use nz_base::Memory;
-use nz_frac::Wide;
+use nz_frac::{Frac, Wide};
 use nz_lin as lin;
 use nz_lin::LinStop;
 use nz_log::laws::tells_lits;
@@ -35,6 +36,7 @@ pub(crate) fn refute(
     requires known { AreKnown theory.now multiples.now }
     requires refutes { Refutes theory.now multiples.now }
     ensures clash { (ls : List Lit) → AreOf ls multiples.now → IfOk result (IsClash log.new ls) }
+    ensures keeps { Keeps log.old log.new }
     ensures grows { AreTold log.old (literals_of multiples.now) → Grows log.old log.new }
     ensures sound { (ns : List Node) (levels : List (List ℕ)) → AreMultiplesIn ns log.old.atoms multiples.now → IsLog ns levels log.old → IsLog ns levels log.new }
     ensures place { (ns : List Node) → IsOver theory.now ns → IfErr result (λ e. OnWide e (IsSumPlace ns theory.now multiples.now)) }
@@ -56,6 +58,23 @@ pub(crate) fn refute(
         }
         Err(LinStop::Memory) => Err(Stop::Memory),
     }
+}
+
+/// Each of two literals, once.
+pub(crate) fn both_once(literal: Lit, other: Lit) -> [Multiple; 2]
+    ensures both { result ≡ both literal other }
+{
+    let one = Frac::whole(1);
+    [
+        Multiple {
+            literal,
+            multiplier: one,
+        },
+        Multiple {
+            literal: other,
+            multiplier: one,
+        },
+    ]
 }
 
 /// A stop at a place.

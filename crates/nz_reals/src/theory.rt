@@ -12,13 +12,12 @@ ghost use Rattle.nz_log.specs.Places.{IsPlaceIn, OnWide};
 ghost use Rattle.nz_simplex.specs.Checks.{IsRefuted};
 ghost use Rattle.nz_simplex.specs.State.{position_over};
 ghost use Rattle.nz_reals.specs.Stands.{IsFeasible, IsOver};
-ghost use Rattle.nz_reals.specs.Tells.{IsMoved, both, site_at};
+ghost use Rattle.nz_reals.specs.Tells.{IsMoved, site_at};
 
 use crate::reals::{Reals, stored};
-use crate::refute::{refute, stopped};
+use crate::refute::{both_once, refute, stopped};
 use nz_base::Work;
-use nz_frac::Frac;
-use nz_log::{ClauseId, Lit, Log, Multiple, Note, Site, Stop, Theory};
+use nz_log::{ClauseId, Lit, Log, Note, Site, Stop, Theory};
 use nz_simplex as simplex;
 use nz_simplex::laws::{clashes_contradict, literals_say_bounds, sums_stay};
 use nz_simplex::{Check, SimplexStop, known_state};
@@ -132,21 +131,4 @@ impl Reals {
             }
         }
     }
-}
-
-/// Each of two literals, once.
-fn both_once(literal: Lit, other: Lit) -> [Multiple; 2]
-    ensures both { result ≡ both literal other }
-{
-    let one = Frac::whole(1);
-    [
-        Multiple {
-            literal,
-            multiplier: one,
-        },
-        Multiple {
-            literal: other,
-            multiplier: one,
-        },
-    ]
 }

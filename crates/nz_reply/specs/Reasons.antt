@@ -6,4 +6,4 @@ use Rattle.nz_reply.specs.declared.reply.Reason.TheVariants.{UnitsSpent, Wide}
 
 abbrev pub reason_of : Reason → live_state.Reason
 reason_of (UnitsSpent units) = live_state.units_spent units
-reason_of (Wide wide) = live_state.number_left (operation_of wide)
+reason_of (Wide wide) = live_state.number_left (operation_of wide.value)

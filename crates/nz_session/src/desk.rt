@@ -186,18 +186,21 @@ impl<E: Decide> Desk<E> {
                 self.last = Some(LastAnswer::Refutation);
                 said(Reply::Unsat)
             }
-            Err(Stop::Spent) => self.undecided(&Reason::UnitsSpent(self.limit), None),
-            Err(Stop::Wide(place)) => self.undecided(&Reason::Wide(place.wide), Some(place)),
+            Err(Stop::Spent) => self.undecided(None),
+            Err(Stop::Wide(place)) => self.undecided(Some(place)),
             Err(Stop::Memory) => said(Reply::Error(Error::OutOfMemory)),
         }
     }
 
     /// The answer where a check wasn't decided, which is kept for `get-info`.
-    fn undecided(&mut self, reason: &Reason, place: Option<Place>) -> Answer
-        ensures right { (c : Context) (tree : script.Tree) → Holds E.levels E.table self.old c → outcome_of c.state tree ≡ accepted (check_sat []) → reason_of reason.now ≡ reason_by self.old.limit place → IsUndecided self.old.terms self.old.live.asserted self.old.limit self.old.work place → IsAnswer E.levels E.table c (intact tree) result self.new }
+    fn undecided(&mut self, place: Option<Place>) -> Answer
+        ensures right { (c : Context) (tree : script.Tree) → Holds E.levels E.table self.old c → outcome_of c.state tree ≡ accepted (check_sat []) → IsUndecided self.old.terms self.old.live.asserted self.old.limit self.old.work place → IsAnswer E.levels E.table c (intact tree) result self.new }
         ensures terms { table_of self.new ≡ table_of self.old }
     {
         normal_keeps_value();
+        let Ok((reason, shown)) = reasons_at(self.alloc, self.limit, &place) else {
+            return said(Reply::Error(Error::OutOfMemory));
+        };
         let done = WorkDone {
             limit: self.limit,
             work: self.work.take(),
@@ -205,9 +208,9 @@ impl<E: Decide> Desk<E> {
         let Ok(cause) = cause_of(self.alloc, place, done) else {
             return said(Reply::Error(Error::OutOfMemory));
         };
-        self.last = Some(LastAnswer::Undecided(*reason));
+        self.last = Some(LastAnswer::Undecided(reason));
         Answer {
-            reply: Reply::Unknown(*reason),
+            reply: Reply::Unknown(shown),
             cause,
             exits: false,
         }
@@ -267,7 +270,10 @@ impl<E: Decide> Desk<E> {
         ensures right { (c : Context) (tree : script.Tree) → Holds E.levels E.table self.now c → outcome_of c.state tree ≡ accepted get_reason → IsAnswer E.levels E.table c (intact tree) result self.now }
     {
         match &self.last {
-            Some(LastAnswer::Undecided(reason)) => said(Reply::Reason(*reason)),
+            Some(LastAnswer::Undecided(reason)) => match reason.share() {
+                Ok(shown) => said(Reply::Reason(shown)),
+                Err(AllocError) => said(Reply::Error(Error::OutOfMemory)),
+            },
             _ => said(Reply::Error(Error::NothingToShow)),
         }
     }
@@ -293,6 +299,23 @@ impl<E: Decide> Desk<E> {
         drop(last);
         terms
     }
+}
+
+/// Why a check wasn't decided that ended at this place, or had each unit of this limit used: once to be kept, and once to be shown.
+fn reasons_at(
+    alloc: Global,
+    limit: u64,
+    place: &Option<Place>,
+) -> Result<(Reason, Reason), AllocError>
+    ensures kept { IfOk result (λ p. reason_of p.0 ≡ reason_by limit place.now) }
+    ensures shown { IfOk result (λ p. reason_of p.1 ≡ reason_by limit place.now) }
+{
+    let reason = match place {
+        Some(place) => Reason::Wide(Rc::new(alloc, place.wide)?),
+        None => Reason::UnitsSpent(limit),
+    };
+    let shown = reason.share()?;
+    Ok((reason, shown))
 }
 
 /// Why a check wasn't decided: its work, and the place where it ended, if each unit wasn't used.

@@ -200,7 +200,7 @@ fn a_reason_names_the_operation_that_left_the_numbers(rt: HostRuntime) -> Result
         &rt,
         rt.alloc(),
         b"",
-        &Reply::Reason(Reason::Wide(wide)),
+        &Reply::Reason(Reason::Wide(Rc::new(rt.alloc(), wide)?)),
         b"(:reason-unknown (wide mul (- (/ 1 2)) 3))\n",
     )
 }

@@ -16,19 +16,17 @@ assume-requires-clause-within c =
 pub assume-requires-clause-taken : goal.assume-requires-clause-taken
 assume-requires-clause-taken c = All-map (λ t. IsTakenBoolean (term_in c.args.terms.now t)) (λ (l : TermLit). l.term) c.args.assumed.now c.requires.assumed_taken
 
-pub returns : goal.returns
-returns c =
+pub returns-clause-posed : goal.returns-clause-posed
+returns-clause-posed c =
     let n = length c.args.terms.now in
     record {
-      posed = record {
-        table = c.known_table.ensures.table;
-        standing = c.in_ok-assume.ensures.stands;
-        all_given = c.in_ok-add_assertions.ensures.all_given ∙ sym c.in_ok-assume.ensures.given;
-        assumed_covered = c.in_ok-assume.ensures.covered;
-        taken = c.requires.taken;
-        assumed_taken = All-map (λ t. IsTakenBoolean (term_in c.args.terms.now t)) (λ (l : TermLit). l.term) c.args.assumed.now c.requires.assumed_taken;
-        assumed_within = All-map (λ t. t < n) (λ (l : TermLit). l.term) c.args.assumed.now (All-from_recursion (λ (l : TermLit). l.term < n) c.args.assumed.now c.requires.within);
-      };
+      table = c.known_table.ensures.table;
+      standing = c.in_ok-assume.ensures.stands;
+      all_given = c.in_ok-add_assertions.ensures.all_given ∙ sym c.in_ok-assume.ensures.given;
+      assumed_covered = c.in_ok-assume.ensures.covered;
+      taken = c.requires.taken;
+      assumed_taken = All-map (λ t. IsTakenBoolean (term_in c.args.terms.now t)) (λ (l : TermLit). l.term) c.args.assumed.now c.requires.assumed_taken;
+      assumed_within = All-map (λ t. t < n) (λ (l : TermLit). l.term) c.args.assumed.now (All-from_recursion (λ (l : TermLit). l.term < n) c.args.assumed.now c.requires.within);
     }
 
 pub returns-in_err-add_assertions-clause-stop : goal.returns-in_err-add_assertions-clause-stop

@@ -1,11 +1,15 @@
 -- The atoms are noted, and then the forms that join.
-use Rattle.std.proofs.Common.{◌++◌, take, ap, ◌∙◌, append-nil}
+use Rattle.std.proofs.Common.{rules, ◌≡◌, ◌++◌, List, Err, IfErr, take, ap, subst, ◌∙◌}
 use Rattle.std.proofs.lemmas.Result.{IfErr-weaker, IfOk-weaker}
 use Rattle.nz_lists.proofs.Results.{on_ok}
 use Rattle.std.proofs.lemmas.Option.{slice_get_within}
+use Rattle.nz_spec.specs.Legal.{Task}
+use Rattle.nz_spec.specs.Table.{Node}
 use Rattle.nz_spec.specs.Work.{WorkList}
 use Rattle.nz_log.specs.declared.note.Note.{Note}
-use Rattle.nz_engine.specs.Checking.{atom_lines, form_lines}
+use Rattle.nz_log.specs.declared.stop.Stop.{Stop}
+use Rattle.nz_log.specs.declared.stop.Stop.TheVariants.{Memory}
+use Rattle.nz_engine.specs.Checking.{EndsWith, MayBegin, form_lines}
 use Rattle.nz_engine.proofs.Naming.{begun_first, begun_more, legal_first, noted_lines, notes_all, numbered_first, stands_first}
 use Rattle.nz_engine.proofs.prepared.begun.Goals as goal
 
@@ -19,10 +23,16 @@ pub returns-in_err-note_atoms-clause-begun : goal.returns-in_err-note_atoms-clau
 returns-in_err-note_atoms-clause-begun c = begun_first c.args.log.now.atoms c.args.atoms.now c.args.work.now c.note_atoms.new.work c.requires.no_steps c.note_atoms.ensures.first
 
 pub returns-in_err-note_atoms-clause-stopped : goal.returns-in_err-note_atoms-clause-stopped
-returns-in_err-note_atoms-clause-stopped c = λ ns q may.
-    let first = begun_first c.args.log.now.atoms c.args.atoms.now c.args.work.now c.note_atoms.new.work c.requires.no_steps c.note_atoms.ensures.first in
-    legal_first c.tells_lits.ensures.tells c.tells_literals.ensures.tells ns may.table c.args.log.now.atoms may.atoms q c.args.atoms.now may c.note_atoms.new.work first.count
-    (first.lines ∙ append-nil (atom_lines c.args.log.now.atoms (take first.count c.args.atoms.now)))
+returns-in_err-note_atoms-clause-stopped c =
+    let same : Err Memory ≡ c.from_residual.result = search rules in
+    let all = c.args.log.now.atoms in
+    let ids = c.args.atoms.now in
+    let work = c.note_atoms.new.work in
+    subst (λ r. IfErr r (λ (e : Stop). (ns : List Node) (q : Task) → MayBegin ns q all ids → EndsWith ns q work e)) same
+    (λ ns q may.
+    let first = c.note_atoms.ensures.first in
+    legal_first c.tells_lits.ensures.tells c.tells_literals.ensures.tells ns may.table all may.atoms q ids may work first.count
+    (noted_lines all (take first.count ids) c.args.work.now work c.requires.no_steps first.noted))
 
 -- and then forms
 pub returns-clause-begun : goal.returns-clause-begun

@@ -23,7 +23,7 @@ returns-clause-cuts c =
 pub returns-clause-keeps : goal.returns-clause-keeps
 returns-clause-keeps c = λ same.
     let old = c.self.inside.form in
-    let long : length c.bounds-2.result.now ≡ length c.bounds.result.now = search rules in
-    let listed : (i : ℕ) → IsSome (listed_at old.bounds i) → Contains old.bounds.ids i = λ i some. subst (λ is. Contains is i) c.bounds.ensures.bounds ((c.bounds.ensures.listed i).1 some) in
+    let long : length c.bounds.result.now ≡ length c.bounds-count.result.now = search rules in
+    let listed : (i : ℕ) → IsSome (listed_at old.bounds i) → Contains old.bounds.ids i = λ i some. subst (λ is. Contains is i) c.bounds-count.ensures.bounds ((c.bounds-count.ensures.listed i).1 some) in
     subst (λ (s : PreparedState). KeepsBounds s.form c.cut.new.self) c.self.view_is
-    (all_kept old.bounds c.cut.new.self.bounds c.args.level listed c.cut.ensures.cuts.bounds (ap length (sym c.bounds-2.ensures.bounds) ∙ long ∙ ap length c.bounds.ensures.bounds))
+    (all_kept old.bounds c.cut.new.self.bounds c.args.level listed c.cut.ensures.cuts.bounds (ap length (sym c.bounds.ensures.bounds) ∙ long ∙ ap length c.bounds-count.ensures.bounds))

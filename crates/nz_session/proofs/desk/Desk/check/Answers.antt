@@ -32,7 +32,7 @@ returns-in-Err-Spent-clause-right g c x t h e =
     let stop : c.decide-decided.result ≡ Err Spent = search rules in
     let ended = rw (stop, c.assertions.ensures.terms) at c.decide-decided.ensures.undecided in
     c.undecided.ensures.right x t
-    (record { live = h.live; sorted = h.sorted; told = told; front = c.decide-decided.ensures.front; last = h.last; bound = h.bound; values = h.values; success = h.success; bounded = h.bounded }) e refl ended
+    (record { live = h.live; sorted = h.sorted; told = told; front = c.decide-decided.ensures.front; last = h.last; bound = h.bound; values = h.values; success = h.success; bounded = h.bounded }) e ended
 
 pub returns-in-Err-Wide-clause-right : goal.returns-in-Err-Wide-clause-right
 returns-in-Err-Wide-clause-right g c x t h e =
@@ -40,4 +40,4 @@ returns-in-Err-Wide-clause-right g c x t h e =
     let stop : c.decide-decided.result ≡ Err (Wide c.in-Err-Wide.place) = search rules in
     let ended = rw (stop, c.assertions.ensures.terms) at c.decide-decided.ensures.undecided in
     c.undecided-in-Err-Wide.ensures.right x t
-    (record { live = h.live; sorted = h.sorted; told = told; front = c.decide-decided.ensures.front; last = h.last; bound = h.bound; values = h.values; success = h.success; bounded = h.bounded }) e refl ended
+    (record { live = h.live; sorted = h.sorted; told = told; front = c.decide-decided.ensures.front; last = h.last; bound = h.bound; values = h.values; success = h.success; bounded = h.bounded }) e ended
