@@ -16,6 +16,7 @@ use Rattle.nz_engine.proofs.Ending.{legal_none, works_begun, works_none, works_s
 use Rattle.nz_engine.proofs.Naming.{err_ends}
 use Rattle.nz_engine.proofs.Refuting.{refuted_by}
 use Rattle.nz_engine.proofs.Solving.{are_consistent, are_named, found_of, ids_learnable, ids_told, ids_within, is_asked, is_ready, may_begin, named_have, named_lits, named_searched, posed_after}
+use Rattle.nz_engine.proofs.RowFacts.{RowLaws}
 use Rattle.nz_engine.proofs.prepared.Prepared.solve.Goals as goal
 
 pub named-requires : goal.named-requires
@@ -33,16 +34,16 @@ returns-in_err-named-clause-works c = works_none c.args.terms.now c.args.work.no
 
 pub begun-requires-clause-learnable : goal.begun-requires-clause-learnable
 begun-requires-clause-learnable c =
-    let sums = c.forms_are_sums.ensures.sums in
+    let laws : RowLaws = record { sums = c.forms_are_sums.ensures.sums; operands = c.operands_are_sorted.ensures.sorted } in
     let own = c.atoms_of_terms.ensures.atoms in
     let view = ap (λ (i : Inside). let p : PreparedState = record { log = i.log; form = i.form; sat = i.sat; given = i.given; above = i.above } in p) c.self-inside.view_is ∙ c.self.view_is in
     let r = is_ready own c.covers_stay.ensures.stay c.logs_stay.ensures.stay c.logs_stay_leveled.ensures.stay c.args.self.now view c.in_ok-named.ensures.rest c.in_ok-named.ensures.joins
     c.in_ok-named.ensures.all c.in_ok-named.ensures.handed c.deref-atoms.ensures.value c.deref-literals.ensures.value c.requires.posed in
-    ids_learnable sums own r.some.1 r.handed
+    ids_learnable laws own r.some.1 r.handed
 
 pub returns-in_err-theory-clause-ends : goal.returns-in_err-theory-clause-ends
 returns-in_err-theory-clause-ends c =
-    let sums = c.forms_are_sums.ensures.sums in
+    let laws : RowLaws = record { sums = c.forms_are_sums.ensures.sums; operands = c.operands_are_sorted.ensures.sorted } in
     let own = c.atoms_of_terms.ensures.atoms in
     let view = ap (λ (i : Inside). let p : PreparedState = record { log = i.log; form = i.form; sat = i.sat; given = i.given; above = i.above } in p) c.self-inside.view_is ∙ c.self.view_is in
     let r = is_ready own c.covers_stay.ensures.stay c.logs_stay.ensures.stay c.logs_stay_leveled.ensures.stay c.args.self.now view c.in_ok-named.ensures.rest c.in_ok-named.ensures.joins
@@ -51,20 +52,20 @@ returns-in_err-theory-clause-ends c =
     λ levels posed.
     let same : Err c.in_err-theory.field-0.0 ≡ c.from_residual-in_err-theory.result = search rules in
     let q = task_in ns levels c.args.assumed.now in
-    err_ends (Option ℕ) _ ns q c.begun.new.work c.in_err-theory.field-0.0 _ same (c.in_err-theory.ensures.stopped ns q (may_begin sums own (r.posed levels posed) r.handed))
+    err_ends (Option ℕ) _ ns q c.begun.new.work c.in_err-theory.field-0.0 _ same (c.in_err-theory.ensures.stopped ns q (may_begin laws own (r.posed levels posed) r.handed))
 
 pub returns-in_err-theory-clause-works : goal.returns-in_err-theory-clause-works
 returns-in_err-theory-clause-works c =
-    let sums = c.forms_are_sums.ensures.sums in
+    let laws : RowLaws = record { sums = c.forms_are_sums.ensures.sums; operands = c.operands_are_sorted.ensures.sorted } in
     let own = c.atoms_of_terms.ensures.atoms in
     let view = ap (λ (i : Inside). let p : PreparedState = record { log = i.log; form = i.form; sat = i.sat; given = i.given; above = i.above } in p) c.self-inside.view_is ∙ c.self.view_is in
     let r = is_ready own c.covers_stay.ensures.stay c.logs_stay.ensures.stay c.logs_stay_leveled.ensures.stay c.args.self.now view c.in_ok-named.ensures.rest c.in_ok-named.ensures.joins
     c.in_ok-named.ensures.all c.in_ok-named.ensures.handed c.deref-atoms.ensures.value c.deref-literals.ensures.value c.requires.posed in
-    works_begun c.args.terms.now c.self-inside.inside.0.1.0.atoms c.deref-atoms.result.now c.args.work.now c.begun.new.work (ids_within sums own r.some.1 r.handed) c.begun.ensures.begun
+    works_begun c.args.terms.now c.self-inside.inside.0.1.0.atoms c.deref-atoms.result.now c.args.work.now c.begun.new.work (ids_within laws own r.some.1 r.handed) c.begun.ensures.begun
 
 pub solve-requires-clause-held : goal.solve-requires-clause-held
 solve-requires-clause-held c =
-    let sums = c.forms_are_sums.ensures.sums in
+    let laws : RowLaws = record { sums = c.forms_are_sums.ensures.sums; operands = c.operands_are_sorted.ensures.sorted } in
     let own = c.atoms_of_terms.ensures.atoms in
     let view = ap (λ (i : Inside). let p : PreparedState = record { log = i.log; form = i.form; sat = i.sat; given = i.given; above = i.above } in p) c.self-inside.view_is ∙ c.self.view_is in
     let r = is_ready own c.covers_stay.ensures.stay c.logs_stay.ensures.stay c.logs_stay_leveled.ensures.stay c.args.self.now view c.in_ok-named.ensures.rest c.in_ok-named.ensures.joins
@@ -73,34 +74,34 @@ solve-requires-clause-held c =
 
 pub solve-requires-clause-named : goal.solve-requires-clause-named
 solve-requires-clause-named c =
-    let sums = c.forms_are_sums.ensures.sums in
+    let laws : RowLaws = record { sums = c.forms_are_sums.ensures.sums; operands = c.operands_are_sorted.ensures.sorted } in
     let own = c.atoms_of_terms.ensures.atoms in
     let view = ap (λ (i : Inside). let p : PreparedState = record { log = i.log; form = i.form; sat = i.sat; given = i.given; above = i.above } in p) c.self-inside.view_is ∙ c.self.view_is in
     let r = is_ready own c.covers_stay.ensures.stay c.logs_stay.ensures.stay c.logs_stay_leveled.ensures.stay c.args.self.now view c.in_ok-named.ensures.rest c.in_ok-named.ensures.joins
     c.in_ok-named.ensures.all c.in_ok-named.ensures.handed c.deref-atoms.ensures.value c.deref-literals.ensures.value c.requires.posed in
-    are_named sums own r.some.1 r.handed
+    are_named laws own r.some.1 r.handed
 
 pub solve-requires-clause-told_terms : goal.solve-requires-clause-told_terms
 solve-requires-clause-told_terms c =
-    let sums = c.forms_are_sums.ensures.sums in
+    let laws : RowLaws = record { sums = c.forms_are_sums.ensures.sums; operands = c.operands_are_sorted.ensures.sorted } in
     let own = c.atoms_of_terms.ensures.atoms in
     let view = ap (λ (i : Inside). let p : PreparedState = record { log = i.log; form = i.form; sat = i.sat; given = i.given; above = i.above } in p) c.self-inside.view_is ∙ c.self.view_is in
     let r = is_ready own c.covers_stay.ensures.stay c.logs_stay.ensures.stay c.logs_stay_leveled.ensures.stay c.args.self.now view c.in_ok-named.ensures.rest c.in_ok-named.ensures.joins
     c.in_ok-named.ensures.all c.in_ok-named.ensures.handed c.deref-atoms.ensures.value c.deref-literals.ensures.value c.requires.posed in
-    ids_told sums own r.some.1 r.handed
+    ids_told laws own r.some.1 r.handed
 
 pub solve-requires-clause-consistent : goal.solve-requires-clause-consistent
 solve-requires-clause-consistent c =
-    let sums = c.forms_are_sums.ensures.sums in
+    let laws : RowLaws = record { sums = c.forms_are_sums.ensures.sums; operands = c.operands_are_sorted.ensures.sorted } in
     let own = c.atoms_of_terms.ensures.atoms in
     let view = ap (λ (i : Inside). let p : PreparedState = record { log = i.log; form = i.form; sat = i.sat; given = i.given; above = i.above } in p) c.self-inside.view_is ∙ c.self.view_is in
     let r = is_ready own c.covers_stay.ensures.stay c.logs_stay.ensures.stay c.logs_stay_leveled.ensures.stay c.args.self.now view c.in_ok-named.ensures.rest c.in_ok-named.ensures.joins
     c.in_ok-named.ensures.all c.in_ok-named.ensures.handed c.deref-atoms.ensures.value c.deref-literals.ensures.value c.requires.posed in
-    are_consistent sums own r.some.1 r.handed c.requires.consistent
+    are_consistent laws own r.some.1 r.handed c.requires.consistent
 
 pub returns-clause-posed : goal.returns-clause-posed
 returns-clause-posed c =
-    let sums = c.forms_are_sums.ensures.sums in
+    let laws : RowLaws = record { sums = c.forms_are_sums.ensures.sums; operands = c.operands_are_sorted.ensures.sorted } in
     let own = c.atoms_of_terms.ensures.atoms in
     let view = ap (λ (i : Inside). let p : PreparedState = record { log = i.log; form = i.form; sat = i.sat; given = i.given; above = i.above } in p) c.self-inside.view_is ∙ c.self.view_is in
     let r = is_ready own c.covers_stay.ensures.stay c.logs_stay.ensures.stay c.logs_stay_leveled.ensures.stay c.args.self.now view c.in_ok-named.ensures.rest c.in_ok-named.ensures.joins
@@ -111,13 +112,13 @@ returns-clause-posed c =
     on_ok c.solve.result
     (λ levels posed.
     let begun = r.posed levels posed in
-    let within = ids_within sums own begun r.handed in
-    posed_after own c.covers_stay.ensures.stay r new refl refl refl levels grows c.solve.ensures.held (named_searched sums own begun r.handed new grows refl c.solve.ensures.named)
+    let within = ids_within laws own begun r.handed in
+    posed_after own c.covers_stay.ensures.stay r new refl refl refl levels grows c.solve.ensures.held (named_searched laws own begun r.handed new grows refl c.solve.ensures.named)
     (c.solve.ensures.sound ns levels (c.in_ok-theory.ensures.over ns begun.table within) within) begun)
 
 pub returns-clause-ends : goal.returns-clause-ends
 returns-clause-ends c =
-    let sums = c.forms_are_sums.ensures.sums in
+    let laws : RowLaws = record { sums = c.forms_are_sums.ensures.sums; operands = c.operands_are_sorted.ensures.sorted } in
     let own = c.atoms_of_terms.ensures.atoms in
     let view = ap (λ (i : Inside). let p : PreparedState = record { log = i.log; form = i.form; sat = i.sat; given = i.given; above = i.above } in p) c.self-inside.view_is ∙ c.self.view_is in
     let r = is_ready own c.covers_stay.ensures.stay c.logs_stay.ensures.stay c.logs_stay_leveled.ensures.stay c.args.self.now view c.in_ok-named.ensures.rest c.in_ok-named.ensures.joins
@@ -127,13 +128,13 @@ returns-clause-ends c =
     let ends : (levels : List (List ℕ)) → IsPosed ns levels assumed c.args.self.now → Ends (IsAt c.solve.new.self.theory ns) ns (task_in ns levels assumed) c.solve.new.work c.solve.result = λ levels posed.
     let begun = r.posed levels posed in
     let q = task_in ns levels assumed in
-    c.solve.ensures.ends ns levels q (c.in_ok-theory.ensures.over ns begun.table (ids_within sums own begun r.handed)) (is_asked sums own begun r.handed)
-    (c.in_ok-theory.ensures.stands ns q (may_begin sums own begun r.handed)) in
+    c.solve.ensures.ends ns levels q (c.in_ok-theory.ensures.over ns begun.table (ids_within laws own begun r.handed)) (is_asked laws own begun r.handed)
+    (c.in_ok-theory.ensures.stands ns q (may_begin laws own begun r.handed)) in
     ends
 
 pub returns-clause-found : goal.returns-clause-found
 returns-clause-found c =
-    let sums = c.forms_are_sums.ensures.sums in
+    let laws : RowLaws = record { sums = c.forms_are_sums.ensures.sums; operands = c.operands_are_sorted.ensures.sorted } in
     let own = c.atoms_of_terms.ensures.atoms in
     let view = ap (λ (i : Inside). let p : PreparedState = record { log = i.log; form = i.form; sat = i.sat; given = i.given; above = i.above } in p) c.self-inside.view_is ∙ c.self.view_is in
     let r = is_ready own c.covers_stay.ensures.stay c.logs_stay.ensures.stay c.logs_stay_leveled.ensures.stay c.args.self.now view c.in_ok-named.ensures.rest c.in_ok-named.ensures.joins
@@ -144,16 +145,16 @@ returns-clause-found c =
     let ends : (levels : List (List ℕ)) → IsPosed ns levels assumed c.args.self.now → Ends (IsAt c.solve.new.self.theory ns) ns (task_in ns levels assumed) c.solve.new.work c.solve.result = λ levels posed.
     let begun = r.posed levels posed in
     let q = task_in ns levels assumed in
-    c.solve.ensures.ends ns levels q (c.in_ok-theory.ensures.over ns begun.table (ids_within sums own begun r.handed)) (is_asked sums own begun r.handed)
-    (c.in_ok-theory.ensures.stands ns q (may_begin sums own begun r.handed)) in
+    c.solve.ensures.ends ns levels q (c.in_ok-theory.ensures.over ns begun.table (ids_within laws own begun r.handed)) (is_asked laws own begun r.handed)
+    (c.in_ok-theory.ensures.stands ns q (may_begin laws own begun r.handed)) in
     let levels = c.requires.posed.0 in
     let of : IsOf c.solve.new.self.theory c.self-inside.inside.0.1.0.atoms c.deref-atoms.result.now = c.solve.ensures.of c.self-inside.inside.0.1.0.atoms c.deref-atoms.result.now c.in_ok-theory.ensures.of in
-    found_of sums own r.some.1 r.handed new c.solve.ensures.grows refl of (task_in ns levels assumed) c.solve.new.work c.solve.result c.solve.ensures.satisfied c.solve.ensures.feasible
+    found_of laws own r.some.1 r.handed new c.solve.ensures.grows refl of (task_in ns levels assumed) c.solve.new.work c.solve.result c.solve.ensures.satisfied c.solve.ensures.feasible
     (ends levels c.requires.posed.1)
 
 pub returns-clause-refuted : goal.returns-clause-refuted
 returns-clause-refuted c =
-    let sums = c.forms_are_sums.ensures.sums in
+    let laws : RowLaws = record { sums = c.forms_are_sums.ensures.sums; operands = c.operands_are_sorted.ensures.sorted } in
     let own = c.atoms_of_terms.ensures.atoms in
     let view = ap (λ (i : Inside). let p : PreparedState = record { log = i.log; form = i.form; sat = i.sat; given = i.given; above = i.above } in p) c.self-inside.view_is ∙ c.self.view_is in
     let r = is_ready own c.covers_stay.ensures.stay c.logs_stay.ensures.stay c.logs_stay_leveled.ensures.stay c.args.self.now view c.in_ok-named.ensures.rest c.in_ok-named.ensures.joins
@@ -161,15 +162,15 @@ returns-clause-refuted c =
     let new : PreparedState = record { log = c.solve.new.log; form = c.self-inside.inside.0.1.1.0; sat = c.solve.new.self; given = c.self-inside.inside.0.1.1.1.1.0; above = c.self-inside.inside.0.1.1.1.1.1.0 } in
     let grows = c.solve.ensures.grows in
     let log = c.solve.new.log in
-    refuted_by log c.args.assumed.now (named_have sums own r.some.1 r.handed new grows refl).named c.solve.result
-    (subst (λ (ls : List Lit). IfOk c.solve.result (λ o. IfSome o (λ id. IsLive log id × Refutes ls (literals_at log id)))) (named_lits sums own r.some.1 r.handed new grows refl) c.solve.ensures.refuted)
+    refuted_by log c.args.assumed.now (named_have laws own r.some.1 r.handed new grows refl).named c.solve.result
+    (subst (λ (ls : List Lit). IfOk c.solve.result (λ o. IfSome o (λ id. IsLive log id × Refutes ls (literals_at log id)))) (named_lits laws own r.some.1 r.handed new grows refl) c.solve.ensures.refuted)
 
 pub returns-clause-works : goal.returns-clause-works
 returns-clause-works c =
-    let sums = c.forms_are_sums.ensures.sums in
+    let laws : RowLaws = record { sums = c.forms_are_sums.ensures.sums; operands = c.operands_are_sorted.ensures.sorted } in
     let own = c.atoms_of_terms.ensures.atoms in
     let view = ap (λ (i : Inside). let p : PreparedState = record { log = i.log; form = i.form; sat = i.sat; given = i.given; above = i.above } in p) c.self-inside.view_is ∙ c.self.view_is in
     let r = is_ready own c.covers_stay.ensures.stay c.logs_stay.ensures.stay c.logs_stay_leveled.ensures.stay c.args.self.now view c.in_ok-named.ensures.rest c.in_ok-named.ensures.joins
     c.in_ok-named.ensures.all c.in_ok-named.ensures.handed c.deref-atoms.ensures.value c.deref-literals.ensures.value c.requires.posed in
-    works_solved c.args.terms.now c.self-inside.inside.0.1.0.atoms c.deref-atoms.result.now c.args.work.now c.begun.new.work c.solve.new.work (ids_within sums own r.some.1 r.handed) c.begun.ensures.begun
+    works_solved c.args.terms.now c.self-inside.inside.0.1.0.atoms c.deref-atoms.result.now c.args.work.now c.begun.new.work c.solve.new.work (ids_within laws own r.some.1 r.handed) c.begun.ensures.begun
     c.solve.ensures.notes c.solve.ensures.limit c.solve.ensures.within
