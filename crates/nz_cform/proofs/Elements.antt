@@ -4,9 +4,9 @@ use Rattle.std.specs.Prelude.{Contains, fold, slice_index_or, if◌then◌else�
 use Rattle.std.specs.List.{AllByRecursion, list_any}
 use Rattle.std.proofs.lemmas.List.{length-map}
 use Rattle.std.proofs.lemmas.List.Elements.{All-contains, All-contains_itself, All-from_recursion, All-weaker, Contains-append_left, Contains-push, recursion_from_All}
+use Rattle.std.proofs.lemmas.Bool.{or_cases}
 use Rattle.nz_lists.proofs.Places.{slice_index_or-map}
 use Rattle.nz_spec.specs.Literal.{with_one, once}
-use Rattle.nz_spec.proofs.Literals.{or_either}
 use Rattle.nz_log.proofs.Members.{each-put}
 
 -- ---- Fronts and places
@@ -62,7 +62,7 @@ module _ {X : Type 0} (same : X → X → Bool) where
     found : (x : X) (xs : List X) → list_any (same x) xs ≡ true → Contains xs x
     found x [] e = absurd (true≢false (sym e))
     found x (y ∷ ys) e =
-        elim (or_either (same x y) (list_any (same x) ys) e) [
+        elim (or_cases (same x y) (list_any (same x) ys) e) [
           | inl here ↦ subst (Contains (y ∷ ys)) (sym (one x y here)) (has_first y ys)
           | inr there ↦ has_behind y ys x (found x ys there)
         ]

@@ -5,7 +5,7 @@ use Rattle.std.specs.List.{AllByRecursion}
 use Rattle.std.proofs.lemmas.List.Elements.{Contains-append_cases, Contains-push_cases, recursion_from_All}
 use Rattle.std.proofs.lemmas.Option.{slice_get-get_or}
 use Rattle.nz_lists.proofs.Elements.{AllByRecursion-weaker}
-use Rattle.nz_spec.specs.FormOf.{number_in}
+use Rattle.nz_spec.specs.FormOf.{number_in, UnitsAreParts}
 use Rattle.nz_spec.specs.Gates.{clauses_over, gate_clauses}
 use Rattle.nz_spec.specs.Literal.{are_same_literal}
 use Rattle.nz_spec.specs.Order.{post_order, post_orders}
@@ -112,7 +112,7 @@ module _ (node : TermOfNode) (ns : List Node) (table : IsTable ns) where
 
     -- ---- What the rows of a taken term name
 
-    module _ (one : HasOneNumberEach ns) (named : GatesAreNamed) (levels : List (List ℕ)) (order : IsLog ns levels log)
+    module _ (parts : UnitsAreParts) (one : HasOneNumberEach ns) (named : GatesAreNamed) (levels : List (List ℕ)) (order : IsLog ns levels log)
         (i t : ℕ) (row : IsRowAt log i t) (taken : IsTaken (term_in ns t)) where
       at_level : covered_at s t ≡ Some (level_at log i)
       at_level = covers.rows.of_covered i t row
@@ -123,8 +123,8 @@ module _ (node : TermOfNode) (ns : List Node) (table : IsTable ns) where
           let inside = covers.within t (level_at log i) at_level in
           let e = some_entry (entry_at log i) row.0 row.1 in
           let entry = order.clauses i e.0 e.1 in
-          let says = row_says ns table levels log t (AreNamed P) (gates_within t inside named) (each_link_within (number_in ns) (term_in ns t) taken)
-          (each_unit_within (number_in ns) (term_in ns t) taken) i e.0 e.0.origin (ap row_term e.2 ∙ row.2) entry.made in
+          let says = row_says ns table levels log t (AreNamed P) (gates_within t inside named) (each_link_within (number_in ns) parts (term_in ns t) taken)
+          (each_unit_within (number_in ns) parts (term_in ns t) taken) i e.0 e.0.origin (ap row_term e.2 ∙ row.2) entry.made in
           let all : AllByRecursion (Named P) (clause_in ns log.atoms e.0.literals) =
           subst (AllByRecursion (Named P)) (sym says.1) (each_once are_same_literal (Named P) says.0 says.2) in
           let own = subst (λ (c : List Lit). Contains c l) (ap (λ o. elim o [ None ↦ [] | Some f ↦ f.literals ]) e.1) has in
@@ -142,6 +142,6 @@ module _ (node : TermOfNode) (ns : List Node) (table : IsTable ns) where
                 part.covered);
           }
 
-pub rows_name_covered : TermOfNode → OneNumber → GatesAreNamed → RowsNameCovered
-rows_name_covered node one named ns levels log s table order covers i t row taken l has =
-    row_names node ns table log s covers (one ns table) named levels order i t row taken l has
+pub rows_name_covered : UnitsAreParts → TermOfNode → OneNumber → GatesAreNamed → RowsNameCovered
+rows_name_covered parts node one named ns levels log s table order covers i t row taken l has =
+    row_names node ns table log s covers parts (one ns table) named levels order i t row taken l has

@@ -8,12 +8,11 @@ use Rattle.nz_spec.specs.Computation.{Computation}
 use Rattle.nz_spec.specs.FormOf.{number_in}
 use Rattle.nz_spec.specs.Gates.{gate_clauses}
 use Rattle.nz_spec.specs.Links.{link_clauses}
-use Rattle.nz_spec.specs.Literal.{Literal, Clause, clause_of, are_same_literal}
+use Rattle.nz_spec.specs.Literal.{Literal, Clause, clause_of, are_same_literal, TellsLiterals}
 use Rattle.nz_spec.specs.Steps.{clause_at}
 use Rattle.nz_spec.specs.Table.{Node, IsTable, HasOneNumberEach, term_in}
 use Rattle.nz_spec.specs.Term as spec
 use Rattle.nz_spec.specs.Units.{unit_clauses}
-use Rattle.nz_spec.proofs.Literals.{same_literal}
 use Rattle.nz_lin.specs.declared.form.Part.{Part}
 use Rattle.nz_lin.specs.Bounds.{bounded}
 use Rattle.nz_lin.specs.Forms.{NamesUnit, parts_over}
@@ -170,11 +169,11 @@ module _ (ns : List Node) (table : IsTable ns) (levels : List (List ℕ)) (log :
 
 -- ---- A clause that names a term is of its level
 
-module _ (ns : List Node) (one : HasOneNumberEach ns) (s : LogState) (t level : ℕ) (within : t < length ns) (here : told_level s t ≡ level)
+module _ (tells : TellsLiterals) (ns : List Node) (one : HasOneNumberEach ns) (s : LogState) (t level : ℕ) (within : t < length ns) (here : told_level s t ≡ level)
     (highest : (u : ℕ) → told_level s u ≤ level) where
   pub says_level : (c : List Lit) (d : Clause) → AreWithin ns s.atoms c → clause_in ns s.atoms c ≡ clause_of d → Names (term_in ns t) d → level_with s 0 c ≡ level
   says_level c d inside says named =
-      let kept = once_has are_same_literal same_literal d named.0 named.1 in
+      let kept = once_has are_same_literal tells.same d named.0 named.1 in
       let found = mapped_has (literal_in ns s.atoms) c named.0 (subst (λ (e : Clause). Contains e named.0) (sym says) kept) in
       let there = each_has (IsLitIn ns s.atoms) c found.0 inside found.1 in
       level_is s c found.0 t level here highest found.1

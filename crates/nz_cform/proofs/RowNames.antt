@@ -1,14 +1,15 @@
 -- What the rows of the tables name: their term, and what it is made of.
 use Rattle.std.proofs.Common.{◌≡◌, ◌≢◌, ◌<◌, ◌≤◌, ◌⊎◌, inl, inr, Bool, true, false, List, [], ◌∷◌, length, map, Option, Some, None, pos, refl, sym, ap, subst, ◌∙◌, arith}
-use Rattle.std.specs.Prelude.{Contains, nat_lt, if◌then◌else◌}
+use Rattle.std.specs.Prelude.{Contains, ⊤, nat_lt, if◌then◌else◌}
 use Rattle.std.specs.List.{AllByRecursion}
 use Rattle.std.proofs.lemmas.List.Elements.{Contains-append_left, Contains-append_right, Contains-append_cases, Contains-push_cases}
+use Rattle.nz_lists.proofs.Elements.{AllByRecursion-weaker}
 use Rattle.nz_fractions.specs.Fraction.{Fraction, whole, outcome, Arithmetic, Sum, Difference, Product, Quotient}
 use Rattle.nz_spec.specs.Computation.{Computation, operated, at_once, turned_into, in_turn}
 use Rattle.nz_spec.specs.Term.{int_sort, real_sort, Head, equality, choice, less, at_most, integer_quotient, modulus, magnitude, to_int, is_int, Term, apply, Terms, no_terms, terms, is_zero}
-use Rattle.nz_spec.specs.Same.{are_same_term}
+use Rattle.nz_spec.specs.Same.{are_same_term, TellsTerms}
 use Rattle.nz_spec.specs.Form.{Numbering, Part, Form, unit_form, with_part, negated_part, part_alone, part_joined, parts_joined}
-use Rattle.nz_spec.specs.FormOf.{form_of}
+use Rattle.nz_spec.specs.FormOf.{form_of, UnitsAreParts}
 use Rattle.nz_spec.specs.Literal.{Literal, term_literal, is_at_most, is_below, negation_of, Clause}
 use Rattle.nz_spec.specs.Gates.{holds, fails, is_boolean_term}
 use Rattle.nz_spec.specs.Links.{minus, at_most_literal, below_literal, link_clauses}
@@ -16,8 +17,6 @@ use Rattle.nz_spec.specs.Linear.{constant_value}
 use Rattle.nz_spec.specs.Units.{quotient_rows, remainder_rows, unit_clauses}
 use Rattle.nz_spec.specs.Order.{post_order, post_orders}
 use Rattle.nz_spec.specs.Taken.{IsTakenHead, IsTaken}
-use Rattle.nz_spec.proofs.Same.{same_term}
-use Rattle.nz_spec.proofs.SumUnits.{OverUnits, OverTerm, OverTerms, form-over}
 use Rattle.nz_cform.proofs.Elements.{has_first, has_behind}
 use Rattle.nz_cform.proofs.Parts.{itself}
 use Rattle.nz_cform.proofs.Sizes.{size, sizes}
@@ -48,18 +47,28 @@ Names t c = (l : Literal) × Contains c l × Contains (names_of l) t
 
 -- ---- A fact on each term that is named
 
--- what is so of what a term is made of
-mutual
-  pub over_parts : (P : Term → Type 0) (t : Term) → ((u : Term) → Contains (post_order t) u → P u) → OverTerm P t
-  over_parts P (apply h ts) f =
-      (f (apply h ts) (itself (apply h ts)), over_all P ts (λ u has. f u (Contains-append_left (post_orders ts) (apply h ts ∷ []) u has)))
+abbrev OverUnits : (Term → Type 0) → List Part → Type 0
+OverUnits P ps = AllByRecursion (λ (p : Part). P p.unit) ps
 
-  pub over_all : (P : Term → Type 0) (ts : Terms) → ((u : Term) → Contains (post_orders ts) u → P u) → OverTerms P ts
-  over_all P no_terms f = tt
-  over_all P (terms t ts) f = (
-    over_parts P t (λ u has. f u (Contains-append_left (post_order t) (post_orders ts) u has)),
-    over_all P ts (λ u has. f u (Contains-append_right (post_order t) (post_orders ts) u has)),
-  )
+-- it is so of all that the term is made of
+abbrev OverTerm : (Term → Type 0) → Term → Type 0
+OverTerm P t = (u : Term) → Contains (post_order t) u → P u
+
+abbrev OverTerms : (Term → Type 0) → Terms → Type 0
+OverTerms P no_terms = ⊤
+OverTerms P (terms t ts) = OverTerm P t × OverTerms P ts
+
+over_all : (P : Term → Type 0) (ts : Terms) → ((u : Term) → Contains (post_orders ts) u → P u) → OverTerms P ts
+over_all P no_terms f = tt
+over_all P (terms t ts) f = (
+  λ u has. f u (Contains-append_left (post_order t) (post_orders ts) u has),
+  over_all P ts (λ u has. f u (Contains-append_right (post_order t) (post_orders ts) u has)),
+)
+
+-- so of the units of its form
+form_over : UnitsAreParts → (P : Term → Type 0) (number : Numbering) (t : Term) → OverTerm P t → OverUnits P (form_of number t).result.parts
+form_over parts P number t f =
+    AllByRecursion-weaker (λ (p : Part). Contains (post_order t) p.unit) (λ (p : Part). P p.unit) (λ p has. f p.unit has) (form_of number t).result.parts (parts number t)
 
 module _ (P : Term → Type 0) where
   abbrev pub Named : Literal → Type 0
@@ -88,7 +97,7 @@ module _ (P : Term → Type 0) where
   units_named [] h = tt
   units_named (p ∷ ps) h = (h.0, units_named ps h.1)
 
-  module _ (number : Numbering) where
+  module _ (parts : UnitsAreParts) (number : Numbering) where
     over_by : (op : Arithmetic) (p : Part) (ps : List Part) (q : Part) (b c : Bool) → OverUnits P (p ∷ ps) → P q.unit → OverUnits P (part_joined number op ps q).result
         → OverUnits P (if b then turned_into (λ d. with_part p.unit d ps) (operated op p.coefficient q.coefficient) else if c then at_once (part_alone op q ∷ p ∷ ps) else turned_into (λ rs. p ∷ rs) (part_joined number op ps q)).result
     over_by op p ps q true c hs k more = with_part_over p.unit (outcome op p.coefficient q.coefficient) ps hs.0 hs.1
@@ -106,7 +115,7 @@ module _ (P : Term → Type 0) where
     difference_named : (a b : Term) → OverTerm P a → OverTerm P b → AllByRecursion P (units_of (minus number (form_of number a) (form_of number b)).result.parts)
     difference_named a b h k =
         units_named (minus number (form_of number a) (form_of number b)).result.parts
-        (parts_over Difference (form_of number a).result.parts (form_of number b).result.parts (form-over P number a h) (form-over P number b k))
+        (parts_over Difference (form_of number a).result.parts (form_of number b).result.parts (form_over parts P number a h) (form_over parts P number b k))
 
     other_rows : (b : Bool) (rows : List (List (Computation Literal))) → ResultsNamed (map in_turn rows) → ResultsNamed (map in_turn (if b then [] else rows))
     other_rows true rows h = tt
@@ -126,18 +135,15 @@ module _ (P : Term → Type 0) where
     links_named h ts k p q = tt
 
     -- and their units
-    pub unit_rows_named : (h : Head) (ts : Terms) → IsTakenHead h ts → P (apply h ts) → OverTerms P ts → ResultsNamed (unit_clauses number (apply h ts))
+    pub unit_rows_named : (h : Head) (ts : Terms) → IsTakenHead h ts → OverTerm P (apply h ts) → OverTerms P ts → ResultsNamed (unit_clauses number (apply h ts))
     unit_rows_named (choice real_sort) (terms c (terms a (terms b no_terms))) k p q =
         let u = apply (choice real_sort) (terms c (terms a (terms b no_terms))) in
-        let head : P c = over_itself c q.0 in
-        let first = difference_named u a (p, q) q.1.0 in
-        let second = difference_named a u q.1.0 (p, q) in
-        let third = difference_named u b (p, q) q.1.1.0 in
-        let fourth = difference_named b u q.1.1.0 (p, q) in
+        let head : P c = q.0 c (itself c) in
+        let first = difference_named u a p q.1.0 in
+        let second = difference_named a u q.1.0 p in
+        let third = difference_named u b p q.1.1.0 in
+        let fourth = difference_named b u q.1.1.0 p in
         (((head, tt), (first, tt)), (((head, tt), (second, tt)), (((head, tt), (third, tt)), (((head, tt), (fourth, tt)), tt))))
-      where
-        over_itself : (t : Term) → OverTerm P t → P t
-        over_itself (apply h ts) o = o.0
     unit_rows_named (choice int_sort) (terms c (terms a (terms b no_terms))) k p q = absurd k
     unit_rows_named integer_quotient (terms a (terms b no_terms)) k p q = absurd k
     unit_rows_named modulus (terms a (terms b no_terms)) k p q = absurd k
@@ -161,7 +167,7 @@ has_unit u [] h = absurd h
 has_unit u (p ∷ ps) (inl here) = subst (Contains (p.unit ∷ units_of ps)) here (has_first p.unit (units_of ps))
 has_unit u (p ∷ ps) (inr more) = has_behind p.unit (units_of ps) u (has_unit u ps more)
 
-module _ (number : Numbering) (u : Term) where
+module _ (told : TellsTerms) (number : Numbering) (u : Term) where
   with_part_has : (v : Term) (c : Fraction) (ps : List Part) → Has u ps → Has u (with_part v c ps)
   with_part_has v c ps h = by_test (is_zero c)
     where
@@ -179,7 +185,7 @@ module _ (number : Numbering) (u : Term) where
   stays_by : (op : Arithmetic) (p : Part) (ps : List Part) (q : Part) (b c : Bool) → are_same_term p.unit q.unit ≡ b → q.unit ≢ u → Has u (p ∷ ps)
       → (Has u ps → Has u (part_joined number op ps q).result)
       → Has u (if b then turned_into (λ d. with_part p.unit d ps) (operated op p.coefficient q.coefficient) else if c then at_once (part_alone op q ∷ p ∷ ps) else turned_into (λ rs. p ∷ rs) (part_joined number op ps q)).result
-  stays_by op p ps q true c e other (inl here) f = absurd (other (sym (same_term p.unit q.unit e) ∙ here))
+  stays_by op p ps q true c e other (inl here) f = absurd (other (sym (told.same p.unit q.unit e) ∙ here))
   stays_by op p ps q true c e other (inr more) f = with_part_has p.unit (outcome op p.coefficient q.coefficient) ps more
   stays_by op p ps q false true e other h f = inr h
   stays_by op p ps q false false e other (inl here) f = inl here
@@ -198,7 +204,7 @@ module _ (number : Numbering) (u : Term) where
   joins_by : (op : Arithmetic) (p : Part) (ps : List Part) (q : Part) (b c : Bool) → are_same_term p.unit q.unit ≡ b → q.unit ≡ u → p.unit ≢ u
       → Has u (part_joined number op ps q).result
       → Has u (if b then turned_into (λ d. with_part p.unit d ps) (operated op p.coefficient q.coefficient) else if c then at_once (part_alone op q ∷ p ∷ ps) else turned_into (λ rs. p ∷ rs) (part_joined number op ps q)).result
-  joins_by op p ps q true c e own other more = absurd (other (same_term p.unit q.unit e ∙ own))
+  joins_by op p ps q true c e own other more = absurd (other (told.same p.unit q.unit e ∙ own))
   joins_by op p ps q false true e own other more = alone_has op q (p ∷ ps) own
   joins_by op p ps q false false e own other more = inr more
 
@@ -226,11 +232,10 @@ mutual
       ]
 
 -- so no unit of a smaller term's form is it
-none_of_smaller : (number : Numbering) (a u : Term) → size a < size u → HasNo u (form_of number a).result.parts
-none_of_smaller number a u small =
-    form-over (λ v. v ≢ u) number a
-    (over_parts (λ v. v ≢ u) a
-    (λ v has same. let below : size v ≤ size a = part_size a v has in let is : size v ≡ size u = ap size same in omega arith))
+none_of_smaller : UnitsAreParts → (number : Numbering) (a u : Term) → size a < size u → HasNo u (form_of number a).result.parts
+none_of_smaller parts number a u small =
+    form_over parts (λ v. v ≢ u) number a
+    (λ v has same. let below : size v ≤ size a = part_size a v has in let is : size v ≡ size u = ap size same in omega arith)
 
 -- ---- The rows name their term
 
@@ -239,7 +244,7 @@ module _ (number : Numbering) where
   AllName t cs = AllByRecursion (λ (c : Computation Clause). Names t c.result) cs
 
   -- a unit alone, less a smaller term, and the other way round
-  module _ (u a : Term) (alone : form_of number u ≡ at_once (unit_form u)) (small : size a < size u) where
+  module _ (told : TellsTerms) (parts : UnitsAreParts) (u a : Term) (alone : form_of number u ≡ at_once (unit_form u)) (small : size a < size u) where
     abbrev own : Part
     own = record { coefficient = whole (pos 1); unit = u }
 
@@ -247,13 +252,13 @@ module _ (number : Numbering) where
     left_has =
         subst (λ (c : Computation Form). Contains (units_of (minus number c (form_of number a)).result.parts) u) (sym alone)
         (has_unit u (parts_joined number Difference (own ∷ []) (form_of number a).result.parts).result
-        (all_stay number u Difference (own ∷ []) (form_of number a).result.parts (none_of_smaller number a u small) (inl refl)))
+        (all_stay told number u Difference (own ∷ []) (form_of number a).result.parts (none_of_smaller parts number a u small) (inl refl)))
 
     right_has : Contains (units_of (minus number (form_of number a) (form_of number u)).result.parts) u
     right_has =
         subst (λ (c : Computation Form). Contains (units_of (minus number (form_of number a) c).result.parts) u) (sym alone)
         (has_unit u (parts_joined number Difference (form_of number a).result.parts (own ∷ [])).result
-        (joins number u Difference (form_of number a).result.parts own refl (none_of_smaller number a u small)))
+        (joins told number u Difference (form_of number a).result.parts own refl (none_of_smaller parts number a u small)))
 
   second_names : (t : Term) (l m : Literal) → Contains (names_of m) t → Names t (l ∷ m ∷ [])
   second_names t l m has = (m, has_behind l (m ∷ []) m (has_first m []), has)
@@ -261,26 +266,26 @@ module _ (number : Numbering) where
   first_names : (t : Term) (sign : Bool) (rest : List (Computation Literal)) → Names t (in_turn (at_once (term_literal t sign) ∷ rest)).result
   first_names t sign rest = (term_literal t sign, has_first (term_literal t sign) (in_turn rest).result, has_first t [])
 
-  pub units_name : (h : Head) (ts : Terms) → IsTakenHead h ts → AllName (apply h ts) (unit_clauses number (apply h ts))
-  units_name (choice real_sort) (terms c (terms a (terms b no_terms))) k =
+  pub units_name : TellsTerms → UnitsAreParts → (h : Head) (ts : Terms) → IsTakenHead h ts → AllName (apply h ts) (unit_clauses number (apply h ts))
+  units_name told parts (choice real_sort) (terms c (terms a (terms b no_terms))) k =
       let u = apply (choice real_sort) (terms c (terms a (terms b no_terms))) in
       let small : size a < size u = omega arith in
       let smaller : size b < size u = omega arith in (
-        second_names u (fails c) (at_most_literal number u a).result (left_has u a refl small),
+        second_names u (fails c) (at_most_literal number u a).result (left_has told parts u a refl small),
         (
-          second_names u (fails c) (at_most_literal number a u).result (right_has u a refl small),
+          second_names u (fails c) (at_most_literal number a u).result (right_has told parts u a refl small),
           (
-            second_names u (holds c) (at_most_literal number u b).result (left_has u b refl smaller),
-            (second_names u (holds c) (at_most_literal number b u).result (right_has u b refl smaller), tt),
+            second_names u (holds c) (at_most_literal number u b).result (left_has told parts u b refl smaller),
+            (second_names u (holds c) (at_most_literal number b u).result (right_has told parts u b refl smaller), tt),
           ),
         ),
       )
-  units_name (choice int_sort) (terms c (terms a (terms b no_terms))) k = absurd k
-  units_name integer_quotient (terms a (terms b no_terms)) k = absurd k
-  units_name modulus (terms a (terms b no_terms)) k = absurd k
-  units_name magnitude (terms a no_terms) k = absurd k
-  units_name to_int (terms a no_terms) k = absurd k
-  units_name h ts k = tt
+  units_name told parts (choice int_sort) (terms c (terms a (terms b no_terms))) k = absurd k
+  units_name told parts integer_quotient (terms a (terms b no_terms)) k = absurd k
+  units_name told parts modulus (terms a (terms b no_terms)) k = absurd k
+  units_name told parts magnitude (terms a no_terms) k = absurd k
+  units_name told parts to_int (terms a no_terms) k = absurd k
+  units_name told parts h ts k = tt
 
   name_others : (t : Term) (b : Bool) (rows : List (List (Computation Literal))) → AllName t (map in_turn rows) → AllName t (map in_turn (if b then [] else rows))
   name_others t true rows h = tt
@@ -311,21 +316,19 @@ module _ (number : Numbering) where
   pub each_link_names : (t : Term) → AllByRecursion (λ (c : Computation Clause). Names t c.result) (link_clauses number t)
   each_link_names (apply h ts) = links_name number h ts
 
-  pub each_unit_names : (t : Term) → IsTaken t → AllByRecursion (λ (c : Computation Clause). Names t c.result) (unit_clauses number t)
-  each_unit_names (apply h ts) taken = units_name number h ts taken.heads.0
+  pub each_unit_names : TellsTerms → UnitsAreParts → (t : Term) → IsTaken t → AllByRecursion (λ (c : Computation Clause). Names t c.result) (unit_clauses number t)
+  each_unit_names told parts (apply h ts) taken = units_name number told parts h ts taken.heads.0
 
-  arguments_over : (P : Term → Type 0) (h : Head) (ts : Terms) → ((u : Term) → Contains (post_order (apply h ts)) u → P u) → OverTerms P ts
-  arguments_over P h ts f = (over_parts P (apply h ts) f).1
+  arguments_over : (h : Head) (ts : Terms) → OverTerms (Contains (post_order (apply h ts))) ts
+  arguments_over h ts = over_all (Contains (post_order (apply h ts))) ts (λ u has. Contains-append_left (post_orders ts) (apply h ts ∷ []) u has)
 
-  pub each_link_within : (t : Term) → IsTaken t → AllByRecursion (λ (c : Computation Clause). AreNamed (Contains (post_order t)) c.result) (link_clauses number t)
-  each_link_within (apply h ts) taken =
-      links_named (Contains (post_order (apply h ts))) number h ts taken.heads.0 (itself (apply h ts))
-      (arguments_over (Contains (post_order (apply h ts))) h ts (λ u has. has))
+  pub each_link_within : UnitsAreParts → (t : Term) → IsTaken t → AllByRecursion (λ (c : Computation Clause). AreNamed (Contains (post_order t)) c.result) (link_clauses number t)
+  each_link_within parts (apply h ts) taken =
+      links_named (Contains (post_order (apply h ts))) parts number h ts taken.heads.0 (itself (apply h ts)) (arguments_over h ts)
 
-  pub each_unit_within : (t : Term) → IsTaken t → AllByRecursion (λ (c : Computation Clause). AreNamed (Contains (post_order t)) c.result) (unit_clauses number t)
-  each_unit_within (apply h ts) taken =
-      unit_rows_named (Contains (post_order (apply h ts))) number h ts taken.heads.0 (itself (apply h ts))
-      (arguments_over (Contains (post_order (apply h ts))) h ts (λ u has. has))
+  pub each_unit_within : UnitsAreParts → (t : Term) → IsTaken t → AllByRecursion (λ (c : Computation Clause). AreNamed (Contains (post_order t)) c.result) (unit_clauses number t)
+  each_unit_within parts (apply h ts) taken =
+      unit_rows_named (Contains (post_order (apply h ts))) parts number h ts taken.heads.0 (λ u has. has) (arguments_over h ts)
 
 -- ---- Lengths of the tables
 

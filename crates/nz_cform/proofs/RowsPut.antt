@@ -3,9 +3,10 @@ use Rattle.std.proofs.Common.{◌≡◌, ℕ, suc, ◌<◌, ◌≤◌, ◌⊎◌
 use Rattle.std.specs.Prelude.{Contains, IsSome, option_map, unwrap_or, slice_index_or}
 use Rattle.std.specs.List.{AllByRecursion}
 use Rattle.std.proofs.lemmas.Option.{slice_get_within}
-use Rattle.nz_spec.specs.FormOf.{number_in}
+use Rattle.nz_spec.specs.Same.{TellsTerms}
+use Rattle.nz_spec.specs.FormOf.{number_in, UnitsAreParts}
 use Rattle.nz_spec.specs.Links.{link_clauses}
-use Rattle.nz_spec.specs.Literal.{Clause, clause_of}
+use Rattle.nz_spec.specs.Literal.{Clause, clause_of, TellsLiterals}
 use Rattle.nz_spec.specs.Table.{Node, HasOneNumberEach, term_in}
 use Rattle.nz_spec.specs.Taken.{IsTaken}
 use Rattle.nz_spec.specs.Units.{unit_clauses}
@@ -246,12 +247,12 @@ module _ (ns : List Node) (one : HasOneNumberEach ns) (old new : LogState) (id :
   axiom_on : (l : Lit) → Contains axiom_put.literals l → l.atom < length new.atoms
   axiom_on l h = let there = each_has (IsLitIn ns new.atoms) puts.literals l puts.clause.within h in slice_get_within new.atoms l.atom there.atom there.at
 
-  axiom_level : (t level : ℕ) → t < length ns → told_of new t ≡ Some level → ((u : ℕ) → told_level new u ≤ level)
+  axiom_level : TellsLiterals → (t level : ℕ) → t < length ns → told_of new t ≡ Some level → ((u : ℕ) → told_level new u ≤ level)
       → (d : Clause) × (clause_in ns new.atoms puts.literals ≡ clause_of d) × Names (term_in ns t) d → axiom_put.level ≡ level
-  axiom_level t level within here highest says =
-      says_level ns one new t level within (ap (λ o. unwrap_or o 0) here) highest puts.literals says.0 puts.clause.within says.1 says.2
+  axiom_level tells t level within here highest says =
+      says_level tells ns one new t level within (ap (λ o. unwrap_or o 0) here) highest puts.literals says.0 puts.clause.within says.1 says.2
 
-module _ (own : AtomsOfTerms) (ns : List Node) (one : HasOneNumberEach ns) (old new : LogState) (s : FormState) (t id : ℕ) (within : t < length ns) where
+module _ (own : AtomsOfTerms) (tells : TellsLiterals) (ns : List Node) (one : HasOneNumberEach ns) (old new : LogState) (s : FormState) (t id : ℕ) (within : t < length ns) where
   abbrev Links : (ℕ → ℕ → Origin) × (ℕ → ℕ)
   Links = ((λ v j. axiom_of (link_of v j)), (λ v. length (link_clauses (number_in ns) (term_in ns v))))
 
@@ -268,7 +269,7 @@ module _ (own : AtomsOfTerms) (ns : List Node) (one : HasOneNumberEach ns) (old 
 
     link_level : link.level ≡ has.level
     link_level =
-        axiom_level ns one old new id (link_of t k) puts t has.level within (told_here ns old new s t g k 0 id link puts.puts refl has new_link)
+        axiom_level ns one old new id (link_of t k) puts tells t has.level within (told_here ns old new s t g k 0 id link puts.puts refl has new_link)
         (highest ns old new s t g k 0 id link puts.puts refl has new_link)
         (placed (Names (term_in ns t)) (link_clauses (number_in ns) (term_in ns t)) k (clause_in ns new.atoms puts.literals)
         (each_link_names (number_in ns) (term_in ns t)) puts.clause.clause)
@@ -283,7 +284,7 @@ module _ (own : AtomsOfTerms) (ns : List Node) (one : HasOneNumberEach ns) (old 
         (all_kept old new s t id link puts.puts Units.0 Units.1 0 has.units)
 
   -- of the unit table
-  module _ (g k u : ℕ) (taken : IsTaken (term_in ns t)) (puts : PutsAxiom ns old id (unit_of t u) new) (has : HasRowsBelow ns old s t g k u) where
+  module _ (told : TellsTerms) (parts : UnitsAreParts) (g k u : ℕ) (taken : IsTaken (term_in ns t)) (puts : PutsAxiom ns old id (unit_of t u) new) (has : HasRowsBelow ns old s t g k u) where
     abbrev unit : Entry
     unit = axiom_put ns one old new id (unit_of t u) puts
 
@@ -292,10 +293,10 @@ module _ (own : AtomsOfTerms) (ns : List Node) (one : HasOneNumberEach ns) (old 
 
     unit_level : unit.level ≡ has.level
     unit_level =
-        axiom_level ns one old new id (unit_of t u) puts t has.level within (told_here ns old new s t g k u id unit puts.puts refl has new_unit)
+        axiom_level ns one old new id (unit_of t u) puts tells t has.level within (told_here ns old new s t g k u id unit puts.puts refl has new_unit)
         (highest ns old new s t g k u id unit puts.puts refl has new_unit)
         (placed (Names (term_in ns t)) (unit_clauses (number_in ns) (term_in ns t)) u (clause_in ns new.atoms puts.literals)
-        (each_unit_names (number_in ns) (term_in ns t) taken) puts.clause.clause)
+        (each_unit_names (number_in ns) told parts (term_in ns t) taken) puts.clause.clause)
 
     pub unit_more : HasRowsBelow ns new s t g k (suc u)
     unit_more =

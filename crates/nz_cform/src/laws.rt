@@ -2,6 +2,7 @@
 ghost use Rattle.nz_cform.specs.Laws.{CoversStay, RowsMeetTables, RowsNameCovered};
 
 use nz_log::laws::{atoms_of_terms, gates_are_named};
+use nz_spec::form::units_are_parts;
 use nz_spec::table::{one_number, term_of_node, term_stays};
 
 /// What is covered stays so when the table grows, when another clause is put, when atoms join, when a search has learned, and when log and clause form drop the same levels.
@@ -16,6 +17,7 @@ pub fn covers_stay()
 pub fn rows_name_covered()
     ensures named { RowsNameCovered }
 {
+    units_are_parts();
     term_of_node();
     one_number();
     gates_are_named();

@@ -16,7 +16,10 @@ use nz_base::Memory;
 use nz_log::laws::{atoms_of_terms, gates_are_named};
 use nz_log::{ClauseId, Log, gate_count, link_count, unit_count};
 use nz_spec::deciding::taken_terms_are_in_order;
+use nz_spec::derivation::tells_literals;
+use nz_spec::form::units_are_parts;
 use nz_spec::table::one_number;
+use nz_spec::term::tells_terms;
 use nz_term::{TermId, Terms, known_table};
 
 /// Puts the clauses of a term by the gate table into the log, and their numbers at the end of a list.
@@ -59,6 +62,7 @@ pub fn add_links(
     ensures stop { IfErr result (λ e. OnWide e (IsStopIn terms.now (term_in terms.now term))) }
 {
     atoms_of_terms();
+    tells_literals();
     one_number();
     taken_terms_are_in_order();
     known_table(terms);
@@ -88,6 +92,9 @@ pub fn add_units(
     ensures stop { IfErr result (λ e. OnWide e (IsStopIn terms.now (term_in terms.now term))) }
 {
     atoms_of_terms();
+    tells_literals();
+    tells_terms();
+    units_are_parts();
     one_number();
     taken_terms_are_in_order();
     known_table(terms);

@@ -5,7 +5,6 @@ use Rattle.std.proofs.lemmas.List.{length-append}
 use Rattle.std.proofs.lemmas.List.Elements.{Contains-append_right}
 use Rattle.nz_spec.specs.Table.{Node, IsTable}
 use Rattle.nz_spec.specs.Decide.{asserted_numbers}
-use Rattle.nz_spec.specs.FormOf.{FormsAreSums}
 use Rattle.nz_spec.specs.Taken.{TakenTermsAreInOrder}
 use Rattle.nz_log.specs.Atoms.{AtomsOfTerms}
 use Rattle.nz_log.specs.Logs.{told_level}
@@ -15,6 +14,7 @@ use Rattle.nz_engine.specs.Levels.{IsPlaced}
 use Rattle.nz_engine.specs.Preparing.{PreparedState, CoversAlso, IsAssumable, IsPrepared, IsStanding}
 use Rattle.nz_engine.proofs.Placing.{count_within, live_above, placed_above}
 use Rattle.nz_engine.proofs.Putting.{covered}
+use Rattle.nz_engine.proofs.RowFacts.{RowLaws}
 
 -- no level told is above that of the next assertion
 pub told_before : (ns : List Node) (levels roots : List (List ℕ)) (p : PreparedState) (t n : ℕ) → IsPrepared ns levels roots p → IsPlaced levels p.given t n
@@ -39,9 +39,9 @@ also_from ns p q b t level c =
     }
 
 -- what is assumed is covered above all levels
-pub term_assumed : (ns : List Node) (levels : List (List ℕ)) (more : List ℕ) (p q : PreparedState) (t level : ℕ) → AtomsOfTerms → RowsNameCovered → TakenTermsAreInOrder → FormsAreSums → IsTable ns → t < length ns
+pub term_assumed : (ns : List Node) (levels : List (List ℕ)) (more : List ℕ) (p q : PreparedState) (t level : ℕ) → AtomsOfTerms → RowsNameCovered → TakenTermsAreInOrder → RowLaws → IsTable ns → t < length ns
     → CoversAlso ns p t level q → q.above ≡ true → IsAssumable ns levels more t level p → IsStanding ns levels more q
-term_assumed ns levels more p q t level atoms named order sums table within also above a =
+term_assumed ns levels more p q t level atoms named order laws table within also above a =
     let last = a.last in
     let has : Contains (live_at (levels ++ more ∷ []) level) t =
     subst (λ xs. Contains xs t) (sym (live_above levels more level last)) (Contains-append_right (asserted_numbers levels) more t a.named) in
@@ -49,6 +49,6 @@ term_assumed ns levels more p q t level atoms named order sums table within also
     let few = count_within levels level in
     let all = a.all_given in
     record {
-      raised = covered ns levels (levels ++ more ∷ []) p q t level also a.standing.raised atoms named order sums table within a.taken has (omega (arith, long, last)) (omega (arith, few, all));
+      raised = covered ns levels (levels ++ more ∷ []) p q t level also a.standing.raised atoms named order laws table within a.taken has (omega (arith, long, last)) (omega (arith, few, all));
       plain = λ e. absurd (true≢false (sym above ∙ e));
     }

@@ -9,7 +9,6 @@ use Rattle.std.proofs.lemmas.Option.{slice_get_within}
 use Rattle.nz_lists.proofs.Elements.{AllByRecursion-weaker}
 use Rattle.nz_spec.specs.Table.{Node, IsTable, term_in}
 use Rattle.nz_spec.specs.Decide.{asserted_numbers}
-use Rattle.nz_spec.specs.FormOf.{FormsAreSums}
 use Rattle.nz_spec.specs.Gates.{is_boolean_term}
 use Rattle.nz_spec.specs.Literal.{term_literal}
 use Rattle.nz_spec.specs.Taken.{IsTaken, TakenTermsAreInOrder}
@@ -33,7 +32,7 @@ use Rattle.nz_engine.specs.Levels.{IsPlaced, count_in}
 use Rattle.nz_engine.specs.Preparing.{PreparedState, AreSearched, CoversAlso, HoldsUnit, IsMadeOf, IsOfForm, IsPrepared, IsSearched, unit_of}
 use Rattle.nz_engine.proofs.Going.{none_or_some, some_of, some_within, still_searched}
 use Rattle.nz_engine.proofs.Placing.{count_more, placed_in_all}
-use Rattle.nz_engine.proofs.RowFacts.{IsRowLiteral, contains_map, of_row}
+use Rattle.nz_engine.proofs.RowFacts.{IsRowLiteral, RowLaws, contains_map, of_row}
 
 -- ---- Logs in which each clause stays
 
@@ -123,11 +122,11 @@ literal_at_atom ns atoms l a at =
     ap (λ (o : Option Atom). elim o [ None ↦ term_literal (term_in ns 0) l.sign | Some x ↦ with_sign l.sign (atom_in ns x) ]) at
 
 -- each literal of a row is on the atom of a covered Boolean term or on a bound that is listed
-row_searched : RowsNameCovered → FormsAreSums → (ns : List Node) → IsTable ns → (levels : List (List ℕ)) (s : LogState) (f : FormState) → IsLog ns levels s → Covers ns s f
+row_searched : RowsNameCovered → RowLaws → (ns : List Node) → IsTable ns → (levels : List (List ℕ)) (s : LogState) (f : FormState) → IsLog ns levels s → Covers ns s f
     → (i t : ℕ) → IsRowAt s i t → IsTaken (term_in ns t) → (l : Lit) → Contains (literals_at s i) l → IsSearched ns s f l.atom
-row_searched named sums ns table levels s f order covers i t row taken l has =
+row_searched named laws ns table levels s f order covers i t row taken l has =
     let names = named ns levels s f table order covers i t row taken l has in
-    let fact = of_row sums ns table levels s order i t row taken l has in
+    let fact = of_row laws ns table levels s order i t row taken l has in
     record { atom = names.atom; at = names.at; of = by_atom names.atom names.at names.terms (subst IsRowLiteral (literal_at_atom ns s.atoms l names.atom names.at) fact.literal) }
   where
     by_atom : (a : Atom) → slice_get s.atoms l.atom ≡ Some a → AllByRecursion (IsCoveredWithin f (level_at s i)) (terms_of a) → IsRowLiteral (with_sign l.sign (atom_in ns a)) → IsOfForm ns f l.atom a
@@ -187,8 +186,8 @@ module _ (ns : List Node) (levels roots : List (List ℕ)) (p q : PreparedState)
   cover_of i (Term u) of = (let n = some_of (covered_at p.form u) of.0 in subst (λ (o : Option ℕ). IsSome o) (sym (c.grown.terms.stays u n.0 n.1)) refl, of.1)
   cover_of i (AtMost b) of = let n = some_of (listed_at p.form.bounds i) of in subst (λ (o : Option ℕ). IsSome o) (sym (c.grown.bounds.stays i n.0 n.1)) refl
 
-  cover_searched : RowsNameCovered → TakenTermsAreInOrder → FormsAreSums → IsTable ns → IsTaken (term_in ns t) → IsLog ns levels q.log → AreSearched ns q.log q.form q.sat.clauses
-  cover_searched named parts sums table own order =
+  cover_searched : RowsNameCovered → TakenTermsAreInOrder → RowLaws → IsTable ns → IsTaken (term_in ns t) → IsLog ns levels q.log → AreSearched ns q.log q.form q.sat.clauses
+  cover_searched named parts laws table own order =
       let P = λ (x : Held). All (λ (l : Lit). IsSearched ns q.log q.form l.atom) (literals_at q.log x.id) in
       subst (AreSearched ns q.log q.form) (sym c.joined)
       (All-append P p.sat.clauses (map (held_of q.log) c.ids) (still_all p.log q.log c.kept ns p q refl refl cover_of p.sat.clauses h.held h.searched)
@@ -196,7 +195,7 @@ module _ (ns : List Node) (levels roots : List (List ℕ)) (p q : PreparedState)
       (All-weaker (λ i. (u : ℕ) × IsRowAt q.log i u) (λ i. P (held_of q.log i))
       (λ i row.
       All-weaker (Contains (literals_at q.log i)) (λ (l : Lit). IsSearched ns q.log q.form l.atom)
-      (λ l has. row_searched named sums ns table levels q.log q.form order c.covers i row.0 row.1 (row_taken parts own i row.0 row.1) l has)
+      (λ l has. row_searched named laws ns table levels q.log q.form order c.covers i row.0 row.1 (row_taken parts own i row.0 row.1) l has)
       (literals_at q.log i) (All-contains_itself (literals_at q.log i)))
       c.ids c.added.rows)))
 
@@ -237,9 +236,9 @@ module _ (ns : List Node) (levels roots : List (List ℕ)) (p q : PreparedState)
             h.below u n (some.1 ∙ ap Some same)
       ]
 
-  pub covered : AtomsOfTerms → RowsNameCovered → TakenTermsAreInOrder → FormsAreSums → IsTable ns → t < length ns → IsTaken (term_in ns t) → Contains (live_at roots level) t → level < length roots
+  pub covered : AtomsOfTerms → RowsNameCovered → TakenTermsAreInOrder → RowLaws → IsTable ns → t < length ns → IsTaken (term_in ns t) → Contains (live_at roots level) t → level < length roots
       → count_in levels level ≤ p.given → IsPrepared ns levels roots q
-  covered atoms named parts sums table within own has low few =
+  covered atoms named parts laws table within own has low few =
       let order = c.sound levels h.order in
       let given = c.given in
       record {
@@ -250,7 +249,7 @@ module _ (ns : List Node) (levels roots : List (List ℕ)) (p q : PreparedState)
         taken = cover_taken parts own;
         leveled = cover_leveled named parts table own order;
         held = cover_held;
-        searched = cover_searched named parts sums table own order;
+        searched = cover_searched named parts laws table own order;
         rows = cover_rows;
         units = λ k u below at. still_units p.log q.log c.kept atoms levels p q (map (held_of q.log) c.ids) refl refl h.held c.joined k u (h.units k u (omega (arith, below, given)) at);
         within = let was = h.within in omega (arith, was, given);

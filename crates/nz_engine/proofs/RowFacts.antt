@@ -20,9 +20,8 @@ use Rattle.nz_spec.specs.Steps.{step_clause}
 use Rattle.nz_spec.specs.Table.{Node, IsTable, term_in}
 use Rattle.nz_spec.specs.Taken.{IsTakenHead, IsTaken}
 use Rattle.nz_spec.specs.Units.{unit_clauses}
-use Rattle.nz_spec.proofs.GateSettling.{AllAre}
-use Rattle.nz_spec.proofs.OperandSorts.{HaveOperands, operands_are}
-use Rattle.nz_reals.proofs.Sums.{neg_nonzero}
+use Rattle.nz_spec.specs.WellSorted.{AllAre, HaveOperands, OperandsAreSorted}
+use Rattle.nz_fractions.proofs.Identities.{neg-nonzero}
 use Rattle.nz_log.specs.declared.atoms.Atom.{Atom}
 use Rattle.nz_log.specs.declared.lits.Lit.{Lit}
 use Rattle.nz_log.specs.Atoms.{clause_in, literal_in}
@@ -49,7 +48,7 @@ with_part_nonzero u c ps h = by_test (is_zero c) refl
 
 alone_nonzero : (op : Arithmetic) (q : Part) (ps : List Part) → HasCoefficient q → AreNonzeroParts ps → AreNonzeroParts (part_alone op q ∷ ps)
 alone_nonzero Sum q ps h k = (h, k)
-alone_nonzero Difference q ps h k = (neg_nonzero q.coefficient h, k)
+alone_nonzero Difference q ps h k = (neg-nonzero q.coefficient h, k)
 alone_nonzero Product q ps h k = (h, k)
 alone_nonzero Quotient q ps h k = (h, k)
 
@@ -216,15 +215,20 @@ contains_map f xs x c =
     (All-from_recursion (λ y. Contains (map f xs) (f y)) xs
     (AllByRecursion-map (Contains (map f xs)) f xs (recursion_from_All (Contains (map f xs)) (map f xs) (All-contains_itself (map f xs))))) c
 
-module _ (sums : FormsAreSums) (number : Numbering) where
+-- what rows of taken terms rest on
+pub record RowLaws : Type 0 where
+  pub sums : FormsAreSums
+  pub operands : OperandsAreSorted
+
+module _ (laws : RowLaws) (number : Numbering) where
   gates_of : (t : Term) → IsTaken t → AllByRecursion AreBooleans (gate_clauses t)
-  gates_of (apply h ts) k = gates_are h ts k.heads.0 (operands_are h ts k.sorted.0)
+  gates_of (apply h ts) k = gates_are h ts k.heads.0 (laws.operands h ts k.sorted.0)
 
   links_of : (t : Term) → AreRows (link_clauses number t)
-  links_of (apply h ts) = links_are number sums h ts
+  links_of (apply h ts) = links_are number laws.sums h ts
 
   units_of : (t : Term) → IsTaken t → AreRows (unit_clauses number t)
-  units_of (apply h ts) k = units_are number sums h ts k.heads.0 (operands_are h ts k.sorted.0)
+  units_of (apply h ts) k = units_are number laws.sums h ts k.heads.0 (laws.operands h ts k.sorted.0)
 
 -- the clause of a place in a table
 taken_row : (rows : List Clause) (j : ℕ) (c : Clause) → option_map clause_of (slice_get rows j) ≡ Some c → (row : Clause) × Contains rows row × (clause_of row ≡ c)
@@ -243,7 +247,7 @@ computed_row rows j c e =
       | Some row ↦ λ at h. (row, stands_there rows j row at, same_Some (clause_of row.result) c h)
     ] refl e
 
-module _ (sums : FormsAreSums) (ns : List Node) (table : IsTable ns) (levels : List (List ℕ)) (log : LogState) (order : IsLog ns levels log) where
+module _ (laws : RowLaws) (ns : List Node) (table : IsTable ns) (levels : List (List ℕ)) (log : LogState) (order : IsLog ns levels log) where
   module _ (t : ℕ) (taken : IsTaken (term_in ns t)) (l : Lit) where
     abbrev Goal : Type 0
     Goal = IsOfRow (number_in ns) (term_in ns t) (literal_in ns log.atoms l)
@@ -280,21 +284,21 @@ module _ (sums : FormsAreSums) (ns : List Node) (table : IsTable ns) (levels : L
         let one : u ≡ t = same_Some u t is in
         let of = taken_row (gate_clauses (term_in ns u)) j (clause_in ns log.atoms e.literals) made.2 in
         let inside = in_row e.literals of.0 has of.2 in
-        let each : AllByRecursion AreBooleans (gate_clauses (term_in ns u)) = subst (λ (v : ℕ). AllByRecursion AreBooleans (gate_clauses (term_in ns v))) (sym one) (gates_of sums (number_in ns) (term_in ns t) taken) in
+        let each : AllByRecursion AreBooleans (gate_clauses (term_in ns u)) = subst (λ (v : ℕ). AllByRecursion AreBooleans (gate_clauses (term_in ns v))) (sym one) (gates_of laws (number_in ns) (term_in ns t) taken) in
         boolean_of_row (number_in ns) (term_in ns t) (literal_in ns log.atoms l)
         (each_in IsBooleanLiteral of.0 (literal_in ns log.atoms l) (each_in AreBooleans (gate_clauses (term_in ns u)) of.0 each of.1) inside)
     by_origin i e (axiom_of (link_of u j)) made is has =
         let one : u ≡ t = same_Some u t is in
         let links = link_clauses (number_in ns) (term_in ns t) in
         let units = unit_clauses (number_in ns) (term_in ns t) in
-        of_computed links j e.literals (links_of sums (number_in ns) (term_in ns t)) (λ row c. Contains-append_left links units row c) has
+        of_computed links j e.literals (links_of laws (number_in ns) (term_in ns t)) (λ row c. Contains-append_left links units row c) has
         (subst (λ (v : ℕ). (Steps.clause_at (link_clauses (number_in ns) (term_in ns v)) j).result ≡ Some (clause_in ns log.atoms e.literals)) one
         (step_here (link_of u j) e.literals made.taken))
     by_origin i e (axiom_of (unit_of u j)) made is has =
         let one : u ≡ t = same_Some u t is in
         let links = link_clauses (number_in ns) (term_in ns t) in
         let units = unit_clauses (number_in ns) (term_in ns t) in
-        of_computed units j e.literals (units_of sums (number_in ns) (term_in ns t) taken) (λ row c. Contains-append_right links units row c) has
+        of_computed units j e.literals (units_of laws (number_in ns) (term_in ns t) taken) (λ row c. Contains-append_right links units row c) has
         (subst (λ (v : ℕ). (Steps.clause_at (unit_clauses (number_in ns) (term_in ns v)) j).result ≡ Some (clause_in ns log.atoms e.literals)) one
         (step_here (unit_of u j) e.literals made.taken))
     by_origin i e (axiom_of (farkas_of ms)) made is has = absurd cc

@@ -9,7 +9,7 @@ use Rattle.nz_fractions.specs.Fraction.{Fraction, neg_ℚ}
 use Rattle.nz_spec.specs.Decide.{asserted_numbers}
 use Rattle.nz_spec.specs.Form as spec
 use Rattle.nz_spec.specs.Form.{negated_part}
-use Rattle.nz_spec.specs.FormOf.{number_in, FormsAreSums}
+use Rattle.nz_spec.specs.FormOf.{number_in}
 use Rattle.nz_spec.specs.Gates.{is_boolean_term}
 use Rattle.nz_spec.specs.Legal.{Task, IsAtom, IsTabled, told_literals}
 use Rattle.nz_spec.specs.Literal.{term_literal, is_at_most, StandOnce}
@@ -44,7 +44,8 @@ use Rattle.nz_reals.specs.Knowing.{of_stays}
 use Rattle.nz_reals.specs.Stands.{HasTold, IsAt, IsFeasible, IsOf}
 use Rattle.nz_reals.specs.Sums.{AreNonzero}
 use Rattle.nz_reals.proofs.Saying.{bound_in_log}
-use Rattle.nz_reals.proofs.Sums.{neg_nonzero, number_back}
+use Rattle.nz_fractions.proofs.Identities.{neg-nonzero}
+use Rattle.nz_reals.proofs.Sums.{number_back}
 use Rattle.nz_sat.specs.Numbers.{IsAtomAt, atom_literal}
 use Rattle.nz_sat.specs.Sats as sat
 use Rattle.nz_sat.specs.Sats.{AreNamed, AreOn, HoldsMore, IsAsked, IsSatisfied, IsTheoryMet, truth_of}
@@ -55,7 +56,7 @@ use Rattle.nz_engine.proofs.Naming.{listed_part, once_from_pairs}
 use Rattle.nz_engine.proofs.Onces.{boolean_there, boolean_was, once_append, once_booleans, once_from_stand, once_map, stand_from_once}
 use Rattle.nz_engine.proofs.Placing.{all_roots, in_all, place_of, stands_there}
 use Rattle.nz_engine.proofs.Putting.{from_lits, joined_prepared, learned, literal_at_atom}
-use Rattle.nz_engine.proofs.RowFacts.{AreNonzeroParts, IsOfRow, IsRowLiteral, contains_map, of_row}
+use Rattle.nz_engine.proofs.RowFacts.{AreNonzeroParts, IsOfRow, IsRowLiteral, RowLaws, contains_map, of_row}
 
 -- ---- Atoms of terms
 
@@ -123,7 +124,7 @@ consistent_lits atoms ls has apart =
 
 unnegated : (ps : List spec.Part) → AreNonzeroParts (map negated_part ps) → AreNonzeroParts ps
 unnegated [] h = tt
-unnegated (p ∷ ps) h = (subst (λ (q : Fraction). is_zero q ≡ false) (number_back p.coefficient) (neg_nonzero (neg_ℚ p.coefficient) h.0), unnegated ps h.1)
+unnegated (p ∷ ps) h = (subst (λ (q : Fraction). is_zero q ≡ false) (number_back p.coefficient) (neg-nonzero (neg_ℚ p.coefficient) h.0), unnegated ps h.1)
 
 by_sign : (ps : List spec.Part) (b : Fraction) (sign : Bool) → IsRowLiteral (with_sign sign (is_at_most ps b)) → AreNonzeroParts ps
 by_sign ps b true h = h
@@ -153,7 +154,7 @@ entry_of f (Some x) y e = (x, refl)
 
 -- ---- What is searched for
 
-module _ (sums : FormsAreSums) (ns : List Node) (table : IsTable ns) (levels roots : List (List ℕ)) (p : PreparedState) (ready : IsPrepared ns levels roots p) where
+module _ (laws : RowLaws) (ns : List Node) (table : IsTable ns) (levels roots : List (List ℕ)) (p : PreparedState) (ready : IsPrepared ns levels roots p) where
   -- A bound that is listed is of a row in the log.
   record IsBoundOf (i : ℕ) (b : Bound) : Type 0 where
     clause : ℕ
@@ -182,7 +183,7 @@ module _ (sums : FormsAreSums) (ns : List Node) (table : IsTable ns) (levels roo
         at = own;
         covered = some_term;
         fact = subst (IsOfRow (number_in ns) (term_in ns x.term)) (bound_in_log ns p.log.atoms x.literal b own (normal_bound p.log.atoms i b ready.order.atoms at))
-            (of_row sums ns table levels p.log ready.order of.0 x.term x.row (ready.taken x.term some_term) x.literal x.has);
+            (of_row laws ns table levels p.log ready.order of.0 x.term x.row (ready.taken x.term some_term) x.literal x.has);
       }
 
   -- the atom is over the table
@@ -305,7 +306,7 @@ module _ (ns : List Node) (p : PreparedState) (own : AtomsOfTerms) (are : AreAto
 
 -- ---- A search that is handed its atoms
 
-module _ (sums : FormsAreSums) (own : AtomsOfTerms) {ns : List Node} {levels : List (List ℕ)} {assumed : List TermLit} {p : PreparedState} (posed : IsPosed ns levels assumed p)
+module _ (laws : RowLaws) (own : AtomsOfTerms) {ns : List Node} {levels : List (List ℕ)} {assumed : List TermLit} {p : PreparedState} (posed : IsPosed ns levels assumed p)
     {ids : List ℕ} {lits : List Lit} (n : AreHanded ns p assumed ids lits) where
   abbrev ready : IsPrepared ns levels (levels ++ terms_named assumed ∷ []) p
   ready = posed.standing.raised
@@ -333,21 +334,21 @@ module _ (sums : FormsAreSums) (own : AtomsOfTerms) {ns : List Node} {levels : L
   ids_searched = subst (All (IsSearched ns p.log p.form)) (sym n.numbers) (atoms_searched ns p own ready.order.atoms n.terms n.bounds n.there.covered bound_at)
 
   pub ids_within : All (IsAtomAt ns p.log.atoms) ids
-  ids_within = All-weaker (IsSearched ns p.log p.form) (IsAtomAt ns p.log.atoms) (searched_within sums ns posed.table levels (levels ++ terms_named assumed ∷ []) p ready) ids ids_searched
+  ids_within = All-weaker (IsSearched ns p.log p.form) (IsAtomAt ns p.log.atoms) (searched_within laws ns posed.table levels (levels ++ terms_named assumed ∷ []) p ready) ids ids_searched
 
   pub ids_learnable : AreLearnable p.log.atoms ids
   ids_learnable =
       record {
         table = ns;
         is_table = posed.table;
-        each = All-weaker (IsSearched ns p.log p.form) (IsLearnable ns p.log.atoms) (searched_learnable sums ns posed.table levels (levels ++ terms_named assumed ∷ []) p ready) ids ids_searched;
+        each = All-weaker (IsSearched ns p.log p.form) (IsLearnable ns p.log.atoms) (searched_learnable laws ns posed.table levels (levels ++ terms_named assumed ∷ []) p ready) ids ids_searched;
       }
 
   pub ids_told : AreToldAtoms p.log ids
   ids_told =
       let T = λ (l : Lit). Names (λ t. IsSome (told_of p.log t)) p.log.atoms l in
       All-map T (λ (i : ℕ). record { atom = i; sign = true }) ids
-      (All-weaker (IsSearched ns p.log p.form) (λ i. T (record { atom = i; sign = true })) (searched_told sums ns posed.table levels (levels ++ terms_named assumed ∷ []) p ready) ids ids_searched)
+      (All-weaker (IsSearched ns p.log p.form) (λ i. T (record { atom = i; sign = true })) (searched_told laws ns posed.table levels (levels ++ terms_named assumed ∷ []) p ready) ids ids_searched)
 
   pub ids_once : StandOnce ids
   ids_once = subst StandOnce (sym n.numbers) (atoms_once ns p own ready.order.atoms n.terms n.bounds n.there.covered bound_at)
@@ -359,7 +360,7 @@ module _ (sums : FormsAreSums) (own : AtomsOfTerms) {ns : List Node} {levels : L
         table = posed.table;
         within = ids_within;
         nameable = All-weaker (IsSearched ns p.log p.form) (λ i. IsAtom q (atom_literal ns p.log.atoms i))
-            (searched_nameable sums ns posed.table levels (levels ++ terms_named assumed ∷ []) p ready q covered_listed) ids ids_searched;
+            (searched_nameable laws ns posed.table levels (levels ++ terms_named assumed ∷ []) p ready q covered_listed) ids ids_searched;
         once = ids_once;
         atoms = ready.order.atoms;
       }

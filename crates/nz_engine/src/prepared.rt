@@ -43,6 +43,7 @@ use nz_sat::Sat;
 use nz_spec::deciding::taken_terms_are_in_order;
 use nz_spec::derivation::tells_literals;
 use nz_spec::form::forms_are_sums;
+use nz_spec::term::operands_are_sorted;
 use nz_term::{Assign, Head, Sort, TermId, Terms, Value, known_table};
 use std::alloc::Global;
 use std::marker::Model;
@@ -138,6 +139,7 @@ impl Prepared {
         rows_name_covered();
         taken_terms_are_in_order();
         forms_are_sums();
+        operands_are_sorted();
         atoms_of_terms();
         let Some(given) = self.given.checked_add(1) else {
             return Err(Stop::Memory);
@@ -186,6 +188,7 @@ impl Prepared {
         rows_name_covered();
         taken_terms_are_in_order();
         forms_are_sums();
+        operands_are_sorted();
         atoms_of_terms();
         if self.form.is_covered(term) {
             return Ok(());
@@ -249,6 +252,7 @@ impl Prepared {
         logs_stay_leveled();
         atoms_of_terms();
         forms_are_sums();
+        operands_are_sorted();
         let named = self.named(terms, assumed)?;
         let atoms: &[AtomId] = &named.atoms;
         let literals: &[Lit] = &named.literals;

@@ -11,14 +11,12 @@ use Rattle.nz_fractions.proofs.Laws.{lowest-same, ≤ℚ-from_lt, ≤ℚ_refl, �
 use Rattle.nz_spec.specs.Bland as bland
 use Rattle.nz_spec.specs.Bland.{HasValue, IsOutside, Point, Position, PositionsHaveValues, bound_on, lower_side, upper_side, zero_infinitesimal}
 use Rattle.nz_spec.specs.Form as spec
-use Rattle.nz_spec.specs.Infinitesimal.{Infinitesimal, IsLeastLimit, Pair, at, delta_operations, is_limiting, limit, limit_operations, limits, ◌≤δ◌}
+use Rattle.nz_spec.specs.Infinitesimal.{Infinitesimal, InfinitesimalsAreOrdered, IsLeastLimit, Pair, at, delta_operations, is_limiting, limit, limit_operations, limits, ◌≤δ◌}
 use Rattle.nz_spec.specs.Literal.{Literal}
 use Rattle.nz_spec.specs.LiteralBounds.{position_under}
 use Rattle.nz_spec.specs.Places.{IsChosen, IsOfLimit, IsOperationIn, IsPairOf, IsWithinBounds, in_order}
 use Rattle.nz_spec.specs.Table.{Node}
 use Rattle.nz_spec.specs.ToldBounds.{AreNumbers}
-use Rattle.nz_spec.proofs.InfinitesimalOrder.{not_less}
-use Rattle.nz_spec.proofs.ToldBounds.{at_most_parts}
 use Rattle.nz_frac.specs.Operations.{operation_of}
 use Rattle.nz_delta.specs.declared.delta.Delta.{Delta}
 use Rattle.nz_delta.specs.DeltaSpace.{infinitesimal_of}
@@ -179,8 +177,8 @@ module _ (t : Theory) (ns : List Node) (over : IsOver ns t.simplex) (sound : IsS
   known_values known k less = sound.right ns k (value_of t k) over (some_is (value_in t.simplex k) (known k less))
 
   -- where it is feasible, no bound is past a value
-  pub has_values : checks.IsFeasible ns t.simplex → HasValues t
-  has_values feasible = record {
+  pub has_values : InfinitesimalsAreOrdered → checks.IsFeasible ns t.simplex → HasValues t
+  has_values order feasible = record {
     known = feasible.known;
     ordered = λ k side pair less is.
         let b = bound_of_pair t k side pair is in
@@ -189,8 +187,8 @@ module _ (t : Theory) (ns : List Node) (over : IsOver ns t.simplex) (sound : IsS
   }
     where
       ordered : (side : Side) (bound x : Infinitesimal) → (IsOutside (half side) bound x → ⊥) → let y : Pair = in_order (half side) bound x in y.0 ≤δ y.1
-      ordered Lower bound x inside = at_most_parts bound x (not_less bound x inside)
-      ordered Upper bound x inside = at_most_parts x bound (not_less x bound inside)
+      ordered Lower bound x inside = order.by_parts bound x (order.at_most bound x inside)
+      ordered Upper bound x inside = order.by_parts x bound (order.at_most x bound inside)
 
   module _ (values : PositionsHaveValues) (has : HasValues t) (numbers : AreNumbers n (value_of t)) where
     has_value : (k : ℕ) → k < n → HasValue p k (value_of t k)
@@ -321,14 +319,14 @@ module _ (t : Theory) (ns : List Node) (over : IsOver ns t.simplex) (sound : IsS
 
 -- ---- Wherever the theory stands
 
-module _ (t : Theory) (ns : List Node) (over : IsOver ns t.simplex) (sound : IsSound t.simplex) (feasible : checks.IsFeasible ns t.simplex) where
+module _ (order : InfinitesimalsAreOrdered) (t : Theory) (ns : List Node) (over : IsOver ns t.simplex) (sound : IsSound t.simplex) (feasible : checks.IsFeasible ns t.simplex) where
   pub limit_stands : (place : Place) → IsLimitPlace t place → (fs : List (List spec.Part)) (ls : List Literal) (x : Point) → IsAt t ns fs ls x → IsPlaceIn ns fs ls x place
-  limit_stands place h fs ls x at = limit_place t ns over sound place feasible.within (has_values t ns over sound feasible) h fs ls x (position_is t ns fs ls x at)
+  limit_stands place h fs ls x at = limit_place t ns over sound place feasible.within (has_values t ns over sound order feasible) h fs ls x (position_is t ns fs ls x at)
 
   pub model_stands : PositionsHaveValues → AreNumbers (length t.simplex.forms) (value_of t) → (d : Fraction) → IsLeastLimit (pairs_below t (length t.simplex.forms)) d → (e : Stop) → OnWide e (IsModelPlace t d)
       → OnWide e (λ (place : Place). (fs : List (List spec.Part)) (ls : List Literal) (x : Point) → IsAt t ns fs ls x → IsPlaceIn ns fs ls x place)
   model_stands values numbers d least (Wide place) h = λ fs ls x at.
-      model_place t ns over sound values (has_values t ns over sound feasible) numbers d place feasible.within least h fs ls x (position_is t ns fs ls x at)
+      model_place t ns over sound values (has_values t ns over sound order feasible) numbers d place feasible.within least h fs ls x (position_is t ns fs ls x at)
   model_stands values numbers d least Spent h = tt
   model_stands values numbers d least Memory h = tt
 

@@ -6,14 +6,13 @@ use Rattle.std.proofs.lemmas.List.{length-map, map-append, take-append-le, take_
 use Rattle.std.proofs.lemmas.Option.{slice_get_within}
 use Rattle.nz_spec.specs.Bland.{Point, Position, NonbasicFormsFit, lower_side, upper_side}
 use Rattle.nz_spec.specs.Form.{Part}
-use Rattle.nz_spec.specs.Infinitesimal.{Infinitesimal}
+use Rattle.nz_spec.specs.Infinitesimal.{Infinitesimal, infinitesimal_cmp, InfinitesimalsAreOrdered}
 use Rattle.nz_spec.specs.Literal.{Literal, TellsLiterals}
 use Rattle.nz_spec.specs.LiteralBounds as bounds
 use Rattle.nz_spec.specs.LiteralBounds.{FormBound, TellingSetsBounds, bound_said, moved_by, position_under}
 use Rattle.nz_spec.specs.PositionMoves.{is_outside, with_bound}
 use Rattle.nz_spec.specs.Table.{Node, OneNumber}
 use Rattle.nz_lin.specs.Forms.{AreUnits, parts_over}
-use Rattle.nz_spec.specs.Infinitesimal.{infinitesimal_cmp}
 use Rattle.nz_trail.specs.Bounds.{IsImplied}
 use Rattle.nz_trail.specs.declared.limits.Side.{Side}
 use Rattle.nz_trail.specs.declared.limits.Side.TheVariants.{Lower, Upper}
@@ -85,7 +84,7 @@ over_kept ns old new forms over = record { table = over.table; units = subst (Al
 -- ---- A literal that is told
 
 module _ (old new : Theory) (l : Lit) (told : IsTold old new l) (atoms : List Atom) (ids : List ℕ) (of : IsOf old atoms ids) (forms : AreForms old.simplex) (tolds : AreTolds old) (sound : IsSound old.simplex)
-    (sets : TellingSetsBounds) (one : OneNumber) (tells : TellsLiterals) (ns : List Node) (fs : List (List Part)) (ls : List Literal) (x : Point) (at : IsAt old ns fs ls x) where
+    (sets : TellingSetsBounds) (order : InfinitesimalsAreOrdered) (one : OneNumber) (tells : TellsLiterals) (ns : List Node) (fs : List (List Part)) (ls : List Literal) (x : Point) (at : IsAt old ns fs ls x) where
   abbrev L : Literal
   L = literal_over ns old l
 
@@ -112,10 +111,10 @@ module _ (old new : Theory) (l : Lit) (told : IsTold old new l) (atoms : List At
       by_case : ((new.simplex ≡ old.simplex) × IsImplied infinitesimal_cmp old.simplex.asserted held) ⊎ (IsBounded old.simplex new.simplex held × (¬ IsImplied infinitesimal_cmp old.simplex.asserted held))
           → position_under fs (moved_by fs L x) (ls ++ L ∷ []) ≡ position_over ns new.simplex
       by_case (inl (same, implied)) =
-          sets.looser fs x ls L b says (news ∙ implied_old old.simplex.asserted held implied) (subst NonbasicFormsFit (sym here) (sound.ready ns at.over).fit)
+          sets.looser fs x ls L b says (news ∙ implied_old order old.simplex.asserted held implied) (subst NonbasicFormsFit (sym here) (sound.ready ns at.over).fit)
           ∙ here ∙ ap (position_over ns) (sym same)
       by_case (inr (bounded, other)) =
-          sets.tighter fs x ls L b says (news ∙ other_news old.simplex.asserted held other)
+          sets.tighter fs x ls L b says (news ∙ other_news order old.simplex.asserted held other)
           ∙ ap (λ (p : Position). with_bound p b.side b.form b.bound) here ∙ sym (bounded.position ns at.over)
 
   same_forms : new.simplex.forms ≡ old.simplex.forms

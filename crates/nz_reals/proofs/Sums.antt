@@ -4,11 +4,8 @@ use Rattle.std.specs.Cmp.{first_so}
 use Rattle.std.specs.Prelude.{ℤ, pos, negsuc, neg_ℤ, int_lt, ◌&&◌, if◌then◌else◌}
 use Rattle.std.specs.List.{AllByRecursion}
 use Rattle.std.proofs.lemmas.Int.{ints}
-use Rattle.nz_fractions.specs.Fraction.{Fraction, neg_ℚ, whole, denominator, fraction_lt, fraction_eq, ◌=ℚ◌}
-use Rattle.nz_fractions.proofs.Laws.{=ℚ-from_same, =ℚ_trans}
-use Rattle.nz_fractions.proofs.Order.{same-fraction_eq}
-use Rattle.nz_fractions.proofs.Arithmetic.{neg_ℚ-same}
-use Rattle.nz_spec.proofs.FractionQuotients.{nonzero-test}
+use Rattle.nz_fractions.specs.Fraction.{Fraction, neg_ℚ, whole, denominator, fraction_lt, fraction_eq}
+use Rattle.nz_fractions.proofs.Identities.{neg-nonzero, nonzero-test}
 use Rattle.nz_spec.specs.Form as spec
 use Rattle.nz_spec.specs.Form.{negated_part}
 use Rattle.nz_spec.specs.LiteralBounds.{turned}
@@ -85,24 +82,11 @@ neg_above q e = below_is (neg_ℚ q) ∙ by_number q.numerator (sym (below_is q)
         by_test false e = refl
         by_test true e = absurd (omega (arith, ints, e))
 
-neg_zero : neg_ℚ (whole (pos 0)) =ℚ whole (pos 0)
-unfolding neg_ℚ
-neg_zero = record { cross = refl }
-
-pub neg_nonzero : (q : Fraction) → is_zero q ≡ false → is_zero (neg_ℚ q) ≡ false
-neg_nonzero q e = by_test (is_zero (neg_ℚ q)) refl
-  where
-    by_test : (b : Bool) → is_zero (neg_ℚ q) ≡ b → b ≡ false
-    by_test false f = refl
-    by_test true f =
-        let zero : neg_ℚ (neg_ℚ q) =ℚ neg_ℚ (whole (pos 0)) = neg_ℚ-same (same-fraction_eq (neg_ℚ q) (whole (pos 0)) f) in
-        absurd (nonzero-test q e (=ℚ_trans (=ℚ-from_same (sym (number_back q))) (=ℚ_trans zero neg_zero)))
-
 -- ---- Sums that are turned
 
 pub negated_nonzero : (ps : List Part) → AreNonzero ps → AreNonzero (map negated ps)
 negated_nonzero [] h = tt
-negated_nonzero (p ∷ ps) h = (neg_nonzero p.coefficient h.0, negated_nonzero ps h.1)
+negated_nonzero (p ∷ ps) h = (neg-nonzero p.coefficient h.0, negated_nonzero ps h.1)
 
 pub turned_form : (ps : List Part) → AreNonzero ps → IsFormSum (turned_sum ps)
 turned_form [] h = record { nonzero = tt; straight = refl }

@@ -27,6 +27,7 @@ use nz_frac::{Frac, Wide};
 use nz_lin::Part;
 use nz_log::{Place, Site, Stop};
 use nz_spec::basis::positions_have_values;
+use nz_spec::infinitesimal::infinitesimals_are_ordered;
 use nz_spec::table::one_number;
 use nz_term::{Assign, Head, Sort, TermId, Terms, Value};
 use nz_trail::{Limit, Side, Var};
@@ -46,6 +47,7 @@ impl Reals {
         ensures unspent { IfErr result (λ e. e ≡ stop.Spent → ⊥) }
     {
         positions_have_values();
+        infinitesimals_are_ordered();
         one_number();
         stored(self);
         let delta = match self.delta() {

@@ -24,6 +24,7 @@ use nz_simplex::{Check, SimplexStop, known_state};
 use nz_spec::deciding::telling_sets_bounds;
 use nz_spec::derivation::tells_literals;
 use nz_spec::form::term_has_its_number;
+use nz_spec::infinitesimal::infinitesimals_are_ordered;
 use nz_spec::table::one_number;
 
 /// A stop at a place of the simplex.
@@ -66,6 +67,7 @@ impl Theory for Reals {
 
     fn assert_lit(&mut self, log: &mut Log, literal: Lit) -> Result<Option<ClauseId>, Stop> {
         telling_sets_bounds();
+        infinitesimals_are_ordered();
         one_number();
         tells_literals();
         stored(self);

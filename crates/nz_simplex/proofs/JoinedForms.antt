@@ -1,5 +1,5 @@
 -- Forms that join: units at 0, and a sum whose value isn't known yet. Nothing else changes.
-use Rattle.std.proofs.Common.{◌≡◌, ℕ, ◌+◌, ◌<◌, ◌≤◌, ◌⊎◌, inl, inr, Bool, true, false, List, [], ◌∷◌, ◌++◌, length, take, Option, Some, None, refl, sym, ap, ◌∙◌, subst, arith, append_assoc, length-append}
+use Rattle.std.proofs.Common.{◌≡◌, ℕ, ◌<◌, ◌≤◌, ◌⊎◌, inl, inr, Bool, true, false, List, [], ◌∷◌, ◌++◌, length, take, Option, Some, None, refl, sym, ap, ◌∙◌, subst, arith, append_assoc, length-append}
 use Rattle.std.specs.Prelude.{IsSome, nat_lt, is_some, option_map, slice_index_or, unwrap_or, if◌then◌else◌}
 use Rattle.std.specs.List.{AllByRecursion}
 use Rattle.std.proofs.Math.Path.{fun_ext}
@@ -25,7 +25,6 @@ use Rattle.nz_simplex.specs.State.{State, nonbasic_in, value_in, point_in, IsOve
 use Rattle.nz_simplex.specs.Stored.{state_of}
 use Rattle.nz_simplex.specs.Tabled.{marks_in, rows_in}
 use Rattle.nz_simplex.proofs.Pointed.{AreKnown, known_marks, known_row, row_told}
-use Rattle.nz_simplex.proofs.SumsLonger.{sum_longer}
 use Rattle.nz_simplex.proofs.ValuesAfter.{point_is_value}
 
 -- ---- Numbers
@@ -206,7 +205,7 @@ module _ {S : Type 0} (stands_for : S → Infinitesimal) (origin : S) (zero_is :
           let equal : x =δ sum =
           values.one before k x sum ready.basis (omega (arith, inside, before_count)) (sound.right ns k x over_old (sym (old_values k inside) ∙ e)) sum_value in
           let longer : sum_at (length after.forms) c (bland.value_in after.point) =δ sum =
-          sum_longer (length before.forms) (length after.forms) c (bland.value_in before.point) (bland.value_in after.point) (omega (arith, more, before_count, after_count))
+          values.longer (length before.forms) (length after.forms) c (bland.value_in before.point) (bland.value_in after.point) (omega (arith, more, before_count, after_count))
           (λ m h. ap (λ (o : Option Infinitesimal). unwrap_or o zero_infinitesimal) (point_old m (omega (arith, h, before_count))))
           (λ m h. zero_new m (omega (arith, h, before_count))) in
           record {

@@ -26,7 +26,6 @@ pub mod Signs
 pub mod Standings
 pub mod Stepping
 pub mod SumsInOrder
-pub mod SumsLonger
 pub mod Totals
 pub mod Undoing
 pub mod ValuesAfter

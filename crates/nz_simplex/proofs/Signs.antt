@@ -4,7 +4,7 @@ use Rattle.std.proofs.lemmas.Int.{ints}
 use Rattle.nz_fractions.specs.Fraction.{Fraction, whole, denominator, ◌≤ℚ◌, ◌<ℚ◌}
 use Rattle.nz_fractions.proofs.Order.{same-fraction_eq}
 use Rattle.nz_fractions.proofs.Laws.{≤ℚ-from_eq, ≤ℚ_antisymm, ≤ℚ_total, =ℚ_sym, <ℚ_irrefl}
-use Rattle.nz_spec.proofs.FractionQuotients.{nonzero-test}
+use Rattle.nz_fractions.proofs.Identities.{nonzero-test}
 use Rattle.nz_spec.specs.Term.{is_zero}
 use Rattle.nz_simplex.specs.Choices.{is_below_zero}
 

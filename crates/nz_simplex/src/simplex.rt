@@ -31,8 +31,8 @@ use nz_base::Memory;
 use nz_frac::{Frac, Wide};
 use nz_lin::{Form, Part};
 use nz_spec::basis::{
-    check_steps_keep_basis, moves_keep_ready, nonbasic_form_is_itself, positions_have_values,
-    rows_tell, sum_moves, value_is_computed,
+    check_steps_keep_basis, moves_keep_ready, no_help_refutes, nonbasic_form_is_itself,
+    positions_have_values, rows_tell, sum_moves, value_is_computed,
 };
 use nz_spec::computation::infinitesimals_move;
 use nz_spec::pivots::pivots_are_runs;
@@ -463,6 +463,7 @@ impl<S: Coordinate> Simplex<S> {
         ensures refuted { (ns : List Node) → IsOver ns self.old → IsRefuted ns self.new }
     {
         positions_have_values();
+        no_help_refutes();
         infinitesimals_move();
         known_tableau(&self.tab);
         put_multipliers(

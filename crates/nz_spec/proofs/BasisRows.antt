@@ -7,8 +7,8 @@ use Rattle.nz_spec.specs.Form.{Part}
 use Rattle.nz_spec.specs.Basis.{Valuation, worth, form_at, Coefficients, weighted, mix, IsZeroAtBasic, IsRow, IsBasis, IsCoefficient, AreIndependent, CoefficientsAreUnique, alone, NonbasicFormIsItself}
 use Rattle.nz_fractions.proofs.Laws.{=ℚ_refl, =ℚ_sym}
 use Rattle.nz_fractions.proofs.Arithmetic.{+ℚ-zero, +ℚ-same}
-use Rattle.nz_spec.proofs.FormValues.{zero_times, times_zero, one_times}
-use Rattle.nz_spec.proofs.FractionSolver.{◌∙ℚ◌, solve, solve_by, plus_right, times_left, times_right}
+use Rattle.nz_fractions.proofs.Identities.{zero_times, times_zero, one_times}
+use Rattle.nz_fractions.proofs.Solver.{◌∙ℚ◌, solve, solve_by, plus_right, times_left, times_right}
 use Rattle.nz_spec.proofs.BasisSums.{sum-same, sum-plus, sum-scaled, sum-zero, sum-single}
 
 -- ---- Sums with coefficients, over any values of the forms
@@ -128,4 +128,7 @@ coefficients_are_unique = record {
 }
 
 pub nonbasic_form_is_itself : NonbasicFormIsItself
-nonbasic_form_is_itself fs nonbasic i b e = alone-row fs nonbasic i (b.listed i e) e
+nonbasic_form_is_itself = record {
+  row = λ fs nonbasic i b e. alone-row fs nonbasic i (b.listed i e) e;
+  value = weighted-alone;
+}

@@ -11,8 +11,8 @@ use Rattle.nz_spec.specs.Bland.{Point, is_nonbasic, zero_infinitesimal, value_in
 use Rattle.nz_fractions.proofs.Laws.{=ℚ_refl, =ℚ-from_same, =ℚ_sym, ≤ℚ-from_eq, <ℚ_irrefl}
 use Rattle.nz_fractions.proofs.Order.{same-fraction_eq}
 use Rattle.nz_fractions.proofs.Arithmetic.{+ℚ-same}
-use Rattle.nz_spec.proofs.FormValues.{zero_times}
-use Rattle.nz_spec.proofs.FractionSolver.{◌∙ℚ◌, solve, times_left, times_right}
+use Rattle.nz_fractions.proofs.Identities.{zero_times}
+use Rattle.nz_fractions.proofs.Solver.{◌∙ℚ◌, solve, times_left, times_right}
 use Rattle.nz_spec.proofs.BasisSums.{sum-same, sum-plus, sum-single}
 use Rattle.nz_spec.proofs.BasisRows.{weighted-same, weighted-alone, equal-number, other-number, same-number, nonbasic_form_is_itself}
 use Rattle.nz_spec.proofs.BasisExchange.{row-sum_stays, nonzero_at, exchange_keeps_basis, solutions_stay}
@@ -88,7 +88,7 @@ module _ (s t : Position) (i j : ℕ) (b : HasBasis s) (step : IsCheckStep s t i
   next-stands : HasValue next i step.bound
   next-stands = record {
     row = alone i;
-    is_row = nonbasic_form_is_itself s.forms (is_nonbasic next.point) i next-basis entered;
+    is_row = nonbasic_form_is_itself.row s.forms (is_nonbasic next.point) i next-basis entered;
     at = record {
       standard =
           =ℚ_sym (weighted-alone (length s.forms) i (λ k. (value_in next.point k).standard) step.breaks.listed

@@ -8,10 +8,9 @@ use Rattle.nz_spec.specs.Places.{IsWithinBounds, in_order, IsPairOf, IsChosen}
 use Rattle.nz_spec.specs.ToldBounds.{IsWithinAt, AreWithinAt, AreNumbers, ChosenFractionsKeepBounds}
 use Rattle.nz_fractions.proofs.Laws.{<ℚ-≤ℚ_trans}
 use Rattle.nz_spec.proofs.InfinitesimalLaws.{chosen-above, chosen-keeps, chosen-least}
-use Rattle.nz_spec.proofs.InfinitesimalOrder.{not_less}
+use Rattle.nz_spec.proofs.InfinitesimalOrder.{at_most_parts, not_less}
 use Rattle.nz_spec.proofs.BlandRefutes.{outside-equal}
 use Rattle.nz_spec.proofs.BlandPositions.{positions_have_values}
-use Rattle.nz_spec.proofs.ToldBounds.{at_most_parts}
 
 -- ---- Least limits: whichever of them is taken, it serves as the first does
 

@@ -12,7 +12,8 @@ use Rattle.nz_spec.specs.Form.{Numbering, Form, constant_form, unit_form, unit_v
 use Rattle.nz_spec.specs.FormOf.{is_opened, product_onto, constants_product, open_form, divided_by, divided_by_each, head_form, form_of, forms_of, FormHasValue}
 use Rattle.nz_fractions.proofs.Laws.{=ℚ_refl, =ℚ-from_same, =ℚ_sym, =ℚ_trans, reduce-same}
 use Rattle.nz_fractions.proofs.Arithmetic.{neg_ℚ-same, *ℚ_comm, *ℚ_assoc, *ℚ-one, *ℚ-same, outcome-product}
-use Rattle.nz_spec.proofs.FormValues.{zero_left, one_times, by_sum, by_difference, form_worth, form_is_worth, Match, all_joined-worth, form_scaled-worth, form_negated-worth, constant-worth, unit-worth}
+use Rattle.nz_fractions.proofs.Identities.{zero_left, one_times}
+use Rattle.nz_spec.proofs.FormValues.{by_sum, by_difference, form_worth, form_is_worth, Match, all_joined-worth, form_scaled-worth, form_negated-worth, constant-worth, unit-worth}
 
 -- ---- Tests and quotients
 

@@ -1,8 +1,7 @@
 -- What forms are worth that are added, subtracted, scaled and negated, and so their values under an assignment.
 use Rattle.std.proofs.Common.{◌≡◌, Bool, true, false, List, [], ◌∷◌, map, pos, refl, sym, ap, ap₂, subst}
 use Rattle.std.specs.Prelude.{if◌then◌else◌, nat_lt, ⊤}
-use Rattle.nz_ints.proofs.Ring.{Atom, Literal, ◌⊕◌, ◌⊗◌, Minus, solve}
-use Rattle.nz_fractions.specs.Fraction.{Fraction, denominator, whole, ◌=ℚ◌, ◌+ℚ◌, neg_ℚ, ◌*ℚ◌, Arithmetic, Sum, Difference, outcome}
+use Rattle.nz_fractions.specs.Fraction.{Fraction, whole, ◌=ℚ◌, ◌+ℚ◌, neg_ℚ, ◌*ℚ◌, Arithmetic, Sum, Difference, outcome}
 use Rattle.nz_spec.specs.Term.{Term, Value, Assignment, number_of, is_zero, carried_out, combined}
 use Rattle.nz_spec.specs.Same.{are_same_term}
 use Rattle.nz_spec.specs.Computation.{Computation, operated, at_once, turned_into}
@@ -10,54 +9,9 @@ use Rattle.nz_spec.specs.Form.{Numbering, Part, Form, constant_form, unit_form, 
 use Rattle.nz_spec.specs.Basis.{Valuation, worth, ValueIsWorth}
 use Rattle.nz_fractions.proofs.Laws.{=ℚ_refl, =ℚ-from_same, =ℚ_sym, =ℚ_trans}
 use Rattle.nz_fractions.proofs.Order.{same-fraction_eq}
-use Rattle.nz_fractions.proofs.Arithmetic.{own_parts, sum_parts, product_parts, neg_parts, whole_parts, by_parts, +ℚ_comm, +ℚ_assoc, +ℚ-zero, +ℚ-same, neg_ℚ-same, *ℚ_comm, *ℚ_assoc, *ℚ-one, *ℚ-+ℚ, *ℚ-same, outcome-sum, outcome-difference}
+use Rattle.nz_fractions.proofs.Arithmetic.{+ℚ_comm, +ℚ_assoc, +ℚ-zero, +ℚ-same, neg_ℚ-same, *ℚ_assoc, *ℚ-+ℚ, *ℚ-same, outcome-sum, outcome-difference}
+use Rattle.nz_fractions.proofs.Identities.{crossed, swapped, zero_left, zero_times, times_zero, one_times, +ℚ-*ℚ, neg-*ℚ, neg-+ℚ, neg-zero}
 use Rattle.nz_spec.proofs.Same.{same_term}
-
--- ---- Sums and products of fractions
-
-pub zero_left : (p : Fraction) → (whole (pos 0) +ℚ p) =ℚ p
-zero_left p = =ℚ_trans (+ℚ_comm (whole (pos 0)) p) (+ℚ-zero p)
-
-pub zero_times : (p : Fraction) → (whole (pos 0) *ℚ p) =ℚ whole (pos 0)
-zero_times p =
-    by_parts (product_parts (whole_parts (pos 0)) (own_parts p)) (whole_parts (pos 0))
-    (solve (p.numerator ∷ pos (denominator p) ∷ []) ((Literal (pos 0) ⊗ Atom 0) ⊗ Literal (pos 1)) (Literal (pos 0) ⊗ (Literal (pos 1) ⊗ Atom 1)) refl)
-
-pub times_zero : (p : Fraction) → (p *ℚ whole (pos 0)) =ℚ whole (pos 0)
-times_zero p = =ℚ_trans (*ℚ_comm p (whole (pos 0))) (zero_times p)
-
-pub one_times : (p : Fraction) → (whole (pos 1) *ℚ p) =ℚ p
-one_times p = =ℚ_trans (*ℚ_comm (whole (pos 1)) p) (*ℚ-one p)
-
-+ℚ-*ℚ : (p q v : Fraction) → ((p +ℚ q) *ℚ v) =ℚ (p *ℚ v +ℚ q *ℚ v)
-+ℚ-*ℚ p q v = =ℚ_trans (*ℚ_comm (p +ℚ q) v) (=ℚ_trans (*ℚ-+ℚ v p q) (+ℚ-same (*ℚ_comm v p) (*ℚ_comm v q)))
-
-neg-*ℚ : (p v : Fraction) → (neg_ℚ p *ℚ v) =ℚ neg_ℚ (p *ℚ v)
-neg-*ℚ p v =
-    by_parts (product_parts (neg_parts (own_parts p)) (own_parts v)) (neg_parts (product_parts (own_parts p) (own_parts v)))
-    (solve (p.numerator ∷ pos (denominator p) ∷ v.numerator ∷ pos (denominator v) ∷ [])
-    ((Minus (Atom 0) ⊗ Atom 2) ⊗ (Atom 1 ⊗ Atom 3)) (Minus (Atom 0 ⊗ Atom 2) ⊗ (Atom 1 ⊗ Atom 3)) refl)
-
-neg-+ℚ : (p q : Fraction) → neg_ℚ (p +ℚ q) =ℚ (neg_ℚ p +ℚ neg_ℚ q)
-neg-+ℚ p q =
-    by_parts (neg_parts (sum_parts (own_parts p) (own_parts q))) (sum_parts (neg_parts (own_parts p)) (neg_parts (own_parts q)))
-    (solve (p.numerator ∷ pos (denominator p) ∷ q.numerator ∷ pos (denominator q) ∷ [])
-    (Minus (Atom 0 ⊗ Atom 3 ⊕ Atom 2 ⊗ Atom 1) ⊗ (Atom 1 ⊗ Atom 3))
-    ((Minus (Atom 0) ⊗ Atom 3 ⊕ Minus (Atom 2) ⊗ Atom 1) ⊗ (Atom 1 ⊗ Atom 3)) refl)
-
-neg-zero : neg_ℚ (whole (pos 0)) =ℚ whole (pos 0)
-unfolding neg_ℚ
-neg-zero = record { cross = refl }
-
--- the last two of three change places
-swapped : (x y z : Fraction) → ((x +ℚ y) +ℚ z) =ℚ ((x +ℚ z) +ℚ y)
-swapped x y z = =ℚ_trans (+ℚ_assoc x y z) (=ℚ_trans (+ℚ-same (=ℚ_refl x) (+ℚ_comm y z)) (=ℚ_sym (+ℚ_assoc x z y)))
-
--- the middle ones of four
-crossed : (x y z w : Fraction) → ((x +ℚ y) +ℚ (z +ℚ w)) =ℚ ((x +ℚ z) +ℚ (y +ℚ w))
-crossed x y z w =
-    =ℚ_trans (=ℚ_sym (+ℚ_assoc (x +ℚ y) z w))
-    (=ℚ_trans (+ℚ-same (swapped x y z) (=ℚ_refl w)) (+ℚ_assoc (x +ℚ z) y w))
 
 -- ---- Adding and subtracting
 

@@ -8,6 +8,7 @@ use Rattle.std.proofs.lemmas.List.Elements.{Contains-append_left, Contains-appen
 use Rattle.nz_lists.proofs.Elements.{AllByRecursion-weaker}
 use Rattle.nz_spec.specs.Term.{Sort, bool_sort, Head, constant, verum, falsum, negation, conjunction, disjunction, exclusion, equality, choice, Term, apply, Terms, no_terms, terms, Value, truth, Assignment, is_true, are_equal, excluded, all_true, some_true, head_sort, sort_of, is_bool, is_numeric, holds_number, hold_number, value_of, values_of}
 use Rattle.nz_spec.specs.Order.{post_order, post_orders}
+use Rattle.nz_spec.specs.WellSorted.{AllAre}
 use Rattle.nz_spec.specs.Literal.{Literal, term_literal, is_at_most, is_below, Clause}
 use Rattle.nz_spec.specs.Gates.{list_of, holds, fails, is_boolean_term, gate_clauses, IsRow, IsGated, AreGated, HasTrueLiteral, MeetsGates, IsTruthBy, IsTruthAt, GatesDecide, NumberedGatesDecide}
 
@@ -26,11 +27,6 @@ row_boolean h ts r = absurd r
 
 gated_boolean : (t : Term) → IsGated t → is_boolean_term t ≡ true
 gated_boolean (apply h ts) g = row_boolean h ts g.0
-
--- each is of sort Bool, or none is
-abbrev pub AllAre : Bool → Terms → Type 0
-AllAre b no_terms = ⊤
-AllAre b (terms t ts) = (is_boolean_term t ≡ b) × AllAre b ts
 
 gated_arguments : (ts : Terms) → AreGated ts → AllAre true ts
 gated_arguments no_terms g = tt

@@ -33,10 +33,6 @@ pub mod FormSums
 pub mod FormTerms
 pub mod FormValues
 pub mod FormWorth
-pub mod FractionBounds
-pub mod FractionQuotients
-pub mod FractionSolver
-pub mod FractionZeros
 pub mod GateSettling
 pub mod GateTruths
 pub mod InfinitesimalLaws
@@ -67,6 +63,7 @@ pub mod SortedArithmetic
 pub mod SortedStates
 pub mod SortedTerms
 pub mod SumUnits
+pub mod SumsLonger
 pub mod Tables
 pub mod TakenTerms
 pub mod TellingBounds

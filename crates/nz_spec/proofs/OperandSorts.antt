@@ -1,12 +1,9 @@
 -- Which arguments of well sorted terms are of sort Bool.
-use Rattle.std.proofs.Common.{◌≡◌, Bool, true, false, [], sym, ap, subst, true≢false}
-use Rattle.std.specs.Prelude.{⊤}
+use Rattle.std.proofs.Common.{◌≡◌, true, false, sym, ap, subst, true≢false}
 use Rattle.std.proofs.lemmas.Bool.{and_parts}
-use Rattle.nz_spec.specs.Term.{Sort, bool_sort, int_sort, real_sort, is_bool, Head, constant, parameter, integer, decimal_number, negation, conjunction, disjunction, exclusion, equality, choice, less, at_most, sum, difference, product, quotient, to_real, Terms, no_terms, terms, sort_of}
+use Rattle.nz_spec.specs.Term.{Sort, bool_sort, int_sort, real_sort, is_bool, Head, constant, parameter, integer, decimal_number, Terms, no_terms, terms, sort_of}
 use Rattle.nz_spec.specs.Elaboration.{Operator, not_operator, and_operator, or_operator, xor_operator, equals_operator, ite_operator, at_most_operator, less_operator, plus_operator, times_operator, minus_operator, over_operator, to_real_operator, has_sort, all_terms, operands_of, operator_head}
-use Rattle.nz_spec.specs.Gates.{is_boolean_term}
-use Rattle.nz_spec.specs.WellSorted.{are_numbers, AreOperands, IsSortedHead}
-use Rattle.nz_spec.proofs.GateSettling.{AllAre}
+use Rattle.nz_spec.specs.WellSorted.{AllAre, are_numbers, AreOperands, HaveOperands, OperandsAreSorted}
 use Rattle.nz_spec.proofs.Sorted.{same_sorts}
 
 all_alike : (s : Sort) (ts : Terms) → all_terms (has_sort s) ts ≡ true → AllAre (is_bool s) ts
@@ -19,23 +16,6 @@ all_numbers : (s : Sort) (ts : Terms) → are_numbers s ts ≡ true → AllAre f
 all_numbers bool_sort ts e = absurd (true≢false (sym e))
 all_numbers int_sort ts e = all_alike int_sort ts e
 all_numbers real_sort ts e = all_alike real_sort ts e
-
--- the arguments are as the head takes them
-abbrev pub HaveOperands : Head → Terms → Type 0
-HaveOperands negation ts = AllAre true ts
-HaveOperands conjunction ts = AllAre true ts
-HaveOperands disjunction ts = AllAre true ts
-HaveOperands exclusion ts = AllAre true ts
-HaveOperands equality ts = (b : Bool) × AllAre b ts
-HaveOperands (choice s) (terms c ts) = (is_boolean_term c ≡ true) × AllAre (is_bool s) ts
-HaveOperands less ts = AllAre false ts
-HaveOperands at_most ts = AllAre false ts
-HaveOperands (sum s) ts = AllAre false ts
-HaveOperands (difference s) ts = AllAre false ts
-HaveOperands (product s) ts = AllAre false ts
-HaveOperands quotient ts = AllAre false ts
-HaveOperands to_real ts = AllAre false ts
-HaveOperands h ts = ⊤
 
 by_operator : (o : Operator) (s : Sort) (ts : Terms) → AreOperands (operands_of o) s ts → HaveOperands (operator_head o s) ts
 by_operator not_operator s ts e = all_alike bool_sort ts e
@@ -54,7 +34,7 @@ by_operator over_operator s ts e = all_alike real_sort ts e
 by_operator to_real_operator s ts e = all_alike int_sort ts e
 by_operator o s ts e = tt
 
-pub operands_are : (h : Head) (ts : Terms) → IsSortedHead [] h ts → HaveOperands h ts
+pub operands_are : OperandsAreSorted
 operands_are (constant c) ts k = tt
 operands_are (parameter n s) ts k = tt
 operands_are (integer n) ts k = tt

@@ -1,14 +1,16 @@
 -- Values within the tightest bounds that literals say meet each of these literals.
 use Rattle.std.proofs.Common.{◌≡◌, ℕ, zero, suc, ◌+◌, ◌<◌, Bool, true, false, List, [], ◌∷◌, length, map, Option, Some, None, pos, negsuc, refl, sym, ap, ◌∙◌, subst, true≢false, arith, ◌⊎◌, inl, inr, Contains, Ordering, Less, Equal, Greater}
 use Rattle.std.specs.Prelude.{◌==◌, ◌&&◌, fold, IfSome, IsSome, is_some, option_map, unwrap_or, if◌then◌else◌}
-use Rattle.std.specs.Ordering.{is_gt, is_lt, ordering_then}
+use Rattle.std.specs.Ordering.{is_gt, is_lt}
 use Rattle.std.proofs.lemmas.Int.{ints}
 use Rattle.std.proofs.lemmas.Bool.{and_from, and_parts}
 use Rattle.nz_ints.proofs.Ring.{Atom, Literal as Number, ◌⊗◌, Minus}
-use Rattle.nz_fractions.specs.Fraction.{Fraction, denominator, whole, ◌=ℚ◌, ◌≤ℚ◌, ◌<ℚ◌, ◌+ℚ◌, neg_ℚ, ◌*ℚ◌, fraction_cmp}
+use Rattle.nz_fractions.specs.Fraction.{Fraction, denominator, whole, ◌=ℚ◌, ◌≤ℚ◌, ◌<ℚ◌, ◌+ℚ◌, neg_ℚ, ◌*ℚ◌}
 use Rattle.nz_fractions.proofs.Laws.{=ℚ-from_same, =ℚ_sym, ≤ℚ-from_eq, ≤ℚ-from_lt, ≤ℚ_refl, ≤ℚ_trans, <ℚ-≤ℚ_trans, ≤ℚ-<ℚ_trans}
-use Rattle.nz_fractions.proofs.Order.{fraction_ranked}
 use Rattle.nz_fractions.proofs.Arithmetic.{+ℚ-zero}
+use Rattle.nz_fractions.proofs.Identities.{zero_left, zero_times, one_times, neg-neg}
+use Rattle.nz_fractions.proofs.Solver.{◌∙ℚ◌, solve, plus_left, plus_right}
+use Rattle.nz_fractions.proofs.Bounds.{moved_right, scaled, Within, within_alike, moved_right_lt}
 use Rattle.nz_spec.specs.Infinitesimal.{Infinitesimal, infinitesimal_cmp, at}
 use Rattle.nz_spec.specs.Term.{Term}
 use Rattle.nz_spec.specs.Form.{Part, negated_part}
@@ -21,12 +23,7 @@ use Rattle.nz_spec.specs.LiteralBounds.{FormBound, bounded_from, bound_on_side, 
 use Rattle.nz_spec.specs.Farkas.{bound_of}
 use Rattle.nz_spec.specs.ToldBounds.{IsWithinAt, AreWithinAt, ToldBoundsAreMet}
 use Rattle.nz_spec.specs.Deciding.{IsMet}
-use Rattle.nz_spec.proofs.FormValues.{zero_left, zero_times, one_times}
-use Rattle.nz_spec.proofs.FormSums.{neg-neg}
-use Rattle.nz_spec.proofs.FractionSolver.{◌∙ℚ◌, solve, plus_left, plus_right}
-use Rattle.nz_spec.proofs.InfinitesimalOrder.{AtMost, at_most_trans, =δ_refl}
-use Rattle.nz_spec.proofs.InfinitesimalLaws.{moved_right, scaled}
-use Rattle.nz_spec.proofs.FractionBounds.{Within, within_alike, moved_right_lt}
+use Rattle.nz_spec.proofs.InfinitesimalOrder.{AtMost, at_most_parts, at_most_trans, =δ_refl}
 use Rattle.nz_spec.proofs.BasisRows.{equal-number}
 use Rattle.nz_spec.proofs.BasisValues.{solutions_are_worth}
 use Rattle.nz_spec.proofs.BlandRefutes.{IsPast, not_outside, past-equal}
@@ -248,22 +245,6 @@ module _ (fs : List (List Part)) (c : FormBound) where
       all_said (with_bound_said fs c.side c.form found m) ls l e (after-plain c.side c.form found (bound_said fs m) (all_plain fs m) p) (k, omega (arith, h), f)
 
 -- ---- Where a fraction stands for δ
-
--- what is at most another is below it by its standard part, or level with it
-pub at_most_parts : (x y : Infinitesimal) → AtMost x y → (x.standard <ℚ y.standard) ⊎ ((x.standard =ℚ y.standard) × (x.coefficient ≤ℚ y.coefficient))
-unfolding infinitesimal_cmp
-at_most_parts x y h = by_order (fraction_cmp x.standard y.standard) refl h
-  where
-    level : (o : Ordering) → o ≡ fraction_cmp x.coefficient y.coefficient → is_gt o ≡ false → x.coefficient ≤ℚ y.coefficient
-    level Less e g = ≤ℚ-from_lt (fraction_ranked x.coefficient y.coefficient Less e)
-    level Equal e g = ≤ℚ-from_eq (fraction_ranked x.coefficient y.coefficient Equal e)
-    level Greater e g = absurd (true≢false g)
-
-    by_order : (o : Ordering) → o ≡ fraction_cmp x.standard y.standard → is_gt (ordering_then o (fraction_cmp x.coefficient y.coefficient)) ≡ false
-        → (x.standard <ℚ y.standard) ⊎ ((x.standard =ℚ y.standard) × (x.coefficient ≤ℚ y.coefficient))
-    by_order Less e g = inl (fraction_ranked x.standard y.standard Less e)
-    by_order Equal e g = inr (fraction_ranked x.standard y.standard Equal e, level (fraction_cmp x.coefficient y.coefficient) refl g)
-    by_order Greater e g = absurd (true≢false g)
 
 below-within : (s : Bool) {p b : Fraction} → p <ℚ b → Within s p b
 below-within true h = h

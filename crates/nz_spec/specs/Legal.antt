@@ -1,6 +1,6 @@
 -- Legal work: what the next line of a search's list may be, where the search stands (clause learning: Marques-Silva and Sakallah 1999; bounds and
 -- pivots: Dutertre and de Moura, A Fast Linear-Arithmetic Solver for DPLL(T), CAV 2006, section 4).
-use Rattle.std.specs.Prelude.{◌≡◌, ℕ, ◌<◌, nat_le, ◌≢◌, Bool, true, false, ◌⊎◌, List, [], ◌∷◌, ◌++◌, length, map, filter, take, fold, All, Contains, Option, Some, None, IsTrue, slice_get, slice_index_or}
+use Rattle.std.specs.Prelude.{◌≡◌, ℕ, ◌<◌, nat_le, ◌≢◌, Bool, true, false, ◌⊎◌, List, [], ◌∷◌, ◌++◌, length, map, filter, take, fold, All, Contains, Some, None, IsTrue, slice_get, slice_index_or}
 use Rattle.nz_spec.specs.Computation.{Computation}
 use Rattle.nz_spec.specs.Term.{Term, apply, falsum, no_terms, Assignment}
 use Rattle.nz_spec.specs.Model.{IsModel}

@@ -2,7 +2,7 @@
 -- Source: Dutertre and de Moura, A Fast Linear-Arithmetic Solver for DPLL(T), CAV 2006, sections 3 to 5. The order of the operations is this
 -- solver's own.
 use Rattle.std.specs.Prelude.{◌≡◌, ℕ, ◌<◌, ◌≤◌, true, false, ◌⊎◌, List, [], ◌∷◌, ◌++◌, length, flat_map, All, Contains, Some, pos}
-use Rattle.nz_fractions.specs.Fraction.{Fraction, whole, ◌=ℚ◌, ◌<ℚ◌, neg_ℚ, Sum, Product, outcome, Operation, is_wide, IsNumber}
+use Rattle.nz_fractions.specs.Fraction.{Fraction, whole, ◌=ℚ◌, neg_ℚ, Sum, Product, outcome, Operation, is_wide, IsNumber}
 use Rattle.nz_spec.specs.Infinitesimal.{Infinitesimal, Pair, limit_operations, IsLeastLimit}
 use Rattle.nz_spec.specs.Computation.{Computation}
 use Rattle.nz_spec.specs.Term.{Term}

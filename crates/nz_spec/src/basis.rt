@@ -1,6 +1,6 @@
 //! Laws of bases of linear forms.
 ghost use Rattle.nz_spec.specs.Basis.{CoefficientsAreUnique, NonbasicFormIsItself, ValueIsWorth, WorthIsByUnits};
-ghost use Rattle.nz_spec.specs.BasisMoves.{ExchangeKeepsBasis, JoinsKeepBasis, SolutionsAreWorth, SolutionsStay, ZerosAreNeverWide};
+ghost use Rattle.nz_spec.specs.BasisMoves.{ExchangeKeepsBasis, JoinsKeepBasis, SolutionsAreWorth, SolutionsStay};
 ghost use Rattle.nz_spec.specs.Bland.{BoundsSayWhatTheyMean, CheckStepsKeepBasis, NoHelpRefutes, PositionsHaveValues, RowsTell, SumMoves, ValueIsComputed};
 ghost use Rattle.nz_spec.specs.BlandRuns.{NoPostureReturns, RunsAreShort};
 ghost use Rattle.nz_spec.specs.PositionMoves.{MovesKeepReady};
@@ -95,11 +95,6 @@ pub fn rows_tell()
 pub fn worked_basis()
     ensures joining { HasJoiningRow }
     ensures exchange { HasExchange }
-{}
-
-/// Beside 0 no operation leaves the numbers.
-pub fn zeros_are_never_wide()
-    ensures zeros { ZerosAreNeverWide }
 {}
 
 /// In a run of check steps no posture returns.

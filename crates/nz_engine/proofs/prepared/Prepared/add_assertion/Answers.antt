@@ -17,7 +17,7 @@ returns-clause-stands c = λ levels placed h.
     let new : PreparedState = record { log = c.given.new.self; form = c.self-2.inside.form; sat = c.add.new.self; given = c.in-Some.given; above = c.self-2.inside.above } in
     let also : CoversAlso ns old t n mid = subst (CoversAlso ns old t n) (sym c.self-2.view_is) c.in_ok-cover.ensures.covered in
     let before : IsPrepared ns levels levels mid =
-    covered ns levels levels old mid t n also h c.atoms_of_terms.ensures.atoms c.rows_name_covered.ensures.named c.taken_terms_are_in_order.ensures.order c.forms_are_sums.ensures.sums c.known_table.ensures.table c.requires.within c.requires.taken.taken
+    covered ns levels levels old mid t n also h c.atoms_of_terms.ensures.atoms c.rows_name_covered.ensures.named c.taken_terms_are_in_order.ensures.order (record { sums = c.forms_are_sums.ensures.sums; operands = c.operands_are_sorted.ensures.sorted }) c.known_table.ensures.table c.requires.within c.requires.taken.taken
     (stands_there (live_at levels n) old.given t placed.live) (placed_below levels old.given t n placed) placed.behind in
     let same : mid.given ≡ c.self.inside.given = also.given ∙ sym (ap (λ (s : PreparedState). s.given) c.self.view_is) in
     let next : c.in-Some.given ≡ c.self.inside.given + 1 = c.in-Some.ensures.1 in

@@ -14,15 +14,15 @@ use Rattle.nz_reals.proofs.reals.Reals.add_values.Goals as goal
 
 pub delta-requires : goal.delta-requires
 delta-requires c = record {
-  values = has_values c.args.self.now c.args.terms.now c.requires.over c.stored.ensures.sound (c.requires.feasible c.args.terms.now c.requires.over);
+  values = has_values c.args.self.now c.args.terms.now c.requires.over c.stored.ensures.sound c.infinitesimals_are_ordered.ensures.ordered (c.requires.feasible c.args.terms.now c.requires.over);
 }
 
 pub returns-in-Err-clause-place : goal.returns-in-Err-clause-place
 returns-in-Err-clause-place c =
-    limit_stands c.args.self.now c.args.terms.now c.requires.over c.stored.ensures.sound (c.requires.feasible c.args.terms.now c.requires.over) c.in-Err.place c.in-Err.ensures.place
+    limit_stands c.infinitesimals_are_ordered.ensures.ordered c.args.self.now c.args.terms.now c.requires.over c.stored.ensures.sound (c.requires.feasible c.args.terms.now c.requires.over) c.in-Err.place c.in-Err.ensures.place
 
 pub add_value-requires-clause-values : goal.add_value-requires-clause-values
-add_value-requires-clause-values c = has_values c.args.self.now c.args.terms.now c.requires.over c.stored.ensures.sound (c.requires.feasible c.args.terms.now c.requires.over)
+add_value-requires-clause-values c = has_values c.args.self.now c.args.terms.now c.requires.over c.stored.ensures.sound c.infinitesimals_are_ordered.ensures.ordered (c.requires.feasible c.args.terms.now c.requires.over)
 
 pub returns-in_err-add_value-clause-place : goal.returns-in_err-add_value-clause-place
 returns-in_err-add_value-clause-place c =
@@ -32,7 +32,7 @@ returns-in_err-add_value-clause-place c =
     let stop : c.from_residual.result ≡ Err e = search rules in
     subst
     (λ (r : Result ⊤ Stop). IfErr r (λ (e : Stop). OnWide e (λ (p : Place). (fs : List (List spec.Part)) (ls : List Literal) (x : Point) → IsAt t ns fs ls x → IsPlaceIn ns fs ls x p))) (sym stop)
-    (model_stands t ns c.requires.over c.stored.ensures.sound (c.requires.feasible ns c.requires.over) c.positions_have_values.ensures.values c.in-Ok.ensures.numbers c.in-Ok.delta c.in-Ok.ensures.least e
+    (model_stands c.infinitesimals_are_ordered.ensures.ordered t ns c.requires.over c.stored.ensures.sound (c.requires.feasible ns c.requires.over) c.positions_have_values.ensures.values c.in-Ok.ensures.numbers c.in-Ok.delta c.in-Ok.ensures.least e
     c.in_err-add_value.ensures.place)
 
 pub loop-var-preserved : goal.loop-var-preserved
@@ -53,4 +53,4 @@ returns-clause-values c =
     let seen = ap (λ (x : Theory). length x.simplex.forms) c.self.view_is in
     let end : c.loop-var.var ≡ length t.simplex.forms = omega (arith, c.loop-var-test.false, c.loop-var.auto.var-end, c.len-var-end.ensures.count, seen) in
     adds_values t ns c.requires.over c.stored.ensures.forms c.one_number.ensures.one c.in-Ok.delta c.args.values.now c.stored.ensures.sound c.positions_have_values.ensures.values
-    (has_values t ns c.requires.over c.stored.ensures.sound (c.requires.feasible ns c.requires.over)) c.in-Ok.ensures.numbers c.in-Ok.ensures.least c.loop-var.var c.loop-var.values end c.loop-var.invariant.puts
+    (has_values t ns c.requires.over c.stored.ensures.sound c.infinitesimals_are_ordered.ensures.ordered (c.requires.feasible ns c.requires.over)) c.in-Ok.ensures.numbers c.in-Ok.ensures.least c.loop-var.var c.loop-var.values end c.loop-var.invariant.puts

@@ -74,7 +74,7 @@ pub returns-in-None-clause-at : goal.returns-in-None-clause-at
 returns-in-None-clause-at c = λ ns fs ls x at.
     let told : IsTold c.args.self.now c.tell.new.self c.args.literal = c.in_ok-tell.ensures.told (ap Ok c.in-None.is) in
     told_at c.args.self.now c.tell.new.self c.args.literal told c.args.log.now.atoms c.requires.known.0 c.requires.known.1 c.stored.ensures.forms c.stored.ensures.tolds c.stored.ensures.sound
-    c.telling_sets_bounds.ensures.sets c.one_number.ensures.one c.tells_literals.ensures.tells ns fs ls x at
+    c.telling_sets_bounds.ensures.sets c.infinitesimals_are_ordered.ensures.ordered c.one_number.ensures.one c.tells_literals.ensures.tells ns fs ls x at
 
 pub returns-in_ok-clause-in-Some-clause-clash : goal.returns-in_ok-clause-in-Some-clause-clash
 returns-in_ok-clause-in-Some-clause-clash c = λ ls told.

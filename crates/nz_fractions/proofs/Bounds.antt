@@ -1,11 +1,31 @@
 -- Bounds on fractions, strict or not: they add up, and may be multiplied by what is above 0.
-use Rattle.std.proofs.Common.{Bool, true, false, ◌||◌, pos, sym}
-use Rattle.nz_fractions.specs.Fraction.{Fraction, whole, ◌=ℚ◌, ◌≤ℚ◌, ◌<ℚ◌, ◌+ℚ◌, ◌*ℚ◌}
-use Rattle.nz_fractions.proofs.Laws.{=ℚ_sym, ≤ℚ-from_eq, ≤ℚ-from_lt, ≤ℚ_trans, <ℚ-≤ℚ_trans, ≤ℚ-<ℚ_trans}
-use Rattle.nz_fractions.proofs.Arithmetic.{+ℚ_comm, *ℚ_comm, cmp-+ℚ, cmp-*ℚ_pos}
-use Rattle.nz_spec.proofs.InfinitesimalLaws.{lt-carried, moved, moved_right, scaled}
+use Rattle.std.proofs.Common.{◌≡◌, Bool, true, false, ◌||◌, pos, refl, sym, ◌∙◌, Ordering, Less, Equal, Greater}
+use Rattle.nz_fractions.specs.Fraction.{Fraction, whole, ◌=ℚ◌, ◌≤ℚ◌, ◌<ℚ◌, ◌+ℚ◌, neg_ℚ, ◌*ℚ◌, fraction_cmp}
+use Rattle.nz_fractions.proofs.Laws.{=ℚ_refl, =ℚ_sym, ≤ℚ-from_eq, ≤ℚ-from_lt, ≤ℚ_trans, <ℚ-≤ℚ_trans, ≤ℚ-<ℚ_trans, <ℚ_irrefl}
+use Rattle.nz_fractions.proofs.Order.{fraction_ranked, fraction_cmp_is}
+use Rattle.nz_fractions.proofs.Arithmetic.{+ℚ_comm, +ℚ-neg, *ℚ_comm, cmp-same, cmp-+ℚ, cmp-*ℚ_pos}
+
+-- ---- What one comparison says of another
+
+pub lt-carried : (p q p' q' : Fraction) → fraction_cmp p q ≡ fraction_cmp p' q' → p <ℚ q → p' <ℚ q'
+lt-carried p q p' q' e h = fraction_ranked p' q' Less (fraction_cmp_is p q Less h ∙ e)
+
+pub le-carried : (p q p' q' : Fraction) → fraction_cmp p q ≡ fraction_cmp p' q' → p ≤ℚ q → p' ≤ℚ q'
+le-carried p q p' q' e h = by_order (fraction_cmp p' q') refl
+  where
+    by_order : (o : Ordering) → o ≡ fraction_cmp p' q' → p' ≤ℚ q'
+    by_order Less f = ≤ℚ-from_lt (fraction_ranked p' q' Less f)
+    by_order Equal f = ≤ℚ-from_eq (fraction_ranked p' q' Equal f)
+    by_order Greater f = absurd (<ℚ_irrefl (fraction_ranked p q Greater (f ∙ sym e)) h)
 
 -- ---- Sums
+
+pub moved : (p q r : Fraction) → p ≤ℚ q → (p +ℚ r) ≤ℚ (q +ℚ r)
+moved p q r h = le-carried p q (p +ℚ r) (q +ℚ r) (sym (cmp-+ℚ p q r)) h
+
+pub moved_right : (r p q : Fraction) → p ≤ℚ q → (r +ℚ p) ≤ℚ (r +ℚ q)
+moved_right r p q h =
+    ≤ℚ_trans (≤ℚ-from_eq (+ℚ_comm r p)) (≤ℚ_trans (moved p q r h) (≤ℚ-from_eq (+ℚ_comm q r)))
 
 moved_lt : (p q r : Fraction) → p <ℚ q → (p +ℚ r) <ℚ (q +ℚ r)
 moved_lt p q r h = lt-carried p q (p +ℚ r) (q +ℚ r) (sym (cmp-+ℚ p q r)) h
@@ -14,7 +34,17 @@ pub moved_right_lt : (r p q : Fraction) → p <ℚ q → (r +ℚ p) <ℚ (r +ℚ
 moved_right_lt r p q h =
     ≤ℚ-<ℚ_trans (≤ℚ-from_eq (+ℚ_comm r p)) (<ℚ-≤ℚ_trans (moved_lt p q r h) (≤ℚ-from_eq (+ℚ_comm q r)))
 
+-- a difference is above 0 where the first is the greater
+pub above : (p q : Fraction) → q <ℚ p → whole (pos 0) <ℚ (p +ℚ neg_ℚ q)
+above p q h =
+    lt-carried q p (whole (pos 0)) (p +ℚ neg_ℚ q)
+    (sym (cmp-+ℚ q p (neg_ℚ q)) ∙ cmp-same (+ℚ-neg q) (=ℚ_refl (p +ℚ neg_ℚ q)))
+    h
+
 -- ---- Multiples
+
+pub scaled : (p q r : Fraction) → whole (pos 0) <ℚ r → p ≤ℚ q → (p *ℚ r) ≤ℚ (q *ℚ r)
+scaled p q r z h = le-carried p q (p *ℚ r) (q *ℚ r) (sym (cmp-*ℚ_pos p q r z)) h
 
 pub times_le : (m p q : Fraction) → whole (pos 0) <ℚ m → p ≤ℚ q → (m *ℚ p) ≤ℚ (m *ℚ q)
 times_le m p q z h = ≤ℚ_trans (≤ℚ-from_eq (*ℚ_comm m p)) (≤ℚ_trans (scaled p q m z h) (≤ℚ-from_eq (*ℚ_comm q m)))

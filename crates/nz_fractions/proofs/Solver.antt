@@ -7,7 +7,7 @@ use Rattle.nz_ints.proofs.Ring.{Expression, Atom, Literal, ◌⊕◌, ◌⊗◌,
 use Rattle.nz_fractions.specs.Fraction.{Fraction, denominator, whole, ◌=ℚ◌, ◌+ℚ◌, neg_ℚ, ◌*ℚ◌}
 use Rattle.nz_fractions.proofs.Laws.{=ℚ_refl, =ℚ-from_same, =ℚ_sym, =ℚ_trans}
 use Rattle.nz_fractions.proofs.Arithmetic.{own_parts, sum_parts, product_parts, neg_parts, whole_parts, by_parts, +ℚ_comm, +ℚ_assoc, +ℚ-zero, +ℚ-neg, +ℚ-same, *ℚ_comm, *ℚ_assoc, *ℚ-one, *ℚ-+ℚ, *ℚ-same}
-use Rattle.nz_spec.proofs.FormValues.{zero_left, zero_times, times_zero, one_times}
+use Rattle.nz_fractions.proofs.Identities.{zero_left, zero_times, times_zero, one_times, +ℚ-*ℚ}
 
 -- ---- Chains of equal fractions
 
@@ -73,9 +73,6 @@ minus_one p =
 regroup : (a b c : Fraction) → (a *ℚ (b *ℚ c)) =ℚ (b *ℚ (a *ℚ c))
 regroup a b c = =ℚ_sym (*ℚ_assoc a b c) ∙ℚ times_left c (*ℚ_comm a b) ∙ℚ *ℚ_assoc b a c
 
-spread : (p q v : Fraction) → ((p +ℚ q) *ℚ v) =ℚ (p *ℚ v +ℚ q *ℚ v)
-spread p q v = *ℚ_comm (p +ℚ q) v ∙ℚ *ℚ-+ℚ v p q ∙ℚ +ℚ-same (*ℚ_comm v p) (*ℚ_comm v q)
-
 exchange : (a b c d : Fraction) → ((a *ℚ b) *ℚ (c *ℚ d)) =ℚ ((a *ℚ c) *ℚ (b *ℚ d))
 exchange a b c d = *ℚ_assoc a b (c *ℚ d) ∙ℚ times_right a (regroup b c d) ∙ℚ =ℚ_sym (*ℚ_assoc a c (b *ℚ d))
 
@@ -109,7 +106,7 @@ module _ (xs : List Fraction) where
       → total xs (ring.add_where b c d n p later) =ℚ (whole c *ℚ product xs m +ℚ (whole d *ℚ product xs n +ℚ total xs p))
   add_where-total true c d m n p later t e =
       let u = product xs n in
-      plus_left (total xs p) (times_left u (whole-sum c d) ∙ℚ spread (whole c) (whole d) u)
+      plus_left (total xs p) (times_left u (whole-sum c d) ∙ℚ +ℚ-*ℚ (whole c) (whole d) u)
       ∙ℚ +ℚ_assoc (whole c *ℚ u) (whole d *ℚ u) (total xs p)
       ∙ℚ =ℚ-from_same (subst (λ (l : List ℕ). (whole c *ℚ u +ℚ (whole d *ℚ u +ℚ total xs p)) ≡ (whole c *ℚ product xs l +ℚ (whole d *ℚ u +ℚ total xs p))) (sym (same-equal m n t)) refl)
   add_where-total false c d m n p later t e =
@@ -146,7 +143,7 @@ module _ (xs : List Fraction) where
       let a = whole c *ℚ product xs m in
       add-total (ring.mul_term c m q) (ring.mul p q)
       ∙ℚ +ℚ-same (mul_term-total c m q) (mul-total p q)
-      ∙ℚ =ℚ_sym (spread a (total xs p) (total xs q))
+      ∙ℚ =ℚ_sym (+ℚ-*ℚ a (total xs p) (total xs q))
 
   multiplied_out-total : (e : Expression) → total xs (ring.multiplied_out e) =ℚ worth xs e
   multiplied_out-total (Atom i) =

@@ -7,11 +7,10 @@ use Rattle.std.proofs.lemmas.Bool.{or_from}
 use Rattle.nz_ints.specs.Division.{gcd_within, gcd, lcm}
 use Rattle.nz_ints.proofs.Divisors.{gcd-one, gcd_comm}
 use Rattle.nz_ints.proofs.Products.{mul-one}
-use Rattle.nz_fractions.specs.Fraction.{Fraction, denominator, whole, ◌=ℚ◌, ◌*ℚ◌, ◌/ℚ◌, reciprocal, reduce, largest, exceeds, IsNumber, is_wide_sum, is_wide_product, is_wide, exact, outcome, Sum, Product, Quotient}
-use Rattle.nz_spec.specs.BasisMoves.{ZerosAreNeverWide}
+use Rattle.nz_fractions.specs.Fraction.{Fraction, denominator, whole, ◌=ℚ◌, ◌*ℚ◌, ◌/ℚ◌, reciprocal, reduce, largest, exceeds, IsNumber, is_wide_sum, is_wide_product, is_wide, exact, outcome, Sum, Product, Quotient, ZerosAreNeverWide}
 use Rattle.nz_fractions.proofs.Laws.{denominator_pos, IsLowest, reduce-is}
 use Rattle.nz_fractions.proofs.Arithmetic.{+ℚ-zero}
-use Rattle.nz_spec.proofs.FormValues.{zero_left, zero_times, times_zero}
+use Rattle.nz_fractions.proofs.Identities.{zero_left, zero_times, times_zero}
 
 zero : Fraction
 zero = whole (pos 0)

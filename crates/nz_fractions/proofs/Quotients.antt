@@ -1,14 +1,12 @@
 -- Quotients of fractions: what they are by value, and what a divisor other than 0 leaves.
-use Rattle.std.proofs.Common.{◌≡◌, ℕ, zero, suc, false, [], ◌∷◌, ℤ, pos, negsuc, ◌*ℤ◌, refl, sym, ◌∙◌, subst, true≢false}
+use Rattle.std.proofs.Common.{◌≡◌, ℕ, zero, suc, [], ◌∷◌, ℤ, pos, negsuc, ◌*ℤ◌, refl, sym, subst}
 use Rattle.nz_ints.proofs.Ring as ring
 use Rattle.nz_ints.proofs.Ring.{Atom, Literal, ◌⊗◌, Minus}
-use Rattle.nz_fractions.specs.Fraction.{Fraction, denominator, over, whole, ◌=ℚ◌, ◌*ℚ◌, ◌/ℚ◌, flipped, reciprocal, outcome, exact, Quotient}
-use Rattle.nz_spec.specs.Term.{is_zero}
-use Rattle.nz_fractions.proofs.Laws.{=ℚ_sym, reduce-same}
-use Rattle.nz_fractions.proofs.Order.{fraction_eq-same}
-use Rattle.nz_fractions.proofs.Arithmetic.{own_parts, product_parts, whole_parts, by_parts, *ℚ-one}
-use Rattle.nz_spec.proofs.FormValues.{zero_times}
-use Rattle.nz_spec.proofs.FractionSolver.{◌∙ℚ◌, solve, times_left, times_right}
+use Rattle.nz_fractions.specs.Fraction.{Fraction, denominator, over, whole, ◌=ℚ◌, ◌<ℚ◌, ◌*ℚ◌, ◌/ℚ◌, flipped, reciprocal, outcome, exact, Quotient}
+use Rattle.nz_fractions.proofs.Laws.{=ℚ_refl, =ℚ_sym, =ℚ_trans, ≤ℚ-from_eq, <ℚ_irrefl, reduce-same}
+use Rattle.nz_fractions.proofs.Arithmetic.{own_parts, product_parts, whole_parts, by_parts, *ℚ_assoc, *ℚ-one, *ℚ-same}
+use Rattle.nz_fractions.proofs.Identities.{zero_times}
+use Rattle.nz_fractions.proofs.Solver.{◌∙ℚ◌, solve, times_left, times_right}
 
 turned_back : (n : ℤ) (b : ℕ) → (n ≡ pos 0 → ⊥) → (flipped n b *ℚ (let q : Fraction = record { numerator = n; below = b } in q)) =ℚ whole (pos 1)
 unfolding flipped over denominator
@@ -38,12 +36,19 @@ pub reciprocal-times : (q : Fraction) → (q =ℚ whole (pos 0) → ⊥) → (re
 unfolding reciprocal
 reciprocal-times q h = turned_back q.numerator q.below (λ e. h (zero-numerator q e))
 
-pub outcome-quotient : (p q : Fraction) → outcome Quotient p q =ℚ (p *ℚ reciprocal q)
-unfolding outcome exact ◌/ℚ◌
-outcome-quotient p q = reduce-same (p /ℚ q)
+pub quotient-back : (p q : Fraction) → whole (pos 0) <ℚ q → ((p /ℚ q) *ℚ q) =ℚ p
+unfolding ◌/ℚ◌
+quotient-back p q h =
+    =ℚ_trans (*ℚ_assoc p (reciprocal q) q)
+    (=ℚ_trans (*ℚ-same (=ℚ_refl p) (reciprocal-times q (λ e. <ℚ_irrefl h (≤ℚ-from_eq e)))) (*ℚ-one p))
 
-pub nonzero-test : (q : Fraction) → is_zero q ≡ false → q =ℚ whole (pos 0) → ⊥
-nonzero-test q e h = true≢false (sym (fraction_eq-same q (whole (pos 0)) h) ∙ e)
+pub outcome-divided : (p q : Fraction) → outcome Quotient p q =ℚ (p /ℚ q)
+unfolding outcome exact
+outcome-divided p q = reduce-same (p /ℚ q)
+
+pub outcome-quotient : (p q : Fraction) → outcome Quotient p q =ℚ (p *ℚ reciprocal q)
+unfolding ◌/ℚ◌
+outcome-quotient p q = outcome-divided p q
 
 -- a product with what isn't 0 is 0 only where the other factor is
 pub zero-factor : (p q : Fraction) → (q =ℚ whole (pos 0) → ⊥) → (p *ℚ q) =ℚ whole (pos 0) → p =ℚ whole (pos 0)
