@@ -14,7 +14,7 @@ use Rattle.nz_engine.specs.Levels.{IsPlaced}
 use Rattle.nz_engine.specs.Preparing.{PreparedState, CoversAlso, IsAssumable, IsPrepared, IsStanding}
 use Rattle.nz_engine.proofs.Placing.{count_within, live_above, placed_above}
 use Rattle.nz_engine.proofs.Putting.{covered}
-use Rattle.nz_engine.proofs.RowFacts.{RowLaws}
+use Rattle.nz_engine.specs.SearchLaws.{RowLaws}
 
 -- no level told is above that of the next assertion
 pub told_before : (ns : List Node) (levels roots : List (List ℕ)) (p : PreparedState) (t n : ℕ) → IsPrepared ns levels roots p → IsPlaced levels p.given t n

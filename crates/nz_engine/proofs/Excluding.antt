@@ -2,22 +2,25 @@
 use Rattle.std.proofs.Common.{◌≡◌, ℕ, List, [], ◌∷◌, map, Option, Some, None, get_or, refl, sym, ap, subst, ◌∙◌}
 use Rattle.std.specs.Prelude.{All, Contains}
 use Rattle.std.proofs.lemmas.List.Elements.{All-append, All-contains, All-from_recursion, All-map, All-weaker, Contains-get_or}
-use Rattle.nz_spec.specs.FormOf.{FormsAreSums}
 use Rattle.nz_spec.specs.Table.{Node}
 use Rattle.nz_log.specs.declared.lits.Lit.{Lit}
 use Rattle.nz_log.specs.declared.term_lits.TermLit.{TermLit}
-use Rattle.nz_log.specs.Atoms.{AtomsOfTerms}
 use Rattle.nz_log.specs.Lits.{negated_lit}
 use Rattle.nz_log.specs.Logs.{Entry, IsLive, LogState, level_at, literals_at}
 use Rattle.nz_cform.specs.Forms.{FormState}
-use Rattle.nz_cform.specs.Laws.{CoversStay}
 use Rattle.nz_cform.specs.Listings.{IsListing}
 use Rattle.nz_reals.specs.Exclusions.{IsExclusion, Keeps}
 use Rattle.nz_sat.specs.declared.clauses.Held.{Held}
 use Rattle.nz_sat.specs.Sats.{AreHeld, AreOn, HoldsMore, held_of}
-use Rattle.nz_engine.specs.Checking.{IsPosed}
+use Rattle.nz_engine.specs.declared.prepared.Prepared.TheInside.{Inside}
+use Rattle.nz_engine.specs.Checking.{IsPosed, IsReady}
 use Rattle.nz_engine.specs.Preparing.{Excludes, PreparedState}
-use Rattle.nz_engine.proofs.Solving.{IsReady, are_named, ids_told, ids_within, named_have, named_ids, named_lits, named_searched, posed_after}
+use Rattle.nz_engine.specs.SearchLaws.{SearchLaws}
+use Rattle.nz_engine.proofs.Solving.{are_named, ids_told, ids_within, named_have, named_ids, named_lits, named_searched, posed_after}
+
+-- what stands inside, as it is seen
+abbrev pub prepared_in : Inside → PreparedState
+prepared_in i = record { log = i.log; form = i.form; sat = i.sat; given = i.given; above = i.above }
 
 -- the literals of such a clause are on the atoms
 on_atoms : (log : LogState) (atoms : List ℕ) (id : ℕ) → IsExclusion log atoms id → All (λ (l : Lit). Contains atoms l.atom) (literals_at log id)
@@ -60,28 +63,28 @@ module _ {p : PreparedState} {atoms : List ℕ} (q : PreparedState) (x : Exclude
       (All-append P p.sat.clauses (map (held_of q.log) x.ids) (still_on p.log q.log x.adds.keeps p.sat.clauses were atoms on)
       (All-map P (held_of q.log) x.ids (All-weaker (IsExclusion q.log atoms) (λ id. All (λ (l : Lit). Contains atoms l.atom) (literals_at q.log id)) (on_atoms q.log atoms) x.ids x.exclusions)))
 
-pub ready_excluded : FormsAreSums → AtomsOfTerms → CoversStay → {ns : List Node} {assumed : List TermLit} {old p : PreparedState} {ids : List ℕ} {lits : List Lit} → IsReady ns assumed old p ids lits
+pub ready_excluded : SearchLaws → {ns : List Node} {assumed : List TermLit} {old p : PreparedState} {ids : List ℕ} {lits : List Lit} → IsReady ns assumed old p ids lits
     → {was q s : PreparedState} → p ≡ was → Excludes was ids q → s ≡ q → IsReady ns assumed old s ids lits
-ready_excluded sums own covers {ns} {assumed} {old} {p} {ids} {lits} r {was} {q} {s} same excludes view =
+ready_excluded laws {ns} {assumed} {old} {p} {ids} {lits} r {was} {q} {s} same excludes view =
     let x : Excludes p ids q = subst (λ (z : PreparedState). Excludes z ids q) (sym same) excludes in
     let n = r.handed in
     let form : q.form ≡ p.form = ap (λ (s : PreparedState). s.form) x.rest in
     let given : q.given ≡ p.given = ap (λ (s : PreparedState). s.given) x.rest in
     let above : q.above ≡ p.above = ap (λ (s : PreparedState). s.above) x.rest in
     let first = r.some.1 in
-    let grows = x.adds.grows (ids_told sums own first n) in
+    let grows = x.adds.grows (ids_told laws.rows laws.atoms first n) in
     let were = first.standing.raised.held in
     let after : (levels : List (List ℕ)) → IsPosed ns levels assumed p → IsPosed ns levels assumed q = λ levels h.
-    posed_after own covers r q form given above levels grows (holds_exclusions q x were)
-    (named_searched sums own h n q grows form (exclusions_on q x were (are_named sums own h n).clauses)) (x.adds.sound ns levels (ids_within sums own h n)) h in
+    posed_after laws.atoms laws.covers r q form given above levels grows (holds_exclusions q x were)
+    (named_searched laws.rows laws.atoms h n q grows form (exclusions_on q x were (are_named laws.rows laws.atoms h n).clauses)) (x.adds.sound ns levels (ids_within laws.rows laws.atoms h n)) h in
     subst (λ (z : PreparedState). IsReady ns assumed old z ids lits) (sym view)
     (record {
       handed = record {
         terms = subst (λ (f : FormState). IsListing f.terms) (sym form) n.terms;
         bounds = subst (λ (f : FormState). IsListing f.bounds) (sym form) n.bounds;
-        numbers = named_ids sums own first n q grows form;
-        on_atoms = named_lits sums own first n q grows form;
-        there = named_have sums own first n q grows form;
+        numbers = named_ids laws.rows laws.atoms first n q grows form;
+        on_atoms = named_lits laws.rows laws.atoms first n q grows form;
+        there = named_have laws.rows laws.atoms first n q grows form;
       };
       posed = λ levels h. after levels (r.posed levels h);
       some = (r.some.0, after r.some.0 first);

@@ -32,7 +32,8 @@ use Rattle.nz_engine.specs.Levels.{IsPlaced, count_in}
 use Rattle.nz_engine.specs.Preparing.{PreparedState, AreSearched, CoversAlso, HoldsUnit, IsMadeOf, IsOfForm, IsPrepared, IsSearched, unit_of}
 use Rattle.nz_engine.proofs.Going.{none_or_some, some_of, some_within, still_searched}
 use Rattle.nz_engine.proofs.Placing.{count_more, placed_in_all}
-use Rattle.nz_engine.proofs.RowFacts.{IsRowLiteral, RowLaws, contains_map, of_row}
+use Rattle.nz_engine.specs.SearchLaws.{RowLaws}
+use Rattle.nz_engine.proofs.RowFacts.{IsRowLiteral, contains_map, of_row}
 
 -- ---- Logs in which each clause stays
 

@@ -20,7 +20,7 @@ use Rattle.nz_spec.specs.Steps.{step_clause}
 use Rattle.nz_spec.specs.Table.{Node, IsTable, term_in}
 use Rattle.nz_spec.specs.Taken.{IsTakenHead, IsTaken}
 use Rattle.nz_spec.specs.Units.{unit_clauses}
-use Rattle.nz_spec.specs.WellSorted.{AllAre, HaveOperands, OperandsAreSorted}
+use Rattle.nz_spec.specs.WellSorted.{AllAre, HaveOperands}
 use Rattle.nz_fractions.proofs.Identities.{neg-nonzero}
 use Rattle.nz_log.specs.declared.atoms.Atom.{Atom}
 use Rattle.nz_log.specs.declared.lits.Lit.{Lit}
@@ -30,6 +30,7 @@ use Rattle.nz_log.specs.Logs.{Origin, assertion_of, gate_of, axiom_of, chain_of,
 use Rattle.nz_log.specs.Sound.{IsLog, IsMade}
 use Rattle.nz_cform.specs.Covering.{IsRowAt}
 use Rattle.nz_engine.proofs.Placing.{stands_there}
+use Rattle.nz_engine.specs.SearchLaws.{RowLaws}
 
 -- ---- Sums
 
@@ -214,11 +215,6 @@ contains_map f xs x c =
     All-contains (λ y. Contains (map f xs) (f y)) xs x
     (All-from_recursion (λ y. Contains (map f xs) (f y)) xs
     (AllByRecursion-map (Contains (map f xs)) f xs (recursion_from_All (Contains (map f xs)) (map f xs) (All-contains_itself (map f xs))))) c
-
--- what rows of taken terms rest on
-pub record RowLaws : Type 0 where
-  pub sums : FormsAreSums
-  pub operands : OperandsAreSorted
 
 module _ (laws : RowLaws) (number : Numbering) where
   gates_of : (t : Term) → IsTaken t → AllByRecursion AreBooleans (gate_clauses t)

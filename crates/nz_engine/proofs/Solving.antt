@@ -49,14 +49,15 @@ use Rattle.nz_reals.proofs.Sums.{number_back}
 use Rattle.nz_sat.specs.Numbers.{IsAtomAt, atom_literal}
 use Rattle.nz_sat.specs.Sats as sat
 use Rattle.nz_sat.specs.Sats.{AreNamed, AreOn, HoldsMore, IsAsked, IsSatisfied, IsTheoryMet, truth_of}
-use Rattle.nz_engine.specs.Checking.{AreHanded, AreLearnable, HasFound, HaveAtoms, IsLearnable, IsNonzero, IsPosed, MayBegin, terms_named, truth_in}
+use Rattle.nz_engine.specs.Checking.{AreHanded, AreLearnable, HasFound, HaveAtoms, IsLearnable, IsNonzero, IsPosed, IsReady, MayBegin, terms_named, truth_in}
 use Rattle.nz_engine.specs.Preparing.{PreparedState, AreSearched, IsOfForm, IsPrepared, IsSearched, atoms_of, boolean_terms}
+use Rattle.nz_engine.specs.SearchLaws.{RowLaws, SearchLaws}
 use Rattle.nz_engine.proofs.Going.{made_of_more, some_of, some_within, still_searched}
 use Rattle.nz_engine.proofs.Naming.{listed_part, once_from_pairs}
 use Rattle.nz_engine.proofs.Onces.{boolean_there, boolean_was, once_append, once_booleans, once_from_stand, once_map, stand_from_once}
 use Rattle.nz_engine.proofs.Placing.{all_roots, in_all, place_of, stands_there}
 use Rattle.nz_engine.proofs.Putting.{from_lits, joined_prepared, learned, literal_at_atom}
-use Rattle.nz_engine.proofs.RowFacts.{AreNonzeroParts, IsOfRow, IsRowLiteral, RowLaws, contains_map, of_row}
+use Rattle.nz_engine.proofs.RowFacts.{AreNonzeroParts, IsOfRow, IsRowLiteral, contains_map, of_row}
 
 -- ---- Atoms of terms
 
@@ -500,24 +501,20 @@ posed_named own covers stay leveled ns levels assumed p q rest joins all posed =
 
 -- ---- What is known before a search
 
--- Where atoms were named in a log, a search over these and these literals may begin, over the levels over which it might have before.
-pub record IsReady (ns : List Node) (assumed : List TermLit) (old p : PreparedState) (ids : List ℕ) (lits : List Lit) : Type 0 where
-  pub handed : AreHanded ns p assumed ids lits
-  pub posed : (levels : List (List ℕ)) → IsPosed ns levels assumed old → IsPosed ns levels assumed p
-  pub some : (levels : List (List ℕ)) × IsPosed ns levels assumed p
+pub ready_named : SearchLaws → LogsStay → LogsStayLeveled → {ns : List Node} {assumed : List TermLit} (old : PreparedState) {q : PreparedState} {ids : List ℕ} {lits : List Lit}
+    → q ≡ record old { log = q.log } → JoinsAtoms old.log q.log → AreAtoms q.log.atoms → AreHanded ns q assumed ids lits
+    → (levels : List (List ℕ)) × IsPosed ns levels assumed old → IsReady ns assumed old q ids lits
+ready_named laws stay leveled {ns} {assumed} old {q} rest joins all handed begun =
+    let posed : (levels : List (List ℕ)) → IsPosed ns levels assumed old → IsPosed ns levels assumed q = λ levels h.
+    posed_named laws.atoms laws.covers stay leveled ns levels assumed old q rest joins all h in
+    record { handed = handed; posed = posed; some = (begun.0, posed begun.0 begun.1) }
 
-pub is_ready : AtomsOfTerms → CoversStay → LogsStay → LogsStayLeveled → {ns : List Node} {assumed : List TermLit} (old : PreparedState) {p q : PreparedState} {ids xs : List ℕ} {lits ls : List Lit}
-    → p ≡ q → q ≡ record old { log = q.log } → JoinsAtoms old.log q.log → AreAtoms q.log.atoms → AreHanded ns q assumed xs ls → ids ≡ xs → lits ≡ ls
-    → (levels : List (List ℕ)) × IsPosed ns levels assumed old → IsReady ns assumed old p ids lits
-is_ready own covers stay leveled {ns} {assumed} old {p} {q} {ids} {xs} {lits} {ls} view rest joins all handed same_ids same_lits begun =
-    let posed : (levels : List (List ℕ)) → IsPosed ns levels assumed old → IsPosed ns levels assumed p = λ levels h.
-    subst (IsPosed ns levels assumed) (sym view) (posed_named own covers stay leveled ns levels assumed old q rest joins all h) in
-    record {
-      handed = subst (λ (s : PreparedState). AreHanded ns s assumed ids lits) (sym view)
-          (subst (λ (is : List ℕ). AreHanded ns q assumed is lits) (sym same_ids) (subst (AreHanded ns q assumed xs) (sym same_lits) handed));
-      posed = posed;
-      some = (begun.0, posed begun.0 begun.1);
-    }
+-- the same of what the names stand for
+pub ready_as : {ns : List Node} {assumed : List TermLit} {old p q : PreparedState} {ids xs : List ℕ} {lits ls : List Lit} → p ≡ q → ids ≡ xs → lits ≡ ls
+    → IsReady ns assumed old q xs ls → IsReady ns assumed old p ids lits
+ready_as {ns} {assumed} {old} {p} {q} {ids} {xs} {lits} {ls} view same_ids same_lits ready =
+    subst (λ (s : PreparedState). IsReady ns assumed old s ids lits) (sym view)
+    (subst (λ (is : List ℕ). IsReady ns assumed old q is lits) (sym same_ids) (subst (IsReady ns assumed old q xs) (sym same_lits) ready))
 
 -- and may again when it has learned
 pub posed_after : AtomsOfTerms → CoversStay → {ns : List Node} {assumed : List TermLit} {old p : PreparedState} {ids : List ℕ} {lits : List Lit} → IsReady ns assumed old p ids lits → (q : PreparedState)

@@ -79,6 +79,12 @@ pub record IsPosed (ns : List Node) (levels : List (List ℕ)) (assumed : List T
   pub assumed_taken : AreTakenAt ns (terms_named assumed)
   pub assumed_within : All (λ t. t < length ns) (terms_named assumed)
 
+-- Where atoms were named in a log, a search over these and these literals may begin, over the levels over which it might have before.
+pub record IsReady (ns : List Node) (assumed : List TermLit) (old p : PreparedState) (ids : List ℕ) (lits : List Lit) : Type 0 where
+  pub handed : AreHanded ns p assumed ids lits
+  pub posed : (levels : List (List ℕ)) → IsPosed ns levels assumed old → IsPosed ns levels assumed p
+  pub some : (levels : List (List ℕ)) × IsPosed ns levels assumed p
+
 -- ---- Notes
 
 -- the note of an atom

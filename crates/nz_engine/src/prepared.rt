@@ -27,9 +27,10 @@ ghost use Rattle.nz_reals.specs.Stored.{AreForms};
 ghost use Rattle.nz_sat.specs.Numbers.{IsAtomAt};
 ghost use Rattle.nz_sat.specs.Sats.{held_of};
 ghost use Rattle.nz_simplex.specs.State.{IsSound, position_over};
-ghost use Rattle.nz_engine.specs.Checking.{AreCovered, AreHanded, AreLearnable, AreNumbered, AreTakenAt, EndsWith, HasBegun, HasFound, IsPosed, IsRootStop, IsStopOf, IsTermStop, MayBegin, NotesAll, NotesFirst, NotesForms, Works, atom_lines, note_of, terms_named, truth_in, value_at};
+ghost use Rattle.nz_engine.specs.Checking.{AreCovered, AreHanded, AreLearnable, AreNumbered, AreTakenAt, EndsWith, HasBegun, HasFound, IsPosed, IsReady, IsRootStop, IsStopOf, IsTermStop, MayBegin, NotesAll, NotesFirst, NotesForms, Works, atom_lines, note_of, terms_named, truth_in, value_at};
 ghost use Rattle.nz_engine.specs.Engines.{literals_in};
 ghost use Rattle.nz_engine.specs.Levels.{IsPlaced, count_of};
+ghost use Rattle.nz_engine.specs.SearchLaws.{SearchLaws};
 ghost use Rattle.nz_engine.specs.Preparing.{CoversAlso, CutsTo, Excludes, IsAssumable, IsPrepared, IsStanding, KeepsBounds, boolean_term, boolean_terms, nothing_prepared};
 
 use crate::levels::Levels;
@@ -247,13 +248,8 @@ impl Prepared {
         ensures works { Works terms.now work.old work.new }
         ensures spent { IfErr result (λ s. OnSpent s (IsSpent work.new)) }
     {
-        covers_stay();
-        logs_stay();
-        logs_stay_leveled();
-        atoms_of_terms();
-        forms_are_sums();
-        operands_are_sorted();
-        let named = self.named(terms, assumed)?;
+        search_laws();
+        let named = self.ready(terms, assumed)?;
         let atoms: &[AtomId] = &named.atoms;
         let literals: &[Lit] = &named.literals;
         let theory = begun(self.alloc, &self.log, atoms, work)?;
@@ -271,6 +267,17 @@ impl Prepared {
         hold(&mut self.sat, &self.log, &clauses)?;
         self.excluded = self.log.atom_count();
         Ok(())
+    }
+
+    /// Names what a search is handed, which may begin then.
+    fn ready(&mut self, terms: &Terms, assumed: &[TermLit]) -> Result<Named, Memory>
+        requires posed { (levels : List (List ℕ)) × IsPosed terms.now levels assumed.now self.old }
+        ensures ready { IfOk result (λ n. IsReady terms.now assumed.now self.old self.new n.atoms.items n.literals.items) }
+    {
+        search_laws();
+        logs_stay();
+        logs_stay_leveled();
+        self.named(terms, assumed)
     }
 
     /// The atoms of the covered Boolean terms and the bounds, and the assumed literals on atoms. Atoms join the log's where they aren't there.
@@ -340,6 +347,16 @@ impl Prepared {
     {
         self.log.steps(id)
     }
+}
+
+/// Says what a search over what is prepared rests on.
+fn search_laws()
+    ensures laws { SearchLaws }
+{
+    atoms_of_terms();
+    covers_stay();
+    forms_are_sums();
+    operands_are_sorted();
 }
 
 /// Holds these clauses too.

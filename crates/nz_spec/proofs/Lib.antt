@@ -18,6 +18,7 @@ pub mod BlandTells
 pub mod BlandValues
 pub mod ByteClasses
 pub mod ChosenFractions
+pub mod ClimbSteps
 pub mod Climbs
 pub mod CutSums
 pub mod Decimals

@@ -1,7 +1,8 @@
--- Points over a basis, bounds of forms, and the check steps of the simplex: which forms are exchanged, by Bland's rule. Where no
--- form can be, the bounds contradict.
--- Source: Dutertre and de Moura, A Fast Linear-Arithmetic Solver for DPLL(T), CAV 2006, sections 3 to 5 (checking, conflicts,
--- strict bounds). The order of a value's operations is this solver's own.
+-- Points over a basis, bounds of forms, and the check steps and climb steps of the simplex: which forms are exchanged, by Bland's
+-- rule. Where a check finds no form to exchange, the bounds contradict.
+-- Sources: Dutertre and de Moura, A Fast Linear-Arithmetic Solver for DPLL(T), CAV 2006, sections 3 to 5 (checking, conflicts,
+-- strict bounds); Bland, New Finite Pivoting Rules for the Simplex Method, 1977 (climbs). The order of a value's operations is this
+-- solver's own.
 use Rattle.std.specs.Prelude.{◌≡◌, ℕ, ◌<◌, ◌≤◌, ◌==◌, Bool, true, false, ◌&&◌, ◌⊎◌, List, [], ◌∷◌, length, Option, Some, None, option_map, unwrap_or, is_some, pos, negsuc, ◌↔◌, if◌then◌else◌}
 use Rattle.std.specs.declared.cmp.Ordering.TheVariants.{Less}
 use Rattle.nz_fractions.specs.Fraction.{Fraction, whole, ◌≤ℚ◌, ◌<ℚ◌, fraction_eq, Sum, Product}
@@ -157,6 +158,39 @@ pub record IsCheckStep (s t : Position) (i j : ℕ) : Type 0 where
   pub least_helper : (k : ℕ) → k < j → CanHelp s i (other_side side) k → ⊥
   pub after : t ≡ record s { point = exchanged_point s.point i j bound }
 
+-- ---- Climb steps
+
+-- A form with this coefficient at another is led to a side where the other one goes this way.
+abbrev pub IsLed : (way : Side) → Fraction → (side : Side) → Type 0
+IsLed way q side = ((whole (pos 0) <ℚ q) × (side ≡ way)) ⊎ ((q <ℚ whole (pos 0)) × (side ≡ other_side way))
+
+-- Where form j goes this way by so much, form k comes to its bound on the side that it is led to. Form k may be j itself.
+pub record Blocks (s : Position) (j : ℕ) (way : Side) (k : ℕ) (move : Infinitesimal) : Type 0 where
+  pub listed : k < length s.forms
+  pub coefficient : Fraction
+  pub at : IsCoefficient s.forms (is_nonbasic s.point) k j coefficient
+  pub side : Side
+  pub led : IsLed way coefficient side
+  pub bound : Infinitesimal
+  pub bounded : bound_on side s k ≡ Some bound
+  pub value : Infinitesimal
+  pub has : HasValue s k value
+  pub reaches : (value +δ scaled move coefficient) =δ bound
+
+-- The least-numbered nonbasic form that can take the goal up, or down, goes that way until a form blocks it: of those that block it
+-- first, i is the least-numbered one. They are exchanged, and i stands at its bound. Where i is the form that goes, it moves there
+-- and stays nonbasic.
+pub record IsClimbStep (s t : Position) (goal : ℕ) (up : Side) (i j : ℕ) : Type 0 where
+  pub helps : CanHelp s goal up j
+  pub least_helper : (k : ℕ) → k < j → CanHelp s goal up k → ⊥
+  pub way : Side
+  pub led : IsLed way helps.coefficient up
+  pub move : Infinitesimal
+  pub blocks : Blocks s j way i move
+  pub first : (k : ℕ) (other : Infinitesimal) → Blocks s j way k other → IsInside way move other → ⊥
+  pub least_first : (k : ℕ) (other : Infinitesimal) → k < i → Blocks s j way k other → other =δ move → ⊥
+  pub after : t ≡ record s { point = exchanged_point s.point i j blocks.bound }
+
 -- ---- Contradictions
 
 -- these values of all forms break no bound
@@ -233,6 +267,11 @@ pub record CheckStepsKeepBasis : Type 0 where
   pub stands : (s t : Position) (i j : ℕ) → HasBasis s → (step : IsCheckStep s t i j) → HasValue t i step.bound
   pub moves : (s t : Position) (i j r : ℕ) (v w : Infinitesimal) (q : Fraction) → HasBasis s → (step : IsCheckStep s t i j) → r < length s.forms
       → HasValue s r v → HasValue s i w → IsCoefficient t.forms (is_nonbasic t.point) r i q → HasValue t r (v +δ scaled (step.bound -δ w) q)
+
+-- A climb step leads from basis to basis, and the form that blocked it stands at its bound.
+pub record ClimbStepsKeepBasis : Type 0 where
+  pub basis : (s t : Position) (goal : ℕ) (up : Side) (i j : ℕ) → HasBasis s → IsClimbStep s t goal up i j → HasBasis t
+  pub stands : (s t : Position) (goal : ℕ) (up : Side) (i j : ℕ) → HasBasis s → (step : IsClimbStep s t goal up i j) → HasValue t i step.blocks.bound
 
 -- Where a basic form breaks a bound and no nonbasic form can help, the row by which it breaks it refutes the bounds: no values that fit the
 -- forms meet them, and so none of an assignment.

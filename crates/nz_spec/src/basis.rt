@@ -1,7 +1,7 @@
 //! Laws of bases of linear forms.
 ghost use Rattle.nz_spec.specs.Basis.{CoefficientsAreUnique, NonbasicFormIsItself, ValueIsWorth, WorthIsByUnits};
 ghost use Rattle.nz_spec.specs.BasisMoves.{ExchangeKeepsBasis, JoinsKeepBasis, SolutionsAreWorth, SolutionsStay};
-ghost use Rattle.nz_spec.specs.Bland.{BoundsSayWhatTheyMean, CheckStepsKeepBasis, NoHelpRefutes, PositionsHaveValues, RowsTell, SumMoves, ValueIsComputed};
+ghost use Rattle.nz_spec.specs.Bland.{BoundsSayWhatTheyMean, CheckStepsKeepBasis, ClimbStepsKeepBasis, NoHelpRefutes, PositionsHaveValues, RowsTell, SumMoves, ValueIsComputed};
 ghost use Rattle.nz_spec.specs.BlandRuns.{NoPostureReturns, RunsAreShort};
 ghost use Rattle.nz_spec.specs.PositionMoves.{MovesKeepReady};
 ghost use Rattle.nz_spec.specs.WorkedBasis.{HasExchange, HasJoiningRow};
@@ -54,6 +54,11 @@ pub fn sum_moves()
 /// A check step leads from basis to basis.
 pub fn check_steps_keep_basis()
     ensures kept { CheckStepsKeepBasis }
+{}
+
+/// A climb step leads from basis to basis.
+pub fn climb_steps_keep_basis()
+    ensures kept { ClimbStepsKeepBasis }
 {}
 
 /// Where a form breaks a bound and no nonbasic form can help, its row refutes the bounds.

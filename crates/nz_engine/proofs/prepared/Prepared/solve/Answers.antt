@@ -11,163 +11,130 @@ use Rattle.nz_log.specs.Standing.{Ends}
 use Rattle.nz_log.specs.Verdicts.{task_in}
 use Rattle.nz_reals.specs.Stands.{IsAt, IsOf}
 use Rattle.nz_sat.specs.Conflicts.{Refutes}
-use Rattle.nz_engine.specs.declared.prepared.Prepared.TheInside.{Inside}
 use Rattle.nz_engine.specs.Checking.{IsPosed}
 use Rattle.nz_engine.specs.Preparing.{PreparedState}
-use Rattle.nz_engine.proofs.Excluding.{ready_excluded}
-use Rattle.nz_engine.proofs.RowFacts.{RowLaws}
+use Rattle.nz_engine.proofs.Excluding.{prepared_in, ready_excluded}
 use Rattle.nz_engine.proofs.Ending.{legal_none, on_spent, works_begun, works_none, works_solved}
 use Rattle.nz_engine.proofs.Naming.{err_ends}
 use Rattle.nz_engine.proofs.Refuting.{refuted_by}
-use Rattle.nz_engine.proofs.Solving.{are_consistent, are_named, found_of, ids_learnable, ids_told, ids_within, is_asked, is_ready, may_begin, named_have, named_lits, named_searched, posed_after}
+use Rattle.nz_engine.proofs.Solving.{are_consistent, are_named, found_of, ids_learnable, ids_told, ids_within, is_asked, may_begin, named_have, named_lits, named_searched, posed_after, ready_as}
 use Rattle.nz_engine.proofs.prepared.Prepared.solve.Goals as goal
 
-pub named-requires : goal.named-requires
-named-requires c = record { covers = c.requires.posed.1.standing.raised.covers }
+pub ready-requires : goal.ready-requires
+ready-requires c = record { posed = c.requires.posed }
 
-pub returns-in_err-named-clause-ends : goal.returns-in_err-named-clause-ends
-returns-in_err-named-clause-ends c = λ levels posed.
+pub returns-in_err-ready-clause-ends : goal.returns-in_err-ready-clause-ends
+returns-in_err-ready-clause-ends c = λ levels posed.
     let same : Err Memory ≡ c.from_residual.result = search rules in
     let ns = c.args.terms.now in
     let q = task_in ns levels c.args.assumed.now in
     err_ends (Option ℕ) _ ns q c.args.work.now Memory _ same (legal_none q ns c.args.work.now c.requires.no_steps)
 
-pub returns-in_err-named-clause-works : goal.returns-in_err-named-clause-works
-returns-in_err-named-clause-works c = works_none c.args.terms.now c.args.work.now c.requires.no_steps
+pub returns-in_err-ready-clause-works : goal.returns-in_err-ready-clause-works
+returns-in_err-ready-clause-works c = works_none c.args.terms.now c.args.work.now c.requires.no_steps
 
 pub begun-requires-clause-learnable : goal.begun-requires-clause-learnable
 begun-requires-clause-learnable c =
-    let laws : RowLaws = record { sums = c.forms_are_sums.ensures.sums; operands = c.operands_are_sorted.ensures.sorted } in
-    let own = c.atoms_of_terms.ensures.atoms in
-    let r = is_ready own c.covers_stay.ensures.stay c.logs_stay.ensures.stay c.logs_stay_leveled.ensures.stay c.args.self.now c.self.view_is c.in_ok-named.ensures.rest c.in_ok-named.ensures.joins
-    c.in_ok-named.ensures.all c.in_ok-named.ensures.handed c.deref-atoms.ensures.value c.deref-literals.ensures.value c.requires.posed in
-    ids_learnable laws own r.some.1 r.handed
+    let laws = c.search_laws.ensures.laws in
+    let r = ready_as c.self.view_is c.deref-atoms.ensures.value c.deref-literals.ensures.value c.in_ok-ready.ensures.ready in
+    ids_learnable laws.rows laws.atoms r.some.1 r.handed
 
 pub returns-in_err-theory-clause-ends : goal.returns-in_err-theory-clause-ends
 returns-in_err-theory-clause-ends c =
-    let laws : RowLaws = record { sums = c.forms_are_sums.ensures.sums; operands = c.operands_are_sorted.ensures.sorted } in
-    let own = c.atoms_of_terms.ensures.atoms in
-    let r = is_ready own c.covers_stay.ensures.stay c.logs_stay.ensures.stay c.logs_stay_leveled.ensures.stay c.args.self.now c.self.view_is c.in_ok-named.ensures.rest c.in_ok-named.ensures.joins
-    c.in_ok-named.ensures.all c.in_ok-named.ensures.handed c.deref-atoms.ensures.value c.deref-literals.ensures.value c.requires.posed in
+    let laws = c.search_laws.ensures.laws in
+    let r = ready_as c.self.view_is c.deref-atoms.ensures.value c.deref-literals.ensures.value c.in_ok-ready.ensures.ready in
     let ns = c.args.terms.now in
     λ levels posed.
     let same : Err c.in_err-theory.field-0.0 ≡ c.from_residual-in_err-theory.result = search rules in
     let q = task_in ns levels c.args.assumed.now in
-    err_ends (Option ℕ) _ ns q c.begun.new.work c.in_err-theory.field-0.0 _ same (c.in_err-theory.ensures.stopped ns q (may_begin laws own (r.posed levels posed) r.handed))
+    err_ends (Option ℕ) _ ns q c.begun.new.work c.in_err-theory.field-0.0 _ same (c.in_err-theory.ensures.stopped ns q (may_begin laws.rows laws.atoms (r.posed levels posed) r.handed))
 
 pub returns-in_err-theory-clause-works : goal.returns-in_err-theory-clause-works
 returns-in_err-theory-clause-works c =
-    let laws : RowLaws = record { sums = c.forms_are_sums.ensures.sums; operands = c.operands_are_sorted.ensures.sorted } in
-    let own = c.atoms_of_terms.ensures.atoms in
-    let r = is_ready own c.covers_stay.ensures.stay c.logs_stay.ensures.stay c.logs_stay_leveled.ensures.stay c.args.self.now c.self.view_is c.in_ok-named.ensures.rest c.in_ok-named.ensures.joins
-    c.in_ok-named.ensures.all c.in_ok-named.ensures.handed c.deref-atoms.ensures.value c.deref-literals.ensures.value c.requires.posed in
-    works_begun c.args.terms.now c.self.inside.log.atoms c.deref-atoms.result.now c.args.work.now c.begun.new.work (ids_within laws own r.some.1 r.handed) c.begun.ensures.begun
+    let laws = c.search_laws.ensures.laws in
+    let r = ready_as c.self.view_is c.deref-atoms.ensures.value c.deref-literals.ensures.value c.in_ok-ready.ensures.ready in
+    works_begun c.args.terms.now c.self.inside.log.atoms c.deref-atoms.result.now c.args.work.now c.begun.new.work (ids_within laws.rows laws.atoms r.some.1 r.handed) c.begun.ensures.begun
 
 pub returns-in_err-exclude-clause-ends : goal.returns-in_err-exclude-clause-ends
 returns-in_err-exclude-clause-ends c =
-    let laws : RowLaws = record { sums = c.forms_are_sums.ensures.sums; operands = c.operands_are_sorted.ensures.sorted } in
-    let own = c.atoms_of_terms.ensures.atoms in
-    let first = is_ready own c.covers_stay.ensures.stay c.logs_stay.ensures.stay c.logs_stay_leveled.ensures.stay c.args.self.now c.self.view_is c.in_ok-named.ensures.rest c.in_ok-named.ensures.joins
-    c.in_ok-named.ensures.all c.in_ok-named.ensures.handed c.deref-atoms.ensures.value c.deref-literals.ensures.value c.requires.posed in
+    let laws = c.search_laws.ensures.laws in
+    let first = ready_as c.self.view_is c.deref-atoms.ensures.value c.deref-literals.ensures.value c.in_ok-ready.ensures.ready in
     let ns = c.args.terms.now in
     λ levels posed.
     let same : Err Memory ≡ c.from_residual-in_err-exclude.result = search (rules, c.from_residual-in_err-exclude.ensures, c.in_err-exclude.is, c.in_err-exclude.was) in
     let q = task_in ns levels c.args.assumed.now in
-    let stands = c.in_ok-theory.ensures.stands ns q (may_begin laws own (first.posed levels posed) first.handed) in
+    let stands = c.in_ok-theory.ensures.stands ns q (may_begin laws.rows laws.atoms (first.posed levels posed) first.handed) in
     err_ends (Option ℕ) _ ns q c.begun.new.work Memory _ same (stands.point, stands.legal)
 
 pub returns-in_err-exclude-clause-works : goal.returns-in_err-exclude-clause-works
 returns-in_err-exclude-clause-works c =
-    let laws : RowLaws = record { sums = c.forms_are_sums.ensures.sums; operands = c.operands_are_sorted.ensures.sorted } in
-    let own = c.atoms_of_terms.ensures.atoms in
-    let first = is_ready own c.covers_stay.ensures.stay c.logs_stay.ensures.stay c.logs_stay_leveled.ensures.stay c.args.self.now c.self.view_is c.in_ok-named.ensures.rest c.in_ok-named.ensures.joins
-    c.in_ok-named.ensures.all c.in_ok-named.ensures.handed c.deref-atoms.ensures.value c.deref-literals.ensures.value c.requires.posed in
-    works_begun c.args.terms.now c.self.inside.log.atoms c.deref-atoms.result.now c.args.work.now c.begun.new.work (ids_within laws own first.some.1 first.handed) c.begun.ensures.begun
+    let laws = c.search_laws.ensures.laws in
+    let first = ready_as c.self.view_is c.deref-atoms.ensures.value c.deref-literals.ensures.value c.in_ok-ready.ensures.ready in
+    works_begun c.args.terms.now c.self.inside.log.atoms c.deref-atoms.result.now c.args.work.now c.begun.new.work (ids_within laws.rows laws.atoms first.some.1 first.handed) c.begun.ensures.begun
 
 pub solve-requires-clause-held : goal.solve-requires-clause-held
 solve-requires-clause-held c =
-    let laws : RowLaws = record { sums = c.forms_are_sums.ensures.sums; operands = c.operands_are_sorted.ensures.sorted } in
-    let own = c.atoms_of_terms.ensures.atoms in
-    let first = is_ready own c.covers_stay.ensures.stay c.logs_stay.ensures.stay c.logs_stay_leveled.ensures.stay c.args.self.now c.self.view_is c.in_ok-named.ensures.rest c.in_ok-named.ensures.joins
-    c.in_ok-named.ensures.all c.in_ok-named.ensures.handed c.deref-atoms.ensures.value c.deref-literals.ensures.value c.requires.posed in
-    let view = ap (λ (i : Inside). let p : PreparedState = record { log = i.log; form = i.form; sat = i.sat; given = i.given; above = i.above } in p) c.self-inside.view_is ∙ c.self-2.view_is in
-    let r = ready_excluded laws own c.covers_stay.ensures.stay first c.self.view_is c.in_ok-exclude.ensures.excludes view in
+    let laws = c.search_laws.ensures.laws in
+    let first = ready_as c.self.view_is c.deref-atoms.ensures.value c.deref-literals.ensures.value c.in_ok-ready.ensures.ready in
+    let r = ready_excluded laws first c.self.view_is c.in_ok-exclude.ensures.excludes (ap prepared_in c.self-inside.view_is ∙ c.self-2.view_is) in
     r.some.1.standing.raised.held
 
 pub solve-requires-clause-named : goal.solve-requires-clause-named
 solve-requires-clause-named c =
-    let laws : RowLaws = record { sums = c.forms_are_sums.ensures.sums; operands = c.operands_are_sorted.ensures.sorted } in
-    let own = c.atoms_of_terms.ensures.atoms in
-    let first = is_ready own c.covers_stay.ensures.stay c.logs_stay.ensures.stay c.logs_stay_leveled.ensures.stay c.args.self.now c.self.view_is c.in_ok-named.ensures.rest c.in_ok-named.ensures.joins
-    c.in_ok-named.ensures.all c.in_ok-named.ensures.handed c.deref-atoms.ensures.value c.deref-literals.ensures.value c.requires.posed in
-    let view = ap (λ (i : Inside). let p : PreparedState = record { log = i.log; form = i.form; sat = i.sat; given = i.given; above = i.above } in p) c.self-inside.view_is ∙ c.self-2.view_is in
-    let r = ready_excluded laws own c.covers_stay.ensures.stay first c.self.view_is c.in_ok-exclude.ensures.excludes view in
-    are_named laws own r.some.1 r.handed
+    let laws = c.search_laws.ensures.laws in
+    let first = ready_as c.self.view_is c.deref-atoms.ensures.value c.deref-literals.ensures.value c.in_ok-ready.ensures.ready in
+    let r = ready_excluded laws first c.self.view_is c.in_ok-exclude.ensures.excludes (ap prepared_in c.self-inside.view_is ∙ c.self-2.view_is) in
+    are_named laws.rows laws.atoms r.some.1 r.handed
 
 pub solve-requires-clause-told_terms : goal.solve-requires-clause-told_terms
 solve-requires-clause-told_terms c =
-    let laws : RowLaws = record { sums = c.forms_are_sums.ensures.sums; operands = c.operands_are_sorted.ensures.sorted } in
-    let own = c.atoms_of_terms.ensures.atoms in
-    let first = is_ready own c.covers_stay.ensures.stay c.logs_stay.ensures.stay c.logs_stay_leveled.ensures.stay c.args.self.now c.self.view_is c.in_ok-named.ensures.rest c.in_ok-named.ensures.joins
-    c.in_ok-named.ensures.all c.in_ok-named.ensures.handed c.deref-atoms.ensures.value c.deref-literals.ensures.value c.requires.posed in
-    let view = ap (λ (i : Inside). let p : PreparedState = record { log = i.log; form = i.form; sat = i.sat; given = i.given; above = i.above } in p) c.self-inside.view_is ∙ c.self-2.view_is in
-    let r = ready_excluded laws own c.covers_stay.ensures.stay first c.self.view_is c.in_ok-exclude.ensures.excludes view in
-    ids_told laws own r.some.1 r.handed
+    let laws = c.search_laws.ensures.laws in
+    let first = ready_as c.self.view_is c.deref-atoms.ensures.value c.deref-literals.ensures.value c.in_ok-ready.ensures.ready in
+    let r = ready_excluded laws first c.self.view_is c.in_ok-exclude.ensures.excludes (ap prepared_in c.self-inside.view_is ∙ c.self-2.view_is) in
+    ids_told laws.rows laws.atoms r.some.1 r.handed
 
 pub solve-requires-clause-consistent : goal.solve-requires-clause-consistent
 solve-requires-clause-consistent c =
-    let laws : RowLaws = record { sums = c.forms_are_sums.ensures.sums; operands = c.operands_are_sorted.ensures.sorted } in
-    let own = c.atoms_of_terms.ensures.atoms in
-    let first = is_ready own c.covers_stay.ensures.stay c.logs_stay.ensures.stay c.logs_stay_leveled.ensures.stay c.args.self.now c.self.view_is c.in_ok-named.ensures.rest c.in_ok-named.ensures.joins
-    c.in_ok-named.ensures.all c.in_ok-named.ensures.handed c.deref-atoms.ensures.value c.deref-literals.ensures.value c.requires.posed in
-    let view = ap (λ (i : Inside). let p : PreparedState = record { log = i.log; form = i.form; sat = i.sat; given = i.given; above = i.above } in p) c.self-inside.view_is ∙ c.self-2.view_is in
-    let r = ready_excluded laws own c.covers_stay.ensures.stay first c.self.view_is c.in_ok-exclude.ensures.excludes view in
-    are_consistent laws own r.some.1 r.handed c.requires.consistent
+    let laws = c.search_laws.ensures.laws in
+    let first = ready_as c.self.view_is c.deref-atoms.ensures.value c.deref-literals.ensures.value c.in_ok-ready.ensures.ready in
+    let r = ready_excluded laws first c.self.view_is c.in_ok-exclude.ensures.excludes (ap prepared_in c.self-inside.view_is ∙ c.self-2.view_is) in
+    are_consistent laws.rows laws.atoms r.some.1 r.handed c.requires.consistent
 
 pub returns-clause-posed : goal.returns-clause-posed
 returns-clause-posed c =
-    let laws : RowLaws = record { sums = c.forms_are_sums.ensures.sums; operands = c.operands_are_sorted.ensures.sorted } in
-    let own = c.atoms_of_terms.ensures.atoms in
-    let first = is_ready own c.covers_stay.ensures.stay c.logs_stay.ensures.stay c.logs_stay_leveled.ensures.stay c.args.self.now c.self.view_is c.in_ok-named.ensures.rest c.in_ok-named.ensures.joins
-    c.in_ok-named.ensures.all c.in_ok-named.ensures.handed c.deref-atoms.ensures.value c.deref-literals.ensures.value c.requires.posed in
-    let view = ap (λ (i : Inside). let p : PreparedState = record { log = i.log; form = i.form; sat = i.sat; given = i.given; above = i.above } in p) c.self-inside.view_is ∙ c.self-2.view_is in
-    let r = ready_excluded laws own c.covers_stay.ensures.stay first c.self.view_is c.in_ok-exclude.ensures.excludes view in
+    let laws = c.search_laws.ensures.laws in
+    let first = ready_as c.self.view_is c.deref-atoms.ensures.value c.deref-literals.ensures.value c.in_ok-ready.ensures.ready in
+    let r = ready_excluded laws first c.self.view_is c.in_ok-exclude.ensures.excludes (ap prepared_in c.self-inside.view_is ∙ c.self-2.view_is) in
     let new : PreparedState = record { log = c.solve.new.log; form = c.self-inside.inside.0.1.1.0; sat = c.solve.new.self; given = c.self-inside.inside.0.1.1.1.1.0; above = c.self-inside.inside.0.1.1.1.1.1.0 } in
     let ns = c.args.terms.now in
     let grows = c.solve.ensures.grows in
     on_ok c.solve.result
     (λ levels posed.
     let begun = r.posed levels posed in
-    let within = ids_within laws own begun r.handed in
-    posed_after own c.covers_stay.ensures.stay r new refl refl refl levels grows c.solve.ensures.held (named_searched laws own begun r.handed new grows refl c.solve.ensures.named)
-    (c.solve.ensures.sound ns levels (c.in_ok-theory.ensures.over ns begun.table (ids_within laws own (first.posed levels posed) first.handed)) within) begun)
+    let within = ids_within laws.rows laws.atoms begun r.handed in
+    posed_after laws.atoms laws.covers r new refl refl refl levels grows c.solve.ensures.held (named_searched laws.rows laws.atoms begun r.handed new grows refl c.solve.ensures.named)
+    (c.solve.ensures.sound ns levels (c.in_ok-theory.ensures.over ns begun.table (ids_within laws.rows laws.atoms (first.posed levels posed) first.handed)) within) begun)
 
 pub returns-clause-ends : goal.returns-clause-ends
 returns-clause-ends c =
-    let laws : RowLaws = record { sums = c.forms_are_sums.ensures.sums; operands = c.operands_are_sorted.ensures.sorted } in
-    let own = c.atoms_of_terms.ensures.atoms in
-    let first = is_ready own c.covers_stay.ensures.stay c.logs_stay.ensures.stay c.logs_stay_leveled.ensures.stay c.args.self.now c.self.view_is c.in_ok-named.ensures.rest c.in_ok-named.ensures.joins
-    c.in_ok-named.ensures.all c.in_ok-named.ensures.handed c.deref-atoms.ensures.value c.deref-literals.ensures.value c.requires.posed in
-    let view = ap (λ (i : Inside). let p : PreparedState = record { log = i.log; form = i.form; sat = i.sat; given = i.given; above = i.above } in p) c.self-inside.view_is ∙ c.self-2.view_is in
-    let r = ready_excluded laws own c.covers_stay.ensures.stay first c.self.view_is c.in_ok-exclude.ensures.excludes view in
+    let laws = c.search_laws.ensures.laws in
+    let first = ready_as c.self.view_is c.deref-atoms.ensures.value c.deref-literals.ensures.value c.in_ok-ready.ensures.ready in
+    let r = ready_excluded laws first c.self.view_is c.in_ok-exclude.ensures.excludes (ap prepared_in c.self-inside.view_is ∙ c.self-2.view_is) in
     let ns = c.args.terms.now in
     let assumed = c.args.assumed.now in
     let ends : (levels : List (List ℕ)) → IsPosed ns levels assumed c.args.self.now → Ends (IsAt c.solve.new.self.theory ns) ns (task_in ns levels assumed) c.solve.new.work c.solve.result = λ levels posed.
     let begun = r.posed levels posed in
     let was = first.posed levels posed in
     let q = task_in ns levels assumed in
-    c.solve.ensures.ends ns levels q (c.in_ok-theory.ensures.over ns begun.table (ids_within laws own was first.handed)) (is_asked laws own begun r.handed)
-    (c.in_ok-theory.ensures.stands ns q (may_begin laws own was first.handed)) in
+    c.solve.ensures.ends ns levels q (c.in_ok-theory.ensures.over ns begun.table (ids_within laws.rows laws.atoms was first.handed)) (is_asked laws.rows laws.atoms begun r.handed)
+    (c.in_ok-theory.ensures.stands ns q (may_begin laws.rows laws.atoms was first.handed)) in
     ends
 
 pub returns-clause-found : goal.returns-clause-found
 returns-clause-found c =
-    let laws : RowLaws = record { sums = c.forms_are_sums.ensures.sums; operands = c.operands_are_sorted.ensures.sorted } in
-    let own = c.atoms_of_terms.ensures.atoms in
-    let first = is_ready own c.covers_stay.ensures.stay c.logs_stay.ensures.stay c.logs_stay_leveled.ensures.stay c.args.self.now c.self.view_is c.in_ok-named.ensures.rest c.in_ok-named.ensures.joins
-    c.in_ok-named.ensures.all c.in_ok-named.ensures.handed c.deref-atoms.ensures.value c.deref-literals.ensures.value c.requires.posed in
-    let view = ap (λ (i : Inside). let p : PreparedState = record { log = i.log; form = i.form; sat = i.sat; given = i.given; above = i.above } in p) c.self-inside.view_is ∙ c.self-2.view_is in
-    let r = ready_excluded laws own c.covers_stay.ensures.stay first c.self.view_is c.in_ok-exclude.ensures.excludes view in
+    let laws = c.search_laws.ensures.laws in
+    let first = ready_as c.self.view_is c.deref-atoms.ensures.value c.deref-literals.ensures.value c.in_ok-ready.ensures.ready in
+    let r = ready_excluded laws first c.self.view_is c.in_ok-exclude.ensures.excludes (ap prepared_in c.self-inside.view_is ∙ c.self-2.view_is) in
     let new : PreparedState = record { log = c.solve.new.log; form = c.self-inside.inside.0.1.1.0; sat = c.solve.new.self; given = c.self-inside.inside.0.1.1.1.1.0; above = c.self-inside.inside.0.1.1.1.1.1.0 } in
     let ns = c.args.terms.now in
     let assumed = c.args.assumed.now in
@@ -175,37 +142,32 @@ returns-clause-found c =
     let begun = r.posed levels posed in
     let was = first.posed levels posed in
     let q = task_in ns levels assumed in
-    c.solve.ensures.ends ns levels q (c.in_ok-theory.ensures.over ns begun.table (ids_within laws own was first.handed)) (is_asked laws own begun r.handed)
-    (c.in_ok-theory.ensures.stands ns q (may_begin laws own was first.handed)) in
+    c.solve.ensures.ends ns levels q (c.in_ok-theory.ensures.over ns begun.table (ids_within laws.rows laws.atoms was first.handed)) (is_asked laws.rows laws.atoms begun r.handed)
+    (c.in_ok-theory.ensures.stands ns q (may_begin laws.rows laws.atoms was first.handed)) in
     let levels = c.requires.posed.0 in
     let atoms : c.self-inside.inside.0.1.0.atoms ≡ c.self.inside.log.atoms =
-    ap (λ (s : PreparedState). s.log.atoms) view ∙ c.in_ok-exclude.ensures.excludes.adds.keeps.atoms ∙ sym (ap (λ (s : PreparedState). s.log.atoms) c.self.view_is) in
+    ap (λ (s : PreparedState). s.log.atoms) (ap prepared_in c.self-inside.view_is ∙ c.self-2.view_is) ∙ c.in_ok-exclude.ensures.excludes.adds.keeps.atoms ∙ sym (ap (λ (s : PreparedState). s.log.atoms) c.self.view_is) in
     let of : IsOf c.solve.new.self.theory c.self-inside.inside.0.1.0.atoms c.deref-atoms.result.now =
     c.solve.ensures.of c.self-inside.inside.0.1.0.atoms c.deref-atoms.result.now (subst (λ (all : List Atom). IsOf c.in_ok-theory.theory all c.deref-atoms.result.now) (sym atoms) c.in_ok-theory.ensures.of) in
-    found_of laws own r.some.1 r.handed new c.solve.ensures.grows refl of (task_in ns levels assumed) c.solve.new.work c.solve.result c.solve.ensures.satisfied c.solve.ensures.feasible
+    found_of laws.rows laws.atoms r.some.1 r.handed new c.solve.ensures.grows refl of (task_in ns levels assumed) c.solve.new.work c.solve.result c.solve.ensures.satisfied c.solve.ensures.feasible
     (ends levels c.requires.posed.1)
 
 pub returns-clause-refuted : goal.returns-clause-refuted
 returns-clause-refuted c =
-    let laws : RowLaws = record { sums = c.forms_are_sums.ensures.sums; operands = c.operands_are_sorted.ensures.sorted } in
-    let own = c.atoms_of_terms.ensures.atoms in
-    let first = is_ready own c.covers_stay.ensures.stay c.logs_stay.ensures.stay c.logs_stay_leveled.ensures.stay c.args.self.now c.self.view_is c.in_ok-named.ensures.rest c.in_ok-named.ensures.joins
-    c.in_ok-named.ensures.all c.in_ok-named.ensures.handed c.deref-atoms.ensures.value c.deref-literals.ensures.value c.requires.posed in
-    let view = ap (λ (i : Inside). let p : PreparedState = record { log = i.log; form = i.form; sat = i.sat; given = i.given; above = i.above } in p) c.self-inside.view_is ∙ c.self-2.view_is in
-    let r = ready_excluded laws own c.covers_stay.ensures.stay first c.self.view_is c.in_ok-exclude.ensures.excludes view in
+    let laws = c.search_laws.ensures.laws in
+    let first = ready_as c.self.view_is c.deref-atoms.ensures.value c.deref-literals.ensures.value c.in_ok-ready.ensures.ready in
+    let r = ready_excluded laws first c.self.view_is c.in_ok-exclude.ensures.excludes (ap prepared_in c.self-inside.view_is ∙ c.self-2.view_is) in
     let new : PreparedState = record { log = c.solve.new.log; form = c.self-inside.inside.0.1.1.0; sat = c.solve.new.self; given = c.self-inside.inside.0.1.1.1.1.0; above = c.self-inside.inside.0.1.1.1.1.1.0 } in
     let grows = c.solve.ensures.grows in
     let log = c.solve.new.log in
-    refuted_by log c.args.assumed.now (named_have laws own r.some.1 r.handed new grows refl).named c.solve.result
-    (subst (λ (ls : List Lit). IfOk c.solve.result (λ o. IfSome o (λ id. IsLive log id × Refutes ls (literals_at log id)))) (named_lits laws own r.some.1 r.handed new grows refl) c.solve.ensures.refuted)
+    refuted_by log c.args.assumed.now (named_have laws.rows laws.atoms r.some.1 r.handed new grows refl).named c.solve.result
+    (subst (λ (ls : List Lit). IfOk c.solve.result (λ o. IfSome o (λ id. IsLive log id × Refutes ls (literals_at log id)))) (named_lits laws.rows laws.atoms r.some.1 r.handed new grows refl) c.solve.ensures.refuted)
 
 pub returns-clause-works : goal.returns-clause-works
 returns-clause-works c =
-    let laws : RowLaws = record { sums = c.forms_are_sums.ensures.sums; operands = c.operands_are_sorted.ensures.sorted } in
-    let own = c.atoms_of_terms.ensures.atoms in
-    let first = is_ready own c.covers_stay.ensures.stay c.logs_stay.ensures.stay c.logs_stay_leveled.ensures.stay c.args.self.now c.self.view_is c.in_ok-named.ensures.rest c.in_ok-named.ensures.joins
-    c.in_ok-named.ensures.all c.in_ok-named.ensures.handed c.deref-atoms.ensures.value c.deref-literals.ensures.value c.requires.posed in
-    works_solved c.args.terms.now c.self.inside.log.atoms c.deref-atoms.result.now c.args.work.now c.begun.new.work c.solve.new.work (ids_within laws own first.some.1 first.handed) c.begun.ensures.begun
+    let laws = c.search_laws.ensures.laws in
+    let first = ready_as c.self.view_is c.deref-atoms.ensures.value c.deref-literals.ensures.value c.in_ok-ready.ensures.ready in
+    works_solved c.args.terms.now c.self.inside.log.atoms c.deref-atoms.result.now c.args.work.now c.begun.new.work c.solve.new.work (ids_within laws.rows laws.atoms first.some.1 first.handed) c.begun.ensures.begun
     c.solve.ensures.notes c.solve.ensures.limit c.solve.ensures.within
 
 pub returns-clause-spent : goal.returns-clause-spent
