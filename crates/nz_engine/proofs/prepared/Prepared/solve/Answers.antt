@@ -1,14 +1,15 @@
 -- The atoms are named and noted, the theory learns of them, neighbouring bounds get their clauses, and the search runs over them.
-use Rattle.std.proofs.Common.{rules, ◌≡◌, ℕ, List, Option, Err, IfOk, refl, sym, ap, ◌∙◌, subst}
+use Rattle.std.proofs.Common.{rules, ◌≡◌, ℕ, List, Option, Result, Err, IfErr, IfOk, refl, sym, ap, ◌∙◌, subst}
 use Rattle.std.specs.Prelude.{IfSome}
 use Rattle.nz_lists.proofs.Results.{on_ok}
 use Rattle.nz_spec.specs.Work.{IsSpent}
 use Rattle.nz_log.specs.declared.atoms.Atom.{Atom}
 use Rattle.nz_log.specs.declared.lits.Lit.{Lit}
+use Rattle.nz_log.specs.declared.stop.Stop.{Stop}
 use Rattle.nz_log.specs.declared.stop.Stop.TheVariants.{Memory}
 use Rattle.nz_log.specs.Logs.{IsLive, literals_at}
 use Rattle.nz_log.specs.Standing.{Ends}
-use Rattle.nz_log.specs.Verdicts.{task_in}
+use Rattle.nz_log.specs.Verdicts.{OnSpent, task_in}
 use Rattle.nz_reals.specs.Stands.{IsAt, IsOf}
 use Rattle.nz_sat.specs.Conflicts.{Refutes}
 use Rattle.nz_engine.specs.Checking.{IsPosed}
@@ -23,26 +24,26 @@ use Rattle.nz_engine.proofs.prepared.Prepared.solve.Goals as goal
 pub ready-requires : goal.ready-requires
 ready-requires c = record { posed = c.requires.posed }
 
-pub returns-in_err-ready-clause-ends : goal.returns-in_err-ready-clause-ends
-returns-in_err-ready-clause-ends c = λ levels posed.
+pub returns-in_err-named-clause-ends : goal.returns-in_err-named-clause-ends
+returns-in_err-named-clause-ends c = λ levels posed.
     let same : Err Memory ≡ c.from_residual.result = search rules in
     let ns = c.args.terms.now in
     let q = task_in ns levels c.args.assumed.now in
     err_ends (Option ℕ) _ ns q c.args.work.now Memory _ same (legal_none q ns c.args.work.now c.requires.no_steps)
 
-pub returns-in_err-ready-clause-works : goal.returns-in_err-ready-clause-works
-returns-in_err-ready-clause-works c = works_none c.args.terms.now c.args.work.now c.requires.no_steps
+pub returns-in_err-named-clause-works : goal.returns-in_err-named-clause-works
+returns-in_err-named-clause-works c = works_none c.args.terms.now c.args.work.now c.requires.no_steps
 
 pub begun-requires-clause-learnable : goal.begun-requires-clause-learnable
 begun-requires-clause-learnable c =
     let laws = c.search_laws.ensures.laws in
-    let r = ready_as c.self.view_is c.deref-atoms.ensures.value c.deref-literals.ensures.value c.in_ok-ready.ensures.ready in
+    let r = ready_as c.self.view_is c.deref-atoms.ensures.value c.deref-literals.ensures.value c.in_ok-named.ensures.ready in
     ids_learnable laws.rows laws.atoms r.some.1 r.handed
 
 pub returns-in_err-theory-clause-ends : goal.returns-in_err-theory-clause-ends
 returns-in_err-theory-clause-ends c =
     let laws = c.search_laws.ensures.laws in
-    let r = ready_as c.self.view_is c.deref-atoms.ensures.value c.deref-literals.ensures.value c.in_ok-ready.ensures.ready in
+    let r = ready_as c.self.view_is c.deref-atoms.ensures.value c.deref-literals.ensures.value c.in_ok-named.ensures.ready in
     let ns = c.args.terms.now in
     λ levels posed.
     let same : Err c.in_err-theory.field-0.0 ≡ c.from_residual-in_err-theory.result = search rules in
@@ -52,13 +53,13 @@ returns-in_err-theory-clause-ends c =
 pub returns-in_err-theory-clause-works : goal.returns-in_err-theory-clause-works
 returns-in_err-theory-clause-works c =
     let laws = c.search_laws.ensures.laws in
-    let r = ready_as c.self.view_is c.deref-atoms.ensures.value c.deref-literals.ensures.value c.in_ok-ready.ensures.ready in
+    let r = ready_as c.self.view_is c.deref-atoms.ensures.value c.deref-literals.ensures.value c.in_ok-named.ensures.ready in
     works_begun c.args.terms.now c.self.inside.log.atoms c.deref-atoms.result.now c.args.work.now c.begun.new.work (ids_within laws.rows laws.atoms r.some.1 r.handed) c.begun.ensures.begun
 
 pub returns-in_err-exclude-clause-ends : goal.returns-in_err-exclude-clause-ends
 returns-in_err-exclude-clause-ends c =
     let laws = c.search_laws.ensures.laws in
-    let first = ready_as c.self.view_is c.deref-atoms.ensures.value c.deref-literals.ensures.value c.in_ok-ready.ensures.ready in
+    let first = ready_as c.self.view_is c.deref-atoms.ensures.value c.deref-literals.ensures.value c.in_ok-named.ensures.ready in
     let ns = c.args.terms.now in
     λ levels posed.
     let same : Err Memory ≡ c.from_residual-in_err-exclude.result = search (rules, c.from_residual-in_err-exclude.ensures, c.in_err-exclude.is, c.in_err-exclude.was) in
@@ -66,44 +67,49 @@ returns-in_err-exclude-clause-ends c =
     let stands = c.in_ok-theory.ensures.stands ns q (may_begin laws.rows laws.atoms (first.posed levels posed) first.handed) in
     err_ends (Option ℕ) _ ns q c.begun.new.work Memory _ same (stands.point, stands.legal)
 
+pub returns-in_err-exclude-clause-spent : goal.returns-in_err-exclude-clause-spent
+returns-in_err-exclude-clause-spent c =
+    let same : Err Memory ≡ c.from_residual-in_err-exclude.result = search (rules, c.from_residual-in_err-exclude.ensures, c.in_err-exclude.is, c.in_err-exclude.was) in
+    subst (λ (r : Result (Option ℕ) Stop). IfErr r (λ s. OnSpent s (IsSpent c.begun.new.work))) same tt
+
 pub returns-in_err-exclude-clause-works : goal.returns-in_err-exclude-clause-works
 returns-in_err-exclude-clause-works c =
     let laws = c.search_laws.ensures.laws in
-    let first = ready_as c.self.view_is c.deref-atoms.ensures.value c.deref-literals.ensures.value c.in_ok-ready.ensures.ready in
+    let first = ready_as c.self.view_is c.deref-atoms.ensures.value c.deref-literals.ensures.value c.in_ok-named.ensures.ready in
     works_begun c.args.terms.now c.self.inside.log.atoms c.deref-atoms.result.now c.args.work.now c.begun.new.work (ids_within laws.rows laws.atoms first.some.1 first.handed) c.begun.ensures.begun
 
 pub solve-requires-clause-held : goal.solve-requires-clause-held
 solve-requires-clause-held c =
     let laws = c.search_laws.ensures.laws in
-    let first = ready_as c.self.view_is c.deref-atoms.ensures.value c.deref-literals.ensures.value c.in_ok-ready.ensures.ready in
+    let first = ready_as c.self.view_is c.deref-atoms.ensures.value c.deref-literals.ensures.value c.in_ok-named.ensures.ready in
     let r = ready_excluded laws first c.self.view_is c.in_ok-exclude.ensures.excludes (ap prepared_in c.self-inside.view_is ∙ c.self-2.view_is) in
     r.some.1.standing.raised.held
 
 pub solve-requires-clause-named : goal.solve-requires-clause-named
 solve-requires-clause-named c =
     let laws = c.search_laws.ensures.laws in
-    let first = ready_as c.self.view_is c.deref-atoms.ensures.value c.deref-literals.ensures.value c.in_ok-ready.ensures.ready in
+    let first = ready_as c.self.view_is c.deref-atoms.ensures.value c.deref-literals.ensures.value c.in_ok-named.ensures.ready in
     let r = ready_excluded laws first c.self.view_is c.in_ok-exclude.ensures.excludes (ap prepared_in c.self-inside.view_is ∙ c.self-2.view_is) in
     are_named laws.rows laws.atoms r.some.1 r.handed
 
 pub solve-requires-clause-told_terms : goal.solve-requires-clause-told_terms
 solve-requires-clause-told_terms c =
     let laws = c.search_laws.ensures.laws in
-    let first = ready_as c.self.view_is c.deref-atoms.ensures.value c.deref-literals.ensures.value c.in_ok-ready.ensures.ready in
+    let first = ready_as c.self.view_is c.deref-atoms.ensures.value c.deref-literals.ensures.value c.in_ok-named.ensures.ready in
     let r = ready_excluded laws first c.self.view_is c.in_ok-exclude.ensures.excludes (ap prepared_in c.self-inside.view_is ∙ c.self-2.view_is) in
     ids_told laws.rows laws.atoms r.some.1 r.handed
 
 pub solve-requires-clause-consistent : goal.solve-requires-clause-consistent
 solve-requires-clause-consistent c =
     let laws = c.search_laws.ensures.laws in
-    let first = ready_as c.self.view_is c.deref-atoms.ensures.value c.deref-literals.ensures.value c.in_ok-ready.ensures.ready in
+    let first = ready_as c.self.view_is c.deref-atoms.ensures.value c.deref-literals.ensures.value c.in_ok-named.ensures.ready in
     let r = ready_excluded laws first c.self.view_is c.in_ok-exclude.ensures.excludes (ap prepared_in c.self-inside.view_is ∙ c.self-2.view_is) in
     are_consistent laws.rows laws.atoms r.some.1 r.handed c.requires.consistent
 
 pub returns-clause-posed : goal.returns-clause-posed
 returns-clause-posed c =
     let laws = c.search_laws.ensures.laws in
-    let first = ready_as c.self.view_is c.deref-atoms.ensures.value c.deref-literals.ensures.value c.in_ok-ready.ensures.ready in
+    let first = ready_as c.self.view_is c.deref-atoms.ensures.value c.deref-literals.ensures.value c.in_ok-named.ensures.ready in
     let r = ready_excluded laws first c.self.view_is c.in_ok-exclude.ensures.excludes (ap prepared_in c.self-inside.view_is ∙ c.self-2.view_is) in
     let new : PreparedState = record { log = c.solve.new.log; form = c.self-inside.inside.0.1.1.0; sat = c.solve.new.self; given = c.self-inside.inside.0.1.1.1.1.0; above = c.self-inside.inside.0.1.1.1.1.1.0 } in
     let ns = c.args.terms.now in
@@ -118,7 +124,7 @@ returns-clause-posed c =
 pub returns-clause-ends : goal.returns-clause-ends
 returns-clause-ends c =
     let laws = c.search_laws.ensures.laws in
-    let first = ready_as c.self.view_is c.deref-atoms.ensures.value c.deref-literals.ensures.value c.in_ok-ready.ensures.ready in
+    let first = ready_as c.self.view_is c.deref-atoms.ensures.value c.deref-literals.ensures.value c.in_ok-named.ensures.ready in
     let r = ready_excluded laws first c.self.view_is c.in_ok-exclude.ensures.excludes (ap prepared_in c.self-inside.view_is ∙ c.self-2.view_is) in
     let ns = c.args.terms.now in
     let assumed = c.args.assumed.now in
@@ -133,7 +139,7 @@ returns-clause-ends c =
 pub returns-clause-found : goal.returns-clause-found
 returns-clause-found c =
     let laws = c.search_laws.ensures.laws in
-    let first = ready_as c.self.view_is c.deref-atoms.ensures.value c.deref-literals.ensures.value c.in_ok-ready.ensures.ready in
+    let first = ready_as c.self.view_is c.deref-atoms.ensures.value c.deref-literals.ensures.value c.in_ok-named.ensures.ready in
     let r = ready_excluded laws first c.self.view_is c.in_ok-exclude.ensures.excludes (ap prepared_in c.self-inside.view_is ∙ c.self-2.view_is) in
     let new : PreparedState = record { log = c.solve.new.log; form = c.self-inside.inside.0.1.1.0; sat = c.solve.new.self; given = c.self-inside.inside.0.1.1.1.1.0; above = c.self-inside.inside.0.1.1.1.1.1.0 } in
     let ns = c.args.terms.now in
@@ -155,7 +161,7 @@ returns-clause-found c =
 pub returns-clause-refuted : goal.returns-clause-refuted
 returns-clause-refuted c =
     let laws = c.search_laws.ensures.laws in
-    let first = ready_as c.self.view_is c.deref-atoms.ensures.value c.deref-literals.ensures.value c.in_ok-ready.ensures.ready in
+    let first = ready_as c.self.view_is c.deref-atoms.ensures.value c.deref-literals.ensures.value c.in_ok-named.ensures.ready in
     let r = ready_excluded laws first c.self.view_is c.in_ok-exclude.ensures.excludes (ap prepared_in c.self-inside.view_is ∙ c.self-2.view_is) in
     let new : PreparedState = record { log = c.solve.new.log; form = c.self-inside.inside.0.1.1.0; sat = c.solve.new.self; given = c.self-inside.inside.0.1.1.1.1.0; above = c.self-inside.inside.0.1.1.1.1.1.0 } in
     let grows = c.solve.ensures.grows in
@@ -166,7 +172,7 @@ returns-clause-refuted c =
 pub returns-clause-works : goal.returns-clause-works
 returns-clause-works c =
     let laws = c.search_laws.ensures.laws in
-    let first = ready_as c.self.view_is c.deref-atoms.ensures.value c.deref-literals.ensures.value c.in_ok-ready.ensures.ready in
+    let first = ready_as c.self.view_is c.deref-atoms.ensures.value c.deref-literals.ensures.value c.in_ok-named.ensures.ready in
     works_solved c.args.terms.now c.self.inside.log.atoms c.deref-atoms.result.now c.args.work.now c.begun.new.work c.solve.new.work (ids_within laws.rows laws.atoms first.some.1 first.handed) c.begun.ensures.begun
     c.solve.ensures.notes c.solve.ensures.limit c.solve.ensures.within
 
