@@ -1,11 +1,11 @@
 //! What is covered of a table. What a call asks of its arguments is tested here, or is the invariant, which is known to no other file: so the tests
 //! have nothing to prove.
-use crate::taken::need_taken;
 use nz_base::Memory;
 use nz_cform::laws::covers_stay;
 use nz_cform::{ClauseForm, FormStop};
 use nz_log::Log;
 use nz_term::{TermId, Terms, add_companions};
+use nz_taken_samples::need_taken;
 use std::alloc::Global;
 use std::marker::Model;
 
@@ -56,7 +56,7 @@ impl Cover {
         if !self.is_known || level < self.level || self.terms.len() <= id {
             return Err(FormStop::Memory);
         }
-        need_taken(&self.terms, id)?;
+        need_taken(&self.terms)?;
         self.is_known = false;
         self.level = level;
         let clauses = self

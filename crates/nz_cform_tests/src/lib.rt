@@ -7,5 +7,3 @@ mod cover;
 mod form;
 #[cfg(test)]
 mod rows;
-#[cfg(test)]
-mod taken;
