@@ -8,7 +8,7 @@ use Rattle.nz_spec.specs.Decide.{IsFrontOfTable}
 use Rattle.nz_spec.specs.Gates.{is_boolean_term}
 use Rattle.nz_spec.specs.Table.{Node}
 use Rattle.nz_engine.specs.Engines.{EngineState}
-use Rattle.nz_term.specs.Growth.{KeepsTerms}
+use Rattle.nz_term.specs.Growth.{Grows, KeepsTerms}
 use Rattle.nz_engine_tests.specs.Benches.{Extends, IsFormula, IsInOrder, IsReady}
 
 -- ---- Tables
@@ -54,3 +54,7 @@ pub made_in_order : {E : Type 0} (old new : List Node) (n : Node) (engine : Engi
     → OnErr r (new ≡ old) → IsInOrder old engine depth → IsInOrder new engine depth
 made_in_order old new n engine depth (Ok id) grown stays same order = order_stays old new engine depth (extends old new n grown stays) order
 made_in_order old new n engine depth (Err x) grown stays same order = subst (λ (ns : List Node). IsInOrder ns engine depth) (sym same) order
+
+-- and where companions join it
+pub completed_in_order : (old new : List Node) (engine : EngineState) (depth : ℕ) → Grows old new → IsInOrder old engine depth → IsInOrder new engine depth
+completed_in_order old new engine depth grows order = order_stays old new engine depth (record { more = grows.more; all = grows.all; stays = grows.stays }) order

@@ -3,7 +3,6 @@ use Rattle.std.specs.Prelude.{◌≡◌, ℕ, ◌<◌, ◌++◌, true, List, len
 use Rattle.nz_spec.specs.Decide.{asserted_numbers, IsFrontOfTable}
 use Rattle.nz_spec.specs.Gates.{is_boolean_term}
 use Rattle.nz_spec.specs.Table.{Node, term_in}
-use Rattle.nz_spec.specs.Taken.{IsTaken}
 use Rattle.nz_log.specs.declared.term_lits.TermLit.{TermLit}
 use Rattle.nz_engine.specs.Engines.{EngineState}
 
@@ -11,10 +10,6 @@ use Rattle.nz_engine.specs.Engines.{EngineState}
 pub record IsFormula (ns : List Node) (i : ℕ) : Type 0 where
   pub within : i < length ns
   pub boolean : is_boolean_term (term_in ns i) ≡ true
-
--- checks take each term of the table
-abbrev pub AreTaken : List Node → Type 0
-AreTaken ns = (i : ℕ) → i < length ns → IsTaken (term_in ns i)
 
 -- The table goes on, and each number stands for the term that it stood for.
 pub record Extends (old new : List Node) : Type 0 where

@@ -1,6 +1,6 @@
 //! An engine with its table. What a call asks of its arguments is tested here, so that the tests have nothing to prove: the bench's invariant
 //! is known to no other file.
-ghost use Rattle.std.specs.Prelude.{◌≡◌, All, IsTrue, OnOk};
+ghost use Rattle.std.specs.Prelude.{◌≡◌, All, IsTrue, OnOk, length};
 ghost use Rattle.std.specs.Bool.{OnTrue};
 ghost use Rattle.nz_spec.specs.Decide.{IsFrontOfTable};
 ghost use Rattle.nz_spec.specs.Order.{HasCompanions};
@@ -8,15 +8,16 @@ ghost use Rattle.nz_spec.specs.Table.{HasItsArguments};
 ghost use Rattle.nz_spec.specs.Term.{head_fits};
 ghost use Rattle.nz_term.specs.Heads.{head_of};
 ghost use Rattle.nz_log.specs.TermLits.{AreConsistent};
-ghost use Rattle.nz_engine_tests.specs.Benches.{AreFormulaLits, AreTaken, IsFormula, IsReady};
+ghost use Rattle.nz_taken_samples.specs.Sorted.{AreTaken};
+ghost use Rattle.nz_engine_tests.specs.Benches.{AreFormulaLits, IsFormula, IsReady};
 
-use crate::taken::need_taken;
 use nz_base::{Memory, Text, Work};
 use nz_engine::Engine;
 use nz_log::{Decide, Stop, TermLit, Verdict};
 use nz_term::{
     Constant, Head, Operator, Sort, TermId, Terms, add_companions, operators_are_no_leaves,
 };
+use nz_taken_samples::need_taken;
 use nz_term_samples::are_below;
 use std::alloc::Global;
 use std::marker::Model;
@@ -132,10 +133,17 @@ impl Bench {
         Ok(true)
     }
 
+    /// Makes the companions of all terms.
+    fn complete(&mut self) -> Result<(), Memory>
+        ensures companions { OnOk result (HasCompanions self.new.terms) }
+    {
+        add_companions(self.alloc, &mut self.terms, 0)
+    }
+
     /// Asks whether what is asserted and these literals can all be true, with so many units. All terms of the table are to be such that checks take
     /// them.
     pub fn check(&mut self, assumed: &[TermLit], units: u64) -> Result<Answer, Memory> {
-        add_companions(self.alloc, &mut self.terms, 0)?;
+        self.complete()?;
         need_taken(&self.terms)?;
         if !name_formulas(&self.terms, assumed) {
             return Ok(Answer::Unasked);
@@ -192,7 +200,7 @@ fn ask(
 ) -> Result<Answer, Memory>
     requires ready { IsReady terms.now engine.old }
     requires companions { HasCompanions terms.now }
-    requires taken { AreTaken terms.now }
+    requires taken { AreTaken terms.now (length terms.now) }
     requires formulas { AreFormulaLits terms.now assumed.now }
     ensures levels { engine.new.levels ≡ engine.old.levels }
     ensures front { IsFrontOfTable engine.new.table terms.now }

@@ -12,6 +12,4 @@ mod levels;
 #[cfg(test)]
 mod rows;
 #[cfg(test)]
-mod taken;
-#[cfg(test)]
 mod trial;
