@@ -14,10 +14,10 @@ ghost use Rattle.nz_engine_tests.specs.Benches.{AreFormulaLits, IsFormula, IsRea
 use nz_base::{Memory, Text, Work};
 use nz_engine::Engine;
 use nz_log::{Decide, Stop, TermLit, Verdict};
+use nz_taken_samples::need_taken;
 use nz_term::{
     Constant, Head, Operator, Sort, TermId, Terms, add_companions, operators_are_no_leaves,
 };
-use nz_taken_samples::need_taken;
 use nz_term_samples::are_below;
 use std::alloc::Global;
 use std::marker::Model;
