@@ -1,4 +1,6 @@
 //! Seeded problems, whose scripts are answered as the plain decision says.
+ghost use Rattle.std.specs.Prelude.{◌<◌};
+
 use crate::patterns::is_satisfiable;
 use crate::problem::{
     Assertion, Atom, COMPARISONS, Choice, Comparison, Joint, Literal, NUMBERS, Problem, Relation,
@@ -23,7 +25,9 @@ struct Seed {
 
 impl Seed {
     /// The next number below a bound, which is from 1 to 100.
-    fn below(&mut self, bound: u64) -> u64 {
+    fn below(&mut self, bound: u64) -> u64
+        ensures small { result < 100 }
+    {
         self.state = self
             .state
             .wrapping_mul(6364136223846793005)
