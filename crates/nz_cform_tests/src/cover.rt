@@ -4,8 +4,8 @@ use nz_base::Memory;
 use nz_cform::laws::covers_stay;
 use nz_cform::{ClauseForm, FormStop};
 use nz_log::Log;
-use nz_term::{TermId, Terms, add_companions};
 use nz_taken_samples::need_taken;
+use nz_term::{TermId, Terms, add_companions};
 use std::alloc::Global;
 use std::marker::Model;
 
