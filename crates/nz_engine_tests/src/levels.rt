@@ -20,19 +20,30 @@ const NOT_P: &[Part] = &[Atom(0), Not];
 
 const NOT_Q: &[Part] = &[Atom(1), Not];
 
+/// Does one of these, at its place.
+fn perform(trial: &mut Trial, place: usize, act: &Act) -> Result<(), Fail> {
+    match act {
+        Act::Push => trial.push()?,
+        Act::Pop => trial.pop(),
+        Act::Assert(formula) => trial.assert(formula)?,
+        Act::Ask(assumed, wanted) => trial.expect(place, assumed, 100, *wanted)?,
+        Act::AskAtOnce(assumed, wanted) => trial.expect(place, assumed, 0, *wanted)?,
+    }
+    Ok(())
+}
+
+/// Does these one after another.
+fn perform_all(trial: &mut Trial, acts: &'static [Act]) -> Result<(), Fail> {
+    for (place, act) in acts.iter().enumerate() {
+        perform(trial, place, act)?;
+    }
+    Ok(())
+}
+
 /// Does these one after another, over three constants.
 fn run(alloc: Global, acts: &'static [Act]) -> Result<(), Fail> {
     let mut trial = Trial::new(alloc, 3)?;
-    for (place, act) in acts.iter().enumerate() {
-        match act {
-            Act::Push => trial.push()?,
-            Act::Pop => trial.pop(),
-            Act::Assert(formula) => trial.assert(formula)?,
-            Act::Ask(assumed, wanted) => trial.expect(place, assumed, 100, *wanted)?,
-            Act::AskAtOnce(assumed, wanted) => trial.expect(place, assumed, 0, *wanted)?,
-        }
-    }
-    Ok(())
+    perform_all(&mut trial, acts)
 }
 
 const LEVELS: &[Act] = &[
@@ -153,13 +164,18 @@ fn do_by(trial: &mut Trial, place: usize, number: u32) -> Result<(), Fail> {
     Ok(())
 }
 
+/// Does so many things, as numbers that look random say.
+fn do_seeded(trial: &mut Trial, count: usize) -> Result<(), Fail> {
+    let mut number: u32 = 1;
+    for place in 0..count {
+        number = number.wrapping_mul(1_664_525).wrapping_add(1_013_904_223);
+        do_by(trial, place, number)?;
+    }
+    Ok(())
+}
+
 #[test]
 fn an_engine_answers_as_one_that_is_new(rt: HostRuntime) -> Result<(), Fail> {
     let mut trial = Trial::new(rt.alloc(), 6)?;
-    let mut number: u32 = 1;
-    for place in 0..150 {
-        number = number.wrapping_mul(1_664_525).wrapping_add(1_013_904_223);
-        do_by(&mut trial, place, number)?;
-    }
-    Ok(())
+    do_seeded(&mut trial, 150)
 }
