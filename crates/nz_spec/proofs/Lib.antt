@@ -50,6 +50,7 @@ pub mod NormalGates
 pub mod NormalHeads
 pub mod NormalSorts
 pub mod OperandSorts
+pub mod OverConstants
 pub mod Pieces
 pub mod PivotRuns
 pub mod Placed
