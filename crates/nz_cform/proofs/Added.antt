@@ -5,10 +5,10 @@ use Rattle.std.specs.List.{AllPairs}
 use Rattle.std.proofs.lemmas.List.{append-nil, drop_at, take_rest}
 use Rattle.std.proofs.lemmas.List.Elements.{All-append, All-cons, All-contains, All-nil, All-weaker, All-contains_itself, Contains-append_cases, Contains-append_left, Contains-append_right, Contains-push_cases}
 use Rattle.std.proofs.lemmas.List.Kept.{AllPairs-cons}
+use Rattle.nz_lists.proofs.Numbers.{same_or_other}
 use Rattle.nz_spec.specs.Table.{Node}
 use Rattle.nz_log.specs.Logs.{Entry, JoinsAtoms, LogState, entry_at, IsLive, Puts, row_term}
 use Rattle.nz_log.specs.Sound.{IsLog}
-use Rattle.nz_log.proofs.Soundness.{same_or_other}
 use Rattle.nz_cform.specs.Covering.{AddsRows, AreAdded, GoesOn, IsRowAt, Keeps}
 use Rattle.nz_cform.proofs.Elements.{has_first, has_behind}
 use Rattle.nz_cform.proofs.Kept.{row_kept, row_live}

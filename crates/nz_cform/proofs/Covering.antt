@@ -2,6 +2,7 @@
 use Rattle.std.proofs.Common.{◌≡◌, ◌≢◌, ℕ, ◌<◌, ◌≤◌, inl, inr, List, Option, Some, None, length, refl, sym, ap, subst, ◌∙◌, arith}
 use Rattle.std.specs.Prelude.{All, Contains, IsSome, slice_get, unwrap_or}
 use Rattle.std.proofs.lemmas.List.Elements.{All-contains}
+use Rattle.nz_lists.proofs.Numbers.{same_or_other}
 use Rattle.nz_spec.specs.FormOf.{number_in}
 use Rattle.nz_spec.specs.Links.{link_clauses}
 use Rattle.nz_spec.specs.Table.{Node, term_in}
@@ -11,7 +12,6 @@ use Rattle.nz_log.specs.Axioms.{link_of, unit_of}
 use Rattle.nz_log.specs.Logs.{axiom_of, LogState, entry_at, level_at, told_of, told_level, lowest}
 use Rattle.nz_log.specs.TermLits.{gates_at}
 use Rattle.nz_log.proofs.Extending.{same_stay}
-use Rattle.nz_log.proofs.Soundness.{same_or_other}
 use Rattle.nz_cform.specs.Listings.{Grows, IsListedWithin, Takes, listed_at}
 use Rattle.nz_cform.specs.Forms.{FormState, covered_at}
 use Rattle.nz_cform.specs.Covering.{AreAdded, AreBoundsListed, AreBoundsOf, AreNamed, HasBound, HasBounds, HasRows, HasRowsBelow, IsRowAt, Keeps, gate_clause}

@@ -6,8 +6,8 @@ use Rattle.std.proofs.lemmas.List.{length-map}
 use Rattle.std.proofs.lemmas.List.Elements.{All-contains, All-contains_itself, All-from_recursion, All-weaker, Contains-append_left, Contains-push, recursion_from_All}
 use Rattle.std.proofs.lemmas.Bool.{or_cases}
 use Rattle.nz_lists.proofs.Places.{slice_index_or-map}
+use Rattle.nz_lists.proofs.Elements.{AllByRecursion-put}
 use Rattle.nz_spec.specs.Literal.{with_one, once}
-use Rattle.nz_log.proofs.Members.{each-put}
 
 -- ---- Fronts and places
 
@@ -52,7 +52,7 @@ module _ {X Y : Type 0} (f : X → Y) where
 module _ {X : Type 0} (same : X → X → Bool) where
   -- what holds of each holds of each of the set
   pub each_once : (P : X → Type 0) (xs : List X) → AllByRecursion P xs → AllByRecursion P (once same xs)
-  each_once P xs h = each-put P same xs [] tt h
+  each_once P xs h = AllByRecursion-put P same xs [] tt h
 
   -- the set has no other
   pub once_from : (xs : List X) (x : X) → Contains (once same xs) x → Contains xs x

@@ -6,8 +6,8 @@ use Rattle.std.proofs.lemmas.List.{append-nil}
 use Rattle.std.proofs.lemmas.List.Elements.{All-contains, Contains-get_or, filter_passes}
 use Rattle.std.proofs.lemmas.List.Kept.{AllPairs-filter}
 use Rattle.std.proofs.lemmas.List.Quantifiers.{all_pairs_push}
+use Rattle.nz_lists.proofs.Numbers.{same_or_other}
 use Rattle.nz_log.specs.Logs.{told_below}
-use Rattle.nz_log.proofs.Soundness.{same_or_other}
 use Rattle.nz_cform.specs.Listings.{ListingState, listed_at, IsListing, Takes, Grows, Cuts}
 
 -- ---- Options

@@ -3,6 +3,8 @@ use Rattle.std.proofs.Common.{◌≡◌, ℕ, suc, ◌<◌, ◌≤◌, ◌⊎◌
 use Rattle.std.specs.Prelude.{Contains, IsSome, option_map, unwrap_or, slice_index_or}
 use Rattle.std.specs.List.{AllByRecursion}
 use Rattle.std.proofs.lemmas.Option.{slice_get_within}
+use Rattle.std.proofs.lemmas.List.Elements.{recursion_from_All}
+use Rattle.nz_lists.proofs.Numbers.{same_or_other}
 use Rattle.nz_spec.specs.Same.{TellsTerms}
 use Rattle.nz_spec.specs.FormOf.{number_in, UnitsAreParts}
 use Rattle.nz_spec.specs.Links.{link_clauses}
@@ -17,8 +19,6 @@ use Rattle.nz_log.specs.Axioms.{Axiom, link_of, unit_of, farkas_of, branch_of, c
 use Rattle.nz_log.specs.Lits.{are_same_lit}
 use Rattle.nz_log.specs.Logs.{Origin, assertion_of, gate_of, axiom_of, chain_of, Entry, LogState, axiom_entry, entry_at, gate_entry, level_at, row_term, told_of, told_level, Puts, PutsAxiom}
 use Rattle.nz_log.specs.TermLits.{gates_at}
-use Rattle.nz_log.proofs.Members.{each_of}
-use Rattle.nz_log.proofs.Soundness.{same_or_other}
 use Rattle.nz_cform.specs.Forms.{FormState, covered_at}
 use Rattle.nz_cform.specs.Covering.{AreNamed, HasClause, HasGate, HasRowsBelow, IsBelow, IsOnAtoms, IsRowAt, gate_clause, gate_terms, origin_at}
 use Rattle.nz_cform.proofs.Added.{put_kept}
@@ -228,7 +228,7 @@ module _ (own : AtomsOfTerms) (ns : List Node) (old new : LogState) (s : FormSta
   gate_on l h =
       each_has (λ (m : Lit). m.atom < length new.atoms) gate.literals l
       (each_once are_same_lit (λ (m : Lit). m.atom < length new.atoms) (lits_of new.atoms (gate_terms ns t k))
-      (lits_on (gate_terms ns t k) (each_of (λ (m : TermLit). HasTerm new.atoms m.term) (gate_terms ns t k) there)))
+      (lits_on (gate_terms ns t k) (recursion_from_All (λ (m : TermLit). HasTerm new.atoms m.term) (gate_terms ns t k) there)))
       h
 
   pub gate_more : HasRowsBelow ns new s t (suc k) 0 0

@@ -5,5 +5,6 @@ pub mod Laws
 pub mod Order
 pub mod Quotients
 pub mod Rounding
+pub mod Signs
 pub mod Solver
 pub mod Zeros

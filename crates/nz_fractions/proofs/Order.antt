@@ -1,5 +1,5 @@
 -- The tests that compare fractions: what each answer says, and the laws of `Eq` and `Ord`.
-use Rattle.std.proofs.Common.{◌≡◌, true, false, IsTrue, inl, inr, pos, ◌*ℤ◌, ◌<ℤ◌, refl, arith, sym, ◌∙◌, subst, true≢false, Ordering, Less, Equal, Greater}
+use Rattle.std.proofs.Common.{◌≡◌, Bool, true, false, cond, is_lt, int_lt, IsTrue, inl, inr, pos, ◌*ℤ◌, ◌<ℤ◌, refl, arith, sym, ◌∙◌, subst, true≢false, Ordering, Less, Equal, Greater}
 use Rattle.std.proofs.lemmas.Int.{ints}
 use Rattle.std.specs.Ordering.{MatchOrdering, eq_by_cmp, as_partial_cmp}
 use Rattle.std.specs.Cmp.{IsPartialEquivalence, IsEquivalence, IsTotalOrder, IsPartialOrder, eq_by_cmp_equiv, partial_equiv_from_equiv, partial_order_from_agreeing_total, int_cmp_total, int_ranks, int_cmp_is, signed_Decides}
@@ -28,6 +28,16 @@ fraction_ranked x y o e = subst (λ (k : Ordering). MatchOrdering k (x <ℚ y) (
 pub fraction_cmp_is : (x y : Fraction) (o : Ordering) → MatchOrdering o (x <ℚ y) (x =ℚ y) (y <ℚ x) → o ≡ fraction_cmp x y
 unfolding fraction_cmp
 fraction_cmp_is x y o h = int_cmp_is (x.numerator *ℤ pos (denominator y)) (y.numerator *ℤ pos (denominator x)) o (uncrossed x y o h)
+
+-- two tests tell the same
+pub lt-cmp : (p q : Fraction) → fraction_lt p q ≡ is_lt (fraction_cmp p q)
+unfolding fraction_lt fraction_cmp
+lt-cmp p q = by_tests (int_lt (p.numerator *ℤ pos (denominator q)) (q.numerator *ℤ pos (denominator p))) (int_lt (q.numerator *ℤ pos (denominator p)) (p.numerator *ℤ pos (denominator q)))
+  where
+    by_tests : (a b : Bool) → a ≡ is_lt (cond a Less (cond b Greater Equal))
+    by_tests true b = refl
+    by_tests false true = refl
+    by_tests false false = refl
 
 moved : (x y z : Fraction) → x =ℚ y → (o : Ordering) → MatchOrdering o (y <ℚ z) (y =ℚ z) (z <ℚ y) → MatchOrdering o (x <ℚ z) (x =ℚ z) (z <ℚ x)
 moved x y z e Less h = ≤ℚ-<ℚ_trans (≤ℚ-from_eq e) h

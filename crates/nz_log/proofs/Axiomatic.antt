@@ -2,6 +2,7 @@
 use Rattle.std.proofs.Common.{◌≡◌, ℕ, ◌<◌, Bool, List, [], ◌∷◌, ◌++◌, Some, None, Result, if◌then◌else◌, inl, inr, refl, sym, ap, subst, ◌∙◌, arith, true≢false}
 use Rattle.std.specs.Prelude.{IsTrue, IfOk, IsSome, OnErr}
 use Rattle.std.proofs.lemmas.Bool.Decides.{eqb_tells}
+use Rattle.nz_lists.proofs.Elements.{AllByRecursion-put}
 use Rattle.nz_spec.specs.Computation.{at_once, turned_into}
 use Rattle.nz_spec.specs.Farkas as farkas
 use Rattle.nz_spec.specs.Farkas.{farkas_clause, is_contradiction, negations_of}
@@ -24,7 +25,6 @@ use Rattle.nz_log.specs.Theories.{Grows}
 use Rattle.nz_log.proofs.Agreeing.{clause_named, literal_turned}
 use Rattle.nz_log.proofs.Extending.{all_wider, axiom_in_wider, clause_stays, step_stays}
 use Rattle.nz_log.proofs.Leveled.{logs_stay_leveled}
-use Rattle.nz_log.proofs.Members.{each-put}
 use Rattle.nz_log.proofs.Soundness.{rule_in_order}
 
 -- ---- Any of them
@@ -87,7 +87,7 @@ module _ (ns : List Node) (atoms : List Atom) where
   refuted ms = once are_same_lit (negated_lits ms)
 
   pub refuted_within : (ms : List Multiple) → AreMultiplesIn ns atoms ms → AreWithin ns atoms (refuted ms)
-  refuted_within ms h = each-put (IsLitIn ns atoms) are_same_lit (negated_lits ms) [] tt (negations_within ms h)
+  refuted_within ms h = AllByRecursion-put (IsLitIn ns atoms) are_same_lit (negated_lits ms) [] tt (negations_within ms h)
 
   module _ (agree : LiteralsAgree ns atoms) (ms : List Multiple) (within : AreMultiplesIn ns atoms ms) (multiples : AreMultiples ns atoms ms) where
     pub farkas_gives : IsTrue (is_contradiction (sum_in ns atoms ms).result)

@@ -14,11 +14,6 @@ use Rattle.nz_log.specs.Lits.{negated_lit, are_same_lit, lit_resolvent}
 use Rattle.nz_log.specs.TermLits.{yes, no}
 
 module _ {X : Type 0} (P : X → Type 0) where
-  pub each_of : (xs : List X) → All P xs → AllByRecursion P xs
-  each_of [] h = tt
-  each_of (x ∷ xs) h = (h 0 x (omega arith), each_of xs (λ k d below. h (suc k) d (omega arith)))
-
-  -- and so of the one at a place
   pub each-at : (xs : List X) (i : ℕ) (x : X) → AllByRecursion P xs → slice_get xs i ≡ Some x → P x
   each-at xs i x h at = subst P (get_or_from_slice_get xs i x x at) (All-get_or P xs i x (slice_get_within xs i x at) (All-from_recursion P xs h))
 
@@ -28,14 +23,6 @@ module _ {X : Type 0} (P : X → Type 0) where
   pub each-append : (xs ys : List X) → AllByRecursion P xs → AllByRecursion P ys → AllByRecursion P (xs ++ ys)
   each-append [] ys h k = k
   each-append (x ∷ xs) ys h k = (h.0, each-append xs ys h.1 k)
-
-  with_at : (b : Bool) (xs : List X) (x : X) → AllByRecursion P xs → P x → AllByRecursion P (if b then xs else xs ++ x ∷ [])
-  with_at true xs x h p = h
-  with_at false xs x h p = each-append xs (x ∷ []) h (p, tt)
-
-  pub each-put : (same : X → X → Bool) (xs ys : List X) → AllByRecursion P ys → AllByRecursion P xs → AllByRecursion P (fold (with_one same) ys xs)
-  each-put same [] ys h k = h
-  each-put same (x ∷ xs) ys h k = each-put same xs (with_one same ys x) (with_at (list_any (same x) ys) ys x h k.0) k.1
 
   kept_at : (b : Bool) (x : X) (xs : List X) → P x → AllByRecursion P xs → AllByRecursion P (if not b then x ∷ xs else xs)
   kept_at true x xs p h = h
@@ -47,7 +34,7 @@ module _ {X : Type 0} (P : X → Type 0) where
 
 pub each-resolvent : (P : Lit → Type 0) (l : Lit) (c d : List Lit) → AllByRecursion P c → AllByRecursion P d → AllByRecursion P (lit_resolvent l c d)
 each-resolvent P l c d h k =
-    each-put P are_same_lit (without are_same_lit l c ++ without are_same_lit (negated_lit l) d) [] tt
+    AllByRecursion-put P are_same_lit (without are_same_lit l c ++ without are_same_lit (negated_lit l) d) [] tt
     (each-append P (without are_same_lit l c) (without are_same_lit (negated_lit l) d) (each-without P are_same_lit l c h) (each-without P are_same_lit (negated_lit l) d k))
 
 -- ---- Gates

@@ -2,7 +2,7 @@
 use Rattle.std.proofs.Common.{◌≡◌, ◌==◌, ℕ, Bool, true, false, List, [], ◌∷◌, ◌++◌, Option, Some, None, refl, sym, ap, ◌∙◌, subst, if◌then◌else◌}
 use Rattle.std.specs.Prelude.{IsSome, IsTrue, slice_get, slice_index_or}
 use Rattle.std.proofs.lemmas.List.Elements.{All-push, All-weaker}
-use Rattle.nz_tab.proofs.Numbers.{equal-number, same-number}
+use Rattle.nz_lists.proofs.Numbers.{equal-number, same-number}
 use Rattle.nz_spec.specs.Farkas.{bound_of, is_linear_literal}
 use Rattle.nz_spec.specs.Legal.{literal_by}
 use Rattle.nz_spec.specs.Literal.{Literal, is_at_most}

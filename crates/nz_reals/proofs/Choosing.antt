@@ -5,7 +5,7 @@ use Rattle.std.specs.Cmp.{first_so, second_so}
 use Rattle.std.proofs.lemmas.List.{length-map, map-append}
 use Rattle.std.proofs.lemmas.List.Elements.{Contains-append_left, Contains-push, Contains-push_cases}
 use Rattle.std.proofs.lemmas.Option.{slice_get-get_or}
-use Rattle.nz_tab.proofs.Numbers.{same-number}
+use Rattle.nz_lists.proofs.Numbers.{same-number}
 use Rattle.nz_fractions.specs.Fraction.{Fraction}
 use Rattle.nz_spec.specs.Infinitesimal.{IsLeastLimit, at}
 use Rattle.nz_spec.specs.Bland.{PositionsHaveValues}

@@ -6,9 +6,9 @@ use Rattle.std.specs.List.{AllByRecursion, list_any}
 use Rattle.std.proofs.lemmas.List.{map-append}
 use Rattle.std.proofs.lemmas.List.Sums.{fold_push}
 use Rattle.nz_reals.proofs.Joining.{some_suc}
-use Rattle.nz_tab.proofs.Numbers.{equal-number, same-number, other-number}
 use Rattle.nz_lists.proofs.Elements.{AllByRecursion-append}
 use Rattle.nz_lists.proofs.Tests.{same_tests}
+use Rattle.nz_lists.proofs.Numbers.{equal-number, same-number, other-number}
 use Rattle.nz_fractions.specs.Fraction.{whole}
 use Rattle.nz_spec.specs.BasisMoves.{JoinsKeepBasis}
 use Rattle.nz_spec.specs.Bland.{Point, Position}

@@ -6,10 +6,10 @@ use Rattle.std.specs.Ordering.{int_eq}
 use Rattle.std.specs.Cmp.{first_so, second_so, signed_Decides}
 use Rattle.std.proofs.lemmas.List.Elements.{Contains-append_cases, Contains-push_cases}
 use Rattle.std.proofs.lemmas.Option.{slice_get-get_or, slice_get_within}
-use Rattle.nz_tab.proofs.Numbers.{equal-number, same-number}
 use Rattle.nz_lists.proofs.Elements.{AllByRecursion-append, AllByRecursion-weaker}
 use Rattle.nz_lists.proofs.Places.{slice_get_kept, slice_get-push_cases}
 use Rattle.nz_lists.proofs.Tests.{same_tests}
+use Rattle.nz_lists.proofs.Numbers.{equal-number, same-number}
 use Rattle.nz_fractions.specs.Fraction.{Fraction, IsNumber, whole, denominator, fraction_eq, fraction_lt}
 use Rattle.nz_fractions.proofs.Laws.{lowest-same, =ℚ-from_same}
 use Rattle.nz_fractions.proofs.Order.{fraction_eq-same, same-fraction_eq}

@@ -3,7 +3,7 @@ use Rattle.std.proofs.Common.{◌≡◌, ℕ, ◌+◌, ◌<◌, ◌≤◌, ◌�
 use Rattle.std.specs.Prelude.{Contains, is_some, nat_lt, if◌then◌else◌}
 use Rattle.std.proofs.Math.Path.{fun_ext}
 use Rattle.std.proofs.lemmas.List.{get_or_past, length-map, map-append}
-use Rattle.nz_tab.proofs.Numbers.{below_or_past}
+use Rattle.nz_lists.proofs.Numbers.{below_or_past, below, not_below}
 use Rattle.nz_fractions.specs.Fraction.{IsNumber}
 use Rattle.nz_spec.specs.Infinitesimal.{Infinitesimal}
 use Rattle.nz_spec.specs.Basis.{IsBasis}
@@ -26,7 +26,7 @@ use Rattle.nz_tab.specs.Joins.{number_by}
 use Rattle.nz_tab.specs.Tables.{forms_over}
 use Rattle.nz_tab.specs.Units.{is_unit_form, new_units, unit_number, unit_of, with_units}
 use Rattle.nz_tab.proofs.Numbering.{are_numbered, units_numbered}
-use Rattle.nz_tab.proofs.Uniting.{below, joined_to, not_below, units_join}
+use Rattle.nz_tab.proofs.Uniting.{joined_to, units_join}
 use Rattle.nz_log.specs.declared.place.Site.TheVariants.{Joining}
 use Rattle.nz_log.specs.Places.{IsPlaceIn}
 use Rattle.nz_simplex.specs.Moves.{JoinStops, joined_over, joining, unit_terms, with_all_units}

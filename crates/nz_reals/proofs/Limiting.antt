@@ -4,7 +4,7 @@ use Rattle.std.specs.Prelude.{Contains, IsSome, option_map, unwrap_or, if◌then
 use Rattle.std.proofs.lemmas.Int.{ints}
 use Rattle.std.proofs.lemmas.List.{length-map}
 use Rattle.std.proofs.lemmas.List.Elements.{All-contains, All-from_recursion, Contains-append_cases, Contains-append_left, Contains-append_right}
-use Rattle.nz_tab.proofs.Numbers.{same_or_below}
+use Rattle.nz_lists.proofs.Numbers.{same_or_below}
 use Rattle.nz_fractions.specs.Fraction.{Fraction, IsNumber, Operation, Product, Sum, first_wide, fraction_lt, is_wide, outcome, whole, ◌=ℚ◌, ◌≤ℚ◌, ◌<ℚ◌, ◌+ℚ◌, ◌*ℚ◌}
 use Rattle.nz_fractions.proofs.Arithmetic.{+ℚ-same, outcome-product, outcome-sum}
 use Rattle.nz_fractions.proofs.Laws.{lowest-same, ≤ℚ-from_lt, ≤ℚ_refl, ≤ℚ_trans, =ℚ_refl, =ℚ_trans}

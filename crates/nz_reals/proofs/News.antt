@@ -4,7 +4,7 @@ use Rattle.std.proofs.lemmas.Bool.{false_from_ne_true}
 use Rattle.std.specs.Prelude.{◌==◌, ◌&&◌, Contains, fold, if◌then◌else◌}
 use Rattle.std.specs.Ordering.{is_lt, ordering_reverse}
 use Rattle.std.specs.Cmp.{first_so, second_so}
-use Rattle.nz_tab.proofs.Numbers.{equal-number, same-number}
+use Rattle.nz_lists.proofs.Numbers.{equal-number, same-number}
 use Rattle.nz_spec.specs.Infinitesimal.{Infinitesimal, infinitesimal_cmp, InfinitesimalsAreOrdered}
 use Rattle.nz_spec.specs.PositionMoves.{is_outside}
 use Rattle.nz_trail.specs.Bounds.{IsImplied, IsOn, IsTighter}

@@ -6,6 +6,7 @@ use Rattle.std.specs.List.{AllByRecursion}
 use Rattle.nz_lists.proofs.Elements.{AllByRecursion-append}
 use Rattle.nz_fractions.specs.Fraction.{Fraction, whole, neg_ℚ}
 use Rattle.nz_fractions.proofs.Laws.{=ℚ_refl}
+use Rattle.nz_fractions.proofs.Signs.{above_told, below_told}
 use Rattle.nz_spec.specs.BasisMoves.{numbers}
 use Rattle.nz_spec.specs.Bland as bland
 use Rattle.nz_spec.specs.Bland.{bound_on}
@@ -20,7 +21,6 @@ use Rattle.nz_simplex.specs.Checks.{IsRefuted, holding_side, multiplier}
 use Rattle.nz_simplex.specs.Choices.{is_below_zero, size_of}
 use Rattle.nz_simplex.specs.Standing.{Held, bound_in, half, is_bound_of, is_news, reason_in, standing, standing_with}
 use Rattle.nz_simplex.specs.State.{State, nonbasic_in, position_over}
-use Rattle.nz_simplex.proofs.Signs.{above_told, below_told}
 use Rattle.nz_reals.proofs.Elements.{has_first, has_more}
 
 -- ---- What stands is one of the bounds

@@ -14,6 +14,7 @@ use Rattle.nz_fractions.proofs.Arithmetic.{+ℚ-neg, +ℚ-same, +ℚ-zero, *ℚ_
 use Rattle.nz_fractions.proofs.Identities.{one_times, zero_left, zero_times}
 use Rattle.nz_fractions.proofs.Solver.{◌∙ℚ◌, plus_left, plus_right, solve, times_left, times_right}
 use Rattle.nz_fractions.proofs.Bounds.{lt-carried}
+use Rattle.nz_fractions.proofs.Signs.{above_told, below_told}
 use Rattle.nz_spec.specs.Infinitesimal.{Infinitesimal, infinitesimal_cmp, InfinitesimalsAreOrdered}
 use Rattle.nz_spec.specs.Term.{is_zero}
 use Rattle.nz_spec.specs.Same.{TellsTerms}
@@ -37,7 +38,6 @@ use Rattle.nz_simplex.specs.Contradictions.{AreMultiplesFor, AreSaid, AreSum, Cl
 use Rattle.nz_simplex.specs.Standing.{Held, bound_in, half, is_bound_of, is_news, is_side, reason_in, standing, standing_with}
 use Rattle.nz_simplex.specs.State.{State, nonbasic_in, value_in, position_over}
 use Rattle.nz_simplex.proofs.Helping.{bound_told, half_other}
-use Rattle.nz_simplex.proofs.Signs.{above_told, below_told}
 use Rattle.nz_simplex.proofs.SumsInOrder.{no_units, onto_sum}
 use Rattle.nz_simplex.proofs.Totals.{onto-lax, onto-limit, onto-worth, total}
 

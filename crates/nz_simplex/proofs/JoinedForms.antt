@@ -4,6 +4,7 @@ use Rattle.std.specs.Prelude.{IsSome, nat_lt, is_some, option_map, slice_index_o
 use Rattle.std.specs.List.{AllByRecursion}
 use Rattle.std.proofs.Math.Path.{fun_ext}
 use Rattle.std.proofs.lemmas.List.{get_or-take, get_or_past, length-map}
+use Rattle.nz_lists.proofs.Numbers.{below, below_or_past, not_below}
 use Rattle.nz_lists.proofs.Places.{slice_index_or-map}
 use Rattle.nz_fractions.specs.Fraction.{Fraction}
 use Rattle.nz_spec.specs.Infinitesimal.{Infinitesimal, ◌=δ◌}
@@ -26,17 +27,6 @@ use Rattle.nz_simplex.specs.Stored.{state_of}
 use Rattle.nz_simplex.specs.Tabled.{marks_in, rows_in}
 use Rattle.nz_simplex.proofs.Pointed.{AreKnown, known_marks, known_row, row_told}
 use Rattle.nz_simplex.proofs.ValuesAfter.{point_is_value}
-
--- ---- Numbers
-
-pub below_or_past : (k n : ℕ) → (k < n) ⊎ (n ≤ k)
-below_or_past k n = grind arith
-
-pub lt_below : (k n : ℕ) → k < n → nat_lt k n ≡ true
-lt_below k n h = grind (arith, h)
-
-pub lt_past : (k n : ℕ) → n ≤ k → nat_lt k n ≡ false
-lt_past k n h = grind (arith, h)
 
 -- ---- What a table of forms becomes
 
@@ -86,10 +76,10 @@ module _ {S : Type 0} (stands_for : S → Infinitesimal) (origin : S) (zero_is :
   count_old = sym (length-map old (option_map stands_for)) ∙ sound.valued
 
   pub old_marks : (k : ℕ) → k < length old_tab.forms → nonbasic_in there k ≡ nonbasic_in here k
-  old_marks k h = joined.nonbasic k ∙ ap (λ (b : Bool). if b then nonbasic_in here k else nat_lt k (length (with_units old_tab.forms f))) (lt_below k (length old_tab.forms) h)
+  old_marks k h = joined.nonbasic k ∙ ap (λ (b : Bool). if b then nonbasic_in here k else nat_lt k (length (with_units old_tab.forms f))) (below k (length old_tab.forms) h)
 
   pub new_marks : (k : ℕ) → length old_tab.forms ≤ k → nonbasic_in there k ≡ nat_lt k (length (with_units old_tab.forms f))
-  new_marks k h = joined.nonbasic k ∙ ap (λ (b : Bool). if b then nonbasic_in here k else nat_lt k (length (with_units old_tab.forms f))) (lt_past k (length old_tab.forms) h)
+  new_marks k h = joined.nonbasic k ∙ ap (λ (b : Bool). if b then nonbasic_in here k else nat_lt k (length (with_units old_tab.forms f))) (not_below k (length old_tab.forms) h)
 
   pub old_values : (k : ℕ) → k < length old_tab.forms → value_in there k ≡ value_in here k
   old_values k h =
@@ -112,7 +102,7 @@ module _ {S : Type 0} (stands_for : S → Infinitesimal) (origin : S) (zero_is :
       by_place (inr past) =
           let few = (front_forms old_tab new_tab f joined).2 in
           ap (option_map stands_for) (get_or_past new k None (omega (arith, past, long)))
-          ∙ sym (ap (λ (b : Bool). if b then Some zero_infinitesimal else None) (lt_past k (length (with_units old_tab.forms f)) (omega (arith, past, few))))
+          ∙ sym (ap (λ (b : Bool). if b then Some zero_infinitesimal else None) (not_below k (length (with_units old_tab.forms f)) (omega (arith, past, few))))
 
   pub known_joined : AreKnown there
   known_joined k e = by_place (below_or_past k (length old_tab.forms))

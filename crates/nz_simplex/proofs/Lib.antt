@@ -22,7 +22,6 @@ pub mod Renewing
 pub mod RowValues
 pub mod Saying
 pub mod Settling
-pub mod Signs
 pub mod Standings
 pub mod Stepping
 pub mod SumsInOrder

@@ -3,6 +3,7 @@ use Rattle.std.proofs.Common.{◌≡◌, ℕ, ◌<◌, Bool, true, false, List, 
 use Rattle.std.specs.Prelude.{IsSome, option_map, unwrap_or, if◌then◌else◌}
 use Rattle.std.proofs.Math.Path.{fun_ext}
 use Rattle.nz_fractions.specs.Fraction.{Fraction, whole}
+use Rattle.nz_fractions.proofs.Signs.{above_told, below_told}
 use Rattle.nz_spec.specs.Infinitesimal.{Infinitesimal}
 use Rattle.nz_spec.specs.Term.{is_zero}
 use Rattle.nz_spec.specs.Basis.{Coefficients}
@@ -25,7 +26,6 @@ use Rattle.nz_simplex.specs.Stored.{nonbasic_numbers, one_or_none, state_of}
 use Rattle.nz_simplex.specs.Tabled.{rows_in}
 use Rattle.nz_simplex.proofs.Helping.{bound_told, half_other}
 use Rattle.nz_simplex.proofs.Pointed.{row_told}
-use Rattle.nz_simplex.proofs.Signs.{above_told, below_told}
 
 -- ---- The multipliers
 

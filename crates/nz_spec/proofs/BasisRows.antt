@@ -1,6 +1,7 @@
 -- Rows over a basis: mixes of coefficients, and what is independent has one coefficient each.
 use Rattle.std.proofs.Common.{◌≡◌, ℕ, ◌<◌, Bool, true, false, List, [], ◌∷◌, length, pos, negsuc, refl, sym, ap, ◌∙◌, true≢false, arith}
 use Rattle.std.specs.Prelude.{◌==◌, if◌then◌else◌, ◌≢◌}
+use Rattle.nz_lists.proofs.Numbers.{equal-number, other-number}
 use Rattle.nz_ints.proofs.Ring.{Atom, Literal, ◌⊕◌, ◌⊗◌}
 use Rattle.nz_fractions.specs.Fraction.{Fraction, whole, ◌=ℚ◌, ◌+ℚ◌, ◌*ℚ◌}
 use Rattle.nz_spec.specs.Form.{Part}
@@ -31,15 +32,6 @@ module _ (n : ℕ) (y : Coefficients) where
 
   pub weighted-zero : (c : Coefficients) → ((k : ℕ) → c k =ℚ whole (pos 0)) → weighted n c y =ℚ whole (pos 0)
   weighted-zero c h = sum-zero n (λ k. c k *ℚ y k) (λ k p. times_left (y k) (h k) ∙ℚ zero_times (y k))
-
-pub equal-number : (k i : ℕ) → k ≡ i → (k == i) ≡ true
-equal-number k i e = grind (arith, e)
-
-pub same-number : (k i : ℕ) → (k == i) ≡ true → k ≡ i
-same-number k i e = grind (arith, e)
-
-pub other-number : (k i : ℕ) → k ≢ i → (k == i) ≡ false
-other-number k i h = grind (arith, h)
 
 pub alone-here : (i : ℕ) → alone i i =ℚ whole (pos 1)
 alone-here i = by_test (i == i) (equal-number i i refl)

@@ -2,6 +2,7 @@
 use Rattle.std.proofs.Common.{◌≡◌, ℕ, ◌<◌, Bool, true, false, ◌⊎◌, inl, inr, [], ◌∷◌, length, Some, None, pos, negsuc, refl, sym, ap, ◌∙◌, subst, true≢false}
 use Rattle.std.specs.Prelude.{◌==◌, if◌then◌else◌, ◌≢◌, ◌↔◌, unwrap_or, is_some}
 use Rattle.nz_ints.proofs.Ring.{Atom, Literal, ◌⊕◌, ◌⊗◌, Minus}
+use Rattle.nz_lists.proofs.Numbers.{equal-number, other-number, same-number}
 use Rattle.nz_fractions.specs.Fraction.{Fraction, whole, ◌=ℚ◌, ◌<ℚ◌, ◌+ℚ◌, ◌-ℚ◌, neg_ℚ, ◌*ℚ◌}
 use Rattle.nz_spec.specs.Infinitesimal.{Infinitesimal, ◌+δ◌, ◌-δ◌, scaled}
 use Rattle.nz_spec.specs.Term.{is_zero}
@@ -14,7 +15,7 @@ use Rattle.nz_fractions.proofs.Arithmetic.{+ℚ-same}
 use Rattle.nz_fractions.proofs.Identities.{zero_times}
 use Rattle.nz_fractions.proofs.Solver.{◌∙ℚ◌, solve, times_left, times_right}
 use Rattle.nz_spec.proofs.BasisSums.{sum-same, sum-plus, sum-single}
-use Rattle.nz_spec.proofs.BasisRows.{weighted-same, weighted-alone, equal-number, other-number, same-number, nonbasic_form_is_itself}
+use Rattle.nz_spec.proofs.BasisRows.{weighted-same, weighted-alone, nonbasic_form_is_itself}
 use Rattle.nz_spec.proofs.BasisExchange.{row-sum_stays, nonzero_at, exchange_keeps_basis, solutions_stay}
 
 -- a coefficient above or below 0 isn't 0

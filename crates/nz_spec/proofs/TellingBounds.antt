@@ -5,13 +5,13 @@ use Rattle.std.specs.List.{list_any}
 use Rattle.std.specs.Ordering.{is_lt}
 use Rattle.std.proofs.lemmas.Bool.{and_parts, and_right}
 use Rattle.std.proofs.lemmas.List.Sums.{fold-append, fold_push}
+use Rattle.nz_lists.proofs.Numbers.{equal-number, same-number, other-number}
 use Rattle.nz_spec.specs.Infinitesimal.{Infinitesimal, infinitesimal_cmp}
 use Rattle.nz_spec.specs.Form.{Part}
 use Rattle.nz_spec.specs.Literal.{Literal}
 use Rattle.nz_spec.specs.Bland.{Point, zero_infinitesimal, Position, Side, lower_side, upper_side, other_side, bound_on, IsOutside, NonbasicFormsFit}
 use Rattle.nz_spec.specs.PositionMoves.{with_unit, with_form, is_outside, moved_within, with_bound, AreLooser}
 use Rattle.nz_spec.specs.LiteralBounds.{is_unit_alone, is_unit_form, with_new_unit, joined, FormBound, bound_said, are_same_side, tighter_of, with_bound_said, tightest, position_under, moved_by, is_news, TellingSetsBounds}
-use Rattle.nz_spec.proofs.BasisRows.{equal-number, same-number, other-number}
 use Rattle.nz_spec.proofs.InfinitesimalOrder.{=δ_refl, at_most-less, less-at_most}
 use Rattle.nz_spec.proofs.BlandRefutes.{IsPast, past-equal}
 use Rattle.nz_spec.proofs.ToldBounds.{IsPlain, IsTight, inside-past, same_side, after, stays-tight, stays-plain, bound-is}

@@ -5,6 +5,7 @@ use Rattle.std.specs.Ordering.{is_gt, is_lt}
 use Rattle.std.proofs.lemmas.Int.{ints}
 use Rattle.std.proofs.lemmas.Bool.{and_from, and_parts}
 use Rattle.nz_ints.proofs.Ring.{Atom, Literal as Number, ◌⊗◌, Minus}
+use Rattle.nz_lists.proofs.Numbers.{equal-number}
 use Rattle.nz_fractions.specs.Fraction.{Fraction, denominator, whole, ◌=ℚ◌, ◌≤ℚ◌, ◌<ℚ◌, ◌+ℚ◌, neg_ℚ, ◌*ℚ◌}
 use Rattle.nz_fractions.proofs.Laws.{=ℚ-from_same, =ℚ_sym, ≤ℚ-from_eq, ≤ℚ-from_lt, ≤ℚ_refl, ≤ℚ_trans, <ℚ-≤ℚ_trans, ≤ℚ-<ℚ_trans}
 use Rattle.nz_fractions.proofs.Arithmetic.{+ℚ-zero}
@@ -24,7 +25,6 @@ use Rattle.nz_spec.specs.Farkas.{bound_of}
 use Rattle.nz_spec.specs.ToldBounds.{IsWithinAt, AreWithinAt, ToldBoundsAreMet}
 use Rattle.nz_spec.specs.Deciding.{IsMet}
 use Rattle.nz_spec.proofs.InfinitesimalOrder.{AtMost, at_most_parts, at_most_trans, =δ_refl}
-use Rattle.nz_spec.proofs.BasisRows.{equal-number}
 use Rattle.nz_spec.proofs.BasisValues.{solutions_are_worth}
 use Rattle.nz_spec.proofs.BlandRefutes.{IsPast, not_outside, past-equal}
 use Rattle.nz_spec.proofs.PositionMovesKeep.{outside-test}

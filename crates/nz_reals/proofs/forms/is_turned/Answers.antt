@@ -1,6 +1,6 @@
 use Rattle.std.proofs.Common.{ap, sym, ◌∙◌}
 use Rattle.nz_fractions.specs.Fraction.{fraction_lt}
-use Rattle.nz_delta.proofs.LimitLemmas.{lt-cmp}
+use Rattle.nz_fractions.proofs.Order.{lt-cmp}
 use Rattle.nz_reals.proofs.Sums.{turned_first}
 use Rattle.nz_reals.proofs.forms.is_turned.Goals as goal
 

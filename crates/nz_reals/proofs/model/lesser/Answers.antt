@@ -1,6 +1,6 @@
 use Rattle.std.proofs.Common.{Bool, ◌∙◌, ap, sym}
 use Rattle.std.specs.Prelude.{if◌then◌else◌}
-use Rattle.nz_delta.proofs.LimitLemmas.{lt-cmp}
+use Rattle.nz_fractions.proofs.Order.{lt-cmp}
 use Rattle.nz_reals.proofs.model.lesser.Goals as goal
 
 pub returns-then-lt : goal.returns-then-lt
