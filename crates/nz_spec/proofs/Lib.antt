@@ -43,6 +43,7 @@ pub mod Instances
 pub mod IntegerSums
 pub mod LegalWork
 pub mod LinearLiterals
+pub mod LinearNames
 pub mod LinkTruths
 pub mod Literals
 pub mod Normal

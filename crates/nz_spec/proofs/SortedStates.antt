@@ -1,4 +1,4 @@
--- Definitions and assertions stay well sorted, whatever is told.
+-- Definitions and assertions stay well sorted, over the live constants and linear, whatever is told.
 use Rattle.std.proofs.Common.{◌≡◌, ℕ, suc, ◌+◌, Bool, true, false, ◌||◌, List, [], ◌∷◌, ◌++◌, Option, Some, None, zero, append-nil, drop, refl, sym, ap, ◌∙◌, subst, if◌then◌else◌, arith}
 use Rattle.std.proofs.lemmas.List.{append_assoc, map-append}
 use Rattle.std.specs.Bool.{⊤}
@@ -14,32 +14,28 @@ use Rattle.nz_spec.specs.Bounds.{has_token, is_wide_token, is_long_decimal}
 use Rattle.nz_lists.proofs.Options.{IfFound, and_then_found, found_weaker, if_found}
 use Rattle.nz_spec.specs.Literal.{Literal, term_literal}
 use Rattle.nz_spec.specs.OverConstants.{IsOver}
-use Rattle.nz_spec.specs.Term.{Constant, Sort, bool_sort, Term, Terms, sort_of, holds_number, Assignment, IsOfSort, value_of}
+use Rattle.nz_spec.specs.Term.{Constant, Sort, bool_sort, is_bool, Term, Terms, sort_of, holds_number, holds_integer, Assignment, IsOfSort, value_of}
 use Rattle.nz_spec.specs.Normal.{normal_of}
 use Rattle.nz_spec.specs.Linear.{is_linear}
-<<<<<<< ours
-use Rattle.nz_spec.specs.Elaboration.{has_sort, placed, term_of, terms_of}
-use Rattle.nz_spec.specs.Live.{State, start, constants_of, LiveItem, numbered_items, Item, declared, defined, asserted, sought, wished, items_of, items_hold_integers, definitions_in, assertions_in, assertions_of, with_item, grown}
-use Rattle.nz_spec.specs.Command.{Command, declare_const, define, assert_term, check_sat, get_value, set_print_success, Outcome, accepted, refused, not_taken}
-use Rattle.nz_spec.specs.Error.{bad_syntax, unknown_symbol, wrong_sort, too_wide, past_limit, already_declared}
-=======
 use Rattle.nz_spec.specs.Elaboration.{Definition, has_sort, placed, term_of, terms_of}
-use Rattle.nz_spec.specs.Live.{State, start, constants_in, constants_of, definitions_of, pushed_levels, LiveItem, numbered_items, Item, declared, defined, asserted, sought, wished, items_of, items_hold_numbers, definitions_in, assertions_in, assertions_of, with_item, grown}
+use Rattle.nz_spec.specs.Live.{State, start, constants_in, constants_of, definitions_of, pushed_levels, LiveItem, numbered_items, Item, declared, defined, asserted, sought, wished, items_of, items_hold_integers, definitions_in, assertions_in, assertions_of, with_item, grown}
 use Rattle.nz_spec.specs.Command.{Command, declare_const, define, assert_term, push_levels, pop_levels, reset, reset_assertions, check_sat, get_value, set_print_success, Outcome, accepted, refused, not_taken}
 use Rattle.nz_spec.specs.Error.{bad_syntax, unknown_symbol, wrong_sort, too_wide, past_limit, below_zero, already_declared}
->>>>>>> theirs
 use Rattle.nz_spec.specs.Limits.{passes_limit}
-use Rattle.nz_spec.specs.Script.{is_live_name, scope_of, constant_sort, sort_written, is_unknown_sort, declaration_of, parameter_names, parameter_sorts, sorts_written, parameters_from, body_scope, linear_outcome, definition_by, definition_of, asserted_outcome, assertion_of, asked_expressions, all_linear, asked_of, values_asked, push_of, pop_of, assumed_term, assumes_unknown, assumes_number, assumed_literal, assumed_literals, check_under, info_asked, option_set, outcome_by, outcome_requested, outcome_of}
+use Rattle.nz_spec.specs.Script.{is_live_name, scope_of, constant_sort, sort_written, is_unknown_sort, declaration_of, parameter_names, parameter_sorts, sorts_written, parameters_from, body_scope, linear_outcome, definition_by, definition_of, asserted_outcome, assertion_of, asked_expressions, all_linear, asked_of, values_asked, push_of, pop_of, assumed_term, assumes_unknown, assumes_integer, assumed_literal, assumed_literals, check_under, info_asked, option_set, outcome_by, outcome_requested, outcome_of}
 use Rattle.nz_spec.specs.Scoping.{clash, has_clash, have_clash, has_unknown, have_unknown}
 use Rattle.nz_spec.specs.Text.{What, intact}
 use Rattle.nz_spec.specs.Reply.{Reply, error}
 use Rattle.nz_spec.specs.Right.{Context, beginning, effect, effect_of, after, context_after}
 use Rattle.nz_spec.specs.Transcript.{Kept, context_of}
 use Rattle.nz_spec.specs.Model.{IsAssignment}
-use Rattle.nz_spec.specs.Sorts.{TermsHaveTheirSorts, AreSortedItems, AreSortedLevels, IsSortedState, StatesStaySorted, AssertionsAreGated, AssertionsAreOver, IsAssumable, AssumptionsAreGated}
+use Rattle.nz_spec.specs.Sorts.{TermsHaveTheirSorts, AreSortedItems, AreSortedLevels, IsSortedState, StatesStaySorted, AssertionsAreGated, AssertionsAreOver, IsAssumable, AssumptionsAreTaken}
 use Rattle.nz_spec.specs.Gates.{IsGated}
-use Rattle.nz_spec.specs.WellSorted.{IsWellSorted, IsSortedDefinition, IsSortedAssertion}
+use Rattle.nz_spec.specs.WellSorted.{IsWellSorted, IsSortedDefinition, IsSortedAssertion, HasLinearNormal, HasLinearBody}
+use Rattle.nz_spec.proofs.LinearNames.{linear_name}
 use Rattle.nz_spec.proofs.NormalGates.{normal_terms_are_gated}
+use Rattle.nz_spec.proofs.NormalSorts.{normal_stays_sorted}
+use Rattle.nz_spec.proofs.TakenTerms.{normal_terms_are_taken}
 use Rattle.nz_spec.proofs.Sorted.{same_sorts, value_is}
 use Rattle.nz_spec.proofs.OverConstants.{AreAmong, over_weaker, written_over, placed_is_over}
 use Rattle.nz_spec.proofs.Placed.{IsPlaced, is_placed}
@@ -92,6 +88,8 @@ record IsSortedItem (items : List Item) (i : Item) : Type 0 where
   assertions : AllByRecursion IsSortedAssertion (assertions_in (i ∷ []))
   bodies_over : AllByRecursion (λ (d : Definition). IsOver (constants_in items) d.body) (definitions_in (i ∷ []))
   assertions_over : AllByRecursion (IsOver (constants_in items)) (assertions_in (i ∷ []))
+  bodies_linear : AllByRecursion HasLinearBody (definitions_in (i ∷ []))
+  assertions_linear : AllByRecursion HasLinearNormal (assertions_in (i ∷ []))
 
 one_more : (items : List Item) (i : Item) → AreSortedItems items → IsSortedItem items i → AreSortedItems (items ++ i ∷ [])
 one_more items i h new =
@@ -103,10 +101,12 @@ one_more items i h new =
       assertions = assertions_with IsSortedAssertion items i h.assertions new.assertions;
       bodies_over = definitions_with (λ (d : Definition). IsOver more d.body) items i (weaker_bodies (definitions_in items) h.bodies_over) (weaker_bodies (definitions_in (i ∷ [])) new.bodies_over);
       assertions_over = assertions_with (IsOver more) items i (weaker_terms (assertions_in items) h.assertions_over) (weaker_terms (assertions_in (i ∷ [])) new.assertions_over);
+      bodies_linear = definitions_with HasLinearBody items i h.bodies_linear new.bodies_linear;
+      assertions_linear = assertions_with HasLinearNormal items i h.assertions_linear new.assertions_linear;
     }
 
 nothing_sorted : AreSortedItems []
-nothing_sorted = record { definitions = tt; assertions = tt; bodies_over = tt; assertions_over = tt }
+nothing_sorted = record { definitions = tt; assertions = tt; bodies_over = tt; assertions_over = tt; bodies_linear = tt; assertions_linear = tt }
 
 -- all items that are live
 sorted_items : (levels : List (List LiveItem)) → AreSortedLevels levels → AreSortedItems (items_of levels)
@@ -142,8 +142,8 @@ popped_sorted (suc n) (items ∷ older) h = popped_sorted n older h.1
 -- ---- Commands
 
 abbrev IsGoodCommand : State → Command → Type 0
-IsGoodCommand s (define d) = IsSortedDefinition d × IsOver (constants_of s) d.body
-IsGoodCommand s (assert_term t) = IsSortedAssertion t × IsOver (constants_of s) t
+IsGoodCommand s (define d) = IsSortedDefinition d × (IsOver (constants_of s) d.body × HasLinearBody d)
+IsGoodCommand s (assert_term t) = IsSortedAssertion t × (IsOver (constants_of s) t × HasLinearNormal t)
 IsGoodCommand s (check_sat ls) = AllByRecursion (IsAssumable s) ls
 IsGoodCommand s c = ⊤
 
@@ -156,8 +156,8 @@ good_if : (s : State) (b : Bool) (o p : Outcome) → IsGood s o → IsGood s p �
 good_if s true o p h i = h
 good_if s false o p h i = i
 
-linear_good : (s : State) (b : Bool) (c : Command) → IsGoodCommand s c → IsGood s (linear_outcome b c)
-linear_good s true c h = h
+linear_good : (s : State) (b : Bool) (c : Command) → (b ≡ true → IsGoodCommand s c) → IsGood s (linear_outcome b c)
+linear_good s true c h = h refl
 linear_good s false c h = tt
 
 declared_good : (s : State) (name : List ℕ) (m : Option Sort) → IsGood s (elim m [ Some is ↦ accepted (declare_const (record { name = name; sort = is })) | None ↦ refused wrong_sort ])
@@ -189,17 +189,22 @@ both_found P Q (Some t) h k = (h, k)
 
 body_good : (s : State) (name : List ℕ) (sorts : List Sort) (m : Option Term) → IfFound (λ t. IsWellSorted sorts t × IsOver (constants_of s) t) m
     → IsGood s (elim m [ Some t ↦ linear_outcome (is_linear (normal_of t)) (define (record { name = name; parameters = sorts; body = t })) | None ↦ refused wrong_sort ])
-body_good s name sorts (Some t) h = linear_good s (is_linear (normal_of t)) (define (record { name = name; parameters = sorts; body = t })) h
+body_good s name sorts (Some t) h = linear_good s (is_linear (normal_of t)) (define (record { name = name; parameters = sorts; body = t })) (λ l. (h.0, (h.1, l)))
 body_good s name sorts None h = tt
 
-gated_if : (s : State) (sign b : Bool) (t : Term) → IsAssumable s (term_literal t sign) → IfFound (IsAssumable s) (if b then Some (term_literal t sign) else None)
-gated_if s sign b t h = if_found (IsAssumable s) b (Some (term_literal t sign)) None h tt
+-- a term that holds no unit of sort Int, as it is assumed
+taken_if : (s : State) (sign b : Bool) (t : Term) → has_sort bool_sort t ≡ b → IsWellSorted [] t → IsOver (constants_of s) t → HasLinearNormal t → holds_integer (normal_of t) ≡ false
+    → IfFound (IsAssumable s) (if b then Some (term_literal t sign) else None)
+taken_if s sign true t e w over linear whole =
+    let boolean : sort_of (normal_of t) ≡ bool_sort = (normal_stays_sorted [] t w).1 ∙ sym (same_sorts bool_sort (sort_of t) e) in
+    (over, record { taken = normal_terms_are_taken t w linear whole; boolean = ap is_bool boolean })
+taken_if s sign false t e w over linear whole = tt
 
--- a term that holds no number, as it is assumed
-one_gated : (s : State) (sign : Bool) (m : Option Term) → IfFound (IsWellSorted []) m → IfFound (IsOver (constants_of s)) m → elim m [ Some t ↦ holds_number (normal_of t) | None ↦ false ] ≡ false
+one_taken : (s : State) (sign : Bool) (m : Option Term) → IfFound (IsWellSorted []) m → IfFound (IsOver (constants_of s)) m → IfFound HasLinearNormal m
+    → elim m [ Some t ↦ holds_integer (normal_of t) | None ↦ false ] ≡ false
     → IfFound (IsAssumable s) (option_and_then (λ t. if has_sort bool_sort t then Some (term_literal t sign) else None) m)
-one_gated s sign None h k e = tt
-one_gated s sign (Some t) h k e = gated_if s sign (has_sort bool_sort t) t (k, normal_terms_are_gated t h e)
+one_taken s sign None w over linear whole = tt
+one_taken s sign (Some t) w over linear whole = taken_if s sign (has_sort bool_sort t) t refl w over linear whole
 
 literals_onto : (s : State) (o : Option Literal) (r : Option (List Literal)) → IfFound (IsAssumable s) o → IfFound (AllByRecursion (IsAssumable s)) r → IfFound (AllByRecursion (IsAssumable s)) (cons_onto o r)
 literals_onto s (Some l) (Some ls) h k = (h, k)
@@ -243,7 +248,7 @@ module _ (s : State) (sorted : IsSortedState s) where
 
   asserted_by : (b : Bool) (t : Term) → has_sort bool_sort t ≡ b → IsWellSorted [] t × IsOver (constants_of s) t
       → IsGood s (if b then linear_outcome (is_linear (normal_of t)) (assert_term t) else refused wrong_sort)
-  asserted_by true t e h = linear_good s (is_linear (normal_of t)) (assert_term t) ((h.0, sym (same_sorts bool_sort (sort_of t) e)), h.1)
+  asserted_by true t e h = linear_good s (is_linear (normal_of t)) (assert_term t) (λ l. ((h.0, sym (same_sorts bool_sort (sort_of t) e)), (h.1, l)))
   asserted_by false t e h = tt
 
   stated_good : (m : Option Term) → IfFound (λ t. IsWellSorted [] t × IsOver (constants_of s) t) m → IsGood s (elim m [ Some u ↦ asserted_outcome u | None ↦ refused wrong_sort ])
@@ -260,7 +265,7 @@ module _ (s : State) (sorted : IsSortedState s) where
       (good_if s (has_clash e) (refused already_declared) stated tt (stated_good (term_of (scope_of s) e) (written_good e)))
 
   asked_good : (qs : List Question) (m : Option Terms) → IsGood s (elim m [ Some us ↦ linear_outcome (all_linear us) (get_value (asked_of qs us)) | None ↦ refused wrong_sort ])
-  asked_good qs (Some us) = linear_good s (all_linear us) (get_value (asked_of qs us)) tt
+  asked_good qs (Some us) = linear_good s (all_linear us) (get_value (asked_of qs us)) (λ l. tt)
   asked_good qs None = tt
 
   values_good : (qs : List Question) → IsGood s (values_asked s qs)
@@ -270,28 +275,29 @@ module _ (s : State) (sorted : IsSortedState s) where
       good_if s (have_unknown (is_live_name s) [] es) (refused unknown_symbol) (if have_clash es then refused already_declared else asked) tt
       (good_if s (have_clash es) (refused already_declared) asked tt (asked_good qs (terms_of (scope_of s) es)))
 
-  literals_good : (xs : List Assumption) → list_any (assumes_number s) xs ≡ false → IfFound (AllByRecursion (IsAssumable s)) (assumed_literals s xs)
+  literals_good : (xs : List Assumption) → list_any (assumes_integer s) xs ≡ false → IfFound (AllByRecursion (IsAssumable s)) (assumed_literals s xs)
   literals_good [] e = tt
   literals_good (x ∷ xs) e =
-      let f = or_parts (assumes_number s x) (list_any (assumes_number s) xs) e in
+      let f = or_parts (assumes_integer s x) (list_any (assumes_integer s) xs) e in
       let written = written_name x.name in
       literals_onto s (assumed_literal s x) (assumed_literals s xs)
-      (one_gated s x.is_true (assumed_term s x) (term_sorted [] (scope_of s) written scope_is) (over_live [] tt written) f.0) (literals_good xs f.1)
+      (one_taken s x.is_true (assumed_term s x) (term_sorted [] (scope_of s) written scope_is) (over_live [] tt written) (linear_name (constants_of s) (definitions_of s) (sorted_items s.levels sorted).bodies_linear x.name) f.0)
+      (literals_good xs f.1)
 
   found_good : (m : Option (List Literal)) → IfFound (AllByRecursion (IsAssumable s)) m → IsGood s (elim m [ Some ls ↦ accepted (check_sat ls) | None ↦ refused wrong_sort ])
   found_good (Some ls) h = h
   found_good None h = tt
 
-  check_good_by : (b : Bool) (xs : List Assumption) → (items_hold_numbers (items_of s.levels) || list_any (assumes_number s) xs) ≡ b
+  check_good_by : (b : Bool) (xs : List Assumption) → (items_hold_integers (items_of s.levels) || list_any (assumes_integer s) xs) ≡ b
       → IsGood s (if b then not_taken else (if list_any (assumes_unknown s) xs then refused unknown_symbol else elim (assumed_literals s xs) [ Some ls ↦ accepted (check_sat ls) | None ↦ refused wrong_sort ]))
   check_good_by true xs e = tt
   check_good_by false xs e =
       let checked : Outcome = elim (assumed_literals s xs) [ Some ls ↦ accepted (check_sat ls) | None ↦ refused wrong_sort ] in
       good_if s (list_any (assumes_unknown s) xs) (refused unknown_symbol) checked tt
-      (found_good (assumed_literals s xs) (literals_good xs (or_parts (items_hold_numbers (items_of s.levels)) (list_any (assumes_number s) xs) e).1))
+      (found_good (assumed_literals s xs) (literals_good xs (or_parts (items_hold_integers (items_of s.levels)) (list_any (assumes_integer s) xs) e).1))
 
   check_good : (xs : List Assumption) → IsGood s (check_under s xs)
-  check_good xs = check_good_by (items_hold_numbers (items_of s.levels) || list_any (assumes_number s) xs) xs refl
+  check_good xs = check_good_by (items_hold_integers (items_of s.levels) || list_any (assumes_integer s) xs) xs refl
 
   push_good : (n : Option ℕ) → IsGood s (push_of n)
   push_good (Some n) = tt
@@ -322,16 +328,12 @@ module _ (s : State) (sorted : IsSortedState s) where
   request_good (declares name arguments sort) = declaration_good s name arguments sort
   request_good (defines name parameters sort body) = definition_good name parameters sort body
   request_good (asserts e) = assertion_good e
-<<<<<<< ours
-  request_good checks = good_if (items_hold_integers (items_of s.levels)) not_taken (accepted (check_sat [])) tt tt
-=======
-  request_good checks = good_if s (items_hold_numbers (items_of s.levels)) not_taken (accepted (check_sat [])) tt tt
+  request_good checks = good_if s (items_hold_integers (items_of s.levels)) not_taken (accepted (check_sat [])) tt tt
   request_good (checks_assuming xs) = check_good xs
   request_good (pushes n) = push_good n
   request_good (pops n) = pop_good n
   request_good resets = tt
   request_good resets_assertions = tt
->>>>>>> theirs
   request_good shows_model = tt
   request_good (shows_values qs) = values_good qs
   request_good (shows_info k) = info_good k
@@ -359,9 +361,9 @@ first_sorted : IsSortedState start
 first_sorted = (nothing_sorted, tt)
 
 command_sorted : (s : State) (c : Command) (reply : Reply) → IsSortedState s → IsGoodCommand s c → IsSortedState (effect s c reply)
-command_sorted s (declare_const c) reply sorted good = grown_sorted s (declared c) sorted (record { definitions = tt; assertions = tt; bodies_over = tt; assertions_over = tt })
-command_sorted s (define d) reply sorted good = grown_sorted s (defined d) sorted (record { definitions = (good.0, tt); assertions = tt; bodies_over = (good.1, tt); assertions_over = tt })
-command_sorted s (assert_term t) reply sorted good = grown_sorted s (asserted t) sorted (record { definitions = tt; assertions = (good.0, tt); bodies_over = tt; assertions_over = (good.1, tt) })
+command_sorted s (declare_const c) reply sorted good = grown_sorted s (declared c) sorted (record { definitions = tt; assertions = tt; bodies_over = tt; assertions_over = tt; bodies_linear = tt; assertions_linear = tt })
+command_sorted s (define d) reply sorted good = grown_sorted s (defined d) sorted (record { definitions = (good.0, tt); assertions = tt; bodies_over = (good.1.0, tt); assertions_over = tt; bodies_linear = (good.1.1, tt); assertions_linear = tt })
+command_sorted s (assert_term t) reply sorted good = grown_sorted s (asserted t) sorted (record { definitions = tt; assertions = (good.0, tt); bodies_over = tt; assertions_over = (good.1.0, tt); bodies_linear = tt; assertions_linear = (good.1.1, tt) })
 command_sorted s (push_levels n) reply sorted good = pushed_sorted n s.levels sorted
 command_sorted s (pop_levels n) reply sorted good = popped_sorted n s.levels sorted
 command_sorted s reset reply sorted good = first_sorted
@@ -428,5 +430,5 @@ assertions_are_gated s sorted = each_gated (assertions_of s) (sorted_items s.lev
 pub assertions_are_over : AssertionsAreOver
 assertions_are_over s sorted = (sorted_items s.levels sorted).assertions_over
 
-pub assumptions_are_gated : AssumptionsAreGated
-assumptions_are_gated s sorted t ls e = subst (IsGood s) e (outcome_good s sorted t)
+pub assumptions_are_taken : AssumptionsAreTaken
+assumptions_are_taken s sorted t ls e = subst (IsGood s) e (outcome_good s sorted t)

@@ -1,5 +1,5 @@
 //! Laws of transcripts.
-ghost use Rattle.nz_spec.specs.Sorts.{AssertionsAreGated, AssertionsAreOver, AssumptionsAreGated, StatesStaySorted, TermsHaveTheirSorts};
+ghost use Rattle.nz_spec.specs.Sorts.{AssertionsAreGated, AssertionsAreOver, AssumptionsAreTaken, StatesStaySorted, TermsHaveTheirSorts};
 ghost use Rattle.nz_spec.specs.Transcript.{TranscriptGrows};
 
 /// A transcript goes on by one thing told and its right reply.
@@ -22,9 +22,9 @@ pub fn assertions_are_over()
     ensures over { AssertionsAreOver }
 {}
 
-/// In such a state the terms that a check assumes are over the live constants, and their normal terms are of the gate table.
-pub fn assumptions_are_gated()
-    ensures gated { AssumptionsAreGated }
+/// In such a state the terms that a check assumes are over the live constants, and their normal terms are such as checks take.
+pub fn assumptions_are_taken()
+    ensures taken { AssumptionsAreTaken }
 {}
 
 /// In a state whose assertions are well sorted, their normal terms are of the gate table, where they hold no number.
