@@ -1,0 +1,7 @@
+(declare-const x Real)
+(declare-const y Real)
+(assert (> x 1267650600228229401496703205376.0))
+(assert (> y 0.0))
+(assert (< y (/ 1.0 1099511627776.0)))
+(check-sat)
+(get-info :reason-unknown)

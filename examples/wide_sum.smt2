@@ -1,0 +1,5 @@
+(declare-const x Real)
+(assert (>= x (/ 1.0 18446744073709551629.0)))
+(assert (<= x (- (/ 1.0 18446744073709551653.0))))
+(check-sat)
+(get-info :reason-unknown)
