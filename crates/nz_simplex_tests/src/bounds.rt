@@ -7,6 +7,7 @@ use nz_simplex::{Check, Simplex};
 use nz_term::{TermId, Terms};
 use nz_trail::{Bound, Limit, Side, Var};
 use std::alloc::Global;
+use std::process::Abort;
 use std::test::Fail;
 
 /// A bound with whole parts, and its reason.
@@ -125,32 +126,56 @@ fn step(
     }
 }
 
-#[test]
-fn undo_gives_back_the_bounds(rt: HostRuntime) -> Result<(), Fail> {
-    let alloc = rt.alloc();
-    let mut terms = Terms::new(alloc)?;
-    let mut simplex: Simplex<Delta> = Simplex::new(alloc);
-    let x = constant(&mut terms, alloc, b"x")?;
-    let y = constant(&mut terms, alloc, b"y")?;
-    pair(alloc, &mut terms, &mut simplex, (1, x), (2, y))?;
-    pair(alloc, &mut terms, &mut simplex, (3, x), (-1, y))?;
-    let mut list = Vec::new(alloc);
-    let mut marks = Vec::new(alloc);
+/// A list of bounds, with the marks of a simplex.
+#[derive(Debug, Drop)]
+struct Kept {
+    list: Vec<Plain>,
+    marks: Vec<Mark>,
+}
+
+/// After each of many steps the bounds are those of the list.
+fn gives_back(
+    rt: &impl Abort,
+    alloc: Global,
+    simplex: &mut Simplex<Delta>,
+    kept: &mut Kept,
+    units: &[(TermId, Var)],
+) -> Result<(), Fail> {
     let mut seed = 19;
     for number in 0..200 {
-        let units = [(x, 0), (y, 1)];
         assert!(rt;
             step(
                 alloc,
-                &mut simplex,
-                &mut list,
-                &mut marks,
-                &units,
+                simplex,
+                &mut kept.list,
+                &mut kept.marks,
+                units,
                 &mut seed,
                 number
             )?
         );
-        assert!(rt; agrees(&simplex, list.as_slice()), "at step {number}");
+        assert!(rt; agrees(simplex, kept.list.as_slice()), "at step {number}");
     }
     Ok(())
+}
+
+/// Two forms of two units.
+fn two_forms(alloc: Global, simplex: &mut Simplex<Delta>) -> Result<[(TermId, Var); 2], Fail> {
+    let mut terms = Terms::new(alloc)?;
+    let x = constant(&mut terms, alloc, b"x")?;
+    let y = constant(&mut terms, alloc, b"y")?;
+    pair(alloc, &mut terms, simplex, (1, x), (2, y))?;
+    pair(alloc, &mut terms, simplex, (3, x), (-1, y))?;
+    Ok([(x, 0), (y, 1)])
+}
+
+#[test]
+fn undo_gives_back_the_bounds(rt: HostRuntime) -> Result<(), Fail> {
+    let mut simplex = Simplex::new(rt.alloc());
+    let units = two_forms(rt.alloc(), &mut simplex)?;
+    let mut kept = Kept {
+        list: Vec::new(rt.alloc()),
+        marks: Vec::new(rt.alloc()),
+    };
+    gives_back(&rt, rt.alloc(), &mut simplex, &mut kept, &units)
 }

@@ -157,31 +157,74 @@ fn give_all(
     Ok(())
 }
 
-/// Whether a check answers what the search of vertices does; None where a number didn't fit.
-fn agrees(alloc: Global, seed: &mut u64) -> Result<Option<Check>, Fail> {
-    let mut terms = Terms::new(alloc)?;
-    let mut simplex: Simplex<Delta> = Simplex::new(alloc);
-    let x = constant(&mut terms, alloc, b"x")?;
-    let y = constant(&mut terms, alloc, b"y")?;
-    let planes = planes(alloc, &mut terms, &mut simplex, seed, (x, y))?;
-    if simplex.len() < 2 {
-        return Ok(Some(Check::Feasible));
-    }
-    let mut given = Vec::new(alloc);
-    give_all(&mut simplex, &mut given, planes.as_slice(), seed)?;
-    let feasible = has_vertex(planes.as_slice(), given.as_slice());
+/// Two units, with the planes of forms over them.
+fn planes_of(
+    alloc: Global,
+    terms: &mut Terms,
+    simplex: &mut Simplex<Delta>,
+    seed: &mut u64,
+) -> Result<([TermId; 2], Vec<Plane>), Fail> {
+    let x = constant(terms, alloc, b"x")?;
+    let y = constant(terms, alloc, b"y")?;
+    let planes = planes(alloc, terms, simplex, seed, (x, y))?;
+    Ok(([x, y], planes))
+}
+
+/// What a check answers where that is what the search of vertices does; else, or where a number didn't fit, None.
+fn answer(
+    alloc: Global,
+    simplex: &mut Simplex<Delta>,
+    [x, y]: [TermId; 2],
+    planes: &[Plane],
+    given: &[Given<Delta>],
+) -> Result<Option<Check>, Fail> {
+    let feasible = has_vertex(planes, given);
     let mut taken = Taken::new(alloc, 200)?;
     match simplex.check(&mut taken) {
         Ok(Check::Feasible) => {
-            let right = feasible && fits(&simplex, &[(x, 0), (y, 1)]) && all_within(&simplex);
+            let right = feasible && fits(simplex, &[(x, 0), (y, 1)]) && all_within(simplex);
             Ok(right.then_some(Check::Feasible))
         }
         Ok(Check::Clash) => {
-            let right = !feasible && contradicts(&simplex, given.as_slice(), &[x, y]);
+            let right = !feasible && contradicts(simplex, given, &[x, y]);
             Ok(right.then_some(Check::Clash))
         }
         Err(_) => Ok(None),
     }
+}
+
+/// The same under bounds that look random.
+fn answer_within(
+    alloc: Global,
+    simplex: &mut Simplex<Delta>,
+    units: [TermId; 2],
+    planes: &[Plane],
+    seed: &mut u64,
+) -> Result<Option<Check>, Fail> {
+    let mut given = Vec::new(alloc);
+    give_all(simplex, &mut given, planes, seed)?;
+    answer(alloc, simplex, units, planes, given.as_slice())
+}
+
+/// The same of forms that look random.
+fn answer_over(
+    alloc: Global,
+    terms: &mut Terms,
+    simplex: &mut Simplex<Delta>,
+    seed: &mut u64,
+) -> Result<Option<Check>, Fail> {
+    let (units, planes) = planes_of(alloc, terms, simplex, seed)?;
+    if simplex.len() < 2 {
+        return Ok(Some(Check::Feasible));
+    }
+    answer_within(alloc, simplex, units, planes.as_slice(), seed)
+}
+
+/// Whether a check answers what the search of vertices does; None where a number didn't fit.
+fn agrees(alloc: Global, seed: &mut u64) -> Result<Option<Check>, Fail> {
+    let mut terms = Terms::new(alloc)?;
+    let mut simplex = Simplex::new(alloc);
+    answer_over(alloc, &mut terms, &mut simplex, seed)
 }
 
 #[test]
